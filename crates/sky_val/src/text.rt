@@ -1,0 +1,112 @@
+ghost use Rattle.std.specs.Prelude.{◌≡◌, ◌↔◌, IfOk, OnOk, IsUtf8, bytes_eq};
+ghost use Rattle.std.specs.Cmp.Rules.{comparing, hashing};
+ghost use Rattle.std.specs.Hash as fed;
+ghost use Rattle.std.proofs.Common.{rules};
+
+use std::alloc::{AllocError, Global};
+use std::fmt;
+use std::hash::{Hash, Hasher};
+use std::marker::Model;
+use thiserror::Error;
+
+/// Why bytes are no text.
+#[derive(Clone, Copy, Debug, PartialEq, Eq, Error)]
+pub enum TextFault {
+    #[error("the bytes are not UTF-8")]
+    NotUtf8,
+    #[error("out of memory")]
+    NoMemory,
+}
+
+/// A text: bytes that are UTF-8.
+#[derive(Drop)]
+pub struct Text {
+    bytes: String,
+}
+
+impl Model for Text {
+    ghost use Rattle.std.specs.Prelude.{ℕ, List, string_bytes};
+
+    ghost Value = { List ℕ };
+
+    ghost view = { λ t. string_bytes t.bytes };
+}
+
+impl Text {
+    /// The text that these bytes are.
+    pub fn from_bytes(alloc: Global, bytes: &[u8]) -> Result<Text, TextFault>
+        ensures ok { IfOk result (λ text. text ≡ bytes.now) }
+        ensures utf8 { OnOk result (IsUtf8 bytes.now) }
+        ensures not_utf8 { (result ≡ Err TextFault.NotUtf8) ↔ ¬ (IsUtf8 bytes.now) }
+    {
+        let Ok(text) = std::str::from_utf8(bytes) else {
+            return Err(TextFault::NotUtf8);
+        };
+        match String::from_str(alloc, text) {
+            Ok(bytes) => Ok(Text { bytes }),
+            Err(_) => Err(TextFault::NoMemory),
+        }
+    }
+
+    pub fn bytes(&self) -> &[u8]
+        ensures value { result.now ≡ self.now }
+        ensures utf8 { IsUtf8 self.now }
+    {
+        self.bytes.as_str().as_bytes()
+    }
+
+    /// The same as `bytes`, as std's type for it.
+    pub fn as_str(&self) -> &str
+        ensures { result.now ≡ self.now }
+    {
+        self.bytes.as_str()
+    }
+
+    /// An equal text.
+    pub fn copy(&self, alloc: Global) -> Result<Text, AllocError>
+        ensures { IfOk result (λ text. text ≡ self.now) }
+    {
+        let bytes = String::from_str(alloc, self.bytes.as_str())?;
+        Ok(Text { bytes })
+    }
+}
+
+/// An equal text, if there is one.
+pub fn copy_option(alloc: Global, text: &Option<Text>) -> Result<Option<Text>, AllocError>
+    ensures { IfOk result (λ copy. copy ≡ text.now) }
+{
+    match text {
+        Some(text) => Ok(Some(text.copy(alloc)?)),
+        None => Ok(None),
+    }
+}
+
+impl PartialEq for Text {
+    ghost eq = { bytes_eq };
+
+    ghost laws = { Prim.search (comparing, rules) };
+
+    fn eq(&self, other: &Text) -> bool {
+        self.bytes() == other.bytes()
+    }
+}
+
+impl Eq for Text {
+    ghost laws = { Prim.search (comparing, rules) };
+}
+
+impl Hash for Text {
+    ghost hash_input = { fed.slice fed.u8 };
+
+    ghost respects_eq = { Prim.search (hashing, rules) };
+
+    fn hash<H: Hasher>(&self, state: &mut H) {
+        self.bytes().hash(state);
+    }
+}
+
+impl fmt::Debug for Text {
+    fn fmt<W: fmt::Write>(&self, f: &mut fmt::Formatter<W>) -> fmt::Result {
+        self.bytes.as_str().fmt(f)
+    }
+}
