@@ -1,0 +1,13 @@
+pub mod Temp
+pub mod History
+pub mod Transactions
+pub mod Queues
+pub mod Consumers
+pub mod Batches
+pub mod State
+pub mod Outcome
+pub mod StepQueue
+pub mod StepConsumer
+pub mod Selection
+pub mod World
+pub mod Steps

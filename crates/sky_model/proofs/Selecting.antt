@@ -1,0 +1,117 @@
+-- The events of a batch are those that its two ticks' snapshots select.
+use Rattle.std.proofs.Common.{◌≡◌, ℕ, ◌+◌, ◌<◌, ◌≤◌, List, [], ◌∷◌, ◌++◌, Bool, true, false, not, ◌&&◌, ◌==◌, nat_lt, filter, refl, sym, ◌∙◌, ap, ap₂, arith, subst, append-nil, append_assoc, if◌then◌else◌}
+use Rattle.std.proofs.lemmas.Bool.Decides.{nat_tests}
+use Rattle.sky_val.specs.declared.event.Event.{Event}
+use Rattle.sky_model.specs.Temp.{sees}
+use Rattle.sky_model.specs.History.{Batch, Mark, began, ended, queued, QueueMark, made, raised, put, ticked, registered, opened, closed, History}
+use Rattle.sky_model.specs.Transactions.{has_ended, has_committed, snapshot}
+use Rattle.sky_model.specs.Queues.{sequence, events, ticks, tick, at_tick}
+use Rattle.sky_model.specs.Batches.{with_event, by_id_onto, by_id, is_for, batch_events}
+use Rattle.sky_model.specs.Selection.{snapshot_at, is_selected, selected}
+use Rattle.sky_model.specs.State.{database_of}
+use Rattle.sky_model.proofs.Legal.{Fine, begins, ends, makes, raises, puts, ticks_next, registers, opens, closes, Legal, start, next}
+use Rattle.sky_model.proofs.Snapshots.{sees-snapshot, has_committed-has_ended}
+use Rattle.sky_model.proofs.Ticks.{snapshot-at_tick, legal-at_tick}
+
+-- what had committed at a tick is what the tick's snapshot sees
+pub committed_at_tick : (h : History) → Legal h → (q id t : ℕ) → has_committed (at_tick q id h) t ≡ sees (snapshot_at (tick id (ticks q h))) t
+committed_at_tick h l q id t =
+    has_committed-has_ended (at_tick q id h) (legal-at_tick h l q id) t
+    ∙ sym (sees-snapshot (at_tick q id h) (legal-at_tick h l q id) t)
+    ∙ ap (λ s. sees s t) (snapshot-at_tick h l q id)
+
+-- the ids don't fall, and none is above a number
+abbrev pub Ordered : ℕ → List Event → Type 0
+Ordered low [] = Unit {0}
+Ordered low (e ∷ es) = (low ≤ e.ev_id) × Ordered e.ev_id es
+
+abbrev pub UpTo : ℕ → List Event → Type 0
+UpTo n [] = Unit {0}
+UpTo n (e ∷ es) = (e.ev_id ≤ n) × UpTo n es
+
+UpTo-more : (m n : ℕ) (es : List Event) → m ≤ n → UpTo m es → UpTo n es
+UpTo-more m n [] le u = tt
+UpTo-more m n (e ∷ es) le u = ((let at : e.ev_id ≤ m = u.0 in omega arith), UpTo-more m n es le u.1)
+
+Ordered-push : (low : ℕ) (es : List Event) (e : Event) → Ordered low es → low ≤ e.ev_id → UpTo e.ev_id es → Ordered low (es ++ e ∷ [])
+Ordered-push low [] e o le u = (le, tt)
+Ordered-push low (x ∷ xs) e o le u = (o.0, Ordered-push x.ev_id xs e o.1 u.0 u.1)
+
+UpTo-push : (n : ℕ) (es : List Event) (e : Event) → UpTo n es → e.ev_id ≤ n → UpTo n (es ++ e ∷ [])
+UpTo-push n [] e u le = (le, tt)
+UpTo-push n (x ∷ xs) e u le = (u.0, UpTo-push n xs e u.1 le)
+
+-- events by ids that don't fall, up to a number
+abbrev pub IsNumbered : ℕ → List Event → Type 0
+IsNumbered n es = Ordered 0 es × UpTo n es
+
+-- events are stored by ids that don't fall, up to the value of the sequence
+pub numbered : (h : History) → Legal h → (q : ℕ) → IsNumbered (sequence q h) (events q h)
+numbered [] start q = (tt, tt)
+numbered _ (next {h = h} l (begins who)) q = numbered h l q
+numbered _ (next {h = h} l (ends who t runs)) q = numbered h l q
+numbered _ (next {h = h} l (makes name)) q = numbered h l q
+numbered _ (next {h = h} l (raises p v i le)) q = of (p == q) refl (numbered h l q)
+  where
+    of : (b : Bool) → (p == q) ≡ b → IsNumbered (sequence q h) (events q h) → IsNumbered (if b then v else sequence q h) (events q h)
+    of true e n =
+        let same : p ≡ q = grind (arith, nat_tests) in
+        let more : sequence q h ≤ v = subst (λ x. sequence x h ≤ v) same le in
+        (n.0, UpTo-more (sequence q h) v (events q h) more n.1)
+    of false e n = n
+numbered _ (next {h = h} l (puts p event i is)) q = of (p == q) refl (numbered h l q)
+  where
+    of : (b : Bool) → (p == q) ≡ b → IsNumbered (sequence q h) (events q h)
+        → IsNumbered (sequence q h) (if b then events q h ++ event ∷ [] else events q h)
+    of true e n =
+        let same : p ≡ q = grind (arith, nat_tests) in
+        let at : event.ev_id ≡ sequence q h = is ∙ ap (λ x. sequence x h) same in
+        (Ordered-push 0 (events q h) event n.0 (omega arith) (subst (λ x. UpTo x (events q h)) (sym at) n.1),
+            UpTo-push (sequence q h) (events q h) event n.1 (omega arith))
+    of false e n = n
+numbered _ (next {h = h} l (ticks_next p id time seq i e)) q = numbered h l q
+numbered _ (next {h = h} l (registers p name sub tick i)) q = numbered h l q
+numbered _ (next {h = h} l (opens b)) q = numbered h l q
+numbered _ (next {h = h} l (closes b)) q = numbered h l q
+
+Ordered-less : (m n : ℕ) (es : List Event) → m ≤ n → Ordered n es → Ordered m es
+Ordered-less m n [] le o = tt
+Ordered-less m n (e ∷ es) le o = ((let at : n ≤ e.ev_id = o.0 in omega arith), o.1)
+
+Ordered-filter : (low : ℕ) (p : Event → Bool) (es : List Event) → Ordered low es → Ordered low (filter p es)
+Ordered-filter low p [] o = tt
+Ordered-filter low p (e ∷ es) o = of (p e) (Ordered-filter e.ev_id p es o.1)
+  where
+    of : (b : Bool) → Ordered e.ev_id (filter p es) → Ordered low (if b then e ∷ filter p es else filter p es)
+    of true ih = (o.0, ih)
+    of false ih = Ordered-less low e.ev_id (filter p es) o.0 ih
+
+-- an event whose id none is above goes to the end
+with_event-last : (e : Event) (es : List Event) → UpTo e.ev_id es → with_event e es ≡ es ++ e ∷ []
+with_event-last e [] u = refl
+with_event-last e (x ∷ xs) u = of (nat_lt e.ev_id x.ev_id) refl (with_event-last e xs u.1)
+  where
+    of : (b : Bool) → nat_lt e.ev_id x.ev_id ≡ b → with_event e xs ≡ xs ++ e ∷ []
+        → (if b then e ∷ x ∷ xs else x ∷ with_event e xs) ≡ x ∷ (xs ++ e ∷ [])
+    of true is ih = let at : x.ev_id ≤ e.ev_id = u.0 in absurd (grind (arith, nat_tests))
+    of false is ih = ap (λ ys. x ∷ ys) ih
+
+by_id_onto-ordered : (sorted es : List Event) (low : ℕ) → UpTo low sorted → Ordered low es → by_id_onto sorted es ≡ sorted ++ es
+by_id_onto-ordered sorted [] low u o = sym (append-nil sorted)
+by_id_onto-ordered sorted (e ∷ es) low u o =
+    ap (λ s. by_id_onto s es) (with_event-last e sorted (UpTo-more low e.ev_id sorted o.0 u))
+    ∙ by_id_onto-ordered (sorted ++ e ∷ []) es e.ev_id (UpTo-push e.ev_id sorted e (UpTo-more low e.ev_id sorted o.0 u) (omega arith)) o.1
+    ∙ append_assoc sorted (e ∷ []) es
+
+-- events whose ids don't fall are in order
+by_id-ordered : (es : List Event) → Ordered 0 es → by_id es ≡ es
+by_id-ordered es o = by_id_onto-ordered [] es 0 tt o
+
+-- the events of a batch, by places, are those that the snapshots of its ticks select
+pub batch_events-selected : (h : History) → Legal h → (b : Batch) → batch_events h b ≡ selected (database_of h) b
+batch_events-selected h l b =
+    ap (λ p. by_id (filter p (events b.queue h))) (λ i e.
+        committed_at_tick h l b.queue b.cur e.ev_txid i
+            && not (committed_at_tick h l b.queue b.prev e.ev_txid i)
+            && is_for b.sub e.ev_owner)
+    ∙ by_id-ordered _ (Ordered-filter 0 _ (events b.queue h) (numbered h l b.queue).0)

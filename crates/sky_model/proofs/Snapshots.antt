@@ -1,0 +1,222 @@
+-- A snapshot sees exactly the transactions that have ended.
+use Rattle.std.proofs.Common.{◌≡◌, ℕ, ◌+◌, ◌<◌, ◌≤◌, List, [], ◌∷◌, ◌++◌, Bool, true, false, not, ◌&&◌, ◌||◌, ◌==◌, nat_lt, filter, refl, sym, ◌∙◌, ap, ap₂, arith, lt-ltb, ltb-true, if◌then◌else◌}
+use Rattle.std.proofs.lemmas.Bool.Decides.{nat_tests}
+use Rattle.sky_model.specs.Temp.{contains, first_or, sees}
+use Rattle.sky_model.specs.History.{Mark, began, ended, queued, History}
+use Rattle.sky_model.specs.Transactions.{next_txid, running, has_ended, has_committed, snapshot}
+use Rattle.sky_model.proofs.Legal.{Fine, begins, ends, makes, raises, puts, ticks_next, registers, opens, closes, Legal, start, next}
+
+abbrev pub IsRising : List ℕ → Type 0
+IsRising [] = Unit {0}
+IsRising (x ∷ []) = Unit {0}
+IsRising (x ∷ y ∷ zs) = (x < y) × IsRising (y ∷ zs)
+
+abbrev pub AllBelow : ℕ → List ℕ → Type 0
+AllBelow n [] = Unit {0}
+AllBelow n (x ∷ xs) = (x < n) × AllBelow n xs
+
+-- the parts of a history that the law on snapshots rests on
+pub record Sound (h : History) : Type 0 where
+  pub first : 3 ≤ next_txid h
+  pub runs : (t : ℕ) → contains t (running h) ≡ (nat_lt t (next_txid h) && not (has_ended h t))
+  pub ended_below : (t : ℕ) → has_ended h t ≡ true → t < next_txid h
+  pub rising : IsRising (running h)
+  pub below : AllBelow (next_txid h) (running h)
+
+contains-push : (t x : ℕ) (xs : List ℕ) → contains t (xs ++ x ∷ []) ≡ (contains t xs || t == x)
+contains-push t x [] = of (t == x)
+  where
+    of : (b : Bool) → (b || false) ≡ (false || b)
+    of true = refl
+    of false = refl
+contains-push t x (y ∷ ys) = ap (λ b. t == y || b) (contains-push t x ys) ∙ of (t == y) (contains t ys) (t == x)
+  where
+    of : (a b c : Bool) → (a || (b || c)) ≡ ((a || b) || c)
+    of true b c = refl
+    of false b c = refl
+
+contains-filter : (t x : ℕ) (xs : List ℕ) → contains t (filter (λ u. not (u == x)) xs) ≡ (contains t xs && not (t == x))
+contains-filter t x [] = refl
+contains-filter t x (y ∷ ys) = of (y == x) refl (contains-filter t x ys)
+  where
+    of : (b : Bool) → (y == x) ≡ b → contains t (filter (λ u. not (u == x)) ys) ≡ (contains t ys && not (t == x))
+        → contains t (if not b then y ∷ filter (λ u. not (u == x)) ys else filter (λ u. not (u == x)) ys) ≡ ((t == y || contains t ys) && not (t == x))
+    of true e ih = ih ∙ grind (arith, nat_tests)
+    of false e ih = ap (λ b. t == y || b) ih ∙ grind (arith, nat_tests)
+
+-- the last of a list is contained
+pub contains-last : (t : ℕ) (xs : List ℕ) → contains t (xs ++ t ∷ []) ≡ true
+contains-last t xs = contains-push t t xs ∙ of (contains t xs)
+  where
+    same : (t == t) ≡ true
+    same = grind (arith, nat_tests)
+    of : (b : Bool) → (b || t == t) ≡ true
+    of true = refl
+    of false = same
+
+AllBelow-push : (n x : ℕ) (xs : List ℕ) → AllBelow n xs → x < n → AllBelow n (xs ++ x ∷ [])
+AllBelow-push n x [] all lt = (lt, tt)
+AllBelow-push n x (y ∷ ys) all lt = (all.0, AllBelow-push n x ys all.1 lt)
+
+AllBelow-more : (m n : ℕ) (xs : List ℕ) → m ≤ n → AllBelow m xs → AllBelow n xs
+AllBelow-more m n [] le all = tt
+AllBelow-more m n (x ∷ xs) le all = ((let lt : x < m = all.0 in omega arith), AllBelow-more m n xs le all.1)
+
+AllBelow-filter : (n : ℕ) (p : ℕ → Bool) (xs : List ℕ) → AllBelow n xs → AllBelow n (filter p xs)
+AllBelow-filter n p [] all = tt
+AllBelow-filter n p (x ∷ xs) all = of (p x) (AllBelow-filter n p xs all.1)
+  where
+    of : (b : Bool) → AllBelow n (filter p xs) → AllBelow n (if b then x ∷ filter p xs else filter p xs)
+    of true ih = (all.0, ih)
+    of false ih = ih
+
+-- a list that rises strictly from above a number
+abbrev Above : ℕ → List ℕ → Type 0
+Above n [] = Unit {0}
+Above n (x ∷ xs) = (n < x) × Above x xs
+
+IsRising-Above : (x : ℕ) (xs : List ℕ) → IsRising (x ∷ xs) → Above x xs
+IsRising-Above x [] r = tt
+IsRising-Above x (y ∷ ys) r = (r.0, IsRising-Above y ys r.1)
+
+Above-IsRising : (x : ℕ) (xs : List ℕ) → Above x xs → IsRising (x ∷ xs)
+Above-IsRising x [] a = tt
+Above-IsRising x (y ∷ ys) a = (a.0, Above-IsRising y ys a.1)
+
+Above-less : (m n : ℕ) (xs : List ℕ) → m ≤ n → Above n xs → Above m xs
+Above-less m n [] le a = tt
+Above-less m n (x ∷ xs) le a = ((let lt : n < x = a.0 in omega arith), a.1)
+
+Above-filter : (n : ℕ) (p : ℕ → Bool) (xs : List ℕ) → Above n xs → Above n (filter p xs)
+Above-filter n p [] a = tt
+Above-filter n p (x ∷ xs) a = of (p x) (Above-filter x p xs a.1)
+  where
+    of : (b : Bool) → Above x (filter p xs) → Above n (if b then x ∷ filter p xs else filter p xs)
+    of true ih = (a.0, ih)
+    of false ih = Above-less n x (filter p xs) (let lt : n < x = a.0 in omega arith) ih
+
+IsRising-tail : (x : ℕ) (xs : List ℕ) → Above x xs → IsRising xs
+IsRising-tail x [] a = tt
+IsRising-tail x (y ∷ ys) a = Above-IsRising y ys a.1
+
+IsRising-filter : (p : ℕ → Bool) (xs : List ℕ) → IsRising xs → IsRising (filter p xs)
+IsRising-filter p [] r = tt
+IsRising-filter p (x ∷ xs) r = of (p x) (Above-filter x p xs (IsRising-Above x xs r))
+  where
+    of : (b : Bool) → Above x (filter p xs) → IsRising (if b then x ∷ filter p xs else filter p xs)
+    of true a = Above-IsRising x (filter p xs) a
+    of false a = IsRising-tail x (filter p xs) a
+
+IsRising-push : (n : ℕ) (xs : List ℕ) → IsRising xs → AllBelow n xs → IsRising (xs ++ n ∷ [])
+IsRising-push n [] r b = tt
+IsRising-push n (x ∷ []) r b = (b.0, tt)
+IsRising-push n (x ∷ y ∷ zs) r b = (r.0, IsRising-push n (y ∷ zs) r.1 b.1)
+
+-- below all of a list that rises from above a number nothing is contained
+contains-Above : (t x : ℕ) (xs : List ℕ) → t ≤ x → Above x xs → contains t xs ≡ false
+contains-Above t x [] le a = refl
+contains-Above t x (y ∷ ys) le a =
+    let lt : x < y = a.0 in
+    let ih : contains t ys ≡ false = contains-Above t y ys (omega arith) a.1 in
+    ap (λ b. t == y || b) ih ∙ grind (arith, nat_tests)
+
+contains-first : (t n : ℕ) (xs : List ℕ) → IsRising xs → nat_lt t (first_or n xs) ≡ true → contains t xs ≡ false
+contains-first t n [] r lt = refl
+contains-first t n (x ∷ xs) r lt =
+    let below : t < x = ltb-true t x lt in
+    let rest : contains t xs ≡ false = contains-Above t x xs (omega arith) (IsRising-Above x xs r) in
+    ap (λ b. t == x || b) rest ∙ grind (arith, nat_tests)
+
+first_or-below : (n : ℕ) (xs : List ℕ) → AllBelow n xs → first_or n xs ≤ n
+first_or-below n [] b = omega arith
+first_or-below n (x ∷ xs) b = let lt : x < n = b.0 in omega arith
+
+sound_began : (h : History) (who : ℕ) → Sound h → Sound (began who (next_txid h) ∷ h)
+sound_began h who s = record {
+    first = (let three : 3 ≤ next_txid h = s.first in omega arith);
+    runs = λ t. contains-push t (next_txid h) (running h) ∙ ap (λ b. b || t == next_txid h) (s.runs t) ∙ more t (has_ended h t) (s.ended_below t);
+    ended_below = λ t e. (let lt : t < next_txid h = s.ended_below t e in omega arith);
+    rising = IsRising-push (next_txid h) (running h) s.rising s.below;
+    below = AllBelow-push (next_txid h + 1) (next_txid h) (running h) (AllBelow-more (next_txid h) (next_txid h + 1) (running h) (omega arith) s.below) (omega arith)
+  }
+  where
+    more : (t : ℕ) (b : Bool) → (b ≡ true → t < next_txid h)
+        → ((nat_lt t (next_txid h) && not b) || t == next_txid h) ≡ (nat_lt t (next_txid h + 1) && not b)
+    more t true lt = let below : t < next_txid h = lt refl in grind (arith, nat_tests)
+    more t false lt = grind (arith, nat_tests)
+
+sound_ended : (h : History) (who t : ℕ) → contains t (running h) ≡ true → Sound h → Sound (ended who t true ∷ h)
+sound_ended h who t runs s = record {
+    first = s.first;
+    runs = λ u. contains-filter u t (running h) ∙ ap (λ b. b && not (u == t)) (s.runs u) ∙ less (nat_lt u (next_txid h)) (has_ended h u) (u == t);
+    ended_below = λ u e. was u (u == t) refl e;
+    rising = IsRising-filter (λ u. not (u == t)) (running h) s.rising;
+    below = AllBelow-filter (next_txid h) (λ u. not (u == t)) (running h) s.below
+  }
+  where
+    less : (a b c : Bool) → ((a && not b) && not c) ≡ (a && not (c || b))
+    less true true true = refl
+    less true true false = refl
+    less true false true = refl
+    less true false false = refl
+    less false b c = refl
+    of_and : (a b : Bool) → (a && b) ≡ true → a ≡ true
+    of_and true b e = refl
+    of_and false b e = e
+    was : (u : ℕ) (b : Bool) → (u == t) ≡ b → (b || has_ended h u) ≡ true → u < next_txid h
+    was u true e e' =
+        let lt : t < next_txid h = ltb-true t (next_txid h) (of_and (nat_lt t (next_txid h)) (not (has_ended h t)) (sym (s.runs t) ∙ runs)) in
+        grind (arith, nat_tests)
+    was u false e e' = s.ended_below u e'
+
+sound_step : (h : History) (mark : Mark) → Fine h mark → Sound h → Sound (mark ∷ h)
+sound_step h _ (begins who) s = sound_began h who s
+sound_step h _ (ends who t runs) s = sound_ended h who t runs s
+sound_step h _ (makes name) s = record { first = s.first; runs = s.runs; ended_below = s.ended_below; rising = s.rising; below = s.below }
+sound_step h _ (raises q v i l) s = record { first = s.first; runs = s.runs; ended_below = s.ended_below; rising = s.rising; below = s.below }
+sound_step h _ (puts q e i l) s = record { first = s.first; runs = s.runs; ended_below = s.ended_below; rising = s.rising; below = s.below }
+sound_step h _ (ticks_next q id time seq i l) s = record { first = s.first; runs = s.runs; ended_below = s.ended_below; rising = s.rising; below = s.below }
+sound_step h _ (registers q name sub tick i) s = record { first = s.first; runs = s.runs; ended_below = s.ended_below; rising = s.rising; below = s.below }
+sound_step h _ (opens b) s = record { first = s.first; runs = s.runs; ended_below = s.ended_below; rising = s.rising; below = s.below }
+sound_step h _ (closes b) s = record { first = s.first; runs = s.runs; ended_below = s.ended_below; rising = s.rising; below = s.below }
+
+pub sound : (h : History) → Legal h → Sound h
+sound [] start = record {
+    first = omega arith;
+    runs = λ t. grind (arith, nat_tests);
+    ended_below = λ t e. grind (arith, nat_tests);
+    rising = tt;
+    below = tt
+  }
+sound (mark ∷ h) (next l f) = sound_step h mark f (sound h l)
+
+seen_of : (t n : ℕ) (low a b : Bool) → a ≡ (nat_lt t n && not b) → (low ≡ true → (a ≡ false) × (t < n)) → (b ≡ true → t < n)
+    → (low || (nat_lt t n && not a)) ≡ b
+seen_of t n true a true r l e = refl
+seen_of t n true a false r l e = let below : t < n = (l refl).1 in let none : a ≡ false = (l refl).0 in grind (arith, nat_tests)
+seen_of t n false a true r l e = let below : t < n = e refl in grind (arith, nat_tests)
+seen_of t n false a false r l e = grind (arith, nat_tests)
+
+-- a snapshot sees exactly what has ended
+pub sees-snapshot : (h : History) → Legal h → (t : ℕ) → sees (snapshot h) t ≡ has_ended h t
+sees-snapshot h l t =
+    let s : Sound h = sound h l in
+    seen_of t (next_txid h) (nat_lt t (first_or (next_txid h) (running h))) (contains t (running h)) (has_ended h t) (s.runs t)
+        (λ low. (contains-first t (next_txid h) (running h) s.rising low,
+            (let lt : t < first_or (next_txid h) (running h) = ltb-true t (first_or (next_txid h) (running h)) low in
+             let le : first_or (next_txid h) (running h) ≤ next_txid h = first_or-below (next_txid h) (running h) s.below in
+             omega arith)))
+        (s.ended_below t)
+
+-- what has ended has committed, since nothing rolls back
+pub has_committed-has_ended : (h : History) → Legal h → (t : ℕ) → has_committed h t ≡ has_ended h t
+has_committed-has_ended [] start t = refl
+has_committed-has_ended _ (next {h = h} l (begins who)) t = has_committed-has_ended h l t
+has_committed-has_ended _ (next {h = h} l (ends who u runs)) t = ap (λ b. t == u || b) (has_committed-has_ended h l t)
+has_committed-has_ended _ (next {h = h} l (makes name)) t = has_committed-has_ended h l t
+has_committed-has_ended _ (next {h = h} l (raises q v i e)) t = has_committed-has_ended h l t
+has_committed-has_ended _ (next {h = h} l (puts q e i s)) t = has_committed-has_ended h l t
+has_committed-has_ended _ (next {h = h} l (ticks_next q id time seq i e)) t = has_committed-has_ended h l t
+has_committed-has_ended _ (next {h = h} l (registers q name sub tick i)) t = has_committed-has_ended h l t
+has_committed-has_ended _ (next {h = h} l (opens b)) t = has_committed-has_ended h l t
+has_committed-has_ended _ (next {h = h} l (closes b)) t = has_committed-has_ended h l t

@@ -1,0 +1,125 @@
+-- What ticks keep of the history as it was when they were made.
+use Rattle.std.proofs.Common.{◌≡◌, ℕ, ℤ, ◌+◌, ◌<◌, ◌≤◌, List, [], ◌∷◌, ◌++◌, Bool, true, false, not, ◌&&◌, ◌==◌, Option, Some, None, find, length, refl, sym, ◌∙◌, ap, arith, if◌then◌else◌, length-append}
+use Rattle.std.proofs.lemmas.Bool.Decides.{nat_tests}
+use Rattle.sky_model.specs.History.{Mark, began, ended, queued, QueueMark, made, raised, put, ticked, registered, opened, closed, History}
+use Rattle.sky_model.specs.Transactions.{snapshot}
+use Rattle.sky_model.specs.Queues.{queue_names, Tick, ticks, tick, newest_tick, at_tick}
+use Rattle.sky_model.specs.StepQueue.{id_of}
+use Rattle.sky_model.specs.Selection.{snapshot_at}
+use Rattle.sky_model.proofs.Legal.{IsQueue, Fine, begins, ends, makes, raises, puts, ticks_next, registers, opens, closes, Legal, start, next}
+
+-- a queue that isn't made yet has no ticks
+pub ticks_beyond : (h : History) → Legal h → (q : ℕ) → length (queue_names h) ≤ q → ticks q h ≡ []
+ticks_beyond [] start q le = refl
+ticks_beyond _ (next {h = h} l (begins who)) q le = ticks_beyond h l q le
+ticks_beyond _ (next {h = h} l (ends who t runs)) q le = ticks_beyond h l q le
+ticks_beyond _ (next {h = h} l (makes name)) q le = ticks_beyond h l q (omega (arith, length-append (queue_names h) (name ∷ []), le))
+ticks_beyond _ (next {h = h} l (raises p v i e)) q le = ticks_beyond h l q le
+ticks_beyond _ (next {h = h} l (puts p e i s)) q le = ticks_beyond h l q le
+ticks_beyond _ (next {h = h} l (ticks_next p id time seq i e)) q le = of (p == q) refl (ticks_beyond h l q le)
+  where
+    of : (b : Bool) → (p == q) ≡ b → ticks q h ≡ [] → (if b then ticks q h ++ record { id = id; time = time; snapshot = snapshot h; seq = seq } ∷ [] else ticks q h) ≡ []
+    of true e ih = let lt : p < length (queue_names h) = i in absurd (grind (arith, nat_tests))
+    of false e ih = ih
+ticks_beyond _ (next {h = h} l (registers p name sub tick i)) q le = ticks_beyond h l q le
+ticks_beyond _ (next {h = h} l (opens b)) q le = ticks_beyond h l q le
+ticks_beyond _ (next {h = h} l (closes b)) q le = ticks_beyond h l q le
+
+pub newest_tick-push : (ts : List Tick) (t : Tick) → newest_tick (ts ++ t ∷ []) ≡ Some t
+newest_tick-push [] t = refl
+newest_tick-push (u ∷ []) t = refl
+newest_tick-push (u ∷ v ∷ ts) t = newest_tick-push (v ∷ ts) t
+
+-- a tick that is there is there in a list with one more
+tick-push_found : (id : ℕ) (ts : List Tick) (t u : Tick) → tick id ts ≡ Some u → tick id (ts ++ t ∷ []) ≡ Some u
+tick-push_found id [] t u e = cc
+tick-push_found id (v ∷ ts) t u e = of (v.id == id) e (tick-push_found id ts t u)
+  where
+    of : (b : Bool) → (if b then Some v else tick id ts) ≡ Some u → (tick id ts ≡ Some u → tick id (ts ++ t ∷ []) ≡ Some u)
+        → (if b then Some v else tick id (ts ++ t ∷ [])) ≡ Some u
+    of true e ih = e
+    of false e ih = ih e
+
+-- one that isn't is the one more, or none
+tick-push_none : (id : ℕ) (ts : List Tick) (t : Tick) → tick id ts ≡ None → tick id (ts ++ t ∷ []) ≡ (if t.id == id then Some t else None)
+tick-push_none id [] t e = refl
+tick-push_none id (v ∷ ts) t e = of (v.id == id) e (tick-push_none id ts t)
+  where
+    of : (b : Bool) → (if b then Some v else tick id ts) ≡ None → (tick id ts ≡ None → tick id (ts ++ t ∷ []) ≡ (if t.id == id then Some t else None))
+        → (if b then Some v else tick id (ts ++ t ∷ [])) ≡ (if t.id == id then Some t else None)
+    of true e ih = cc
+    of false e ih = ih e
+
+-- no tick has an id above the newest one's
+abbrev pub NoneAbove : List Tick → Type 0
+NoneAbove ts = (id : ℕ) → id_of (newest_tick ts) < id → tick id ts ≡ None
+
+NoneAbove-push : (ts : List Tick) (t : Tick) → NoneAbove ts → t.id ≡ id_of (newest_tick ts) + 1 → NoneAbove (ts ++ t ∷ [])
+NoneAbove-push ts t none is id above =
+    let newest : id_of (newest_tick (ts ++ t ∷ [])) ≡ t.id = ap id_of (newest_tick-push ts t) in
+    let other : (t.id == id) ≡ false = grind (arith, nat_tests) in
+    tick-push_none id ts t (none id (omega arith)) ∙ ap (λ b. if b then Some t else None) other
+
+pub none_above : (h : History) → Legal h → (q : ℕ) → NoneAbove (ticks q h)
+none_above [] start q = λ id above. refl
+none_above _ (next {h = h} l (begins who)) q = none_above h l q
+none_above _ (next {h = h} l (ends who t runs)) q = none_above h l q
+none_above _ (next {h = h} l (makes name)) q = none_above h l q
+none_above _ (next {h = h} l (raises p v i e)) q = none_above h l q
+none_above _ (next {h = h} l (puts p e i s)) q = none_above h l q
+none_above _ (next {h = h} l (ticks_next p id time seq i e)) q = of (p == q) refl (none_above h l q)
+  where
+    of : (b : Bool) → (p == q) ≡ b → NoneAbove (ticks q h)
+        → NoneAbove (if b then ticks q h ++ record { id = id; time = time; snapshot = snapshot h; seq = seq } ∷ [] else ticks q h)
+    of true e' ih =
+        let same : p ≡ q = grind (arith, nat_tests) in
+        NoneAbove-push (ticks q h) (record { id = id; time = time; snapshot = snapshot h; seq = seq }) ih (e ∙ ap (λ n. id_of (newest_tick (ticks n h)) + 1) same)
+    of false e' ih = ih
+none_above _ (next {h = h} l (registers p name sub tick i)) q = none_above h l q
+none_above _ (next {h = h} l (opens b)) q = none_above h l q
+none_above _ (next {h = h} l (closes b)) q = none_above h l q
+
+-- the snapshot of the history as it was at a tick is the one that the tick keeps
+pub snapshot-at_tick : (h : History) → Legal h → (q id : ℕ) → snapshot (at_tick q id h) ≡ snapshot_at (tick id (ticks q h))
+snapshot-at_tick [] start q id = refl
+snapshot-at_tick _ (next {h = h} l (begins who)) q id = snapshot-at_tick h l q id
+snapshot-at_tick _ (next {h = h} l (ends who t runs)) q id = snapshot-at_tick h l q id
+snapshot-at_tick _ (next {h = h} l (makes name)) q id = snapshot-at_tick h l q id
+snapshot-at_tick _ (next {h = h} l (raises p v i e)) q id = snapshot-at_tick h l q id
+snapshot-at_tick _ (next {h = h} l (puts p e i s)) q id = snapshot-at_tick h l q id
+snapshot-at_tick _ (next {h = h} l (ticks_next p m time seq i e)) q id = of (p == q) refl (snapshot-at_tick h l q id)
+  where
+    both : (found : Option Tick) → tick id (ticks q h) ≡ found → (b : Bool) → (m == id) ≡ b → p ≡ q → snapshot (at_tick q id h) ≡ snapshot_at (tick id (ticks q h))
+        → snapshot (if b then h else at_tick q id h) ≡ snapshot_at (tick id (ticks q h ++ record { id = m; time = time; snapshot = snapshot h; seq = seq } ∷ []))
+    both (Some u) is true e' same ih =
+        let above : id_of (newest_tick (ticks q h)) < id = (let is_next : m ≡ id_of (newest_tick (ticks q h)) + 1 = e ∙ ap (λ n. id_of (newest_tick (ticks n h)) + 1) same in grind (arith, nat_tests)) in
+        let none : tick id (ticks q h) ≡ None = none_above h l q id above in
+        cc
+    both (Some u) is false e' same ih = ih ∙ ap snapshot_at is ∙ sym (ap snapshot_at (tick-push_found id (ticks q h) _ u is))
+    both None is true e' same ih = sym (ap snapshot_at (tick-push_none id (ticks q h) _ is ∙ ap (λ b. if b then Some (record { id = m; time = time; snapshot = snapshot h; seq = seq }) else None) e'))
+    both None is false e' same ih = ih ∙ ap snapshot_at is ∙ sym (ap snapshot_at (tick-push_none id (ticks q h) _ is ∙ ap (λ b. if b then Some (record { id = m; time = time; snapshot = snapshot h; seq = seq }) else None) e'))
+    of : (b : Bool) → (p == q) ≡ b → snapshot (at_tick q id h) ≡ snapshot_at (tick id (ticks q h))
+        → snapshot (if b && m == id then h else at_tick q id h)
+            ≡ snapshot_at (tick id (if b then ticks q h ++ record { id = m; time = time; snapshot = snapshot h; seq = seq } ∷ [] else ticks q h))
+    of true e' ih = both (tick id (ticks q h)) refl (m == id) refl (grind (arith, nat_tests)) ih
+    of false e' ih = ih
+snapshot-at_tick _ (next {h = h} l (registers p name sub t i)) q id = snapshot-at_tick h l q id
+snapshot-at_tick _ (next {h = h} l (opens b)) q id = snapshot-at_tick h l q id
+snapshot-at_tick _ (next {h = h} l (closes b)) q id = snapshot-at_tick h l q id
+
+-- what stands below a tick is legal
+pub legal-at_tick : (h : History) → Legal h → (q id : ℕ) → Legal (at_tick q id h)
+legal-at_tick [] start q id = start
+legal-at_tick _ (next {h = h} l (begins who)) q id = legal-at_tick h l q id
+legal-at_tick _ (next {h = h} l (ends who t runs)) q id = legal-at_tick h l q id
+legal-at_tick _ (next {h = h} l (makes name)) q id = legal-at_tick h l q id
+legal-at_tick _ (next {h = h} l (raises p v i e)) q id = legal-at_tick h l q id
+legal-at_tick _ (next {h = h} l (puts p e i s)) q id = legal-at_tick h l q id
+legal-at_tick _ (next {h = h} l (ticks_next p m time seq i e)) q id = of (p == q && m == id) l (legal-at_tick h l q id)
+  where
+    of : (b : Bool) → Legal h → Legal (at_tick q id h) → Legal (if b then h else at_tick q id h)
+    of true l ih = l
+    of false l ih = ih
+legal-at_tick _ (next {h = h} l (registers p name sub t i)) q id = legal-at_tick h l q id
+legal-at_tick _ (next {h = h} l (opens b)) q id = legal-at_tick h l q id
+legal-at_tick _ (next {h = h} l (closes b)) q id = legal-at_tick h l q id

@@ -1,0 +1,27 @@
+-- Worked rows by computation.
+use Rattle.std.proofs.Common.{◌≡◌, ℕ, List, [], ◌∷◌, ◌++◌, Option, Some, None, refl, codes, map, pos}
+use Rattle.sky_model.specs.declared.stmt.Stmt.{Stmt}
+use Rattle.sky_model.specs.declared.stmt.Stmt.TheVariants.{OpenDb, CreateQueue, InsertEvent, Ticker, ForceTick, RegisterConsumer, NextBatch, GetBatchEvents, FinishBatch}
+use Rattle.sky_model.specs.declared.reply.Reply.{Reply}
+use Rattle.sky_model.specs.declared.reply.Reply.TheVariants.{Done, Number, Null, Events, Refused}
+use Rattle.sky_model.specs.History.{Past}
+use Rattle.sky_model.specs.World.{Call, past_of, answers_of, after}
+
+-- the answers of calls, the first one first
+abbrev replies : Past → List Stmt → List Reply
+replies past [] = []
+replies past (stmt ∷ stmts) = map (λ a. a.1) (answers_of past (record { who = codes "a"; stmt = stmt })) ++ replies (after past (record { who = codes "a"; stmt = stmt })) stmts
+
+row2 : replies [] (OpenDb (codes "d") ∷ CreateQueue (codes "q") ∷ RegisterConsumer (codes "q") (codes "w")
+    ∷ InsertEvent (codes "q") (Some (codes "hello")) (Some (codes "x=1")) None ∷ ForceTick (codes "q") ∷ Ticker (codes "q")
+    ∷ NextBatch (codes "q") (codes "w") ∷ GetBatchEvents 1 ∷ FinishBatch 1 ∷ FinishBatch 1 ∷ NextBatch (codes "q") (codes "w") ∷ [])
+  ≡ Done ∷ Number 1 ∷ Number 1 ∷ Number 1 ∷ Number 1 ∷ Number 2 ∷ Number 1
+    ∷ Events (record { ev_id = 1; ev_time = pos 0; ev_txid = 4; ev_owner = None; ev_retry = None; ev_type = Some (codes "hello"); ev_data = Some (codes "x=1"); ev_extra1 = None; ev_extra2 = None; ev_extra3 = None; ev_extra4 = None } ∷ [])
+    ∷ Number 1 ∷ Number 0 ∷ Null ∷ []
+row2 = refl
+
+row3 : replies [] (OpenDb (codes "d") ∷ CreateQueue (codes "q") ∷ RegisterConsumer (codes "q") (codes "w")
+    ∷ Ticker (codes "q") ∷ Ticker (codes "q") ∷ NextBatch (codes "q") (codes "w") ∷ NextBatch (codes "q") (codes "w")
+    ∷ GetBatchEvents 1 ∷ FinishBatch 1 ∷ [])
+  ≡ Done ∷ Number 1 ∷ Number 1 ∷ Number 2 ∷ Null ∷ Number 1 ∷ Number 1 ∷ Events [] ∷ Number 1 ∷ []
+row3 = refl

@@ -1,0 +1,58 @@
+-- What happened: marks, which are facts in order, the newest first. A place in a history is the
+-- history as it was then, so 'before a place' is what stands below it in the list.
+use Rattle.std.specs.Prelude.{ℕ, ℤ, Bool, List}
+use Rattle.sky_val.specs.declared.event.Event.{Event}
+
+-- a batch: a consumer's, from one tick of its queue to another
+pub record Batch : Type 0 where
+  pub id : ℕ
+  pub queue : ℕ
+  pub consumer : List ℕ
+  pub sub : ℕ
+  pub prev : ℕ
+  pub cur : ℕ
+
+-- what happened to the queues of a database; a queue goes by its number in the order of making
+pub data QueueMark : Type 0 where
+  -- a queue was made
+  made : (name : List ℕ) → QueueMark
+  -- its event sequence has this value from now on
+  raised : (queue value : ℕ) → QueueMark
+  -- an event was stored
+  put : (queue : ℕ) (event : Event) → QueueMark
+  -- a tick was made
+  ticked : (queue id : ℕ) (time : ℤ) (seq : ℕ) → QueueMark
+  -- a consumer was registered, as a subscription that stands at a tick
+  registered : (queue : ℕ) (consumer : List ℕ) (sub tick : ℕ) → QueueMark
+  -- a batch was made
+  opened : (batch : Batch) → QueueMark
+  -- a batch was finished
+  closed : (batch : Batch) → QueueMark
+
+-- what happened in a database
+pub data Mark : Type 0 where
+  -- a transaction of the session got its id
+  began : (who t : ℕ) → Mark
+  -- it ended
+  ended : (who t : ℕ) (committed : Bool) → Mark
+  queued : QueueMark → Mark
+
+-- what happened in one database
+abbrev pub History : Type 0
+History = List Mark
+
+-- what happened in the world; a database goes by its number in the order of making, a session by its
+-- number in the order of appearance
+pub data Fact : Type 0 where
+  -- a session appeared
+  appeared : (name : List ℕ) → Fact
+  -- a database was made
+  founded : (name : List ℕ) → Fact
+  -- a session opened a database
+  entered : (who database : ℕ) → Fact
+  -- something happened in a database
+  within : (database : ℕ) (mark : Mark) → Fact
+
+-- what happened everywhere
+abbrev pub Past : Type 0
+Past = List Fact

@@ -1,0 +1,48 @@
+-- What a statement does: its answer and its marks, or a refusal.
+use Rattle.std.specs.Prelude.{ℕ, List, [], ◌∷◌, Bool, true, false, Option, Some, None, Result, Ok, Err}
+use Rattle.sky_model.specs.declared.reply.Reply.{Reply}
+use Rattle.sky_model.specs.declared.reply.Reply.TheVariants.{Refused}
+use Rattle.sky_model.specs.declared.reply.Refusal.{Refusal}
+use Rattle.sky_model.specs.History.{Mark}
+
+-- an answer, and what happened, the first mark first
+pub record Outcome : Type 0 where
+  pub reply : Reply
+  pub marks : List Mark
+
+-- something, or the first refusal that holds
+abbrev pub Checked : Type 0 → Type 0
+Checked A = Result A Refusal
+
+infixl 20 ◌>>=◌
+abbrev pub ◌>>=◌ : {A B : Type 0} → Checked A → (A → Checked B) → Checked B
+Err refusal >>= next = Err refusal
+Ok a >>= next = next a
+
+infixl 20 ◌>>◌
+abbrev pub ◌>>◌ : {A B : Type 0} → Checked A → Checked B → Checked B
+Err refusal >> next = Err refusal
+Ok a >> next = next
+
+-- nothing is refused, or this where the test holds
+abbrev pub refused_if : Bool → Refusal → Checked (Unit {0})
+refused_if true refusal = Err refusal
+refused_if false refusal = Ok tt
+
+-- what is there, or this refusal
+abbrev pub found_or : {A : Type 0} → Option A → Refusal → Checked A
+found_or None refusal = Err refusal
+found_or (Some a) refusal = Ok a
+
+-- an answer that leaves all as it was
+abbrev pub answers : Reply → Checked Outcome
+answers reply = Ok (record { reply = reply; marks = [] })
+
+-- an answer with what happened
+abbrev pub does_marks : Reply → List Mark → Checked Outcome
+does_marks reply marks = Ok (record { reply = reply; marks = marks })
+
+-- a refusal is an answer too
+abbrev pub settled : Checked Outcome → Outcome
+settled (Ok outcome) = outcome
+settled (Err refusal) = record { reply = Refused refusal; marks = [] }

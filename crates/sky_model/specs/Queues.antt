@@ -1,0 +1,56 @@
+-- Queues: their names, sequences, events and ticks.
+use Rattle.std.specs.Prelude.{ℕ, ℤ, ◌+◌, List, [], ◌∷◌, ◌++◌, Option, Some, None, ◌==◌, ◌&&◌, find, if◌then◌else◌}
+use Rattle.sky_val.specs.declared.event.Event.{Event}
+use Rattle.sky_model.specs.Temp.{SnapshotView}
+use Rattle.sky_model.specs.History.{Mark, queued, made, raised, put, ticked, History}
+use Rattle.sky_model.specs.Transactions.{snapshot}
+
+-- the names of the queues, in the order of making: a queue's number is its place here
+abbrev pub queue_names : History → List (List ℕ)
+queue_names [] = []
+queue_names (queued (made name) ∷ h) = queue_names h ++ name ∷ []
+queue_names (_ ∷ h) = queue_names h
+
+-- the value of a queue's event sequence
+abbrev pub sequence : ℕ → History → ℕ
+sequence queue [] = 0
+sequence queue (queued (raised q value) ∷ h) = if q == queue then value else sequence queue h
+sequence queue (_ ∷ h) = sequence queue h
+
+-- the events that were stored in a queue, in the order of storing
+abbrev pub events : ℕ → History → List Event
+events queue [] = []
+events queue (queued (put q event) ∷ h) = if q == queue then events queue h ++ event ∷ [] else events queue h
+events queue (_ ∷ h) = events queue h
+
+-- a tick
+pub record Tick : Type 0 where
+  pub id : ℕ
+  pub time : ℤ
+  pub snapshot : SnapshotView
+  pub seq : ℕ
+
+-- the ticks of a queue, in the order of making, each with the snapshot at its place
+abbrev pub ticks : ℕ → History → List Tick
+ticks queue [] = []
+ticks queue (queued (ticked q id time seq) ∷ h) =
+    if q == queue
+    then ticks queue h ++ record { id = id; time = time; snapshot = snapshot h; seq = seq } ∷ []
+    else ticks queue h
+ticks queue (_ ∷ h) = ticks queue h
+
+-- a tick by its id
+abbrev pub tick : ℕ → List Tick → Option Tick
+tick id ts = find (λ t. t.id == id) ts
+
+-- the newest tick
+abbrev pub newest_tick : List Tick → Option Tick
+newest_tick [] = None
+newest_tick (t ∷ []) = Some t
+newest_tick (t ∷ u ∷ ts) = newest_tick (u ∷ ts)
+
+-- the history as it was when a tick was made
+abbrev pub at_tick : ℕ → ℕ → History → History
+at_tick queue tick [] = []
+at_tick queue tick (queued (ticked q id time seq) ∷ h) = if q == queue && id == tick then h else at_tick queue tick h
+at_tick queue tick (_ ∷ h) = at_tick queue tick h

@@ -1,0 +1,24 @@
+-- A batch by the snapshots of its two ticks.
+use Rattle.std.specs.Prelude.{ℕ, Bool, not, ◌&&◌, List, [], filter, Option, Some, None}
+use Rattle.sky_val.specs.declared.event.Event.{Event}
+use Rattle.sky_model.specs.Temp.{SnapshotView, snapshot_of, sees}
+use Rattle.sky_model.specs.History.{Batch}
+use Rattle.sky_model.specs.Queues.{Tick, tick}
+use Rattle.sky_model.specs.Batches.{is_for}
+use Rattle.sky_model.specs.State.{Queue, Database}
+
+-- the snapshot of a tick; without one it is that before anything happened
+abbrev pub snapshot_at : Option Tick → SnapshotView
+snapshot_at None = snapshot_of 3 []
+snapshot_at (Some t) = t.snapshot
+
+-- an event is one of those between two ticks, for a subscription
+abbrev pub is_selected : SnapshotView → SnapshotView → ℕ → Event → Bool
+is_selected from to sub e = sees to e.ev_txid && not (sees from e.ev_txid) && is_for sub e.ev_owner
+
+-- the stored events whose transaction the closing tick's snapshot sees and the opening one's doesn't
+abbrev pub selected_in : Queue → Batch → List Event
+selected_in q b = filter (is_selected (snapshot_at (tick b.prev q.clock_ticks)) (snapshot_at (tick b.cur q.clock_ticks)) b.sub) q.stored
+
+abbrev pub selected : Database → Batch → List Event
+selected d b = selected_in (d.queue b.queue) b

@@ -1,0 +1,105 @@
+-- What a database and the world show at a place: all that a statement reads, each part by its
+-- definition. The code keeps these, and a mark changes them.
+use Rattle.std.specs.Prelude.{ℕ, ◌+◌, ℤ, pos, List, [], ◌∷◌, ◌++◌, Bool, not, Option, Some, None, ◌==◌, ◌&&◌, bytes_eq, filter, option_map, if◌then◌else◌}
+use Rattle.sky_val.specs.declared.event.Event.{Event}
+use Rattle.sky_model.specs.Temp.{snapshot_of}
+use Rattle.sky_model.specs.History.{Batch, Mark, began, ended, queued, QueueMark, made, raised, put, ticked, registered, opened, closed, History}
+use Rattle.sky_model.specs.Transactions.{next_txid, running}
+use Rattle.sky_model.specs.Queues.{queue_names, sequence, events, Tick, ticks}
+use Rattle.sky_model.specs.Consumers.{consumers, Subscription, subscription, last_subscription, last_batch, active_batch}
+
+-- a queue, as a statement reads it
+pub record Queue : Type 0 where
+  pub seq : ℕ
+  pub stored : List Event
+  pub clock_ticks : List Tick
+  pub members : List (List ℕ)
+  pub sub : List ℕ → Option Subscription
+
+-- a database, as a statement reads it
+pub record Database : Type 0 where
+  pub next : ℕ
+  pub live : List ℕ
+  pub batch_count : ℕ
+  pub sub_count : ℕ
+  pub names : List (List ℕ)
+  pub queue : ℕ → Queue
+  pub batch : ℕ → Option Batch
+
+abbrev pub queue_of : History → ℕ → Queue
+queue_of h q = record {
+    seq = sequence q h;
+    stored = events q h;
+    clock_ticks = ticks q h;
+    members = consumers q h;
+    sub = λ name. subscription q name h
+  }
+
+abbrev pub database_of : History → Database
+database_of h = record {
+    next = next_txid h;
+    live = running h;
+    batch_count = last_batch h;
+    sub_count = last_subscription h;
+    names = queue_names h;
+    queue = queue_of h;
+    batch = λ id. active_batch id h
+  }
+
+-- the same function but at a number
+abbrev pub changed_at : {A : Type 0} → ℕ → (A → A) → (ℕ → A) → ℕ → A
+changed_at k f g n = if k == n then f (g n) else g n
+
+-- the same function but at a name
+abbrev pub changed_for : {A : Type 0} → List ℕ → (A → A) → (List ℕ → A) → List ℕ → A
+changed_for name f g n = if bytes_eq n name then f (g n) else g n
+
+-- a subscription that has this batch
+abbrev pub with_batch : ℕ → Subscription → Subscription
+with_batch batch s = record s { active = Some batch }
+
+-- a subscription that has finished its batch, and stands at this tick
+abbrev pub at_position : ℕ → Subscription → Subscription
+at_position tick s = record s { position = tick; active = None }
+
+-- a database after something happened to its queues
+abbrev pub after_queue_mark : Database → QueueMark → Database
+after_queue_mark d (made name) = record d { names = d.names ++ name ∷ [] }
+after_queue_mark d (raised q value) = record d { queue = changed_at q (λ x. record x { seq = value }) d.queue }
+after_queue_mark d (put q event) = record d { queue = changed_at q (λ x. record x { stored = x.stored ++ event ∷ [] }) d.queue }
+after_queue_mark d (ticked q id time seq) = record d {
+    queue = changed_at q (λ x. record x {
+        clock_ticks = x.clock_ticks ++ record { id = id; time = time; snapshot = snapshot_of d.next d.live; seq = seq } ∷ []
+      }) d.queue
+  }
+after_queue_mark d (registered q name id tick) = record d {
+    sub_count = id;
+    queue = changed_at q (λ x. record x {
+        members = x.members ++ name ∷ [];
+        sub = changed_for name (λ _. Some (record { id = id; position = tick; active = None })) x.sub
+      }) d.queue
+  }
+after_queue_mark d (opened b) = record d {
+    batch_count = b.id;
+    batch = changed_at b.id (λ _. Some b) d.batch;
+    queue = changed_at b.queue (λ x. record x {
+        sub = changed_for b.consumer (option_map (with_batch b.id)) x.sub
+      }) d.queue
+  }
+after_queue_mark d (closed b) = record d {
+    batch = changed_at b.id (λ _. None) d.batch;
+    queue = changed_at b.queue (λ x. record x {
+        sub = changed_for b.consumer (option_map (at_position b.cur)) x.sub
+      }) d.queue
+  }
+
+-- a database after a mark
+abbrev pub after_mark : Database → Mark → Database
+after_mark d (began who t) = record d { next = d.next + 1; live = d.live ++ t ∷ [] }
+after_mark d (ended who t committed) = record d { live = filter (λ u. not (u == t)) d.live }
+after_mark d (queued mark) = after_queue_mark d mark
+
+-- a database after marks, the first one first
+abbrev pub after_marks : Database → List Mark → Database
+after_marks d [] = d
+after_marks d (mark ∷ marks) = after_marks (after_mark d mark) marks

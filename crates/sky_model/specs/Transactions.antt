@@ -1,0 +1,33 @@
+-- Transactions: which ids were given, which run, which have ended, and what a snapshot lists.
+use Rattle.std.specs.Prelude.{ℕ, ◌+◌, List, [], ◌∷◌, ◌++◌, Bool, true, false, not, ◌||◌, ◌==◌, nat_lt, filter}
+use Rattle.sky_model.specs.Temp.{SnapshotView, snapshot_of}
+use Rattle.sky_model.specs.History.{Mark, began, ended, queued, History}
+
+-- the next id: ids begin at 3
+abbrev pub next_txid : History → ℕ
+next_txid [] = 3
+next_txid (began who t ∷ h) = next_txid h + 1
+next_txid (_ ∷ h) = next_txid h
+
+-- the ids that were given and haven't ended, rising
+abbrev pub running : History → List ℕ
+running [] = []
+running (began who t ∷ h) = running h ++ t ∷ []
+running (ended who t committed ∷ h) = filter (λ u. not (u == t)) (running h)
+running (_ ∷ h) = running h
+
+-- a transaction has ended; those below 3 had before there was a history
+abbrev pub has_ended : History → ℕ → Bool
+has_ended [] t = nat_lt t 3
+has_ended (ended who u committed ∷ h) t = t == u || has_ended h t
+has_ended (_ ∷ h) t = has_ended h t
+
+-- a transaction has committed; those below 3 had before there was a history
+abbrev pub has_committed : History → ℕ → Bool
+has_committed [] t = nat_lt t 3
+has_committed (ended who u true ∷ h) t = t == u || has_committed h t
+has_committed (_ ∷ h) t = has_committed h t
+
+-- the snapshot at a place
+abbrev pub snapshot : History → SnapshotView
+snapshot h = snapshot_of (next_txid h) (running h)
