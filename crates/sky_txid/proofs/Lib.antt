@@ -1,0 +1,4 @@
+pub mod Rising
+pub mod Searched
+pub mod Texts
+mod Worked
