@@ -1,3 +1,4 @@
+mod WorkedLines
 mod WorkedRows
 pub mod Marks
 pub mod Legal

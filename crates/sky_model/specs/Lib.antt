@@ -1,3 +1,6 @@
+pub mod Words
+pub mod Kinds
+pub mod Grammar
 pub mod Temp
 pub mod History
 pub mod Transactions

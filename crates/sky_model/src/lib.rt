@@ -6,8 +6,10 @@
 //! is no code here that a program runs but the types.
 #![tactic(auto)]
 
+mod line;
 mod reply;
 mod stmt;
 
+pub use line::{Form, Line};
 pub use reply::{Events, Limit, Refusal, Replies, Reply};
 pub use stmt::{Extra, Stmt};

@@ -1,0 +1,125 @@
+-- Lines and what they say, by computation: each form, and what comes close to one.
+use Rattle.std.specs.Prelude.{◌≡◌, ℕ, ◌-◌, ◌^◌, [], Some, None, Result, Ok, Err, codes, refl}
+use Rattle.std.specs.Str.{is_utf8, chars}
+use Rattle.std.specs.Char.{encode_utf8}
+use Rattle.sky_model.specs.declared.stmt.Stmt.{Stmt}
+use Rattle.sky_model.specs.declared.line.Line.{Line}
+use Rattle.sky_model.specs.declared.line.Line.TheVariants.{Blank, Run}
+use Rattle.sky_model.specs.Grammar.{line_of}
+
+-- what session `a` is to run
+abbrev runs : Stmt → Result Line ℕ
+runs stmt = Ok (Run (codes "a") stmt)
+
+open_db : line_of (codes "a: open p") ≡ runs (Stmt.OpenDb (codes "p"))
+open_db = refl
+
+create_queue : line_of (codes "a: create_queue q") ≡ runs (Stmt.CreateQueue (codes "q"))
+create_queue = refl
+
+insert_event : line_of (codes "a: insert_event q null 'd'") ≡ runs (Stmt.InsertEvent (codes "q") None (Some (codes "d")) None)
+unfolding is_utf8 chars encode_utf8
+insert_event = refl
+
+insert_event_extra : line_of (codes "a: insert_event q 'it''s a b' '' null 'x' null ''''") ≡ runs (Stmt.InsertEvent (codes "q") (Some (codes "it's a b")) (Some []) (Some (record { ev_extra1 = None; ev_extra2 = Some (codes "x"); ev_extra3 = None; ev_extra4 = Some (codes "'") })))
+unfolding is_utf8 chars encode_utf8
+insert_event_extra = refl
+
+ticker : line_of (codes "a: ticker q") ≡ runs (Stmt.Ticker (codes "q"))
+ticker = refl
+
+force_tick : line_of (codes "a: force_tick _q9") ≡ runs (Stmt.ForceTick (codes "_q9"))
+force_tick = refl
+
+register_consumer : line_of (codes "a: register_consumer q c") ≡ runs (Stmt.RegisterConsumer (codes "q") (codes "c"))
+register_consumer = refl
+
+next_batch : line_of (codes "a: next_batch q w.m") ≡ runs (Stmt.NextBatch (codes "q") (codes "w.m"))
+next_batch = refl
+
+get_batch_events : line_of (codes "a: get_batch_events 0") ≡ runs (Stmt.GetBatchEvents 0)
+get_batch_events = refl
+
+finish_batch : line_of (codes "a: finish_batch 18446744073709551615") ≡ runs (Stmt.FinishBatch (2 ^ 64 - 1))
+finish_batch = refl
+
+empty : line_of [] ≡ Ok Blank
+empty = refl
+
+comment : line_of (codes "# a: ticker") ≡ Ok Blank
+comment = refl
+
+leading_space : line_of (codes " a: ticker q") ≡ Err 1
+leading_space = refl
+
+no_colon : line_of (codes "a ticker q") ≡ Err 1
+no_colon = refl
+
+no_name : line_of (codes ": ticker q") ≡ Err 1
+no_name = refl
+
+upper_session : line_of (codes "A: ticker q") ≡ Err 1
+upper_session = refl
+
+session_alone : line_of (codes "a:") ≡ Err 2
+session_alone = refl
+
+two_spaces : line_of (codes "a:  ticker q") ≡ Err 2
+two_spaces = refl
+
+unknown_form : line_of (codes "a: tick q") ≡ Err 2
+unknown_form = refl
+
+longer_form : line_of (codes "a: tickers q") ≡ Err 2
+longer_form = refl
+
+no_queue : line_of (codes "a: ticker") ≡ Err 3
+no_queue = refl
+
+trailing_space : line_of (codes "a: ticker q ") ≡ Err 4
+trailing_space = refl
+
+further_word : line_of (codes "a: create_queue q 2") ≡ Err 4
+further_word = refl
+
+digit_first : line_of (codes "a: ticker 9q") ≡ Err 3
+digit_first = refl
+
+upper_name : line_of (codes "a: ticker Q") ≡ Err 3
+upper_name = refl
+
+dotted_queue : line_of (codes "a: ticker q.r") ≡ Err 3
+dotted_queue = refl
+
+dot_last : line_of (codes "a: next_batch q w.") ≡ Err 4
+dot_last = refl
+
+two_dots : line_of (codes "a: next_batch q w.m.n") ≡ Err 4
+two_dots = refl
+
+leading_zero : line_of (codes "a: get_batch_events 01") ≡ Err 3
+leading_zero = refl
+
+signed : line_of (codes "a: get_batch_events +1") ≡ Err 3
+signed = refl
+
+too_large : line_of (codes "a: get_batch_events 18446744073709551616") ≡ Err 3
+too_large = refl
+
+unclosed : line_of (codes "a: insert_event q 'x") ≡ Err 4
+unclosed = refl
+
+behind_quote : line_of (codes "a: insert_event q 'x'y null") ≡ Err 4
+behind_quote = refl
+
+bare_text : line_of (codes "a: insert_event q x null") ≡ Err 4
+bare_text = refl
+
+no_data : line_of (codes "a: insert_event q null") ≡ Err 5
+no_data = refl
+
+three_texts : line_of (codes "a: insert_event q null null null") ≡ Err 7
+three_texts = refl
+
+seven_texts : line_of (codes "a: insert_event q null null null null null null null") ≡ Err 10
+seven_texts = refl
