@@ -8,7 +8,8 @@ use Rattle.sky_model.specs.declared.stmt.Stmt.TheVariants.{OpenDb, CreateQueue, 
 use Rattle.sky_model.specs.declared.reply.Reply.{Reply}
 use Rattle.sky_model.specs.declared.reply.Refusal.{Refusal}
 use Rattle.sky_model.specs.declared.reply.Refusal.TheVariants.{NoQueue, TxidsSpent, EventIdsSpent, NoConsumer}
-use Rattle.sky_model.specs.Temp.{place_of, contains}
+use Rattle.sky_txid.specs.Ids.{contains}
+use Rattle.sky_model.specs.Temp.{place_of}
 use Rattle.sky_model.specs.History.{Batch, Mark, began, ended, queued, made, raised, put, ticked, registered, opened, closed, History, Fact, appeared, founded, entered, within, Past}
 use Rattle.sky_model.specs.Transactions.{next_txid, running}
 use Rattle.sky_model.specs.Queues.{queue_names, Tick, ticks, tick, newest_tick, sequence}

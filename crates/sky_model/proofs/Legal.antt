@@ -2,7 +2,7 @@
 -- line for each kind of mark, and none for each statement.
 use Rattle.std.proofs.Common.{◌≡◌, ℕ, ◌+◌, ◌<◌, ◌≤◌, ℤ, List, [], ◌∷◌, Bool, true, Option, length}
 use Rattle.sky_val.specs.declared.event.Event.{Event}
-use Rattle.sky_model.specs.Temp.{contains}
+use Rattle.sky_txid.specs.Ids.{contains}
 use Rattle.sky_model.specs.History.{Batch, Mark, began, ended, queued, QueueMark, made, raised, put, ticked, registered, opened, closed, History}
 use Rattle.sky_model.specs.Transactions.{next_txid, running}
 use Rattle.sky_model.specs.Queues.{queue_names, sequence, ticks, newest_tick}

@@ -2,7 +2,7 @@
 use Rattle.std.proofs.Common.{◌≡◌, ℕ, ◌+◌, ◌<◌, ◌≤◌, List, [], ◌∷◌, ◌++◌, Bool, true, false, not, ◌&&◌, ◌==◌, nat_lt, filter, refl, sym, ◌∙◌, ap, ap₂, arith, subst, append-nil, append_assoc, if◌then◌else◌}
 use Rattle.std.proofs.lemmas.Bool.Decides.{nat_tests}
 use Rattle.sky_val.specs.declared.event.Event.{Event}
-use Rattle.sky_model.specs.Temp.{sees}
+use Rattle.sky_txid.specs.Snapshot.{sees}
 use Rattle.sky_model.specs.History.{Batch, Mark, began, ended, queued, QueueMark, made, raised, put, ticked, registered, opened, closed, History}
 use Rattle.sky_model.specs.Transactions.{has_ended, has_committed, snapshot}
 use Rattle.sky_model.specs.Queues.{sequence, events, ticks, tick, at_tick}

@@ -1,7 +1,8 @@
 -- A snapshot sees exactly the transactions that have ended.
 use Rattle.std.proofs.Common.{◌≡◌, ℕ, ◌+◌, ◌<◌, ◌≤◌, List, [], ◌∷◌, ◌++◌, Bool, true, false, not, ◌&&◌, ◌||◌, ◌==◌, nat_lt, filter, refl, sym, ◌∙◌, ap, ap₂, arith, lt-ltb, ltb-true, if◌then◌else◌}
 use Rattle.std.proofs.lemmas.Bool.Decides.{nat_tests}
-use Rattle.sky_model.specs.Temp.{contains, first_or, sees}
+use Rattle.sky_txid.specs.Ids.{contains, first_or}
+use Rattle.sky_txid.specs.Snapshot.{sees}
 use Rattle.sky_model.specs.History.{Mark, began, ended, queued, History}
 use Rattle.sky_model.specs.Transactions.{next_txid, running, has_ended, has_committed, snapshot}
 use Rattle.sky_model.proofs.Legal.{Fine, begins, ends, makes, raises, puts, ticks_next, registers, opens, closes, Legal, start, next}

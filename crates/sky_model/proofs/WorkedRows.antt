@@ -1,5 +1,9 @@
 -- Worked rows by computation.
-use Rattle.std.proofs.Common.{◌≡◌, ℕ, List, [], ◌∷◌, ◌++◌, Option, Some, None, refl, codes, map, pos}
+use Rattle.std.proofs.Common.{◌≡◌, ℕ, List, [], ◌∷◌, ◌++◌, Option, Some, None, refl, codes, map, flat_map, pos}
+use Rattle.std.specs.Str.{is_utf8, chars}
+use lib.Utf8.{encode}
+use Rattle.std.specs.Fmt.{digits}
+use Rattle.sky_model.specs.Transcript.{transcript, bad_line}
 use Rattle.sky_model.specs.declared.stmt.Stmt.{Stmt}
 use Rattle.sky_model.specs.declared.stmt.Stmt.TheVariants.{OpenDb, CreateQueue, InsertEvent, Ticker, ForceTick, RegisterConsumer, NextBatch, GetBatchEvents, FinishBatch}
 use Rattle.sky_model.specs.declared.reply.Reply.{Reply}
@@ -25,3 +29,21 @@ row3 : replies [] (OpenDb (codes "d") ∷ CreateQueue (codes "q") ∷ RegisterCo
     ∷ GetBatchEvents 1 ∷ FinishBatch 1 ∷ [])
   ≡ Done ∷ Number 1 ∷ Number 1 ∷ Number 2 ∷ Null ∷ Number 1 ∷ Number 1 ∷ Events [] ∷ Number 1 ∷ []
 row3 = refl
+
+-- a script of lines, each ended
+abbrev script : List (List ℕ) → List ℕ
+script lines = flat_map (λ line. line ++ 10 ∷ []) lines
+
+abbrev beginning : List (List ℕ)
+beginning = codes "a: open d" ∷ codes "a: create_queue q" ∷ codes "a: register_consumer q w" ∷ []
+
+abbrev beginning_printed : List (List ℕ)
+beginning_printed = codes "a: ok" ∷ codes "a: 1" ∷ codes "a: 1" ∷ []
+
+first_run : transcript (script (beginning ++ codes "a: insert_event q 'hello' 'x=1'" ∷ codes "a: force_tick q" ∷ codes "a: ticker q" ∷ codes "a: next_batch q w"
+    ∷ codes "a: get_batch_events 1" ∷ codes "a: finish_batch 1" ∷ codes "a: finish_batch 1" ∷ codes "a: next_batch q w" ∷ []))
+  ≡ script (beginning_printed ++ codes "a: 1" ∷ codes "a: 1" ∷ codes "a: 2" ∷ codes "a: 1"
+    ∷ codes "a: event 1 2012-01-01 00:00:00.000000 4 null 'hello' 'x=1' null null null null" ∷ codes "a: rows 1"
+    ∷ codes "a: 1" ∷ codes "a: 0" ∷ codes "a: null" ∷ [])
+unfolding is_utf8 chars encode digits
+first_run = refl

@@ -14,3 +14,7 @@ pub mod StepConsumer
 pub mod Selection
 pub mod World
 pub mod Steps
+pub mod Moment
+pub mod Printed
+pub mod Lines
+pub mod Transcript

@@ -1,7 +1,7 @@
 -- A batch by the snapshots of its two ticks.
 use Rattle.std.specs.Prelude.{ℕ, Bool, not, ◌&&◌, List, [], filter, Option, Some, None}
 use Rattle.sky_val.specs.declared.event.Event.{Event}
-use Rattle.sky_model.specs.Temp.{SnapshotView, snapshot_of, sees}
+use Rattle.sky_txid.specs.Snapshot.{SnapshotView, snapshot_of, sees}
 use Rattle.sky_model.specs.History.{Batch}
 use Rattle.sky_model.specs.Queues.{Tick, tick}
 use Rattle.sky_model.specs.Batches.{is_for}

@@ -2,7 +2,7 @@
 -- definition. The code keeps these, and a mark changes them.
 use Rattle.std.specs.Prelude.{ℕ, ◌+◌, ℤ, pos, List, [], ◌∷◌, ◌++◌, Bool, not, Option, Some, None, ◌==◌, ◌&&◌, bytes_eq, filter, option_map, if◌then◌else◌}
 use Rattle.sky_val.specs.declared.event.Event.{Event}
-use Rattle.sky_model.specs.Temp.{snapshot_of}
+use Rattle.sky_txid.specs.Snapshot.{snapshot_of}
 use Rattle.sky_model.specs.History.{Batch, Mark, began, ended, queued, QueueMark, made, raised, put, ticked, registered, opened, closed, History}
 use Rattle.sky_model.specs.Transactions.{next_txid, running}
 use Rattle.sky_model.specs.Queues.{queue_names, sequence, events, Tick, ticks}

@@ -1,6 +1,6 @@
 -- Transactions: which ids were given, which run, which have ended, and what a snapshot lists.
 use Rattle.std.specs.Prelude.{ℕ, ◌+◌, List, [], ◌∷◌, ◌++◌, Bool, true, false, not, ◌||◌, ◌==◌, nat_lt, filter}
-use Rattle.sky_model.specs.Temp.{SnapshotView, snapshot_of}
+use Rattle.sky_txid.specs.Snapshot.{SnapshotView, snapshot_of}
 use Rattle.sky_model.specs.History.{Mark, began, ended, queued, History}
 
 -- the next id: ids begin at 3

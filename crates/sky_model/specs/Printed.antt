@@ -1,0 +1,89 @@
+-- How answers are printed.
+use Rattle.std.specs.Prelude.{ℕ, ◌==◌, List, [], ◌∷◌, ◌++◌, map, flat_map, length, Option, Some, None, unwrap_or, slice_get, if◌then◌else◌, codes}
+use Rattle.std.specs.Fmt.{decimal}
+use Rattle.sky_val.specs.declared.event.Event.{Event}
+use Rattle.sky_model.specs.declared.reply.Reply.{Reply}
+use Rattle.sky_model.specs.declared.reply.Reply.TheVariants.{Done, Number, Null, Events, Refused}
+use Rattle.sky_model.specs.declared.reply.Limit.{Limit}
+use Rattle.sky_model.specs.declared.reply.Limit.TheVariants.{Sessions, Databases, Queues, Consumers}
+use Rattle.sky_model.specs.declared.reply.Refusal.{Refusal}
+use Rattle.sky_model.specs.declared.reply.Refusal.TheVariants.{AlreadyOpen, EventIdsSpent, IdsSpent, NoBatch, NoConsumer, NodeConsumer, NoQueue, NotOpen, TooMany, TxidsSpent}
+use Rattle.sky_model.specs.Moment.{moment}
+
+-- a text with each quote in it twice
+abbrev pub doubled : List ℕ → List ℕ
+doubled [] = []
+doubled (b ∷ bs) = if b == 39 then 39 ∷ 39 ∷ doubled bs else b ∷ doubled bs
+
+-- a text in quotes, or null
+abbrev pub text_or_null : Option (List ℕ) → List ℕ
+text_or_null None = codes "null"
+text_or_null (Some text) = 39 ∷ doubled text ++ 39 ∷ []
+
+-- a number, or null
+abbrev pub number_or_null : Option ℕ → List ℕ
+number_or_null None = codes "null"
+number_or_null (Some n) = decimal n
+
+-- words, a space before each
+abbrev pub spaced : List (List ℕ) → List ℕ
+spaced words = flat_map (λ word. 32 ∷ word) words
+
+-- an event
+abbrev pub event_text : Event → List ℕ
+event_text e = codes "event" ++ spaced (
+    decimal e.ev_id
+    ∷ moment e.ev_time
+    ∷ decimal e.ev_txid
+    ∷ number_or_null e.ev_retry
+    ∷ text_or_null e.ev_type
+    ∷ text_or_null e.ev_data
+    ∷ text_or_null e.ev_extra1
+    ∷ text_or_null e.ev_extra2
+    ∷ text_or_null e.ev_extra3
+    ∷ text_or_null e.ev_extra4
+    ∷ [])
+
+-- what there can be only so many of, and how many
+abbrev pub limit_text : Limit → List ℕ
+limit_text Sessions = codes "sessions 256"
+limit_text Databases = codes "databases 16"
+limit_text Queues = codes "queues 64"
+limit_text Consumers = codes "consumers 256"
+
+-- a refusal
+abbrev pub refusal_text : Refusal → List ℕ
+refusal_text AlreadyOpen = codes "AlreadyOpen"
+refusal_text EventIdsSpent = codes "EventIdsSpent"
+refusal_text IdsSpent = codes "IdsSpent"
+refusal_text NoBatch = codes "NoBatch"
+refusal_text (NoConsumer name) = codes "NoConsumer " ++ name
+refusal_text NodeConsumer = codes "NodeConsumer"
+refusal_text (NoQueue name) = codes "NoQueue " ++ name
+refusal_text NotOpen = codes "NotOpen"
+refusal_text (TooMany limit) = codes "TooMany " ++ limit_text limit
+refusal_text TxidsSpent = codes "TxidsSpent"
+
+-- the lines of an answer
+abbrev pub reply_lines : Reply → List (List ℕ)
+reply_lines Done = codes "ok" ∷ []
+reply_lines (Number n) = decimal n ∷ []
+reply_lines Null = codes "null" ∷ []
+reply_lines (Events events) = map event_text events ++ (codes "rows " ++ decimal (length events)) ∷ []
+reply_lines (Refused refusal) = (codes "error " ++ refusal_text refusal) ∷ []
+
+-- a line of an answer, behind its session's name
+abbrev pub line_text : List ℕ → List ℕ → List ℕ
+line_text name line = name ++ codes ": " ++ line ++ 10 ∷ []
+
+-- an answer of the session of this name
+abbrev pub reply_text : List ℕ → Reply → List ℕ
+reply_text name reply = flat_map (line_text name) (reply_lines reply)
+
+-- the name at a place
+abbrev pub name_at : List (List ℕ) → ℕ → List ℕ
+name_at names n = unwrap_or (slice_get names n) []
+
+-- answers, each behind the name of its session
+abbrev pub printed : List (List ℕ) → List (ℕ × Reply) → List ℕ
+printed names replies = flat_map (λ answer. reply_text (name_at names answer.0) answer.1) replies
