@@ -1,0 +1,9 @@
+//! Lists of distinct names in order, in which a name's number is found in constant time.
+//!
+//! `Names` is seen as the plain list of the names' bytes. A name's number is its place in the list,
+//! counted from 0, and never changes, since names are only added, at the end.
+#![tactic(auto)]
+
+mod names;
+
+pub use names::Names;

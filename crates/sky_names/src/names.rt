@@ -1,0 +1,108 @@
+ghost use Rattle.std.specs.Prelude.{◌≡◌, ◌+◌, ◌-◌, ◌^◌, ◌<◌, ◌↔◌, [], ◌∷◌, ◌++◌, length, slice_get, option_copied, IsTrue, IfOk, OnOk, OnErr};
+ghost use Rattle.sky_names.specs.Places.{place_of, Distinct};
+
+use indexmap::IndexSet;
+use sky_val::{NoMemory, Text};
+use std::alloc::Global;
+use std::marker::Model;
+
+/// Distinct names in order, each with its place as its number.
+#[derive(Drop)]
+pub struct Names {
+    texts: IndexSet<Text>,
+}
+
+impl Model for Names {
+    ghost use Rattle.std.specs.Prelude.{ℕ, List, ◌^◌, ◌<◌, length};
+
+    ghost Value = { List (List ℕ) };
+
+    ghost view = { λ names. names.texts.keys };
+
+    ghost invariant = { λ names. length names.texts.keys < 2 ^ 32 };
+}
+
+impl Names {
+    pub fn new(alloc: Global) -> Names
+        ensures { result ≡ [] }
+    {
+        Names {
+            texts: IndexSet::new(alloc),
+        }
+    }
+
+    /// The number of the name, if it is known.
+    pub fn number(&self, name: &Text) -> Option<u32>
+        ensures { result ≡ place_of name.now self.now }
+    {
+        let place = self.texts.get_index_of(name)?;
+        Some(place as u32)
+    }
+
+    /// Puts a new name at the end, and gives its number.
+    pub fn add(&mut self, name: Text) -> Result<u32, NoMemory>
+        requires new { place_of name self.old ≡ None }
+        requires room { length self.old < 2 ^ 32 - 1 }
+        ensures added { OnOk result (self.new ≡ self.old ++ name ∷ []) }
+        ensures number { IfOk result (λ number. number ≡ length self.old) }
+        ensures err { OnErr result (self.new ≡ self.old) }
+    {
+        let number = self.texts.len() as u32;
+        self.texts.insert(name)?;
+        Ok(number)
+    }
+
+    pub fn len(&self) -> usize
+        ensures len { result ≡ length self.now }
+        ensures numbered { result < 2 ^ 32 }
+    {
+        self.texts.len()
+    }
+
+    pub fn is_empty(&self) -> bool
+        ensures { IsTrue result ↔ (self.now ≡ []) }
+    {
+        self.len() == 0
+    }
+
+    /// The name with this number, if there is one.
+    pub fn name(&self, number: u32) -> Option<&Text>
+        ensures name { option_copied result ≡ slice_get self.now number }
+        ensures distinct { Distinct self.now }
+    {
+        self.as_slice().get(number as usize)
+    }
+
+    /// All the names, each at the place that is its number.
+    pub fn as_slice(&self) -> &[Text]
+        ensures names { result.now ≡ self.now }
+        ensures distinct { Distinct self.now }
+    {
+        self.texts.as_slice()
+    }
+}
+
+#[cfg(test)]
+mod tests {
+    use super::*;
+    use std::test::Fail;
+
+    #[test]
+    fn adds_and_finds(rt: HostRuntime) -> Result<(), Fail> {
+        let mut names = Names::new(rt.alloc());
+        let alpha = Text::from_bytes(rt.alloc(), b"alpha")?;
+        let beta = Text::from_bytes(rt.alloc(), b"beta")?;
+
+        assert!(rt; names.number(&alpha).is_none());
+        let first = names.add(alpha.copy(rt.alloc())?)?;
+        assert!(rt; names.number(&beta).is_none());
+        let second = names.add(beta.copy(rt.alloc())?)?;
+
+        assert_eq!(rt; (first, second), (0, 1));
+        assert_eq!(rt; names.number(&beta), Some(1));
+        assert!(rt; names.name(0) == Some(&alpha));
+        assert!(rt; names.name(2).is_none());
+        assert_eq!(rt; names.as_slice().len(), names.len());
+        Ok(())
+    }
+}
