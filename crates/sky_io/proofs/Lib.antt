@@ -1,0 +1,2 @@
+pub mod RoseLemmas
+pub mod AppendsLemmas

@@ -1,0 +1,4 @@
+pub mod Faults
+pub mod Appends
+pub mod Supply
+pub mod Store

@@ -1,0 +1,71 @@
+ghost use Rattle.std.specs.Prelude.{◌≡◌, ◌<◌, ◌≤◌, IfErr, IfOk, IfSome, IsErrOf, None, OnErr, OnOk, length};
+ghost use Rattle.std.specs.Io.{WritesAtMost};
+ghost use Rattle.sky_io.specs.Faults.{Rose, count_of, raised};
+ghost use Rattle.std.proofs.Common.{rules};
+
+use crate::sink::{Sink, SinkFault};
+use std::io::Write;
+use std::marker::Model;
+
+/// A sink over one of std's writers, flushed after each write. It tells no bytes, and is seen as
+/// the count of its faults.
+#[derive(Drop)]
+pub struct StdSink<W> {
+    writer: W,
+    faults: u64,
+}
+
+impl<W> Model for StdSink<W> {
+    ghost use Rattle.std.specs.Prelude.{ℕ};
+
+    ghost Value = { ℕ };
+
+    ghost view = { λ s. s.faults };
+}
+
+impl<W: Write> StdSink<W> {
+    /// A sink that writes to `writer`.
+    pub fn new(writer: W) -> StdSink<W>
+        ensures { result ≡ 0 }
+    {
+        StdSink { writer, faults: 0 }
+    }
+}
+
+impl<W: Write> Sink for StdSink<W> {
+    ghost held = { λ _. None };
+
+    ghost faults = { count_of };
+
+    ghost bounded = { Prim.search rules };
+
+    fn write(&mut self, piece: &[u8]) -> Result<usize, SinkFault>
+        requires { 0 < length piece.now }
+        ensures at_least { IfOk result (λ count. 1 ≤ count) }
+        ensures at_most { WritesAtMost result piece.now }
+        ensures failed { IsErrOf result SinkFault.Failed → Rose (count_of self.old) (count_of self.new) }
+        ensures never_falls { count_of self.old ≤ count_of self.new }
+
+        // What this sink tells beside.
+        ensures ok { OnOk result (self.new ≡ self.old) }
+        ensures err { OnErr result (self.new ≡ raised self.old) }
+        ensures never_no_memory { IfErr result (λ fault. fault ≡ SinkFault.Failed) }
+    {
+        match write_through(&mut self.writer, piece) {
+            Some(count) => Ok(count),
+            None => {
+                self.faults = self.faults.saturating_add(1);
+                Err(SinkFault::Failed)
+            }
+        }
+    }
+}
+
+// Writes and flushes. None where either failed, or where the writer took nothing.
+fn write_through<W: Write>(writer: &mut W, piece: &[u8]) -> Option<usize>
+    ensures { IfSome result (λ count. (1 ≤ count) × (count ≤ length piece.now)) }
+{
+    let count = writer.write(piece).ok()?;
+    writer.flush().ok()?;
+    if count == 0 { None } else { Some(count) }
+}
