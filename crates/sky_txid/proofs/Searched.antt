@@ -3,10 +3,11 @@ use Rattle.std.proofs.Common.{◌≡◌, ℕ, ◌<◌, ◌≤◌, inl, inr, true
 use Rattle.std.specs.List.Sorted.{IsBinarySearchResult}
 use Rattle.std.specs.Ordering.{nat_cmp}
 use Rattle.std.proofs.lemmas.List.Sorted.{searched}
-use Rattle.std.proofs.lemmas.Bool.{cases_lt, and_parts, le-ltb, lt-ltb}
-use Rattle.std.specs.Prelude.{nat_lt, nat_le, ◌&&◌}
+use Rattle.std.proofs.lemmas.Bool.{cases_lt, le-ltb, lt-ltb}
+use Rattle.std.specs.Prelude.{nat_lt}
 use Rattle.sky_txid.specs.Snapshot.{SnapshotView, is_snapshot, sees}
 use Rattle.sky_txid.specs.Ids.{contains, rises_within}
+use Rattle.sky_txid.proofs.Seen.{sound}
 use Rattle.sky_txid.proofs.Rising.{rising-ordered, contains-get_or, contains_none}
 
 -- the place of an id that stands in the list, or what lies before and behind the place where it would stand
@@ -27,9 +28,8 @@ is_ok-found ids t (Err i) h = sym (contains_none t ids (λ k within e.
 
 -- a snapshot sees an id between its bounds exactly where a search doesn't find it
 pub sees_by_search : (s : SnapshotView) (t : ℕ) (r : Result ℕ ℕ) → is_snapshot s ≡ true → s.xmin ≤ t → t < s.xmax → IsBinarySearchResult (λ y. nat_cmp y t) s.xip r → is_err r ≡ sees s t
-sees_by_search s t r sound above below h =
-    let outer = and_parts (nat_lt 0 s.xmin) (nat_le s.xmin s.xmax && rises_within s.xmin s.xmax s.xip) sound in
-    let rises = (and_parts (nat_le s.xmin s.xmax) (rises_within s.xmin s.xmax s.xip) outer.1).1 in
+sees_by_search s t r is_sound above below h =
+    let rises = (sound s is_sound).rises in
     let known : is_ok r ≡ contains t s.xip = is_ok-found s.xip t r (found s.xmin s.xmax s.xip t r rises h) in
     let low : nat_lt t s.xmin ≡ false = le-ltb t s.xmin above in
     let high : nat_lt t s.xmax ≡ true = lt-ltb t s.xmax below in

@@ -35,10 +35,14 @@ parse_numbers (piece ∷ pieces) = do
   ns ← parse_numbers pieces
   Some (n ∷ ns)
 
+-- the parts of a text before, between and behind the places of a byte
+abbrev pub parts_at : ℕ → List ℕ → List (List ℕ)
+parts_at byte text = slice_split (λ b. b == byte) text
+
 -- the numbers between commas, or none of an empty text
 abbrev pub parse_list : List ℕ → Option (List ℕ)
 parse_list [] = Some []
-parse_list (byte ∷ text) = parse_numbers (slice_split (λ b. b == comma) (byte ∷ text))
+parse_list (byte ∷ text) = parse_numbers (parts_at comma (byte ∷ text))
 
 -- a snapshot, where these are the parts of one; an item that equals the one before it is skipped
 abbrev pub checked : ℕ → ℕ → List ℕ → Option SnapshotView
@@ -57,4 +61,4 @@ parse_parts _ = None
 
 -- the snapshot that a text writes
 abbrev pub parse_snapshot : List ℕ → Option SnapshotView
-parse_snapshot text = parse_parts (slice_split (λ b. b == colon) text)
+parse_snapshot text = parse_parts (parts_at colon text)

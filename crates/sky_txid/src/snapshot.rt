@@ -1,9 +1,9 @@
-ghost use Rattle.std.specs.Prelude.{◌≡◌, ◌<◌, ◌++◌, length, take, IsTrue, IfOk, OnOk, OnErr};
-ghost use Rattle.sky_txid.specs.Ids.{contains, rises_within};
-ghost use Rattle.sky_txid.specs.Snapshot.{is_snapshot, snapshot_of, sees};
-ghost use Rattle.sky_txid.specs.SnapshotText.{snapshot_text};
+ghost use Rattle.std.specs.Prelude.{◌≡◌, ◌↔◌, ◌<◌, ◌++◌, length, take, IsTrue, IfOk, OnOk, OnErr};
+ghost use Rattle.sky_txid.specs.Ids.{contains, rises_within, first_or};
+ghost use Rattle.sky_txid.specs.Snapshot.{is_snapshot, snapshot_of, sees, Covers};
+ghost use Rattle.sky_txid.specs.SnapshotText.{snapshot_text, parse_snapshot};
 
-use crate::text::{append_list, append_number};
+use crate::text::{append_parts, number, numbers, three_parts};
 use sky_val::NoMemory;
 use std::alloc::{AllocError, AllocFailed, Global};
 use std::marker::Model;
@@ -54,17 +54,36 @@ impl Model for Snapshot {
 
     ghost view = { λ s. record { xmin = s.xmin; xmax = s.xmax; xip = s.xip.items } };
 
-    ghost invariant = { λ s. IsTrue (is_snapshot (record { xmin = s.xmin; xmax = s.xmax; xip = s.xip.items })) };
+    ghost invariant = { λ s.
+        IsTrue (is_snapshot (record { xmin = s.xmin; xmax = s.xmax; xip = s.xip.items })) };
 }
 
 impl Snapshot {
+    /// The snapshot that a text writes.
+    pub fn parse(alloc: Global, text: &[u8]) -> Result<Snapshot, SnapshotFault>
+        ensures ok { IfOk result (λ snapshot. parse_snapshot text.now ≡ Some snapshot) }
+
+        // Where the text is none, memory may still be refused first.
+        ensures bad { result ≡ Err SnapshotFault.BadSnapshot → parse_snapshot text.now ≡ None }
+    {
+        let (xmin, xmax, list) = three_parts(text).ok_or(SnapshotFault::BadSnapshot)?;
+        let xmin = number(xmin).ok_or(SnapshotFault::BadSnapshot)?;
+        let xmax = number(xmax).ok_or(SnapshotFault::BadSnapshot)?;
+        let mut xip = numbers(alloc, list)?;
+        xip.dedup();
+        if xmin == 0 || xmax < xmin || !rises_within(&xip, xmin, xmax) {
+            return Err(SnapshotFault::BadSnapshot);
+        }
+        Ok(Snapshot { xmin, xmax, xip })
+    }
+
     /// The snapshot where `next` is the next id and these ids run.
     pub fn of(alloc: Global, next: u64, running: &[u64]) -> Result<Snapshot, NoMemory>
         requires next { 0 < next }
         requires rising { IsTrue (rises_within 1 next running.now) }
         ensures { IfOk result (λ snapshot. snapshot ≡ snapshot_of next running.now) }
     {
-        let xmin = running.first().copied().unwrap_or(next);
+        let xmin = first_or(running, next);
         let xip = Vec::from_slice(alloc, running)?;
         Ok(Snapshot {
             xmin,
@@ -113,30 +132,90 @@ impl Snapshot {
     pub fn print(&self, into: &mut Vec<u8>) -> Result<(), NoMemory>
         ensures ok { OnOk result (into.new.items ≡ into.old.items ++ snapshot_text self.now) }
         ensures err { OnErr result (into.new.items ≡ into.old.items) }
+        ensures read_back { parse_snapshot (snapshot_text self.now) ≡ Some self.now }
     {
         let start = into.len();
-        let printed = self.append_to(into);
+        let printed = append_parts(self.xmin, self.xmax, &self.xip, into);
         if printed.is_err() {
             into.truncate(start);
         }
         printed
     }
 
-    fn append_to(&self, into: &mut Vec<u8>) -> Result<(), NoMemory>
-        ensures ok { OnOk result (into.new.items ≡ into.old.items ++ snapshot_text self.now) }
-        ensures kept { OnErr result (take (length into.old.items) into.new.items ≡ into.old.items) }
-    {
-        append_number(self.xmin, into)?;
-        into.push(b':')?;
-        append_number(self.xmax, into)?;
-        into.push(b':')?;
-        append_list(&self.xip, into)
-    }
-
-    /// Whether the transaction had ended.
+    /// Whether the transaction had ended. Whether it was committed is a question apart.
     pub fn sees(&self, t: u64) -> bool
         ensures { result ≡ sees self.now t }
     {
         t < self.xmin || (t < self.xmax && self.xip.binary_search(&t).is_err())
+    }
+
+    /// Whether each transaction that the other snapshot sees is seen here too.
+    pub fn covers(&self, other: &Snapshot) -> bool
+        ensures { IsTrue result ↔ Covers self.now other.now }
+    {
+        // The ids that aren't seen here, from the least on that `other` isn't yet known not to see:
+        // `rest`, and each from `next` on.
+        let mut rest = self.xip.as_slice();
+        let mut next = self.xmax;
+        let limit = other.xmax;
+        for id in &other.xip {
+            let hidden = first_or(rest, next);
+            if hidden < *id {
+                return false;
+            }
+            if hidden == *id {
+                if rest.is_empty() {
+                    next = *id + 1;
+                } else {
+                    rest = &rest[1..];
+                }
+            }
+        }
+        limit <= first_or(rest, next)
+    }
+}
+
+/// The first of the ids, or `next` where there is none.
+fn first_or(ids: &[u64], next: u64) -> u64
+    ensures { result ≡ first_or next ids.now }
+{
+    ids.first().copied().unwrap_or(next)
+}
+
+/// Whether the ids rise strictly, from `low` on and below `high`.
+fn rises_within(ids: &[u64], mut low: u64, high: u64) -> bool
+    ensures { result ≡ rises_within low high ids.now }
+{
+    for id in ids {
+        if *id < low || *id >= high {
+            return false;
+        }
+        low = *id + 1;
+    }
+    true
+}
+
+#[cfg(test)]
+mod tests {
+    use super::*;
+    use std::test::Fail;
+
+    #[test]
+    fn reads_prints_and_sees(rt: HostRuntime) -> Result<(), Fail> {
+        let snapshot = Snapshot::parse(rt.alloc(), b"10:20:10,10,14,15")?;
+        for (id, seen) in [(9, true), (11, true), (14, false), (20, false)] {
+            assert_eq!(rt; snapshot.sees(id), seen, "at {id}");
+        }
+        for refused in ["10:9:", "10:20:20", "0:5:"] {
+            assert!(rt;
+                Snapshot::parse(rt.alloc(), refused.as_bytes()).is_err(),
+                "at {refused}"
+            );
+        }
+        let mut printed = Vec::new(rt.alloc());
+        snapshot.copy(rt.alloc())?.print(&mut printed)?;
+        Snapshot::of(rt.alloc(), 6, &[4])?.print(&mut printed)?;
+        assert!(rt; printed.as_slice() == b"10:20:10,14,154:6:4".as_slice());
+        Ok(())
     }
 }

@@ -1,0 +1,162 @@
+ghost use Rattle.std.specs.Prelude.{◌≡◌, ◌==◌, ◌↔◌, ◌+◌, ◌^◌, ◌≤◌, [], ◌∷◌, ◌++◌, not, slice_get, IsTrue, IfOk, IfSome, OnOk, OnErr};
+ghost use Rattle.std.specs.List.{filter, All};
+ghost use Rattle.sky_txid.specs.Ids.{contains};
+ghost use Rattle.sky_txid.specs.Snapshot.{snapshot_of};
+ghost use Rattle.sky_trans.specs.Trans.{is_trans};
+
+use sky_txid::Snapshot;
+use sky_val::NoMemory;
+use std::alloc::{AllocFailed, Global};
+use std::marker::Model;
+use thiserror::Error;
+
+/// The first id of a database.
+const FIRST_TXID: u64 = 3;
+
+/// The number at which the ids are spent.
+const TXID_END: u64 = 1 << 62;
+
+/// Why no id was given.
+#[derive(Clone, Copy, Debug, PartialEq, Eq, Error)]
+pub enum TransFault {
+    #[error("all transaction ids were given")]
+    TxidsSpent,
+    #[error("out of memory")]
+    NoMemory,
+}
+
+impl From<AllocFailed<u64>> for TransFault {
+    ghost use Rattle.sky_trans.specs.declared.trans.TransFault.TheVariants.{NoMemory};
+
+    ghost from_gives = { λ _ fault. fault ≡ NoMemory };
+
+    fn from(_: AllocFailed<u64>) -> TransFault {
+        TransFault::NoMemory
+    }
+}
+
+/// The transactions that have begun.
+#[derive(Debug, Drop)]
+pub struct Trans {
+    next: u64,
+    running: Vec<u64>,
+}
+
+impl Model for Trans {
+    ghost use Rattle.std.specs.Prelude.{IsTrue};
+    ghost use Rattle.sky_trans.specs.Trans.{TransView, is_trans};
+
+    ghost Value = { TransView };
+
+    ghost view = { λ t. record { next = t.next; running = t.running.items } };
+
+    ghost invariant = { λ t.
+        IsTrue (is_trans (record { next = t.next; running = t.running.items })) };
+}
+
+impl Trans {
+    /// No transaction has begun.
+    pub fn new(alloc: Global) -> Trans
+        ensures { result ≡ record { next = 3; running = [] } }
+    {
+        Trans {
+            next: FIRST_TXID,
+            running: Vec::new(alloc),
+        }
+    }
+
+    /// Begins a transaction: gives it the next id.
+    pub fn assign(&mut self) -> Result<u64, TransFault>
+        ensures id { IfOk result (λ t. t ≡ self.old.next) }
+        ensures ok { let t = self.old.next in
+            OnOk result (self.new ≡ record { next = t + 1; running = self.old.running ++ t ∷ [] }) }
+        ensures spent { (result ≡ Err TransFault.TxidsSpent) ↔ (2 ^ 62 ≤ self.old.next) }
+        ensures err { OnErr result (self.new ≡ self.old) }
+    {
+        if self.next >= TXID_END {
+            return Err(TransFault::TxidsSpent);
+        }
+        let t = self.next;
+        self.running.push(t)?;
+        self.next += 1;
+        Ok(t)
+    }
+
+    /// Ends a transaction whose writes stay.
+    pub fn commit(&mut self, t: u64)
+        requires { IsTrue (contains t self.old.running) }
+        ensures { self.new ≡ record self.old { running = filter (λ u. not (u == t)) self.old.running } }
+    {
+        self.end(t);
+    }
+
+    /// Ends a transaction whose writes are undone.
+    pub fn abort(&mut self, t: u64)
+        requires { IsTrue (contains t self.old.running) }
+        ensures { self.new ≡ record self.old { running = filter (λ u. not (u == t)) self.old.running } }
+    {
+        self.end(t);
+    }
+
+    fn end(&mut self, t: u64)
+        requires { IsTrue (contains t self.old.running) }
+        ensures { self.new ≡ record self.old { running = filter (λ u. not (u == t)) self.old.running } }
+    {
+        if let Ok(place) = self.running.binary_search(&t) {
+            self.running.remove(place);
+        }
+    }
+
+    /// Whether the transaction runs.
+    pub fn running(&self, t: u64) -> bool
+        ensures { result ≡ contains t self.now.running }
+    {
+        self.running.binary_search(&t).is_ok()
+    }
+
+    /// The id that the next transaction gets, or the number at which the ids are spent.
+    pub fn next_id(&self) -> u64
+        ensures value { result ≡ self.now.next }
+        ensures sound { IsTrue (is_trans self.now) }
+    {
+        self.next
+    }
+
+    /// The least id that runs.
+    pub fn least(&self) -> Option<u64>
+        ensures value { result ≡ slice_get self.now.running 0 }
+        ensures least { IfSome result (λ t. All (λ u. t ≤ u) self.now.running) }
+    {
+        self.running.first().copied()
+    }
+
+    /// Which transactions have ended.
+    pub fn snapshot(&self, alloc: Global) -> Result<Snapshot, NoMemory>
+        ensures { IfOk result (λ snapshot. snapshot ≡ snapshot_of self.now.next self.now.running) }
+    {
+        Snapshot::of(alloc, self.next, &self.running)
+    }
+}
+
+#[cfg(test)]
+mod tests {
+    use super::*;
+    use std::test::Fail;
+
+    #[test]
+    fn commits_out_of_order(rt: HostRuntime) -> Result<(), Fail> {
+        let mut trans = Trans::new(rt.alloc());
+        let first = trans.assign()?;
+        trans.commit(first);
+        let held = trans.assign()?;
+        let other = trans.assign()?;
+        trans.commit(other);
+        let mut printed = Vec::new(rt.alloc());
+        trans.snapshot(rt.alloc())?.print(&mut printed)?;
+        assert_eq!(rt; (trans.least(), trans.running(other)), (Some(held), false));
+        trans.abort(held);
+        trans.snapshot(rt.alloc())?.print(&mut printed)?;
+        assert!(rt; printed.as_slice() == b"4:6:46:6:".as_slice());
+        Ok(())
+    }
+}
