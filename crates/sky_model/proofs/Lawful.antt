@@ -1,5 +1,5 @@
 -- Whatever is called, the history of each database is legal.
-use Rattle.std.proofs.Common.{◌≡◌, ℕ, ℤ, ◌+◌, ◌*◌, ◌<◌, ◌≤◌, List, [], ◌∷◌, ◌++◌, Bool, true, false, not, ◌&&◌, ◌||◌, ◌==◌, nat_lt, nat_le, Option, Some, None, Result, Ok, Err, map, length, is_some, bytes_eq, option_map, refl, sym, ◌∙◌, ap, subst, arith, if◌then◌else◌, length-append, ◌^◌}
+use Rattle.std.proofs.Common.{◌≡◌, ℕ, ℤ, ◌+◌, ◌*◌, ◌<◌, List, [], ◌∷◌, Bool, true, false, ◌==◌, nat_le, Option, Some, None, Ok, map, length, is_some, refl, sym, ap, subst, arith, if◌then◌else◌, length-append, ◌^◌}
 use Rattle.std.proofs.lemmas.Bool.Decides.{nat_tests}
 use Rattle.sky_val.specs.declared.event.Event.{Event}
 use Rattle.sky_model.specs.declared.stmt.Stmt.{Stmt}
@@ -8,29 +8,20 @@ use Rattle.sky_model.specs.declared.stmt.Stmt.TheVariants.{OpenDb, CreateQueue, 
 use Rattle.sky_model.specs.declared.reply.Reply.{Reply}
 use Rattle.sky_model.specs.declared.reply.Refusal.{Refusal}
 use Rattle.sky_model.specs.declared.reply.Refusal.TheVariants.{NoQueue, TxidsSpent, EventIdsSpent, NoConsumer}
-use Rattle.sky_txid.specs.Ids.{contains}
-use Rattle.sky_model.specs.Temp.{place_of}
-use Rattle.sky_model.specs.History.{Batch, Mark, began, ended, queued, made, raised, put, ticked, registered, opened, closed, History, Fact, appeared, founded, entered, within, Past}
+use Rattle.sky_names.specs.Places.{place_of}
+use Rattle.sky_model.specs.History.{Batch, Mark, History, appeared, within, Past}
 use Rattle.sky_model.specs.Transactions.{next_txid, running}
 use Rattle.sky_model.specs.Queues.{queue_names, Tick, ticks, tick, newest_tick, sequence}
 use Rattle.sky_model.specs.Consumers.{Subscription}
-use Rattle.sky_model.specs.State.{Database, database_of}
-use Rattle.sky_model.specs.Outcome.{Outcome, Checked, ◌>>=◌, ◌>>◌, refused_if, found_or, answers, does_marks, settled}
-use Rattle.sky_model.specs.StepQueue.{queue_called, next_id, create_queue, insert_event, made_event, next_event_id, ticker, force_tick, is_due, default_config, newest_id, id_of}
-use Rattle.sky_model.specs.StepConsumer.{has_dot, register_consumer, next_batch, opens_batch, takes_batch, get_batch_events, finishes, finish_batch}
-use Rattle.sky_model.specs.World.{World, world_of, history_in, statement, Deed, deed_in, refuses, opens, unopened, session_does, first, Call, called, step, does, on_top, after, past_of, session_names, home}
-use Rattle.sky_model.proofs.Legal.{IsQueue, Fine, begins, ends, makes, raises, puts, ticks_next, registers, opens as opens_fine, closes, Chain, done, more, Legal, start, next}
+use Rattle.sky_model.specs.State.{database_of}
+use Rattle.sky_model.specs.Outcome.{Outcome, Checked, ◌>>=◌, ◌>>◌, refused_if, found_or, answers, settled}
+use Rattle.sky_model.specs.StepQueue.{create_queue, insert_event, ticker, force_tick, is_due, default_config, newest_id, id_of}
+use Rattle.sky_model.specs.StepConsumer.{has_dot, register_consumer, next_batch, opens_batch, takes_batch, finishes}
+use Rattle.sky_model.specs.World.{World, world_of, history_in, statement, Deed, opens, unopened, session_does, Call, called, on_top, after, past_of, session_names, home}
+use Rattle.sky_model.proofs.Legal.{Fine, begins, ends, makes, raises, puts, ticks_next, registers, opens as opens_fine, closes, Chain, done, more, Legal, start, next}
 use Rattle.sky_model.proofs.Snapshots.{contains-last}
 use Rattle.sky_model.proofs.Ticks.{ticks_beyond}
-
-place_of-below : (name : List ℕ) (names : List (List ℕ)) (n : ℕ) → place_of name names ≡ Some n → n < length names
-place_of-below name [] n e = cc
-place_of-below name (first ∷ names) n e = of (bytes_eq name first) (place_of name names) e (λ m is. place_of-below name names m is)
-  where
-    of : (b : Bool) (o : Option ℕ) → (if b then Some 0 else option_map (λ place. place + 1) o) ≡ Some n → ((m : ℕ) → o ≡ Some m → m < length names) → n < length (first ∷ names)
-    of true o e below = let zero_is : 0 ≡ n = cc in omega arith
-    of false None e below = cc
-    of false (Some m) e below = let is : m + 1 ≡ n = cc in let lt : m < length names = below m refl in omega arith
+use Rattle.sky_names.proofs.PlaceLemmas.{place_of_within}
 
 -- the marks of an answer, or of a refusal, may come next
 abbrev Good : History → Checked Outcome → Type 0
@@ -58,24 +49,24 @@ good_test_then h false refusal a c good = good
 good_create_queue : (h : History) → Legal h → (now : ℤ) (who : ℕ) (name : List ℕ) → Good h (create_queue (database_of h) now who name)
 good_create_queue h l now who name =
     good_if h (is_some (place_of name (queue_names h))) _ _ done
-        (good_test h (nat_le 64 (length (queue_names h))) _ _ (λ _.
-            good_test_then h (nat_le (2 ^ 62) (next_txid h)) TxidsSpent (next_txid h) _
-                (more (begins who) (more (makes name) (more (ends who (next_txid h) (contains-last (next_txid h) (running h)))
-                    (more (ticks_next (length (queue_names h)) 1 now 0
-                        (omega (arith, length-append (queue_names h) (name ∷ [])))
-                        (ap (λ ts. id_of (newest_tick ts) + 1) (sym (ticks_beyond h l (length (queue_names h)) (omega arith)))))
-                    done))))))
+    (good_test h (nat_le 64 (length (queue_names h))) _ _ (λ _.
+    good_test_then h (nat_le (2 ^ 62) (next_txid h)) TxidsSpent (next_txid h) _
+    (more (begins who) (more (makes name) (more (ends who (next_txid h) (contains-last (next_txid h) (running h)))
+    (more (ticks_next (length (queue_names h)) 1 now 0
+    (omega (arith, length-append (queue_names h) (name ∷ [])))
+    (ap (λ ts. id_of (newest_tick ts) + 1) (sym (ticks_beyond h l (length (queue_names h)) (omega arith)))))
+    done))))))
 
 good_insert_event : (h : History) (now : ℤ) (who : ℕ) (name : List ℕ) (ev_type ev_data : Option (List ℕ)) (extra : Option Extra)
     → Good h (insert_event (database_of h) now who name ev_type ev_data extra)
 good_insert_event h now who name ev_type ev_data extra =
     good_found h (place_of name (queue_names h)) (NoQueue name) _ (λ q is.
-        good_test_then h (nat_le (2 ^ 62) (next_txid h)) TxidsSpent (next_txid h) _
-            (good_test_then h (nat_le (2 ^ 62) (sequence q h + 1)) EventIdsSpent (sequence q h + 1) _
-                (let below : q < length (queue_names h) = place_of-below name (queue_names h) q is in
-                 more (begins who) (more (raises q (sequence q h + 1) below (omega arith))
-                    (more (puts q _ below (ap (λ b. if b then sequence q h + 1 else sequence q h) (sym (same q))))
-                        (more (ends who (next_txid h) (contains-last (next_txid h) (running h))) done))))))
+    good_test_then h (nat_le (2 ^ 62) (next_txid h)) TxidsSpent (next_txid h) _
+    (good_test_then h (nat_le (2 ^ 62) (sequence q h + 1)) EventIdsSpent (sequence q h + 1) _
+    (let below : q < length (queue_names h) = place_of_within name (queue_names h) q is in
+    more (begins who) (more (raises q (sequence q h + 1) below (omega arith))
+    (more (puts q _ below (ap (λ b. if b then sequence q h + 1 else sequence q h) (sym (same q))))
+    (more (ends who (next_txid h) (contains-last (next_txid h) (running h))) done))))))
   where
     same : (q : ℕ) → (q == q) ≡ true
     same q = grind (arith, nat_tests)
@@ -83,25 +74,25 @@ good_insert_event h now who name ev_type ev_data extra =
 good_ticker : (h : History) (now : ℤ) (name : List ℕ) → Good h (ticker (database_of h) now name)
 good_ticker h now name =
     good_found h (place_of name (queue_names h)) (NoQueue name) _ (λ q is.
-        good_if h (is_due default_config now ((database_of h).queue q)) _ _
-            (good_test h (nat_le (2 ^ 64) (newest_id ((database_of h).queue q) + 1)) _ _ (λ _.
-                more (ticks_next q _ now _ (place_of-below name (queue_names h) q is) refl) done))
-            done)
+    good_if h (is_due default_config now ((database_of h).queue q)) _ _
+    (good_test h (nat_le (2 ^ 64) (newest_id ((database_of h).queue q) + 1)) _ _ (λ _.
+    more (ticks_next q _ now _ (place_of_within name (queue_names h) q is) refl) done))
+    done)
 
 good_force_tick : (h : History) (name : List ℕ) → Good h (force_tick (database_of h) name)
 good_force_tick h name =
     good_found h (place_of name (queue_names h)) (NoQueue name) _ (λ q is.
-        good_test h (nat_le (2 ^ 62) (sequence q h + (2 * default_config.max_count + 1000))) _ _ (λ _.
-            more (raises q _ (place_of-below name (queue_names h) q is) (omega arith)) done))
+    good_test h (nat_le (2 ^ 62) (sequence q h + (2 * default_config.max_count + 1000))) _ _ (λ _.
+    more (raises q _ (place_of_within name (queue_names h) q is) (omega arith)) done))
 
 good_register_consumer : (h : History) (name consumer : List ℕ) → Good h (register_consumer (database_of h) name consumer)
 good_register_consumer h name consumer =
     good_found h (place_of name (queue_names h)) (NoQueue name) _ (λ q is.
-        good_test h (has_dot consumer) _ _ (λ _.
-            good_if h (is_some (((database_of h).queue q).sub consumer)) _ _ done
-                (good_test h (nat_le 256 (length ((database_of h).queue q).members)) _ _ (λ _.
-                    good_test h (nat_le (2 ^ 64) ((database_of h).sub_count + 1)) _ _ (λ _.
-                        more (registers q consumer _ _ (place_of-below name (queue_names h) q is)) done)))))
+    good_test h (has_dot consumer) _ _ (λ _.
+    good_if h (is_some (((database_of h).queue q).sub consumer)) _ _ done
+    (good_test h (nat_le 256 (length ((database_of h).queue q).members)) _ _ (λ _.
+    good_test h (nat_le (2 ^ 64) ((database_of h).sub_count + 1)) _ _ (λ _.
+    more (registers q consumer _ _ (place_of_within name (queue_names h) q is)) done)))))
 
 good_opens_batch : (h : History) (q : ℕ) (consumer : List ℕ) (sub : Subscription) (found : Option Tick) → Good h (opens_batch (database_of h) q consumer sub found)
 good_opens_batch h q consumer sub None = done
@@ -114,8 +105,8 @@ good_takes_batch h q consumer sub None = good_opens_batch h q consumer sub (tick
 good_next_batch : (h : History) (name consumer : List ℕ) → Good h (next_batch (database_of h) name consumer)
 good_next_batch h name consumer =
     good_found h (place_of name (queue_names h)) (NoQueue name) _ (λ q is.
-        good_test h (has_dot consumer) _ _ (λ _.
-            good_found h (((database_of h).queue q).sub consumer) (NoConsumer consumer) _ (λ sub _. good_takes_batch h q consumer sub sub.active)))
+    good_test h (has_dot consumer) _ _ (λ _.
+    good_found h (((database_of h).queue q).sub consumer) (NoConsumer consumer) _ (λ sub _. good_takes_batch h q consumer sub sub.active)))
 
 good_finishes : (h : History) (batch : Option Batch) → Good h (finishes batch)
 good_finishes h None = done
@@ -147,8 +138,8 @@ legal_marks : (past : Past) (d : ℕ) (marks : List Mark) → Chain (history_in 
 legal_marks past d [] done all = all
 legal_marks past d (mark ∷ marks) (more fine chain) all =
     legal_marks (within d mark ∷ past) d marks
-        (subst (λ b. Chain (if b then mark ∷ history_in past d else history_in past d) marks) (sym same) chain)
-        (legal_mark past d mark fine all)
+    (subst (λ b. Chain (if b then mark ∷ history_in past d else history_in past d) marks) (sym same) chain)
+    (legal_mark past d mark fine all)
   where
     same : (d == d) ≡ true
     same = grind (arith, nat_tests)
@@ -177,15 +168,15 @@ legal_session : (past : Past) (w : World) (events_of : ℕ → Batch → List Ev
 legal_session past w events_of who stmt None is all = legal_unopened past w who stmt all
 legal_session past w events_of who stmt (Some d) is all =
     legal_marks past d (settled (statement (w.database d) (events_of d) w.now who stmt)).marks
-        (subst (λ x. Chain (history_in past d) (settled (statement x (events_of d) w.now who stmt)).marks) (sym (is d))
-            (good_statement (history_in past d) (all d) (events_of d) w.now who stmt))
-        all
+    (subst (λ x. Chain (history_in past d) (settled (statement x (events_of d) w.now who stmt)).marks) (sym (is d))
+    (good_statement (history_in past d) (all d) (events_of d) w.now who stmt))
+    all
 
 legal_called : (past : Past) (events_of : ℕ → Batch → List Event) (call : Call) (found : Option ℕ) → AllLegal past → AllLegal (on_top past (called (world_of past) events_of call found).facts)
 legal_called past events_of call (Some who) all = legal_session past (world_of past) events_of who call.stmt (home past who) (λ d. refl) all
 legal_called past events_of call None all =
     legal_if past (nat_le 256 (length (session_names past))) _ _ all
-        (legal_session (appeared call.who ∷ past) (world_of past) events_of (length (session_names past)) call.stmt (home past (length (session_names past))) (λ d. refl) all)
+    (legal_session (appeared call.who ∷ past) (world_of past) events_of (length (session_names past)) call.stmt (home past (length (session_names past))) (λ d. refl) all)
 
 pub legal_after : (past : Past) (call : Call) → AllLegal past → AllLegal (after past call)
 legal_after past call all = legal_called past _ call (place_of call.who (session_names past)) all

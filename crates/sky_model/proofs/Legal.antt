@@ -1,9 +1,9 @@
 -- Legal histories: each mark has evidence of why it stands there, so that a law about histories has one
 -- line for each kind of mark, and none for each statement.
-use Rattle.std.proofs.Common.{◌≡◌, ℕ, ◌+◌, ◌<◌, ◌≤◌, ℤ, List, [], ◌∷◌, Bool, true, Option, length}
+use Rattle.std.proofs.Common.{◌≡◌, ℕ, ◌+◌, ◌<◌, ◌≤◌, ℤ, List, [], ◌∷◌, true, length}
 use Rattle.sky_val.specs.declared.event.Event.{Event}
 use Rattle.sky_txid.specs.Ids.{contains}
-use Rattle.sky_model.specs.History.{Batch, Mark, began, ended, queued, QueueMark, made, raised, put, ticked, registered, opened, closed, History}
+use Rattle.sky_model.specs.History.{Batch, Mark, began, ended, queued, made, raised, put, ticked, registered, opened, closed, History}
 use Rattle.sky_model.specs.Transactions.{next_txid, running}
 use Rattle.sky_model.specs.Queues.{queue_names, sequence, ticks, newest_tick}
 use Rattle.sky_model.specs.StepQueue.{id_of}

@@ -1,5 +1,11 @@
 mod WorkedLines
+mod WorkedMoments
 mod WorkedRows
+pub mod FirstWords
+pub mod NameLemmas
+pub mod LeastBadWord
+pub mod WholeWords
+pub mod BadWordLaw
 pub mod Marks
 pub mod Legal
 pub mod Snapshots
@@ -7,3 +13,6 @@ pub mod Ticks
 pub mod Selecting
 pub mod Lawful
 pub mod Standing
+pub mod Splitting
+pub mod Scripts
+pub mod Naming

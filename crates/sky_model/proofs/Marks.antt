@@ -1,12 +1,12 @@
 -- What a database and the world show changes by marks and facts alone.
-use Rattle.std.proofs.Common.{◌≡◌, ℕ, ◌+◌, List, [], ◌∷◌, ◌++◌, Bool, true, false, ◌&&◌, ◌==◌, Option, Some, None, refl, sym, ◌∙◌, ap, bytes_eq, option_map, if◌then◌else◌}
+use Rattle.std.proofs.Common.{◌≡◌, ℕ, List, [], ◌∷◌, ◌++◌, Bool, true, false, ◌&&◌, ◌==◌, Option, Some, None, refl, sym, ◌∙◌, ap, bytes_eq, option_map, if◌then◌else◌}
 use Rattle.sky_val.specs.declared.event.Event.{Event}
-use Rattle.sky_model.specs.History.{Batch, Mark, began, ended, queued, QueueMark, made, raised, put, ticked, registered, opened, closed, History, Fact, appeared, founded, entered, within, Past}
+use Rattle.sky_model.specs.History.{Mark, began, ended, queued, QueueMark, made, raised, put, ticked, registered, opened, closed, History, Fact, appeared, founded, entered, within, Past}
 use Rattle.sky_model.specs.Consumers.{Subscription, subscription_id, position, active}
 use Rattle.sky_model.specs.Transactions.{snapshot}
 use Rattle.sky_model.specs.Queues.{Tick}
-use Rattle.sky_model.specs.State.{Queue, Database, queue_of, database_of, changed_at, changed_for, with_batch, at_position, after_queue_mark, after_mark}
-use Rattle.sky_model.specs.World.{World, world_of, history_in, after_fact, after_facts, on_top}
+use Rattle.sky_model.specs.State.{Queue, queue_of, database_of, changed_at, changed_for, with_batch, at_position, after_queue_mark, after_mark}
+use Rattle.sky_model.specs.World.{world_of, history_in, after_fact, after_facts, on_top}
 
 raised_at : (b : Bool) (x : Queue) (v : ℕ) → record x { seq = if b then v else x.seq } ≡ (if b then record x { seq = v } else x)
 raised_at true x v = refl
@@ -26,24 +26,24 @@ sub_of id position active = option_map (λ n. record { id = n; position = positi
 
 registers : (c : Bool) (id : Option ℕ) (position : ℕ) (active : Option ℕ) (sub tick : ℕ)
     → sub_of (if c then Some sub else id) (if c then tick else position) (if c then None else active)
-        ≡ (if c then Some (record { id = sub; position = tick; active = None }) else sub_of id position active)
+    ≡ (if c then Some (record { id = sub; position = tick; active = None }) else sub_of id position active)
 registers true id position active sub tick = refl
 registers false id position active sub tick = refl
 
 registered_at : (b : Bool) (x : Queue) (name : List ℕ) (id : List ℕ → Option ℕ) (position : List ℕ → ℕ) (active : List ℕ → Option ℕ) (sub tick : ℕ)
     → x.sub ≡ (λ n. sub_of (id n) (position n) (active n))
     → record x {
-        members = if b then x.members ++ name ∷ [] else x.members;
-        sub = λ n. sub_of (if b && bytes_eq n name then Some sub else id n) (if b && bytes_eq n name then tick else position n) (if b && bytes_eq n name then None else active n)
-      } ≡ (if b then record x {
-        members = x.members ++ name ∷ [];
-        sub = changed_for name (λ _. Some (record { id = sub; position = tick; active = None })) x.sub
-      } else x)
+      members = if b then x.members ++ name ∷ [] else x.members;
+      sub = λ n. sub_of (if b && bytes_eq n name then Some sub else id n) (if b && bytes_eq n name then tick else position n) (if b && bytes_eq n name then None else active n);
+    } ≡ (if b then record x {
+      members = x.members ++ name ∷ [];
+      sub = changed_for name (λ _. Some (record { id = sub; position = tick; active = None })) x.sub;
+    } else x)
 registered_at true x name id position active sub tick e = λ i. record x {
-    members = x.members ++ name ∷ [];
-    sub = ((λ j n. registers (bytes_eq n name) (id n) (position n) (active n) sub tick j)
-        ∙ ap (changed_for name (λ _. Some (record { id = sub; position = tick; active = None }))) (sym e)) i
-  }
+  members = x.members ++ name ∷ [];
+  sub = ((λ j n. registers (bytes_eq n name) (id n) (position n) (active n) sub tick j)
+      ∙ ap (changed_for name (λ _. Some (record { id = sub; position = tick; active = None }))) (sym e)) i;
+}
 registered_at false x name id position active sub tick e = λ i. record x { sub = sym e i }
 
 opens : (c : Bool) (id : Option ℕ) (position : ℕ) (active : Option ℕ) (batch : ℕ)
@@ -55,11 +55,11 @@ opens false id position active batch = refl
 opened_at : (b : Bool) (x : Queue) (name : List ℕ) (id : List ℕ → Option ℕ) (position : List ℕ → ℕ) (active : List ℕ → Option ℕ) (batch : ℕ)
     → x.sub ≡ (λ n. sub_of (id n) (position n) (active n))
     → record x { sub = λ n. sub_of (id n) (position n) (if b && bytes_eq n name then Some batch else active n) }
-        ≡ (if b then record x { sub = changed_for name (option_map (with_batch batch)) x.sub } else x)
+    ≡ (if b then record x { sub = changed_for name (option_map (with_batch batch)) x.sub } else x)
 opened_at true x name id position active batch e = λ i. record x {
-    sub = ((λ j n. opens (bytes_eq n name) (id n) (position n) (active n) batch j)
-        ∙ ap (changed_for name (option_map (with_batch batch))) (sym e)) i
-  }
+  sub = ((λ j n. opens (bytes_eq n name) (id n) (position n) (active n) batch j)
+      ∙ ap (changed_for name (option_map (with_batch batch))) (sym e)) i;
+}
 opened_at false x name id position active batch e = λ i. record x { sub = sym e i }
 
 closes : (c : Bool) (id : Option ℕ) (position : ℕ) (active : Option ℕ) (tick : ℕ)
@@ -71,11 +71,11 @@ closes false id position active tick = refl
 closed_at : (b : Bool) (x : Queue) (name : List ℕ) (id : List ℕ → Option ℕ) (position : List ℕ → ℕ) (active : List ℕ → Option ℕ) (tick : ℕ)
     → x.sub ≡ (λ n. sub_of (id n) (position n) (active n))
     → record x { sub = λ n. sub_of (id n) (if b && bytes_eq n name then tick else position n) (if b && bytes_eq n name then None else active n) }
-        ≡ (if b then record x { sub = changed_for name (option_map (at_position tick)) x.sub } else x)
+    ≡ (if b then record x { sub = changed_for name (option_map (at_position tick)) x.sub } else x)
 closed_at true x name id position active tick e = λ i. record x {
-    sub = ((λ j n. closes (bytes_eq n name) (id n) (position n) (active n) tick j)
-        ∙ ap (changed_for name (option_map (at_position tick))) (sym e)) i
-  }
+  sub = ((λ j n. closes (bytes_eq n name) (id n) (position n) (active n) tick j)
+      ∙ ap (changed_for name (option_map (at_position tick))) (sym e)) i;
+}
 closed_at false x name id position active tick e = λ i. record x { sub = sym e i }
 
 pub database_of-queue_mark : (h : History) (mark : QueueMark) → database_of (queued mark ∷ h) ≡ after_queue_mark (database_of h) mark
@@ -83,21 +83,21 @@ database_of-queue_mark h (made name) = refl
 database_of-queue_mark h (raised q value) = λ i. record (database_of h) { queue = λ n. raised_at (q == n) (queue_of h n) value i }
 database_of-queue_mark h (put q event) = λ i. record (database_of h) { queue = λ n. put_at (q == n) (queue_of h n) event i }
 database_of-queue_mark h (ticked q id time seq) = λ i. record (database_of h) {
-    queue = λ n. ticked_at (q == n) (queue_of h n) (record { id = id; time = time; snapshot = snapshot h; seq = seq }) i
-  }
+  queue = λ n. ticked_at (q == n) (queue_of h n) (record { id = id; time = time; snapshot = snapshot h; seq = seq }) i;
+}
 database_of-queue_mark h (registered q name sub tick) = λ i. record (database_of h) {
-    sub_count = sub;
-    queue = λ n. registered_at (q == n) (queue_of h n) name (λ c. subscription_id n c h) (λ c. position n c h) (λ c. active n c h) sub tick refl i
-  }
+  sub_count = sub;
+  queue = λ n. registered_at (q == n) (queue_of h n) name (λ c. subscription_id n c h) (λ c. position n c h) (λ c. active n c h) sub tick refl i;
+}
 database_of-queue_mark h (opened b) = λ i. record (database_of h) {
-    batch_count = b.id;
-    batch = changed_at b.id (λ _. Some b) (database_of h).batch;
-    queue = λ n. opened_at (b.queue == n) (queue_of h n) b.consumer (λ c. subscription_id n c h) (λ c. position n c h) (λ c. active n c h) b.id refl i
-  }
+  batch_count = b.id;
+  batch = changed_at b.id (λ _. Some b) (database_of h).batch;
+  queue = λ n. opened_at (b.queue == n) (queue_of h n) b.consumer (λ c. subscription_id n c h) (λ c. position n c h) (λ c. active n c h) b.id refl i;
+}
 database_of-queue_mark h (closed b) = λ i. record (database_of h) {
-    batch = changed_at b.id (λ _. None) (database_of h).batch;
-    queue = λ n. closed_at (b.queue == n) (queue_of h n) b.consumer (λ c. subscription_id n c h) (λ c. position n c h) (λ c. active n c h) b.cur refl i
-  }
+  batch = changed_at b.id (λ _. None) (database_of h).batch;
+  queue = λ n. closed_at (b.queue == n) (queue_of h n) b.consumer (λ c. subscription_id n c h) (λ c. position n c h) (λ c. active n c h) b.cur refl i;
+}
 
 -- a mark changes what a database shows as `after_mark` says
 pub database_of-mark : (h : History) (mark : Mark) → database_of (mark ∷ h) ≡ after_mark (database_of h) mark

@@ -1,15 +1,15 @@
 -- The events of a batch are those that its two ticks' snapshots select.
-use Rattle.std.proofs.Common.{◌≡◌, ℕ, ◌+◌, ◌<◌, ◌≤◌, List, [], ◌∷◌, ◌++◌, Bool, true, false, not, ◌&&◌, ◌==◌, nat_lt, filter, refl, sym, ◌∙◌, ap, ap₂, arith, subst, append-nil, append_assoc, if◌then◌else◌}
+use Rattle.std.proofs.Common.{◌≡◌, ℕ, ◌≤◌, List, [], ◌∷◌, ◌++◌, Bool, true, false, not, ◌&&◌, ◌==◌, nat_lt, filter, refl, sym, ◌∙◌, ap, arith, subst, append-nil, append_assoc, if◌then◌else◌}
 use Rattle.std.proofs.lemmas.Bool.Decides.{nat_tests}
 use Rattle.sky_val.specs.declared.event.Event.{Event}
 use Rattle.sky_txid.specs.Snapshot.{sees}
-use Rattle.sky_model.specs.History.{Batch, Mark, began, ended, queued, QueueMark, made, raised, put, ticked, registered, opened, closed, History}
-use Rattle.sky_model.specs.Transactions.{has_ended, has_committed, snapshot}
+use Rattle.sky_model.specs.History.{Batch, History}
+use Rattle.sky_model.specs.Transactions.{has_committed}
 use Rattle.sky_model.specs.Queues.{sequence, events, ticks, tick, at_tick}
 use Rattle.sky_model.specs.Batches.{with_event, by_id_onto, by_id, is_for, batch_events}
-use Rattle.sky_model.specs.Selection.{snapshot_at, is_selected, selected}
+use Rattle.sky_model.specs.Selection.{snapshot_at, selected}
 use Rattle.sky_model.specs.State.{database_of}
-use Rattle.sky_model.proofs.Legal.{Fine, begins, ends, makes, raises, puts, ticks_next, registers, opens, closes, Legal, start, next}
+use Rattle.sky_model.proofs.Legal.{begins, ends, makes, raises, puts, ticks_next, registers, opens, closes, Legal, start, next}
 use Rattle.sky_model.proofs.Snapshots.{sees-snapshot, has_committed-has_ended}
 use Rattle.sky_model.proofs.Ticks.{snapshot-at_tick, legal-at_tick}
 
@@ -65,9 +65,10 @@ numbered _ (next {h = h} l (puts p event i is)) q = of (p == q) refl (numbered h
         → IsNumbered (sequence q h) (if b then events q h ++ event ∷ [] else events q h)
     of true e n =
         let same : p ≡ q = grind (arith, nat_tests) in
-        let at : event.ev_id ≡ sequence q h = is ∙ ap (λ x. sequence x h) same in
-        (Ordered-push 0 (events q h) event n.0 (omega arith) (subst (λ x. UpTo x (events q h)) (sym at) n.1),
-            UpTo-push (sequence q h) (events q h) event n.1 (omega arith))
+        let at : event.ev_id ≡ sequence q h = is ∙ ap (λ x. sequence x h) same in (
+          Ordered-push 0 (events q h) event n.0 (omega arith) (subst (λ x. UpTo x (events q h)) (sym at) n.1),
+          UpTo-push (sequence q h) (events q h) event n.1 (omega arith),
+        )
     of false e n = n
 numbered _ (next {h = h} l (ticks_next p id time seq i e)) q = numbered h l q
 numbered _ (next {h = h} l (registers p name sub tick i)) q = numbered h l q
@@ -111,7 +112,7 @@ by_id-ordered es o = by_id_onto-ordered [] es 0 tt o
 pub batch_events-selected : (h : History) → Legal h → (b : Batch) → batch_events h b ≡ selected (database_of h) b
 batch_events-selected h l b =
     ap (λ p. by_id (filter p (events b.queue h))) (λ i e.
-        committed_at_tick h l b.queue b.cur e.ev_txid i
-            && not (committed_at_tick h l b.queue b.prev e.ev_txid i)
-            && is_for b.sub e.ev_owner)
+    committed_at_tick h l b.queue b.cur e.ev_txid i
+    && not (committed_at_tick h l b.queue b.prev e.ev_txid i)
+    && is_for b.sub e.ev_owner)
     ∙ by_id-ordered _ (Ordered-filter 0 _ (events b.queue h) (numbered h l b.queue).0)

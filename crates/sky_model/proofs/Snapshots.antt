@@ -1,9 +1,9 @@
 -- A snapshot sees exactly the transactions that have ended.
-use Rattle.std.proofs.Common.{◌≡◌, ℕ, ◌+◌, ◌<◌, ◌≤◌, List, [], ◌∷◌, ◌++◌, Bool, true, false, not, ◌&&◌, ◌||◌, ◌==◌, nat_lt, filter, refl, sym, ◌∙◌, ap, ap₂, arith, lt-ltb, ltb-true, if◌then◌else◌}
+use Rattle.std.proofs.Common.{◌≡◌, ℕ, ◌+◌, ◌<◌, ◌≤◌, List, [], ◌∷◌, ◌++◌, Bool, true, false, not, ◌&&◌, ◌||◌, ◌==◌, nat_lt, filter, refl, sym, ◌∙◌, ap, arith, ltb-true, if◌then◌else◌}
 use Rattle.std.proofs.lemmas.Bool.Decides.{nat_tests}
 use Rattle.sky_txid.specs.Ids.{contains, first_or}
 use Rattle.sky_txid.specs.Snapshot.{sees}
-use Rattle.sky_model.specs.History.{Mark, began, ended, queued, History}
+use Rattle.sky_model.specs.History.{Mark, began, ended, History}
 use Rattle.sky_model.specs.Transactions.{next_txid, running, has_ended, has_committed, snapshot}
 use Rattle.sky_model.proofs.Legal.{Fine, begins, ends, makes, raises, puts, ticks_next, registers, opens, closes, Legal, start, next}
 
@@ -51,6 +51,7 @@ contains-last t xs = contains-push t t xs ∙ of (contains t xs)
   where
     same : (t == t) ≡ true
     same = grind (arith, nat_tests)
+
     of : (b : Bool) → (b || t == t) ≡ true
     of true = refl
     of false = same
@@ -134,12 +135,12 @@ first_or-below n (x ∷ xs) b = let lt : x < n = b.0 in omega arith
 
 sound_began : (h : History) (who : ℕ) → Sound h → Sound (began who (next_txid h) ∷ h)
 sound_began h who s = record {
-    first = (let three : 3 ≤ next_txid h = s.first in omega arith);
-    runs = λ t. contains-push t (next_txid h) (running h) ∙ ap (λ b. b || t == next_txid h) (s.runs t) ∙ more t (has_ended h t) (s.ended_below t);
-    ended_below = λ t e. (let lt : t < next_txid h = s.ended_below t e in omega arith);
-    rising = IsRising-push (next_txid h) (running h) s.rising s.below;
-    below = AllBelow-push (next_txid h + 1) (next_txid h) (running h) (AllBelow-more (next_txid h) (next_txid h + 1) (running h) (omega arith) s.below) (omega arith)
-  }
+  first = (let three : 3 ≤ next_txid h = s.first in omega arith);
+  runs = λ t. contains-push t (next_txid h) (running h) ∙ ap (λ b. b || t == next_txid h) (s.runs t) ∙ more t (has_ended h t) (s.ended_below t);
+  ended_below = λ t e. (let lt : t < next_txid h = s.ended_below t e in omega arith);
+  rising = IsRising-push (next_txid h) (running h) s.rising s.below;
+  below = AllBelow-push (next_txid h + 1) (next_txid h) (running h) (AllBelow-more (next_txid h) (next_txid h + 1) (running h) (omega arith) s.below) (omega arith);
+}
   where
     more : (t : ℕ) (b : Bool) → (b ≡ true → t < next_txid h)
         → ((nat_lt t (next_txid h) && not b) || t == next_txid h) ≡ (nat_lt t (next_txid h + 1) && not b)
@@ -148,12 +149,12 @@ sound_began h who s = record {
 
 sound_ended : (h : History) (who t : ℕ) → contains t (running h) ≡ true → Sound h → Sound (ended who t true ∷ h)
 sound_ended h who t runs s = record {
-    first = s.first;
-    runs = λ u. contains-filter u t (running h) ∙ ap (λ b. b && not (u == t)) (s.runs u) ∙ less (nat_lt u (next_txid h)) (has_ended h u) (u == t);
-    ended_below = λ u e. was u (u == t) refl e;
-    rising = IsRising-filter (λ u. not (u == t)) (running h) s.rising;
-    below = AllBelow-filter (next_txid h) (λ u. not (u == t)) (running h) s.below
-  }
+  first = s.first;
+  runs = λ u. contains-filter u t (running h) ∙ ap (λ b. b && not (u == t)) (s.runs u) ∙ less (nat_lt u (next_txid h)) (has_ended h u) (u == t);
+  ended_below = λ u e. was u (u == t) refl e;
+  rising = IsRising-filter (λ u. not (u == t)) (running h) s.rising;
+  below = AllBelow-filter (next_txid h) (λ u. not (u == t)) (running h) s.below;
+}
   where
     less : (a b c : Bool) → ((a && not b) && not c) ≡ (a && not (c || b))
     less true true true = refl
@@ -161,9 +162,11 @@ sound_ended h who t runs s = record {
     less true false true = refl
     less true false false = refl
     less false b c = refl
+
     of_and : (a b : Bool) → (a && b) ≡ true → a ≡ true
     of_and true b e = refl
     of_and false b e = e
+
     was : (u : ℕ) (b : Bool) → (u == t) ≡ b → (b || has_ended h u) ≡ true → u < next_txid h
     was u true e e' =
         let lt : t < next_txid h = ltb-true t (next_txid h) (of_and (nat_lt t (next_txid h)) (not (has_ended h t)) (sym (s.runs t) ∙ runs)) in
@@ -183,12 +186,12 @@ sound_step h _ (closes b) s = record { first = s.first; runs = s.runs; ended_bel
 
 pub sound : (h : History) → Legal h → Sound h
 sound [] start = record {
-    first = omega arith;
-    runs = λ t. grind (arith, nat_tests);
-    ended_below = λ t e. grind (arith, nat_tests);
-    rising = tt;
-    below = tt
-  }
+  first = omega arith;
+  runs = λ t. grind (arith, nat_tests);
+  ended_below = λ t e. grind (arith, nat_tests);
+  rising = tt;
+  below = tt;
+}
 sound (mark ∷ h) (next l f) = sound_step h mark f (sound h l)
 
 seen_of : (t n : ℕ) (low a b : Bool) → a ≡ (nat_lt t n && not b) → (low ≡ true → (a ≡ false) × (t < n)) → (b ≡ true → t < n)
@@ -203,11 +206,13 @@ pub sees-snapshot : (h : History) → Legal h → (t : ℕ) → sees (snapshot h
 sees-snapshot h l t =
     let s : Sound h = sound h l in
     seen_of t (next_txid h) (nat_lt t (first_or (next_txid h) (running h))) (contains t (running h)) (has_ended h t) (s.runs t)
-        (λ low. (contains-first t (next_txid h) (running h) s.rising low,
-            (let lt : t < first_or (next_txid h) (running h) = ltb-true t (first_or (next_txid h) (running h)) low in
-             let le : first_or (next_txid h) (running h) ≤ next_txid h = first_or-below (next_txid h) (running h) s.below in
-             omega arith)))
-        (s.ended_below t)
+    (λ low. (
+      contains-first t (next_txid h) (running h) s.rising low,
+      (let lt : t < first_or (next_txid h) (running h) = ltb-true t (first_or (next_txid h) (running h)) low in
+          let le : first_or (next_txid h) (running h) ≤ next_txid h = first_or-below (next_txid h) (running h) s.below in
+          omega arith),
+    ))
+    (s.ended_below t)
 
 -- what has ended has committed, since nothing rolls back
 pub has_committed-has_ended : (h : History) → Legal h → (t : ℕ) → has_committed h t ≡ has_ended h t

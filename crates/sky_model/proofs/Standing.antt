@@ -1,10 +1,8 @@
 -- From what the world shows to what has happened.
-use Rattle.std.proofs.Common.{◌≡◌, ℕ, List, [], ◌∷◌, refl, sym, ◌∙◌, ap, subst}
+use Rattle.std.proofs.Common.{◌≡◌, ℕ, List, [], ◌∷◌, sym, ◌∙◌, ap}
 use Rattle.sky_model.specs.declared.reply.Reply.{Reply}
-use Rattle.sky_model.specs.Temp.{place_of}
+use Rattle.sky_names.specs.Places.{place_of}
 use Rattle.sky_model.specs.History.{Past}
-use Rattle.sky_model.specs.Selection.{selected}
-use Rattle.sky_model.specs.Batches.{batch_events}
 use Rattle.sky_model.specs.World.{World, world_of, Call, Deed, step, does, after, past_of, answers_of, number_or_next, after_facts, history_in, session_names}
 use Rattle.sky_model.specs.Steps.{Steps, deed_at, answers_at, after_call}
 use Rattle.sky_model.proofs.Marks.{world_of-facts}
@@ -26,6 +24,6 @@ world_of-after past all call =
 -- an exact step is a step of each history after which the world was as it was
 pub steps_from_exact : (old new : World) (call : Call) (replies : List (ℕ × Reply)) → replies ≡ answers_at old call → new ≡ after_call old call → Steps old new call replies
 steps_from_exact old new call replies replied stands = record {
-    replied = λ calls is. replied ∙ ap (λ w. answers_at w call) is ∙ sym (answers_of-answers_at (past_of calls) (legal_past calls) call);
-    stands = λ calls is. stands ∙ ap (λ w. after_call w call) is ∙ sym (world_of-after (past_of calls) (legal_past calls) call)
-  }
+  replied = λ calls is. replied ∙ ap (λ w. answers_at w call) is ∙ sym (answers_of-answers_at (past_of calls) (legal_past calls) call);
+  stands = λ calls is. stands ∙ ap (λ w. after_call w call) is ∙ sym (world_of-after (past_of calls) (legal_past calls) call);
+}

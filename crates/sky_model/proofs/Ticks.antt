@@ -1,12 +1,12 @@
 -- What ticks keep of the history as it was when they were made.
-use Rattle.std.proofs.Common.{◌≡◌, ℕ, ℤ, ◌+◌, ◌<◌, ◌≤◌, List, [], ◌∷◌, ◌++◌, Bool, true, false, not, ◌&&◌, ◌==◌, Option, Some, None, find, length, refl, sym, ◌∙◌, ap, arith, if◌then◌else◌, length-append}
+use Rattle.std.proofs.Common.{◌≡◌, ℕ, ◌+◌, ◌<◌, ◌≤◌, List, [], ◌∷◌, ◌++◌, Bool, true, false, ◌&&◌, ◌==◌, Option, Some, None, length, refl, sym, ◌∙◌, ap, arith, if◌then◌else◌, length-append}
 use Rattle.std.proofs.lemmas.Bool.Decides.{nat_tests}
-use Rattle.sky_model.specs.History.{Mark, began, ended, queued, QueueMark, made, raised, put, ticked, registered, opened, closed, History}
+use Rattle.sky_model.specs.History.{History}
 use Rattle.sky_model.specs.Transactions.{snapshot}
 use Rattle.sky_model.specs.Queues.{queue_names, Tick, ticks, tick, newest_tick, at_tick}
 use Rattle.sky_model.specs.StepQueue.{id_of}
 use Rattle.sky_model.specs.Selection.{snapshot_at}
-use Rattle.sky_model.proofs.Legal.{IsQueue, Fine, begins, ends, makes, raises, puts, ticks_next, registers, opens, closes, Legal, start, next}
+use Rattle.sky_model.proofs.Legal.{begins, ends, makes, raises, puts, ticks_next, registers, opens, closes, Legal, start, next}
 
 -- a queue that isn't made yet has no ticks
 pub ticks_beyond : (h : History) → Legal h → (q : ℕ) → length (queue_names h) ≤ q → ticks q h ≡ []
@@ -98,9 +98,10 @@ snapshot-at_tick _ (next {h = h} l (ticks_next p m time seq i e)) q id = of (p =
     both (Some u) is false e' same ih = ih ∙ ap snapshot_at is ∙ sym (ap snapshot_at (tick-push_found id (ticks q h) _ u is))
     both None is true e' same ih = sym (ap snapshot_at (tick-push_none id (ticks q h) _ is ∙ ap (λ b. if b then Some (record { id = m; time = time; snapshot = snapshot h; seq = seq }) else None) e'))
     both None is false e' same ih = ih ∙ ap snapshot_at is ∙ sym (ap snapshot_at (tick-push_none id (ticks q h) _ is ∙ ap (λ b. if b then Some (record { id = m; time = time; snapshot = snapshot h; seq = seq }) else None) e'))
+
     of : (b : Bool) → (p == q) ≡ b → snapshot (at_tick q id h) ≡ snapshot_at (tick id (ticks q h))
         → snapshot (if b && m == id then h else at_tick q id h)
-            ≡ snapshot_at (tick id (if b then ticks q h ++ record { id = m; time = time; snapshot = snapshot h; seq = seq } ∷ [] else ticks q h))
+        ≡ snapshot_at (tick id (if b then ticks q h ++ record { id = m; time = time; snapshot = snapshot h; seq = seq } ∷ [] else ticks q h))
     of true e' ih = both (tick id (ticks q h)) refl (m == id) refl (grind (arith, nat_tests)) ih
     of false e' ih = ih
 snapshot-at_tick _ (next {h = h} l (registers p name sub t i)) q id = snapshot-at_tick h l q id

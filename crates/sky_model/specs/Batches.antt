@@ -28,6 +28,6 @@ is_for sub (Some owner) = owner == sub
 abbrev pub batch_events : History → Batch → List Event
 batch_events h b =
     by_id (filter (λ e. has_committed (at_tick b.queue b.cur h) e.ev_txid
-            && not (has_committed (at_tick b.queue b.prev h) e.ev_txid)
-            && is_for b.sub e.ev_owner)
-        (events b.queue h))
+    && not (has_committed (at_tick b.queue b.prev h) e.ev_txid)
+    && is_for b.sub e.ev_owner)
+    (events b.queue h))

@@ -1,6 +1,6 @@
 -- Consumers of queues: where each stands, and which batch it has.
 use Rattle.std.specs.Prelude.{ℕ, List, [], ◌∷◌, ◌++◌, Option, Some, None, ◌==◌, ◌&&◌, bytes_eq, option_map, if◌then◌else◌}
-use Rattle.sky_model.specs.History.{Batch, Mark, queued, registered, opened, closed, History}
+use Rattle.sky_model.specs.History.{Batch, queued, registered, opened, closed, History}
 
 -- the consumers of a queue, in the order of registering
 abbrev pub consumers : ℕ → History → List (List ℕ)
@@ -45,7 +45,7 @@ pub record Subscription : Type 0 where
 abbrev pub subscription : ℕ → List ℕ → History → Option Subscription
 subscription queue consumer h =
     option_map (λ id. record { id = id; position = position queue consumer h; active = active queue consumer h })
-        (subscription_id queue consumer h)
+    (subscription_id queue consumer h)
 
 -- the last subscription id that was given
 abbrev pub last_subscription : History → ℕ

@@ -32,11 +32,15 @@ word_of FinishBatch = codes "finish_batch"
 
 -- the four further texts of an event, to the line's end
 abbrev pub extra_row : (queue : List ℕ) (ev_type ev_data : Option (List ℕ)) → Row
-extra_row queue ev_type ev_data = one OptText (λ e1. one OptText (λ e2. one OptText (λ e3. last OptText (λ e4. Stmt.InsertEvent queue ev_type ev_data (Some (record { ev_extra1 = e1; ev_extra2 = e2; ev_extra3 = e3; ev_extra4 = e4 }))))))
+extra_row queue ev_type ev_data =
+    one OptText (λ extra1. one OptText (λ extra2. one OptText (λ extra3. last OptText (λ extra4.
+    Stmt.InsertEvent queue ev_type ev_data (Some (record { ev_extra1 = extra1; ev_extra2 = extra2; ev_extra3 = extra3; ev_extra4 = extra4 }))))))
 
 -- an event's queue, type and data, and then none or four further texts
 abbrev pub insert_event : Row
-insert_event = one Name (λ queue. one OptText (λ ev_type. one OptText (λ ev_data. either (stop (Stmt.InsertEvent queue ev_type ev_data None)) (extra_row queue ev_type ev_data))))
+insert_event =
+    one Name (λ queue. one OptText (λ ev_type. one OptText (λ ev_data.
+    either (stop (Stmt.InsertEvent queue ev_type ev_data None)) (extra_row queue ev_type ev_data))))
 
 -- what follows the first word, for each form
 abbrev pub row_of : Form → Row
@@ -50,6 +54,7 @@ row_of NextBatch = one Name (λ queue. last Consumer (λ consumer. Stmt.NextBatc
 row_of GetBatchEvents = last (Number (2 ^ 64 - 1)) (λ batch. Stmt.GetBatchEvents batch)
 row_of FinishBatch = last (Number (2 ^ 64 - 1)) (λ batch. Stmt.FinishBatch batch)
 
+-- every form, in the order of the statements
 abbrev pub all_forms : List Form
 all_forms = OpenDb ∷ CreateQueue ∷ InsertEvent ∷ Ticker ∷ ForceTick ∷ RegisterConsumer ∷ NextBatch ∷ GetBatchEvents ∷ FinishBatch ∷ []
 
@@ -69,10 +74,12 @@ next (stop stmt) w = []
 next (one k f) w = when (value k w) f
 next (either a b) w = next a w ++ next b w
 
+-- the rows with which some of these may go on behind a word
 abbrev pub all_next : List Row → List ℕ → List Row
 all_next [] w = []
 all_next (row ∷ rows) w = next row w ++ all_next rows w
 
+-- the first statement, or else the other
 abbrev pub or_else : Option Stmt → Option Stmt → Option Stmt
 or_else None other = other
 or_else (Some stmt) other = Some stmt
@@ -83,6 +90,7 @@ ended (stop stmt) = Some stmt
 ended (one k f) = None
 ended (either a b) = or_else (ended a) (ended b)
 
+-- the statement of the first row that may end
 abbrev pub all_ended : List Row → Option Stmt
 all_ended [] = None
 all_ended (row ∷ rows) = or_else (ended row) (all_ended rows)
@@ -116,6 +124,7 @@ abbrev pub run_of : List ℕ → Result Stmt ℕ → Result Line ℕ
 run_of session (Ok stmt) = Ok (Run session stmt)
 run_of session (Err n) = Err n
 
+-- what a line says whose first word names this session
 abbrev pub session_line : Option (List ℕ) → List (List ℕ) → Result Line ℕ
 session_line None ws = Err 1
 session_line (Some session) ws = run_of session (statement_of ws)

@@ -40,15 +40,18 @@ abbrev pub names_around : Option ℕ → List ℕ → Bool
 names_around None w = is_identifier w
 names_around (Some dot) w = is_identifier (take dot w) && is_identifier (drop (dot + 1) w)
 
+-- the place of the first dot
+abbrev pub first_dot : List ℕ → Option ℕ
+first_dot w = position (λ b. b == 46) w
+
 -- a name, or two with a dot between, of at most 63 bytes together
 abbrev pub is_consumer : List ℕ → Bool
-is_consumer w = nat_le (length w) 63 && names_around (position (λ b. b == 46) w) w
+is_consumer w = nat_le (length w) 63 && names_around (first_dot w) w
 
--- digits, and no zero in front of further ones
+-- digits, with a zero in front only where it is alone
 abbrev pub is_number : List ℕ → Bool
 is_number [] = false
-is_number (b ∷ []) = is_ascii_digit b
-is_number (b ∷ c ∷ bs) = not (b == 48) && list_all is_ascii_digit (b ∷ c ∷ bs)
+is_number (b ∷ bs) = list_all is_ascii_digit (b ∷ bs) && (length bs == 0 || not (b == 48))
 
 -- the number that digits write behind those that write n
 abbrev pub number_from : ℕ → List ℕ → ℕ
@@ -59,9 +62,9 @@ number_from n (b ∷ bs) = number_from (n * 10 + (b - 48)) bs
 abbrev pub number_of : ℕ → List ℕ → Option ℕ
 number_of most w = if is_number w && nat_le (number_from 0 w) most then Some (number_from 0 w) else None
 
--- a byte that may stand inside quotes as itself: none of a quote, a line feed and the zero byte
+-- a byte that may stand inside quotes: neither a line feed nor the zero byte
 abbrev pub is_text_byte : ℕ → Bool
-is_text_byte b = not (b == 39) && not (b == 10) && not (b == 0)
+is_text_byte b = not (b == 10) && not (b == 0)
 
 -- the text from a place inside quotes on, two quotes being one, if the word ends with its closing quote;
 -- `quote` says that the byte before is a quote, the closing one or the first of two

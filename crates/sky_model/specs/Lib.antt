@@ -1,7 +1,7 @@
 pub mod Words
 pub mod Kinds
 pub mod Grammar
-pub mod Temp
+pub mod LawsOfLines
 pub mod History
 pub mod Transactions
 pub mod Queues

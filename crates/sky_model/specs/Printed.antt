@@ -1,5 +1,5 @@
 -- How answers are printed.
-use Rattle.std.specs.Prelude.{ℕ, ◌==◌, List, [], ◌∷◌, ◌++◌, map, flat_map, length, Option, Some, None, unwrap_or, slice_get, if◌then◌else◌, codes}
+use Rattle.std.specs.Prelude.{ℕ, ◌<◌, ◌==◌, List, [], ◌∷◌, ◌++◌, map, flat_map, length, All, Option, Some, None, unwrap_or, slice_get, if◌then◌else◌, codes}
 use Rattle.std.specs.Fmt.{decimal}
 use Rattle.sky_val.specs.declared.event.Event.{Event}
 use Rattle.sky_model.specs.declared.reply.Reply.{Reply}
@@ -8,7 +8,7 @@ use Rattle.sky_model.specs.declared.reply.Limit.{Limit}
 use Rattle.sky_model.specs.declared.reply.Limit.TheVariants.{Sessions, Databases, Queues, Consumers}
 use Rattle.sky_model.specs.declared.reply.Refusal.{Refusal}
 use Rattle.sky_model.specs.declared.reply.Refusal.TheVariants.{AlreadyOpen, EventIdsSpent, IdsSpent, NoBatch, NoConsumer, NodeConsumer, NoQueue, NotOpen, TooMany, TxidsSpent}
-use Rattle.sky_model.specs.Moment.{moment}
+use Rattle.sky_model.specs.Moment.{moment, HasMoment}
 
 -- a text with each quote in it twice
 abbrev pub doubled : List ℕ → List ℕ
@@ -87,3 +87,23 @@ name_at names n = unwrap_or (slice_get names n) []
 -- answers, each behind the name of its session
 abbrev pub printed : List (List ℕ) → List (ℕ × Reply) → List ℕ
 printed names replies = flat_map (λ answer. reply_text (name_at names answer.0) answer.1) replies
+
+-- each answer is of a session that has a name
+abbrev pub HaveNames : List (List ℕ) → List (ℕ × Reply) → Type 0
+HaveNames names replies = All (λ answer. answer.0 < length names) replies
+
+-- each event was made at a time that is printed
+abbrev pub EventsHaveMoments : List Event → Type 0
+EventsHaveMoments events = All (λ e. HasMoment e.ev_time) events
+
+-- the same of the events of an answer
+abbrev pub ReplyHasMoments : Reply → Type 0
+ReplyHasMoments Done = Unit {0}
+ReplyHasMoments (Number n) = Unit {0}
+ReplyHasMoments Null = Unit {0}
+ReplyHasMoments (Events events) = EventsHaveMoments events
+ReplyHasMoments (Refused refusal) = Unit {0}
+
+-- and of those of every answer
+abbrev pub HaveMoments : List (ℕ × Reply) → Type 0
+HaveMoments replies = All (λ answer. ReplyHasMoments answer.1) replies

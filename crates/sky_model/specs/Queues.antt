@@ -1,8 +1,8 @@
 -- Queues: their names, sequences, events and ticks.
-use Rattle.std.specs.Prelude.{ℕ, ℤ, ◌+◌, List, [], ◌∷◌, ◌++◌, Option, Some, None, ◌==◌, ◌&&◌, find, if◌then◌else◌}
+use Rattle.std.specs.Prelude.{ℕ, ℤ, List, [], ◌∷◌, ◌++◌, Option, Some, None, ◌==◌, ◌&&◌, find, if◌then◌else◌}
 use Rattle.sky_val.specs.declared.event.Event.{Event}
 use Rattle.sky_txid.specs.Snapshot.{SnapshotView}
-use Rattle.sky_model.specs.History.{Mark, queued, made, raised, put, ticked, History}
+use Rattle.sky_model.specs.History.{queued, made, raised, put, ticked, History}
 use Rattle.sky_model.specs.Transactions.{snapshot}
 
 -- the names of the queues, in the order of making: a queue's number is its place here

@@ -1,6 +1,6 @@
 -- What a database and the world show at a place: all that a statement reads, each part by its
 -- definition. The code keeps these, and a mark changes them.
-use Rattle.std.specs.Prelude.{ℕ, ◌+◌, ℤ, pos, List, [], ◌∷◌, ◌++◌, Bool, not, Option, Some, None, ◌==◌, ◌&&◌, bytes_eq, filter, option_map, if◌then◌else◌}
+use Rattle.std.specs.Prelude.{ℕ, ◌+◌, List, [], ◌∷◌, ◌++◌, not, Option, Some, None, ◌==◌, bytes_eq, filter, option_map, if◌then◌else◌}
 use Rattle.sky_val.specs.declared.event.Event.{Event}
 use Rattle.sky_txid.specs.Snapshot.{snapshot_of}
 use Rattle.sky_model.specs.History.{Batch, Mark, began, ended, queued, QueueMark, made, raised, put, ticked, registered, opened, closed, History}
@@ -28,23 +28,23 @@ pub record Database : Type 0 where
 
 abbrev pub queue_of : History → ℕ → Queue
 queue_of h q = record {
-    seq = sequence q h;
-    stored = events q h;
-    clock_ticks = ticks q h;
-    members = consumers q h;
-    sub = λ name. subscription q name h
-  }
+  seq = sequence q h;
+  stored = events q h;
+  clock_ticks = ticks q h;
+  members = consumers q h;
+  sub = λ name. subscription q name h;
+}
 
 abbrev pub database_of : History → Database
 database_of h = record {
-    next = next_txid h;
-    live = running h;
-    batch_count = last_batch h;
-    sub_count = last_subscription h;
-    names = queue_names h;
-    queue = queue_of h;
-    batch = λ id. active_batch id h
-  }
+  next = next_txid h;
+  live = running h;
+  batch_count = last_batch h;
+  sub_count = last_subscription h;
+  names = queue_names h;
+  queue = queue_of h;
+  batch = λ id. active_batch id h;
+}
 
 -- the same function but at a number
 abbrev pub changed_at : {A : Type 0} → ℕ → (A → A) → (ℕ → A) → ℕ → A
@@ -68,30 +68,30 @@ after_queue_mark d (made name) = record d { names = d.names ++ name ∷ [] }
 after_queue_mark d (raised q value) = record d { queue = changed_at q (λ x. record x { seq = value }) d.queue }
 after_queue_mark d (put q event) = record d { queue = changed_at q (λ x. record x { stored = x.stored ++ event ∷ [] }) d.queue }
 after_queue_mark d (ticked q id time seq) = record d {
-    queue = changed_at q (λ x. record x {
-        clock_ticks = x.clock_ticks ++ record { id = id; time = time; snapshot = snapshot_of d.next d.live; seq = seq } ∷ []
-      }) d.queue
-  }
+  queue = changed_at q (λ x. record x {
+    clock_ticks = x.clock_ticks ++ record { id = id; time = time; snapshot = snapshot_of d.next d.live; seq = seq } ∷ [];
+  }) d.queue;
+}
 after_queue_mark d (registered q name id tick) = record d {
-    sub_count = id;
-    queue = changed_at q (λ x. record x {
-        members = x.members ++ name ∷ [];
-        sub = changed_for name (λ _. Some (record { id = id; position = tick; active = None })) x.sub
-      }) d.queue
-  }
+  sub_count = id;
+  queue = changed_at q (λ x. record x {
+    members = x.members ++ name ∷ [];
+    sub = changed_for name (λ _. Some (record { id = id; position = tick; active = None })) x.sub;
+  }) d.queue;
+}
 after_queue_mark d (opened b) = record d {
-    batch_count = b.id;
-    batch = changed_at b.id (λ _. Some b) d.batch;
-    queue = changed_at b.queue (λ x. record x {
-        sub = changed_for b.consumer (option_map (with_batch b.id)) x.sub
-      }) d.queue
-  }
+  batch_count = b.id;
+  batch = changed_at b.id (λ _. Some b) d.batch;
+  queue = changed_at b.queue (λ x. record x {
+    sub = changed_for b.consumer (option_map (with_batch b.id)) x.sub;
+  }) d.queue;
+}
 after_queue_mark d (closed b) = record d {
-    batch = changed_at b.id (λ _. None) d.batch;
-    queue = changed_at b.queue (λ x. record x {
-        sub = changed_for b.consumer (option_map (at_position b.cur)) x.sub
-      }) d.queue
-  }
+  batch = changed_at b.id (λ _. None) d.batch;
+  queue = changed_at b.queue (λ x. record x {
+    sub = changed_for b.consumer (option_map (at_position b.cur)) x.sub;
+  }) d.queue;
+}
 
 -- a database after a mark
 abbrev pub after_mark : Database → Mark → Database

@@ -1,5 +1,6 @@
 -- What the statements on consumers and batches do. Each reads the database `d` as it stands.
-use Rattle.std.specs.Prelude.{ℕ, ◌+◌, ◌^◌, List, [], ◌∷◌, Bool, true, false, ◌||◌, ◌==◌, Option, Some, None, nat_le, is_some, length, if◌then◌else◌}
+use Rattle.std.specs.Prelude.{ℕ, ◌+◌, ◌^◌, List, [], ◌∷◌, Bool, ◌==◌, Option, Some, None, nat_le, is_some, length, if◌then◌else◌}
+use Rattle.std.specs.List.{list_any}
 use Rattle.sky_val.specs.declared.event.Event.{Event}
 use Rattle.sky_model.specs.declared.reply.Reply.TheVariants.{Number, Null, Events}
 use Rattle.sky_model.specs.declared.reply.Limit.TheVariants.{Consumers}
@@ -7,39 +8,38 @@ use Rattle.sky_model.specs.declared.reply.Refusal.TheVariants.{NoBatch, NoConsum
 use Rattle.sky_model.specs.History.{Batch, queued, registered, opened, closed}
 use Rattle.sky_model.specs.Queues.{Tick, tick}
 use Rattle.sky_model.specs.Consumers.{Subscription}
-use Rattle.sky_model.specs.State.{Queue, Database}
+use Rattle.sky_model.specs.State.{Database}
 use Rattle.sky_model.specs.Outcome.{Outcome, Checked, ◌>>=◌, ◌>>◌, refused_if, found_or, answers, does_marks}
 use Rattle.sky_model.specs.StepQueue.{queue_called, newest_id}
 
 -- a name with a dot in it is a node's
 abbrev pub has_dot : List ℕ → Bool
-has_dot [] = false
-has_dot (b ∷ bs) = b == 46 || has_dot bs
+has_dot name = list_any (λ b. b == 46) name
 
 -- `register_consumer NAME CONSUMER`: a subscription that stands at the newest tick
 abbrev pub register_consumer : Database → List ℕ → List ℕ → Checked Outcome
 register_consumer d name consumer = do
-    queue ← queue_called name d
-    refused_if (has_dot consumer) NodeConsumer
-    if is_some ((d.queue queue).sub consumer) then answers (Number 0) else (do
-        refused_if (nat_le 256 (length (d.queue queue).members)) (TooMany Consumers)
-        refused_if (nat_le (2 ^ 64) (d.sub_count + 1)) IdsSpent
-        does_marks (Number 1) (queued (registered queue consumer (d.sub_count + 1) (newest_id (d.queue queue))) ∷ []))
+  queue ← queue_called name d
+  refused_if (has_dot consumer) NodeConsumer
+  if is_some ((d.queue queue).sub consumer) then answers (Number 0) else (do
+    refused_if (nat_le 256 (length (d.queue queue).members)) (TooMany Consumers)
+    refused_if (nat_le (2 ^ 64) (d.sub_count + 1)) IdsSpent
+    does_marks (Number 1) (queued (registered queue consumer (d.sub_count + 1) (newest_id (d.queue queue))) ∷ []))
 
 -- a new batch, from a subscription's position to the tick with the next id, where that is made
 abbrev pub opens_batch : Database → ℕ → List ℕ → Subscription → Option Tick → Checked Outcome
 opens_batch d queue consumer sub None = answers Null
 opens_batch d queue consumer sub (Some next) = do
-    refused_if (nat_le (2 ^ 64) (d.batch_count + 1)) IdsSpent
-    does_marks (Number (d.batch_count + 1))
-        (queued (opened (record {
-            id = d.batch_count + 1;
-            queue = queue;
-            consumer = consumer;
-            sub = sub.id;
-            prev = sub.position;
-            cur = next.id
-          })) ∷ [])
+  refused_if (nat_le (2 ^ 64) (d.batch_count + 1)) IdsSpent
+  does_marks (Number (d.batch_count + 1))
+      (queued (opened (record {
+        id = d.batch_count + 1;
+        queue = queue;
+        consumer = consumer;
+        sub = sub.id;
+        prev = sub.position;
+        cur = next.id;
+      })) ∷ [])
 
 -- the active batch, else a new one
 abbrev pub takes_batch : Database → ℕ → List ℕ → Subscription → Option ℕ → Checked Outcome
@@ -49,16 +49,16 @@ takes_batch d queue consumer sub None = opens_batch d queue consumer sub (tick (
 -- `next_batch NAME CONSUMER`
 abbrev pub next_batch : Database → List ℕ → List ℕ → Checked Outcome
 next_batch d name consumer = do
-    queue ← queue_called name d
-    refused_if (has_dot consumer) NodeConsumer
-    sub ← found_or ((d.queue queue).sub consumer) (NoConsumer consumer)
-    takes_batch d queue consumer sub sub.active
+  queue ← queue_called name d
+  refused_if (has_dot consumer) NodeConsumer
+  sub ← found_or ((d.queue queue).sub consumer) (NoConsumer consumer)
+  takes_batch d queue consumer sub sub.active
 
 -- `get_batch_events N`: the events of an active batch, which a function gives
 abbrev pub get_batch_events : Database → (Batch → List Event) → ℕ → Checked Outcome
 get_batch_events d events_of id = do
-    batch ← found_or (d.batch id) NoBatch
-    answers (Events (events_of batch))
+  batch ← found_or (d.batch id) NoBatch
+  answers (Events (events_of batch))
 
 -- `finish_batch N`
 abbrev pub finishes : Option Batch → Checked Outcome

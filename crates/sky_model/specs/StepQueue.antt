@@ -5,7 +5,7 @@ use Rattle.sky_model.specs.declared.stmt.Extra.{Extra}
 use Rattle.sky_model.specs.declared.reply.Reply.TheVariants.{Number, Null}
 use Rattle.sky_model.specs.declared.reply.Limit.TheVariants.{Queues}
 use Rattle.sky_model.specs.declared.reply.Refusal.TheVariants.{NoQueue, TooMany, TxidsSpent, EventIdsSpent, IdsSpent}
-use Rattle.sky_model.specs.Temp.{place_of}
+use Rattle.sky_names.specs.Places.{place_of}
 use Rattle.sky_model.specs.History.{began, ended, queued, made, raised, put, ticked}
 use Rattle.sky_model.specs.Queues.{Tick, newest_tick}
 use Rattle.sky_model.specs.State.{Queue, Database}
@@ -18,17 +18,17 @@ queue_called name d = found_or (place_of name d.names) (NoQueue name)
 -- the next transaction id, if there is one
 abbrev pub next_id : Database → Checked ℕ
 next_id d = do
-    refused_if (nat_le (2 ^ 62) d.next) TxidsSpent
-    Ok d.next
+  refused_if (nat_le (2 ^ 62) d.next) TxidsSpent
+  Ok d.next
 
 -- `create_queue NAME`: a queue with its first tick, which is made when the transaction has ended
 abbrev pub create_queue : Database → ℤ → ℕ → List ℕ → Checked Outcome
 create_queue d now who name =
     if is_some (place_of name d.names) then answers (Number 0) else do
-        refused_if (nat_le 64 (length d.names)) (TooMany Queues)
-        t ← next_id d
-        does_marks (Number 1)
-            (began who t ∷ queued (made name) ∷ ended who t true ∷ queued (ticked (length d.names) 1 now 0) ∷ [])
+      refused_if (nat_le 64 (length d.names)) (TooMany Queues)
+      t ← next_id d
+      does_marks (Number 1)
+          (began who t ∷ queued (made name) ∷ ended who t true ∷ queued (ticked (length d.names) 1 now 0) ∷ [])
 
 -- the further texts of an event
 abbrev pub extra_of : (Extra → Option (List ℕ)) → Option Extra → Option (List ℕ)
@@ -38,33 +38,33 @@ extra_of text (Some extra) = text extra
 -- the event that a statement makes
 abbrev pub made_event : ℕ → ℤ → ℕ → Option (List ℕ) → Option (List ℕ) → Option Extra → Event
 made_event id now t ev_type ev_data extra = record {
-    ev_id = id;
-    ev_time = now;
-    ev_txid = t;
-    ev_owner = None;
-    ev_retry = None;
-    ev_type = ev_type;
-    ev_data = ev_data;
-    ev_extra1 = extra_of (λ x. x.ev_extra1) extra;
-    ev_extra2 = extra_of (λ x. x.ev_extra2) extra;
-    ev_extra3 = extra_of (λ x. x.ev_extra3) extra;
-    ev_extra4 = extra_of (λ x. x.ev_extra4) extra
-  }
+  ev_id = id;
+  ev_time = now;
+  ev_txid = t;
+  ev_owner = None;
+  ev_retry = None;
+  ev_type = ev_type;
+  ev_data = ev_data;
+  ev_extra1 = extra_of (λ x. x.ev_extra1) extra;
+  ev_extra2 = extra_of (λ x. x.ev_extra2) extra;
+  ev_extra3 = extra_of (λ x. x.ev_extra3) extra;
+  ev_extra4 = extra_of (λ x. x.ev_extra4) extra;
+}
 
 -- the queue's next event id, if there is one
 abbrev pub next_event_id : Queue → Checked ℕ
 next_event_id q = do
-    refused_if (nat_le (2 ^ 62) (q.seq + 1)) EventIdsSpent
-    Ok (q.seq + 1)
+  refused_if (nat_le (2 ^ 62) (q.seq + 1)) EventIdsSpent
+  Ok (q.seq + 1)
 
 -- `insert_event NAME TVAL TVAL`: an event with the next id of the queue's sequence
 abbrev pub insert_event : Database → ℤ → ℕ → List ℕ → Option (List ℕ) → Option (List ℕ) → Option Extra → Checked Outcome
 insert_event d now who name ev_type ev_data extra = do
-    queue ← queue_called name d
-    t ← next_id d
-    id ← next_event_id (d.queue queue)
-    does_marks (Number id)
-        (began who t ∷ queued (raised queue id) ∷ queued (put queue (made_event id now t ev_type ev_data extra)) ∷ ended who t true ∷ [])
+  queue ← queue_called name d
+  t ← next_id d
+  id ← next_event_id (d.queue queue)
+  does_marks (Number id)
+      (began who t ∷ queued (raised queue id) ∷ queued (put queue (made_event id now t ev_type ev_data extra)) ∷ ended who t true ∷ [])
 
 -- how a queue's ticker is set; its times are in microseconds
 pub record Config : Type 0 where
@@ -83,7 +83,7 @@ abbrev pub is_idle_due : Config → ℤ → Tick → Option Tick → Bool
 is_idle_due config lag last None = true
 is_idle_due config lag last (Some before) =
     not (int_lt (pos 2 *ℤ lag) config.max_lag
-        || (int_lt lag (pos 2 *ℤ (last.time -ℤ before.time)) && int_lt lag config.idle_period))
+    || (int_lt lag (pos 2 *ℤ (last.time -ℤ before.time)) && int_lt lag config.idle_period))
 
 -- with new events a tick is due unless they are few and the last tick isn't long ago
 abbrev pub is_due_after : Config → ℤ → ℕ → Tick → Option Tick → Bool
@@ -117,18 +117,18 @@ newest_id q = id_of (newest_tick q.clock_ticks)
 -- `ticker NAME`: a tick where one is due
 abbrev pub ticker : Database → ℤ → List ℕ → Checked Outcome
 ticker d now name = do
-    queue ← queue_called name d
-    if is_due default_config now (d.queue queue)
-        then (do
-            refused_if (nat_le (2 ^ 64) (newest_id (d.queue queue) + 1)) IdsSpent
-            does_marks (Number (newest_id (d.queue queue) + 1))
-                (queued (ticked queue (newest_id (d.queue queue) + 1) now (d.queue queue).seq) ∷ []))
-        else answers Null
+  queue ← queue_called name d
+  if is_due default_config now (d.queue queue)
+      then (do
+        refused_if (nat_le (2 ^ 64) (newest_id (d.queue queue) + 1)) IdsSpent
+        does_marks (Number (newest_id (d.queue queue) + 1))
+            (queued (ticked queue (newest_id (d.queue queue) + 1) now (d.queue queue).seq) ∷ []))
+      else answers Null
 
 -- `force_tick NAME`: the sequence rises so far that a tick is due
 abbrev pub force_tick : Database → List ℕ → Checked Outcome
 force_tick d name = do
-    queue ← queue_called name d
-    refused_if (nat_le (2 ^ 62) ((d.queue queue).seq + (2 * default_config.max_count + 1000))) EventIdsSpent
-    does_marks (Number (newest_id (d.queue queue)))
-        (queued (raised queue ((d.queue queue).seq + (2 * default_config.max_count + 1000))) ∷ [])
+  queue ← queue_called name d
+  refused_if (nat_le (2 ^ 62) ((d.queue queue).seq + (2 * default_config.max_count + 1000))) EventIdsSpent
+  does_marks (Number (newest_id (d.queue queue)))
+      (queued (raised queue ((d.queue queue).seq + (2 * default_config.max_count + 1000))) ∷ [])

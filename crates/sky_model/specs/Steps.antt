@@ -2,7 +2,7 @@
 -- that the definitions give there, and the world is as it is after the call.
 use Rattle.std.specs.Prelude.{◌≡◌, ℕ, List, [], ◌∷◌}
 use Rattle.sky_model.specs.declared.reply.Reply.{Reply}
-use Rattle.sky_model.specs.Temp.{place_of}
+use Rattle.sky_names.specs.Places.{place_of}
 use Rattle.sky_model.specs.Selection.{selected}
 use Rattle.sky_model.specs.World.{World, world_of, Call, Deed, step, past_of, answers_of, number_or_next, after_facts}
 

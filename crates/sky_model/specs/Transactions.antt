@@ -1,7 +1,7 @@
 -- Transactions: which ids were given, which run, which have ended, and what a snapshot lists.
-use Rattle.std.specs.Prelude.{ℕ, ◌+◌, List, [], ◌∷◌, ◌++◌, Bool, true, false, not, ◌||◌, ◌==◌, nat_lt, filter}
+use Rattle.std.specs.Prelude.{ℕ, ◌+◌, List, [], ◌∷◌, ◌++◌, Bool, true, not, ◌||◌, ◌==◌, nat_lt, filter}
 use Rattle.sky_txid.specs.Snapshot.{SnapshotView, snapshot_of}
-use Rattle.sky_model.specs.History.{Mark, began, ended, queued, History}
+use Rattle.sky_model.specs.History.{began, ended, History}
 
 -- the next id: ids begin at 3
 abbrev pub next_txid : History → ℕ

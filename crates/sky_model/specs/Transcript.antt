@@ -1,14 +1,14 @@
 -- What a script prints, and where it is bad.
-use Rattle.std.specs.Prelude.{ℕ, ◌+◌, ◌^◌, ◌==◌, ◌&&◌, Bool, true, false, nat_lt, nat_le, is_none, is_some, List, [], ◌∷◌, ◌++◌, length, Option, Some, None, Result, Ok, Err, bytes_eq, if◌then◌else◌, codes}
+use Rattle.std.specs.Prelude.{ℕ, ◌+◌, ◌^◌, ◌==◌, ◌&&◌, Bool, false, nat_lt, nat_le, is_none, is_some, List, [], ◌∷◌, ◌++◌, length, Option, Some, None, Result, Ok, bytes_eq, if◌then◌else◌, codes}
 use Rattle.std.specs.Fmt.{decimal}
 use Rattle.std.specs.Str.{is_utf8}
 use Rattle.sky_model.specs.declared.stmt.Stmt.{Stmt}
 use Rattle.sky_model.specs.declared.stmt.Stmt.TheVariants.{OpenDb, CreateQueue, InsertEvent, Ticker, ForceTick, RegisterConsumer, NextBatch, GetBatchEvents, FinishBatch}
 use Rattle.sky_model.specs.declared.line.Line.{Line}
-use Rattle.sky_model.specs.declared.line.Line.TheVariants.{Blank, Run}
+use Rattle.sky_model.specs.declared.line.Line.TheVariants.{Run}
 use Rattle.sky_model.specs.Grammar.{line_of}
 use Rattle.sky_model.specs.History.{Past}
-use Rattle.sky_model.specs.Lines.{Split, split}
+use Rattle.sky_model.specs.Lines.{split}
 use Rattle.sky_model.specs.Printed.{printed}
 use Rattle.sky_model.specs.World.{Call, after, answers_of, session_names}
 

@@ -1,5 +1,5 @@
 -- What a call does: a statement of a session, with all that it causes.
-use Rattle.std.specs.Prelude.{ℕ, ℤ, pos, List, [], ◌∷◌, ◌++◌, Bool, Option, Some, None, Result, Ok, Err, ◌==◌, nat_le, is_some, length, map, if◌then◌else◌}
+use Rattle.std.specs.Prelude.{ℕ, ℤ, pos, List, [], ◌∷◌, ◌++◌, Option, Some, None, Err, ◌==◌, nat_le, length, map, if◌then◌else◌}
 use Rattle.sky_val.specs.declared.event.Event.{Event}
 use Rattle.sky_model.specs.declared.stmt.Stmt.{Stmt}
 use Rattle.sky_model.specs.declared.stmt.Stmt.TheVariants.{OpenDb, CreateQueue, InsertEvent, Ticker, ForceTick, RegisterConsumer, NextBatch, GetBatchEvents, FinishBatch}
@@ -8,11 +8,11 @@ use Rattle.sky_model.specs.declared.reply.Reply.TheVariants.{Done, Refused}
 use Rattle.sky_model.specs.declared.reply.Limit.TheVariants.{Sessions, Databases}
 use Rattle.sky_model.specs.declared.reply.Refusal.{Refusal}
 use Rattle.sky_model.specs.declared.reply.Refusal.TheVariants.{TooMany, AlreadyOpen, NotOpen}
-use Rattle.sky_model.specs.Temp.{place_of}
-use Rattle.sky_model.specs.History.{Batch, Mark, History, Fact, appeared, founded, entered, within, Past}
+use Rattle.sky_names.specs.Places.{place_of}
+use Rattle.sky_model.specs.History.{Batch, History, Fact, appeared, founded, entered, within, Past}
 use Rattle.sky_model.specs.Batches.{batch_events}
 use Rattle.sky_model.specs.State.{Database, database_of, changed_at, after_mark}
-use Rattle.sky_model.specs.Outcome.{Outcome, Checked, ◌>>=◌, ◌>>◌, refused_if, found_or, answers, settled}
+use Rattle.sky_model.specs.Outcome.{Outcome, Checked, settled}
 use Rattle.sky_model.specs.StepQueue.{create_queue, insert_event, ticker, force_tick}
 use Rattle.sky_model.specs.StepConsumer.{register_consumer, next_batch, get_batch_events, finish_batch}
 
@@ -54,12 +54,12 @@ pub record World : Type 0 where
 
 abbrev pub world_of : Past → World
 world_of past = record {
-    now = clock past;
-    sessions = session_names past;
-    databases = database_names past;
-    homes = home past;
-    database = λ d. database_of (history_in past d)
-  }
+  now = clock past;
+  sessions = session_names past;
+  databases = database_names past;
+  homes = home past;
+  database = λ d. database_of (history_in past d);
+}
 
 -- the world after something happened
 abbrev pub after_fact : World → Fact → World

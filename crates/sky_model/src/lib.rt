@@ -6,6 +6,7 @@
 //! is no code here that a program runs but the types.
 #![tactic(auto)]
 
+pub mod laws;
 mod line;
 mod reply;
 mod stmt;

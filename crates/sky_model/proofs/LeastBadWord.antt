@@ -1,0 +1,96 @@
+-- The words before the bad one begin a line of the rows, and those up to it begin none.
+use Rattle.std.proofs.Common.{◌≡◌, ℕ, ◌+◌, ◌<◌, ◌≤◌, zero, suc, List, [], ◌∷◌, ◌++◌, length, take, Option, Some, None, Ok, Err, refl, ap, ◌∙◌, append_assoc, arith, codes}
+use Rattle.std.proofs.lemmas.Bool.Decides.{nat_tests}
+use Rattle.sky_model.specs.declared.stmt.Stmt.{Stmt}
+use Rattle.sky_model.specs.Kinds.{Kind, Name, Consumer, Number, OptText, Of, value}
+use Rattle.sky_model.specs.Grammar.{Row, stop, one, either, next, all_next, ended, all_ended, or_else, or_bad, goes_on, reads}
+
+-- some line that the rows read begins with these words
+pub record Begins (rows : List Row) (n : ℕ) (ws : List (List ℕ)) : Type 0 where
+  pub more : List (List ℕ)
+  pub stmt : Stmt
+  pub reads_it : reads rows n (ws ++ more) ≡ Ok stmt
+
+or_bad-err : (n m : ℕ) (stmt : Option Stmt) → or_bad n stmt ≡ Err m → m ≡ n
+or_bad-err n m None bad = cc
+or_bad-err n m (Some stmt) bad = absurd (cc)
+
+-- the bad word is one of those read, or the one behind them
+pub record Within (n m : ℕ) (ws : List (List ℕ)) : Type 0 where
+  pub low : n ≤ m
+  pub high : m ≤ n + length ws
+
+pub bad_within : (rows : List Row) (ws : List (List ℕ)) (n m : ℕ) → reads rows n ws ≡ Err m → Within n m ws
+bad_within rows [] n m bad =
+    let here = or_bad-err n m (all_ended rows) bad in
+    record { low = omega arith; high = omega arith }
+bad_within rows (w ∷ ws) n m bad =
+    elim (all_next rows w) as (λ left. goes_on left n (λ l. reads l (n + 1) ws) ≡ Err m → Within n m (w ∷ ws)) [
+      | [] ↦ λ e. let here : m ≡ n = cc in record { low = omega arith; high = omega arith }
+      | row ∷ left ↦ λ e. let later = bad_within (row ∷ left) ws (n + 1) m e in record { low = omega arith; high = omega arith }
+    ] bad
+
+-- the words up to the bad one begin no line
+pub none_begins : (rows : List Row) (ws : List (List ℕ)) (n m j : ℕ) → m ≡ n + j → j < length ws → reads rows n ws ≡ Err m → Begins rows n (take (suc j) ws) → ⊥
+none_begins rows [] n m j at inside bad begins = absurd (omega arith)
+none_begins rows (w ∷ ws) n m zero at inside bad begins =
+    elim (all_next rows w) as (λ left. goes_on left n (λ l. reads l (n + 1) ws) ≡ Err m → goes_on left n (λ l. reads l (n + 1) begins.more) ≡ Ok begins.stmt → ⊥) [
+      | [] ↦ λ e good. cc
+      | row ∷ left ↦ λ e good. let later = bad_within (row ∷ left) ws (n + 1) m e in absurd (omega arith)
+    ] bad begins.reads_it
+none_begins rows (w ∷ ws) n m (suc j) at inside bad begins =
+    elim (all_next rows w) as (λ left. goes_on left n (λ l. reads l (n + 1) ws) ≡ Err m → goes_on left n (λ l. reads l (n + 1) (take (suc j) ws ++ begins.more)) ≡ Ok begins.stmt → ⊥) [
+      | [] ↦ λ e good. cc
+      | row ∷ left ↦ λ e good. none_begins (row ∷ left) ws (n + 1) m j (omega arith) (omega arith) e (record { more = begins.more; stmt = begins.stmt; reads_it = good })
+    ] bad begins.reads_it
+
+-- a word of a kind
+record Sample (k : Kind) : Type 0 where
+  word : List ℕ
+  worth : Of k
+  is : value k word ≡ Some worth
+
+sample : (k : Kind) → Sample k
+sample Name = record { word = codes "a"; worth = codes "a"; is = refl }
+sample Consumer = record { word = codes "a"; worth = codes "a"; is = refl }
+sample (Number most) = record { word = codes "0"; worth = 0; is = grind (arith, nat_tests) }
+sample OptText = record { word = codes "null"; worth = None; is = refl }
+
+or_else_assoc : (a b c : Option Stmt) → or_else (or_else a b) c ≡ or_else a (or_else b c)
+or_else_assoc None b c = refl
+or_else_assoc (Some stmt) b c = refl
+
+-- either of two rows reads what both read beside each other
+reads-either : (a b : Row) (rows : List Row) (n : ℕ) (ws : List (List ℕ)) → reads (either a b ∷ rows) n ws ≡ reads (a ∷ b ∷ rows) n ws
+reads-either a b rows n [] = ap (or_bad n) (or_else_assoc (ended a) (ended b) (all_ended rows))
+reads-either a b rows n (w ∷ ws) = ap (λ left. goes_on left n (λ l. reads l (n + 1) ws)) (append_assoc (next a w) (next b w) (all_next rows w))
+
+-- each row has a line
+completes : (row : Row) (rows : List Row) (n : ℕ) → Begins (row ∷ rows) n []
+completes (stop stmt) rows n = record { more = []; stmt = stmt; reads_it = refl }
+completes (one k f) rows n =
+    let s = sample k in
+    let rest = completes (f s.worth) (all_next rows s.word) (n + 1) in
+    record { more = s.word ∷ rest.more; stmt = rest.stmt; reads_it = rw s.is rest.reads_it }
+completes (either a b) rows n =
+    let rest = completes a (b ∷ rows) n in
+    record { more = rest.more; stmt = rest.stmt; reads_it = reads-either a b rows n rest.more ∙ rest.reads_it }
+
+-- the same behind a word
+record BeginsBehind (left : List Row) (n : ℕ) (ws : List (List ℕ)) : Type 0 where
+  more : List (List ℕ)
+  stmt : Stmt
+  reads_it : goes_on left n (λ l. reads l (n + 1) (ws ++ more)) ≡ Ok stmt
+
+-- the words before the bad one begin a line
+pub some_begins : (row : Row) (rows : List Row) (ws : List (List ℕ)) (n m j : ℕ) → m ≡ n + j → reads (row ∷ rows) n ws ≡ Err m → Begins (row ∷ rows) n (take j ws)
+some_begins row rows ws n m zero at bad = completes row rows n
+some_begins row rows [] n m (suc j) at bad =
+    let here = or_bad-err n m (all_ended (row ∷ rows)) bad in absurd (omega arith)
+some_begins row rows (w ∷ ws) n m (suc j) at bad =
+    let behind = elim (all_next (row ∷ rows) w) as (λ left. goes_on left n (λ l. reads l (n + 1) ws) ≡ Err m → BeginsBehind left n (take j ws)) [
+      | [] ↦ λ e. let here : m ≡ n = cc in absurd (omega arith)
+      | r ∷ left ↦ λ e. let rest = some_begins r left ws (n + 1) m j (omega arith) e in record { more = rest.more; stmt = rest.stmt; reads_it = rest.reads_it }
+    ] in
+    let found = behind bad in
+    record { more = found.more; stmt = found.stmt; reads_it = found.reads_it }
