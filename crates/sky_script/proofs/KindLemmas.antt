@@ -1,0 +1,76 @@
+-- Going over the bytes of a number and of a quoted text.
+use Rattle.std.proofs.Common.{◌≡◌, ◌≢◌, ℕ, ◌+◌, ◌-◌, ◌*◌, ◌<◌, ◌≤◌, Bool, true, false, not, cond, List, [], ◌∷◌, ◌++◌, length, drop, get_or, refl, sym, ap, ◌∙◌, append_assoc, arith, Option, Some, None, option_map}
+use Rattle.std.proofs.lemmas.List.{drop_more}
+use Rattle.std.proofs.lemmas.Bool.{and_parts, ne_eqb}
+use Rattle.std.specs.Char.{is_ascii_digit}
+use Rattle.std.specs.List.{list_all}
+use Rattle.std.specs.Str.{IsUtf8, is_utf8}
+use Rattle.std.proofs.lemmas.Str.{is_utf8-from_IsUtf8, IsUtf8-from_is_utf8}
+use Rattle.sky_model.specs.Kinds.{number_from, text_from, in_characters}
+
+-- further digits make no number less
+pub number_from-le : (n : ℕ) (bs : List ℕ) → n ≤ number_from n bs
+number_from-le n [] = omega arith
+number_from-le n (b ∷ bs) = omega (arith, number_from-le (n * 10 + (b - 48)) bs)
+
+-- the digits before this place write n, and digits alone follow
+pub record Counts (word : List ℕ) (n i : ℕ) : Type 0 where
+  pub so_far : number_from 0 word ≡ number_from n (drop i word)
+  pub digits : list_all is_ascii_digit (drop i word) ≡ true
+
+pub counts_more : (word : List ℕ) (n i : ℕ) → i < length word → Counts word n i → Counts word (n * 10 + (get_or word i 0 - 48)) (i + 1)
+counts_more word n i inside so = record {
+  so_far = so.so_far ∙ ap (number_from n) (drop_more word i 0 inside);
+  digits = (and_parts (is_ascii_digit (get_or word i 0)) (list_all is_ascii_digit (drop (i + 1) word)) (ap (list_all is_ascii_digit) (sym (drop_more word i 0 inside)) ∙ so.digits)).1;
+}
+
+-- the number with the digit of a place is at most the whole
+pub counts-le : (word : List ℕ) (n i : ℕ) → i < length word → Counts word n i → n * 10 + (get_or word i 0 - 48) ≤ number_from 0 word
+counts-le word n i inside so =
+    let more = counts_more word n i inside so in
+    omega (arith, more.so_far, number_from-le (n * 10 + (get_or word i 0 - 48)) (drop (i + 1) word))
+
+-- bytes that are characters are a text, and others aren't
+pub in_characters-yes : (bs : List ℕ) → IsUtf8 bs → in_characters (Some bs) ≡ Some bs
+in_characters-yes bs text = rw (is_utf8-from_IsUtf8 bs text) refl
+
+pub in_characters-not : (bs : List ℕ) → ¬ (IsUtf8 bs) → in_characters (Some bs) ≡ None
+in_characters-not bs not_text =
+    elim (is_utf8 bs) as (λ v. is_utf8 bs ≡ v → cond v (Some bs) None ≡ None) [
+      | true ↦ λ is. absurd (not_text (IsUtf8-from_is_utf8 bs is))
+      | false ↦ λ is. refl
+    ] refl
+
+pub ruleset characters = (in_characters-yes, in_characters-not)
+
+-- a text so far goes in front of what follows
+abbrev pub before : List ℕ → Option (List ℕ) → Option (List ℕ)
+before text rest = option_map (λ more. text ++ more) rest
+
+-- the bytes before this place give this text, and `quote` says whether the last one is a quote that is open to either meaning
+pub record Unquotes (inside text : List ℕ) (quote : Bool) (i : ℕ) : Type 0 where
+  pub so_far : text_from false inside ≡ before text (text_from quote (drop i inside))
+
+before-first : (text : List ℕ) (b : ℕ) (rest : Option (List ℕ)) → before text (option_map (λ more. b ∷ more) rest) ≡ before (text ++ b ∷ []) rest
+before-first text b None = refl
+before-first text b (Some more) = ap (λ t. Some t) (sym (append_assoc text (b ∷ []) more))
+
+-- a quote is the second of two, and stands in the text, or else the first or the closing one
+pub unquotes_quote : (inside text : List ℕ) (quote : Bool) (i : ℕ) → i < length inside → get_or inside i 0 ≡ 39 → Unquotes inside text quote i → Unquotes inside (cond quote (text ++ 39 ∷ []) text) (not quote) (i + 1)
+unquotes_quote inside text true i within here so =
+    let rest : List ℕ = drop (i + 1) inside in
+    let two : text_from true (get_or inside i 0 ∷ rest) ≡ option_map (λ more. 39 ∷ more) (text_from false rest) = rw here refl in
+    record { so_far = so.so_far ∙ ap (λ bs. before text (text_from true bs)) (drop_more inside i 0 within) ∙ ap (before text) two ∙ before-first text 39 (text_from false rest) }
+unquotes_quote inside text false i within here so =
+    let rest : List ℕ = drop (i + 1) inside in
+    let one : text_from false (get_or inside i 0 ∷ rest) ≡ text_from true rest = rw here refl in
+    record { so_far = so.so_far ∙ ap (λ bs. before text (text_from false bs)) (drop_more inside i 0 within) ∙ ap (before text) one }
+
+-- a byte that stands for itself
+pub unquotes_byte : (inside text : List ℕ) (quote : Bool) (i : ℕ) → i < length inside → quote ≡ false → get_or inside i 0 ≢ 39 → get_or inside i 0 ≢ 10 → get_or inside i 0 ≢ 0 → Unquotes inside text quote i → Unquotes inside (text ++ get_or inside i 0 ∷ []) quote (i + 1)
+unquotes_byte inside text true i within closed no_quote no_feed no_zero so = absurd (cc)
+unquotes_byte inside text false i within closed no_quote no_feed no_zero so =
+    let b : ℕ = get_or inside i 0 in
+    let rest : List ℕ = drop (i + 1) inside in
+    let plain : text_from false (b ∷ rest) ≡ option_map (λ more. b ∷ more) (text_from false rest) = rw (ne_eqb b 39 no_quote, ne_eqb b 10 no_feed, ne_eqb b 0 no_zero) refl in
+    record { so_far = so.so_far ∙ ap (λ bs. before text (text_from false bs)) (drop_more inside i 0 within) ∙ ap (before text) plain ∙ before-first text b (text_from false rest) }

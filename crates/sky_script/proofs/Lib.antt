@@ -1,0 +1,11 @@
+pub mod WordLemmas
+pub mod KindLemmas
+pub mod ReadingLemmas
+pub mod TextLemmas
+pub mod DayLemmas
+pub mod Doubling
+pub mod MomentLemmas
+pub mod Printing
+pub mod FeedLemmas
+pub mod GrowsLemmas
+pub mod ReaderLemmas

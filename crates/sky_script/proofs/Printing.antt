@@ -1,0 +1,46 @@
+-- Answers, and the lines of one, are printed one behind the other.
+use Rattle.std.proofs.Common.{◌≡◌, ℕ, ◌+◌, ◌<◌, List, [], ◌∷◌, ◌++◌, length, take, get_or, map, flat_map, codes, sym, subst, ap, ap₂, ◌∙◌, append_assoc, append-nil}
+use Rattle.std.proofs.lemmas.List.{take_more, get_or_read}
+use Rattle.std.proofs.lemmas.List.Elements.{All-get_or}
+use Rattle.std.proofs.lemmas.List.Folds.{flat_map-map}
+use Rattle.std.proofs.lemmas.Option.{unwrap_or-slice_get}
+use Rattle.std.proofs.lemmas.Grind.{flat_map-append}
+use Rattle.std.specs.Fmt.{decimal}
+use Rattle.sky_val.specs.declared.event.Event.{Event}
+use Rattle.sky_model.specs.declared.reply.Reply.{Reply}
+use Rattle.sky_model.specs.declared.reply.Reply.TheVariants.{Events}
+use Rattle.sky_model.specs.Printed.{event_text, line_text, reply_text, name_at, printed, HaveNames}
+
+-- a batch is its events' lines, and one for how many they are
+pub reply_text-Events : (name : List ℕ) (events : List Event)
+    → reply_text name (Events events) ≡ flat_map (λ e. line_text name (event_text e)) events ++ line_text name (codes "rows " ++ decimal (length events))
+reply_text-Events name events =
+    let count = codes "rows " ++ decimal (length events) in
+    flat_map-append (line_text name) (map event_text events) (count ∷ [])
+    ∙ ap (λ lines. lines ++ (line_text name count ++ [])) (flat_map-map (line_text name) event_text events)
+    ∙ ap (λ line. flat_map (λ e. line_text name (event_text e)) events ++ line) (append-nil (line_text name count))
+
+-- one answer more
+pub printed-take : (names : List (List ℕ)) (replies : List (ℕ × Reply)) (i : ℕ) (d : ℕ × Reply) → i < length replies
+    → printed names (take (i + 1) replies) ≡ printed names (take i replies) ++ reply_text (name_at names (get_or replies i d).0) (get_or replies i d).1
+printed-take names replies i d within =
+    let text : ℕ × Reply → List ℕ = λ answer. reply_text (name_at names answer.0) answer.1 in
+    ap (printed names) (take_more replies i d within)
+    ∙ flat_map-append text (take i replies) (get_or replies i d ∷ [])
+    ∙ ap (λ last. printed names (take i replies) ++ last) (append-nil (text (get_or replies i d)))
+
+-- an answer, printed behind those before it and by its session's name
+pub printed-more : (names : List (List ℕ)) (replies : List (ℕ × Reply)) (i : ℕ) (answer : ℕ × Reply) (name bytes old mid new : List ℕ)
+    → HaveNames names replies → i < length replies → answer ≡ get_or replies i answer → name ≡ get_or names answer.0 name → bytes ≡ name
+    → mid ≡ old ++ printed names (take i replies) → new ≡ mid ++ reply_text bytes answer.1 → new ≡ old ++ printed names (take (i + 1) replies)
+printed-more names replies i answer name bytes old mid new have within is name_is bytes_are before behind =
+    let Named : ℕ × Reply → Type 0 = λ a. a.0 < length names in
+    let named = subst Named (sym is) (All-get_or Named replies i answer within have) in
+    let by_name = bytes_are ∙ get_or_read names answer.0 name named name_is [] ∙ sym (unwrap_or-slice_get names answer.0 []) in
+    let text : ℕ × Reply → List ℕ = λ a. reply_text (name_at names a.0) a.1 in
+    let all : printed names (take i replies) ++ text answer ≡ printed names (take (i + 1) replies) =
+    ap (λ last. printed names (take i replies) ++ last) (ap text is) ∙ sym (printed-take names replies i answer within) in
+    behind
+    ∙ ap₂ (λ front who. front ++ reply_text who answer.1) before by_name
+    ∙ append_assoc old (printed names (take i replies)) (text answer)
+    ∙ ap (λ more. old ++ more) all

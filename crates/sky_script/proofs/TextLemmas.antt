@@ -1,0 +1,40 @@
+-- Names are texts.
+use Rattle.std.proofs.Common.{◌≡◌, ℕ, ◌+◌, ◌<◌, true, List, [], ◌∷◌, length, take, drop, refl, subst, arith, zero, suc, Option, Some, None, IsUtf8, nat_le}
+use Rattle.std.proofs.lemmas.Bool.{and_parts}
+use Rattle.std.proofs.lemmas.Bool.Decides.{nat_tests}
+use Rattle.std.proofs.lemmas.Str.{IsUtf8-from_ascii, IsUtf8-append}
+use Rattle.std.proofs.lemmas.Str.Ascii.{IsAscii-nil}
+use Rattle.std.specs.List.{list_all}
+use Rattle.std.specs.Str.{IsAscii}
+use Rattle.sky_model.specs.Kinds.{continues_name, is_identifier, is_name, names_around, first_dot, is_consumer}
+use Rattle.sky_model.proofs.NameLemmas.{list_all-is_identifier, around_dot}
+
+continues_name-lt : (b : ℕ) → continues_name b ≡ true → b < 128
+continues_name-lt b so = grind (arith, nat_tests)
+
+IsAscii-continues_name : (bs : List ℕ) → list_all continues_name bs ≡ true → IsAscii bs
+IsAscii-continues_name [] so i = IsAscii-nil i
+IsAscii-continues_name (b ∷ bs) so zero = continues_name-lt b (and_parts (continues_name b) (list_all continues_name bs) so).0
+IsAscii-continues_name (b ∷ bs) so (suc i) = IsAscii-continues_name bs (and_parts (continues_name b) (list_all continues_name bs) so).1 i
+
+IsUtf8-is_identifier : (w : List ℕ) → is_identifier w ≡ true → IsUtf8 w
+IsUtf8-is_identifier w so = IsUtf8-from_ascii w (IsAscii-continues_name w (list_all-is_identifier w so))
+
+IsAscii-dot : IsAscii (46 ∷ [])
+IsAscii-dot zero = omega arith
+IsAscii-dot (suc i) = IsAscii-nil i
+
+IsUtf8-names_around : (w : List ℕ) (dot : Option ℕ) → first_dot w ≡ dot → names_around dot w ≡ true → IsUtf8 w
+IsUtf8-names_around w None is so = IsUtf8-is_identifier w so
+IsUtf8-names_around w (Some dot) is so =
+    let front : List ℕ = take dot w in
+    let back : List ℕ = drop (dot + 1) w in
+    let parts = and_parts (is_identifier front) (is_identifier back) so in
+    let behind = IsUtf8-append (46 ∷ []) back (IsUtf8-from_ascii (46 ∷ []) IsAscii-dot) (IsUtf8-is_identifier back parts.1) in
+    subst IsUtf8 (around_dot w dot is) (IsUtf8-append front (46 ∷ back) (IsUtf8-is_identifier front parts.0) behind)
+
+pub IsUtf8-is_name : (w : List ℕ) → is_name w ≡ true → IsUtf8 w
+IsUtf8-is_name w so = IsUtf8-is_identifier w (and_parts (nat_le (length w) 63) (is_identifier w) so).1
+
+pub IsUtf8-is_consumer : (w : List ℕ) → is_consumer w ≡ true → IsUtf8 w
+IsUtf8-is_consumer w so = IsUtf8-names_around w (first_dot w) refl (and_parts (nat_le (length w) 63) (names_around (first_dot w) w) so).1

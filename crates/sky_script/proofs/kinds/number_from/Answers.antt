@@ -1,0 +1,8 @@
+use Rattle.std.proofs.Common.{arith}
+use Rattle.sky_script.proofs.KindLemmas.{counts-le}
+use Rattle.sky_script.proofs.kinds.number_from.Goals as goal
+
+pub returns-in_err-number : goal.returns-in_err-number
+returns-in_err-number c =
+    let most = counts-le _ _ _ (omega arith) c.loop-digit.invariant in
+    rw c.from_residual.ensures (omega (arith, c.in_err-number.ensures))

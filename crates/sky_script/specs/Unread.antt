@@ -1,0 +1,18 @@
+-- What is left of a line while it is read.
+use Rattle.std.specs.Prelude.{ℕ, ◌+◌, List, [], Option, Some, None, length}
+use Rattle.sky_model.specs.Words.{words}
+
+-- the words that are left, and the number of the first of them
+pub record Unread : Type 0 where
+  pub number : ℕ
+  pub left : List (List ℕ)
+
+-- the words of the bytes that are left; none behind the last word
+abbrev pub words_in : Option (List ℕ) → List (List ℕ)
+words_in None = []
+words_in (Some bytes) = words bytes
+
+-- at most how many words are left
+abbrev pub most_in : Option (List ℕ) → ℕ
+most_in None = 0
+most_in (Some bytes) = length bytes + 1

@@ -1,0 +1,176 @@
+//! The tests of single words.
+
+ghost use Rattle.std.specs.Prelude.{◌≡◌, ◌+◌, ◌-◌, ◌*◌, ◌^◌, ◌≤◌, false, IsTrue, IsUtf8, IfOk, MatchOption, MatchResult, option_map};
+ghost use Rattle.std.specs.Char.{is_ascii_digit};
+ghost use Rattle.std.specs.List.{list_all};
+ghost use Rattle.sky_model.specs.Kinds as kind;
+
+use crate::cause::LineCause;
+use sky_val::{Text, TextFault};
+use std::alloc::{AllocError, Global};
+
+/// The most bytes of a name, and of two with a dot between.
+const LONGEST_NAME: usize = 63;
+
+fn begins_name(byte: u8) -> bool
+    ensures { result ≡ kind.begins_name byte }
+{
+    byte.is_ascii_lowercase() || byte == b'_'
+}
+
+fn continues_name(byte: u8) -> bool
+    ensures { result ≡ kind.continues_name byte }
+{
+    begins_name(byte) || byte.is_ascii_digit()
+}
+
+fn all_continue_name(bytes: &[u8]) -> bool
+    ensures { result ≡ list_all kind.continues_name bytes.now }
+{
+    bytes.iter().all(|byte| continues_name(*byte))
+}
+
+fn is_identifier(word: &[u8]) -> bool
+    ensures { result ≡ kind.is_identifier word.now }
+{
+    match word.split_first() {
+        Some((first, others)) => begins_name(*first) && all_continue_name(others),
+        None => false,
+    }
+}
+
+pub(crate) fn is_name(word: &[u8]) -> bool
+    ensures { result ≡ kind.is_name word.now }
+{
+    word.len() <= LONGEST_NAME && is_identifier(word)
+}
+
+fn first_dot(word: &[u8]) -> Option<usize>
+    ensures { result ≡ kind.first_dot word.now }
+{
+    word.iter().position(|byte| *byte == b'.')
+}
+
+fn is_one_name_or_two(word: &[u8]) -> bool
+    ensures { result ≡ kind.names_around (kind.first_dot word.now) word.now }
+{
+    match first_dot(word) {
+        Some(dot) => is_identifier(&word[..dot]) && is_identifier(&word[dot + 1..]),
+        None => is_identifier(word),
+    }
+}
+
+pub(crate) fn is_consumer(word: &[u8]) -> bool
+    ensures { result ≡ kind.is_consumer word.now }
+{
+    word.len() <= LONGEST_NAME && is_one_name_or_two(word)
+}
+
+fn all_digits(bytes: &[u8]) -> bool
+    ensures { result ≡ list_all is_ascii_digit bytes.now }
+{
+    bytes.iter().all(|byte| byte.is_ascii_digit())
+}
+
+fn is_number(word: &[u8]) -> bool
+    ensures { result ≡ kind.is_number word.now }
+{
+    match word.split_first() {
+        Some((first, others)) => all_digits(word) && (others.is_empty() || *first != b'0'),
+        None => false,
+    }
+}
+
+/// The number that a digit writes behind one, if it has 64 bits.
+fn with_digit(number: u64, digit: u8) -> Option<u64>
+    requires { IsTrue (is_ascii_digit digit) }
+    ensures { let with = number * 10 + (digit - 48) in MatchOption result (2 ^ 64 ≤ with) (λ more. more ≡ with) }
+{
+    let tens = number.checked_mul(10)?;
+    tens.checked_add(u64::from(digit - b'0'))
+}
+
+/// The number that digits write, if it has 64 bits.
+fn number_from(digits: &[u8]) -> Option<u64>
+    requires { IsTrue (list_all is_ascii_digit digits.now) }
+    ensures { let whole = kind.number_from 0 digits.now in
+        MatchOption result (2 ^ 64 ≤ whole) (λ number. number ≡ whole) }
+{
+    let mut number = 0;
+    for digit in digits {
+        number = with_digit(number, *digit)?;
+    }
+    Some(number)
+}
+
+/// The number that a word writes, if it is one and at most that.
+pub(crate) fn number_of(word: &[u8], most: u64) -> Option<u64>
+    ensures { result ≡ kind.number_of most word.now }
+{
+    if !is_number(word) {
+        return None;
+    }
+    match number_from(word) {
+        Some(number) if number <= most => Some(number),
+        _ => None,
+    }
+}
+
+/// The bytes as a text, if they are characters.
+#[tactic(auto, using(crate::proofs::KindLemmas::characters))]
+fn in_characters(alloc: Global, bytes: &[u8]) -> Result<Option<Text>, AllocError>
+    ensures { IfOk result (λ text. text ≡ kind.in_characters (Some bytes.now)) }
+{
+    match Text::from_bytes(alloc, bytes) {
+        Ok(text) => Ok(Some(text)),
+        Err(TextFault::NotUtf8) => Ok(None),
+        Err(TextFault::NoMemory) => Err(AllocError),
+    }
+}
+
+/// The bytes of a text from behind its opening quote on, if the word ends with its closing quote.
+fn unquoted(alloc: Global, inside: &[u8]) -> Result<Option<Vec<u8>>, AllocError>
+    ensures { IfOk result (λ text. option_map (λ v. v.items) text ≡ kind.text_from false inside.now) }
+{
+    let mut text = Vec::new(alloc);
+    // Whether the byte before is a quote: the closing one, or the first of two.
+    let mut quote = false;
+    for byte in inside {
+        if *byte == b'\'' {
+            if quote {
+                text.push(b'\'')?;
+            }
+            quote = !quote;
+            continue;
+        }
+        if quote || *byte == b'\n' || *byte == 0 {
+            return Ok(None);
+        }
+        text.push(*byte)?;
+    }
+    if quote { Ok(Some(text)) } else { Ok(None) }
+}
+
+/// The text of a quoted word, if it is one.
+pub(crate) fn quoted_text(alloc: Global, word: &[u8]) -> Result<Option<Text>, AllocError>
+    ensures { IfOk result (λ text. text ≡ kind.quoted_text word.now) }
+{
+    let Some((b'\'', inside)) = word.split_first() else {
+        return Ok(None);
+    };
+    match unquoted(alloc, inside)? {
+        Some(bytes) => in_characters(alloc, bytes.as_slice()),
+        None => Ok(None),
+    }
+}
+
+/// The text of a word of letters, digits and the like.
+pub(crate) fn plain_text(alloc: Global, word: &[u8]) -> Result<Text, LineCause>
+    requires { IsUtf8 word.now }
+    ensures { MatchResult result (λ text. text ≡ word.now) (λ cause. cause ≡ LineCause.NoMemory) }
+{
+    match Text::from_bytes(alloc, word) {
+        Ok(text) => Ok(text),
+        Err(_) => Err(LineCause::NoMemory),
+    }
+}

@@ -1,0 +1,136 @@
+ghost use Rattle.std.specs.Prelude.{◌≡◌, ◌++◌, codes, OnOk, OnErr};
+ghost use Rattle.std.specs.Fmt.{decimal};
+ghost use Rattle.sky_model.specs.Moment.{HasMoment};
+ghost use Rattle.sky_model.specs.Printed.{event_text, refusal_text, line_text, reply_text, printed, HaveNames, EventsHaveMoments, ReplyHasMoments, HaveMoments};
+ghost use Rattle.sky_script.specs.Kept.{Keeps};
+
+use crate::event::append_event;
+use crate::refusal::append_refusal;
+use itoa::Buffer;
+use sky_model::{Refusal, Replies, Reply};
+use sky_val::{Event, NoMemory, SessionId, Text};
+
+/// Appends the lines of these answers, each behind its session's name. A session's number is its
+/// name's place in `names`.
+pub fn print_replies(names: &[Text], replies: &Replies, into: &mut Vec<u8>) -> Result<(), NoMemory>
+    requires named { HaveNames names.now replies.now }
+    requires moments { HaveMoments replies.now }
+    ensures ok { OnOk result (into.new.items ≡ into.old.items ++ printed names.now replies.now) }
+    ensures err { OnErr result (into.new.items ≡ into.old.items) }
+{
+    let start = into.len();
+    let appended = append_replies(names, replies.as_slice(), into);
+    if appended.is_err() {
+        into.truncate(start);
+    }
+    appended
+}
+
+// Each of the following may leave a part of its text where memory is refused, behind all that stood
+// there before.
+
+fn append_replies(
+    names: &[Text],
+    replies: &[(SessionId, Reply)],
+    into: &mut Vec<u8>,
+) -> Result<(), NoMemory>
+    requires named { HaveNames names.now replies.now }
+    requires moments { HaveMoments replies.now }
+    ensures ok { OnOk result (into.new.items ≡ into.old.items ++ printed names.now replies.now) }
+    ensures kept { OnErr result (Keeps into.old.items into.new.items) }
+{
+    for (session, reply) in replies {
+        append_reply(names[*session as usize].bytes(), reply, into)?;
+    }
+    Ok(())
+}
+
+fn append_reply(name: &[u8], reply: &Reply, into: &mut Vec<u8>) -> Result<(), NoMemory>
+    requires { ReplyHasMoments reply.now }
+    ensures ok { OnOk result (into.new.items ≡ into.old.items ++ reply_text name.now reply.now) }
+    ensures kept { OnErr result (Keeps into.old.items into.new.items) }
+{
+    match reply {
+        Reply::Done => append_line(name, b"ok", into),
+        Reply::Number(number) => append_line(name, Buffer::new().format(*number).as_bytes(), into),
+        Reply::Null => append_line(name, b"null", into),
+        Reply::Events(events) => append_batch(name, events.as_slice(), into),
+        Reply::Refused(refusal) => append_refused(name, refusal, into),
+    }
+}
+
+fn append_line(name: &[u8], line: &[u8], into: &mut Vec<u8>) -> Result<(), NoMemory>
+    ensures ok { OnOk result (into.new.items ≡ into.old.items ++ line_text name.now line.now) }
+    ensures kept { OnErr result (Keeps into.old.items into.new.items) }
+{
+    append_name(name, into)?;
+    into.extend_from_slice(line)?;
+    into.push(b'\n')?;
+    Ok(())
+}
+
+// The events of a batch, and how many they are.
+fn append_batch(name: &[u8], events: &[Event], into: &mut Vec<u8>) -> Result<(), NoMemory>
+    requires { EventsHaveMoments events.now }
+    ensures ok { OnOk result
+        (into.new.items ≡ into.old.items ++ reply_text name.now (Reply.Events events.now)) }
+    ensures kept { OnErr result (Keeps into.old.items into.new.items) }
+{
+    for event in events {
+        append_event_line(name, event, into)?;
+    }
+    append_rows(name, events.len() as u64, into)
+}
+
+fn append_event_line(name: &[u8], event: &Event, into: &mut Vec<u8>) -> Result<(), NoMemory>
+    requires { HasMoment event.now.ev_time }
+    ensures ok { OnOk result
+        (into.new.items ≡ into.old.items ++ line_text name.now (event_text event.now)) }
+    ensures kept { OnErr result (Keeps into.old.items into.new.items) }
+{
+    append_name(name, into)?;
+    append_event(event, into)?;
+    into.push(b'\n')?;
+    Ok(())
+}
+
+fn append_rows(name: &[u8], count: u64, into: &mut Vec<u8>) -> Result<(), NoMemory>
+    ensures ok { OnOk result
+        (into.new.items ≡ into.old.items ++ line_text name.now (codes "rows " ++ decimal count)) }
+    ensures kept { OnErr result (Keeps into.old.items into.new.items) }
+{
+    append_name(name, into)?;
+    into.extend_from_slice(b"rows ")?;
+    append_number(count, into)?;
+    into.push(b'\n')?;
+    Ok(())
+}
+
+fn append_refused(name: &[u8], refusal: &Refusal, into: &mut Vec<u8>) -> Result<(), NoMemory>
+    ensures ok { OnOk result (into.new.items
+        ≡ into.old.items ++ line_text name.now (codes "error " ++ refusal_text refusal.now)) }
+    ensures kept { OnErr result (Keeps into.old.items into.new.items) }
+{
+    append_name(name, into)?;
+    into.extend_from_slice(b"error ")?;
+    append_refusal(refusal, into)?;
+    into.push(b'\n')?;
+    Ok(())
+}
+
+// What stands before a line of the session of this name.
+fn append_name(name: &[u8], into: &mut Vec<u8>) -> Result<(), NoMemory>
+    ensures ok { OnOk result (into.new.items ≡ into.old.items ++ (name.now ++ codes ": ")) }
+    ensures kept { OnErr result (Keeps into.old.items into.new.items) }
+{
+    into.extend_from_slice(name)?;
+    into.extend_from_slice(b": ")
+}
+
+/// Appends a number in decimal. At `Err` it appends nothing.
+pub(crate) fn append_number(number: u64, into: &mut Vec<u8>) -> Result<(), NoMemory>
+    ensures ok { OnOk result (into.new.items ≡ into.old.items ++ decimal number) }
+    ensures err { OnErr result (into.new.items ≡ into.old.items) }
+{
+    into.extend_from_slice(Buffer::new().format(number).as_bytes())
+}

@@ -1,0 +1,183 @@
+//! The words of a line, read one after another.
+
+ghost use Rattle.std.specs.Prelude.{◌≡◌, ◌+◌, ◌-◌, ◌<◌, [], ◌∷◌, true, false, IfOk, IfErr, IfNone, IfSome, OnOk, MatchOption, Result, Ok, Err, length, option_copied};
+ghost use Rattle.sky_model.specs.declared.stmt.Stmt.{Stmt};
+ghost use Rattle.sky_model.specs.Words.{words};
+ghost use Rattle.sky_model.specs.Kinds.{Name, Consumer, Number, OptText};
+ghost use Rattle.sky_model.specs.Grammar.{Row, stop, either, line_of_words, run_of, statement_of};
+ghost use Rattle.sky_script.specs.Unread.{words_in};
+ghost use Rattle.sky_script.specs.Reading.{Answers, IsAnswer, Reads};
+
+use crate::cause::LineCause;
+use crate::kinds::{is_consumer, is_name, number_of, plain_text, quoted_text};
+use sky_val::Text;
+use std::alloc::Global;
+use std::marker::Model;
+
+/// A line's words from some place on.
+#[derive(Drop)]
+pub(crate) struct Words<'a> {
+    // None behind the last word; an empty rest still has an empty word.
+    rest: Option<&'a [u8]>,
+    taken: usize,
+}
+
+impl<'a> Model for Words<'a> {
+    ghost use Rattle.std.specs.Prelude.{◌+◌, ◌≤◌, ◌^◌, option_copied};
+    ghost use Rattle.sky_script.specs.Unread.{Unread, words_in, most_in};
+
+    ghost Value = { Unread };
+
+    ghost view = { λ w. record { number = w.taken + 1; left = words_in (option_copied w.rest) } };
+
+    // A line is shorter than 2^63 bytes, so its words can be counted.
+    ghost invariant = { λ w. w.taken + most_in (option_copied w.rest) ≤ 2 ^ 63 };
+}
+
+/// The word that bytes begin with, and what stands behind the space that ends it.
+fn split_word(bytes: &[u8]) -> (&[u8], Option<&[u8]>)
+    ensures split { words bytes.now ≡ result.0.now ∷ words_in (option_copied result.1) }
+    ensures shorter { IfSome result.1 (λ rest. length rest.now < length bytes.now) }
+{
+    let mut quoted = false;
+    for (i, byte) in bytes.iter().enumerate() {
+        if *byte == b' ' && !quoted {
+            return (&bytes[..i], Some(&bytes[i + 1..]));
+        }
+        if *byte == b'\'' {
+            quoted = !quoted;
+        }
+    }
+    (bytes, None)
+}
+
+impl<'a> Words<'a> {
+    pub(crate) fn new(line: &'a [u8]) -> Words<'a>
+        ensures { result ≡ record { number = 1; left = words line.now } }
+    {
+        Words {
+            rest: Some(line),
+            taken: 0,
+        }
+    }
+
+    /// Takes the next word.
+    pub(crate) fn next(&mut self) -> Option<&'a [u8]>
+        ensures word { MatchOption result (self.old.left ≡ [])
+            (λ word. (self.old.left ≡ word.now ∷ self.new.left) × (self.new.number ≡ self.old.number + 1)) }
+        ensures none { IfNone result (self.new ≡ self.old) }
+    {
+        let (word, rest) = split_word(self.rest?);
+        self.rest = rest;
+        self.taken += 1;
+        Some(word)
+    }
+
+    /// The cause where the line ends too early.
+    pub(crate) fn missing(&self) -> LineCause
+        ensures { result ≡ LineCause.BadWord self.now.number }
+    {
+        LineCause::BadWord(self.taken + 1)
+    }
+
+    /// The cause where the word that was taken last is bad.
+    pub(crate) fn refused(&self) -> LineCause
+        ensures { result ≡ LineCause.BadWord (self.now.number - 1) }
+    {
+        LineCause::BadWord(self.taken)
+    }
+}
+
+// A reader of a kind says what it read by the rows that may go on so, and a statement form's function
+// then says what its row says.
+#[tactic(auto, using(crate::proofs::ReadingLemmas::one_word), unfolding(crate::specs::Reading::Answers))]
+impl<'a> Words<'a> {
+    /// Whether no word is left.
+    pub(crate) fn at_end(&self) -> bool
+        ensures at_end { result ≡ true →
+            (stmt : Stmt) (row : Row) → Answers (Ok stmt) (either (stop stmt) row) self.now }
+        ensures goes_on { result ≡ false →
+            (r : Result Stmt LineCause) (stmt : Stmt) (row : Row) →
+            Answers r row self.now → Answers r (either (stop stmt) row) self.now }
+    {
+        self.rest.is_none()
+    }
+
+    /// The line's end.
+    pub(crate) fn end(&self) -> Result<(), LineCause>
+        ensures ok { IfOk result (λ _. (stmt : Stmt) → Answers (Ok stmt) (stop stmt) self.now) }
+        ensures err { IfErr result (λ cause. (stmt : Stmt) → Answers (Err cause) (stop stmt) self.now) }
+    {
+        match self.rest {
+            None => Ok(()),
+            Some(_) => Err(self.missing()),
+        }
+    }
+
+    /// The session's word: its name and a colon.
+    pub(crate) fn session(&mut self, alloc: Global) -> Result<Text, LineCause>
+        requires { self.old.number ≡ 1 }
+        ensures ok { IfOk result (λ session. line_of_words self.old.left ≡ run_of session (statement_of self.new.left)) }
+        ensures second { OnOk result (self.new.number ≡ 2) }
+        ensures err { IfErr result (λ cause. IsAnswer (Err cause) (line_of_words self.old.left)) }
+    {
+        let Some(word) = self.next() else {
+            return Err(self.missing());
+        };
+        match word.strip_suffix(b":") {
+            Some(name) if is_name(name) => plain_text(alloc, name),
+            _ => Err(self.refused()),
+        }
+    }
+
+    pub(crate) fn name(&mut self, alloc: Global) -> Result<Text, LineCause>
+        ensures { Reads Name result self.old self.new }
+    {
+        let Some(word) = self.next() else {
+            return Err(self.missing());
+        };
+        if !is_name(word) {
+            return Err(self.refused());
+        }
+        plain_text(alloc, word)
+    }
+
+    pub(crate) fn consumer(&mut self, alloc: Global) -> Result<Text, LineCause>
+        ensures { Reads Consumer result self.old self.new }
+    {
+        let Some(word) = self.next() else {
+            return Err(self.missing());
+        };
+        if !is_consumer(word) {
+            return Err(self.refused());
+        }
+        plain_text(alloc, word)
+    }
+
+    pub(crate) fn number(&mut self, most: u64) -> Result<u64, LineCause>
+        ensures { Reads (Number most) result self.old self.new }
+    {
+        let Some(word) = self.next() else {
+            return Err(self.missing());
+        };
+        match number_of(word, most) {
+            Some(number) => Ok(number),
+            None => Err(self.refused()),
+        }
+    }
+
+    pub(crate) fn opt_text(&mut self, alloc: Global) -> Result<Option<Text>, LineCause>
+        ensures { Reads OptText result self.old self.new }
+    {
+        let Some(word) = self.next() else {
+            return Err(self.missing());
+        };
+        if word == b"null".as_slice() {
+            return Ok(None);
+        }
+        match quoted_text(alloc, word)? {
+            Some(text) => Ok(Some(text)),
+            None => Err(self.refused()),
+        }
+    }
+}
