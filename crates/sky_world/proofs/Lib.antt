@@ -1,0 +1,4 @@
+pub mod TickLists
+pub mod SubLists
+pub mod Databases
+pub mod Worlds

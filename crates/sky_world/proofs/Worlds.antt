@@ -1,0 +1,286 @@
+-- What the world shows, after what the code changed in it.
+use Rattle.std.proofs.Common.{◌≡◌, ℕ, suc, zero, ◌+◌, ◌<◌, ◌≤◌, List, [], ◌∷◌, ◌++◌, Bool, true, false, ◌==◌, nat_le, Option, Some, None, map, length, length-append, get_or, slice_set, get_or-set_same, get_or-set_other, ◌≢◌, refl, sym, ◌∙◌, ap, subst, arith, All, if◌then◌else◌, IfSome, ℤ, pos}
+use Rattle.std.proofs.lemmas.List.Elements.{All-from_recursion}
+use Rattle.std.proofs.lemmas.Bool.Decides.{nat_tests}
+use Rattle.std.proofs.lemmas.Option.{get_or_from_slice_get, slice_get_read}
+use Rattle.sky_names.specs.Places.{place_of}
+use Rattle.sky_names.proofs.PlaceLemmas.{place_of_within}
+use Rattle.sky_val.specs.declared.event.Event.{Event}
+use Rattle.sky_model.specs.declared.stmt.Stmt.{Stmt}
+use Rattle.sky_model.specs.declared.stmt.Stmt.TheVariants.{OpenDb, CreateQueue, InsertEvent, Ticker, ForceTick, RegisterConsumer, NextBatch, GetBatchEvents, FinishBatch}
+use Rattle.sky_model.specs.declared.reply.Reply.TheVariants.{Refused}
+use Rattle.sky_model.specs.declared.reply.Refusal.TheVariants.{TooMany}
+use Rattle.sky_model.specs.declared.reply.Limit.TheVariants.{Sessions}
+use Rattle.sky_model.specs.declared.reply.Reply.{Reply}
+use Rattle.sky_model.specs.History.{Batch, Mark, appeared, founded, entered, within}
+use Rattle.sky_model.specs.Selection.{selected}
+use Rattle.sky_model.specs.State.{Database, database_of, changed_at, after_mark, after_marks}
+use Rattle.sky_model.specs.Outcome.{Outcome, settled}
+use Rattle.sky_model.specs.World.{World, world_of, Call, Deed, after_fact, after_facts, statement, deed_in, session_does, opens, refuses, first, called, number_or_next}
+use Rattle.sky_model.specs.Steps.{Steps, deed_at}
+use Rattle.sky_model.proofs.Standing.{steps_from_exact}
+use Rattle.sky_world.specs.Views.{DatabaseView, WorldView}
+use Rattle.sky_world.specs.Seen.{seen_database, no_database, seen_world}
+use Rattle.sky_world.specs.Homes.{HomesWithin}
+use Rattle.sky_world.specs.Gives.{Gives}
+use Rattle.sky_world.specs.GivesDeed.{GivesDeed, AnswersCall}
+
+-- marks in a database change that database alone
+pub after_facts-within : (w : World) (d : ℕ) (marks : List Mark) → after_facts w (map (within d) marks) ≡ record w { database = changed_at d (λ x. after_marks x marks) w.database }
+after_facts-within w d [] = λ i. record w { database = λ n. by (d == n) (w.database n) i }
+  where
+    by : (b : Bool) (x : Database) → x ≡ (if b then x else x)
+    by true x = refl
+    by false x = refl
+after_facts-within w d (mark ∷ marks) =
+    after_facts-within (after_fact w (within d mark)) d marks
+    ∙ (λ i. record w { database = λ n. by (d == n) (w.database n) i })
+  where
+    by : (b : Bool) (x : Database) → (if b then after_marks (if b then after_mark x mark else x) marks else (if b then after_mark x mark else x)) ≡ (if b then after_marks (after_mark x mark) marks else x)
+    by true x = refl
+    by false x = refl
+
+pub home-within : (count : ℕ) (homes : List (Option ℕ)) (who d : ℕ) → HomesWithin count homes → who < length homes → get_or homes who None ≡ Some d → d < count
+home-within count [] who d all lt is = absurd (omega arith)
+home-within count (None ∷ homes) zero d all lt is = absurd (cc)
+home-within count (Some e ∷ homes) zero d all lt is = (let same : e ≡ d = cc in let below : e < count = all.0 in omega arith)
+home-within count (None ∷ homes) (suc who) d all lt is = home-within count homes who d all (omega arith) is
+home-within count (Some e ∷ homes) (suc who) d all lt is = home-within count homes who d all.1 (omega arith) is
+
+pub homes-push : (count : ℕ) (homes : List (Option ℕ)) → HomesWithin count homes → HomesWithin count (homes ++ None ∷ [])
+homes-push count [] all = tt
+homes-push count (None ∷ homes) all = homes-push count homes all
+homes-push count (Some d ∷ homes) all = (all.0, homes-push count homes all.1)
+
+pub homes-more : (count more : ℕ) (homes : List (Option ℕ)) → count ≤ more → HomesWithin count homes → HomesWithin more homes
+homes-more count more [] le all = tt
+homes-more count more (None ∷ homes) le all = homes-more count more homes le all
+homes-more count more (Some d ∷ homes) le all = ((let below : d < count = all.0 in omega arith), homes-more count more homes le all.1)
+
+pub homes-set : (count : ℕ) (homes : List (Option ℕ)) (who d : ℕ) → d < count → HomesWithin count homes → HomesWithin count (slice_set homes who (Some d))
+homes-set count [] who d lt all = tt
+homes-set count (None ∷ homes) zero d lt all = (lt, all)
+homes-set count (Some e ∷ homes) zero d lt all = (lt, all.1)
+homes-set count (None ∷ homes) (suc who) d lt all = homes-set count homes who d lt all
+homes-set count (Some e ∷ homes) (suc who) d lt all = (all.0, homes-set count homes who d lt all.1)
+
+-- what the world keeps of sessions and databases
+pub homes-at : (v now : WorldView) (who : ℕ) (at : Option ℕ) → v ≡ now → HomesWithin (length v.stores) v.homes → who < length now.homes → at ≡ get_or v.homes who at
+    → IfSome at (λ d. d < length now.stores)
+homes-at v now who None same all lt is = tt
+homes-at v now who (Some d) same all lt is =
+    let there : who < length v.homes = subst (λ (w : WorldView). who < length w.homes) (sym same) lt in
+    let at : get_or v.homes who None ≡ Some d = get_or_from_slice_get v.homes who (Some d) None (slice_get_read v.homes (length v.homes) who (Some d) refl there is) in
+    subst (λ (w : WorldView). d < length w.stores) same (home-within (length v.stores) v.homes who d all there at)
+
+pub session-within : (v now : WorldView) (name : List ℕ) (found : Option ℕ) → v ≡ now → length v.homes ≡ length v.sessions → found ≡ place_of name v.sessions
+    → IfSome found (λ who. who < length now.homes)
+session-within v now name None same many is = tt
+session-within v now name (Some who) same many is =
+    subst (λ (w : WorldView). who < length w.homes) same (subst (λ n. who < n) (sym many) (place_of_within name v.sessions who (sym is)))
+
+pub database-within : (v now : WorldView) (name : List ℕ) (d : ℕ) → v ≡ now → length v.stores ≡ length v.databases → place_of name v.databases ≡ Some d → d < length now.stores
+database-within v now name d same many is = subst (λ (w : WorldView). d < length w.stores) same (subst (λ n. d < n) (sym many) (place_of_within name v.databases d is))
+
+pub counted-push : {A B : Type 0} (xs : List A) (x : A) (ys : List B) (y : B) (longer : List A) (more : List B) → length xs ≡ length ys → longer ≡ xs ++ x ∷ [] → more ≡ ys ++ y ∷ []
+    → length longer ≡ length more
+counted-push xs x ys y longer more same is and =
+    ap length is ∙ length-append xs (x ∷ []) ∙ ap (λ n. n + 1) same ∙ sym (length-append ys (y ∷ [])) ∙ ap length (sym and)
+
+pub world-new : (sessions : List (List ℕ)) (homes : List (Option ℕ)) (databases : List (List ℕ)) (stores : List DatabaseView) → sessions ≡ [] → homes ≡ [] → databases ≡ [] → stores ≡ []
+    → seen_world (record { now = pos 0; sessions = sessions; homes = homes; databases = databases; stores = stores }) ≡ world_of []
+world-new sessions homes databases stores none-appeared none-home none-made none-stored = λ i. record {
+  now = pos 0;
+  sessions = none-appeared i;
+  databases = none-made i;
+  homes = λ who. nowhere homes none-home who i;
+  database = λ d. nothing stores none-stored d i;
+}
+  where
+    nowhere : (all : List (Option ℕ)) → all ≡ [] → (who : ℕ) → get_or all who None ≡ None
+    nowhere [] is zero = refl
+    nowhere [] is (suc who) = refl
+    nowhere (_ ∷ all) is who = absurd (cc)
+
+    nothing : (all : List DatabaseView) → all ≡ [] → (d : ℕ) → seen_database (get_or all d no_database) ≡ database_of []
+    nothing [] is zero = refl
+    nothing [] is (suc d) = refl
+    nothing (_ ∷ all) is d = absurd (cc)
+
+pub entered-within : (v now : WorldView) (who d : ℕ) → v ≡ now → HomesWithin (length v.stores) v.homes → d < length now.stores → HomesWithin (length v.stores) (slice_set v.homes who (Some d))
+entered-within v now who d same all lt =
+    homes-set (length v.stores) v.homes who d (subst (λ (w : WorldView). d < length w.stores) (sym same) lt) all
+
+pub stored-more : (old longer : List DatabaseView) (new : DatabaseView) (homes : List (Option ℕ)) → longer ≡ old ++ new ∷ [] → HomesWithin (length old) homes → HomesWithin (length longer) homes
+stored-more old longer new homes is all =
+    subst (λ n. HomesWithin n homes) (sym (ap length is ∙ length-append old (new ∷ []))) (homes-more (length old) (length old + 1) homes (omega arith) all)
+
+pub length-homes : (homes : List (Option ℕ)) (who : ℕ) (at : Option ℕ) → length (slice_set homes who at) ≡ length homes
+length-homes [] who at = refl
+length-homes (_ ∷ homes) zero at = refl
+length-homes (_ ∷ homes) (suc who) at = ap suc (length-homes homes who at)
+
+-- an entry like those past the end changes nothing that is shown
+pub get_or-push : {A : Type 0} (xs : List A) (d : A) (n : ℕ) → get_or (xs ++ d ∷ []) n d ≡ get_or xs n d
+get_or-push [] d zero = refl
+get_or-push [] d (suc n) = refl
+get_or-push (x ∷ xs) d zero = refl
+get_or-push (x ∷ xs) d (suc n) = get_or-push xs d n
+
+get_or-changed : {A : Type 0} (xs : List A) (i n : ℕ) (x d : A) → i < length xs → get_or (slice_set xs i x) n d ≡ (if i == n then x else get_or xs n d)
+get_or-changed xs i n x d lt = by (i == n) refl
+  where
+    by : (b : Bool) → (i == n) ≡ b → get_or (slice_set xs i x) n d ≡ (if b then x else get_or xs n d)
+    by true e = let same : i ≡ n = grind (arith, nat_tests) in ap (λ m. get_or (slice_set xs i x) m d) (sym same) ∙ get_or-set_same xs i x d lt
+    by false e = let other : n ≢ i = grind (arith, nat_tests) in get_or-set_other xs i n x d other
+
+-- a session that opened a database
+pub entered-as : (v now : WorldView) (who d : ℕ) → v ≡ now → who < length v.homes
+    → seen_world (record v { homes = slice_set v.homes who (Some d) }) ≡ after_fact (seen_world now) (entered who d)
+entered-as v now who d same lt =
+    (λ i. record (seen_world v) { homes = λ n. get_or-changed v.homes who n (Some d) None lt i })
+    ∙ ap (λ w. after_fact (seen_world w) (entered who d)) same
+
+-- a session that appeared has none open
+pub appeared-as : (v now : WorldView) (sessions : List (List ℕ)) (homes : List (Option ℕ)) (name copied : List ℕ) → v ≡ now → sessions ≡ v.sessions ++ copied ∷ [] → copied ≡ name
+    → homes ≡ v.homes ++ None ∷ [] → seen_world (record v { sessions = sessions; homes = homes }) ≡ after_fact (seen_world now) (appeared name)
+appeared-as v now sessions homes name copied same more is longer =
+    (λ i. record (seen_world v) {
+      sessions = (more ∙ ap (λ n. v.sessions ++ n ∷ []) is) i;
+      homes = (ap (λ (hs : List (Option ℕ)). λ n. get_or hs n None) longer ∙ (λ j n. get_or-push v.homes None n j)) i;
+    })
+    ∙ ap (λ w. after_fact (seen_world w) (appeared name)) same
+
+-- a database that is made shows nothing yet
+pub founded-as : (v now : WorldView) (names : List (List ℕ)) (stores : List DatabaseView) (new : DatabaseView) (name copied : List ℕ) → v ≡ now → names ≡ v.databases ++ copied ∷ [] → copied ≡ name
+    → stores ≡ v.stores ++ new ∷ [] → new ≡ no_database → seen_world (record v { databases = names; stores = stores }) ≡ after_fact (seen_world now) (founded name)
+founded-as v now names stores new name copied same more is longer empty =
+    (λ i. record (seen_world v) {
+      databases = (more ∙ ap (λ n. v.databases ++ n ∷ []) is) i;
+      database = (ap (λ (ds : List DatabaseView). λ n. seen_database (get_or ds n no_database)) (longer ∙ ap (λ x. v.stores ++ x ∷ []) empty)
+          ∙ (λ j n. seen_database (get_or-push v.stores no_database n j))) i;
+    })
+    ∙ ap (λ w. after_fact (seen_world w) (founded name)) same
+
+-- what a statement of a database gives in the world
+pub gives-within : (v now : WorldView) (d who : ℕ) (old new : DatabaseView) (stmt : Stmt) (reply : Reply) → v ≡ now → d < length v.stores
+    → get_or v.stores d no_database ≡ old
+    → ((w : ℕ) → Gives (seen_database old) (seen_database new) reply (settled (statement (seen_database old) (selected (seen_database old)) v.now w stmt)))
+    → GivesDeed (seen_world now) (seen_world (record v { stores = slice_set v.stores d new })) reply
+    (deed_in d (settled (statement ((seen_world now).database d) (selected ((seen_world now).database d)) now.now who stmt)))
+gives-within v now d who old new stmt reply same lt there gives = record {
+  replied = (gives who).replied ∙ ap Outcome.reply outcome_is;
+  changed = shown
+      ∙ ap (λ (x : Outcome). record (seen_world v) { database = changed_at d (λ y. after_marks y x.marks) (seen_world v).database }) outcome_is
+      ∙ sym (after_facts-within (seen_world v) d (settled (statement ((seen_world now).database d) (selected ((seen_world now).database d)) now.now who stmt)).marks)
+      ∙ ap (λ w. after_facts (seen_world w) (deed_in d (settled (statement ((seen_world now).database d) (selected ((seen_world now).database d)) now.now who stmt))).facts) same;
+}
+  where
+    outcome_is : settled (statement (seen_database old) (selected (seen_database old)) v.now who stmt)
+        ≡ settled (statement ((seen_world now).database d) (selected ((seen_world now).database d)) now.now who stmt)
+    outcome_is =
+        ap (λ x. settled (statement (seen_database x) (selected (seen_database x)) v.now who stmt)) (sym there)
+        ∙ ap (λ w. settled (statement ((seen_world w).database d) (selected ((seen_world w).database d)) w.now who stmt)) same
+
+    by : (n : ℕ) (b : Bool) → (d == n) ≡ b → seen_database (if b then new else get_or v.stores n no_database)
+        ≡ (if b then after_marks (seen_database (get_or v.stores n no_database)) (settled (statement (seen_database old) (selected (seen_database old)) v.now who stmt)).marks else seen_database (get_or v.stores n no_database))
+    by n true e =
+        let one : d ≡ n = grind (arith, nat_tests) in
+        (gives who).changed
+        ∙ ap (λ x. after_marks (seen_database x) (settled (statement (seen_database old) (selected (seen_database old)) v.now who stmt)).marks) (sym there)
+        ∙ ap (λ m. after_marks (seen_database (get_or v.stores m no_database)) (settled (statement (seen_database old) (selected (seen_database old)) v.now who stmt)).marks) one
+    by n false e = refl
+
+    shown : seen_world (record v { stores = slice_set v.stores d new })
+        ≡ record (seen_world v) { database = changed_at d (λ y. after_marks y (settled (statement (seen_database old) (selected (seen_database old)) v.now who stmt)).marks) (seen_world v).database }
+    shown = λ i. record (seen_world v) {
+      database = λ n. (ap seen_database (get_or-changed v.stores d n new no_database lt) ∙ by n (d == n) refl) i;
+    }
+
+pub gives-run : (v now : WorldView) (d who : ℕ) (old new : DatabaseView) (stmt : Stmt) (reply : Reply) (t : ℤ) → v ≡ now → d < length now.stores → old ≡ get_or v.stores d old → t ≡ v.now
+    → ((w : ℕ) → Gives (seen_database old) (seen_database new) reply (settled (statement (seen_database old) (selected (seen_database old)) t w stmt)))
+    → GivesDeed (seen_world now) (seen_world (record v { stores = slice_set v.stores d new })) reply
+    (deed_in d (settled (statement ((seen_world now).database d) (selected ((seen_world now).database d)) now.now who stmt)))
+gives-run v now d who old new stmt reply t same lt at is gives =
+    let there : d < length v.stores = subst (λ (w : WorldView). d < length w.stores) (sym same) lt in
+    gives-within v now d who old new stmt reply same there
+    (get_or_from_slice_get v.stores d old no_database (slice_get_read v.stores (length v.stores) d old refl there at))
+    (λ w. subst (λ x. Gives (seen_database old) (seen_database new) reply (settled (statement (seen_database old) (selected (seen_database old)) x w stmt))) is (gives w))
+
+-- what a statement does doesn't hang on the names of sessions
+session_does-sessions : (w : World) (names : List (List ℕ)) (f : ℕ → Batch → List Event) (who : ℕ) (stmt : Stmt) (home : Option ℕ)
+    → session_does (record w { sessions = names }) f who stmt home ≡ session_does w f who stmt home
+session_does-sessions w names f who stmt (Some d) = refl
+session_does-sessions w names f who (OpenDb name) None = by (place_of name w.databases)
+  where
+    by : (found : Option ℕ) → opens (record w { sessions = names }) who name found ≡ opens w who name found
+    by None = refl
+    by (Some d) = refl
+session_does-sessions w names f who (CreateQueue queue) None = refl
+session_does-sessions w names f who (InsertEvent queue ev_type ev_data extra) None = refl
+session_does-sessions w names f who (Ticker queue) None = refl
+session_does-sessions w names f who (ForceTick queue) None = refl
+session_does-sessions w names f who (RegisterConsumer queue consumer) None = refl
+session_does-sessions w names f who (NextBatch queue consumer) None = refl
+session_does-sessions w names f who (GetBatchEvents batch) None = refl
+session_does-sessions w names f who (FinishBatch batch) None = refl
+
+-- a call of a session that is known
+pub answers-known : (old new : World) (call : Call) (who : ℕ) (reply : Reply) → Some who ≡ place_of call.who old.sessions
+    → GivesDeed old new reply (session_does old (λ d. selected (old.database d)) who call.stmt (old.homes who)) → AnswersCall old new call who reply
+answers-known old new call who reply place gives = record {
+  numbered = ap (λ found. number_or_next found old.sessions) place;
+  gives = subst (GivesDeed old new reply) (ap (λ found. called old (λ d. selected (old.database d)) call found) place) gives;
+}
+
+-- a call that would bring a session too many
+pub answers-full : (old : World) (call : Call) (who : ℕ) → place_of call.who old.sessions ≡ None → 256 ≤ length old.sessions → who ≡ length old.sessions
+    → AnswersCall old old call who (Refused (TooMany Sessions))
+answers-full old call who place full is = record {
+  numbered = is ∙ ap (λ found. number_or_next found old.sessions) (sym place);
+  gives = record { replied = ap Deed.reply (sym whole); changed = ap (λ (x : Deed). after_facts old x.facts) (sym whole) };
+}
+  where
+    whole : deed_at old call ≡ refuses (TooMany Sessions)
+    whole =
+        let many : nat_le 256 (length old.sessions) ≡ true = grind (arith, nat_tests) in
+        ap (λ found. called old (λ d. selected (old.database d)) call found) place
+        ∙ ap (λ (b : Bool). if b then refuses (TooMany Sessions) else first (appeared call.who) (session_does old (λ d. selected (old.database d)) (length old.sessions) call.stmt (old.homes (length old.sessions)))) many
+
+-- the first call of a session
+pub answers-new : (old appears new : World) (call : Call) (who : ℕ) (reply : Reply) → place_of call.who old.sessions ≡ None → length old.sessions < 256
+    → appears ≡ after_fact old (appeared call.who) → who ≡ length old.sessions
+    → GivesDeed appears new reply (session_does appears (λ d. selected (appears.database d)) who call.stmt (appears.homes who)) → AnswersCall old new call who reply
+answers-new old appears new call who reply place room is number gives = record {
+  numbered = number ∙ ap (λ found. number_or_next found old.sessions) (sym place);
+  gives = record {
+    replied = gives.replied ∙ ap Deed.reply same ∙ ap Deed.reply (sym whole);
+    changed = gives.changed ∙ ap (λ w. after_facts w (session_does appears (λ d. selected (appears.database d)) who call.stmt (appears.homes who)).facts) is
+        ∙ ap (λ (x : Deed). after_facts (after_fact old (appeared call.who)) x.facts) same
+        ∙ ap (λ (x : Deed). after_facts old x.facts) (sym whole);
+  };
+}
+  where
+    same : session_does appears (λ d. selected (appears.database d)) who call.stmt (appears.homes who)
+        ≡ session_does old (λ d. selected (old.database d)) (length old.sessions) call.stmt (old.homes (length old.sessions))
+    same =
+        ap (λ (w : World). session_does w (λ d. selected (w.database d)) who call.stmt (w.homes who)) is
+        ∙ session_does-sessions old (old.sessions ++ call.who ∷ []) (λ d. selected (old.database d)) who call.stmt (old.homes who)
+        ∙ ap (λ n. session_does old (λ d. selected (old.database d)) n call.stmt (old.homes n)) number
+
+    whole : deed_at old call ≡ first (appeared call.who) (session_does old (λ d. selected (old.database d)) (length old.sessions) call.stmt (old.homes (length old.sessions)))
+    whole =
+        let few : nat_le 256 (length old.sessions) ≡ false = grind (arith, nat_tests) in
+        ap (λ found. called old (λ d. selected (old.database d)) call found) place
+        ∙ ap (λ (b : Bool). if b then refuses (TooMany Sessions) else first (appeared call.who) (session_does old (λ d. selected (old.database d)) (length old.sessions) call.stmt (old.homes (length old.sessions)))) few
+
+-- the answers of a step
+pub steps-answered : (old new : World) (call : Call) (who : ℕ) (reply : Reply) (replies : List (ℕ × Reply)) → replies ≡ (who, reply) ∷ [] → AnswersCall old new call who reply → Steps old new call replies
+steps-answered old new call who reply replies is answers =
+    steps_from_exact old new call replies
+    (is ∙ ap (λ n. (n, reply) ∷ []) answers.numbered
+    ∙ ap (λ r. (number_or_next (place_of call.who old.sessions) old.sessions, r) ∷ []) answers.gives.replied)
+    answers.gives.changed
+
+pub All-one : {A : Type 0} (P : A → Type 0) (x : A) (xs : List A) → xs ≡ x ∷ [] → P x → All P xs
+All-one P x xs is p = subst (All P) (sym is) (All-from_recursion P (x ∷ []) (p, tt))

@@ -1,0 +1,8 @@
+use Rattle.std.proofs.Common.{◌<◌, length, arith}
+use Rattle.sky_world.proofs.Worlds.{answers-new}
+use Rattle.sky_world.proofs.world.World.answer_new.Goals as goal
+
+pub returns-clause-answers : goal.returns-clause-answers
+returns-clause-answers c =
+    let room : length c.args.self.now.sessions < 256 = grind (arith, c.if-who-ge-MAX_SESSIONS.false, c.session_count-who.ensures.count) in
+    answers-new _ _ _ _ _ _ c.requires room c.in_ok-appear.ensures.fact c.session_count-who.ensures.count c.in_ok-reply.ensures.gives

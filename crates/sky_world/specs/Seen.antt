@@ -1,0 +1,65 @@
+-- The readings of the definitions, in what the code keeps.
+use Rattle.std.specs.Prelude.{ℕ, [], None, option_map, map, slice_index_or}
+use Rattle.std.specs.Ordering.{nat_cmp}
+use Rattle.std.specs.BTreeMap.{is_at}
+use Rattle.std.specs.Map.{lookup}
+use Rattle.sky_names.specs.Places.{named}
+use Rattle.sky_model.specs.History as model
+use Rattle.sky_model.specs.Consumers.{Subscription}
+use Rattle.sky_model.specs.State.{Queue, Database}
+use Rattle.sky_model.specs.World.{World}
+use Rattle.sky_world.specs.declared.sub.Sub.{Sub}
+use Rattle.sky_world.specs.declared.batch.Batch.{Batch}
+use Rattle.sky_world.specs.Subs.{consumer_of}
+use Rattle.sky_world.specs.Views.{QueueView, DatabaseView, WorldView}
+
+abbrev pub seen_sub : Sub → Subscription
+seen_sub s = record { id = s.id; position = s.position; active = s.active }
+
+abbrev pub seen_queue : QueueView → Queue
+seen_queue q = record {
+  seq = q.seq;
+  stored = q.events;
+  clock_ticks = q.ticks;
+  members = map consumer_of q.subs;
+  sub = λ name. option_map seen_sub (named consumer_of name q.subs);
+}
+
+-- a queue that isn't made
+abbrev pub no_queue : QueueView
+no_queue = record { seq = 0; events = []; ticks = []; subs = [] }
+
+-- a batch that is kept under an id
+abbrev pub seen_batch : ℕ → Batch → model.Batch
+seen_batch id b = record { id = id; queue = b.queue; consumer = b.consumer; sub = b.sub; prev = b.prev; cur = b.cur }
+
+abbrev pub seen_database : DatabaseView → Database
+seen_database d = record {
+  next = d.trans.next;
+  live = d.trans.running;
+  batch_count = d.batch_count;
+  sub_count = d.sub_count;
+  names = d.names;
+  queue = λ n. seen_queue (slice_index_or d.queues n no_queue);
+  batch = λ id. option_map (seen_batch id) (lookup (is_at (nat_cmp id)) d.batches);
+}
+
+-- a database that isn't made
+abbrev pub no_database : DatabaseView
+no_database = record {
+  trans = record { next = 3; running = [] };
+  batch_count = 0;
+  sub_count = 0;
+  names = [];
+  queues = [];
+  batches = [];
+}
+
+abbrev pub seen_world : WorldView → World
+seen_world w = record {
+  now = w.now;
+  sessions = w.sessions;
+  databases = w.databases;
+  homes = λ who. slice_index_or w.homes who None;
+  database = λ d. seen_database (slice_index_or w.stores d no_database);
+}

@@ -1,0 +1,28 @@
+-- What contracts see of a queue, a database and the world, as the code keeps them.
+use Rattle.std.specs.Prelude.{ℕ, ℤ, List, Option}
+use Rattle.sky_val.specs.declared.event.Event.{Event}
+use Rattle.sky_trans.specs.Trans.{TransView}
+use Rattle.sky_world.specs.declared.batch.Batch.{Batch}
+use Rattle.sky_model.specs.Queues.{Tick}
+use Rattle.sky_world.specs.declared.sub.Sub.{Sub}
+
+pub record QueueView : Type 0 where
+  pub seq : ℕ
+  pub events : List Event
+  pub ticks : List Tick
+  pub subs : List Sub
+
+pub record DatabaseView : Type 0 where
+  pub trans : TransView
+  pub batch_count : ℕ
+  pub sub_count : ℕ
+  pub names : List (List ℕ)
+  pub queues : List QueueView
+  pub batches : List (ℕ × Batch)
+
+pub record WorldView : Type 0 where
+  pub now : ℤ
+  pub sessions : List (List ℕ)
+  pub homes : List (Option ℕ)
+  pub databases : List (List ℕ)
+  pub stores : List DatabaseView

@@ -1,0 +1,289 @@
+ghost use Rattle.std.specs.Prelude.{◌≡◌, ℕ, ◌+◌, ◌<◌, ◌≤◌, [], Some, None, IfOk, OnOk, IfSome, All, length};
+ghost use Rattle.sky_names.specs.Places.{place_of};
+ghost use Rattle.sky_model.specs.History.{appeared, founded, entered};
+ghost use Rattle.sky_model.specs.Printed.{HaveMoments, ReplyHasMoments};
+ghost use Rattle.sky_model.specs.Selection.{selected};
+ghost use Rattle.sky_model.specs.World.{world_of, after_fact, opens, unopened, session_does};
+ghost use Rattle.sky_model.specs.Steps.{Steps};
+ghost use Rattle.sky_world.specs.Seen.{seen_world};
+ghost use Rattle.sky_world.specs.GivesDeed.{GivesDeed, AnswersCall};
+
+use crate::database::Database;
+use sky_model::{Limit, Refusal, Replies, Reply, Stmt};
+use sky_names::Names;
+use sky_val::{NoMemory, SessionId, Text};
+use std::alloc::{AllocError, Global};
+use std::marker::Model;
+
+/// How many sessions a script may have.
+const MAX_SESSIONS: SessionId = 256;
+
+/// How many databases there may be.
+const MAX_DATABASES: usize = 16;
+
+/// An answer, and the session that it goes to.
+#[derive(Drop)]
+struct Answer {
+    who: SessionId,
+    reply: Reply,
+}
+
+/// The sessions and databases of a script, and the clock, which stands at its start.
+#[derive(Drop)]
+pub struct World {
+    alloc: Global,
+    clock: i64,
+    sessions: Names,
+    homes: Vec<Option<usize>>,
+    databases: Names,
+    stores: Vec<Database>,
+}
+
+impl Model for World {
+    ghost use Rattle.std.specs.Prelude.{◌≡◌, ◌≤◌, length};
+    ghost use Rattle.sky_world.specs.Views.{WorldView};
+    ghost use Rattle.sky_world.specs.Ticks.{IsTime};
+    ghost use Rattle.sky_world.specs.Homes.{HomesWithin};
+
+    ghost Value = { WorldView };
+
+    ghost view = { λ w. record {
+      now = w.clock;
+      sessions = w.sessions;
+      homes = w.homes.items;
+      databases = w.databases;
+      stores = w.stores.items;
+    } };
+
+    ghost invariant = { λ w. IsTime w.clock × (length w.homes.items ≡ length w.sessions)
+        × (length w.stores.items ≡ length w.databases) × HomesWithin (length w.stores.items) w.homes.items };
+}
+
+impl World {
+    /// A world in which nothing has happened.
+    pub fn new(alloc: Global) -> World
+        ensures { seen_world result ≡ world_of [] }
+    {
+        World {
+            alloc,
+            clock: 0,
+            sessions: Names::new(alloc),
+            homes: Vec::new(alloc),
+            databases: Names::new(alloc),
+            stores: Vec::new(alloc),
+        }
+    }
+
+    /// The names of the sessions, in the order of their first lines: a session's number is its place.
+    pub fn session_names(&self) -> &[Text]
+        ensures { result.now ≡ (seen_world self.now).sessions }
+    {
+        self.sessions.as_slice()
+    }
+
+    /// Runs a statement of the session of this name, and answers it. After want of memory nothing is said
+    /// of the world.
+    pub fn step(&mut self, name: &Text, stmt: &Stmt) -> Result<Replies, NoMemory>
+        ensures steps { IfOk result (λ replies. Steps (seen_world self.old) (seen_world self.new) (record { who = name.now; stmt = stmt.now }) replies) }
+        ensures numbered { IfOk result (λ replies. All (λ answer. answer.0 ≤ length (seen_world self.new).sessions) replies) }
+        ensures times { IfOk result (λ replies. HaveMoments replies) }
+    {
+        let answer = self.answer(name, stmt)?;
+        let mut replies = Replies::new(self.alloc);
+        replies.push(answer.who, answer.reply)?;
+        Ok(replies)
+    }
+
+    fn answer(&mut self, name: &Text, stmt: &Stmt) -> Result<Answer, AllocError>
+        ensures answers { IfOk result (λ answer. AnswersCall (seen_world self.old) (seen_world self.new) (record { who = name.now; stmt = stmt.now }) answer.who answer.reply) }
+        ensures numbered { IfOk result (λ answer. answer.who ≤ length self.new.sessions) }
+        ensures moments { IfOk result (λ answer. ReplyHasMoments answer.reply) }
+    {
+        match self.number(name) {
+            Some(who) => self.answer_known(who, name, stmt),
+            None => self.answer_new(name, stmt),
+        }
+    }
+
+    fn answer_known(
+        &mut self,
+        who: SessionId,
+        name: &Text,
+        stmt: &Stmt,
+    ) -> Result<Answer, AllocError>
+        requires known { Some who ≡ place_of name.now self.old.sessions }
+        requires within { who < length self.old.homes }
+        ensures answers { IfOk result (λ answer. AnswersCall (seen_world self.old) (seen_world self.new) (record { who = name.now; stmt = stmt.now }) answer.who answer.reply) }
+        ensures numbered { IfOk result (λ answer. answer.who ≤ length self.new.sessions) }
+        ensures moments { IfOk result (λ answer. ReplyHasMoments answer.reply) }
+    {
+        let reply = self.run(who, stmt)?;
+        Ok(Answer { who, reply })
+    }
+
+    fn answer_new(&mut self, name: &Text, stmt: &Stmt) -> Result<Answer, AllocError>
+        requires { place_of name.now self.old.sessions ≡ None }
+        ensures answers { IfOk result (λ answer. AnswersCall (seen_world self.old) (seen_world self.new) (record { who = name.now; stmt = stmt.now }) answer.who answer.reply) }
+        ensures numbered { IfOk result (λ answer. answer.who ≤ length self.new.sessions) }
+        ensures moments { IfOk result (λ answer. ReplyHasMoments answer.reply) }
+    {
+        let who = self.session_count();
+        if who >= MAX_SESSIONS {
+            let reply = Reply::Refused(Refusal::TooMany(Limit::Sessions));
+            return Ok(Answer { who, reply });
+        }
+        self.appear(name)?;
+        let reply = self.run(who, stmt)?;
+        Ok(Answer { who, reply })
+    }
+
+    fn number(&self, name: &Text) -> Option<SessionId>
+        ensures number { result ≡ place_of name.now self.now.sessions }
+        ensures within { IfSome result (λ who. who < length self.now.homes) }
+    {
+        let _ = &self.homes;
+        self.sessions.number(name)
+    }
+
+    fn session_count(&self) -> SessionId
+        ensures count { result ≡ length self.now.sessions }
+        ensures homes { result ≡ length self.now.homes }
+    {
+        self.sessions.len() as SessionId
+    }
+
+    /// A new session, which has no database open.
+    fn appear(&mut self, name: &Text) -> Result<(), AllocError>
+        requires new { place_of name.now self.old.sessions ≡ None }
+        requires room { length self.old.sessions < 256 }
+        ensures fact { OnOk result (seen_world self.new ≡ after_fact (seen_world self.old) (appeared name.now)) }
+        ensures homes { OnOk result (length self.new.homes ≡ length self.old.homes + 1) }
+        ensures sessions { OnOk result (length self.new.sessions ≡ length self.old.sessions + 1) }
+    {
+        let copied = name.copy(self.alloc)?;
+        self.homes.reserve(1)?;
+        self.sessions.add(copied)?;
+        self.homes.push_reserved(None);
+        Ok(())
+    }
+
+    /// Runs a statement of a session.
+    fn run(&mut self, who: SessionId, stmt: &Stmt) -> Result<Reply, AllocError>
+        requires { who < length self.old.homes }
+        ensures gives { IfOk result (λ reply. GivesDeed (seen_world self.old) (seen_world self.new) reply
+            (session_does (seen_world self.old) (λ d. selected ((seen_world self.old).database d)) who stmt.now ((seen_world self.old).homes who))) }
+        ensures moments { IfOk result ReplyHasMoments }
+        ensures sessions { OnOk result (self.new.sessions ≡ self.old.sessions) }
+    {
+        match self.home(who) {
+            Some(database) => self.run_in(database, stmt),
+            None => self.run_unopened(who, stmt),
+        }
+    }
+
+    /// The database that a session has open.
+    fn home(&self, who: SessionId) -> Option<usize>
+        requires { who < length self.now.homes }
+        ensures home { result ≡ (seen_world self.now).homes who }
+        ensures within { IfSome result (λ d. d < length self.now.stores) }
+    {
+        self.homes[who as usize]
+    }
+
+    fn run_in(&mut self, database: usize, stmt: &Stmt) -> Result<Reply, AllocError>
+        requires { database < length self.old.stores }
+        ensures gives { IfOk result (λ reply. (who : ℕ) → GivesDeed (seen_world self.old) (seen_world self.new) reply
+            (session_does (seen_world self.old) (λ d. selected ((seen_world self.old).database d)) who stmt.now (Some database))) }
+        ensures moments { IfOk result ReplyHasMoments }
+        ensures sessions { OnOk result (self.new.sessions ≡ self.old.sessions) }
+    {
+        let reply = self.stores[database].run(self.clock, stmt)?;
+        Ok(reply)
+    }
+
+    fn run_unopened(&mut self, who: SessionId, stmt: &Stmt) -> Result<Reply, AllocError>
+        requires { who < length self.old.homes }
+        ensures gives { IfOk result (λ reply. GivesDeed (seen_world self.old) (seen_world self.new) reply (unopened (seen_world self.old) who stmt.now)) }
+        ensures moments { IfOk result ReplyHasMoments }
+        ensures sessions { OnOk result (self.new.sessions ≡ self.old.sessions) }
+    {
+        match stmt {
+            Stmt::OpenDb { name } => self.open_database(who, name),
+            _ => Ok(Reply::Refused(Refusal::NotOpen)),
+        }
+    }
+
+    /// `open NAME` of a session that has none open: the database is made where it is new.
+    fn open_database(&mut self, who: SessionId, name: &Text) -> Result<Reply, AllocError>
+        requires { who < length self.old.homes }
+        ensures gives { IfOk result (λ reply. GivesDeed (seen_world self.old) (seen_world self.new) reply
+            (opens (seen_world self.old) who name.now (place_of name.now (seen_world self.old).databases))) }
+        ensures moments { IfOk result ReplyHasMoments }
+        ensures sessions { OnOk result (self.new.sessions ≡ self.old.sessions) }
+    {
+        match self.database_number(name) {
+            Some(database) => {
+                self.enter(who, database);
+                Ok(Reply::Done)
+            }
+            None => self.found_database(who, name),
+        }
+    }
+
+    fn found_database(&mut self, who: SessionId, name: &Text) -> Result<Reply, AllocError>
+        requires who { who < length self.old.homes }
+        requires new { place_of name.now self.old.databases ≡ None }
+        ensures gives { IfOk result (λ reply. GivesDeed (seen_world self.old) (seen_world self.new) reply (opens (seen_world self.old) who name.now None)) }
+        ensures moments { IfOk result ReplyHasMoments }
+        ensures sessions { OnOk result (self.new.sessions ≡ self.old.sessions) }
+    {
+        let number = self.database_count();
+        if number >= MAX_DATABASES {
+            return Ok(Reply::Refused(Refusal::TooMany(Limit::Databases)));
+        }
+        self.found(name)?;
+        self.enter(who, number);
+        Ok(Reply::Done)
+    }
+
+    fn database_number(&self, name: &Text) -> Option<usize>
+        ensures number { result ≡ place_of name.now self.now.databases }
+        ensures within { IfSome result (λ d. d < length self.now.stores) }
+    {
+        let _ = &self.stores;
+        let number = self.databases.number(name)?;
+        Some(number as usize)
+    }
+
+    fn database_count(&self) -> usize
+        ensures count { result ≡ length self.now.databases }
+        ensures stores { result ≡ length self.now.stores }
+    {
+        self.databases.len()
+    }
+
+    /// A new database, in which nothing has happened.
+    fn found(&mut self, name: &Text) -> Result<(), AllocError>
+        requires new { place_of name.now self.old.databases ≡ None }
+        requires room { length self.old.databases < 16 }
+        ensures fact { OnOk result (seen_world self.new ≡ after_fact (seen_world self.old) (founded name.now)) }
+        ensures homes { OnOk result (self.new.homes ≡ self.old.homes) }
+        ensures stores { OnOk result (length self.new.stores ≡ length self.old.stores + 1) }
+        ensures sessions { OnOk result (self.new.sessions ≡ self.old.sessions) }
+    {
+        let copied = name.copy(self.alloc)?;
+        self.stores.reserve(1)?;
+        self.databases.add(copied)?;
+        self.stores.push_reserved(Database::new(self.alloc));
+        Ok(())
+    }
+
+    fn enter(&mut self, who: SessionId, database: usize)
+        requires who { who < length self.old.homes }
+        requires database { database < length self.old.stores }
+        ensures fact { seen_world self.new ≡ after_fact (seen_world self.old) (entered who database) }
+        ensures sessions { self.new.sessions ≡ self.old.sessions }
+    {
+        self.homes[who as usize] = Some(database);
+    }
+}
