@@ -1,0 +1,177 @@
+-- How a run ends.
+use Rattle.std.proofs.Common.{◌≡◌, ℕ, List, [], ◌∷◌, ◌++◌, refl, sym, ap, subst, ◌∙◌, append_assoc, append-nil}
+use Rattle.std.specs.Prelude.{Option, Some, None}
+use Rattle.std.specs.Io.KnownBytes.{Appends}
+use Rattle.sky_io.specs.Appends.{AppendsPrefix}
+use Rattle.sky_io.proofs.AppendsLemmas.{Appends-both}
+use Rattle.sky_model.specs.Transcript.{said, transcript, transcript_from, bad_line, bad_line_from}
+use Rattle.sky_model.specs.World.{World, past_of}
+use Rattle.sky_model.proofs.Splitting.{IsUnbroken}
+use Rattle.sky_model.proofs.Scripts.{StopsHere, transcript_from-unbroken, said-fits, said-too_late, stops_at_line, stops_unended, stops_too_long}
+use Rattle.sky_script.specs.declared.reader.LineFault.{LineFault}
+use Rattle.sky_script.specs.declared.reader.LineFault.TheVariants as faults
+use Rattle.sky_script.specs.Reader.{Reader, TakesLine, EndsLines, StartsBad, Kept}
+use Rattle.sky_run.specs.declared.end.End.{End}
+use Rattle.sky_run.specs.declared.end.End.TheVariants.{Whole, Bad, Read, Write, NoMemory}
+use Rattle.sky_run.specs.Running.{GoesOn, call_in}
+use Rattle.sky_run.proofs.RunningLemmas.{GoesOn-read, GoesOn-taken}
+use Rattle.sky_run.specs.Ends.{Why, Ends, NotBuilt, IsCut, end_of}
+
+-- what was written and gathered, and what the rest of the script prints, is what the script prints
+prints_all : {world : World} {n taken : ℕ} {pending gathered : List ℕ} {source first held : Option (List ℕ)} {bytes : List ℕ} (left : List ℕ)
+    → (g : GoesOn world n taken pending gathered source first held bytes) → g.left ≡ left
+    → (g.written ++ gathered) ++ transcript_from (past_of g.calls) n taken (pending ++ left) ≡ transcript bytes
+prints_all left g same = sym (ap transcript (g.bytes_are ∙ ap (λ l. g.read ++ l) same) ∙ g.prints left)
+
+is_bad_all : {world : World} {n taken : ℕ} {pending gathered : List ℕ} {source first held : Option (List ℕ)} {bytes : List ℕ} (left : List ℕ)
+    → (g : GoesOn world n taken pending gathered source first held bytes) → g.left ≡ left → bad_line bytes ≡ bad_line_from n taken (pending ++ left)
+is_bad_all left g same = ap bad_line (g.bytes_are ∙ ap (λ l. g.read ++ l) same) ∙ g.is_bad left
+
+-- nothing is left
+pub Ends-whole : {world : World} {n taken : ℕ} {pending gathered : List ℕ} {source first held : Option (List ℕ)} {bytes : List ℕ} (after : Option (List ℕ)) (left : List ℕ)
+    → GoesOn world n taken pending gathered source first held bytes → source ≡ Some left → pending ++ left ≡ [] → after ≡ Some [] → Ends Whole after first held gathered bytes
+Ends-whole {n = n} {taken = taken} {gathered = gathered} after left g told nothing at_end =
+    let same : g.left ≡ left = cc (g.told, told) in
+    let whole = ap (λ u. (g.written ++ gathered) ++ transcript_from (past_of g.calls) n taken u) (sym nothing) ∙ prints_all left g same in
+    record {
+      written = g.written;
+      rest = [];
+      appends = g.appends;
+      begins = whole;
+      why = record {
+        at_end = at_end;
+        none_bad = is_bad_all left g same ∙ ap (λ u. bad_line_from n taken u) nothing;
+        printed = sym (append-nil (g.written ++ gathered)) ∙ whole;
+      };
+    }
+
+-- what is left starts with a bad line
+pub Ends-bad : {world : World} {n taken : ℕ} {pending gathered : List ℕ} {source first held : Option (List ℕ)} {bytes : List ℕ} (after : Option (List ℕ)) (left : List ℕ)
+    → GoesOn world n taken pending gathered source first held bytes → source ≡ Some left → StopsHere n taken (pending ++ left) → Ends (Bad n) after first held gathered bytes
+Ends-bad {n = n} {taken = taken} {gathered = gathered} after left g told stops =
+    let same : g.left ≡ left = cc (g.told, told) in
+    let whole = ap (λ text. (g.written ++ gathered) ++ text) (sym (stops.says_nothing (past_of g.calls))) ∙ prints_all left g same in
+    record {
+      written = g.written;
+      rest = [];
+      appends = g.appends;
+      begins = whole;
+      why = record { is_bad = is_bad_all left g same ∙ stops.is_bad; printed = sym (append-nil (g.written ++ gathered)) ∙ whole };
+    }
+
+-- the source fails within a line
+pub Ends-read : {world : World} {n taken : ℕ} {unread gathered : List ℕ} {after first held : Option (List ℕ)} {bytes : List ℕ}
+    → GoesOn world n taken unread gathered after first held bytes → IsUnbroken unread → Ends Read after first held gathered bytes
+Ends-read {n = n} {taken = taken} {unread = unread} {gathered = gathered} g unbroken = record {
+  written = g.written;
+  rest = transcript_from (past_of g.calls) n taken (unread ++ g.left);
+  appends = g.appends;
+  begins = prints_all g.left g refl;
+  why = record {
+    given = g.read;
+    left = g.left;
+    after_is = g.told;
+    bytes_are = g.bytes_are;
+    printed = sym (ap transcript (sym (append-nil g.read)) ∙ g.prints [] ∙ ap (λ u. (g.written ++ gathered) ++ transcript_from (past_of g.calls) n taken u) (append-nil unread)
+        ∙ ap (λ text. (g.written ++ gathered) ++ text) (transcript_from-unbroken (past_of g.calls) n taken unread unbroken) ∙ append-nil (g.written ++ gathered));
+  };
+}
+
+-- memory is refused
+pub Ends-no_memory : {world : World} {n taken : ℕ} {pending gathered : List ℕ} {source first held : Option (List ℕ)} {bytes : List ℕ} (after : Option (List ℕ))
+    → GoesOn world n taken pending gathered source first held bytes → Ends NoMemory after first held gathered bytes
+Ends-no_memory {n = n} {taken = taken} {pending = pending} after g = record {
+  written = g.written;
+  rest = transcript_from (past_of g.calls) n taken (pending ++ g.left);
+  appends = g.appends;
+  begins = prints_all g.left g refl;
+  why = tt;
+}
+
+-- what was gathered is written
+pub Ends-written : {end : End} {after first held : Option (List ℕ)} {gathered bytes : List ℕ} (new_held : Option (List ℕ))
+    → Ends end after first held gathered bytes → Appends held new_held gathered → Ends end after first new_held [] bytes
+Ends-written {end = end} {after = after} {first = first} {held = held} {gathered = gathered} {bytes = bytes} new_held e appends =
+    let same = sym (append-nil (e.written ++ gathered)) in
+    record {
+      written = e.written ++ gathered;
+      rest = e.rest;
+      appends = Appends-both first held new_held e.written gathered e.appends appends;
+      begins = ap (λ text. text ++ e.rest) (sym same) ∙ e.begins;
+      why = subst (λ text. Why end after text bytes) same e.why;
+    }
+
+-- a part of it is written
+part : {end : End} {after first held : Option (List ℕ)} {gathered bytes : List ℕ} (cut : End) (new_after new_held : Option (List ℕ))
+    → Ends end after first held gathered bytes → AppendsPrefix held new_held gathered → ((text : List ℕ) → Why cut new_after text bytes) → Ends cut new_after first new_held [] bytes
+part {first = first} {held = held} {gathered = gathered} cut new_after new_held e prefix why = record {
+  written = e.written ++ prefix.got;
+  rest = prefix.rest ++ e.rest;
+  appends = Appends-both first held new_held e.written prefix.got e.appends prefix.appends;
+  begins = ap (λ text. text ++ (prefix.rest ++ e.rest)) (append-nil (e.written ++ prefix.got))
+      ∙ sym (append_assoc (e.written ++ prefix.got) prefix.rest e.rest)
+      ∙ ap (λ text. text ++ e.rest) (append_assoc e.written prefix.got prefix.rest ∙ ap (λ text. e.written ++ text) prefix.whole)
+      ∙ e.begins;
+  why = why ((e.written ++ prefix.got) ++ []);
+}
+
+pub Ends-cut : {end : End} {after first held : Option (List ℕ)} {gathered bytes : List ℕ} (cut : End) (new_after new_held : Option (List ℕ))
+    → Ends end after first held gathered bytes → AppendsPrefix held new_held gathered → IsCut cut → Ends cut new_after first new_held [] bytes
+Ends-cut Whole new_after new_held e prefix is_cut = absurd is_cut
+Ends-cut (Bad n) new_after new_held e prefix is_cut = absurd is_cut
+Ends-cut Read new_after new_held e prefix is_cut = absurd is_cut
+Ends-cut Write new_after new_held e prefix is_cut = part Write new_after new_held e prefix (λ text. tt)
+Ends-cut NoMemory new_after new_held e prefix is_cut = part NoMemory new_after new_held e prefix (λ text. tt)
+
+-- the same where the run would have gone on
+pub GoesOn-cut : {world : World} {n taken : ℕ} {pending gathered : List ℕ} {source first held : Option (List ℕ)} {bytes : List ℕ} (cut : End) (after new_held : Option (List ℕ))
+    → AppendsPrefix held new_held gathered → IsCut cut → GoesOn world n taken pending gathered source first held bytes → Ends cut after first new_held [] bytes
+GoesOn-cut cut after new_held prefix is_cut g = Ends-cut cut after new_held (Ends-no_memory after g) prefix is_cut
+
+-- the reader met the end
+pub GoesOn-end : {world : World} {n : ℕ} {gathered : List ℕ} {source first held : Option (List ℕ)} {bytes : List ℕ} (old new : Reader) (after : Option (List ℕ))
+    → ((left : List ℕ) → source ≡ Some left → EndsLines old new left after) → GoesOn world n old.taken old.pending gathered source first held bytes → Ends Whole after first held gathered bytes
+GoesOn-end old new after ended g = let ends = ended g.left g.told in Ends-whole after g.left g g.told ends.nothing_left ends.after_is
+
+-- a line isn't built
+pub GoesOn-not_built : {world : World} {n : ℕ} {gathered : List ℕ} {source first held : Option (List ℕ)} {bytes : List ℕ} (end : End) (old new : Reader) (after : Option (List ℕ)) (line : List ℕ)
+    → ((left : List ℕ) → source ≡ Some left → TakesLine old new left after line) → NotBuilt end n (call_in n line)
+    → GoesOn world n old.taken old.pending gathered source first held bytes → Ends end after first held gathered bytes
+GoesOn-not_built Whole old new after line line_taken not_built g = absurd not_built
+GoesOn-not_built {n = n} (Bad k) old new after line line_taken not_built g =
+    let takes = line_taken g.left g.told in
+    let says : said n old.taken line ≡ None = said-fits n old.taken line takes.line_fits (rw (← takes.taken_is) takes.script_fits) ∙ not_built.1 in
+    let stops = subst (StopsHere n old.taken) (sym (append_assoc line (10 ∷ new.pending) takes.rest)) (stops_at_line n old.taken line (new.pending ++ takes.rest) takes.unbroken says) in
+    rw not_built.0 (Ends-bad after takes.rest (GoesOn-taken old new g.left after line g g.told takes) takes.after_is stops)
+GoesOn-not_built Read old new after line line_taken not_built g = absurd not_built
+GoesOn-not_built Write old new after line line_taken not_built g = absurd not_built
+GoesOn-not_built NoMemory old new after line line_taken not_built g = Ends-no_memory after g
+
+-- what a reader calls bad is bad
+StopsHere-fault : (fault : LineFault) (n taken : ℕ) (bytes : List ℕ) → StartsBad fault taken bytes → (fault ≡ faults.Read → ⊥) → (fault ≡ faults.NoMemory → ⊥) → StopsHere n taken bytes
+StopsHere-fault faults.Read n taken bytes bad not_read not_memory = absurd (not_read refl)
+StopsHere-fault faults.TooLong n taken bytes bad not_read not_memory =
+    subst (StopsHere n taken) (sym bad.bytes_are) (stops_too_long n taken bad.line bad.more bad.unbroken bad.too_long)
+StopsHere-fault faults.Truncated n taken bytes bad not_read not_memory = stops_unended n taken bytes bad.unbroken bad.some
+StopsHere-fault faults.ScriptTooLong n taken bytes bad not_read not_memory =
+    subst (StopsHere n taken) (sym bad.bytes_are) (stops_at_line n taken bad.line bad.more bad.unbroken (said-too_late n taken bad.line bad.too_late))
+StopsHere-fault faults.NoMemory n taken bytes bad not_read not_memory = absurd (not_memory refl)
+
+-- the reader gave a fault
+pub GoesOn-fault : {world : World} {n : ℕ} {gathered : List ℕ} {source first held : Option (List ℕ)} {bytes : List ℕ} (fault : LineFault) (old new : Reader) (after : Option (List ℕ))
+    → ((left : List ℕ) → source ≡ Some left → StartsBad fault old.taken (old.pending ++ left)) → (fault ≡ faults.Read → (left : List ℕ) → source ≡ Some left → Kept old new left after)
+    → GoesOn world n old.taken old.pending gathered source first held bytes → Ends (end_of fault n) after first held gathered bytes
+GoesOn-fault faults.Read old new after bad kept g =
+    let keeps = kept refl g.left g.told in
+    Ends-read (GoesOn-read after g.left keeps.got keeps.rest new.pending g g.told keeps.left_is keeps.after_is (sym keeps.pending_is)) keeps.unbroken
+GoesOn-fault {n = n} faults.TooLong old new after bad kept g =
+    Ends-bad after g.left g g.told (StopsHere-fault faults.TooLong n old.taken (old.pending ++ g.left) (bad g.left g.told) (λ e. cc) (λ e. cc))
+GoesOn-fault {n = n} faults.Truncated old new after bad kept g =
+    Ends-bad after g.left g g.told (StopsHere-fault faults.Truncated n old.taken (old.pending ++ g.left) (bad g.left g.told) (λ e. cc) (λ e. cc))
+GoesOn-fault {n = n} faults.ScriptTooLong old new after bad kept g =
+    Ends-bad after g.left g g.told (StopsHere-fault faults.ScriptTooLong n old.taken (old.pending ++ g.left) (bad g.left g.told) (λ e. cc) (λ e. cc))
+GoesOn-fault faults.NoMemory old new after bad kept g = Ends-no_memory after g
+
+-- what the sink got is a prefix of what the script prints
+pub Ends-prefix : {end : End} {after first held : Option (List ℕ)} {bytes : List ℕ} → Ends end after first held [] bytes → AppendsPrefix first held (transcript bytes)
+Ends-prefix e = record { got = e.written; rest = e.rest; appends = e.appends; whole = ap (λ text. text ++ e.rest) (sym (append-nil e.written)) ∙ e.begins }

@@ -1,0 +1,4 @@
+pub mod RunningLemmas
+pub mod EndLemmas
+pub mod ParsedLemmas
+pub mod StatusLemmas

@@ -1,0 +1,16 @@
+use Rattle.std.proofs.Common.{ℕ, List, Option, ◌≤◌, ◌-◌}
+use Rattle.sky_model.specs.Transcript.{most_in_script}
+use Rattle.sky_run.specs.Goes.{Counts, Goes}
+use Rattle.sky_run.proofs.run.Run.finish.Given as goal
+
+abbrev pub invariant-lines : goal.invariant-lines
+invariant-lines g l = record {
+  goes : (first : Option (List ℕ)) (bytes : List ℕ) → Goes l.initial.self (g.S.Source.left l.initial.src) first (g.O.Sink.held l.initial.out) bytes
+      → Goes l.self (g.S.Source.left l.src) first (g.O.Sink.held l.out) bytes;
+  counts : Counts l.self;
+  src_kept : g.S.Source.faults l.initial.src ≤ g.S.Source.faults l.src;
+  out_kept : g.O.Sink.faults l.initial.out ≤ g.O.Sink.faults l.out;
+}
+
+abbrev pub decreases-lines : goal.decreases-lines
+decreases-lines g l = most_in_script - l.self.reader.taken

@@ -1,0 +1,28 @@
+use Rattle.std.proofs.Common.{Err, ap}
+use Rattle.sky_run.proofs.ParsedLemmas.{OnOk-both, IfErr-both}
+use Rattle.sky_run.proofs.RunningLemmas.{GoesOn-line}
+use Rattle.sky_run.proofs.EndLemmas.{GoesOn-not_built, GoesOn-fault}
+use Rattle.sky_run.proofs.run.Run.line.Goals as goal
+
+pub returns-in-Ok-Some-clause-goes : goal.returns-in-Ok-Some-clause-goes
+returns-in-Ok-Some-clause-goes g c =
+    let takes = rw c.in-Ok-Some.field-0-is at c.in-Ok-Some.ensures.line in
+    let line_is = c.as_slice.ensures.value in
+    OnOk-both c.answer.result c.answer.ensures.answers c.answer.ensures.number
+    (λ answers number first held bytes goes. rw (number, c.answer.ensures.reader)
+    (GoesOn-line c.args.self.now.reader c.next_line.new.self (g.S.Source.left c.next_line.new.src) c.in-Ok-Some.line.items takes (rw line_is at answers) goes))
+
+pub returns-in-Ok-Some-clause-ends : goal.returns-in-Ok-Some-clause-ends
+returns-in-Ok-Some-clause-ends g c =
+    let takes = rw c.in-Ok-Some.field-0-is at c.in-Ok-Some.ensures.line in
+    let line_is = c.as_slice.ensures.value in
+    IfErr-both c.answer.result _ _ c.answer.ensures.not_built c.answer.ensures.err
+    (λ end not_built kept first held bytes goes. rw kept
+    (GoesOn-not_built end c.args.self.now.reader c.next_line.new.self (g.S.Source.left c.next_line.new.src) c.in-Ok-Some.line.items takes (rw line_is at not_built) goes))
+
+pub returns-in-Err-clause-ends : goal.returns-in-Err-clause-ends
+returns-in-Err-clause-ends g c = λ first held bytes goes. rw c.end_of.ensures
+    (GoesOn-fault c.in-Err.fault c.args.self.now.reader c.next_line.new.self (g.S.Source.left c.next_line.new.src)
+    (λ left told. c.in-Err.ensures.bad left told c.requires.sound)
+    (λ is_read left told. c.in-Err.ensures.read (ap Err is_read) left told c.requires.sound)
+    goes)

@@ -1,0 +1,4 @@
+pub mod Running
+pub mod Ends
+pub mod Goes
+pub mod Statuses

@@ -1,0 +1,42 @@
+-- How far a run has come.
+use Rattle.std.specs.Prelude.{◌≡◌, ℕ, List, [], ◌∷◌, ◌++◌, Option, Some, None, if◌then◌else◌}
+use Rattle.std.specs.Str.{is_utf8}
+use Rattle.std.specs.Io.KnownBytes.{Appends}
+use Rattle.sky_model.specs.declared.reply.Reply.{Reply}
+use Rattle.sky_model.specs.Grammar.{line_of}
+use Rattle.sky_model.specs.Printed.{printed}
+use Rattle.sky_model.specs.Steps.{Steps}
+use Rattle.sky_model.specs.Transcript.{call_of, transcript, transcript_from, bad_line, bad_line_from}
+use Rattle.sky_model.specs.World.{World, world_of, Call, past_of}
+
+-- The source told these bytes when the run began, and the sink held `first`. So many bytes were taken as
+-- lines and the next line is the nth; the pending bytes were read and stand in no line yet, and the
+-- gathered ones are still to be written. However the script goes on behind what was read, what it prints is
+-- what was written and gathered, and what it prints from the nth line on; and its first bad line stands there.
+pub record GoesOn (world : World) (n taken : ℕ) (pending gathered : List ℕ) (source first held : Option (List ℕ)) (bytes : List ℕ) : Type 0 where
+  pub calls : List Call
+  pub read : List ℕ
+  pub left : List ℕ
+  pub written : List ℕ
+  pub stands : world ≡ world_of (past_of calls)
+  pub told : source ≡ Some left
+  pub bytes_are : bytes ≡ read ++ left
+  pub appends : Appends first held written
+  pub prints : (more : List ℕ) → transcript (read ++ more) ≡ (written ++ gathered) ++ transcript_from (past_of calls) n taken (pending ++ more)
+  pub is_bad : (more : List ℕ) → bad_line (read ++ more) ≡ bad_line_from n taken (pending ++ more)
+
+-- the call that line n asks for, if it is built; the line fits
+abbrev pub call_in : ℕ → List ℕ → Option Call
+call_in n line = if is_utf8 line then call_of n (line_of line) else None
+
+-- a call was answered in a world, and its answers were put behind what was gathered
+pub record Called (old new : World) (call : Call) (gathered more : List ℕ) : Type 0 where
+  pub replies : List (ℕ × Reply)
+  pub steps : Steps old new call replies
+  pub prints : more ≡ gathered ++ printed (new.sessions ++ call.who ∷ []) replies
+
+-- the call that a line asks for was answered in a world
+pub record Answers (old new : World) (asked : Option Call) (gathered more : List ℕ) : Type 0 where
+  pub call : Call
+  pub asks : asked ≡ Some call
+  pub called : Called old new call gathered more

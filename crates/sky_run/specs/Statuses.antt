@@ -1,0 +1,61 @@
+-- What the program's statuses say.
+use Rattle.std.specs.Prelude.{◌≡◌, ℕ, List, [], ◌++◌, ◌⊎◌, map, Bool, true, false, Option, Some, None, String, string_bytes}
+use Rattle.std.specs.Io.KnownBytes.{Appends}
+use Rattle.sky_io.specs.declared.sink.SinkFault.{SinkFault}
+use Rattle.sky_io.specs.declared.sink.SinkFault.TheVariants as faults
+use Rattle.sky_model.specs.Transcript.{transcript, bad_line, bad_text, usage}
+
+-- the words, as bytes
+abbrev pub texts : {A : Type 0} → List (String A) → List (List ℕ)
+texts words = map string_bytes words
+
+-- the statuses there are, where the words are known and where they aren't
+abbrev pub Known : Bool → ℕ → Type 0
+Known true status = (status ≡ 0) ⊎ (status ≡ 2) ⊎ (status ≡ 3) ⊎ (status ≡ 4) ⊎ (status ≡ 5)
+Known false status = (status ≡ 64) ⊎ (status ≡ 4) ⊎ (status ≡ 5)
+
+-- the source was read to its end, no line is bad, and the sink got what the script prints
+pub record PrintsWhole (after held new_held : Option (List ℕ)) (bytes : List ℕ) : Type 0 where
+  pub at_end : after ≡ Some []
+  pub none_bad : bad_line bytes ≡ None
+  pub printed : Appends held new_held (transcript bytes)
+
+-- a line is bad, the sink got what the lines before the first such print, and the other sink was told its number
+pub record TellsBadLine (held new_held err new_err : Option (List ℕ)) (bytes : List ℕ) : Type 0 where
+  pub line : ℕ
+  pub is_bad : bad_line bytes ≡ Some line
+  pub printed : Appends held new_held (transcript bytes)
+  pub told : Appends err new_err (bad_text line)
+
+-- the source gave some bytes and has the others left, and the sink got what the lines print that it gave whole
+pub record PrintsGiven (after held new_held : Option (List ℕ)) (bytes : List ℕ) : Type 0 where
+  pub given : List ℕ
+  pub left : List ℕ
+  pub after_is : after ≡ Some left
+  pub bytes_are : bytes ≡ given ++ left
+  pub printed : Appends held new_held (transcript given)
+
+-- what is said of a script's first bad line, if there is one
+abbrev pub bad_line_text : Option ℕ → List ℕ
+bad_line_text None = []
+bad_line_text (Some line) = bad_text line
+
+-- what is to be said, where the words are known and where they aren't
+abbrev pub complaint : Bool → List ℕ → List ℕ
+complaint true bytes = bad_line_text (bad_line bytes)
+complaint false bytes = usage
+
+-- the status that a script deserves
+abbrev pub script_status : Option ℕ → ℕ
+script_status None = 0
+script_status (Some line) = 2
+
+-- the status that is due where nothing fails
+abbrev pub due_status : Bool → List ℕ → ℕ
+due_status true bytes = script_status (bad_line bytes)
+due_status false bytes = 64
+
+-- the status of a sink's fault
+abbrev pub fault_status : SinkFault → ℕ
+fault_status faults.Failed = 4
+fault_status faults.NoMemory = 5

@@ -1,0 +1,49 @@
+ghost use Rattle.std.specs.Prelude.{◌≡◌, [], ◌∷◌, ◌++◌, ◌≤◌, ◌↔◌, All, IfOk, IsTrue, OnOk, OnErr, length};
+ghost use Rattle.sky_model.specs.Printed.{printed, HaveNames, HaveMoments};
+
+use sky_model::Replies;
+use sky_script::print_replies;
+use sky_val::{NoMemory, Text};
+use std::alloc::Global;
+
+/// Appends what a call's answers print. A session that is one too many has no number of its own, and
+/// its name stands behind the others.
+pub fn print_answers(
+    alloc: Global,
+    names: &[Text],
+    who: &Text,
+    replies: &Replies,
+    into: &mut Vec<u8>,
+) -> Result<(), NoMemory>
+    requires numbered { All (λ answer. answer.0 ≤ length names.now) replies.now }
+    requires moments { HaveMoments replies.now }
+    ensures ok { OnOk result (into.new.items ≡ into.old.items ++ printed (names.now ++ who.now ∷ []) replies.now) }
+    ensures err { OnErr result (into.new.items ≡ into.old.items) }
+{
+    if have_names(names, replies) {
+        return print_replies(names, replies, into);
+    }
+    let names = names_with(alloc, names, who)?;
+    print_replies(names.as_slice(), replies, into)
+}
+
+fn have_names(names: &[Text], replies: &Replies) -> bool
+    ensures { IsTrue result ↔ HaveNames names.now replies.now }
+{
+    replies
+        .as_slice()
+        .iter()
+        .all(|(session, _)| (*session as usize) < names.len())
+}
+
+// The names, and one more.
+fn names_with(alloc: Global, names: &[Text], name: &Text) -> Result<Vec<Text>, NoMemory>
+    ensures { IfOk result (λ all. all.items ≡ names.now ++ name.now ∷ []) }
+{
+    let mut all = Vec::new(alloc);
+    for other in names {
+        all.push(other.copy(alloc)?)?;
+    }
+    all.push(name.copy(alloc)?)?;
+    Ok(all)
+}

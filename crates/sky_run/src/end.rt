@@ -1,0 +1,14 @@
+/// Why a run ends.
+#[derive(Clone, Copy, Debug, PartialEq, Eq)]
+pub enum End {
+    /// The script ended.
+    Whole,
+    /// The line of this number is bad.
+    Bad(u64),
+    /// The source failed.
+    Read,
+    /// A sink failed.
+    Write,
+    /// Memory was refused.
+    NoMemory,
+}

@@ -1,0 +1,240 @@
+ghost use Rattle.std.specs.Prelude.{◌≡◌, ℕ, List, Option, Some, None, Ok, Err, [], ◌∷◌, ◌++◌, ◌+◌, ◌<◌, ◌≤◌, IfOk, IfErr, IsErrOf, OnOk, OnErr, length, true};
+ghost use Rattle.std.specs.Io.KnownBytes.{Appends};
+ghost use Rattle.sky_io.specs.Appends.{AppendsPrefix};
+ghost use Rattle.sky_io.specs.Faults.{Rose};
+ghost use Rattle.sky_model.specs.Transcript.{call_of, most_in_script};
+ghost use Rattle.sky_model.specs.World.{world_of};
+ghost use Rattle.sky_world.specs.Seen.{seen_world};
+ghost use Rattle.sky_run.specs.Running.{Answers, Called, call_in};
+ghost use Rattle.sky_run.specs.Goes.{IsFresh, Counts, Goes, SameButGathered};
+ghost use Rattle.sky_run.specs.Ends.{Ends, NotBuilt, IsCut, end_of, end_by};
+
+use crate::answers::print_answers;
+use crate::built::is_built;
+use crate::end::End;
+use sky_io::{Sink, SinkFault, Source, write_all};
+use sky_model::{Line, Stmt};
+use sky_script::{LineCause, LineFault, LineReader, parse_line};
+use sky_val::{NoMemory, Text};
+use sky_world::World;
+use std::alloc::Global;
+
+/// More bytes than these aren't gathered before they are written.
+const MOST_GATHERED: usize = 65_536;
+
+/// Runs the script that the source gives to where it ends, and writes what it answers.
+pub fn run_lines<S: Source, O: Sink>(alloc: Global, src: &mut S, out: &mut O) -> End
+    ensures ends { (bytes : List ℕ) → S.left src.old ≡ Some bytes → Ends result (S.left src.new) (O.held out.old) (O.held out.new) [] bytes }
+    ensures read { result ≡ End.Read → Rose (S.faults src.old) (S.faults src.new) }
+    ensures write { result ≡ End.Write → Rose (O.faults out.old) (O.faults out.new) }
+{
+    match Run::new(alloc) {
+        Ok(mut fresh) => fresh.finish(src, out),
+        Err(_) => End::NoMemory,
+    }
+}
+
+// A script that is run.
+#[derive(Drop)]
+struct Run {
+    alloc: Global,
+    world: World,
+    reader: LineReader,
+    // What was answered and is still to be written.
+    gathered: Vec<u8>,
+    // The number of the next line.
+    number: u64,
+}
+
+impl Run {
+    fn new(alloc: Global) -> Result<Run, NoMemory>
+        ensures { IfOk result (λ run. IsFresh run) }
+    {
+        Ok(Run {
+            alloc,
+            world: World::new(alloc),
+            reader: LineReader::new(alloc)?,
+            gathered: Vec::new(alloc),
+            number: 1,
+        })
+    }
+
+    // Runs line after line.
+    fn finish<S: Source, O: Sink>(&mut self, src: &mut S, out: &mut O) -> End
+        requires { Counts self.old }
+        ensures ends { (first : Option (List ℕ)) (bytes : List ℕ) → Goes self.old (S.left src.old) first (O.held out.old) bytes
+            → Ends result (S.left src.new) first (O.held out.new) [] bytes }
+        ensures read { result ≡ End.Read → Rose (S.faults src.old) (S.faults src.new) }
+        ensures write { result ≡ End.Write → Rose (O.faults out.old) (O.faults out.new) }
+    {
+        'lines: loop {
+            if let Err(end) = self.turn(src, out) {
+                return end;
+            }
+        }
+    }
+
+    // Runs one line. What was answered is written before the source is read again, so that at a terminal
+    // each answer comes before the wait.
+    fn turn<S: Source, O: Sink>(&mut self, src: &mut S, out: &mut O) -> Result<(), End>
+        requires { Counts self.old }
+        ensures goes { OnOk result ((first : Option (List ℕ)) (bytes : List ℕ) → Goes self.old (S.left src.old) first (O.held out.old) bytes
+            → Goes self.new (S.left src.new) first (O.held out.new) bytes) }
+        ensures counts { OnOk result (Counts self.new) }
+        ensures nearer { OnOk result ((self.old.reader.taken < self.new.reader.taken) × (self.new.reader.taken ≤ most_in_script)) }
+        ensures ends { IfErr result (λ end. (first : Option (List ℕ)) (bytes : List ℕ) → Goes self.old (S.left src.old) first (O.held out.old) bytes
+            → Ends end (S.left src.new) first (O.held out.new) [] bytes) }
+        ensures read { IsErrOf result End.Read → Rose (S.faults src.old) (S.faults src.new) }
+        ensures write { IsErrOf result End.Write → Rose (O.faults out.old) (O.faults out.new) }
+        ensures src_never_falls { S.faults src.old ≤ S.faults src.new }
+        ensures out_never_falls { O.faults out.old ≤ O.faults out.new }
+    {
+        self.write_where(self.reads(), out)?;
+        match self.line(src) {
+            Ok(()) => self.write_where(self.has_many(), out),
+            Err(end) => {
+                self.write(out)?;
+                Err(end)
+            }
+        }
+    }
+
+    // Whether the next line asks for more of the source.
+    fn reads(&self) -> bool {
+        !self.reader.is_at_hand()
+    }
+
+    // Whether so much is gathered that it is written now.
+    fn has_many(&self) -> bool {
+        self.gathered.len() > MOST_GATHERED
+    }
+
+    // Takes the next line and answers it.
+    fn line<S: Source>(&mut self, src: &mut S) -> Result<(), End>
+        requires { Counts self.old }
+        ensures goes { OnOk result ((first held : Option (List ℕ)) (bytes : List ℕ) → Goes self.old (S.left src.old) first held bytes
+            → Goes self.new (S.left src.new) first held bytes) }
+        ensures counts { OnOk result (Counts self.new) }
+        ensures nearer { OnOk result ((self.old.reader.taken < self.new.reader.taken) × (self.new.reader.taken ≤ most_in_script)) }
+        ensures ends { IfErr result (λ end. (first held : Option (List ℕ)) (bytes : List ℕ) → Goes self.old (S.left src.old) first held bytes
+            → Ends end (S.left src.new) first held self.new.gathered.items bytes) }
+        ensures read { IsErrOf result End.Read → Rose (S.faults src.old) (S.faults src.new) }
+        ensures never_writes { ¬ (IsErrOf result End.Write) }
+        ensures never_falls { S.faults src.old ≤ S.faults src.new }
+    {
+        match self.reader.next_line(src) {
+            Ok(Some(line)) => self.answer(line.as_slice()),
+            Ok(None) => Err(End::Whole),
+            Err(fault) => Err(self.end_of(fault)),
+        }
+    }
+
+    // Answers a line.
+    fn answer(&mut self, line: &[u8]) -> Result<(), End>
+        requires { self.old.number ≤ most_in_script }
+        ensures answers { OnOk result (Answers (seen_world self.old.world) (seen_world self.new.world) (call_in self.old.number line.now) self.old.gathered.items self.new.gathered.items) }
+        ensures number { OnOk result (self.new.number ≡ self.old.number + 1) }
+        ensures not_built { IfErr result (λ end. NotBuilt end self.old.number (call_in self.old.number line.now)) }
+        ensures err { OnErr result (self.new.gathered.items ≡ self.old.gathered.items) }
+        ensures reader { self.new.reader ≡ self.old.reader }
+    {
+        match parse_line(self.alloc, line) {
+            Ok(said) => self.answer_said(&said),
+            Err(cause) => Err(self.end_by(cause)),
+        }
+    }
+
+    // Answers what a line says.
+    fn answer_said(&mut self, said: &Line) -> Result<(), End>
+        requires { self.old.number ≤ most_in_script }
+        ensures answers { OnOk result (Answers (seen_world self.old.world) (seen_world self.new.world) (call_of self.old.number (Ok said.now)) self.old.gathered.items self.new.gathered.items) }
+        ensures number { OnOk result (self.new.number ≡ self.old.number + 1) }
+        ensures not_built { IfErr result (λ end. NotBuilt end self.old.number (call_of self.old.number (Ok said.now))) }
+        ensures err { OnErr result (self.new.gathered.items ≡ self.old.gathered.items) }
+        ensures reader { self.new.reader ≡ self.old.reader }
+    {
+        match said {
+            Line::Run(who, stmt) if is_built(self.number, who, stmt) => match self.call(who, stmt) {
+                Ok(()) => Ok(()),
+                Err(_) => Err(End::NoMemory),
+            },
+            _ => Err(End::Bad(self.number)),
+        }
+    }
+
+    // Runs a statement of a session, and gathers its answers.
+    fn call(&mut self, who: &Text, stmt: &Stmt) -> Result<(), NoMemory>
+        requires { self.old.number ≤ most_in_script }
+        ensures answers { OnOk result (Called (seen_world self.old.world) (seen_world self.new.world) (record { who = who.now; stmt = stmt.now }) self.old.gathered.items self.new.gathered.items) }
+        ensures number { OnOk result (self.new.number ≡ self.old.number + 1) }
+        ensures err { OnErr result (self.new.gathered.items ≡ self.old.gathered.items) }
+        ensures reader { self.new.reader ≡ self.old.reader }
+    {
+        let replies = self.world.step(who, stmt)?;
+        print_answers(
+            self.alloc,
+            self.world.session_names(),
+            who,
+            &replies,
+            &mut self.gathered,
+        )?;
+        self.number += 1;
+        Ok(())
+    }
+
+    // The end that a reader's fault makes.
+    fn end_of(&self, fault: LineFault) -> End
+        ensures { result ≡ end_of fault self.now.number }
+    {
+        match fault {
+            LineFault::Read => End::Read,
+            LineFault::TooLong | LineFault::Truncated | LineFault::ScriptTooLong => End::Bad(
+                self.number,
+            ),
+            LineFault::NoMemory => End::NoMemory,
+        }
+    }
+
+    // The end that bytes make that are no line.
+    fn end_by(&self, cause: LineCause) -> End
+        ensures { result ≡ end_by cause self.now.number }
+    {
+        match cause {
+            LineCause::NotUtf8 | LineCause::BadWord(_) => End::Bad(self.number),
+            LineCause::NoMemory => End::NoMemory,
+        }
+    }
+
+    // Writes what was answered, where it is wanted.
+    fn write_where<O: Sink>(&mut self, wanted: bool, out: &mut O) -> Result<(), End>
+        ensures goes { OnOk result ((source first : Option (List ℕ)) (bytes : List ℕ) → Goes self.old source first (O.held out.old) bytes
+            → Goes self.new source first (O.held out.new) bytes) }
+        ensures ends { IfErr result (λ end. (source after first : Option (List ℕ)) (bytes : List ℕ) → Goes self.old source first (O.held out.old) bytes
+            → Ends end after first (O.held out.new) [] bytes) }
+        ensures same { SameButGathered self.old self.new }
+        ensures never_reads { ¬ (IsErrOf result End.Read) }
+        ensures write { IsErrOf result End.Write → Rose (O.faults out.old) (O.faults out.new) }
+        ensures never_falls { O.faults out.old ≤ O.faults out.new }
+    {
+        if wanted { self.write(out) } else { Ok(()) }
+    }
+
+    // Writes what was answered.
+    fn write<O: Sink>(&mut self, out: &mut O) -> Result<(), End>
+        ensures ok { OnOk result (Appends (O.held out.old) (O.held out.new) self.old.gathered.items) }
+        ensures prefix { AppendsPrefix (O.held out.old) (O.held out.new) self.old.gathered.items }
+        ensures emptied { self.new.gathered.items ≡ [] }
+        ensures same { SameButGathered self.old self.new }
+        ensures cut { IfErr result (λ end. IsCut end) }
+        ensures write { IsErrOf result End.Write → Rose (O.faults out.old) (O.faults out.new) }
+        ensures never_falls { O.faults out.old ≤ O.faults out.new }
+    {
+        let written = write_all(out, self.gathered.as_slice());
+        self.gathered.clear();
+        match written {
+            Ok(()) => Ok(()),
+            Err(SinkFault::Failed) => Err(End::Write),
+            Err(SinkFault::NoMemory) => Err(End::NoMemory),
+        }
+    }
+}
