@@ -23,7 +23,7 @@ pub trait Sink {
     // How often the sink failed.
     ghost faults: { Self → ℕ };
 
-    /// Appends the front of `piece` to what the sink holds.
+    /// Appends the front of `piece` to what the sink holds, and tells how many bytes that is.
     fn write(&mut self, piece: &[u8]) -> Result<usize, SinkFault>
         requires { 0 < length piece.now }
         ensures at_least { IfOk result (λ count. 1 ≤ count) }

@@ -18,7 +18,7 @@ pub trait Source {
     // How often the source failed.
     ghost faults: { Self → ℕ };
 
-    /// Puts some of the bytes still to come at the front of `buf`.
+    /// Puts some of the bytes still to come at the front of `buf`, and tells how many. 0 is the end.
     fn read(&mut self, buf: &mut [u8]) -> Result<usize, Failed>
         requires { 0 < length buf.old }
         ensures at_most { ReadsAtMost result buf.new }

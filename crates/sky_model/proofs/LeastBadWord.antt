@@ -2,7 +2,7 @@
 use Rattle.std.proofs.Common.{◌≡◌, ℕ, ◌+◌, ◌<◌, ◌≤◌, zero, suc, List, [], ◌∷◌, ◌++◌, length, take, Option, Some, None, Ok, Err, refl, ap, ◌∙◌, append_assoc, arith, codes}
 use Rattle.std.proofs.lemmas.Bool.Decides.{nat_tests}
 use Rattle.sky_model.specs.declared.stmt.Stmt.{Stmt}
-use Rattle.sky_model.specs.Kinds.{Kind, Name, Consumer, Number, OptText, Of, value}
+use Rattle.sky_model.specs.Kinds.{Kind, Name, Consumer, Number, OptText, Raw, Of, value}
 use Rattle.sky_model.specs.Grammar.{Row, stop, one, either, next, all_next, ended, all_ended, or_else, or_bad, goes_on, reads}
 
 -- some line that the rows read begins with these words
@@ -55,6 +55,7 @@ sample Name = record { word = codes "a"; worth = codes "a"; is = refl }
 sample Consumer = record { word = codes "a"; worth = codes "a"; is = refl }
 sample (Number most) = record { word = codes "0"; worth = 0; is = grind (arith, nat_tests) }
 sample OptText = record { word = codes "null"; worth = None; is = refl }
+sample Raw = record { word = codes "x"; worth = codes "x"; is = refl }
 
 or_else_assoc : (a b c : Option Stmt) → or_else (or_else a b) c ≡ or_else a (or_else b c)
 or_else_assoc None b c = refl

@@ -1,28 +1,43 @@
 -- Legal histories: each mark has evidence of why it stands there, so that a law about histories has one
 -- line for each kind of mark, and none for each statement.
-use Rattle.std.proofs.Common.{◌≡◌, ℕ, ◌+◌, ◌<◌, ◌≤◌, ℤ, List, [], ◌∷◌, true, length}
+use Rattle.std.proofs.Common.{◌≡◌, ℕ, ◌+◌, ◌<◌, ◌≤◌, ℤ, Bool, List, [], ◌∷◌, Some, None, length}
 use Rattle.sky_val.specs.declared.event.Event.{Event}
-use Rattle.sky_txid.specs.Ids.{contains}
-use Rattle.sky_model.specs.History.{Batch, Mark, began, ended, queued, made, raised, put, ticked, registered, opened, closed, History}
-use Rattle.sky_model.specs.Transactions.{next_txid, running}
-use Rattle.sky_model.specs.Queues.{queue_names, sequence, ticks, newest_tick}
+use Rattle.sky_names.specs.Places.{place_of}
+use Rattle.sky_model.specs.History.{Batch, Mark, began, ended, block_begun, block_failed, block_ended, queued, made, raised, put, ticked, registered, opened, closed, History}
+use Rattle.sky_model.specs.Transactions.{next_txid}
+use Rattle.sky_model.specs.Sessions.{outside, inside, block, own_txid}
+use Rattle.sky_model.specs.Queues.{queue_names, sequence, Tick, ticks, tick, newest_tick}
+use Rattle.sky_model.specs.Consumers.{subscription_id, subscription, last_subscription, last_batch, active_batch}
 use Rattle.sky_model.specs.StepQueue.{id_of}
 
 -- a queue of the database
 abbrev pub IsQueue : History → ℕ → Type 0
 IsQueue h q = q < length (queue_names h)
 
+-- a batch may be made: from where its consumer stands, without an active one, to the tick with the next id
+pub record Opens (h : History) (batch : Batch) : Type 0 where
+  pub within : IsQueue h batch.queue
+  pub stands : subscription batch.queue batch.consumer h ≡ Some (record { id = batch.sub; position = batch.prev; active = None })
+  pub fresh : last_batch h < batch.id
+  pub closing : Tick
+  pub made : tick (batch.prev + 1) (ticks batch.queue h) ≡ Some closing
+  pub to : batch.cur ≡ closing.id
+
 -- the mark may come next
 pub data Fine (h : History) : Mark → Type 0 where
-  begins : (who : ℕ) → Fine h (began who (next_txid h))
-  ends : (who t : ℕ) → contains t (running h) ≡ true → Fine h (ended who t true)
-  makes : (name : List ℕ) → Fine h (queued (made name))
+  begins : (who : ℕ) → own_txid who h ≡ None → Fine h (began who (next_txid h))
+  ends : (who t : ℕ) (committed : Bool) → own_txid who h ≡ Some t → Fine h (ended who t committed)
+  begins_block : (who : ℕ) → block who h ≡ outside → Fine h (block_begun who)
+  fails_block : (who : ℕ) → block who h ≡ inside → own_txid who h ≡ None → Fine h (block_failed who)
+  ends_block : (who : ℕ) → own_txid who h ≡ None → Fine h (block_ended who)
+  makes : (name : List ℕ) → place_of name (queue_names h) ≡ None → Fine h (queued (made name))
   raises : (q value : ℕ) → IsQueue h q → sequence q h ≤ value → Fine h (queued (raised q value))
-  puts : (q : ℕ) (event : Event) → IsQueue h q → event.ev_id ≡ sequence q h → Fine h (queued (put q event))
-  ticks_next : (q id : ℕ) (time : ℤ) (seq : ℕ) → IsQueue h q → id ≡ id_of (newest_tick (ticks q h)) + 1 → Fine h (queued (ticked q id time seq))
-  registers : (q : ℕ) (name : List ℕ) (sub tick : ℕ) → IsQueue h q → Fine h (queued (registered q name sub tick))
-  opens : (batch : Batch) → Fine h (queued (opened batch))
-  closes : (batch : Batch) → Fine h (queued (closed batch))
+  puts : (who q : ℕ) (event : Event) → IsQueue h q → event.ev_id ≡ sequence q h → own_txid who h ≡ Some event.ev_txid → Fine h (queued (put q event))
+  ticks_next : (q id : ℕ) (time : ℤ) (seq : ℕ) → IsQueue h q → id_of (newest_tick (ticks q h)) < id → Fine h (queued (ticked q id time seq))
+  registers : (q : ℕ) (name : List ℕ) (sub tick : ℕ) → IsQueue h q → subscription_id q name h ≡ None → last_subscription h < sub
+      → tick ≤ id_of (newest_tick (ticks q h)) → Fine h (queued (registered q name sub tick))
+  opens : (batch : Batch) → Opens h batch → Fine h (queued (opened batch))
+  closes : (batch : Batch) → active_batch batch.id h ≡ Some batch → Fine h (queued (closed batch))
 
 -- these marks may come next, one after the other
 pub data Chain : History → List Mark → Type 0 where

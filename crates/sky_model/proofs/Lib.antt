@@ -1,6 +1,7 @@
 mod WorkedLines
 mod WorkedMoments
-mod WorkedRows
+mod WorkedScripts
+mod WorkedBatches
 pub mod FirstWords
 pub mod NameLemmas
 pub mod LeastBadWord
@@ -12,6 +13,11 @@ pub mod Snapshots
 pub mod Ticks
 pub mod Selecting
 pub mod Lawful
+pub mod SnapshotLaws
+pub mod TickOrder
+pub mod ActiveBatches
+pub mod FinishedBatches
+pub mod EventsOnce
 pub mod Standing
 pub mod Splitting
 pub mod Scripts

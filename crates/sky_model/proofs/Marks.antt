@@ -1,9 +1,10 @@
 -- What a database and the world show changes by marks and facts alone.
-use Rattle.std.proofs.Common.{◌≡◌, ℕ, List, [], ◌∷◌, ◌++◌, Bool, true, false, ◌&&◌, ◌==◌, Option, Some, None, refl, sym, ◌∙◌, ap, bytes_eq, option_map, if◌then◌else◌}
+use Rattle.std.proofs.Common.{◌≡◌, ℕ, ◌+◌, List, [], ◌∷◌, ◌++◌, Bool, true, false, not, ◌&&◌, ◌||◌, ◌==◌, filter, Option, Some, None, refl, sym, ◌∙◌, ap, bytes_eq, option_map, if◌then◌else◌}
 use Rattle.sky_val.specs.declared.event.Event.{Event}
-use Rattle.sky_model.specs.History.{Mark, began, ended, queued, QueueMark, made, raised, put, ticked, registered, opened, closed, History, Fact, appeared, founded, entered, within, Past}
+use Rattle.sky_model.specs.History.{Mark, began, ended, block_begun, block_failed, block_ended, queued, QueueMark, made, raised, put, ticked, registered, opened, closed, History, Fact, appeared, founded, entered, left, within, Past}
 use Rattle.sky_model.specs.Consumers.{Subscription, subscription_id, position, active}
-use Rattle.sky_model.specs.Transactions.{snapshot}
+use Rattle.sky_model.specs.Transactions.{next_txid, running, has_rolled_back, snapshot}
+use Rattle.sky_model.specs.Sessions.{Block, outside, inside, failed, Session, session}
 use Rattle.sky_model.specs.Queues.{Tick}
 use Rattle.sky_model.specs.State.{Queue, queue_of, database_of, changed_at, changed_for, with_batch, at_position, after_queue_mark, after_mark}
 use Rattle.sky_model.specs.World.{world_of, history_in, after_fact, after_facts, on_top}
@@ -16,7 +17,7 @@ put_at : (b : Bool) (x : Queue) (e : Event) → record x { stored = if b then x.
 put_at true x e = refl
 put_at false x e = refl
 
-ticked_at : (b : Bool) (x : Queue) (t : Tick) → record x { clock_ticks = if b then x.clock_ticks ++ t ∷ [] else x.clock_ticks } ≡ (if b then record x { clock_ticks = x.clock_ticks ++ t ∷ [] } else x)
+ticked_at : (b : Bool) (x : Queue) (t : Tick) → record x { tick_list = if b then x.tick_list ++ t ∷ [] else x.tick_list } ≡ (if b then record x { tick_list = x.tick_list ++ t ∷ [] } else x)
 ticked_at true x t = refl
 ticked_at false x t = refl
 
@@ -86,11 +87,11 @@ database_of-queue_mark h (ticked q id time seq) = λ i. record (database_of h) {
   queue = λ n. ticked_at (q == n) (queue_of h n) (record { id = id; time = time; snapshot = snapshot h; seq = seq }) i;
 }
 database_of-queue_mark h (registered q name sub tick) = λ i. record (database_of h) {
-  sub_count = sub;
+  last_sub_id = sub;
   queue = λ n. registered_at (q == n) (queue_of h n) name (λ c. subscription_id n c h) (λ c. position n c h) (λ c. active n c h) sub tick refl i;
 }
 database_of-queue_mark h (opened b) = λ i. record (database_of h) {
-  batch_count = b.id;
+  last_batch_id = b.id;
   batch = changed_at b.id (λ _. Some b) (database_of h).batch;
   queue = λ n. opened_at (b.queue == n) (queue_of h n) b.consumer (λ c. subscription_id n c h) (λ c. position n c h) (λ c. active n c h) b.id refl i;
 }
@@ -99,10 +100,33 @@ database_of-queue_mark h (closed b) = λ i. record (database_of h) {
   queue = λ n. closed_at (b.queue == n) (queue_of h n) b.consumer (λ c. subscription_id n c h) (λ c. position n c h) (λ c. active n c h) b.cur refl i;
 }
 
+txid_at : (b : Bool) (s : Session) (own : Option ℕ) → record s { txid = if b then own else s.txid } ≡ (if b then record s { txid = own } else s)
+txid_at true s own = refl
+txid_at false s own = refl
+
+block_at : (b : Bool) (s : Session) (to : Block) → record s { block = if b then to else s.block } ≡ (if b then record s { block = to } else s)
+block_at true s to = refl
+block_at false s to = refl
+
 -- a mark changes what a database shows as `after_mark` says
 pub database_of-mark : (h : History) (mark : Mark) → database_of (mark ∷ h) ≡ after_mark (database_of h) mark
-database_of-mark h (began who t) = refl
-database_of-mark h (ended who t committed) = refl
+database_of-mark h (began who t) = λ i. record (database_of h) {
+  next = next_txid h + 1;
+  running_ids = running h ++ t ∷ [];
+  session = λ n. txid_at (who == n) (session h n) (Some t) i;
+}
+database_of-mark h (ended who t true) = λ i. record (database_of h) {
+  running_ids = filter (λ u. not (u == t)) (running h);
+  session = λ n. txid_at (who == n) (session h n) None i;
+}
+database_of-mark h (ended who t false) = λ i. record (database_of h) {
+  running_ids = filter (λ u. not (u == t)) (running h);
+  undone = λ u. u == t || has_rolled_back h u;
+  session = λ n. txid_at (who == n) (session h n) None i;
+}
+database_of-mark h (block_begun who) = λ i. record (database_of h) { session = λ n. block_at (who == n) (session h n) inside i }
+database_of-mark h (block_failed who) = λ i. record (database_of h) { session = λ n. block_at (who == n) (session h n) failed i }
+database_of-mark h (block_ended who) = λ i. record (database_of h) { session = λ n. block_at (who == n) (session h n) outside i }
 database_of-mark h (queued mark) = database_of-queue_mark h mark
 
 within_at : (b : Bool) (h : History) (mark : Mark) → database_of (if b then mark ∷ h else h) ≡ (if b then after_mark (database_of h) mark else database_of h)
@@ -114,6 +138,7 @@ pub world_of-fact : (past : Past) (fact : Fact) → world_of (fact ∷ past) ≡
 world_of-fact past (appeared name) = refl
 world_of-fact past (founded name) = refl
 world_of-fact past (entered who d) = refl
+world_of-fact past (left who) = refl
 world_of-fact past (within d mark) = λ i. record (world_of past) { database = λ n. within_at (d == n) (history_in past n) mark i }
 
 -- and so do facts one after the other

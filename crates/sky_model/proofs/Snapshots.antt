@@ -1,11 +1,12 @@
 -- A snapshot sees exactly the transactions that have ended.
-use Rattle.std.proofs.Common.{◌≡◌, ℕ, ◌+◌, ◌<◌, ◌≤◌, List, [], ◌∷◌, ◌++◌, Bool, true, false, not, ◌&&◌, ◌||◌, ◌==◌, nat_lt, filter, refl, sym, ◌∙◌, ap, arith, ltb-true, if◌then◌else◌}
+use Rattle.std.proofs.Common.{◌≡◌, ℕ, ◌+◌, ◌<◌, ◌≤◌, List, [], ◌∷◌, ◌++◌, Bool, true, false, not, ◌&&◌, ◌||◌, ◌==◌, nat_lt, filter, Some, None, unwrap_or, refl, sym, ◌∙◌, ap, arith, ltb-true, if◌then◌else◌}
 use Rattle.std.proofs.lemmas.Bool.Decides.{nat_tests}
 use Rattle.sky_txid.specs.Ids.{contains, first_or}
 use Rattle.sky_txid.specs.Snapshot.{sees}
-use Rattle.sky_model.specs.History.{Mark, began, ended, History}
-use Rattle.sky_model.specs.Transactions.{next_txid, running, has_ended, has_committed, snapshot}
-use Rattle.sky_model.proofs.Legal.{Fine, begins, ends, makes, raises, puts, ticks_next, registers, opens, closes, Legal, start, next}
+use Rattle.sky_model.specs.History.{Mark, began, ended, block_begun, block_failed, block_ended, queued, History}
+use Rattle.sky_model.specs.Transactions.{next_txid, running, has_ended, has_committed, has_rolled_back, snapshot}
+use Rattle.sky_model.specs.Sessions.{own_txid}
+use Rattle.sky_model.proofs.Legal.{Fine, begins, ends, begins_block, fails_block, ends_block, makes, raises, puts, ticks_next, registers, opens, closes, Legal, start, next}
 
 abbrev pub IsRising : List ℕ → Type 0
 IsRising [] = Unit {0}
@@ -23,6 +24,8 @@ pub record Sound (h : History) : Type 0 where
   pub ended_below : (t : ℕ) → has_ended h t ≡ true → t < next_txid h
   pub rising : IsRising (running h)
   pub below : AllBelow (next_txid h) (running h)
+  pub owns : (who t : ℕ) → own_txid who h ≡ Some t → contains t (running h) ≡ true
+  pub once : (v w t : ℕ) → own_txid v h ≡ Some t → own_txid w h ≡ Some t → v ≡ w
 
 contains-push : (t x : ℕ) (xs : List ℕ) → contains t (xs ++ x ∷ []) ≡ (contains t xs || t == x)
 contains-push t x [] = of (t == x)
@@ -133,6 +136,24 @@ first_or-below : (n : ℕ) (xs : List ℕ) → AllBelow n xs → first_or n xs �
 first_or-below n [] b = omega arith
 first_or-below n (x ∷ xs) b = let lt : x < n = b.0 in omega arith
 
+and-left : (a b : Bool) → (a && b) ≡ true → a ≡ true
+and-left true b e = refl
+and-left false b e = e
+
+-- a running transaction has got its id
+runs-below : (h : History) → Sound h → (t : ℕ) → contains t (running h) ≡ true → t < next_txid h
+runs-below h s t runs = ltb-true t (next_txid h) (and-left (nat_lt t (next_txid h)) (not (has_ended h t)) (sym (s.runs t) ∙ runs))
+
+-- and hasn't ended
+runs-unended : (h : History) → Sound h → (t : ℕ) → contains t (running h) ≡ true → has_ended h t ≡ false
+runs-unended h s t runs = of (nat_lt t (next_txid h)) (has_ended h t) (sym (s.runs t) ∙ runs)
+  where
+    of : (a b : Bool) → (a && not b) ≡ true → b ≡ false
+    of true true e = cc
+    of true false e = refl
+    of false true e = cc
+    of false false e = refl
+
 sound_began : (h : History) (who : ℕ) → Sound h → Sound (began who (next_txid h) ∷ h)
 sound_began h who s = record {
   first = (let three : 3 ≤ next_txid h = s.first in omega arith);
@@ -140,22 +161,56 @@ sound_began h who s = record {
   ended_below = λ t e. (let lt : t < next_txid h = s.ended_below t e in omega arith);
   rising = IsRising-push (next_txid h) (running h) s.rising s.below;
   below = AllBelow-push (next_txid h + 1) (next_txid h) (running h) (AllBelow-more (next_txid h) (next_txid h + 1) (running h) (omega arith) s.below) (omega arith);
+  owns = λ w t e. contains-push t (next_txid h) (running h) ∙ own w t (who == w) e;
+  once = λ v w t ev ew. only v w t (who == v) (who == w) refl refl ev ew;
 }
   where
+    some : (m n : ℕ) → Some m ≡ Some n → m ≡ n
+    some m n e = ap (λ o. unwrap_or o m) e
+
+    own : (w t : ℕ) (b : Bool) → (if b then Some (next_txid h) else own_txid w h) ≡ Some t → (contains t (running h) || t == next_txid h) ≡ true
+    own w t true e = let same : next_txid h ≡ t = some (next_txid h) t e in grind (arith, nat_tests)
+    own w t false e = ap (λ b. b || t == next_txid h) (s.owns w t e)
+
+    fresh : (w t : ℕ) → next_txid h ≡ t → own_txid w h ≡ Some t → ⊥
+    fresh w t same e = let lt : t < next_txid h = runs-below h s t (s.owns w t e) in omega arith
+
+    only : (v w t : ℕ) (b c : Bool) → (who == v) ≡ b → (who == w) ≡ c
+        → (if b then Some (next_txid h) else own_txid v h) ≡ Some t → (if c then Some (next_txid h) else own_txid w h) ≡ Some t → v ≡ w
+    only v w t true true isv isw ev ew = grind (arith, nat_tests)
+    only v w t true false isv isw ev ew = absurd (fresh w t (some (next_txid h) t ev) ew)
+    only v w t false true isv isw ev ew = absurd (fresh v t (some (next_txid h) t ew) ev)
+    only v w t false false isv isw ev ew = s.once v w t ev ew
+
     more : (t : ℕ) (b : Bool) → (b ≡ true → t < next_txid h)
         → ((nat_lt t (next_txid h) && not b) || t == next_txid h) ≡ (nat_lt t (next_txid h + 1) && not b)
     more t true lt = let below : t < next_txid h = lt refl in grind (arith, nat_tests)
     more t false lt = grind (arith, nat_tests)
 
-sound_ended : (h : History) (who t : ℕ) → contains t (running h) ≡ true → Sound h → Sound (ended who t true ∷ h)
-sound_ended h who t runs s = record {
+sound_ended : (h : History) (who t : ℕ) (committed : Bool) → own_txid who h ≡ Some t → Sound h → Sound (ended who t committed ∷ h)
+sound_ended h who t committed mine s = record {
   first = s.first;
   runs = λ u. contains-filter u t (running h) ∙ ap (λ b. b && not (u == t)) (s.runs u) ∙ less (nat_lt u (next_txid h)) (has_ended h u) (u == t);
   ended_below = λ u e. was u (u == t) refl e;
   rising = IsRising-filter (λ u. not (u == t)) (running h) s.rising;
   below = AllBelow-filter (next_txid h) (λ u. not (u == t)) (running h) s.below;
+  owns = λ w u e. contains-filter u t (running h) ∙ own w u (who == w) (u == t) refl refl e;
+  once = λ v w u ev ew. only v w u (who == v) (who == w) ev ew;
 }
   where
+    own : (w u : ℕ) (b c : Bool) → (who == w) ≡ b → (u == t) ≡ c → (if b then None else own_txid w h) ≡ Some u → (contains u (running h) && not c) ≡ true
+    own w u true c is same e = absurd (cc)
+    own w u false true is same e =
+        let one : u ≡ t = grind (arith, nat_tests) in
+        let both : who ≡ w = s.once who w t mine (e ∙ ap Some one) in
+        absurd (grind (arith, nat_tests))
+    own w u false false is same e = ap (λ b. b && true) (s.owns w u e)
+
+    only : (v w u : ℕ) (b c : Bool) → (if b then None else own_txid v h) ≡ Some u → (if c then None else own_txid w h) ≡ Some u → v ≡ w
+    only v w u true c ev ew = absurd (cc)
+    only v w u false true ev ew = absurd (cc)
+    only v w u false false ev ew = s.once v w u ev ew
+
     less : (a b c : Bool) → ((a && not b) && not c) ≡ (a && not (c || b))
     less true true true = refl
     less true true false = refl
@@ -163,26 +218,23 @@ sound_ended h who t runs s = record {
     less true false false = refl
     less false b c = refl
 
-    of_and : (a b : Bool) → (a && b) ≡ true → a ≡ true
-    of_and true b e = refl
-    of_and false b e = e
-
     was : (u : ℕ) (b : Bool) → (u == t) ≡ b → (b || has_ended h u) ≡ true → u < next_txid h
-    was u true e e' =
-        let lt : t < next_txid h = ltb-true t (next_txid h) (of_and (nat_lt t (next_txid h)) (not (has_ended h t)) (sym (s.runs t) ∙ runs)) in
-        grind (arith, nat_tests)
+    was u true e e' = let lt : t < next_txid h = runs-below h s t (s.owns who t mine) in grind (arith, nat_tests)
     was u false e e' = s.ended_below u e'
 
 sound_step : (h : History) (mark : Mark) → Fine h mark → Sound h → Sound (mark ∷ h)
-sound_step h _ (begins who) s = sound_began h who s
-sound_step h _ (ends who t runs) s = sound_ended h who t runs s
-sound_step h _ (makes name) s = record { first = s.first; runs = s.runs; ended_below = s.ended_below; rising = s.rising; below = s.below }
-sound_step h _ (raises q v i l) s = record { first = s.first; runs = s.runs; ended_below = s.ended_below; rising = s.rising; below = s.below }
-sound_step h _ (puts q e i l) s = record { first = s.first; runs = s.runs; ended_below = s.ended_below; rising = s.rising; below = s.below }
-sound_step h _ (ticks_next q id time seq i l) s = record { first = s.first; runs = s.runs; ended_below = s.ended_below; rising = s.rising; below = s.below }
-sound_step h _ (registers q name sub tick i) s = record { first = s.first; runs = s.runs; ended_below = s.ended_below; rising = s.rising; below = s.below }
-sound_step h _ (opens b) s = record { first = s.first; runs = s.runs; ended_below = s.ended_below; rising = s.rising; below = s.below }
-sound_step h _ (closes b) s = record { first = s.first; runs = s.runs; ended_below = s.ended_below; rising = s.rising; below = s.below }
+sound_step h _ (begins who e) s = sound_began h who s
+sound_step h _ (ends who t committed mine) s = sound_ended h who t committed mine s
+sound_step h _ (begins_block who e) s = record { first = s.first; runs = s.runs; ended_below = s.ended_below; rising = s.rising; below = s.below; owns = s.owns; once = s.once }
+sound_step h _ (fails_block who e f) s = record { first = s.first; runs = s.runs; ended_below = s.ended_below; rising = s.rising; below = s.below; owns = s.owns; once = s.once }
+sound_step h _ (ends_block who e) s = record { first = s.first; runs = s.runs; ended_below = s.ended_below; rising = s.rising; below = s.below; owns = s.owns; once = s.once }
+sound_step h _ (makes name e) s = record { first = s.first; runs = s.runs; ended_below = s.ended_below; rising = s.rising; below = s.below; owns = s.owns; once = s.once }
+sound_step h _ (raises q v i l) s = record { first = s.first; runs = s.runs; ended_below = s.ended_below; rising = s.rising; below = s.below; owns = s.owns; once = s.once }
+sound_step h _ (puts who q e i n o) s = record { first = s.first; runs = s.runs; ended_below = s.ended_below; rising = s.rising; below = s.below; owns = s.owns; once = s.once }
+sound_step h _ (ticks_next q id time seq i l) s = record { first = s.first; runs = s.runs; ended_below = s.ended_below; rising = s.rising; below = s.below; owns = s.owns; once = s.once }
+sound_step h _ (registers q name sub tick i e f l) s = record { first = s.first; runs = s.runs; ended_below = s.ended_below; rising = s.rising; below = s.below; owns = s.owns; once = s.once }
+sound_step h _ (opens b e) s = record { first = s.first; runs = s.runs; ended_below = s.ended_below; rising = s.rising; below = s.below; owns = s.owns; once = s.once }
+sound_step h _ (closes b e) s = record { first = s.first; runs = s.runs; ended_below = s.ended_below; rising = s.rising; below = s.below; owns = s.owns; once = s.once }
 
 pub sound : (h : History) → Legal h → Sound h
 sound [] start = record {
@@ -191,6 +243,8 @@ sound [] start = record {
   ended_below = λ t e. grind (arith, nat_tests);
   rising = tt;
   below = tt;
+  owns = λ who t e. absurd (cc);
+  once = λ v w t ev ew. absurd (cc);
 }
 sound (mark ∷ h) (next l f) = sound_step h mark f (sound h l)
 
@@ -214,15 +268,64 @@ sees-snapshot h l t =
     ))
     (s.ended_below t)
 
--- what has ended has committed, since nothing rolls back
-pub has_committed-has_ended : (h : History) → Legal h → (t : ℕ) → has_committed h t ≡ has_ended h t
-has_committed-has_ended [] start t = refl
-has_committed-has_ended _ (next {h = h} l (begins who)) t = has_committed-has_ended h l t
-has_committed-has_ended _ (next {h = h} l (ends who u runs)) t = ap (λ b. t == u || b) (has_committed-has_ended h l t)
-has_committed-has_ended _ (next {h = h} l (makes name)) t = has_committed-has_ended h l t
-has_committed-has_ended _ (next {h = h} l (raises q v i e)) t = has_committed-has_ended h l t
-has_committed-has_ended _ (next {h = h} l (puts q e i s)) t = has_committed-has_ended h l t
-has_committed-has_ended _ (next {h = h} l (ticks_next q id time seq i e)) t = has_committed-has_ended h l t
-has_committed-has_ended _ (next {h = h} l (registers q name sub tick i)) t = has_committed-has_ended h l t
-has_committed-has_ended _ (next {h = h} l (opens b)) t = has_committed-has_ended h l t
-has_committed-has_ended _ (next {h = h} l (closes b)) t = has_committed-has_ended h l t
+or-right : (a b : Bool) → b ≡ true → (a || b) ≡ true
+or-right true b e = refl
+or-right false b e = e
+
+and-true : (a : Bool) → a ≡ (a && true)
+and-true true = refl
+and-true false = refl
+
+not-both : (b : Bool) → b ≡ true → b ≡ false → ⊥
+not-both b is isnt = cc
+
+-- a transaction that a session has hasn't ended
+pub own-unended : (h : History) → Legal h → (who t : ℕ) → own_txid who h ≡ Some t → has_ended h t ≡ false
+own-unended h l who t mine = let s : Sound h = sound h l in runs-unended h s t (s.owns who t mine)
+
+-- what has rolled back has ended
+ended-rolled_back : (h : History) (t : ℕ) → has_rolled_back h t ≡ true → has_ended h t ≡ true
+ended-rolled_back [] t e = absurd (cc)
+ended-rolled_back (began who u ∷ h) t e = ended-rolled_back h t e
+ended-rolled_back (ended who u true ∷ h) t e = or-right (t == u) (has_ended h t) (ended-rolled_back h t e)
+ended-rolled_back (ended who u false ∷ h) t e = of (t == u) (ended-rolled_back h t) e
+  where
+    of : (b : Bool) → (has_rolled_back h t ≡ true → has_ended h t ≡ true) → (b || has_rolled_back h t) ≡ true → (b || has_ended h t) ≡ true
+    of true ih e = refl
+    of false ih e = ih e
+ended-rolled_back (block_begun who ∷ h) t e = ended-rolled_back h t e
+ended-rolled_back (block_failed who ∷ h) t e = ended-rolled_back h t e
+ended-rolled_back (block_ended who ∷ h) t e = ended-rolled_back h t e
+ended-rolled_back (queued mark ∷ h) t e = ended-rolled_back h t e
+
+-- what has committed is what has ended and hasn't rolled back
+pub has_committed-ended : (h : History) → Legal h → (t : ℕ) → has_committed h t ≡ (has_ended h t && not (has_rolled_back h t))
+has_committed-ended [] start t = and-true (nat_lt t 3)
+has_committed-ended _ (next {h = h} l (begins who e)) t = has_committed-ended h l t
+has_committed-ended _ (next {h = h} l (ends who u true mine)) t = of (t == u) refl (has_ended h t) (has_rolled_back h t) refl (ended-rolled_back h t) (has_committed-ended h l t)
+  where
+    of : (b : Bool) → (t == u) ≡ b → (e r : Bool) → has_ended h t ≡ e → (r ≡ true → has_ended h t ≡ true) → has_committed h t ≡ (e && not r)
+        → (b || has_committed h t) ≡ ((b || e) && not r)
+    of true same e true is back ih =
+        let one : t ≡ u = grind (arith, nat_tests) in
+        absurd (not-both (has_ended h t) (back refl) (ap (has_ended h) one ∙ own-unended h l who u mine))
+    of true same e false is back ih = refl
+    of false same e r is back ih = ih
+has_committed-ended _ (next {h = h} l (ends who u false mine)) t = of (t == u) refl (has_committed-ended h l t)
+  where
+    of : (b : Bool) → (t == u) ≡ b → has_committed h t ≡ (has_ended h t && not (has_rolled_back h t))
+        → has_committed h t ≡ ((b || has_ended h t) && not (b || has_rolled_back h t))
+    of true same ih =
+        let one : t ≡ u = grind (arith, nat_tests) in
+        ih ∙ ap (λ e. e && not (has_rolled_back h t)) (ap (has_ended h) one ∙ own-unended h l who u mine)
+    of false same ih = ih
+has_committed-ended _ (next {h = h} l (begins_block who e)) t = has_committed-ended h l t
+has_committed-ended _ (next {h = h} l (fails_block who e f)) t = has_committed-ended h l t
+has_committed-ended _ (next {h = h} l (ends_block who e)) t = has_committed-ended h l t
+has_committed-ended _ (next {h = h} l (makes name e)) t = has_committed-ended h l t
+has_committed-ended _ (next {h = h} l (raises q v i le)) t = has_committed-ended h l t
+has_committed-ended _ (next {h = h} l (puts who q e i n o)) t = has_committed-ended h l t
+has_committed-ended _ (next {h = h} l (ticks_next q id time seq i le)) t = has_committed-ended h l t
+has_committed-ended _ (next {h = h} l (registers q name sub tick i e f g)) t = has_committed-ended h l t
+has_committed-ended _ (next {h = h} l (opens b e)) t = has_committed-ended h l t
+has_committed-ended _ (next {h = h} l (closes b e)) t = has_committed-ended h l t

@@ -1,9 +1,8 @@
 -- From what the world shows to what has happened.
-use Rattle.std.proofs.Common.{◌≡◌, ℕ, List, [], ◌∷◌, sym, ◌∙◌, ap}
+use Rattle.std.proofs.Common.{◌≡◌, ℕ, List, sym, ◌∙◌, ap}
 use Rattle.sky_model.specs.declared.reply.Reply.{Reply}
-use Rattle.sky_names.specs.Places.{place_of}
 use Rattle.sky_model.specs.History.{Past}
-use Rattle.sky_model.specs.World.{World, world_of, Call, Deed, step, does, after, past_of, answers_of, number_or_next, after_facts, history_in, session_names}
+use Rattle.sky_model.specs.World.{World, world_of, Call, Deed, step, does, after, past_of, answers_of, after_facts, history_in}
 use Rattle.sky_model.specs.Steps.{Steps, deed_at, answers_at, after_call}
 use Rattle.sky_model.proofs.Marks.{world_of-facts}
 use Rattle.sky_model.proofs.Selecting.{batch_events-selected}
@@ -14,8 +13,7 @@ does-deed_at : (past : Past) → AllLegal past → (call : Call) → does past c
 does-deed_at past all call = ap (λ f. step (world_of past) f call) (λ i d b. batch_events-selected (history_in past d) (all d) b i)
 
 answers_of-answers_at : (past : Past) → AllLegal past → (call : Call) → answers_of past call ≡ answers_at (world_of past) call
-answers_of-answers_at past all call =
-    ap (λ (deed : Deed). (number_or_next (place_of call.who (session_names past)) (session_names past), deed.reply) ∷ []) (does-deed_at past all call)
+answers_of-answers_at past all call = ap Deed.answers (does-deed_at past all call)
 
 world_of-after : (past : Past) → AllLegal past → (call : Call) → world_of (after past call) ≡ after_call (world_of past) call
 world_of-after past all call =

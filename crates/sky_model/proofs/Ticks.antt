@@ -1,29 +1,32 @@
 -- What ticks keep of the history as it was when they were made.
-use Rattle.std.proofs.Common.{◌≡◌, ℕ, ◌+◌, ◌<◌, ◌≤◌, List, [], ◌∷◌, ◌++◌, Bool, true, false, ◌&&◌, ◌==◌, Option, Some, None, length, refl, sym, ◌∙◌, ap, arith, if◌then◌else◌, length-append}
+use Rattle.std.proofs.Common.{◌≡◌, ℕ, ◌<◌, ◌≤◌, List, [], ◌∷◌, ◌++◌, Bool, true, false, ◌&&◌, ◌==◌, Option, Some, None, length, refl, sym, ◌∙◌, ap, subst, arith, if◌then◌else◌, length-append}
 use Rattle.std.proofs.lemmas.Bool.Decides.{nat_tests}
 use Rattle.sky_model.specs.History.{History}
 use Rattle.sky_model.specs.Transactions.{snapshot}
 use Rattle.sky_model.specs.Queues.{queue_names, Tick, ticks, tick, newest_tick, at_tick}
 use Rattle.sky_model.specs.StepQueue.{id_of}
 use Rattle.sky_model.specs.Selection.{snapshot_at}
-use Rattle.sky_model.proofs.Legal.{begins, ends, makes, raises, puts, ticks_next, registers, opens, closes, Legal, start, next}
+use Rattle.sky_model.proofs.Legal.{begins, ends, begins_block, fails_block, ends_block, makes, raises, puts, ticks_next, registers, opens, closes, Legal, start, next}
 
 -- a queue that isn't made yet has no ticks
 pub ticks_beyond : (h : History) → Legal h → (q : ℕ) → length (queue_names h) ≤ q → ticks q h ≡ []
 ticks_beyond [] start q le = refl
-ticks_beyond _ (next {h = h} l (begins who)) q le = ticks_beyond h l q le
-ticks_beyond _ (next {h = h} l (ends who t runs)) q le = ticks_beyond h l q le
-ticks_beyond _ (next {h = h} l (makes name)) q le = ticks_beyond h l q (omega (arith, length-append (queue_names h) (name ∷ []), le))
+ticks_beyond _ (next {h = h} l (begins who e)) q le = ticks_beyond h l q le
+ticks_beyond _ (next {h = h} l (ends who t committed mine)) q le = ticks_beyond h l q le
+ticks_beyond _ (next {h = h} l (begins_block who e)) q le = ticks_beyond h l q le
+ticks_beyond _ (next {h = h} l (fails_block who e f)) q le = ticks_beyond h l q le
+ticks_beyond _ (next {h = h} l (ends_block who e)) q le = ticks_beyond h l q le
+ticks_beyond _ (next {h = h} l (makes name new)) q le = ticks_beyond h l q (omega (arith, length-append (queue_names h) (name ∷ []), le))
 ticks_beyond _ (next {h = h} l (raises p v i e)) q le = ticks_beyond h l q le
-ticks_beyond _ (next {h = h} l (puts p e i s)) q le = ticks_beyond h l q le
+ticks_beyond _ (next {h = h} l (puts who p e i s o)) q le = ticks_beyond h l q le
 ticks_beyond _ (next {h = h} l (ticks_next p id time seq i e)) q le = of (p == q) refl (ticks_beyond h l q le)
   where
     of : (b : Bool) → (p == q) ≡ b → ticks q h ≡ [] → (if b then ticks q h ++ record { id = id; time = time; snapshot = snapshot h; seq = seq } ∷ [] else ticks q h) ≡ []
     of true e ih = let lt : p < length (queue_names h) = i in absurd (grind (arith, nat_tests))
     of false e ih = ih
-ticks_beyond _ (next {h = h} l (registers p name sub tick i)) q le = ticks_beyond h l q le
-ticks_beyond _ (next {h = h} l (opens b)) q le = ticks_beyond h l q le
-ticks_beyond _ (next {h = h} l (closes b)) q le = ticks_beyond h l q le
+ticks_beyond _ (next {h = h} l (registers p name sub tick i e f g)) q le = ticks_beyond h l q le
+ticks_beyond _ (next {h = h} l (opens b e)) q le = ticks_beyond h l q le
+ticks_beyond _ (next {h = h} l (closes b e)) q le = ticks_beyond h l q le
 
 pub newest_tick-push : (ts : List Tick) (t : Tick) → newest_tick (ts ++ t ∷ []) ≡ Some t
 newest_tick-push [] t = refl
@@ -54,7 +57,7 @@ tick-push_none id (v ∷ ts) t e = of (v.id == id) e (tick-push_none id ts t)
 abbrev pub NoneAbove : List Tick → Type 0
 NoneAbove ts = (id : ℕ) → id_of (newest_tick ts) < id → tick id ts ≡ None
 
-NoneAbove-push : (ts : List Tick) (t : Tick) → NoneAbove ts → t.id ≡ id_of (newest_tick ts) + 1 → NoneAbove (ts ++ t ∷ [])
+NoneAbove-push : (ts : List Tick) (t : Tick) → NoneAbove ts → id_of (newest_tick ts) < t.id → NoneAbove (ts ++ t ∷ [])
 NoneAbove-push ts t none is id above =
     let newest : id_of (newest_tick (ts ++ t ∷ [])) ≡ t.id = ap id_of (newest_tick-push ts t) in
     let other : (t.id == id) ≡ false = grind (arith, nat_tests) in
@@ -62,37 +65,43 @@ NoneAbove-push ts t none is id above =
 
 pub none_above : (h : History) → Legal h → (q : ℕ) → NoneAbove (ticks q h)
 none_above [] start q = λ id above. refl
-none_above _ (next {h = h} l (begins who)) q = none_above h l q
-none_above _ (next {h = h} l (ends who t runs)) q = none_above h l q
-none_above _ (next {h = h} l (makes name)) q = none_above h l q
+none_above _ (next {h = h} l (begins who e)) q = none_above h l q
+none_above _ (next {h = h} l (ends who t committed mine)) q = none_above h l q
+none_above _ (next {h = h} l (begins_block who e)) q = none_above h l q
+none_above _ (next {h = h} l (fails_block who e f)) q = none_above h l q
+none_above _ (next {h = h} l (ends_block who e)) q = none_above h l q
+none_above _ (next {h = h} l (makes name new)) q = none_above h l q
 none_above _ (next {h = h} l (raises p v i e)) q = none_above h l q
-none_above _ (next {h = h} l (puts p e i s)) q = none_above h l q
+none_above _ (next {h = h} l (puts who p e i s o)) q = none_above h l q
 none_above _ (next {h = h} l (ticks_next p id time seq i e)) q = of (p == q) refl (none_above h l q)
   where
     of : (b : Bool) → (p == q) ≡ b → NoneAbove (ticks q h)
         → NoneAbove (if b then ticks q h ++ record { id = id; time = time; snapshot = snapshot h; seq = seq } ∷ [] else ticks q h)
     of true e' ih =
         let same : p ≡ q = grind (arith, nat_tests) in
-        NoneAbove-push (ticks q h) (record { id = id; time = time; snapshot = snapshot h; seq = seq }) ih (e ∙ ap (λ n. id_of (newest_tick (ticks n h)) + 1) same)
+        NoneAbove-push (ticks q h) (record { id = id; time = time; snapshot = snapshot h; seq = seq }) ih (subst (λ n. id_of (newest_tick (ticks n h)) < id) same e)
     of false e' ih = ih
-none_above _ (next {h = h} l (registers p name sub tick i)) q = none_above h l q
-none_above _ (next {h = h} l (opens b)) q = none_above h l q
-none_above _ (next {h = h} l (closes b)) q = none_above h l q
+none_above _ (next {h = h} l (registers p name sub tick i e f g)) q = none_above h l q
+none_above _ (next {h = h} l (opens b e)) q = none_above h l q
+none_above _ (next {h = h} l (closes b e)) q = none_above h l q
 
 -- the snapshot of the history as it was at a tick is the one that the tick keeps
 pub snapshot-at_tick : (h : History) → Legal h → (q id : ℕ) → snapshot (at_tick q id h) ≡ snapshot_at (tick id (ticks q h))
 snapshot-at_tick [] start q id = refl
-snapshot-at_tick _ (next {h = h} l (begins who)) q id = snapshot-at_tick h l q id
-snapshot-at_tick _ (next {h = h} l (ends who t runs)) q id = snapshot-at_tick h l q id
-snapshot-at_tick _ (next {h = h} l (makes name)) q id = snapshot-at_tick h l q id
+snapshot-at_tick _ (next {h = h} l (begins who e)) q id = snapshot-at_tick h l q id
+snapshot-at_tick _ (next {h = h} l (ends who t committed mine)) q id = snapshot-at_tick h l q id
+snapshot-at_tick _ (next {h = h} l (begins_block who e)) q id = snapshot-at_tick h l q id
+snapshot-at_tick _ (next {h = h} l (fails_block who e f)) q id = snapshot-at_tick h l q id
+snapshot-at_tick _ (next {h = h} l (ends_block who e)) q id = snapshot-at_tick h l q id
+snapshot-at_tick _ (next {h = h} l (makes name new)) q id = snapshot-at_tick h l q id
 snapshot-at_tick _ (next {h = h} l (raises p v i e)) q id = snapshot-at_tick h l q id
-snapshot-at_tick _ (next {h = h} l (puts p e i s)) q id = snapshot-at_tick h l q id
+snapshot-at_tick _ (next {h = h} l (puts who p e i s o)) q id = snapshot-at_tick h l q id
 snapshot-at_tick _ (next {h = h} l (ticks_next p m time seq i e)) q id = of (p == q) refl (snapshot-at_tick h l q id)
   where
     both : (found : Option Tick) → tick id (ticks q h) ≡ found → (b : Bool) → (m == id) ≡ b → p ≡ q → snapshot (at_tick q id h) ≡ snapshot_at (tick id (ticks q h))
         → snapshot (if b then h else at_tick q id h) ≡ snapshot_at (tick id (ticks q h ++ record { id = m; time = time; snapshot = snapshot h; seq = seq } ∷ []))
     both (Some u) is true e' same ih =
-        let above : id_of (newest_tick (ticks q h)) < id = (let is_next : m ≡ id_of (newest_tick (ticks q h)) + 1 = e ∙ ap (λ n. id_of (newest_tick (ticks n h)) + 1) same in grind (arith, nat_tests)) in
+        let above : id_of (newest_tick (ticks q h)) < id = (let more : id_of (newest_tick (ticks q h)) < m = subst (λ n. id_of (newest_tick (ticks n h)) < m) same e in grind (arith, nat_tests)) in
         let none : tick id (ticks q h) ≡ None = none_above h l q id above in
         cc
     both (Some u) is false e' same ih = ih ∙ ap snapshot_at is ∙ sym (ap snapshot_at (tick-push_found id (ticks q h) _ u is))
@@ -104,23 +113,26 @@ snapshot-at_tick _ (next {h = h} l (ticks_next p m time seq i e)) q id = of (p =
         ≡ snapshot_at (tick id (if b then ticks q h ++ record { id = m; time = time; snapshot = snapshot h; seq = seq } ∷ [] else ticks q h))
     of true e' ih = both (tick id (ticks q h)) refl (m == id) refl (grind (arith, nat_tests)) ih
     of false e' ih = ih
-snapshot-at_tick _ (next {h = h} l (registers p name sub t i)) q id = snapshot-at_tick h l q id
-snapshot-at_tick _ (next {h = h} l (opens b)) q id = snapshot-at_tick h l q id
-snapshot-at_tick _ (next {h = h} l (closes b)) q id = snapshot-at_tick h l q id
+snapshot-at_tick _ (next {h = h} l (registers p name sub t i e f g)) q id = snapshot-at_tick h l q id
+snapshot-at_tick _ (next {h = h} l (opens b e)) q id = snapshot-at_tick h l q id
+snapshot-at_tick _ (next {h = h} l (closes b e)) q id = snapshot-at_tick h l q id
 
 -- what stands below a tick is legal
 pub legal-at_tick : (h : History) → Legal h → (q id : ℕ) → Legal (at_tick q id h)
 legal-at_tick [] start q id = start
-legal-at_tick _ (next {h = h} l (begins who)) q id = legal-at_tick h l q id
-legal-at_tick _ (next {h = h} l (ends who t runs)) q id = legal-at_tick h l q id
-legal-at_tick _ (next {h = h} l (makes name)) q id = legal-at_tick h l q id
+legal-at_tick _ (next {h = h} l (begins who e)) q id = legal-at_tick h l q id
+legal-at_tick _ (next {h = h} l (ends who t committed mine)) q id = legal-at_tick h l q id
+legal-at_tick _ (next {h = h} l (begins_block who e)) q id = legal-at_tick h l q id
+legal-at_tick _ (next {h = h} l (fails_block who e f)) q id = legal-at_tick h l q id
+legal-at_tick _ (next {h = h} l (ends_block who e)) q id = legal-at_tick h l q id
+legal-at_tick _ (next {h = h} l (makes name new)) q id = legal-at_tick h l q id
 legal-at_tick _ (next {h = h} l (raises p v i e)) q id = legal-at_tick h l q id
-legal-at_tick _ (next {h = h} l (puts p e i s)) q id = legal-at_tick h l q id
+legal-at_tick _ (next {h = h} l (puts who p e i s o)) q id = legal-at_tick h l q id
 legal-at_tick _ (next {h = h} l (ticks_next p m time seq i e)) q id = of (p == q && m == id) l (legal-at_tick h l q id)
   where
     of : (b : Bool) → Legal h → Legal (at_tick q id h) → Legal (if b then h else at_tick q id h)
     of true l ih = l
     of false l ih = ih
-legal-at_tick _ (next {h = h} l (registers p name sub t i)) q id = legal-at_tick h l q id
-legal-at_tick _ (next {h = h} l (opens b)) q id = legal-at_tick h l q id
-legal-at_tick _ (next {h = h} l (closes b)) q id = legal-at_tick h l q id
+legal-at_tick _ (next {h = h} l (registers p name sub t i e f g)) q id = legal-at_tick h l q id
+legal-at_tick _ (next {h = h} l (opens b e)) q id = legal-at_tick h l q id
+legal-at_tick _ (next {h = h} l (closes b e)) q id = legal-at_tick h l q id

@@ -9,9 +9,9 @@ use Rattle.std.specs.List.{list_all}
 use Rattle.sky_model.specs.declared.stmt.Stmt.{Stmt}
 use Rattle.sky_model.specs.declared.line.Line.{Line}
 use Rattle.sky_model.specs.declared.line.Form.{Form}
-use Rattle.sky_model.specs.declared.line.Form.TheVariants.{OpenDb, CreateQueue, InsertEvent, Ticker, ForceTick, RegisterConsumer, NextBatch, GetBatchEvents, FinishBatch}
+use Rattle.sky_model.specs.declared.line.Form.TheVariants.{OpenDb, Close, Cancel, Begin, Commit, Rollback, TxidCurrent, TxidCurrentSnapshot, TxidVisibleInSnapshot, CreateQueue, InsertEvent, Ticker, ForceTick, RegisterConsumer, NextBatch, GetBatchEvents, FinishBatch}
 use Rattle.sky_model.specs.Words.{is_parting, quoted_after, with_first, pieces, words}
-use Rattle.sky_model.specs.Kinds.{Kind, Name, Consumer, Number, OptText, Of, value, continues_name, is_identifier, is_name, names_around, first_dot, is_consumer, is_number, number_from, is_text_byte, text_from, in_characters, quoted_text, opt_text}
+use Rattle.sky_model.specs.Kinds.{Kind, Name, Consumer, Number, OptText, Raw, Of, value, is_bare, is_bare_word, raw, continues_name, is_identifier, is_name, names_around, first_dot, is_consumer, is_number, number_from, is_text_byte, text_from, in_characters, quoted_text, opt_text}
 use Rattle.sky_model.specs.Grammar.{Row, stop, one, either, next, all_next, goes_on, when, reads, word_of, row_of, all_forms, named_form, statement_of, session_of, session_line, run_of, line_of_words}
 use Rattle.sky_model.proofs.NameLemmas.{list_all-is_identifier, around_dot}
 
@@ -145,6 +145,20 @@ whole-opt_text w text so =
       | false ↦ λ is e. let inner = option_map-Some (λ t. Some t) (quoted_text w) text e in whole-quoted_text w inner.0 inner.1
     ] refl so
 
+is_bare-plain : (b : ℕ) → is_bare b ≡ true → IsPlain b
+is_bare-plain b so = (grind (arith, nat_tests), grind (arith, nat_tests))
+
+whole-is_bare_word : (w : List ℕ) → is_bare_word w ≡ true → whole false w ≡ true
+whole-is_bare_word [] so = refl
+whole-is_bare_word (b ∷ bs) so = whole-list_all is_bare is_bare-plain (b ∷ bs) so
+
+whole-raw : (w text : List ℕ) → raw w ≡ Some text → whole false w ≡ true
+whole-raw w text so =
+    elim (is_bare_word w) as (λ v. is_bare_word w ≡ v → cond v (Some w) (quoted_text w) ≡ Some text → whole false w ≡ true) [
+      | true ↦ λ is e. whole-is_bare_word w is
+      | false ↦ λ is e. whole-quoted_text w text e
+    ] refl so
+
 -- a name is whole
 whole-is_name : (w : List ℕ) → is_name w ≡ true → whole false w ≡ true
 whole-is_name w so = whole-is_identifier w (and_parts (nat_le (length w) 63) (is_identifier w) so).1
@@ -159,6 +173,7 @@ whole-value (Number most) w v so =
     let parts = and_parts (is_number w) (nat_le (number_from 0 w) most) (cond-Some (is_number w && nat_le (number_from 0 w) most) (number_from 0 w) v so) in
     whole-is_number w parts.0
 whole-value OptText w v so = whole-opt_text w v so
+whole-value Raw w v so = whole-raw w v so
 
 -- a word behind which a row goes on is whole
 whole-when : (k : Kind) (w : List ℕ) (v : Option (Of k)) (f : Of k → Row) (row : Row) (rows : List Row) → value k w ≡ v → when v f ≡ row ∷ rows → whole false w ≡ true
@@ -192,6 +207,14 @@ whole-reads rows n (w ∷ ws) stmt so =
 
 whole-word_of : (form : Form) → whole false (word_of form) ≡ true
 whole-word_of OpenDb = refl
+whole-word_of Close = refl
+whole-word_of Cancel = refl
+whole-word_of Begin = refl
+whole-word_of Commit = refl
+whole-word_of Rollback = refl
+whole-word_of TxidCurrent = refl
+whole-word_of TxidCurrentSnapshot = refl
+whole-word_of TxidVisibleInSnapshot = refl
 whole-word_of CreateQueue = refl
 whole-word_of InsertEvent = refl
 whole-word_of Ticker = refl

@@ -1,5 +1,5 @@
 -- Lines and what they say, by computation: each form, and what comes close to one.
-use Rattle.std.specs.Prelude.{◌≡◌, ℕ, ◌-◌, ◌^◌, [], Some, None, Result, Ok, Err, codes, refl}
+use Rattle.std.specs.Prelude.{◌≡◌, ℕ, ◌-◌, ◌^◌, [], ◌∷◌, ◌++◌, Some, None, Result, Ok, Err, codes, refl}
 use Rattle.std.specs.Str.{is_utf8, chars}
 use Rattle.std.specs.Char.{encode_utf8}
 use Rattle.sky_model.specs.declared.stmt.Stmt.{Stmt}
@@ -13,6 +13,41 @@ runs stmt = Ok (Run (codes "a") stmt)
 
 open_db : line_of (codes "a: open p") ≡ runs (Stmt.OpenDb (codes "p"))
 open_db = refl
+
+close : line_of (codes "a: close") ≡ runs Stmt.Close
+close = refl
+
+cancel : line_of (codes "a: cancel") ≡ runs Stmt.Cancel
+cancel = refl
+
+begin : line_of (codes "a: begin") ≡ runs Stmt.Begin
+begin = refl
+
+commit : line_of (codes "a: commit") ≡ runs Stmt.Commit
+commit = refl
+
+rollback : line_of (codes "a: rollback") ≡ runs Stmt.Rollback
+rollback = refl
+
+txid_current : line_of (codes "a: txid_current") ≡ runs Stmt.TxidCurrent
+txid_current = refl
+
+txid_current_snapshot : line_of (codes "a: txid_current_snapshot") ≡ runs Stmt.TxidCurrentSnapshot
+txid_current_snapshot = refl
+
+txid_visible_in_snapshot : line_of (codes "a: txid_visible_in_snapshot 9 10:20:10,14,15") ≡ runs (Stmt.TxidVisibleInSnapshot 9 (codes "10:20:10,14,15"))
+txid_visible_in_snapshot = refl
+
+txid_visible_in_snapshot_quoted : line_of (codes "a: txid_visible_in_snapshot 9 'it''s a b'") ≡ runs (Stmt.TxidVisibleInSnapshot 9 (codes "it's a b"))
+unfolding is_utf8 chars encode_utf8
+txid_visible_in_snapshot_quoted = refl
+
+txid_visible_in_snapshot_empty : line_of (codes "a: txid_visible_in_snapshot 9 ''") ≡ runs (Stmt.TxidVisibleInSnapshot 9 [])
+unfolding is_utf8 chars encode_utf8
+txid_visible_in_snapshot_empty = refl
+
+txid_visible_in_snapshot_null : line_of (codes "a: txid_visible_in_snapshot 9 null") ≡ runs (Stmt.TxidVisibleInSnapshot 9 (codes "null"))
+txid_visible_in_snapshot_null = refl
 
 create_queue : line_of (codes "a: create_queue q") ≡ runs (Stmt.CreateQueue (codes "q"))
 create_queue = refl
@@ -123,3 +158,39 @@ three_texts = refl
 
 seven_texts : line_of (codes "a: insert_event q null null null null null null null") ≡ Err 10
 seven_texts = refl
+
+kind_of_block : line_of (codes "a: begin repeatable read") ≡ Err 3
+kind_of_block = refl
+
+word_behind_commit : line_of (codes "a: commit x") ≡ Err 3
+word_behind_commit = refl
+
+space_behind_rollback : line_of (codes "a: rollback ") ≡ Err 3
+space_behind_rollback = refl
+
+upper_form : line_of (codes "a: BEGIN") ≡ Err 2
+upper_form = refl
+
+shorter_form : line_of (codes "a: txid_current_") ≡ Err 2
+shorter_form = refl
+
+no_txid : line_of (codes "a: txid_visible_in_snapshot") ≡ Err 3
+no_txid = refl
+
+no_snapshot : line_of (codes "a: txid_visible_in_snapshot 9") ≡ Err 4
+no_snapshot = refl
+
+quote_in_word : line_of (codes "a: txid_visible_in_snapshot 9 a='x'") ≡ Err 4
+quote_in_word = refl
+
+quote_behind_word : line_of (codes "a: txid_visible_in_snapshot 9 10:20:'") ≡ Err 4
+quote_behind_word = refl
+
+tab_in_word : line_of (codes "a: txid_visible_in_snapshot 9 10:20:" ++ 9 ∷ []) ≡ Err 4
+tab_in_word = refl
+
+letter_beyond_ascii : line_of (codes "a: txid_visible_in_snapshot 9 10:20:" ++ 195 ∷ 169 ∷ []) ≡ Err 4
+letter_beyond_ascii = refl
+
+two_snapshots : line_of (codes "a: txid_visible_in_snapshot 9 10:20: 10:20:") ≡ Err 5
+two_snapshots = refl

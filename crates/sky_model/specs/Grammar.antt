@@ -4,9 +4,9 @@ use Rattle.sky_model.specs.declared.stmt.Stmt.{Stmt}
 use Rattle.sky_model.specs.declared.line.Line.{Line}
 use Rattle.sky_model.specs.declared.line.Line.TheVariants.{Blank, Run}
 use Rattle.sky_model.specs.declared.line.Form.{Form}
-use Rattle.sky_model.specs.declared.line.Form.TheVariants.{OpenDb, CreateQueue, InsertEvent, Ticker, ForceTick, RegisterConsumer, NextBatch, GetBatchEvents, FinishBatch}
+use Rattle.sky_model.specs.declared.line.Form.TheVariants.{OpenDb, Close, Cancel, Begin, Commit, Rollback, TxidCurrent, TxidCurrentSnapshot, TxidVisibleInSnapshot, CreateQueue, InsertEvent, Ticker, ForceTick, RegisterConsumer, NextBatch, GetBatchEvents, FinishBatch}
 use Rattle.sky_model.specs.Words.{words}
-use Rattle.sky_model.specs.Kinds.{Kind, Name, Consumer, Number, OptText, Of, value}
+use Rattle.sky_model.specs.Kinds.{Kind, Name, Consumer, Number, OptText, Raw, Of, value}
 
 -- what may follow in a line: its end, with the statement; a word of a kind, and on by its value; either of two
 pub data Row : Type 0 where
@@ -21,6 +21,14 @@ last k make = one k (λ v. stop (make v))
 -- the first words, one for each form
 abbrev pub word_of : Form → List ℕ
 word_of OpenDb = codes "open"
+word_of Close = codes "close"
+word_of Cancel = codes "cancel"
+word_of Begin = codes "begin"
+word_of Commit = codes "commit"
+word_of Rollback = codes "rollback"
+word_of TxidCurrent = codes "txid_current"
+word_of TxidCurrentSnapshot = codes "txid_current_snapshot"
+word_of TxidVisibleInSnapshot = codes "txid_visible_in_snapshot"
 word_of CreateQueue = codes "create_queue"
 word_of InsertEvent = codes "insert_event"
 word_of Ticker = codes "ticker"
@@ -45,6 +53,14 @@ insert_event =
 -- what follows the first word, for each form
 abbrev pub row_of : Form → Row
 row_of OpenDb = last Name (λ name. Stmt.OpenDb name)
+row_of Close = stop Stmt.Close
+row_of Cancel = stop Stmt.Cancel
+row_of Begin = stop Stmt.Begin
+row_of Commit = stop Stmt.Commit
+row_of Rollback = stop Stmt.Rollback
+row_of TxidCurrent = stop Stmt.TxidCurrent
+row_of TxidCurrentSnapshot = stop Stmt.TxidCurrentSnapshot
+row_of TxidVisibleInSnapshot = one (Number (2 ^ 64 - 1)) (λ txid. last Raw (λ snapshot. Stmt.TxidVisibleInSnapshot txid snapshot))
 row_of CreateQueue = last Name (λ queue. Stmt.CreateQueue queue)
 row_of InsertEvent = insert_event
 row_of Ticker = last Name (λ queue. Stmt.Ticker queue)
@@ -56,7 +72,9 @@ row_of FinishBatch = last (Number (2 ^ 64 - 1)) (λ batch. Stmt.FinishBatch batc
 
 -- every form, in the order of the statements
 abbrev pub all_forms : List Form
-all_forms = OpenDb ∷ CreateQueue ∷ InsertEvent ∷ Ticker ∷ ForceTick ∷ RegisterConsumer ∷ NextBatch ∷ GetBatchEvents ∷ FinishBatch ∷ []
+all_forms =
+    OpenDb ∷ Close ∷ Cancel ∷ Begin ∷ Commit ∷ Rollback ∷ TxidCurrent ∷ TxidCurrentSnapshot ∷ TxidVisibleInSnapshot
+    ∷ CreateQueue ∷ InsertEvent ∷ Ticker ∷ ForceTick ∷ RegisterConsumer ∷ NextBatch ∷ GetBatchEvents ∷ FinishBatch ∷ []
 
 -- the row of the first form with this first word, in a list of at most one
 abbrev pub named_form : List ℕ → List Form → List Row

@@ -35,6 +35,12 @@ pub data Mark : Type 0 where
   began : (who t : ℕ) → Mark
   -- it ended
   ended : (who t : ℕ) (committed : Bool) → Mark
+  -- the session began a transaction block
+  block_begun : (who : ℕ) → Mark
+  -- a refusal aborted it
+  block_failed : (who : ℕ) → Mark
+  -- the session ended it
+  block_ended : (who : ℕ) → Mark
   queued : QueueMark → Mark
 
 -- what happened in one database
@@ -50,6 +56,8 @@ pub data Fact : Type 0 where
   founded : (name : List ℕ) → Fact
   -- a session opened a database
   entered : (who database : ℕ) → Fact
+  -- a session left the database that it had open
+  left : (who : ℕ) → Fact
   -- something happened in a database
   within : (database : ℕ) (mark : Mark) → Fact
 

@@ -10,6 +10,7 @@ pub data Kind : Type 0 where
   Consumer : Kind
   Number : ℕ → Kind
   OptText : Kind
+  Raw : Kind
 
 -- what a word of a kind is worth
 abbrev pub Of : Kind → Type 0
@@ -17,6 +18,7 @@ Of Name = List ℕ
 Of Consumer = List ℕ
 Of (Number most) = ℕ
 Of OptText = Option (List ℕ)
+Of Raw = List ℕ
 
 -- a lower-case letter or `_`
 abbrev pub begins_name : ℕ → Bool
@@ -88,9 +90,23 @@ quoted_text (b ∷ bs) = if b == 39 then in_characters (text_from false bs) else
 abbrev pub opt_text : List ℕ → Option (Option (List ℕ))
 opt_text w = if bytes_eq w (codes "null") then Some None else option_map (λ text. Some text) (quoted_text w)
 
+-- a byte that may stand outside quotes: printable, and neither the space nor the quote
+abbrev pub is_bare : ℕ → Bool
+is_bare b = nat_le 33 b && nat_le b 126 && not (b == 39)
+
+-- a word without quotes
+abbrev pub is_bare_word : List ℕ → Bool
+is_bare_word [] = false
+is_bare_word (b ∷ bs) = list_all is_bare (b ∷ bs)
+
+-- a word without quotes, or the text of a quoted word
+abbrev pub raw : List ℕ → Option (List ℕ)
+raw w = if is_bare_word w then Some w else quoted_text w
+
 -- the value of a word of a kind; no value where the word is of another
 abbrev pub value : (k : Kind) → List ℕ → Option (Of k)
 value Name w = if is_name w then Some w else None
 value Consumer w = if is_consumer w then Some w else None
 value (Number most) w = number_of most w
 value OptText w = opt_text w
+value Raw w = raw w

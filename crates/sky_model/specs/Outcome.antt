@@ -1,9 +1,11 @@
 -- What a statement does: its answer and its marks, or a refusal.
-use Rattle.std.specs.Prelude.{List, [], Bool, true, false, Option, Some, None, Result, Ok, Err}
+use Rattle.std.specs.Prelude.{ℕ, List, [], ◌∷◌, ◌++◌, if◌then◌else◌, Bool, true, false, Option, Some, None, Result, Ok, Err}
 use Rattle.sky_model.specs.declared.reply.Reply.{Reply}
 use Rattle.sky_model.specs.declared.reply.Reply.TheVariants.{Refused}
 use Rattle.sky_model.specs.declared.reply.Refusal.{Refusal}
-use Rattle.sky_model.specs.History.{Mark}
+use Rattle.sky_model.specs.declared.reply.Refusal.TheVariants.{AlreadyOpen}
+use Rattle.sky_model.specs.History.{Mark, ended, block_failed}
+use Rattle.sky_model.specs.Sessions.{Block, inside, Session}
 
 -- an answer, and what happened, the first mark first
 pub record Outcome : Type 0 where
@@ -42,7 +44,22 @@ answers reply = Ok (record { reply = reply; marks = [] })
 abbrev pub does_marks : Reply → List Mark → Checked Outcome
 does_marks reply marks = Ok (record { reply = reply; marks = marks })
 
--- a refusal is an answer too
-abbrev pub settled : Checked Outcome → Outcome
-settled (Ok outcome) = outcome
-settled (Err refusal) = record { reply = Refused refusal; marks = [] }
+-- the end of a session's transaction, if it has got an id
+abbrev pub end_of : Bool → ℕ → Option ℕ → List Mark
+end_of committed who None = []
+end_of committed who (Some t) = ended who t committed ∷ []
+
+-- a refusal aborts the session's transaction, but for these
+abbrev pub aborts : Refusal → Bool
+aborts AlreadyOpen = false
+aborts _ = true
+
+-- what a refusal leaves in a session: a block that it was in is rolled back, and stays aborted
+abbrev pub abort : ℕ → Block → Option ℕ → Refusal → List Mark
+abort who inside txid refusal = if aborts refusal then end_of false who txid ++ block_failed who ∷ [] else []
+abort who _ txid refusal = []
+
+-- a refusal of a session's statement is an answer too
+abbrev pub settled : ℕ → Session → Checked Outcome → Outcome
+settled who s (Ok outcome) = outcome
+settled who s (Err refusal) = record { reply = Refused refusal; marks = abort who s.block s.txid refusal }

@@ -1,13 +1,14 @@
 -- How answers are printed.
-use Rattle.std.specs.Prelude.{ℕ, ◌<◌, ◌==◌, List, [], ◌∷◌, ◌++◌, map, flat_map, length, All, Option, Some, None, unwrap_or, slice_get, if◌then◌else◌, codes}
+use Rattle.std.specs.Prelude.{ℕ, ◌<◌, ◌==◌, true, false, List, [], ◌∷◌, ◌++◌, map, flat_map, length, All, Option, Some, None, unwrap_or, slice_get, if◌then◌else◌, codes}
 use Rattle.std.specs.Fmt.{decimal}
 use Rattle.sky_val.specs.declared.event.Event.{Event}
 use Rattle.sky_model.specs.declared.reply.Reply.{Reply}
-use Rattle.sky_model.specs.declared.reply.Reply.TheVariants.{Done, Number, Null, Events, Refused}
+use Rattle.sky_model.specs.declared.reply.Reply.TheVariants.{Done, Number, Null, Bool, Begin, AlreadyInTransaction, Commit, Rollback, NoTransaction, NotWaiting, Snapshot, Events, Refused}
 use Rattle.sky_model.specs.declared.reply.Limit.{Limit}
 use Rattle.sky_model.specs.declared.reply.Limit.TheVariants.{Sessions, Databases, Queues, Consumers}
 use Rattle.sky_model.specs.declared.reply.Refusal.{Refusal}
-use Rattle.sky_model.specs.declared.reply.Refusal.TheVariants.{AlreadyOpen, EventIdsSpent, IdsSpent, NoBatch, NoConsumer, NodeConsumer, NoQueue, NotOpen, TooMany, TxidsSpent}
+use Rattle.sky_model.specs.declared.reply.Refusal.TheVariants.{Aborted, AlreadyOpen, BadSnapshot, EventIdsSpent, IdsSpent, InTransaction, NoBatch, NoConsumer, NodeConsumer, NoQueue, NotOpen, TooMany, TxidsSpent}
+use Rattle.sky_txid.specs.SnapshotText.{snapshot_text}
 use Rattle.sky_model.specs.Moment.{moment, HasMoment}
 
 -- a text with each quote in it twice
@@ -53,9 +54,12 @@ limit_text Consumers = codes "consumers 256"
 
 -- a refusal
 abbrev pub refusal_text : Refusal → List ℕ
+refusal_text Aborted = codes "Aborted"
 refusal_text AlreadyOpen = codes "AlreadyOpen"
+refusal_text BadSnapshot = codes "BadSnapshot"
 refusal_text EventIdsSpent = codes "EventIdsSpent"
 refusal_text IdsSpent = codes "IdsSpent"
+refusal_text InTransaction = codes "InTransaction"
 refusal_text NoBatch = codes "NoBatch"
 refusal_text (NoConsumer name) = codes "NoConsumer " ++ name
 refusal_text NodeConsumer = codes "NodeConsumer"
@@ -69,6 +73,15 @@ abbrev pub reply_lines : Reply → List (List ℕ)
 reply_lines Done = codes "ok" ∷ []
 reply_lines (Number n) = decimal n ∷ []
 reply_lines Null = codes "null" ∷ []
+reply_lines (Bool true) = codes "true" ∷ []
+reply_lines (Bool false) = codes "false" ∷ []
+reply_lines Begin = codes "BEGIN" ∷ []
+reply_lines AlreadyInTransaction = codes "WARNING already in a transaction" ∷ []
+reply_lines Commit = codes "COMMIT" ∷ []
+reply_lines Rollback = codes "ROLLBACK" ∷ []
+reply_lines NoTransaction = codes "WARNING no transaction" ∷ []
+reply_lines NotWaiting = codes "not waiting" ∷ []
+reply_lines (Snapshot s) = snapshot_text s ∷ []
 reply_lines (Events events) = map event_text events ++ (codes "rows " ++ decimal (length events)) ∷ []
 reply_lines (Refused refusal) = (codes "error " ++ refusal_text refusal) ∷ []
 
@@ -98,11 +111,8 @@ EventsHaveMoments events = All (λ e. HasMoment e.ev_time) events
 
 -- the same of the events of an answer
 abbrev pub ReplyHasMoments : Reply → Type 0
-ReplyHasMoments Done = Unit {0}
-ReplyHasMoments (Number n) = Unit {0}
-ReplyHasMoments Null = Unit {0}
 ReplyHasMoments (Events events) = EventsHaveMoments events
-ReplyHasMoments (Refused refusal) = Unit {0}
+ReplyHasMoments _ = Unit {0}
 
 -- and of those of every answer
 abbrev pub HaveMoments : List (ℕ × Reply) → Type 0

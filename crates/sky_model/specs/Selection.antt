@@ -12,13 +12,13 @@ abbrev pub snapshot_at : Option Tick → SnapshotView
 snapshot_at None = snapshot_of 3 []
 snapshot_at (Some t) = t.snapshot
 
--- an event is one of those between two ticks, for a subscription
-abbrev pub is_selected : SnapshotView → SnapshotView → ℕ → Event → Bool
-is_selected from to sub e = sees to e.ev_txid && not (sees from e.ev_txid) && is_for sub e.ev_owner
+-- an event is one of those between two ticks, for a subscription, and wasn't rolled back
+abbrev pub is_selected : (ℕ → Bool) → SnapshotView → SnapshotView → ℕ → Event → Bool
+is_selected undone from to sub e = sees to e.ev_txid && not (sees from e.ev_txid) && not (undone e.ev_txid) && is_for sub e.ev_owner
 
 -- the stored events whose transaction the closing tick's snapshot sees and the opening one's doesn't
-abbrev pub selected_in : Queue → Batch → List Event
-selected_in q b = filter (is_selected (snapshot_at (tick b.prev q.clock_ticks)) (snapshot_at (tick b.cur q.clock_ticks)) b.sub) q.stored
+abbrev pub selected_in : (ℕ → Bool) → Queue → Batch → List Event
+selected_in undone q b = filter (is_selected undone (snapshot_at (tick b.prev q.tick_list)) (snapshot_at (tick b.cur q.tick_list)) b.sub) q.stored
 
 abbrev pub selected : Database → Batch → List Event
-selected d b = selected_in (d.queue b.queue) b
+selected d b = selected_in d.undone (d.queue b.queue) b

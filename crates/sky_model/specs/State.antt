@@ -1,36 +1,42 @@
 -- What a database and the world show at a place: all that a statement reads, each part by its
 -- definition. The code keeps these, and a mark changes them.
-use Rattle.std.specs.Prelude.{ℕ, ◌+◌, List, [], ◌∷◌, ◌++◌, not, Option, Some, None, ◌==◌, bytes_eq, filter, option_map, if◌then◌else◌}
+use Rattle.std.specs.Prelude.{ℕ, ◌+◌, List, [], ◌∷◌, ◌++◌, Bool, true, false, not, ◌||◌, Option, Some, None, ◌==◌, bytes_eq, filter, option_map, if◌then◌else◌}
 use Rattle.sky_val.specs.declared.event.Event.{Event}
 use Rattle.sky_txid.specs.Snapshot.{snapshot_of}
-use Rattle.sky_model.specs.History.{Batch, Mark, began, ended, queued, QueueMark, made, raised, put, ticked, registered, opened, closed, History}
-use Rattle.sky_model.specs.Transactions.{next_txid, running}
+use Rattle.sky_model.specs.History.{Batch, Mark, began, ended, block_begun, block_failed, block_ended, queued, QueueMark, made, raised, put, ticked, registered, opened, closed, History}
+use Rattle.sky_model.specs.Transactions.{next_txid, running, has_rolled_back}
+use Rattle.sky_model.specs.Sessions.{inside, failed, outside, Session, session}
+use Rattle.sky_model.specs.Config.{Config, config}
 use Rattle.sky_model.specs.Queues.{queue_names, sequence, events, Tick, ticks}
 use Rattle.sky_model.specs.Consumers.{consumers, Subscription, subscription, last_subscription, last_batch, active_batch}
 
 -- a queue, as a statement reads it
 pub record Queue : Type 0 where
+  pub config : Config
   pub seq : ℕ
   pub stored : List Event
-  pub clock_ticks : List Tick
+  pub tick_list : List Tick
   pub members : List (List ℕ)
   pub sub : List ℕ → Option Subscription
 
 -- a database, as a statement reads it
 pub record Database : Type 0 where
   pub next : ℕ
-  pub live : List ℕ
-  pub batch_count : ℕ
-  pub sub_count : ℕ
+  pub running_ids : List ℕ
+  pub undone : ℕ → Bool
+  pub session : ℕ → Session
+  pub last_batch_id : ℕ
+  pub last_sub_id : ℕ
   pub names : List (List ℕ)
   pub queue : ℕ → Queue
   pub batch : ℕ → Option Batch
 
 abbrev pub queue_of : History → ℕ → Queue
 queue_of h q = record {
+  config = config q h;
   seq = sequence q h;
   stored = events q h;
-  clock_ticks = ticks q h;
+  tick_list = ticks q h;
   members = consumers q h;
   sub = λ name. subscription q name h;
 }
@@ -38,9 +44,11 @@ queue_of h q = record {
 abbrev pub database_of : History → Database
 database_of h = record {
   next = next_txid h;
-  live = running h;
-  batch_count = last_batch h;
-  sub_count = last_subscription h;
+  running_ids = running h;
+  undone = has_rolled_back h;
+  session = session h;
+  last_batch_id = last_batch h;
+  last_sub_id = last_subscription h;
   names = queue_names h;
   queue = queue_of h;
   batch = λ id. active_batch id h;
@@ -69,18 +77,18 @@ after_queue_mark d (raised q value) = record d { queue = changed_at q (λ x. rec
 after_queue_mark d (put q event) = record d { queue = changed_at q (λ x. record x { stored = x.stored ++ event ∷ [] }) d.queue }
 after_queue_mark d (ticked q id time seq) = record d {
   queue = changed_at q (λ x. record x {
-    clock_ticks = x.clock_ticks ++ record { id = id; time = time; snapshot = snapshot_of d.next d.live; seq = seq } ∷ [];
+    tick_list = x.tick_list ++ record { id = id; time = time; snapshot = snapshot_of d.next d.running_ids; seq = seq } ∷ [];
   }) d.queue;
 }
 after_queue_mark d (registered q name id tick) = record d {
-  sub_count = id;
+  last_sub_id = id;
   queue = changed_at q (λ x. record x {
     members = x.members ++ name ∷ [];
     sub = changed_for name (λ _. Some (record { id = id; position = tick; active = None })) x.sub;
   }) d.queue;
 }
 after_queue_mark d (opened b) = record d {
-  batch_count = b.id;
+  last_batch_id = b.id;
   batch = changed_at b.id (λ _. Some b) d.batch;
   queue = changed_at b.queue (λ x. record x {
     sub = changed_for b.consumer (option_map (with_batch b.id)) x.sub;
@@ -95,8 +103,23 @@ after_queue_mark d (closed b) = record d {
 
 -- a database after a mark
 abbrev pub after_mark : Database → Mark → Database
-after_mark d (began who t) = record d { next = d.next + 1; live = d.live ++ t ∷ [] }
-after_mark d (ended who t committed) = record d { live = filter (λ u. not (u == t)) d.live }
+after_mark d (began who t) = record d {
+  next = d.next + 1;
+  running_ids = d.running_ids ++ t ∷ [];
+  session = changed_at who (λ s. record s { txid = Some t }) d.session;
+}
+after_mark d (ended who t true) = record d {
+  running_ids = filter (λ u. not (u == t)) d.running_ids;
+  session = changed_at who (λ s. record s { txid = None }) d.session;
+}
+after_mark d (ended who t false) = record d {
+  running_ids = filter (λ u. not (u == t)) d.running_ids;
+  undone = λ u. u == t || d.undone u;
+  session = changed_at who (λ s. record s { txid = None }) d.session;
+}
+after_mark d (block_begun who) = record d { session = changed_at who (λ s. record s { block = inside }) d.session }
+after_mark d (block_failed who) = record d { session = changed_at who (λ s. record s { block = failed }) d.session }
+after_mark d (block_ended who) = record d { session = changed_at who (λ s. record s { block = outside }) d.session }
 after_mark d (queued mark) = after_queue_mark d mark
 
 -- a database after marks, the first one first

@@ -23,17 +23,17 @@ register_consumer d name consumer = do
   refused_if (has_dot consumer) NodeConsumer
   if is_some ((d.queue queue).sub consumer) then answers (Number 0) else (do
     refused_if (nat_le 256 (length (d.queue queue).members)) (TooMany Consumers)
-    refused_if (nat_le (2 ^ 64) (d.sub_count + 1)) IdsSpent
-    does_marks (Number 1) (queued (registered queue consumer (d.sub_count + 1) (newest_id (d.queue queue))) ∷ []))
+    refused_if (nat_le (2 ^ 64) (d.last_sub_id + 1)) IdsSpent
+    does_marks (Number 1) (queued (registered queue consumer (d.last_sub_id + 1) (newest_id (d.queue queue))) ∷ []))
 
 -- a new batch, from a subscription's position to the tick with the next id, where that is made
 abbrev pub opens_batch : Database → ℕ → List ℕ → Subscription → Option Tick → Checked Outcome
 opens_batch d queue consumer sub None = answers Null
 opens_batch d queue consumer sub (Some next) = do
-  refused_if (nat_le (2 ^ 64) (d.batch_count + 1)) IdsSpent
-  does_marks (Number (d.batch_count + 1))
+  refused_if (nat_le (2 ^ 64) (d.last_batch_id + 1)) IdsSpent
+  does_marks (Number (d.last_batch_id + 1))
       (queued (opened (record {
-        id = d.batch_count + 1;
+        id = d.last_batch_id + 1;
         queue = queue;
         consumer = consumer;
         sub = sub.id;
@@ -44,7 +44,7 @@ opens_batch d queue consumer sub (Some next) = do
 -- the active batch, else a new one
 abbrev pub takes_batch : Database → ℕ → List ℕ → Subscription → Option ℕ → Checked Outcome
 takes_batch d queue consumer sub (Some batch) = answers (Number batch)
-takes_batch d queue consumer sub None = opens_batch d queue consumer sub (tick (sub.position + 1) (d.queue queue).clock_ticks)
+takes_batch d queue consumer sub None = opens_batch d queue consumer sub (tick (sub.position + 1) (d.queue queue).tick_list)
 
 -- `next_batch NAME CONSUMER`
 abbrev pub next_batch : Database → List ℕ → List ℕ → Checked Outcome

@@ -1,13 +1,15 @@
 -- What the statements on queues do. Each reads the database `d` as it stands.
-use Rattle.std.specs.Prelude.{ℕ, ◌+◌, ◌-◌, ◌*◌, ◌^◌, ℤ, pos, ◌-ℤ◌, ◌*ℤ◌, List, [], ◌∷◌, Bool, true, false, not, ◌&&◌, ◌||◌, Option, Some, None, nat_lt, nat_le, is_some, length, int_lt, Ok, if◌then◌else◌}
+use Rattle.std.specs.Prelude.{ℕ, ◌+◌, ◌-◌, ◌*◌, ◌^◌, ℤ, pos, ◌-ℤ◌, ◌*ℤ◌, List, [], ◌∷◌, ◌++◌, Bool, true, false, not, ◌&&◌, ◌||◌, Option, Some, None, nat_lt, nat_le, is_some, length, int_lt, Ok, if◌then◌else◌}
 use Rattle.sky_val.specs.declared.event.Event.{Event}
 use Rattle.sky_model.specs.declared.stmt.Extra.{Extra}
 use Rattle.sky_model.specs.declared.reply.Reply.TheVariants.{Number, Null}
 use Rattle.sky_model.specs.declared.reply.Limit.TheVariants.{Queues}
 use Rattle.sky_model.specs.declared.reply.Refusal.TheVariants.{NoQueue, TooMany, TxidsSpent, EventIdsSpent, IdsSpent}
 use Rattle.sky_names.specs.Places.{place_of}
-use Rattle.sky_model.specs.History.{began, ended, queued, made, raised, put, ticked}
+use Rattle.sky_model.specs.History.{Mark, began, ended, queued, made, raised, put, ticked}
 use Rattle.sky_model.specs.Queues.{Tick, newest_tick}
+use Rattle.sky_model.specs.Sessions.{Block, outside, Session}
+use Rattle.sky_model.specs.Config.{Config}
 use Rattle.sky_model.specs.State.{Queue, Database}
 use Rattle.sky_model.specs.Outcome.{Outcome, Checked, ◌>>=◌, ◌>>◌, refused_if, found_or, answers, does_marks}
 
@@ -15,20 +17,38 @@ use Rattle.sky_model.specs.Outcome.{Outcome, Checked, ◌>>=◌, ◌>>◌, refus
 abbrev pub queue_called : List ℕ → Database → Checked ℕ
 queue_called name d = found_or (place_of name d.names) (NoQueue name)
 
--- the next transaction id, if there is one
-abbrev pub next_id : Database → Checked ℕ
-next_id d = do
+-- the id of a session's transaction: its own, or the next one, if there is one
+abbrev pub own_or_next : Database → Option ℕ → Checked ℕ
+own_or_next d (Some t) = Ok t
+own_or_next d None = do
   refused_if (nat_le (2 ^ 62) d.next) TxidsSpent
   Ok d.next
+
+abbrev pub txid_for : Database → ℕ → Checked ℕ
+txid_for d who = own_or_next d (d.session who).txid
+
+-- a transaction gets its id at its first write
+abbrev pub begin_of : ℕ → ℕ → Option ℕ → List Mark
+begin_of who t None = began who t ∷ []
+begin_of who t (Some own) = []
+
+-- outside a block a statement is a transaction of its own, which commits
+abbrev pub commit_of : ℕ → ℕ → Block → List Mark
+commit_of who t outside = ended who t true ∷ []
+commit_of who t _ = []
+
+-- what a session writes, in its transaction with this id
+abbrev pub written : ℕ → ℕ → Session → List Mark → List Mark
+written who t s marks = begin_of who t s.txid ++ marks ++ commit_of who t s.block
 
 -- `create_queue NAME`: a queue with its first tick, which is made when the transaction has ended
 abbrev pub create_queue : Database → ℤ → ℕ → List ℕ → Checked Outcome
 create_queue d now who name =
     if is_some (place_of name d.names) then answers (Number 0) else do
       refused_if (nat_le 64 (length d.names)) (TooMany Queues)
-      t ← next_id d
+      t ← txid_for d who
       does_marks (Number 1)
-          (began who t ∷ queued (made name) ∷ ended who t true ∷ queued (ticked (length d.names) 1 now 0) ∷ [])
+          (written who t (d.session who) (queued (made name) ∷ []) ++ queued (ticked (length d.names) 1 now 0) ∷ [])
 
 -- the further texts of an event
 abbrev pub extra_of : (Extra → Option (List ℕ)) → Option Extra → Option (List ℕ)
@@ -61,21 +81,10 @@ next_event_id q = do
 abbrev pub insert_event : Database → ℤ → ℕ → List ℕ → Option (List ℕ) → Option (List ℕ) → Option Extra → Checked Outcome
 insert_event d now who name ev_type ev_data extra = do
   queue ← queue_called name d
-  t ← next_id d
+  t ← txid_for d who
   id ← next_event_id (d.queue queue)
   does_marks (Number id)
-      (began who t ∷ queued (raised queue id) ∷ queued (put queue (made_event id now t ev_type ev_data extra)) ∷ ended who t true ∷ [])
-
--- how a queue's ticker is set; its times are in microseconds
-pub record Config : Type 0 where
-  pub max_count : ℕ
-  pub max_lag : ℤ
-  pub idle_period : ℤ
-  pub paused : Bool
-
--- as it is set from the start: 500 events, 3 seconds, 1 minute
-abbrev pub default_config : Config
-default_config = record { max_count = 500; max_lag = pos 3000000; idle_period = pos 60000000; paused = false }
+      (written who t (d.session who) (queued (raised queue id) ∷ queued (put queue (made_event id now t ev_type ev_data extra)) ∷ []))
 
 -- without a new event a tick is due where no other is kept, or the queue has been idle long enough:
 -- twice the lag reaches the limit, and the lag twice the time between the last two ticks or the idle period
@@ -103,8 +112,8 @@ abbrev pub due_of : Config → ℤ → ℕ → Option (Tick × Option Tick) → 
 due_of config now seq None = false
 due_of config now seq (Some (last, before)) = not config.paused && is_due_after config now seq last before
 
-abbrev pub is_due : Config → ℤ → Queue → Bool
-is_due config now q = due_of config now q.seq (last_two None q.clock_ticks)
+abbrev pub is_due : ℤ → Queue → Bool
+is_due now q = due_of q.config now q.seq (last_two None q.tick_list)
 
 -- the id of the newest tick
 abbrev pub id_of : Option Tick → ℕ
@@ -112,23 +121,26 @@ id_of None = 0
 id_of (Some t) = t.id
 
 abbrev pub newest_id : Queue → ℕ
-newest_id q = id_of (newest_tick q.clock_ticks)
+newest_id q = id_of (newest_tick q.tick_list)
 
 -- `ticker NAME`: a tick where one is due
 abbrev pub ticker : Database → ℤ → List ℕ → Checked Outcome
 ticker d now name = do
   queue ← queue_called name d
-  if is_due default_config now (d.queue queue)
+  if is_due now (d.queue queue)
       then (do
         refused_if (nat_le (2 ^ 64) (newest_id (d.queue queue) + 1)) IdsSpent
         does_marks (Number (newest_id (d.queue queue) + 1))
             (queued (ticked queue (newest_id (d.queue queue) + 1) now (d.queue queue).seq) ∷ []))
       else answers Null
 
--- `force_tick NAME`: the sequence rises so far that a tick is due
+-- how far `force_tick` raises the sequence, so that a tick is due
+abbrev pub forced : Config → ℕ
+forced c = 2 * c.max_count + 1000
+
+-- `force_tick NAME`
 abbrev pub force_tick : Database → List ℕ → Checked Outcome
 force_tick d name = do
   queue ← queue_called name d
-  refused_if (nat_le (2 ^ 62) ((d.queue queue).seq + (2 * default_config.max_count + 1000))) EventIdsSpent
-  does_marks (Number (newest_id (d.queue queue)))
-      (queued (raised queue ((d.queue queue).seq + (2 * default_config.max_count + 1000))) ∷ [])
+  refused_if (nat_le (2 ^ 62) ((d.queue queue).seq + forced (d.queue queue).config)) EventIdsSpent
+  does_marks (Number (newest_id (d.queue queue))) (queued (raised queue ((d.queue queue).seq + forced (d.queue queue).config)) ∷ [])

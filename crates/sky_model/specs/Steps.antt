@@ -1,10 +1,9 @@
 -- What a step promises: for every list of calls after which the world was as it was, the answers are those
 -- that the definitions give there, and the world is as it is after the call.
-use Rattle.std.specs.Prelude.{◌≡◌, ℕ, List, [], ◌∷◌}
+use Rattle.std.specs.Prelude.{◌≡◌, ℕ, List, ◌∷◌}
 use Rattle.sky_model.specs.declared.reply.Reply.{Reply}
-use Rattle.sky_names.specs.Places.{place_of}
 use Rattle.sky_model.specs.Selection.{selected}
-use Rattle.sky_model.specs.World.{World, world_of, Call, Deed, step, past_of, answers_of, number_or_next, after_facts}
+use Rattle.sky_model.specs.World.{World, world_of, Call, Deed, step, past_of, answers_of, after_facts}
 
 pub record Steps (old new : World) (call : Call) (replies : List (ℕ × Reply)) : Type 0 where
   pub replied : (calls : List Call) → old ≡ world_of (past_of calls) → replies ≡ answers_of (past_of calls) call
@@ -16,7 +15,7 @@ deed_at w call = step w (λ d. selected (w.database d)) call
 
 -- the answers of a call, by what the world shows alone
 abbrev pub answers_at : World → Call → List (ℕ × Reply)
-answers_at w call = (number_or_next (place_of call.who w.sessions) w.sessions, (deed_at w call).reply) ∷ []
+answers_at w call = (deed_at w call).answers
 
 -- the world after a call, by what the world showed alone
 abbrev pub after_call : World → Call → World

@@ -1,5 +1,5 @@
 -- Transactions: which ids were given, which run, which have ended, and what a snapshot lists.
-use Rattle.std.specs.Prelude.{ℕ, ◌+◌, List, [], ◌∷◌, ◌++◌, Bool, true, not, ◌||◌, ◌==◌, nat_lt, filter}
+use Rattle.std.specs.Prelude.{ℕ, ◌+◌, List, [], ◌∷◌, ◌++◌, Bool, true, false, not, ◌||◌, ◌==◌, nat_lt, filter}
 use Rattle.sky_txid.specs.Snapshot.{SnapshotView, snapshot_of}
 use Rattle.sky_model.specs.History.{began, ended, History}
 
@@ -27,6 +27,12 @@ abbrev pub has_committed : History → ℕ → Bool
 has_committed [] t = nat_lt t 3
 has_committed (ended who u true ∷ h) t = t == u || has_committed h t
 has_committed (_ ∷ h) t = has_committed h t
+
+-- a transaction has rolled back
+abbrev pub has_rolled_back : History → ℕ → Bool
+has_rolled_back [] t = false
+has_rolled_back (ended who u false ∷ h) t = t == u || has_rolled_back h t
+has_rolled_back (_ ∷ h) t = has_rolled_back h t
 
 -- the snapshot at a place
 abbrev pub snapshot : History → SnapshotView

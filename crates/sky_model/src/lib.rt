@@ -11,6 +11,6 @@ mod line;
 mod reply;
 mod stmt;
 
-pub use line::{Form, Line};
+pub use line::{Cause, Form, Line};
 pub use reply::{Events, Limit, Refusal, Replies, Reply};
-pub use stmt::{Extra, Stmt};
+pub use stmt::{Extra, Stmt, Where};

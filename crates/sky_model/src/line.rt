@@ -5,6 +5,14 @@ use sky_val::Text;
 #[derive(Clone, Copy, Debug, PartialEq, Eq)]
 pub enum Form {
     OpenDb,
+    Close,
+    Cancel,
+    Begin,
+    Commit,
+    Rollback,
+    TxidCurrent,
+    TxidCurrentSnapshot,
+    TxidVisibleInSnapshot,
     CreateQueue,
     InsertEvent,
     Ticker,
@@ -13,6 +21,21 @@ pub enum Form {
     NextBatch,
     GetBatchEvents,
     FinishBatch,
+}
+
+/// Why a line is bad.
+#[derive(Clone, Copy, Debug, PartialEq, Eq)]
+pub enum Cause {
+    /// It has more bytes than a line may have.
+    TooLong,
+    /// It is the last line and no line feed ends it.
+    Truncated,
+    /// It ends behind more bytes than a script may have.
+    ScriptTooLong,
+    /// Its bytes are not UTF-8.
+    NotUtf8,
+    /// No line of the grammar begins with its words up to this one, of which the first is 1.
+    BadWord(usize),
 }
 
 /// What a line of a script says.

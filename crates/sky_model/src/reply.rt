@@ -1,5 +1,6 @@
 ghost use Rattle.std.specs.Prelude.{◌≡◌, [], ◌∷◌, ◌++◌, OnOk, OnErr};
 
+use sky_txid::Snapshot;
 use sky_val::{Event, SessionId, Text};
 use std::alloc::{AllocError, Global};
 use std::marker::Model;
@@ -20,12 +21,18 @@ pub enum Limit {
 /// Why a statement is refused.
 #[derive(Debug)]
 pub enum Refusal {
+    /// The session's transaction block is aborted.
+    Aborted,
     /// The session has a database open already.
     AlreadyOpen,
+    /// The text is no snapshot.
+    BadSnapshot,
     /// The sequence of the queue's event ids has ended.
     EventIdsSpent,
     /// The last tick, batch or subscription id was given.
     IdsSpent,
+    /// The statement may not stand in a transaction block.
+    InTransaction,
     /// No active batch of the database has this id.
     NoBatch,
     /// The queue has no such consumer.
@@ -45,9 +52,12 @@ pub enum Refusal {
 impl Drop for Refusal {
     fn drop(self) {
         match self {
+            Refusal::Aborted => {}
             Refusal::AlreadyOpen => {}
+            Refusal::BadSnapshot => {}
             Refusal::EventIdsSpent => {}
             Refusal::IdsSpent => {}
+            Refusal::InTransaction => {}
             Refusal::NoBatch => {}
             Refusal::NoConsumer(_) => {}
             Refusal::NodeConsumer => {}
@@ -98,6 +108,22 @@ pub enum Reply {
     Number(u64),
     /// `null`
     Null,
+    /// `true` or `false`
+    Bool(bool),
+    /// `BEGIN`
+    Begin,
+    /// `WARNING already in a transaction`
+    AlreadyInTransaction,
+    /// `COMMIT`
+    Commit,
+    /// `ROLLBACK`
+    Rollback,
+    /// `WARNING no transaction`
+    NoTransaction,
+    /// `not waiting`
+    NotWaiting,
+    /// A snapshot, as its text.
+    Snapshot(Snapshot),
     /// The events of a batch, and how many they are.
     Events(Events),
     /// `error` and the refusal.
@@ -110,6 +136,14 @@ impl Drop for Reply {
             Reply::Done => {}
             Reply::Number(_) => {}
             Reply::Null => {}
+            Reply::Bool(_) => {}
+            Reply::Begin => {}
+            Reply::AlreadyInTransaction => {}
+            Reply::Commit => {}
+            Reply::Rollback => {}
+            Reply::NoTransaction => {}
+            Reply::NotWaiting => {}
+            Reply::Snapshot(_) => {}
             Reply::Events(_) => {}
             Reply::Refused(_) => {}
         }

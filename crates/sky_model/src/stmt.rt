@@ -9,12 +9,44 @@ pub struct Extra {
     pub ev_extra4: Option<Text>,
 }
 
+/// Where a statement may stand.
+#[derive(Clone, Copy, Debug, PartialEq, Eq)]
+pub enum Where {
+    /// in any state of its session
+    Anywhere,
+    /// where a database is open, and in an aborted block too
+    WhenOpen,
+    /// where a database is open, but not in an aborted block
+    WhenSound,
+    /// where a database is open, and in no block
+    WhenOutside,
+}
+
 /// A statement, with the words of its line in their order.
 #[derive(Debug)]
 pub enum Stmt {
     /// `open NAME`
     OpenDb {
         name: Text,
+    },
+    /// `close`
+    Close,
+    /// `cancel`
+    Cancel,
+    /// `begin`
+    Begin,
+    /// `commit`
+    Commit,
+    /// `rollback`
+    Rollback,
+    /// `txid_current`
+    TxidCurrent,
+    /// `txid_current_snapshot`
+    TxidCurrentSnapshot,
+    /// `txid_visible_in_snapshot N RAW`
+    TxidVisibleInSnapshot {
+        txid: u64,
+        snapshot: Text,
     },
     /// `create_queue NAME`
     CreateQueue {
@@ -60,6 +92,17 @@ impl Drop for Stmt {
     fn drop(self) {
         match self {
             Stmt::OpenDb { name: _ } => {}
+            Stmt::Close => {}
+            Stmt::Cancel => {}
+            Stmt::Begin => {}
+            Stmt::Commit => {}
+            Stmt::Rollback => {}
+            Stmt::TxidCurrent => {}
+            Stmt::TxidCurrentSnapshot => {}
+            Stmt::TxidVisibleInSnapshot {
+                txid: _,
+                snapshot: _,
+            } => {}
             Stmt::CreateQueue { queue: _ } => {}
             Stmt::InsertEvent {
                 queue: _,

@@ -23,6 +23,7 @@ impl Model for Names {
 }
 
 impl Names {
+    /// No names yet.
     pub fn new(alloc: Global) -> Names
         ensures { result ≡ [] }
     {
@@ -52,6 +53,7 @@ impl Names {
         Ok(number)
     }
 
+    /// How many names there are.
     pub fn len(&self) -> usize
         ensures len { result ≡ length self.now }
         ensures numbered { result < 2 ^ 32 }

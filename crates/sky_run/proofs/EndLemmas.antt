@@ -1,26 +1,28 @@
 -- How a run ends.
 use Rattle.std.proofs.Common.{◌≡◌, ℕ, List, [], ◌∷◌, ◌++◌, refl, sym, ap, subst, ◌∙◌, append_assoc, append-nil}
-use Rattle.std.specs.Prelude.{Option, Some, None}
+use Rattle.std.specs.Prelude.{Option, Some}
 use Rattle.std.specs.Io.KnownBytes.{Appends}
 use Rattle.sky_io.specs.Appends.{AppendsPrefix}
 use Rattle.sky_io.proofs.AppendsLemmas.{Appends-both}
-use Rattle.sky_model.specs.Transcript.{said, transcript, transcript_from, bad_line, bad_line_from}
+use Rattle.sky_model.specs.declared.line.Cause.{Cause}
+use Rattle.sky_model.specs.declared.line.Cause.TheVariants as causes
+use Rattle.sky_model.specs.Transcript.{bad, said, transcript, transcript_from, bad_line, bad_line_from}
 use Rattle.sky_model.specs.World.{World, past_of}
 use Rattle.sky_model.proofs.Splitting.{IsUnbroken}
 use Rattle.sky_model.proofs.Scripts.{StopsHere, transcript_from-unbroken, said-fits, said-too_late, stops_at_line, stops_unended, stops_too_long}
 use Rattle.sky_script.specs.declared.reader.LineFault.{LineFault}
 use Rattle.sky_script.specs.declared.reader.LineFault.TheVariants as faults
-use Rattle.sky_script.specs.Reader.{Reader, TakesLine, EndsLines, StartsBad, Kept}
+use Rattle.sky_script.specs.Reader.{Reader, TakesLine, EndsLines, StartsTooLong, IsTruncated, EndsTooLate, StartsBad, Kept}
 use Rattle.sky_run.specs.declared.end.End.{End}
 use Rattle.sky_run.specs.declared.end.End.TheVariants.{Whole, Bad, Read, Write, NoMemory}
-use Rattle.sky_run.specs.Running.{GoesOn, call_in}
+use Rattle.sky_run.specs.Running.{GoesOn, said_in}
 use Rattle.sky_run.proofs.RunningLemmas.{GoesOn-read, GoesOn-taken}
-use Rattle.sky_run.specs.Ends.{Why, Ends, NotBuilt, IsCut, end_of}
+use Rattle.sky_run.specs.Ends.{Why, Ends, IsBadLine, IsCut, end_of}
 
 -- what was written and gathered, and what the rest of the script prints, is what the script prints
 prints_all : {world : World} {n taken : ℕ} {pending gathered : List ℕ} {source first held : Option (List ℕ)} {bytes : List ℕ} (left : List ℕ)
     → (g : GoesOn world n taken pending gathered source first held bytes) → g.left ≡ left
-    → (g.written ++ gathered) ++ transcript_from (past_of g.calls) n taken (pending ++ left) ≡ transcript bytes
+    → (g.written ++ gathered) ++ transcript_from (past_of g.calls) taken (pending ++ left) ≡ transcript bytes
 prints_all left g same = sym (ap transcript (g.bytes_are ∙ ap (λ l. g.read ++ l) same) ∙ g.prints left)
 
 is_bad_all : {world : World} {n taken : ℕ} {pending gathered : List ℕ} {source first held : Option (List ℕ)} {bytes : List ℕ} (left : List ℕ)
@@ -32,7 +34,7 @@ pub Ends-whole : {world : World} {n taken : ℕ} {pending gathered : List ℕ} {
     → GoesOn world n taken pending gathered source first held bytes → source ≡ Some left → pending ++ left ≡ [] → after ≡ Some [] → Ends Whole after first held gathered bytes
 Ends-whole {n = n} {taken = taken} {gathered = gathered} after left g told nothing at_end =
     let same : g.left ≡ left = cc (g.told, told) in
-    let whole = ap (λ u. (g.written ++ gathered) ++ transcript_from (past_of g.calls) n taken u) (sym nothing) ∙ prints_all left g same in
+    let whole = ap (λ u. (g.written ++ gathered) ++ transcript_from (past_of g.calls) taken u) (sym nothing) ∙ prints_all left g same in
     record {
       written = g.written;
       rest = [];
@@ -46,9 +48,9 @@ Ends-whole {n = n} {taken = taken} {gathered = gathered} after left g told nothi
     }
 
 -- what is left starts with a bad line
-pub Ends-bad : {world : World} {n taken : ℕ} {pending gathered : List ℕ} {source first held : Option (List ℕ)} {bytes : List ℕ} (after : Option (List ℕ)) (left : List ℕ)
-    → GoesOn world n taken pending gathered source first held bytes → source ≡ Some left → StopsHere n taken (pending ++ left) → Ends (Bad n) after first held gathered bytes
-Ends-bad {n = n} {taken = taken} {gathered = gathered} after left g told stops =
+pub Ends-bad : {world : World} {n taken : ℕ} {pending gathered : List ℕ} {source first held : Option (List ℕ)} {bytes : List ℕ} (after : Option (List ℕ)) (left : List ℕ) (cause : Cause)
+    → GoesOn world n taken pending gathered source first held bytes → source ≡ Some left → StopsHere n taken cause (pending ++ left) → Ends (Bad n cause) after first held gathered bytes
+Ends-bad {n = n} {taken = taken} {gathered = gathered} after left cause g told stops =
     let same : g.left ≡ left = cc (g.told, told) in
     let whole = ap (λ text. (g.written ++ gathered) ++ text) (sym (stops.says_nothing (past_of g.calls))) ∙ prints_all left g same in
     record {
@@ -64,7 +66,7 @@ pub Ends-read : {world : World} {n taken : ℕ} {unread gathered : List ℕ} {af
     → GoesOn world n taken unread gathered after first held bytes → IsUnbroken unread → Ends Read after first held gathered bytes
 Ends-read {n = n} {taken = taken} {unread = unread} {gathered = gathered} g unbroken = record {
   written = g.written;
-  rest = transcript_from (past_of g.calls) n taken (unread ++ g.left);
+  rest = transcript_from (past_of g.calls) taken (unread ++ g.left);
   appends = g.appends;
   begins = prints_all g.left g refl;
   why = record {
@@ -72,8 +74,8 @@ Ends-read {n = n} {taken = taken} {unread = unread} {gathered = gathered} g unbr
     left = g.left;
     after_is = g.told;
     bytes_are = g.bytes_are;
-    printed = sym (ap transcript (sym (append-nil g.read)) ∙ g.prints [] ∙ ap (λ u. (g.written ++ gathered) ++ transcript_from (past_of g.calls) n taken u) (append-nil unread)
-        ∙ ap (λ text. (g.written ++ gathered) ++ text) (transcript_from-unbroken (past_of g.calls) n taken unread unbroken) ∙ append-nil (g.written ++ gathered));
+    printed = sym (ap transcript (sym (append-nil g.read)) ∙ g.prints [] ∙ ap (λ u. (g.written ++ gathered) ++ transcript_from (past_of g.calls) taken u) (append-nil unread)
+        ∙ ap (λ text. (g.written ++ gathered) ++ text) (transcript_from-unbroken (past_of g.calls) taken unread unbroken) ∙ append-nil (g.written ++ gathered));
   };
 }
 
@@ -82,7 +84,7 @@ pub Ends-no_memory : {world : World} {n taken : ℕ} {pending gathered : List �
     → GoesOn world n taken pending gathered source first held bytes → Ends NoMemory after first held gathered bytes
 Ends-no_memory {n = n} {taken = taken} {pending = pending} after g = record {
   written = g.written;
-  rest = transcript_from (past_of g.calls) n taken (pending ++ g.left);
+  rest = transcript_from (past_of g.calls) taken (pending ++ g.left);
   appends = g.appends;
   begins = prints_all g.left g refl;
   why = tt;
@@ -118,7 +120,7 @@ part {first = first} {held = held} {gathered = gathered} cut new_after new_held 
 pub Ends-cut : {end : End} {after first held : Option (List ℕ)} {gathered bytes : List ℕ} (cut : End) (new_after new_held : Option (List ℕ))
     → Ends end after first held gathered bytes → AppendsPrefix held new_held gathered → IsCut cut → Ends cut new_after first new_held [] bytes
 Ends-cut Whole new_after new_held e prefix is_cut = absurd is_cut
-Ends-cut (Bad n) new_after new_held e prefix is_cut = absurd is_cut
+Ends-cut (Bad n cause) new_after new_held e prefix is_cut = absurd is_cut
 Ends-cut Read new_after new_held e prefix is_cut = absurd is_cut
 Ends-cut Write new_after new_held e prefix is_cut = part Write new_after new_held e prefix (λ text. tt)
 Ends-cut NoMemory new_after new_held e prefix is_cut = part NoMemory new_after new_held e prefix (λ text. tt)
@@ -133,44 +135,47 @@ pub GoesOn-end : {world : World} {n : ℕ} {gathered : List ℕ} {source first h
     → ((left : List ℕ) → source ≡ Some left → EndsLines old new left after) → GoesOn world n old.taken old.pending gathered source first held bytes → Ends Whole after first held gathered bytes
 GoesOn-end old new after ended g = let ends = ended g.left g.told in Ends-whole after g.left g g.told ends.nothing_left ends.after_is
 
--- a line isn't built
-pub GoesOn-not_built : {world : World} {n : ℕ} {gathered : List ℕ} {source first held : Option (List ℕ)} {bytes : List ℕ} (end : End) (old new : Reader) (after : Option (List ℕ)) (line : List ℕ)
-    → ((left : List ℕ) → source ≡ Some left → TakesLine old new left after line) → NotBuilt end n (call_in n line)
+-- a line is bad by what it says
+pub GoesOn-bad_line : {world : World} {n : ℕ} {gathered : List ℕ} {source first held : Option (List ℕ)} {bytes : List ℕ} (end : End) (old new : Reader) (after : Option (List ℕ)) (line : List ℕ)
+    → ((left : List ℕ) → source ≡ Some left → TakesLine old new left after line) → IsBadLine end n (said_in line)
     → GoesOn world n old.taken old.pending gathered source first held bytes → Ends end after first held gathered bytes
-GoesOn-not_built Whole old new after line line_taken not_built g = absurd not_built
-GoesOn-not_built {n = n} (Bad k) old new after line line_taken not_built g =
+GoesOn-bad_line Whole old new after line line_taken is_bad g = absurd is_bad
+GoesOn-bad_line {n = n} (Bad k cause) old new after line line_taken is_bad g =
     let takes = line_taken g.left g.told in
-    let says : said n old.taken line ≡ None = said-fits n old.taken line takes.line_fits (rw (← takes.taken_is) takes.script_fits) ∙ not_built.1 in
-    let stops = subst (StopsHere n old.taken) (sym (append_assoc line (10 ∷ new.pending) takes.rest)) (stops_at_line n old.taken line (new.pending ++ takes.rest) takes.unbroken says) in
-    rw not_built.0 (Ends-bad after takes.rest (GoesOn-taken old new g.left after line g g.told takes) takes.after_is stops)
-GoesOn-not_built Read old new after line line_taken not_built g = absurd not_built
-GoesOn-not_built Write old new after line line_taken not_built g = absurd not_built
-GoesOn-not_built NoMemory old new after line line_taken not_built g = Ends-no_memory after g
+    let says : said old.taken line ≡ bad cause = said-fits old.taken line takes.line_fits (rw (← takes.taken_is) takes.script_fits) ∙ is_bad.1 in
+    let stops = subst (StopsHere n old.taken cause) (sym (append_assoc line (10 ∷ new.pending) takes.rest)) (stops_at_line n old.taken line (new.pending ++ takes.rest) cause takes.unbroken says) in
+    rw is_bad.0 (Ends-bad after takes.rest cause (GoesOn-taken old new g.left after line g g.told takes) takes.after_is stops)
+GoesOn-bad_line Read old new after line line_taken is_bad g = absurd is_bad
+GoesOn-bad_line Write old new after line line_taken is_bad g = absurd is_bad
+GoesOn-bad_line NoMemory old new after line line_taken is_bad g = Ends-no_memory after g
 
 -- what a reader calls bad is bad
-StopsHere-fault : (fault : LineFault) (n taken : ℕ) (bytes : List ℕ) → StartsBad fault taken bytes → (fault ≡ faults.Read → ⊥) → (fault ≡ faults.NoMemory → ⊥) → StopsHere n taken bytes
-StopsHere-fault faults.Read n taken bytes bad not_read not_memory = absurd (not_read refl)
-StopsHere-fault faults.TooLong n taken bytes bad not_read not_memory =
-    subst (StopsHere n taken) (sym bad.bytes_are) (stops_too_long n taken bad.line bad.more bad.unbroken bad.too_long)
-StopsHere-fault faults.Truncated n taken bytes bad not_read not_memory = stops_unended n taken bytes bad.unbroken bad.some
-StopsHere-fault faults.ScriptTooLong n taken bytes bad not_read not_memory =
-    subst (StopsHere n taken) (sym bad.bytes_are) (stops_at_line n taken bad.line bad.more bad.unbroken (said-too_late n taken bad.line bad.too_late))
-StopsHere-fault faults.NoMemory n taken bytes bad not_read not_memory = absurd (not_memory refl)
+stops_too_long_line : (n taken : ℕ) (bytes : List ℕ) → StartsTooLong bytes → StopsHere n taken causes.TooLong bytes
+stops_too_long_line n taken bytes starts =
+    subst (StopsHere n taken causes.TooLong) (sym starts.bytes_are) (stops_too_long n taken starts.line starts.more starts.unbroken starts.too_long)
+
+stops_truncated : (n taken : ℕ) (bytes : List ℕ) → IsTruncated bytes → StopsHere n taken causes.Truncated bytes
+stops_truncated n taken bytes is = stops_unended n taken bytes is.unbroken is.some is.line_fits
+
+stops_too_late : (n taken : ℕ) (bytes : List ℕ) → EndsTooLate taken bytes → StopsHere n taken causes.ScriptTooLong bytes
+stops_too_late n taken bytes ends =
+    subst (StopsHere n taken causes.ScriptTooLong) (sym ends.bytes_are)
+    (stops_at_line n taken ends.line ends.more causes.ScriptTooLong ends.unbroken (said-too_late taken ends.line ends.line_fits ends.too_late))
 
 -- the reader gave a fault
 pub GoesOn-fault : {world : World} {n : ℕ} {gathered : List ℕ} {source first held : Option (List ℕ)} {bytes : List ℕ} (fault : LineFault) (old new : Reader) (after : Option (List ℕ))
     → ((left : List ℕ) → source ≡ Some left → StartsBad fault old.taken (old.pending ++ left)) → (fault ≡ faults.Read → (left : List ℕ) → source ≡ Some left → Kept old new left after)
     → GoesOn world n old.taken old.pending gathered source first held bytes → Ends (end_of fault n) after first held gathered bytes
-GoesOn-fault faults.Read old new after bad kept g =
+GoesOn-fault faults.Read old new after starts kept g =
     let keeps = kept refl g.left g.told in
     Ends-read (GoesOn-read after g.left keeps.got keeps.rest new.pending g g.told keeps.left_is keeps.after_is (sym keeps.pending_is)) keeps.unbroken
-GoesOn-fault {n = n} faults.TooLong old new after bad kept g =
-    Ends-bad after g.left g g.told (StopsHere-fault faults.TooLong n old.taken (old.pending ++ g.left) (bad g.left g.told) (λ e. cc) (λ e. cc))
-GoesOn-fault {n = n} faults.Truncated old new after bad kept g =
-    Ends-bad after g.left g g.told (StopsHere-fault faults.Truncated n old.taken (old.pending ++ g.left) (bad g.left g.told) (λ e. cc) (λ e. cc))
-GoesOn-fault {n = n} faults.ScriptTooLong old new after bad kept g =
-    Ends-bad after g.left g g.told (StopsHere-fault faults.ScriptTooLong n old.taken (old.pending ++ g.left) (bad g.left g.told) (λ e. cc) (λ e. cc))
-GoesOn-fault faults.NoMemory old new after bad kept g = Ends-no_memory after g
+GoesOn-fault {n = n} faults.TooLong old new after starts kept g =
+    Ends-bad after g.left causes.TooLong g g.told (stops_too_long_line n old.taken (old.pending ++ g.left) (starts g.left g.told))
+GoesOn-fault {n = n} faults.Truncated old new after starts kept g =
+    Ends-bad after g.left causes.Truncated g g.told (stops_truncated n old.taken (old.pending ++ g.left) (starts g.left g.told))
+GoesOn-fault {n = n} faults.ScriptTooLong old new after starts kept g =
+    Ends-bad after g.left causes.ScriptTooLong g g.told (stops_too_late n old.taken (old.pending ++ g.left) (starts g.left g.told))
+GoesOn-fault faults.NoMemory old new after starts kept g = Ends-no_memory after g
 
 -- what the sink got is a prefix of what the script prints
 pub Ends-prefix : {end : End} {after first held : Option (List ℕ)} {bytes : List ℕ} → Ends end after first held [] bytes → AppendsPrefix first held (transcript bytes)

@@ -1,47 +1,41 @@
--- The call of a line that was parsed.
-use Rattle.std.proofs.Common.{◌≡◌, ℕ, List, Bool, true, false, Option, None, Result, Ok, Err, refl, sym, ap, ◌∙◌, if◌then◌else◌}
+-- What a line says, by what came of parsing it.
+use Rattle.std.proofs.Common.{◌≡◌, ℕ, List, Bool, true, false, Result, Ok, Err, refl, sym, ap, subst, ◌∙◌, if◌then◌else◌}
 use Rattle.std.specs.Prelude.{◌↔◌, OnOk, OnErr, IfErr}
 use Rattle.std.specs.Str.{IsUtf8, is_utf8}
 use Rattle.std.proofs.lemmas.Str.{IsUtf8-from_is_utf8, is_utf8-from_IsUtf8}
+use Rattle.sky_model.specs.declared.line.Cause.TheVariants as causes
 use Rattle.sky_model.specs.declared.line.Line.{Line}
 use Rattle.sky_model.specs.Grammar.{line_of}
-use Rattle.sky_model.specs.World.{Call}
-use Rattle.sky_model.specs.Transcript.{call_of}
+use Rattle.sky_model.specs.Transcript.{Said, bad, said_by}
 use Rattle.sky_script.specs.declared.cause.LineCause.{LineCause}
 use Rattle.sky_script.specs.declared.cause.LineCause.TheVariants.{NotUtf8, BadWord, NoMemory}
 use Rattle.sky_script.specs.Reading.{IsAnswer}
-use Rattle.sky_run.specs.Running.{call_in}
-use Rattle.sky_run.specs.Ends.{NotBuilt, end_by}
+use Rattle.sky_run.specs.Running.{said_in}
+use Rattle.sky_run.specs.Ends.{IsBadLine, end_by}
 
--- the call of what was parsed
-abbrev pub call_parsed : ℕ → Result Line LineCause → Option Call
-call_parsed n (Ok said) = call_of n (Ok said)
-call_parsed n (Err cause) = None
+-- the result tells what the nth line says, or memory was wanting
+abbrev pub Tells : ℕ → Result Line LineCause → Said → Type 0
+Tells n (Ok line) says = says ≡ said_by (Ok line)
+Tells n (Err cause) says = IsBadLine (end_by cause n) n says
 
-parsed_well : (n : ℕ) (line : List ℕ) (r : Result Line LineCause) → is_utf8 line ≡ true → IsAnswer r (line_of line) → (r ≡ Err NoMemory → ⊥) → call_in n line ≡ call_parsed n r
-parsed_well n line (Ok said) well is_answer enough = ap (λ t. if t then call_of n (line_of line) else None) well ∙ ap (call_of n) is_answer
-parsed_well n line (Err NotUtf8) well is_answer enough = absurd is_answer
-parsed_well n line (Err (BadWord k)) well is_answer enough = ap (λ t. if t then call_of n (line_of line) else None) well ∙ ap (call_of n) is_answer
-parsed_well n line (Err NoMemory) well is_answer enough = absurd (enough refl)
+said_in-by : (line : List ℕ) (well : Bool) → is_utf8 line ≡ well → said_in line ≡ (if well then said_by (line_of line) else bad causes.NotUtf8)
+said_in-by line well is = ap (λ t. if t then said_by (line_of line) else bad causes.NotUtf8) is
 
-by_utf8 : (n : ℕ) (line : List ℕ) (r : Result Line LineCause) (t : Bool) → is_utf8 line ≡ t → (r ≡ Err NotUtf8) ↔ ¬ (IsUtf8 line) → (IsUtf8 line → IsAnswer r (line_of line)) → (r ≡ Err NoMemory → ⊥)
-    → call_in n line ≡ call_parsed n r
-by_utf8 n line r true is not_utf8 is_answer enough = parsed_well n line r is (is_answer (IsUtf8-from_is_utf8 line is)) enough
-by_utf8 n line r false is not_utf8 is_answer enough =
-    ap (λ t. if t then call_of n (line_of line) else None) is
-    ∙ sym (ap (call_parsed n) (not_utf8.1 (λ well. let contrary = sym is ∙ is_utf8-from_IsUtf8 line well in cc)))
+tells_well : (n : ℕ) (line : List ℕ) (r : Result Line LineCause) → is_utf8 line ≡ true → IsAnswer r (line_of line) → Tells n r (said_in line)
+tells_well n line (Ok said) well is_answer = said_in-by line true well ∙ ap said_by is_answer
+tells_well n line (Err NotUtf8) well is_answer = absurd is_answer
+tells_well n line (Err (BadWord k)) well is_answer = (refl, said_in-by line true well ∙ ap said_by is_answer)
+tells_well n line (Err NoMemory) well is_answer = tt
 
--- a line asks for the call of what was parsed
-pub call_in-parsed : (n : ℕ) (line : List ℕ) (r : Result Line LineCause) → (r ≡ Err NotUtf8) ↔ ¬ (IsUtf8 line) → (IsUtf8 line → IsAnswer r (line_of line)) → (r ≡ Err NoMemory → ⊥)
-    → call_in n line ≡ call_parsed n r
-call_in-parsed n line r not_utf8 is_answer enough = by_utf8 n line r (is_utf8 line) refl not_utf8 is_answer enough
+by_utf8 : (n : ℕ) (line : List ℕ) (r : Result Line LineCause) (t : Bool) → is_utf8 line ≡ t → (r ≡ Err NotUtf8) ↔ ¬ (IsUtf8 line) → (IsUtf8 line → IsAnswer r (line_of line)) → Tells n r (said_in line)
+by_utf8 n line r true is not_utf8 is_answer = tells_well n line r is (is_answer (IsUtf8-from_is_utf8 line is))
+by_utf8 n line r false is not_utf8 is_answer =
+    let r_is : r ≡ Err NotUtf8 = not_utf8.1 (λ well. let contrary = sym is ∙ is_utf8-from_IsUtf8 line well in cc) in
+    subst (λ (result : Result Line LineCause). Tells n result (said_in line)) (sym r_is) (refl, said_in-by line false is)
 
--- bytes that say nothing ask for no call
-pub NotBuilt-parsed : (n : ℕ) (line : List ℕ) (cause : LineCause) → (◌≡◌ {A = Result Line LineCause} (Err cause) (Err NotUtf8)) ↔ ¬ (IsUtf8 line)
-    → (IsUtf8 line → IsAnswer {A = Line} (Err cause) (line_of line)) → NotBuilt (end_by cause n) n (call_in n line)
-NotBuilt-parsed n line NotUtf8 not_utf8 is_answer = (refl, call_in-parsed n line (Err NotUtf8) not_utf8 is_answer (λ e. cc))
-NotBuilt-parsed n line (BadWord k) not_utf8 is_answer = (refl, call_in-parsed n line (Err (BadWord k)) not_utf8 is_answer (λ e. cc))
-NotBuilt-parsed n line NoMemory not_utf8 is_answer = tt
+-- what came of parsing a line tells what it says
+pub Tells-parsed : (n : ℕ) (line : List ℕ) (r : Result Line LineCause) → (r ≡ Err NotUtf8) ↔ ¬ (IsUtf8 line) → (IsUtf8 line → IsAnswer r (line_of line)) → Tells n r (said_in line)
+Tells-parsed n line r not_utf8 is_answer = by_utf8 n line r (is_utf8 line) refl not_utf8 is_answer
 
 -- two facts at `Ok`
 pub OnOk-both : {T E P Q R : Type 0} (r : Result T E) → OnOk r P → OnOk r Q → (P → Q → R) → OnOk r R

@@ -1,18 +1,18 @@
 -- How a run goes on.
-use Rattle.std.proofs.Common.{◌≡◌, ℕ, ◌+◌, ◌≤◌, List, [], ◌∷◌, ◌++◌, length, refl, sym, ap, ◌∙◌, append_assoc, append-nil}
+use Rattle.std.proofs.Common.{◌≡◌, ℕ, ◌+◌, List, [], ◌∷◌, ◌++◌, length, refl, sym, ap, ◌∙◌, append_assoc, append-nil}
 use Rattle.std.specs.Prelude.{Option, Some}
 use Rattle.std.specs.Io.KnownBytes.{Appends}
 use Rattle.std.proofs.KnownBytes as known
 use Rattle.sky_io.proofs.AppendsLemmas.{Appends-both}
 use Rattle.sky_model.specs.Printed.{printed}
-use Rattle.sky_model.specs.Transcript.{most_in_line, most_in_script, said, call_text, transcript, transcript_from, bad_line, bad_line_from}
+use Rattle.sky_model.specs.Transcript.{Said, asks, idle, bad, said, call_text, transcript, transcript_from, bad_line, bad_line_from}
 use Rattle.sky_model.specs.World.{World, world_of, Call, past_of, after, session_names}
 use Rattle.sky_model.proofs.Splitting.{IsUnbroken}
-use Rattle.sky_model.proofs.Scripts.{transcript_from-said, bad_line_from-said, said-fits}
+use Rattle.sky_model.proofs.Scripts.{transcript_from-asks, transcript_from-idle, bad_line_from-asks, bad_line_from-idle, said-fits}
 use Rattle.sky_script.specs.Reader.{Reader, TakesLine}
 use Rattle.sky_world.specs.Seen.{seen_world}
 use Rattle.sky_run.specs.declared.run.Run.{Run}
-use Rattle.sky_run.specs.Running.{GoesOn, call_in, Answers}
+use Rattle.sky_run.specs.Running.{GoesOn, said_in, Called, Answers}
 use Rattle.sky_run.specs.Goes.{Goes, IsFresh, SameButGathered}
 
 -- a run begins
@@ -42,7 +42,7 @@ GoesOn-written {n = n} {taken = taken} {pending = pending} {gathered = gathered}
   told = g.told;
   bytes_are = g.bytes_are;
   appends = Appends-both first held new_held g.written gathered g.appends appends;
-  prints = λ more. g.prints more ∙ ap (λ text. text ++ transcript_from (past_of g.calls) n taken (pending ++ more)) (sym (append-nil (g.written ++ gathered)));
+  prints = λ more. g.prints more ∙ ap (λ text. text ++ transcript_from (past_of g.calls) taken (pending ++ more)) (sym (append-nil (g.written ++ gathered)));
   is_bad = g.is_bad;
 }
 
@@ -62,47 +62,77 @@ GoesOn-read {n = n} {taken = taken} {pending = pending} {gathered = gathered} {s
       bytes_are = g.bytes_are ∙ ap (λ l. g.read ++ l) (same ∙ left_is) ∙ sym (append_assoc g.read got rest);
       appends = g.appends;
       prints = λ more. ap transcript (append_assoc g.read got more) ∙ g.prints (got ++ more)
-          ∙ ap (λ u. (g.written ++ gathered) ++ transcript_from (past_of g.calls) n taken u) (sym (append_assoc pending got more) ∙ ap (λ u. u ++ more) unread_is);
+          ∙ ap (λ u. (g.written ++ gathered) ++ transcript_from (past_of g.calls) taken u) (sym (append_assoc pending got more) ∙ ap (λ u. u ++ more) unread_is);
       is_bad = λ more. ap bad_line (append_assoc g.read got more) ∙ g.is_bad (got ++ more)
           ∙ ap (λ u. bad_line_from n taken u) (sym (append_assoc pending got more) ∙ ap (λ u. u ++ more) unread_is);
     }
 
--- a line's answers are what its call prints
-Answers-text : {old new : World} {asked : Option Call} {gathered more : List ℕ} (calls : List Call) → old ≡ world_of (past_of calls) → (a : Answers old new asked gathered more) → more ≡ gathered ++ call_text (past_of calls) a.call
-Answers-text {new = new} {gathered = gathered} calls stands a =
-    a.called.prints
-    ∙ ap (λ (w : World). gathered ++ printed (w.sessions ++ a.call.who ∷ []) a.called.replies) (a.called.steps.stands calls stands)
-    ∙ ap (λ replies. gathered ++ printed (session_names (after (past_of calls) a.call) ++ a.call.who ∷ []) replies) (a.called.steps.replied calls stands)
+-- a call's answers are what the call prints
+Called-text : {old new : World} {call : Call} {gathered more : List ℕ} (calls : List Call) → old ≡ world_of (past_of calls) → (c : Called old new call gathered more) → more ≡ gathered ++ call_text (past_of calls) call
+Called-text {new = new} {call = call} {gathered = gathered} calls stands c =
+    c.prints
+    ∙ ap (λ (w : World). gathered ++ printed (w.sessions ++ call.who ∷ []) c.replies) (c.steps.stands calls stands)
+    ∙ ap (λ replies. gathered ++ printed (session_names (after (past_of calls) call) ++ call.who ∷ []) replies) (c.steps.replied calls stands)
 
 joined : (written gathered text rest : List ℕ) → (written ++ gathered) ++ (text ++ rest) ≡ (written ++ (gathered ++ text)) ++ rest
 joined written gathered text rest = sym (append_assoc (written ++ gathered) text rest) ∙ ap (λ front. front ++ rest) (append_assoc written gathered text)
 
--- a line is answered
-pub GoesOn-answered : {old new : World} {n : ℕ} {gathered more_gathered : List ℕ} {source first held : Option (List ℕ)} {bytes : List ℕ} (taken : ℕ) (line pending : List ℕ)
-    → GoesOn old n taken (line ++ 10 ∷ pending) gathered source first held bytes → Answers old new (call_in n line) gathered more_gathered
-    → IsUnbroken line → length line ≤ most_in_line → taken + length line + 1 ≤ most_in_script
+-- the call of a line is answered
+GoesOn-asks : {old new : World} {n : ℕ} {gathered more_gathered : List ℕ} {source first held : Option (List ℕ)} {bytes : List ℕ} (taken : ℕ) (line pending : List ℕ) (call : Call)
+    → GoesOn old n taken (line ++ 10 ∷ pending) gathered source first held bytes → said taken line ≡ asks call → Called old new call gathered more_gathered → IsUnbroken line
     → GoesOn new (n + 1) (taken + length line + 1) pending more_gathered source first held bytes
-GoesOn-answered {n = n} {gathered = gathered} {more_gathered = more_gathered} taken line pending g a unbroken fits in_time =
-    let says : said n taken line ≡ Some a.call = said-fits n taken line fits in_time ∙ a.asks in
+GoesOn-asks {n = n} {gathered = gathered} taken line pending call g says called unbroken =
     let past = past_of g.calls in
     record {
-      calls = a.call ∷ g.calls;
+      calls = call ∷ g.calls;
       read = g.read;
       left = g.left;
       written = g.written;
-      stands = a.called.steps.stands g.calls g.stands;
+      stands = called.steps.stands g.calls g.stands;
       told = g.told;
       bytes_are = g.bytes_are;
       appends = g.appends;
       prints = λ more. g.prints more
-          ∙ ap (λ u. (g.written ++ gathered) ++ transcript_from past n taken u) (append_assoc line (10 ∷ pending) more)
-          ∙ ap (λ text. (g.written ++ gathered) ++ text) (transcript_from-said past n taken line (pending ++ more) a.call unbroken says)
-          ∙ joined g.written gathered (call_text past a.call) (transcript_from (after past a.call) (n + 1) (taken + length line + 1) (pending ++ more))
-          ∙ ap (λ front. (g.written ++ front) ++ transcript_from (after past a.call) (n + 1) (taken + length line + 1) (pending ++ more)) (sym (Answers-text g.calls g.stands a));
+          ∙ ap (λ u. (g.written ++ gathered) ++ transcript_from past taken u) (append_assoc line (10 ∷ pending) more)
+          ∙ ap (λ text. (g.written ++ gathered) ++ text) (transcript_from-asks past taken line (pending ++ more) call unbroken says)
+          ∙ joined g.written gathered (call_text past call) (transcript_from (after past call) (taken + length line + 1) (pending ++ more))
+          ∙ ap (λ front. (g.written ++ front) ++ transcript_from (after past call) (taken + length line + 1) (pending ++ more)) (sym (Called-text g.calls g.stands called));
       is_bad = λ more. g.is_bad more
           ∙ ap (λ u. bad_line_from n taken u) (append_assoc line (10 ∷ pending) more)
-          ∙ bad_line_from-said n taken line (pending ++ more) a.call unbroken says;
+          ∙ bad_line_from-asks n taken line (pending ++ more) call unbroken says;
     }
+
+-- a line that says nothing is passed by
+GoesOn-idle : {old new : World} {n : ℕ} {gathered more_gathered : List ℕ} {source first held : Option (List ℕ)} {bytes : List ℕ} (taken : ℕ) (line pending : List ℕ)
+    → GoesOn old n taken (line ++ 10 ∷ pending) gathered source first held bytes → said taken line ≡ idle → new ≡ old → more_gathered ≡ gathered → IsUnbroken line
+    → GoesOn new (n + 1) (taken + length line + 1) pending more_gathered source first held bytes
+GoesOn-idle {n = n} {gathered = gathered} taken line pending g says same_world same_gathered unbroken =
+    let past = past_of g.calls in
+    record {
+      calls = g.calls;
+      read = g.read;
+      left = g.left;
+      written = g.written;
+      stands = same_world ∙ g.stands;
+      told = g.told;
+      bytes_are = g.bytes_are;
+      appends = g.appends;
+      prints = λ more. g.prints more
+          ∙ ap (λ u. (g.written ++ gathered) ++ transcript_from past taken u) (append_assoc line (10 ∷ pending) more)
+          ∙ ap (λ text. (g.written ++ gathered) ++ text) (transcript_from-idle past taken line (pending ++ more) unbroken says)
+          ∙ ap (λ last. (g.written ++ last) ++ transcript_from past (taken + length line + 1) (pending ++ more)) (sym same_gathered);
+      is_bad = λ more. g.is_bad more
+          ∙ ap (λ u. bad_line_from n taken u) (append_assoc line (10 ∷ pending) more)
+          ∙ bad_line_from-idle n taken line (pending ++ more) unbroken says;
+    }
+
+-- a line is answered
+pub GoesOn-answered : {old new : World} {n : ℕ} {gathered more_gathered : List ℕ} {source first held : Option (List ℕ)} {bytes : List ℕ} (taken : ℕ) (line pending : List ℕ) (says : Said)
+    → GoesOn old n taken (line ++ 10 ∷ pending) gathered source first held bytes → said taken line ≡ says → Answers says old new gathered more_gathered → IsUnbroken line
+    → GoesOn new (n + 1) (taken + length line + 1) pending more_gathered source first held bytes
+GoesOn-answered taken line pending (asks call) g says answers unbroken = GoesOn-asks taken line pending call g says answers unbroken
+GoesOn-answered taken line pending idle g says answers unbroken = GoesOn-idle taken line pending g says answers.0 answers.1 unbroken
+GoesOn-answered taken line pending (bad cause) g says answers unbroken = absurd answers
 
 -- what was gathered is written, as the program keeps it
 pub Goes-written : (old new : Run) (source first held new_held : Option (List ℕ)) (bytes : List ℕ)
@@ -118,11 +148,12 @@ GoesOn-taken old new left after line g told takes = GoesOn-read after left takes
 
 -- and answered
 pub GoesOn-line : {world new_world : World} {n : ℕ} {gathered more_gathered : List ℕ} {source first held : Option (List ℕ)} {bytes : List ℕ} (old new : Reader) (after : Option (List ℕ)) (line : List ℕ)
-    → ((left : List ℕ) → source ≡ Some left → TakesLine old new left after line) → Answers world new_world (call_in n line) gathered more_gathered
+    → ((left : List ℕ) → source ≡ Some left → TakesLine old new left after line) → Answers (said_in line) world new_world gathered more_gathered
     → GoesOn world n old.taken old.pending gathered source first held bytes → GoesOn new_world (n + 1) new.taken new.pending more_gathered after first held bytes
 GoesOn-line old new after line line_taken answers g =
     let takes = line_taken g.left g.told in
-    rw takes.taken_is (GoesOn-answered old.taken line new.pending (GoesOn-taken old new g.left after line g g.told takes) answers takes.unbroken takes.line_fits (rw (← takes.taken_is) takes.script_fits))
+    let says : said old.taken line ≡ said_in line = said-fits old.taken line takes.line_fits (rw (← takes.taken_is) takes.script_fits) in
+    rw takes.taken_is (GoesOn-answered old.taken line new.pending (said_in line) (GoesOn-taken old new g.left after line g g.told takes) says answers takes.unbroken)
 
 -- a fresh run has come nowhere yet
 pub Goes-start : (run : Run) (source held : Option (List ℕ)) (bytes : List ℕ) → IsFresh run → source ≡ Some bytes → Goes run source held held bytes

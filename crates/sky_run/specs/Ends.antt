@@ -1,12 +1,13 @@
 -- What the end of a run says of its script.
 use Rattle.std.specs.Prelude.{◌≡◌, ℕ, List, [], ◌++◌, Option, Some, None, ⊤}
 use Rattle.std.specs.Io.KnownBytes.{Appends}
-use Rattle.sky_model.specs.Transcript.{transcript, bad_line}
+use Rattle.sky_model.specs.declared.line.Cause.{Cause}
+use Rattle.sky_model.specs.declared.line.Cause.TheVariants as causes
+use Rattle.sky_model.specs.Transcript.{Said, bad, transcript, bad_line}
 use Rattle.sky_script.specs.declared.reader.LineFault.{LineFault}
 use Rattle.sky_script.specs.declared.reader.LineFault.TheVariants as faults
 use Rattle.sky_script.specs.declared.cause.LineCause.{LineCause}
-use Rattle.sky_script.specs.declared.cause.LineCause.TheVariants as causes
-use Rattle.sky_model.specs.World.{Call}
+use Rattle.sky_script.specs.declared.cause.LineCause.TheVariants as line_causes
 use Rattle.sky_run.specs.declared.end.End.{End}
 use Rattle.sky_run.specs.declared.end.End.TheVariants.{Whole, Bad, Read, Write, NoMemory}
 
@@ -16,9 +17,9 @@ pub record IsWhole (after : Option (List ℕ)) (text bytes : List ℕ) : Type 0 
   pub none_bad : bad_line bytes ≡ None
   pub printed : text ≡ transcript bytes
 
--- the first bad line is the nth, and the text is all that the script prints
-pub record StopsAt (n : ℕ) (text bytes : List ℕ) : Type 0 where
-  pub is_bad : bad_line bytes ≡ Some n
+-- the first bad line is the nth, for this cause, and the text is all that the script prints
+pub record StopsAt (n : ℕ) (cause : Cause) (text bytes : List ℕ) : Type 0 where
+  pub is_bad : bad_line bytes ≡ Some (n, cause)
   pub printed : text ≡ transcript bytes
 
 -- the source gave some bytes and has the others left, and the text is what those that it gave print
@@ -32,7 +33,7 @@ pub record IsOfGiven (after : Option (List ℕ)) (text bytes : List ℕ) : Type 
 -- why a run ends there: how the text stands to the script, and what the source has left
 abbrev pub Why : End → Option (List ℕ) → List ℕ → List ℕ → Type 0
 Why Whole after text bytes = IsWhole after text bytes
-Why (Bad n) after text bytes = StopsAt n text bytes
+Why (Bad n cause) after text bytes = StopsAt n cause text bytes
 Why Read after text bytes = IsOfGiven after text bytes
 Why Write after text bytes = ⊤
 Why NoMemory after text bytes = ⊤
@@ -45,11 +46,11 @@ pub record Ends (end : End) (after first held : Option (List ℕ)) (gathered byt
   pub begins : (written ++ gathered) ++ rest ≡ transcript bytes
   pub why : Why end after (written ++ gathered) bytes
 
--- the nth line asks for no call that is built, or memory was wanting
-abbrev pub NotBuilt : End → ℕ → Option Call → Type 0
-NotBuilt (Bad k) n asked = (k ≡ n) × (asked ≡ None)
-NotBuilt NoMemory n asked = ⊤
-NotBuilt _ n asked = ⊥
+-- the nth line is bad by what it says, or memory was wanting
+abbrev pub IsBadLine : End → ℕ → Said → Type 0
+IsBadLine (Bad k cause) n says = (k ≡ n) × (says ≡ bad cause)
+IsBadLine NoMemory n says = ⊤
+IsBadLine _ n says = ⊥
 
 -- a sink took no more
 abbrev pub IsCut : End → Type 0
@@ -60,13 +61,13 @@ IsCut _ = ⊥
 -- the end that a fault of the nth line makes
 abbrev pub end_of : LineFault → ℕ → End
 end_of faults.Read n = Read
-end_of faults.TooLong n = Bad n
-end_of faults.Truncated n = Bad n
-end_of faults.ScriptTooLong n = Bad n
+end_of faults.TooLong n = Bad n causes.TooLong
+end_of faults.Truncated n = Bad n causes.Truncated
+end_of faults.ScriptTooLong n = Bad n causes.ScriptTooLong
 end_of faults.NoMemory n = NoMemory
 
--- the end that the nth line makes, whose bytes say nothing
+-- the end that the nth line makes, which was not parsed
 abbrev pub end_by : LineCause → ℕ → End
-end_by causes.NotUtf8 n = Bad n
-end_by (causes.BadWord k) n = Bad n
-end_by causes.NoMemory n = NoMemory
+end_by line_causes.NotUtf8 n = Bad n causes.NotUtf8
+end_by (line_causes.BadWord k) n = Bad n (causes.BadWord k)
+end_by line_causes.NoMemory n = NoMemory

@@ -1,12 +1,13 @@
 -- How far a run has come.
-use Rattle.std.specs.Prelude.{◌≡◌, ℕ, List, [], ◌∷◌, ◌++◌, Option, Some, None, if◌then◌else◌}
+use Rattle.std.specs.Prelude.{◌≡◌, ℕ, List, [], ◌∷◌, ◌++◌, Option, Some, if◌then◌else◌}
 use Rattle.std.specs.Str.{is_utf8}
 use Rattle.std.specs.Io.KnownBytes.{Appends}
+use Rattle.sky_model.specs.declared.line.Cause.TheVariants.{NotUtf8}
 use Rattle.sky_model.specs.declared.reply.Reply.{Reply}
 use Rattle.sky_model.specs.Grammar.{line_of}
 use Rattle.sky_model.specs.Printed.{printed}
 use Rattle.sky_model.specs.Steps.{Steps}
-use Rattle.sky_model.specs.Transcript.{call_of, transcript, transcript_from, bad_line, bad_line_from}
+use Rattle.sky_model.specs.Transcript.{Said, asks, idle, bad, said_by, transcript, transcript_from, bad_line, bad_line_from}
 use Rattle.sky_model.specs.World.{World, world_of, Call, past_of}
 
 -- The source told these bytes when the run began, and the sink held `first`. So many bytes were taken as
@@ -22,12 +23,12 @@ pub record GoesOn (world : World) (n taken : ℕ) (pending gathered : List ℕ) 
   pub told : source ≡ Some left
   pub bytes_are : bytes ≡ read ++ left
   pub appends : Appends first held written
-  pub prints : (more : List ℕ) → transcript (read ++ more) ≡ (written ++ gathered) ++ transcript_from (past_of calls) n taken (pending ++ more)
+  pub prints : (more : List ℕ) → transcript (read ++ more) ≡ (written ++ gathered) ++ transcript_from (past_of calls) taken (pending ++ more)
   pub is_bad : (more : List ℕ) → bad_line (read ++ more) ≡ bad_line_from n taken (pending ++ more)
 
--- the call that line n asks for, if it is built; the line fits
-abbrev pub call_in : ℕ → List ℕ → Option Call
-call_in n line = if is_utf8 line then call_of n (line_of line) else None
+-- what a line says that isn't too long and doesn't end too late
+abbrev pub said_in : List ℕ → Said
+said_in line = if is_utf8 line then said_by (line_of line) else bad NotUtf8
 
 -- a call was answered in a world, and its answers were put behind what was gathered
 pub record Called (old new : World) (call : Call) (gathered more : List ℕ) : Type 0 where
@@ -35,8 +36,8 @@ pub record Called (old new : World) (call : Call) (gathered more : List ℕ) : T
   pub steps : Steps old new call replies
   pub prints : more ≡ gathered ++ printed (new.sessions ++ call.who ∷ []) replies
 
--- the call that a line asks for was answered in a world
-pub record Answers (old new : World) (asked : Option Call) (gathered more : List ℕ) : Type 0 where
-  pub call : Call
-  pub asks : asked ≡ Some call
-  pub called : Called old new call gathered more
+-- what a line says was answered in a world: its call, or nothing, and then all stays
+abbrev pub Answers : Said → (old new : World) → (gathered more : List ℕ) → Type 0
+Answers (asks call) old new gathered more = Called old new call gathered more
+Answers idle old new gathered more = (new ≡ old) × (more ≡ gathered)
+Answers (bad cause) old new gathered more = ⊥

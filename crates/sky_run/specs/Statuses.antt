@@ -3,6 +3,7 @@ use Rattle.std.specs.Prelude.{◌≡◌, ℕ, List, [], ◌++◌, ◌⊎◌, map
 use Rattle.std.specs.Io.KnownBytes.{Appends}
 use Rattle.sky_io.specs.declared.sink.SinkFault.{SinkFault}
 use Rattle.sky_io.specs.declared.sink.SinkFault.TheVariants as faults
+use Rattle.sky_model.specs.declared.line.Cause.{Cause}
 use Rattle.sky_model.specs.Transcript.{transcript, bad_line, bad_text, usage}
 
 -- the words, as bytes
@@ -20,12 +21,13 @@ pub record PrintsWhole (after held new_held : Option (List ℕ)) (bytes : List �
   pub none_bad : bad_line bytes ≡ None
   pub printed : Appends held new_held (transcript bytes)
 
--- a line is bad, the sink got what the lines before the first such print, and the other sink was told its number
+-- a line is bad, the sink got what the lines before the first such print, and the other sink was told its number and cause
 pub record TellsBadLine (held new_held err new_err : Option (List ℕ)) (bytes : List ℕ) : Type 0 where
   pub line : ℕ
-  pub is_bad : bad_line bytes ≡ Some line
+  pub cause : Cause
+  pub is_bad : bad_line bytes ≡ Some (line, cause)
   pub printed : Appends held new_held (transcript bytes)
-  pub told : Appends err new_err (bad_text line)
+  pub told : Appends err new_err (bad_text (line, cause))
 
 -- the source gave some bytes and has the others left, and the sink got what the lines print that it gave whole
 pub record PrintsGiven (after held new_held : Option (List ℕ)) (bytes : List ℕ) : Type 0 where
@@ -36,7 +38,7 @@ pub record PrintsGiven (after held new_held : Option (List ℕ)) (bytes : List �
   pub printed : Appends held new_held (transcript given)
 
 -- what is said of a script's first bad line, if there is one
-abbrev pub bad_line_text : Option ℕ → List ℕ
+abbrev pub bad_line_text : Option (ℕ × Cause) → List ℕ
 bad_line_text None = []
 bad_line_text (Some line) = bad_text line
 
@@ -46,7 +48,7 @@ complaint true bytes = bad_line_text (bad_line bytes)
 complaint false bytes = usage
 
 -- the status that a script deserves
-abbrev pub script_status : Option ℕ → ℕ
+abbrev pub script_status : Option (ℕ × Cause) → ℕ
 script_status None = 0
 script_status (Some line) = 2
 

@@ -1,10 +1,12 @@
+use sky_model::Cause;
+
 /// Why a run ends.
 #[derive(Clone, Copy, Debug, PartialEq, Eq)]
 pub enum End {
     /// The script ended.
     Whole,
-    /// The line of this number is bad.
-    Bad(u64),
+    /// The line of this number is bad, for this cause.
+    Bad(u64, Cause),
     /// The source failed.
     Read,
     /// A sink failed.

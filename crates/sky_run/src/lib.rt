@@ -6,7 +6,6 @@
 #![tactic(auto)]
 
 mod answers;
-mod built;
 mod end;
 mod program;
 mod run;

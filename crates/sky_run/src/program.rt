@@ -1,4 +1,4 @@
-ghost use Rattle.std.specs.Prelude.{◌≡◌, ℕ, List, Some, [], ◌⊎◌, true, false};
+ghost use Rattle.std.specs.Prelude.{◌≡◌, ℕ, List, Some, [], ◌⊎◌, true, false, IfOk, string_bytes};
 ghost use Rattle.std.specs.Io.KnownBytes.{Appends};
 ghost use Rattle.sky_io.specs.Appends.{AppendsPrefix};
 ghost use Rattle.sky_io.specs.Faults.{Rose};
@@ -10,7 +10,8 @@ ghost use Rattle.sky_run.specs.Statuses as statuses;
 use crate::end::End;
 use crate::run::run_lines;
 use sky_io::{Sink, SinkFault, Source, write_all};
-use std::alloc::Global;
+use sky_model::Cause;
+use std::alloc::{AllocError, Global};
 
 /// The script ended, and all was written.
 const WHOLE: u8 = 0;
@@ -64,7 +65,7 @@ pub fn run_main<S: Source, O: Sink, E: Sink>(
     }
     match run_lines(alloc, src, out) {
         End::Whole => WHOLE,
-        End::Bad(line) => report_bad_line(alloc, line, err),
+        End::Bad(line, cause) => report_bad_line(alloc, line, cause, err),
         End::Read => READ_FAULT,
         End::Write => WRITE_FAULT,
         End::NoMemory => NO_MEMORY,
@@ -77,18 +78,31 @@ fn is_run(words: &Vec<String>) -> bool
     words.len() == 1 && words[0].as_str() == "run"
 }
 
-fn report_bad_line<E: Sink>(alloc: Global, line: u64, err: &mut E) -> u8
+fn report_bad_line<E: Sink>(alloc: Global, line: u64, cause: Cause, err: &mut E) -> u8
     ensures known { (result ≡ 2) ⊎ (result ≡ 4) ⊎ (result ≡ 5) }
-    ensures told { result ≡ 2 → Appends (E.held err.old) (E.held err.new) (bad_text line) }
-    ensures prefix { AppendsPrefix (E.held err.old) (E.held err.new) (bad_text line) }
+    ensures told { result ≡ 2 → Appends (E.held err.old) (E.held err.new) (bad_text (line, cause)) }
+    ensures prefix { AppendsPrefix (E.held err.old) (E.held err.new) (bad_text (line, cause)) }
     ensures write { result ≡ 4 → Rose (E.faults err.old) (E.faults err.new) }
 {
-    let Ok(text) = format!(in alloc; "line {line}: not built\n") else {
+    let Ok(text) = bad_text(alloc, line, cause) else {
         return NO_MEMORY;
     };
     match write_all(err, text.as_bytes()) {
         Ok(()) => BAD_LINE,
         Err(fault) => fault_status(fault),
+    }
+}
+
+// What is said of a bad line.
+fn bad_text(alloc: Global, line: u64, cause: Cause) -> Result<String, AllocError>
+    ensures { IfOk result (λ text. string_bytes text ≡ bad_text (line, cause)) }
+{
+    match cause {
+        Cause::TooLong => format!(in alloc; "line {line}: too long\n"),
+        Cause::Truncated => format!(in alloc; "line {line}: truncated\n"),
+        Cause::ScriptTooLong => format!(in alloc; "line {line}: script too long\n"),
+        Cause::NotUtf8 => format!(in alloc; "line {line}: not UTF-8\n"),
+        Cause::BadWord(word) => format!(in alloc; "line {line}: bad word {word}\n"),
     }
 }
 

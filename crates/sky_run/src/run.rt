@@ -2,18 +2,17 @@ ghost use Rattle.std.specs.Prelude.{◌≡◌, ℕ, List, Option, Some, None, Ok
 ghost use Rattle.std.specs.Io.KnownBytes.{Appends};
 ghost use Rattle.sky_io.specs.Appends.{AppendsPrefix};
 ghost use Rattle.sky_io.specs.Faults.{Rose};
-ghost use Rattle.sky_model.specs.Transcript.{call_of, most_in_script};
+ghost use Rattle.sky_model.specs.Transcript.{said_by, most_in_script};
 ghost use Rattle.sky_model.specs.World.{world_of};
 ghost use Rattle.sky_world.specs.Seen.{seen_world};
-ghost use Rattle.sky_run.specs.Running.{Answers, Called, call_in};
+ghost use Rattle.sky_run.specs.Running.{Answers, Called, said_in};
 ghost use Rattle.sky_run.specs.Goes.{IsFresh, Counts, Goes, SameButGathered};
-ghost use Rattle.sky_run.specs.Ends.{Ends, NotBuilt, IsCut, end_of, end_by};
+ghost use Rattle.sky_run.specs.Ends.{Ends, IsBadLine, IsCut, end_of, end_by};
 
 use crate::answers::print_answers;
-use crate::built::is_built;
 use crate::end::End;
 use sky_io::{Sink, SinkFault, Source, write_all};
-use sky_model::{Line, Stmt};
+use sky_model::{Cause, Line, Stmt};
 use sky_script::{LineCause, LineFault, LineReader, parse_line};
 use sky_val::{NoMemory, Text};
 use sky_world::World;
@@ -129,46 +128,58 @@ impl Run {
         }
     }
 
-    // Answers a line.
+    // Answers a line, and counts it.
     fn answer(&mut self, line: &[u8]) -> Result<(), End>
         requires { self.old.number ≤ most_in_script }
-        ensures answers { OnOk result (Answers (seen_world self.old.world) (seen_world self.new.world) (call_in self.old.number line.now) self.old.gathered.items self.new.gathered.items) }
+        ensures answers { OnOk result (Answers (said_in line.now) (seen_world self.old.world) (seen_world self.new.world) self.old.gathered.items self.new.gathered.items) }
         ensures number { OnOk result (self.new.number ≡ self.old.number + 1) }
-        ensures not_built { IfErr result (λ end. NotBuilt end self.old.number (call_in self.old.number line.now)) }
+        ensures bad { IfErr result (λ end. IsBadLine end self.old.number (said_in line.now)) }
         ensures err { OnErr result (self.new.gathered.items ≡ self.old.gathered.items) }
         ensures reader { self.new.reader ≡ self.old.reader }
     {
         match parse_line(self.alloc, line) {
-            Ok(said) => self.answer_said(&said),
+            Ok(said) => self.count(&said),
             Err(cause) => Err(self.end_by(cause)),
         }
     }
 
-    // Answers what a line says.
-    fn answer_said(&mut self, said: &Line) -> Result<(), End>
+    // Answers a line that was parsed, and counts it.
+    fn count(&mut self, said: &Line) -> Result<(), End>
         requires { self.old.number ≤ most_in_script }
-        ensures answers { OnOk result (Answers (seen_world self.old.world) (seen_world self.new.world) (call_of self.old.number (Ok said.now)) self.old.gathered.items self.new.gathered.items) }
+        ensures answers { OnOk result (Answers (said_by (Ok said.now)) (seen_world self.old.world) (seen_world self.new.world) self.old.gathered.items self.new.gathered.items) }
         ensures number { OnOk result (self.new.number ≡ self.old.number + 1) }
-        ensures not_built { IfErr result (λ end. NotBuilt end self.old.number (call_of self.old.number (Ok said.now))) }
+        ensures no_memory { IfErr result (λ end. end ≡ End.NoMemory) }
         ensures err { OnErr result (self.new.gathered.items ≡ self.old.gathered.items) }
         ensures reader { self.new.reader ≡ self.old.reader }
     {
+        match self.answer_said(said) {
+            Ok(()) => {
+                self.number += 1;
+                Ok(())
+            }
+            Err(_) => Err(End::NoMemory),
+        }
+    }
+
+    // Answers what a line says. A blank line says nothing.
+    fn answer_said(&mut self, said: &Line) -> Result<(), NoMemory>
+        ensures answers { OnOk result (Answers (said_by (Ok said.now)) (seen_world self.old.world) (seen_world self.new.world) self.old.gathered.items self.new.gathered.items) }
+        ensures err { OnErr result (self.new.gathered.items ≡ self.old.gathered.items) }
+        ensures reader { self.new.reader ≡ self.old.reader }
+        ensures number { self.new.number ≡ self.old.number }
+    {
         match said {
-            Line::Run(who, stmt) if is_built(self.number, who, stmt) => match self.call(who, stmt) {
-                Ok(()) => Ok(()),
-                Err(_) => Err(End::NoMemory),
-            },
-            _ => Err(End::Bad(self.number)),
+            Line::Blank => Ok(()),
+            Line::Run(who, stmt) => self.call(who, stmt),
         }
     }
 
     // Runs a statement of a session, and gathers its answers.
     fn call(&mut self, who: &Text, stmt: &Stmt) -> Result<(), NoMemory>
-        requires { self.old.number ≤ most_in_script }
         ensures answers { OnOk result (Called (seen_world self.old.world) (seen_world self.new.world) (record { who = who.now; stmt = stmt.now }) self.old.gathered.items self.new.gathered.items) }
-        ensures number { OnOk result (self.new.number ≡ self.old.number + 1) }
         ensures err { OnErr result (self.new.gathered.items ≡ self.old.gathered.items) }
         ensures reader { self.new.reader ≡ self.old.reader }
+        ensures number { self.new.number ≡ self.old.number }
     {
         let replies = self.world.step(who, stmt)?;
         print_answers(
@@ -177,9 +188,7 @@ impl Run {
             who,
             &replies,
             &mut self.gathered,
-        )?;
-        self.number += 1;
-        Ok(())
+        )
     }
 
     // The end that a reader's fault makes.
@@ -188,19 +197,20 @@ impl Run {
     {
         match fault {
             LineFault::Read => End::Read,
-            LineFault::TooLong | LineFault::Truncated | LineFault::ScriptTooLong => End::Bad(
-                self.number,
-            ),
+            LineFault::TooLong => End::Bad(self.number, Cause::TooLong),
+            LineFault::Truncated => End::Bad(self.number, Cause::Truncated),
+            LineFault::ScriptTooLong => End::Bad(self.number, Cause::ScriptTooLong),
             LineFault::NoMemory => End::NoMemory,
         }
     }
 
-    // The end that bytes make that are no line.
+    // The end that a line makes that was not parsed.
     fn end_by(&self, cause: LineCause) -> End
         ensures { result ≡ end_by cause self.now.number }
     {
         match cause {
-            LineCause::NotUtf8 | LineCause::BadWord(_) => End::Bad(self.number),
+            LineCause::NotUtf8 => End::Bad(self.number, Cause::NotUtf8),
+            LineCause::BadWord(word) => End::Bad(self.number, Cause::BadWord(word)),
             LineCause::NoMemory => End::NoMemory,
         }
     }

@@ -1,12 +1,12 @@
 -- Going over the bytes of a number and of a quoted text.
-use Rattle.std.proofs.Common.{◌≡◌, ◌≢◌, ℕ, ◌+◌, ◌-◌, ◌*◌, ◌<◌, ◌≤◌, Bool, true, false, not, cond, List, [], ◌∷◌, ◌++◌, length, drop, get_or, refl, sym, ap, ◌∙◌, append_assoc, arith, Option, Some, None, option_map}
+use Rattle.std.proofs.Common.{◌≡◌, ◌≢◌, ◌==◌, ◌&&◌, ℕ, ◌+◌, ◌-◌, ◌*◌, ◌<◌, ◌≤◌, Bool, true, false, not, cond, List, [], ◌∷◌, ◌++◌, length, drop, get_or, refl, sym, ap, ◌∙◌, append_assoc, arith, Option, Some, None, option_map}
 use Rattle.std.proofs.lemmas.List.{drop_more}
 use Rattle.std.proofs.lemmas.Bool.{and_parts, ne_eqb}
 use Rattle.std.specs.Char.{is_ascii_digit}
 use Rattle.std.specs.List.{list_all}
 use Rattle.std.specs.Str.{IsUtf8, is_utf8}
 use Rattle.std.proofs.lemmas.Str.{is_utf8-from_IsUtf8, IsUtf8-from_is_utf8}
-use Rattle.sky_model.specs.Kinds.{number_from, text_from, in_characters}
+use Rattle.sky_model.specs.Kinds.{number_from, is_text_byte, text_from, in_characters}
 
 -- further digits make no number less
 pub number_from-le : (n : ℕ) (bs : List ℕ) → n ≤ number_from n bs
@@ -74,3 +74,15 @@ unquotes_byte inside text false i within closed no_quote no_feed no_zero so =
     let rest : List ℕ = drop (i + 1) inside in
     let plain : text_from false (b ∷ rest) ≡ option_map (λ more. b ∷ more) (text_from false rest) = rw (ne_eqb b 39 no_quote, ne_eqb b 10 no_feed, ne_eqb b 0 no_zero) refl in
     record { so_far = so.so_far ∙ ap (λ bs. before text (text_from false bs)) (drop_more inside i 0 within) ∙ ap (before text) plain ∙ before-first text b (text_from false rest) }
+
+-- bytes that stand for themselves, up to the closing quote, are the text
+as_written : (text : List ℕ) → list_all (λ b. not (b == 39) && is_text_byte b) text ≡ true → text_from false (text ++ 39 ∷ []) ≡ Some text
+as_written [] all = refl
+as_written (b ∷ bs) all =
+    let here = and_parts (not (b == 39) && is_text_byte b) (list_all (λ b. not (b == 39) && is_text_byte b) bs) all in
+    let parts = and_parts (not (b == 39)) (is_text_byte b) here.0 in
+    let more = as_written bs here.1 in
+    grind (arith, parts, more)
+
+pub text_from_as_written : (inside text : List ℕ) (quote : ℕ) → inside ≡ text ++ quote ∷ [] → quote ≡ 39 → list_all (λ b. not (b == 39) && is_text_byte b) text ≡ true → text_from false inside ≡ Some text
+text_from_as_written inside text quote ends closes all = rw (ends, closes) (as_written text all)

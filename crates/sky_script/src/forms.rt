@@ -1,8 +1,8 @@
 //! The statement forms: of each, what follows its first word.
 
 ghost use Rattle.std.specs.Prelude.{◌-◌, ◌^◌};
-ghost use Rattle.sky_model.specs.Kinds.{Name, Consumer, Number};
-ghost use Rattle.sky_model.specs.Grammar.{one, last, row_of};
+ghost use Rattle.sky_model.specs.Kinds.{Name, Consumer, Number, Raw};
+ghost use Rattle.sky_model.specs.Grammar.{stop, one, last, row_of};
 ghost use Rattle.sky_model.specs.Grammar as grammar;
 ghost use Rattle.sky_script.specs.Reading.{Answers};
 
@@ -11,12 +11,31 @@ use crate::words::Words;
 use sky_model::{Extra, Form, Stmt};
 use std::alloc::Global;
 
+/// A statement that is its first word alone.
+fn alone(stmt: Stmt, words: &Words) -> Result<Stmt, LineCause>
+    ensures { Answers result (stop stmt) words.now }
+{
+    words.end()?;
+    Ok(stmt)
+}
+
 fn open_db(alloc: Global, words: &mut Words) -> Result<Stmt, LineCause>
     ensures { Answers result (last Name (λ name. Stmt.OpenDb name)) words.old }
 {
     let name = words.name(alloc)?;
     words.end()?;
     Ok(Stmt::OpenDb { name })
+}
+
+fn txid_visible_in_snapshot(alloc: Global, words: &mut Words) -> Result<Stmt, LineCause>
+    ensures { let row = one (Number (2 ^ 64 - 1)) (λ txid.
+        last Raw (λ snapshot. Stmt.TxidVisibleInSnapshot txid snapshot)) in
+        Answers result row words.old }
+{
+    let txid = words.number(u64::MAX)?;
+    let snapshot = words.raw(alloc)?;
+    words.end()?;
+    Ok(Stmt::TxidVisibleInSnapshot { txid, snapshot })
 }
 
 fn create_queue(alloc: Global, words: &mut Words) -> Result<Stmt, LineCause>
@@ -118,6 +137,14 @@ pub(crate) fn read_form(alloc: Global, form: Form, words: &mut Words) -> Result<
 {
     match form {
         Form::OpenDb => open_db(alloc, words),
+        Form::Close => alone(Stmt::Close, words),
+        Form::Cancel => alone(Stmt::Cancel, words),
+        Form::Begin => alone(Stmt::Begin, words),
+        Form::Commit => alone(Stmt::Commit, words),
+        Form::Rollback => alone(Stmt::Rollback, words),
+        Form::TxidCurrent => alone(Stmt::TxidCurrent, words),
+        Form::TxidCurrentSnapshot => alone(Stmt::TxidCurrentSnapshot, words),
+        Form::TxidVisibleInSnapshot => txid_visible_in_snapshot(alloc, words),
         Form::CreateQueue => create_queue(alloc, words),
         Form::InsertEvent => insert_event(alloc, words),
         Form::Ticker => ticker(alloc, words),

@@ -1,6 +1,6 @@
 //! The tests of single words.
 
-ghost use Rattle.std.specs.Prelude.{◌≡◌, ◌+◌, ◌-◌, ◌*◌, ◌^◌, ◌≤◌, false, IsTrue, IsUtf8, IfOk, MatchOption, MatchResult, option_map};
+ghost use Rattle.std.specs.Prelude.{◌≡◌, ◌+◌, ◌-◌, ◌*◌, ◌^◌, ◌≤◌, ◌==◌, ◌&&◌, not, false, Some, IsTrue, IsUtf8, IfOk, IfSome, MatchOption, MatchResult, option_map};
 ghost use Rattle.std.specs.Char.{is_ascii_digit};
 ghost use Rattle.std.specs.List.{list_all};
 ghost use Rattle.sky_model.specs.Kinds as kind;
@@ -128,11 +128,36 @@ fn in_characters(alloc: Global, bytes: &[u8]) -> Result<Option<Text>, AllocError
     }
 }
 
+/// Whether a byte between quotes is itself, and no quote.
+fn stands_for_itself(byte: u8) -> bool
+    ensures { result ≡ (not (byte == 39) && kind.is_text_byte byte) }
+{
+    byte != b'\'' && byte != b'\n' && byte != 0
+}
+
+fn all_stand_for_themselves(bytes: &[u8]) -> bool
+    ensures { result ≡ list_all (λ b. not (b == 39) && kind.is_text_byte b) bytes.now }
+{
+    bytes.iter().all(|byte| stands_for_itself(*byte))
+}
+
+/// What stands before the closing quote, where no byte of it stands for another. Most texts are so, and
+/// are taken as they stand.
+#[tactic(auto, using(crate::proofs::KindLemmas::text_from_as_written))]
+fn as_written(inside: &[u8]) -> Option<&[u8]>
+    ensures { IfSome result (λ text. kind.text_from false inside.now ≡ Some text.now) }
+{
+    match inside.split_last() {
+        Some((b'\'', text)) if all_stand_for_themselves(text) => Some(text),
+        _ => None,
+    }
+}
+
 /// The bytes of a text from behind its opening quote on, if the word ends with its closing quote.
 fn unquoted(alloc: Global, inside: &[u8]) -> Result<Option<Vec<u8>>, AllocError>
     ensures { IfOk result (λ text. option_map (λ v. v.items) text ≡ kind.text_from false inside.now) }
 {
-    let mut text = Vec::new(alloc);
+    let mut text = Vec::with_capacity(alloc, inside.len())?;
     // Whether the byte before is a quote: the closing one, or the first of two.
     let mut quote = false;
     for byte in inside {
@@ -158,6 +183,9 @@ pub(crate) fn quoted_text(alloc: Global, word: &[u8]) -> Result<Option<Text>, Al
     let Some((b'\'', inside)) = word.split_first() else {
         return Ok(None);
     };
+    if let Some(text) = as_written(inside) {
+        return in_characters(alloc, text);
+    }
     match unquoted(alloc, inside)? {
         Some(bytes) => in_characters(alloc, bytes.as_slice()),
         None => Ok(None),
@@ -173,4 +201,24 @@ pub(crate) fn plain_text(alloc: Global, word: &[u8]) -> Result<Text, LineCause>
         Ok(text) => Ok(text),
         Err(_) => Err(LineCause::NoMemory),
     }
+}
+
+/// Whether a byte may stand outside quotes.
+fn is_bare(byte: u8) -> bool
+    ensures { result ≡ kind.is_bare byte }
+{
+    byte.is_ascii_graphic() && byte != b'\''
+}
+
+fn all_bare(bytes: &[u8]) -> bool
+    ensures { result ≡ list_all kind.is_bare bytes.now }
+{
+    bytes.iter().all(|byte| is_bare(*byte))
+}
+
+/// Whether a word is one without quotes.
+pub(crate) fn is_bare_word(word: &[u8]) -> bool
+    ensures { result ≡ kind.is_bare_word word.now }
+{
+    !word.is_empty() && all_bare(word)
 }

@@ -10,8 +10,16 @@ use sky_model::{Form, Line, Stmt};
 use std::alloc::Global;
 
 /// The forms, in the order of `Stmt`.
-const FORMS: [Form; 9] = [
+const FORMS: [Form; 17] = [
     Form::OpenDb,
+    Form::Close,
+    Form::Cancel,
+    Form::Begin,
+    Form::Commit,
+    Form::Rollback,
+    Form::TxidCurrent,
+    Form::TxidCurrentSnapshot,
+    Form::TxidVisibleInSnapshot,
     Form::CreateQueue,
     Form::InsertEvent,
     Form::Ticker,
@@ -27,6 +35,14 @@ fn first_word(form: Form) -> &'static [u8]
 {
     match form {
         Form::OpenDb => b"open",
+        Form::Close => b"close",
+        Form::Cancel => b"cancel",
+        Form::Begin => b"begin",
+        Form::Commit => b"commit",
+        Form::Rollback => b"rollback",
+        Form::TxidCurrent => b"txid_current",
+        Form::TxidCurrentSnapshot => b"txid_current_snapshot",
+        Form::TxidVisibleInSnapshot => b"txid_visible_in_snapshot",
         Form::CreateQueue => b"create_queue",
         Form::InsertEvent => b"insert_event",
         Form::Ticker => b"ticker",
@@ -107,6 +123,15 @@ mod tests {
             ("", "Ok(Blank)"),
             ("# a: ticker", "Ok(Blank)"),
             ("a: open p", "Ok(Run(\"a\", OpenDb { name: \"p\" }))"),
+            ("a: begin", "Ok(Run(\"a\", Begin))"),
+            (
+                "a: txid_visible_in_snapshot 9 '10:20:10,14,15'",
+                "Ok(Run(\"a\", TxidVisibleInSnapshot { txid: 9, snapshot: \"10:20:10,14,15\" }))",
+            ),
+            (
+                "a: txid_visible_in_snapshot 9 10:20:",
+                "Ok(Run(\"a\", TxidVisibleInSnapshot { txid: 9, snapshot: \"10:20:\" }))",
+            ),
             (
                 "a: next_batch q w.m",
                 "Ok(Run(\"a\", NextBatch { queue: \"q\", consumer: \"w.m\" }))",
@@ -120,6 +145,8 @@ mod tests {
             ("A: ticker q", "Err(BadWord(1))"),
             ("a: insert_event q 'x", "Err(BadWord(4))"),
             ("a: ticker", "Err(BadWord(3))"),
+            ("a: commit x", "Err(BadWord(3))"),
+            ("a: txid_visible_in_snapshot 9 a='x'", "Err(BadWord(4))"),
             ("a: create_queue q 2", "Err(BadWord(4))"),
             ("end", "Err(BadWord(1))"),
         ];

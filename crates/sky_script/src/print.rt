@@ -2,12 +2,14 @@ ghost use Rattle.std.specs.Prelude.{◌≡◌, ◌++◌, codes, OnOk, OnErr};
 ghost use Rattle.std.specs.Fmt.{decimal};
 ghost use Rattle.sky_model.specs.Moment.{HasMoment};
 ghost use Rattle.sky_model.specs.Printed.{event_text, refusal_text, line_text, reply_text, printed, HaveNames, EventsHaveMoments, ReplyHasMoments, HaveMoments};
+ghost use Rattle.sky_txid.specs.SnapshotText.{snapshot_text};
 ghost use Rattle.sky_script.specs.Kept.{Keeps};
 
 use crate::event::append_event;
 use crate::refusal::append_refusal;
 use itoa::Buffer;
 use sky_model::{Refusal, Replies, Reply};
+use sky_txid::Snapshot;
 use sky_val::{Event, NoMemory, SessionId, Text};
 
 /// Appends the lines of these answers, each behind its session's name. A session's number is its
@@ -54,6 +56,17 @@ fn append_reply(name: &[u8], reply: &Reply, into: &mut Vec<u8>) -> Result<(), No
         Reply::Done => append_line(name, b"ok", into),
         Reply::Number(number) => append_line(name, Buffer::new().format(*number).as_bytes(), into),
         Reply::Null => append_line(name, b"null", into),
+        Reply::Bool(true) => append_line(name, b"true", into),
+        Reply::Bool(false) => append_line(name, b"false", into),
+        Reply::Begin => append_line(name, b"BEGIN", into),
+        Reply::AlreadyInTransaction => {
+            append_line(name, b"WARNING already in a transaction", into)
+        }
+        Reply::Commit => append_line(name, b"COMMIT", into),
+        Reply::Rollback => append_line(name, b"ROLLBACK", into),
+        Reply::NoTransaction => append_line(name, b"WARNING no transaction", into),
+        Reply::NotWaiting => append_line(name, b"not waiting", into),
+        Reply::Snapshot(snapshot) => append_snapshot(name, snapshot, into),
         Reply::Events(events) => append_batch(name, events.as_slice(), into),
         Reply::Refused(refusal) => append_refused(name, refusal, into),
     }
@@ -65,6 +78,17 @@ fn append_line(name: &[u8], line: &[u8], into: &mut Vec<u8>) -> Result<(), NoMem
 {
     append_name(name, into)?;
     into.extend_from_slice(line)?;
+    into.push(b'\n')?;
+    Ok(())
+}
+
+fn append_snapshot(name: &[u8], snapshot: &Snapshot, into: &mut Vec<u8>) -> Result<(), NoMemory>
+    ensures ok { OnOk result
+        (into.new.items ≡ into.old.items ++ line_text name.now (snapshot_text snapshot.now)) }
+    ensures kept { OnErr result (Keeps into.old.items into.new.items) }
+{
+    append_name(name, into)?;
+    snapshot.print(into)?;
     into.push(b'\n')?;
     Ok(())
 }

@@ -12,9 +12,12 @@ pub(crate) fn append_refusal(refusal: &Refusal, into: &mut Vec<u8>) -> Result<()
     ensures kept { OnErr result (Keeps into.old.items into.new.items) }
 {
     match refusal {
+        Refusal::Aborted => into.extend_from_slice(b"Aborted"),
         Refusal::AlreadyOpen => into.extend_from_slice(b"AlreadyOpen"),
+        Refusal::BadSnapshot => into.extend_from_slice(b"BadSnapshot"),
         Refusal::EventIdsSpent => into.extend_from_slice(b"EventIdsSpent"),
         Refusal::IdsSpent => into.extend_from_slice(b"IdsSpent"),
+        Refusal::InTransaction => into.extend_from_slice(b"InTransaction"),
         Refusal::NoBatch => into.extend_from_slice(b"NoBatch"),
         Refusal::NoConsumer(name) => append_named(b"NoConsumer ", name.bytes(), into),
         Refusal::NodeConsumer => into.extend_from_slice(b"NodeConsumer"),

@@ -3,13 +3,13 @@
 ghost use Rattle.std.specs.Prelude.{◌≡◌, ◌+◌, ◌-◌, ◌<◌, [], ◌∷◌, true, false, IfOk, IfErr, IfNone, IfSome, OnOk, MatchOption, Result, Ok, Err, length, option_copied};
 ghost use Rattle.sky_model.specs.declared.stmt.Stmt.{Stmt};
 ghost use Rattle.sky_model.specs.Words.{words};
-ghost use Rattle.sky_model.specs.Kinds.{Name, Consumer, Number, OptText};
+ghost use Rattle.sky_model.specs.Kinds.{Name, Consumer, Number, OptText, Raw};
 ghost use Rattle.sky_model.specs.Grammar.{Row, stop, either, line_of_words, run_of, statement_of};
 ghost use Rattle.sky_script.specs.Unread.{words_in};
 ghost use Rattle.sky_script.specs.Reading.{Answers, IsAnswer, Reads};
 
 use crate::cause::LineCause;
-use crate::kinds::{is_consumer, is_name, number_of, plain_text, quoted_text};
+use crate::kinds::{is_bare_word, is_consumer, is_name, number_of, plain_text, quoted_text};
 use sky_val::Text;
 use std::alloc::Global;
 use std::marker::Model;
@@ -177,6 +177,21 @@ impl<'a> Words<'a> {
         }
         match quoted_text(alloc, word)? {
             Some(text) => Ok(Some(text)),
+            None => Err(self.refused()),
+        }
+    }
+
+    pub(crate) fn raw(&mut self, alloc: Global) -> Result<Text, LineCause>
+        ensures { Reads Raw result self.old self.new }
+    {
+        let Some(word) = self.next() else {
+            return Err(self.missing());
+        };
+        if is_bare_word(word) {
+            return plain_text(alloc, word);
+        }
+        match quoted_text(alloc, word)? {
+            Some(text) => Ok(text),
             None => Err(self.refused()),
         }
     }

@@ -19,6 +19,7 @@ const TXID_END: u64 = 1 << 62;
 /// Why no id was given.
 #[derive(Clone, Copy, Debug, PartialEq, Eq, Error)]
 pub enum TransFault {
+    /// The last id, 2^62 - 1, was given.
     #[error("all transaction ids were given")]
     TxidsSpent,
     #[error("out of memory")]
@@ -55,7 +56,7 @@ impl Model for Trans {
 }
 
 impl Trans {
-    /// No transaction has begun.
+    /// No transaction has begun. The first id is 3.
     pub fn new(alloc: Global) -> Trans
         ensures { result ≡ record { next = 3; running = [] } }
     {

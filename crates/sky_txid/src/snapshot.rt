@@ -12,6 +12,7 @@ use thiserror::Error;
 /// Why a text is no snapshot.
 #[derive(Clone, Copy, Debug, PartialEq, Eq, Error)]
 pub enum SnapshotFault {
+    /// The text isn't `xmin:xmax:xip`, or its numbers are out of order.
     #[error("not a snapshot")]
     BadSnapshot,
     #[error("out of memory")]
@@ -59,7 +60,8 @@ impl Model for Snapshot {
 }
 
 impl Snapshot {
-    /// The snapshot that a text writes.
+    /// The snapshot that a text writes, as `xmin:xmax:xip`. Leading zeros are read, and an item that equals
+    /// the one before it is skipped.
     pub fn parse(alloc: Global, text: &[u8]) -> Result<Snapshot, SnapshotFault>
         ensures ok { IfOk result (λ snapshot. parse_snapshot text.now ≡ Some snapshot) }
 

@@ -3,8 +3,9 @@ ghost use Rattle.std.specs.Prelude.{◌≡◌, IfOk};
 use crate::text::{Text, copy_option};
 use std::alloc::{AllocError, Global};
 
-/// An event of a queue. `ev_time` is in microseconds since the clock's start; `ev_owner` is a
-/// subscription, and `ev_retry` says how often the event came back.
+/// An event of a queue, with PgQ's fields. `ev_time` is in microseconds since 2012-01-01 00:00:00,
+/// `ev_txid` the transaction that put it, `ev_owner` the one subscription that it is for, and
+/// `ev_retry` how often it came back.
 #[derive(Debug, Drop)]
 pub struct Event {
     pub ev_id: u64,

@@ -3,6 +3,7 @@ ghost use Rattle.std.specs.Cmp.Rules.{comparing, hashing};
 ghost use Rattle.std.specs.Hash as fed;
 ghost use Rattle.std.proofs.Common.{rules};
 
+use arrayvec::ArrayString;
 use std::alloc::{AllocError, Global};
 use std::fmt;
 use std::hash::{Hash, Hasher};
@@ -18,18 +19,61 @@ pub enum TextFault {
     NoMemory,
 }
 
+/// How many bytes a text may have that is kept in place.
+const MOST_IN_PLACE: usize = 16;
+
+/// Where the bytes of a text are: most texts are short, and then take no memory of their own.
+#[derive(Drop)]
+enum Kept {
+    InPlace(ArrayString<MOST_IN_PLACE>),
+    Apart(String),
+}
+
+impl Kept {
+    ghost use Rattle.sky_val.specs.Kept.{kept_bytes};
+
+    fn new(alloc: Global, text: &str) -> Result<Kept, AllocError>
+        ensures { IfOk result (λ kept. kept_bytes kept ≡ text.now) }
+    {
+        match ArrayString::from(text) {
+            Ok(short) => Ok(Kept::InPlace(short)),
+            Err(_) => Ok(Kept::Apart(String::from_str(alloc, text)?)),
+        }
+    }
+
+    fn as_str(&self) -> &str
+        ensures { result.now ≡ kept_bytes self.now }
+    {
+        match self {
+            Kept::InPlace(short) => short.as_str(),
+            Kept::Apart(long) => long.as_str(),
+        }
+    }
+
+    fn copy(&self, alloc: Global) -> Result<Kept, AllocError>
+        ensures { IfOk result (λ kept. kept_bytes kept ≡ kept_bytes self.now) }
+    {
+        match self {
+            Kept::InPlace(short) => Ok(Kept::InPlace(*short)),
+            Kept::Apart(long) => Ok(Kept::Apart(String::from_str(alloc, long.as_str())?)),
+        }
+    }
+}
+
 /// A text: bytes that are UTF-8.
 #[derive(Drop)]
 pub struct Text {
-    bytes: String,
+    kept: Kept,
 }
 
 impl Model for Text {
-    ghost use Rattle.std.specs.Prelude.{ℕ, List, string_bytes};
+    ghost use Rattle.std.specs.Prelude.{ℕ, List};
 
     ghost Value = { List ℕ };
 
-    ghost view = { λ t. string_bytes t.bytes };
+    ghost use Rattle.sky_val.specs.Kept.{kept_bytes};
+
+    ghost view = { λ t. kept_bytes t.kept };
 }
 
 impl Text {
@@ -42,32 +86,33 @@ impl Text {
         let Ok(text) = std::str::from_utf8(bytes) else {
             return Err(TextFault::NotUtf8);
         };
-        match String::from_str(alloc, text) {
-            Ok(bytes) => Ok(Text { bytes }),
+        match Kept::new(alloc, text) {
+            Ok(kept) => Ok(Text { kept }),
             Err(_) => Err(TextFault::NoMemory),
         }
     }
 
+    /// Its bytes.
     pub fn bytes(&self) -> &[u8]
         ensures value { result.now ≡ self.now }
         ensures utf8 { IsUtf8 self.now }
     {
-        self.bytes.as_str().as_bytes()
+        self.kept.as_str().as_bytes()
     }
 
     /// The same as `bytes`, as std's type for it.
     pub fn as_str(&self) -> &str
         ensures { result.now ≡ self.now }
     {
-        self.bytes.as_str()
+        self.kept.as_str()
     }
 
     /// An equal text.
     pub fn copy(&self, alloc: Global) -> Result<Text, AllocError>
         ensures { IfOk result (λ text. text ≡ self.now) }
     {
-        let bytes = String::from_str(alloc, self.bytes.as_str())?;
-        Ok(Text { bytes })
+        let kept = self.kept.copy(alloc)?;
+        Ok(Text { kept })
     }
 }
 
@@ -107,6 +152,6 @@ impl Hash for Text {
 
 impl fmt::Debug for Text {
     fn fmt<W: fmt::Write>(&self, f: &mut fmt::Formatter<W>) -> fmt::Result {
-        self.bytes.as_str().fmt(f)
+        self.as_str().fmt(f)
     }
 }

@@ -1,5 +1,5 @@
 -- What the world shows, after what the code changed in it.
-use Rattle.std.proofs.Common.{◌≡◌, ℕ, suc, zero, ◌+◌, ◌<◌, ◌≤◌, List, [], ◌∷◌, ◌++◌, Bool, true, false, ◌==◌, nat_le, Option, Some, None, map, length, length-append, get_or, slice_set, get_or-set_same, get_or-set_other, ◌≢◌, refl, sym, ◌∙◌, ap, subst, arith, All, if◌then◌else◌, IfSome, ℤ, pos}
+use Rattle.std.proofs.Common.{◌≡◌, ℕ, suc, zero, ◌+◌, ◌<◌, ◌≤◌, List, [], ◌∷◌, ◌++◌, Bool, true, false, ◌==◌, nat_le, Option, Some, None, map, length, append-nil, length-append, get_or, slice_set, get_or-set_same, get_or-set_other, ◌≢◌, refl, sym, ◌∙◌, ap, subst, arith, All, if◌then◌else◌, IfSome, ℤ, pos}
 use Rattle.std.proofs.lemmas.List.Elements.{All-from_recursion}
 use Rattle.std.proofs.lemmas.Bool.Decides.{nat_tests}
 use Rattle.std.proofs.lemmas.Option.{get_or_from_slice_get, slice_get_read}
@@ -7,23 +7,23 @@ use Rattle.sky_names.specs.Places.{place_of}
 use Rattle.sky_names.proofs.PlaceLemmas.{place_of_within}
 use Rattle.sky_val.specs.declared.event.Event.{Event}
 use Rattle.sky_model.specs.declared.stmt.Stmt.{Stmt}
-use Rattle.sky_model.specs.declared.stmt.Stmt.TheVariants.{OpenDb, CreateQueue, InsertEvent, Ticker, ForceTick, RegisterConsumer, NextBatch, GetBatchEvents, FinishBatch}
+use Rattle.sky_model.specs.declared.stmt.Stmt.TheVariants.{OpenDb, Close, Cancel, Begin, Commit, Rollback, TxidCurrent, TxidCurrentSnapshot, TxidVisibleInSnapshot, CreateQueue, InsertEvent, Ticker, ForceTick, RegisterConsumer, NextBatch, GetBatchEvents, FinishBatch}
 use Rattle.sky_model.specs.declared.reply.Reply.TheVariants.{Refused}
 use Rattle.sky_model.specs.declared.reply.Refusal.TheVariants.{TooMany}
 use Rattle.sky_model.specs.declared.reply.Limit.TheVariants.{Sessions}
 use Rattle.sky_model.specs.declared.reply.Reply.{Reply}
-use Rattle.sky_model.specs.History.{Batch, Mark, appeared, founded, entered, within}
+use Rattle.sky_model.specs.History.{Batch, Mark, Fact, appeared, founded, entered, left, within}
 use Rattle.sky_model.specs.Selection.{selected}
 use Rattle.sky_model.specs.State.{Database, database_of, changed_at, after_mark, after_marks}
-use Rattle.sky_model.specs.Outcome.{Outcome, settled}
-use Rattle.sky_model.specs.World.{World, world_of, Call, Deed, after_fact, after_facts, statement, deed_in, session_does, opens, refuses, first, called, number_or_next}
+use Rattle.sky_model.specs.Outcome.{Outcome}
+use Rattle.sky_model.specs.World.{World, world_of, Call, Deed, after_fact, after_facts, statement, deed_in, session_does, opens, refuses, first, called}
 use Rattle.sky_model.specs.Steps.{Steps, deed_at}
 use Rattle.sky_model.proofs.Standing.{steps_from_exact}
 use Rattle.sky_world.specs.Views.{DatabaseView, WorldView}
 use Rattle.sky_world.specs.Seen.{seen_database, no_database, seen_world}
 use Rattle.sky_world.specs.Homes.{HomesWithin}
 use Rattle.sky_world.specs.Gives.{Gives}
-use Rattle.sky_world.specs.GivesDeed.{GivesDeed, AnswersCall}
+use Rattle.sky_world.specs.GivesDeed.{GivesDeed}
 
 -- marks in a database change that database alone
 pub after_facts-within : (w : World) (d : ℕ) (marks : List Mark) → after_facts w (map (within d) marks) ≡ record w { database = changed_at d (λ x. after_marks x marks) w.database }
@@ -56,6 +56,13 @@ pub homes-more : (count more : ℕ) (homes : List (Option ℕ)) → count ≤ mo
 homes-more count more [] le all = tt
 homes-more count more (None ∷ homes) le all = homes-more count more homes le all
 homes-more count more (Some d ∷ homes) le all = ((let below : d < count = all.0 in omega arith), homes-more count more homes le all.1)
+
+pub homes-clear : (count : ℕ) (homes : List (Option ℕ)) (who : ℕ) → HomesWithin count homes → HomesWithin count (slice_set homes who None)
+homes-clear count [] who all = tt
+homes-clear count (None ∷ homes) zero all = all
+homes-clear count (Some d ∷ homes) zero all = all.1
+homes-clear count (None ∷ homes) (suc who) all = homes-clear count homes who all
+homes-clear count (Some d ∷ homes) (suc who) all = (all.0, homes-clear count homes who all.1)
 
 pub homes-set : (count : ℕ) (homes : List (Option ℕ)) (who d : ℕ) → d < count → HomesWithin count homes → HomesWithin count (slice_set homes who (Some d))
 homes-set count [] who d lt all = tt
@@ -162,50 +169,79 @@ founded-as v now names stores new name copied same more is longer empty =
     })
     ∙ ap (λ w. after_fact (seen_world w) (founded name)) same
 
+-- a session that left its database
+pub left-as : (v now : WorldView) (who : ℕ) → v ≡ now → who < length v.homes → seen_world (record v { homes = slice_set v.homes who None }) ≡ after_fact (seen_world now) (left who)
+left-as v now who same lt =
+    (λ i. record (seen_world v) { homes = λ n. get_or-changed v.homes who n None None lt i })
+    ∙ ap (λ w. after_fact (seen_world w) (left who)) same
+
+-- facts one after the other
+after_facts-append : (w : World) (xs ys : List Fact) → after_facts w (xs ++ ys) ≡ after_facts (after_facts w xs) ys
+after_facts-append w [] ys = refl
+after_facts-append w (x ∷ xs) ys = after_facts-append (after_fact w x) xs ys
+
 -- what a statement of a database gives in the world
 pub gives-within : (v now : WorldView) (d who : ℕ) (old new : DatabaseView) (stmt : Stmt) (reply : Reply) → v ≡ now → d < length v.stores
     → get_or v.stores d no_database ≡ old
-    → ((w : ℕ) → Gives (seen_database old) (seen_database new) reply (settled (statement (seen_database old) (selected (seen_database old)) v.now w stmt)))
-    → GivesDeed (seen_world now) (seen_world (record v { stores = slice_set v.stores d new })) reply
-    (deed_in d (settled (statement ((seen_world now).database d) (selected ((seen_world now).database d)) now.now who stmt)))
+    → Gives (seen_database old) (seen_database new) reply (statement (seen_database old) (selected (seen_database old)) v.now who stmt)
+    → GivesDeed (seen_world now) (seen_world (record v { stores = slice_set v.stores d new })) who reply
+    (deed_in who d false (statement ((seen_world now).database d) (selected ((seen_world now).database d)) (seen_world now).now who stmt))
 gives-within v now d who old new stmt reply same lt there gives = record {
-  replied = (gives who).replied ∙ ap Outcome.reply outcome_is;
+  answered = ap (λ r. (who, r) ∷ []) (sym (gives.replied ∙ ap Outcome.reply outcome_is));
   changed = shown
       ∙ ap (λ (x : Outcome). record (seen_world v) { database = changed_at d (λ y. after_marks y x.marks) (seen_world v).database }) outcome_is
-      ∙ sym (after_facts-within (seen_world v) d (settled (statement ((seen_world now).database d) (selected ((seen_world now).database d)) now.now who stmt)).marks)
-      ∙ ap (λ w. after_facts (seen_world w) (deed_in d (settled (statement ((seen_world now).database d) (selected ((seen_world now).database d)) now.now who stmt))).facts) same;
+      ∙ sym (after_facts-within (seen_world v) d there_outcome.marks)
+      ∙ ap (λ w. after_facts (seen_world w) (map (within d) there_outcome.marks)) same
+      ∙ ap (λ facts. after_facts (seen_world now) facts) (sym (append-nil (map (within d) there_outcome.marks)));
 }
   where
-    outcome_is : settled (statement (seen_database old) (selected (seen_database old)) v.now who stmt)
-        ≡ settled (statement ((seen_world now).database d) (selected ((seen_world now).database d)) now.now who stmt)
+    there_outcome : Outcome
+    there_outcome = statement ((seen_world now).database d) (selected ((seen_world now).database d)) (seen_world now).now who stmt
+
+    outcome_is : statement (seen_database old) (selected (seen_database old)) v.now who stmt ≡ there_outcome
     outcome_is =
-        ap (λ x. settled (statement (seen_database x) (selected (seen_database x)) v.now who stmt)) (sym there)
-        ∙ ap (λ w. settled (statement ((seen_world w).database d) (selected ((seen_world w).database d)) w.now who stmt)) same
+        ap (λ x. statement (seen_database x) (selected (seen_database x)) v.now who stmt) (sym there)
+        ∙ ap (λ w. statement ((seen_world w).database d) (selected ((seen_world w).database d)) (seen_world w).now who stmt) same
 
     by : (n : ℕ) (b : Bool) → (d == n) ≡ b → seen_database (if b then new else get_or v.stores n no_database)
-        ≡ (if b then after_marks (seen_database (get_or v.stores n no_database)) (settled (statement (seen_database old) (selected (seen_database old)) v.now who stmt)).marks else seen_database (get_or v.stores n no_database))
+        ≡ (if b then after_marks (seen_database (get_or v.stores n no_database)) (statement (seen_database old) (selected (seen_database old)) v.now who stmt).marks else seen_database (get_or v.stores n no_database))
     by n true e =
         let one : d ≡ n = grind (arith, nat_tests) in
-        (gives who).changed
-        ∙ ap (λ x. after_marks (seen_database x) (settled (statement (seen_database old) (selected (seen_database old)) v.now who stmt)).marks) (sym there)
-        ∙ ap (λ m. after_marks (seen_database (get_or v.stores m no_database)) (settled (statement (seen_database old) (selected (seen_database old)) v.now who stmt)).marks) one
+        gives.changed
+        ∙ ap (λ x. after_marks (seen_database x) (statement (seen_database old) (selected (seen_database old)) v.now who stmt).marks) (sym there)
+        ∙ ap (λ m. after_marks (seen_database (get_or v.stores m no_database)) (statement (seen_database old) (selected (seen_database old)) v.now who stmt).marks) one
     by n false e = refl
 
     shown : seen_world (record v { stores = slice_set v.stores d new })
-        ≡ record (seen_world v) { database = changed_at d (λ y. after_marks y (settled (statement (seen_database old) (selected (seen_database old)) v.now who stmt)).marks) (seen_world v).database }
+        ≡ record (seen_world v) { database = changed_at d (λ y. after_marks y (statement (seen_database old) (selected (seen_database old)) v.now who stmt).marks) (seen_world v).database }
     shown = λ i. record (seen_world v) {
       database = λ n. (ap seen_database (get_or-changed v.stores d n new no_database lt) ∙ by n (d == n) refl) i;
     }
 
 pub gives-run : (v now : WorldView) (d who : ℕ) (old new : DatabaseView) (stmt : Stmt) (reply : Reply) (t : ℤ) → v ≡ now → d < length now.stores → old ≡ get_or v.stores d old → t ≡ v.now
-    → ((w : ℕ) → Gives (seen_database old) (seen_database new) reply (settled (statement (seen_database old) (selected (seen_database old)) t w stmt)))
-    → GivesDeed (seen_world now) (seen_world (record v { stores = slice_set v.stores d new })) reply
-    (deed_in d (settled (statement ((seen_world now).database d) (selected ((seen_world now).database d)) now.now who stmt)))
+    → Gives (seen_database old) (seen_database new) reply (statement (seen_database old) (selected (seen_database old)) t who stmt)
+    → GivesDeed (seen_world now) (seen_world (record v { stores = slice_set v.stores d new })) who reply
+    (deed_in who d false (statement ((seen_world now).database d) (selected ((seen_world now).database d)) (seen_world now).now who stmt))
 gives-run v now d who old new stmt reply t same lt at is gives =
     let there : d < length v.stores = subst (λ (w : WorldView). d < length w.stores) (sym same) lt in
     gives-within v now d who old new stmt reply same there
     (get_or_from_slice_get v.stores d old no_database (slice_get_read v.stores (length v.stores) d old refl there at))
-    (λ w. subst (λ x. Gives (seen_database old) (seen_database new) reply (settled (statement (seen_database old) (selected (seen_database old)) x w stmt))) is (gives w))
+    (subst (λ x. Gives (seen_database old) (seen_database new) reply (statement (seen_database old) (selected (seen_database old)) x who stmt)) is gives)
+
+-- a statement with which its session stays
+pub gives-stayed : (old new : World) (d who : ℕ) (leaving : Bool) (reply : Reply) (outcome : Outcome) → leaving ≡ false → GivesDeed old new who reply (deed_in who d false outcome)
+    → GivesDeed old new who reply (deed_in who d leaving outcome)
+gives-stayed old new d who leaving reply outcome stays gives = subst (λ b. GivesDeed old new who reply (deed_in who d b outcome)) (sym stays) gives
+
+-- and one with which it leaves
+pub gives-left : (old s new : World) (d who : ℕ) (leaving : Bool) (reply : Reply) (outcome : Outcome) → leaving ≡ true → GivesDeed old s who reply (deed_in who d false outcome)
+    → new ≡ after_fact s (left who) → GivesDeed old new who reply (deed_in who d leaving outcome)
+gives-left old s new d who leaving reply outcome leaves gives is =
+    subst (λ b. GivesDeed old new who reply (deed_in who d b outcome)) (sym leaves) (record {
+      answered = gives.answered;
+      changed = is ∙ ap (λ w. after_fact w (left who)) (gives.changed ∙ ap (λ facts. after_facts old facts) (append-nil (map (within d) outcome.marks)))
+          ∙ sym (after_facts-append old (map (within d) outcome.marks) (left who ∷ []));
+    })
 
 -- what a statement does doesn't hang on the names of sessions
 session_does-sessions : (w : World) (names : List (List ℕ)) (f : ℕ → Batch → List Event) (who : ℕ) (stmt : Stmt) (home : Option ℕ)
@@ -216,6 +252,14 @@ session_does-sessions w names f who (OpenDb name) None = by (place_of name w.dat
     by : (found : Option ℕ) → opens (record w { sessions = names }) who name found ≡ opens w who name found
     by None = refl
     by (Some d) = refl
+session_does-sessions w names f who Close None = refl
+session_does-sessions w names f who Cancel None = refl
+session_does-sessions w names f who Begin None = refl
+session_does-sessions w names f who Commit None = refl
+session_does-sessions w names f who Rollback None = refl
+session_does-sessions w names f who TxidCurrent None = refl
+session_does-sessions w names f who TxidCurrentSnapshot None = refl
+session_does-sessions w names f who (TxidVisibleInSnapshot txid snapshot) None = refl
 session_does-sessions w names f who (CreateQueue queue) None = refl
 session_does-sessions w names f who (InsertEvent queue ev_type ev_data extra) None = refl
 session_does-sessions w names f who (Ticker queue) None = refl
@@ -227,38 +271,32 @@ session_does-sessions w names f who (FinishBatch batch) None = refl
 
 -- a call of a session that is known
 pub answers-known : (old new : World) (call : Call) (who : ℕ) (reply : Reply) → Some who ≡ place_of call.who old.sessions
-    → GivesDeed old new reply (session_does old (λ d. selected (old.database d)) who call.stmt (old.homes who)) → AnswersCall old new call who reply
-answers-known old new call who reply place gives = record {
-  numbered = ap (λ found. number_or_next found old.sessions) place;
-  gives = subst (GivesDeed old new reply) (ap (λ found. called old (λ d. selected (old.database d)) call found) place) gives;
-}
+    → GivesDeed old new who reply (session_does old (λ d. selected (old.database d)) who call.stmt (old.homes who)) → GivesDeed old new who reply (deed_at old call)
+answers-known old new call who reply place gives = subst (GivesDeed old new who reply) (ap (λ found. called old (λ d. selected (old.database d)) call found) place) gives
 
 -- a call that would bring a session too many
 pub answers-full : (old : World) (call : Call) (who : ℕ) → place_of call.who old.sessions ≡ None → 256 ≤ length old.sessions → who ≡ length old.sessions
-    → AnswersCall old old call who (Refused (TooMany Sessions))
+    → GivesDeed old old who (Refused (TooMany Sessions)) (deed_at old call)
 answers-full old call who place full is = record {
-  numbered = is ∙ ap (λ found. number_or_next found old.sessions) (sym place);
-  gives = record { replied = ap Deed.reply (sym whole); changed = ap (λ (x : Deed). after_facts old x.facts) (sym whole) };
+  answered = ap Deed.answers whole ∙ ap (λ n. (n, Refused (TooMany Sessions)) ∷ []) (sym is);
+  changed = ap (λ (x : Deed). after_facts old x.facts) (sym whole);
 }
   where
-    whole : deed_at old call ≡ refuses (TooMany Sessions)
+    whole : deed_at old call ≡ refuses (length old.sessions) (TooMany Sessions)
     whole =
         let many : nat_le 256 (length old.sessions) ≡ true = grind (arith, nat_tests) in
         ap (λ found. called old (λ d. selected (old.database d)) call found) place
-        ∙ ap (λ (b : Bool). if b then refuses (TooMany Sessions) else first (appeared call.who) (session_does old (λ d. selected (old.database d)) (length old.sessions) call.stmt (old.homes (length old.sessions)))) many
+        ∙ ap (λ (b : Bool). if b then refuses (length old.sessions) (TooMany Sessions) else first (appeared call.who) (session_does old (λ d. selected (old.database d)) (length old.sessions) call.stmt (old.homes (length old.sessions)))) many
 
 -- the first call of a session
 pub answers-new : (old appears new : World) (call : Call) (who : ℕ) (reply : Reply) → place_of call.who old.sessions ≡ None → length old.sessions < 256
     → appears ≡ after_fact old (appeared call.who) → who ≡ length old.sessions
-    → GivesDeed appears new reply (session_does appears (λ d. selected (appears.database d)) who call.stmt (appears.homes who)) → AnswersCall old new call who reply
+    → GivesDeed appears new who reply (session_does appears (λ d. selected (appears.database d)) who call.stmt (appears.homes who)) → GivesDeed old new who reply (deed_at old call)
 answers-new old appears new call who reply place room is number gives = record {
-  numbered = number ∙ ap (λ found. number_or_next found old.sessions) (sym place);
-  gives = record {
-    replied = gives.replied ∙ ap Deed.reply same ∙ ap Deed.reply (sym whole);
-    changed = gives.changed ∙ ap (λ w. after_facts w (session_does appears (λ d. selected (appears.database d)) who call.stmt (appears.homes who)).facts) is
-        ∙ ap (λ (x : Deed). after_facts (after_fact old (appeared call.who)) x.facts) same
-        ∙ ap (λ (x : Deed). after_facts old x.facts) (sym whole);
-  };
+  answered = ap Deed.answers (whole ∙ ap (first (appeared call.who)) (sym same)) ∙ gives.answered;
+  changed = gives.changed ∙ ap (λ w. after_facts w (session_does appears (λ d. selected (appears.database d)) who call.stmt (appears.homes who)).facts) is
+      ∙ ap (λ (x : Deed). after_facts (after_fact old (appeared call.who)) x.facts) same
+      ∙ ap (λ (x : Deed). after_facts old x.facts) (sym whole);
 }
   where
     same : session_does appears (λ d. selected (appears.database d)) who call.stmt (appears.homes who)
@@ -272,15 +310,11 @@ answers-new old appears new call who reply place room is number gives = record {
     whole =
         let few : nat_le 256 (length old.sessions) ≡ false = grind (arith, nat_tests) in
         ap (λ found. called old (λ d. selected (old.database d)) call found) place
-        ∙ ap (λ (b : Bool). if b then refuses (TooMany Sessions) else first (appeared call.who) (session_does old (λ d. selected (old.database d)) (length old.sessions) call.stmt (old.homes (length old.sessions)))) few
+        ∙ ap (λ (b : Bool). if b then refuses (length old.sessions) (TooMany Sessions) else first (appeared call.who) (session_does old (λ d. selected (old.database d)) (length old.sessions) call.stmt (old.homes (length old.sessions)))) few
 
 -- the answers of a step
-pub steps-answered : (old new : World) (call : Call) (who : ℕ) (reply : Reply) (replies : List (ℕ × Reply)) → replies ≡ (who, reply) ∷ [] → AnswersCall old new call who reply → Steps old new call replies
-steps-answered old new call who reply replies is answers =
-    steps_from_exact old new call replies
-    (is ∙ ap (λ n. (n, reply) ∷ []) answers.numbered
-    ∙ ap (λ r. (number_or_next (place_of call.who old.sessions) old.sessions, r) ∷ []) answers.gives.replied)
-    answers.gives.changed
+pub steps-answered : (old new : World) (call : Call) (who : ℕ) (reply : Reply) (replies : List (ℕ × Reply)) → replies ≡ (who, reply) ∷ [] → GivesDeed old new who reply (deed_at old call) → Steps old new call replies
+steps-answered old new call who reply replies is gives = steps_from_exact old new call replies (is ∙ sym gives.answered) gives.changed
 
 pub All-one : {A : Type 0} (P : A → Type 0) (x : A) (xs : List A) → xs ≡ x ∷ [] → P x → All P xs
 All-one P x xs is p = subst (All P) (sym is) (All-from_recursion P (x ∷ []) (p, tt))

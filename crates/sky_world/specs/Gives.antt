@@ -1,10 +1,39 @@
 -- What a method of the code gives, by what the database showed.
-use Rattle.std.specs.Prelude.{◌≡◌}
+use Rattle.std.specs.Prelude.{◌≡◌, List, [], Ok, Err}
 use Rattle.sky_model.specs.declared.reply.Reply.{Reply}
-use Rattle.sky_model.specs.Outcome.{Outcome}
+use Rattle.sky_model.specs.declared.reply.Refusal.{Refusal}
+use Rattle.sky_model.specs.History.{Mark}
+use Rattle.sky_model.specs.Outcome.{Outcome, Checked}
 use Rattle.sky_model.specs.State.{Database, after_marks}
+use Rattle.sky_world.specs.declared.stop.Stop.{Stop}
+use Rattle.sky_world.specs.declared.stop.Stop.TheVariants.{Refused, NoMemory}
 
 -- the answer is the outcome's, and the database is then as after its marks
 pub record Gives (old new : Database) (reply : Reply) (outcome : Outcome) : Type 0 where
   pub replied : reply ≡ outcome.reply
   pub changed : new ≡ after_marks old outcome.marks
+
+-- the marks of an answer
+abbrev pub marks_of : Checked Outcome → List Mark
+marks_of (Ok outcome) = outcome.marks
+marks_of (Err refusal) = []
+
+-- a statement isn't refused: the answer is the definition's, and the database is then as after its marks
+pub record Does (old new : Database) (reply : Reply) (checked : Checked Outcome) : Type 0 where
+  pub accepted : checked ≡ Ok (record { reply = reply; marks = marks_of checked })
+  pub changed : new ≡ after_marks old (marks_of checked)
+
+-- it is refused, and nothing has changed
+pub record Refuses (old new : Database) (refusal : Refusal) (checked : Checked Outcome) : Type 0 where
+  pub refused : checked ≡ Err refusal
+  pub same : new ≡ old
+
+-- it is refused as its definition says, or memory was wanting
+abbrev pub Stops : Stop → Database → Database → Checked Outcome → Type 0
+Stops (Refused refusal) old new checked = Refuses old new refusal checked
+Stops NoMemory old new checked = Unit {0}
+
+-- a part of a statement is refused as its definition says, or memory was wanting
+abbrev pub StopsAs : {A : Type 0} → Stop → Checked A → Type 0
+StopsAs (Refused refusal) checked = checked ≡ Err refusal
+StopsAs NoMemory checked = Unit {0}

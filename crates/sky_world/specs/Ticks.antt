@@ -2,7 +2,7 @@
 use Rattle.std.specs.Prelude.{◌≡◌, ℕ, ◌+◌, ℤ, pos, neg_ℤ, ◌≤ℤ◌, List, [], ◌∷◌}
 use Rattle.sky_model.specs.Queues.{Tick}
 
--- the last moment of the clock
+-- a moment that the clock may have
 abbrev pub IsTime : ℤ → Type 0
 IsTime now = (pos 0 ≤ℤ now) × (now ≤ℤ pos 1000000000000000)
 

@@ -3,6 +3,7 @@ use Rattle.std.specs.Prelude.{ℕ, ℤ, List, Option}
 use Rattle.sky_val.specs.declared.event.Event.{Event}
 use Rattle.sky_trans.specs.Trans.{TransView}
 use Rattle.sky_world.specs.declared.batch.Batch.{Batch}
+use Rattle.sky_world.specs.declared.block.Block.{Block}
 use Rattle.sky_model.specs.Queues.{Tick}
 use Rattle.sky_world.specs.declared.sub.Sub.{Sub}
 
@@ -14,10 +15,12 @@ pub record QueueView : Type 0 where
 
 pub record DatabaseView : Type 0 where
   pub trans : TransView
-  pub batch_count : ℕ
-  pub sub_count : ℕ
+  pub last_batch_id : ℕ
+  pub last_sub_id : ℕ
   pub names : List (List ℕ)
   pub queues : List QueueView
+  pub blocks : List (ℕ × Block)
+  pub undone : List ℕ
   pub batches : List (ℕ × Batch)
 
 pub record WorldView : Type 0 where

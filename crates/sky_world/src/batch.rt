@@ -3,10 +3,13 @@ ghost use Rattle.std.specs.List.{filter};
 ghost use Rattle.sky_txid.specs.Snapshot.{sees};
 ghost use Rattle.sky_model.specs.Batches.{is_for};
 ghost use Rattle.sky_model.specs.Selection.{snapshot_at, is_selected};
+ghost use Rattle.sky_world.specs.Seen.{keeps};
 
+use crate::stored::Stored;
 use crate::ticks::Tick;
 use sky_val::{Event, Text};
 use std::alloc::{AllocError, Global};
+use std::collections::BTreeSet;
 
 /// The first transaction id: those below it had ended before anything happened.
 const FIRST_TXID: u64 = 3;
@@ -41,29 +44,36 @@ fn is_for(sub: u64, owner: Option<u64>) -> bool
     }
 }
 
-/// The events between two ticks that are for a subscription.
+/// The events between two ticks that are for a subscription and weren't rolled back.
 pub fn select(
     alloc: Global,
-    events: &[Event],
+    events: &[Stored],
     prev: Option<&Tick>,
     cur: Option<&Tick>,
+    undone: &BTreeSet<u64>,
     sub: u64,
 ) -> Result<Vec<Event>, AllocError>
     ensures selected { IfOk result (λ selected. selected.items
-        ≡ filter (is_selected (snapshot_at (option_copied prev.entry)) (snapshot_at (option_copied cur.entry)) sub) events.now) }
+        ≡ filter (is_selected (keeps undone.now.keys) (snapshot_at (option_copied prev.entry)) (snapshot_at (option_copied cur.entry)) sub) events.now) }
 {
     let mut selected = Vec::new(alloc);
     for event in events {
-        if is_selected(event, prev, cur, sub) {
-            selected.push(event.copy(alloc)?)?;
+        if is_selected(event, prev, cur, undone, sub) {
+            selected.push(event.event(alloc)?)?;
         }
     }
     Ok(selected)
 }
 
-fn is_selected(event: &Event, prev: Option<&Tick>, cur: Option<&Tick>, sub: u64) -> bool
-    ensures { result ≡ is_selected (snapshot_at (option_copied prev.entry)) (snapshot_at (option_copied cur.entry)) sub event.now }
+fn is_selected(
+    event: &Stored,
+    prev: Option<&Tick>,
+    cur: Option<&Tick>,
+    undone: &BTreeSet<u64>,
+    sub: u64,
+) -> bool
+    ensures { result ≡ is_selected (keeps undone.now.keys) (snapshot_at (option_copied prev.entry)) (snapshot_at (option_copied cur.entry)) sub event.now }
 {
-    let is_new = sees(cur, event.ev_txid) && !sees(prev, event.ev_txid);
-    is_new && is_for(sub, event.ev_owner)
+    let ended_between = sees(cur, event.txid()) && !sees(prev, event.txid());
+    ended_between && !undone.contains(&event.txid()) && is_for(sub, event.owner())
 }

@@ -1,57 +1,49 @@
-ghost use Rattle.std.specs.Prelude.{◌≡◌, ℕ, ◌+◌, ◌<◌, ◌^◌, [], ◌∷◌, ◌++◌, true, Some, None, IfOk, OnOk, IfSome, IfNone, OnSome, Option, option_map, length};
+ghost use Rattle.std.specs.Prelude.{◌≡◌, ℕ, ◌+◌, ◌<◌, ◌^◌, [], ◌∷◌, ◌++◌, ◌||◌, ◌==◌, not, filter, true, if◌then◌else◌, Some, None, Ok, Err, IfOk, IfErr, OnOk, IfSome, IfNone, OnSome, Option, option_copied, option_map, length};
 ghost use Rattle.sky_txid.specs.Snapshot.{snapshot_of};
-ghost use Rattle.sky_model.specs.Queues.{tick};
-ghost use Rattle.sky_model.specs.declared.reply.Refusal.TheVariants.{NoQueue};
 ghost use Rattle.sky_names.specs.Places.{place_of};
-ghost use Rattle.sky_model.specs.declared.reply.Reply.TheVariants.{Refused};
-ghost use Rattle.sky_model.specs.History.{began, ended, queued, made, raised, put, ticked, registered, opened, closed};
+ghost use Rattle.sky_model.specs.History.{began, ended, block_begun, block_failed, block_ended, queued, made, raised, put, ticked, registered, opened, closed};
+ghost use Rattle.sky_model.specs.Sessions.{inside, failed, at_rest};
 ghost use Rattle.sky_model.specs.State.{after_mark, after_marks, changed_at, changed_for, with_batch, at_position};
 ghost use Rattle.sky_model.specs.Moment.{HasMoment};
-ghost use Rattle.sky_model.specs.Printed.{EventsHaveMoments, ReplyHasMoments};
-ghost use Rattle.sky_model.specs.StepQueue.{create_queue, insert_event, ticker, force_tick, newest_id, made_event};
-ghost use Rattle.sky_model.specs.StepConsumer.{has_dot, opens_batch, register_consumer, next_batch, get_batch_events, finish_batch};
+ghost use Rattle.sky_model.specs.Printed.{EventsHaveMoments};
+ghost use Rattle.sky_model.specs.Outcome.{end_of, abort};
+ghost use Rattle.sky_model.specs.StepQueue.{newest_id, txid_for, begin_of, commit_of};
+ghost use Rattle.sky_model.specs.StepSession.{leaves};
 ghost use Rattle.sky_model.specs.Selection.{selected};
-ghost use Rattle.sky_model.specs.Outcome.{settled};
-ghost use Rattle.sky_model.specs.World.{statement};
 ghost use Rattle.sky_world.specs.Ticks.{IsTime};
-ghost use Rattle.sky_world.specs.Seen.{seen_database, seen_queue, seen_batch};
-ghost use Rattle.sky_world.specs.Gives.{Gives};
+ghost use Rattle.sky_world.specs.Seen.{seen_session, seen_database, no_database, seen_queue, seen_batch};
 
-use crate::batch::{Batch, select};
+use crate::batch::Batch;
+use crate::block::Block;
 use crate::queue::Queue;
 use crate::subscription::Subscription;
 use crate::ticks::Tick;
-use sky_model::{Events, Extra, Limit, Refusal, Reply, Stmt};
+use sky_model::Refusal;
 use sky_names::Names;
 use sky_trans::{Trans, TransFault};
 use sky_txid::Snapshot;
-use sky_val::{Event, Text, copy_option};
+use sky_val::{Event, SessionId, Text};
 use std::alloc::{AllocError, Global};
-use std::collections::BTreeMap;
+use std::collections::{BTreeMap, BTreeSet};
 use std::marker::Model;
 
-/// The number at which transaction ids and event ids are spent.
-const ID_END: u64 = 1 << 62;
+/// The number at which transaction ids are spent.
+const TXID_END: u64 = 1 << 62;
 
-/// How many queues a database may have.
-const MAX_QUEUES: usize = 64;
-
-/// How many consumers a queue may have.
-const MAX_CONSUMERS: usize = 256;
-
-/// How far `force_tick` raises the sequence: twice the ticker's count, and a thousand.
-const FORCED: u64 = 2000;
-
-/// One database: its transactions, its queues, and their active batches.
+/// One database: its transactions, the blocks that sessions are in, its queues, and their active batches.
 #[derive(Drop)]
 pub struct Database {
     alloc: Global,
     trans: Trans,
-    batch_count: u64,
-    sub_count: u64,
+    last_batch_id: u64,
+    last_sub_id: u64,
     names: Names,
     queues: Vec<Queue>,
     batches: BTreeMap<u64, Batch>,
+    // The sessions that are in a transaction block.
+    blocks: BTreeMap<SessionId, Block>,
+    // The transactions that were rolled back.
+    undone: BTreeSet<u64>,
 }
 
 impl Model for Database {
@@ -62,11 +54,13 @@ impl Model for Database {
 
     ghost view = { λ d. record {
       trans = d.trans;
-      batch_count = d.batch_count;
-      sub_count = d.sub_count;
+      last_batch_id = d.last_batch_id;
+      last_sub_id = d.last_sub_id;
       names = d.names;
       queues = d.queues.items;
       batches = d.batches.entries;
+      blocks = d.blocks.entries;
+      undone = d.undone.keys;
     } };
 
     ghost invariant = { λ d. length d.queues.items ≡ length d.names };
@@ -74,28 +68,23 @@ impl Model for Database {
 
 impl Database {
     pub fn new(alloc: Global) -> Database
-        ensures { result ≡ record {
-          trans = record { next = 3; running = [] };
-          batch_count = 0;
-          sub_count = 0;
-          names = [];
-          queues = [];
-          batches = [];
-        } }
+        ensures { result ≡ no_database }
     {
         Database {
             alloc,
             trans: Trans::new(alloc),
-            batch_count: 0,
-            sub_count: 0,
+            last_batch_id: 0,
+            last_sub_id: 0,
             names: Names::new(alloc),
             queues: Vec::new(alloc),
             batches: BTreeMap::new(alloc),
+            blocks: BTreeMap::new(alloc),
+            undone: BTreeSet::new(alloc),
         }
     }
 
     /// The number of a queue, if there is one of this name.
-    fn number(&self, queue: &Text) -> Option<usize>
+    pub fn number(&self, queue: &Text) -> Option<usize>
         ensures number { result ≡ place_of queue.now self.now.names }
         ensures within { IfSome result (λ n. n < length self.now.queues) }
     {
@@ -104,7 +93,7 @@ impl Database {
     }
 
     /// The queue of this number.
-    fn queue(&self, number: usize) -> &Queue
+    pub fn queue(&self, number: usize) -> &Queue
         requires { number < length self.now.queues }
         ensures { seen_queue result.now ≡ (seen_database self.now).queue number }
     {
@@ -112,51 +101,249 @@ impl Database {
     }
 
     /// The subscription of a queue's consumer, if it is registered.
-    fn subscription(&self, queue: usize, consumer: &Text) -> Option<Subscription>
+    pub fn subscription(&self, queue: usize, consumer: &Text) -> Option<Subscription>
         requires { queue < length self.now.queues }
         ensures { result ≡ ((seen_database self.now).queue queue).sub consumer.now }
     {
         self.queue(queue).subscription(consumer)
     }
 
-    /// The id that the next transaction gets, or the number at which the ids are spent.
-    fn next_id(&self) -> u64
-        ensures { result ≡ self.now.trans.next }
-    {
-        self.trans.next_id()
-    }
-
-    fn snapshot(&self) -> Result<Snapshot, AllocError>
+    pub fn snapshot(&self) -> Result<Snapshot, AllocError>
         ensures { IfOk result (λ snapshot. snapshot ≡ snapshot_of self.now.trans.next self.now.trans.running) }
     {
         self.trans.snapshot(self.alloc)
     }
 
-    fn queue_count(&self) -> usize
+    pub fn alloc(&self) -> Global {
+        self.alloc
+    }
+
+    /// The last subscription id that was given.
+    pub fn last_sub(&self) -> u64
+        ensures { result ≡ (seen_database self.now).last_sub_id }
+    {
+        self.last_sub_id
+    }
+
+    /// The last batch id that was given.
+    pub fn last_batch(&self) -> u64
+        ensures { result ≡ (seen_database self.now).last_batch_id }
+    {
+        self.last_batch_id
+    }
+
+    pub fn queue_count(&self) -> usize
         ensures { result ≡ length self.now.names }
     {
         self.names.len()
     }
 
+    /// The block that a session is in, if it is in one.
+    pub fn block(&self, who: SessionId) -> Option<Block>
+        ensures { seen_session result ≡ (seen_database self.now).session who }
+    {
+        self.blocks.get(&who).copied()
+    }
+
+    /// The id of the transaction of a session's block, if it has got one.
+    fn own_txid(&self, who: SessionId) -> Option<u64>
+        ensures txid { result ≡ ((seen_database self.now).session who).txid }
+        ensures inside { IfSome result (λ _. ((seen_database self.now).session who).block ≡ inside) }
+    {
+        match self.block(who) {
+            Some(Block::Open(txid)) => txid,
+            Some(Block::Failed) | None => None,
+        }
+    }
+
+    /// The id of a session's transaction: its own, or the next one.
+    pub fn txid_for(&self, who: SessionId) -> Result<u64, Refusal>
+        ensures ok { IfOk result (λ t. txid_for (seen_database self.now) who ≡ Ok t) }
+        ensures err { IfErr result (λ refusal. txid_for (seen_database self.now) who ≡ Err refusal) }
+    {
+        if let Some(Block::Open(Some(txid))) = self.block(who) {
+            return Ok(txid);
+        }
+        match self.trans.next_id() {
+            txid if txid < TXID_END => Ok(txid),
+            _ => Err(Refusal::TxidsSpent),
+        }
+    }
+
+    /// Gives a session's transaction its id, where it has none. Outside a block it commits at once.
+    pub fn take_txid(&mut self, who: SessionId, txid: u64) -> Result<(), AllocError>
+        requires sound { ¬ (((seen_database self.old).session who).block ≡ failed) }
+        requires id { txid_for (seen_database self.old) who ≡ Ok txid }
+        ensures marks { OnOk result (seen_database self.new ≡ after_marks (seen_database self.old)
+            (begin_of who txid ((seen_database self.old).session who).txid ++ commit_of who txid ((seen_database self.old).session who).block)) }
+        ensures queues { OnOk result (self.new.queues ≡ self.old.queues) }
+        ensures names { OnOk result (self.new.names ≡ self.old.names) }
+    {
+        match self.block(who) {
+            None => self.single(who),
+            Some(Block::Open(None)) => self.begin_in_block(who),
+            Some(Block::Open(Some(_)) | Block::Failed) => Ok(()),
+        }
+    }
+
     /// A transaction of its own, which takes the next id and commits.
-    fn single(&mut self) -> Result<(), AllocError>
-        requires { self.old.trans.next < 2 ^ 62 }
-        ensures marks { OnOk result ((who : ℕ) → seen_database self.new ≡ after_marks (seen_database self.old)
+    fn single(&mut self, who: SessionId) -> Result<(), AllocError>
+        requires ids { self.old.trans.next < 2 ^ 62 }
+        requires rests { (seen_database self.old).session who ≡ at_rest }
+        ensures marks { OnOk result (seen_database self.new ≡ after_marks (seen_database self.old)
             (began who self.old.trans.next ∷ ended who self.old.trans.next true ∷ [])) }
-        ensures queues { self.new.queues ≡ self.old.queues }
-        ensures names { self.new.names ≡ self.old.names }
+        ensures queues { OnOk result (self.new.queues ≡ self.old.queues) }
+        ensures names { OnOk result (self.new.names ≡ self.old.names) }
+    {
+        let txid = self.assign()?;
+        self.trans.commit(txid);
+        Ok(())
+    }
+
+    /// The next id, which runs from now on.
+    fn assign(&mut self) -> Result<u64, AllocError>
+        requires ids { self.old.trans.next < 2 ^ 62 }
+        ensures id { IfOk result (λ t. t ≡ self.old.trans.next) }
+        ensures ok { OnOk result (self.new ≡ record self.old {
+          trans = record { next = self.old.trans.next + 1; running = self.old.trans.running ++ self.old.trans.next ∷ [] };
+        }) }
     {
         match self.trans.assign() {
-            Ok(t) => {
-                self.trans.commit(t);
-                Ok(())
-            }
+            Ok(txid) => Ok(txid),
             Err(TransFault::NoMemory) => Err(AllocError),
             Err(TransFault::TxidsSpent) => unreachable!(),
         }
     }
 
-    fn raise(&mut self, queue: usize, value: u64)
+    /// The transaction of the block that a session is in gets the next id.
+    fn begin_in_block(&mut self, who: SessionId) -> Result<(), AllocError>
+        requires ids { self.old.trans.next < 2 ^ 62 }
+        requires inside { (seen_database self.old).session who ≡ record { block = inside; txid = None } }
+        ensures marks { OnOk result (seen_database self.new ≡ after_mark (seen_database self.old) (began who self.old.trans.next)) }
+        ensures queues { OnOk result (self.new.queues ≡ self.old.queues) }
+        ensures names { OnOk result (self.new.names ≡ self.old.names) }
+    {
+        let txid = self.assign()?;
+        self.keep_block(who, Block::Open(Some(txid)))?;
+        Ok(())
+    }
+
+    /// A session is in this block from now on.
+    fn keep_block(&mut self, who: SessionId, block: Block) -> Result<(), AllocError>
+        ensures session { OnOk result (seen_database self.new ≡ record (seen_database self.old) {
+          session = changed_at who (λ _. seen_session (Some block)) (seen_database self.old).session;
+        }) }
+        ensures trans { self.new.trans ≡ self.old.trans }
+        ensures queues { OnOk result (self.new.queues ≡ self.old.queues) }
+        ensures names { OnOk result (self.new.names ≡ self.old.names) }
+    {
+        self.blocks.insert(who, block)?;
+        Ok(())
+    }
+
+    /// A session begins a block.
+    pub fn begin_block(&mut self, who: SessionId) -> Result<(), AllocError>
+        requires { (seen_database self.old).session who ≡ at_rest }
+        ensures { OnOk result (seen_database self.new ≡ after_mark (seen_database self.old) (block_begun who)) }
+    {
+        self.keep_block(who, Block::Open(None))
+    }
+
+    /// A session's block is aborted.
+    fn fail_block(&mut self, who: SessionId) -> Result<(), AllocError>
+        requires { ((seen_database self.old).session who).txid ≡ None }
+        ensures { OnOk result (seen_database self.new ≡ after_mark (seen_database self.old) (block_failed who)) }
+    {
+        self.keep_block(who, Block::Failed)
+    }
+
+    /// A session leaves its block.
+    fn leave_block(&mut self, who: SessionId)
+        requires { ((seen_database self.old).session who).txid ≡ None }
+        ensures { seen_database self.new ≡ after_mark (seen_database self.old) (block_ended who) }
+    {
+        self.blocks.remove(&who);
+    }
+
+    /// The transaction of a session's block ends, if it has got an id, and its writes stay or don't.
+    fn end_txid(&mut self, who: SessionId, commits: bool) -> Result<(), AllocError>
+        ensures marks { OnOk result (seen_database self.new ≡ after_marks (seen_database self.old) (end_of commits who ((seen_database self.old).session who).txid)) }
+        ensures ended { OnOk result (((seen_database self.new).session who).txid ≡ None) }
+        ensures block { OnOk result (((seen_database self.new).session who).block ≡ ((seen_database self.old).session who).block) }
+    {
+        let Some(txid) = self.own_txid(who) else {
+            return Ok(());
+        };
+        self.end_writes(txid, commits)?;
+        self.keep_block(who, Block::Open(None))?;
+        Ok(())
+    }
+
+    /// A transaction ends, and its writes stay or don't.
+    fn end_writes(&mut self, txid: u64, commits: bool) -> Result<(), AllocError>
+        ensures { OnOk result (seen_database self.new ≡ record (seen_database self.old) {
+          running_ids = filter (λ u. not (u == txid)) (seen_database self.old).running_ids;
+          undone = if commits then (seen_database self.old).undone else (λ u. u == txid || (seen_database self.old).undone u);
+        }) }
+    {
+        if commits {
+            self.commit_txid(txid);
+            return Ok(());
+        }
+        self.abort_txid(txid);
+        self.undo(txid)?;
+        Ok(())
+    }
+
+    fn commit_txid(&mut self, txid: u64)
+        ensures { seen_database self.new ≡ record (seen_database self.old) { running_ids = filter (λ u. not (u == txid)) (seen_database self.old).running_ids } }
+    {
+        if self.trans.running(txid) {
+            self.trans.commit(txid);
+        }
+    }
+
+    fn abort_txid(&mut self, txid: u64)
+        ensures { seen_database self.new ≡ record (seen_database self.old) { running_ids = filter (λ u. not (u == txid)) (seen_database self.old).running_ids } }
+    {
+        if self.trans.running(txid) {
+            self.trans.abort(txid);
+        }
+    }
+
+    /// Notes that a transaction was rolled back.
+    fn undo(&mut self, txid: u64) -> Result<(), AllocError>
+        ensures { OnOk result (seen_database self.new ≡ record (seen_database self.old) { undone = λ u. u == txid || (seen_database self.old).undone u }) }
+    {
+        self.undone.insert(txid)?;
+        Ok(())
+    }
+
+    /// A session's block ends, with its transaction.
+    pub fn end_block(&mut self, who: SessionId, commits: bool) -> Result<(), AllocError>
+        ensures { OnOk result (seen_database self.new ≡ after_marks (seen_database self.old) (leaves commits who ((seen_database self.old).session who).txid)) }
+    {
+        self.end_txid(who, commits)?;
+        self.leave_block(who);
+        Ok(())
+    }
+
+    /// A refusal rolls back the block that its session is in, and aborts it.
+    pub fn abort(&mut self, who: SessionId, refusal: &Refusal) -> Result<(), AllocError>
+        ensures { OnOk result (seen_database self.new ≡ after_marks (seen_database self.old)
+            (abort who ((seen_database self.old).session who).block ((seen_database self.old).session who).txid refusal.now)) }
+    {
+        match (self.block(who), refusal) {
+            (Some(Block::Open(_)), Refusal::AlreadyOpen) => Ok(()),
+            (Some(Block::Open(_)), _) => {
+                self.end_txid(who, false)?;
+                self.fail_block(who)
+            }
+            _ => Ok(()),
+        }
+    }
+
+    pub fn raise(&mut self, queue: usize, value: u64)
         requires { queue < length self.old.queues }
         ensures mark { seen_database self.new ≡ after_mark (seen_database self.old) (queued (raised queue value)) }
         ensures queues { length self.new.queues ≡ length self.old.queues }
@@ -164,7 +351,7 @@ impl Database {
         self.queues[queue].raise(value);
     }
 
-    fn put(&mut self, queue: usize, event: Event) -> Result<(), AllocError>
+    pub fn put(&mut self, queue: usize, event: Event) -> Result<(), AllocError>
         requires queue { queue < length self.old.queues }
         requires time { HasMoment event.ev_time }
         ensures mark { OnOk result (seen_database self.new ≡ after_mark (seen_database self.old) (queued (put queue event))) }
@@ -177,7 +364,7 @@ impl Database {
         requires next { tick.id ≡ newest_id ((seen_database self.old).queue queue) + 1 }
         requires time { IsTime tick.time }
         ensures { OnOk result (seen_database self.new ≡ record (seen_database self.old) {
-          queue = changed_at queue (λ q. record q { clock_ticks = q.clock_ticks ++ tick ∷ [] }) (seen_database self.old).queue;
+          queue = changed_at queue (λ q. record q { tick_list = q.tick_list ++ tick ∷ [] }) (seen_database self.old).queue;
         }) }
     {
         self.queues[queue].tick(tick)?;
@@ -185,7 +372,7 @@ impl Database {
     }
 
     /// One more tick of a queue, with the snapshot as it is now.
-    fn tick(&mut self, queue: usize, tick: Tick) -> Result<(), AllocError>
+    pub fn tick(&mut self, queue: usize, tick: Tick) -> Result<(), AllocError>
         requires queue { queue < length self.old.queues }
         requires next { tick.id ≡ newest_id ((seen_database self.old).queue queue) + 1 }
         requires time { IsTime tick.time }
@@ -197,7 +384,7 @@ impl Database {
     }
 
     /// A queue of a new name, with its first tick.
-    fn make(&mut self, name: Text, first: Tick) -> Result<(), AllocError>
+    pub fn make(&mut self, name: Text, first: Tick) -> Result<(), AllocError>
         requires new { place_of name self.old.names ≡ None }
         requires room { length self.old.names < 64 }
         requires first { first.id ≡ 1 }
@@ -214,6 +401,20 @@ impl Database {
         Ok(())
     }
 
+    /// Registers a new consumer, which stands at the newest tick.
+    pub fn register(&mut self, queue: usize, consumer: &Text) -> Result<(), AllocError>
+        requires queue { queue < length self.old.queues }
+        requires new { ((seen_database self.old).queue queue).sub consumer.now ≡ None }
+        requires room { length ((seen_database self.old).queue queue).members < 256 }
+        requires id { self.old.last_sub_id + 1 < 2 ^ 64 }
+        ensures { OnOk result (seen_database self.new ≡ after_mark (seen_database self.old)
+            (queued (registered queue consumer.now (self.old.last_sub_id + 1) (newest_id ((seen_database self.old).queue queue))))) }
+    {
+        let newest = self.queues[queue].ticks().newest().id();
+        self.last_sub_id += 1;
+        self.queues[queue].register(self.alloc, consumer, self.last_sub_id, newest)
+    }
+
     /// A consumer has this batch from now on.
     fn give_batch(&mut self, queue: usize, consumer: &Text, id: u64)
         requires { queue < length self.old.queues }
@@ -228,16 +429,16 @@ impl Database {
     /// The batch is active from now on, and the last that was made.
     fn note_batch(&mut self, id: u64, batch: Batch) -> Result<(), AllocError>
         ensures { OnOk result (seen_database self.new ≡ record (seen_database self.old) {
-          batch_count = id;
+          last_batch_id = id;
           batch = changed_at id (λ _. Some (seen_batch id batch)) (seen_database self.old).batch;
         }) }
     {
-        self.batch_count = id;
+        self.last_batch_id = id;
         self.batches.insert(id, batch)?;
         Ok(())
     }
 
-    fn open_batch(&mut self, id: u64, batch: Batch) -> Result<(), AllocError>
+    pub fn open_batch(&mut self, id: u64, batch: Batch) -> Result<(), AllocError>
         requires { batch.queue < length self.old.queues }
         ensures { OnOk result (seen_database self.new ≡ after_mark (seen_database self.old) (queued (opened (seen_batch id batch)))) }
     {
@@ -247,7 +448,7 @@ impl Database {
     }
 
     /// A consumer has no batch from now on, and stands at this tick.
-    fn end_batch(&mut self, queue: usize, consumer: &Text, tick: u64)
+    pub fn end_batch(&mut self, queue: usize, consumer: &Text, tick: u64)
         ensures queue { seen_database self.new ≡ record (seen_database self.old) {
           queue = changed_at queue (λ q. record q { sub = changed_for consumer.now (option_map (at_position tick)) q.sub }) (seen_database self.old).queue;
         } }
@@ -259,7 +460,7 @@ impl Database {
     }
 
     /// The batch is no longer active.
-    fn forget_batch(&mut self, id: u64) -> Option<Batch>
+    pub fn forget_batch(&mut self, id: u64) -> Option<Batch>
         ensures batch { option_map (seen_batch id) result ≡ (seen_database self.old).batch id }
         ensures forgotten { OnSome result (seen_database self.new ≡ record (seen_database self.old) { batch = changed_at id (λ _. None) (seen_database self.old).batch }) }
         ensures none { IfNone result (seen_database self.new ≡ seen_database self.old) }
@@ -267,236 +468,23 @@ impl Database {
         self.batches.remove(&id)
     }
 
-    /// `create_queue NAME`: the first tick is made when the transaction has ended.
-    fn create_queue(&mut self, now: i64, name: &Text) -> Result<Reply, AllocError>
-        requires { IsTime now }
-        ensures gives { IfOk result (λ reply. (who : ℕ) → Gives (seen_database self.old) (seen_database self.new) reply
-            (settled (create_queue (seen_database self.old) now who name.now))) }
-        ensures moments { IfOk result ReplyHasMoments }
+    /// An active batch, by its id.
+    pub fn batch(&self, id: u64) -> Option<&Batch>
+        ensures { option_map (seen_batch id) (option_copied result) ≡ (seen_database self.now).batch id }
     {
-        if self.number(name).is_some() {
-            return Ok(Reply::Number(0));
-        }
-        if self.queue_count() >= MAX_QUEUES {
-            return Ok(Reply::Refused(Refusal::TooMany(Limit::Queues)));
-        }
-        if self.next_id() >= ID_END {
-            return Ok(Reply::Refused(Refusal::TxidsSpent));
-        }
-        self.new_queue(now, name)
+        self.batches.get(&id)
     }
 
-    fn new_queue(&mut self, now: i64, name: &Text) -> Result<Reply, AllocError>
-        requires time { IsTime now }
-        requires new { place_of name.now self.old.names ≡ None }
-        requires room { length self.old.names < 64 }
-        requires ids { self.old.trans.next < 2 ^ 62 }
-        ensures gives { IfOk result (λ reply. (who : ℕ) → Gives (seen_database self.old) (seen_database self.new) reply
-            (settled (create_queue (seen_database self.old) now who name.now))) }
-        ensures moments { IfOk result ReplyHasMoments }
-    {
-        let name = name.copy(self.alloc)?;
-        self.single()?;
-        let snapshot = self.snapshot()?;
-        let first = Tick {
-            id: 1,
-            time: now,
-            snapshot,
-            seq: 0,
-        };
-        self.make(name, first)?;
-        Ok(Reply::Number(1))
-    }
-
-    /// `insert_event NAME TVAL TVAL`: an event with the next id of the queue's sequence.
-    fn insert_event(
-        &mut self,
-        now: i64,
-        name: &Text,
-        ev_type: &Option<Text>,
-        ev_data: &Option<Text>,
-        extra: &Option<Extra>,
-    ) -> Result<Reply, AllocError>
-        requires { IsTime now }
-        ensures gives { IfOk result (λ reply. (who : ℕ) → Gives (seen_database self.old) (seen_database self.new) reply
-            (settled (insert_event (seen_database self.old) now who name.now ev_type.now ev_data.now extra.now))) }
-        ensures moments { IfOk result ReplyHasMoments }
-    {
-        let Some(queue) = self.number(name) else {
-            return self.no_queue(name);
-        };
-        if self.next_id() >= ID_END {
-            return Ok(Reply::Refused(Refusal::TxidsSpent));
-        }
-        let seq = self.queue(queue).seq();
-        if seq >= ID_END - 1 {
-            return Ok(Reply::Refused(Refusal::EventIdsSpent));
-        }
-        let id = seq + 1;
-        let event = made_event(self.alloc, id, now, self.next_id(), ev_type, ev_data, extra)?;
-        self.single()?;
-        self.raise(queue, id);
-        self.put(queue, event)?;
-        Ok(Reply::Number(id))
-    }
-
-    fn no_queue(&self, name: &Text) -> Result<Reply, AllocError>
-        ensures { IfOk result (λ reply. reply ≡ Refused (NoQueue name.now)) }
-    {
-        Ok(Reply::Refused(Refusal::NoQueue(name.copy(self.alloc)?)))
-    }
-
-    /// `ticker NAME`: a tick where one is due.
-    fn ticker(&mut self, now: i64, name: &Text) -> Result<Reply, AllocError>
-        requires { IsTime now }
-        ensures { IfOk result (λ reply. Gives (seen_database self.old) (seen_database self.new) reply
-            (settled (ticker (seen_database self.old) now name.now))) }
-    {
-        let Some(queue) = self.number(name) else {
-            return self.no_queue(name);
-        };
-        let seq = self.queue(queue).seq();
-        if !self.queue(queue).ticks().is_due(now, seq) {
-            return Ok(Reply::Null);
-        }
-        let newest = self.queue(queue).ticks().newest().id();
-        if newest == u64::MAX {
-            return Ok(Reply::Refused(Refusal::IdsSpent));
-        }
-        let tick = Tick {
-            id: newest + 1,
-            time: now,
-            snapshot: self.snapshot()?,
-            seq,
-        };
-        self.tick(queue, tick)?;
-        Ok(Reply::Number(newest + 1))
-    }
-
-    /// `force_tick NAME`: the sequence rises so far that a tick is due.
-    fn force_tick(&mut self, name: &Text) -> Result<Reply, AllocError>
-        ensures { IfOk result (λ reply. Gives (seen_database self.old) (seen_database self.new) reply
-            (settled (force_tick (seen_database self.old) name.now))) }
-    {
-        let Some(queue) = self.number(name) else {
-            return self.no_queue(name);
-        };
-        let seq = self.queue(queue).seq();
-        if seq >= ID_END - FORCED {
-            return Ok(Reply::Refused(Refusal::EventIdsSpent));
-        }
-        let newest = self.queue(queue).ticks().newest().id();
-        self.raise(queue, seq + FORCED);
-        Ok(Reply::Number(newest))
-    }
-
-    /// `register_consumer NAME CONSUMER`: a subscription that stands at the newest tick.
-    fn register_consumer(&mut self, name: &Text, consumer: &Text) -> Result<Reply, AllocError>
-        ensures { IfOk result (λ reply. Gives (seen_database self.old) (seen_database self.new) reply
-            (settled (register_consumer (seen_database self.old) name.now consumer.now))) }
-    {
-        let Some(queue) = self.number(name) else {
-            return self.no_queue(name);
-        };
-        if has_dot(consumer) {
-            return Ok(Reply::Refused(Refusal::NodeConsumer));
-        }
-        if self.subscription(queue, consumer).is_some() {
-            return Ok(Reply::Number(0));
-        }
-        if self.queue(queue).consumer_count() >= MAX_CONSUMERS {
-            return Ok(Reply::Refused(Refusal::TooMany(Limit::Consumers)));
-        }
-        if self.sub_count == u64::MAX {
-            return Ok(Reply::Refused(Refusal::IdsSpent));
-        }
-        self.register(queue, consumer)?;
-        Ok(Reply::Number(1))
-    }
-
-    fn register(&mut self, queue: usize, consumer: &Text) -> Result<(), AllocError>
-        requires queue { queue < length self.old.queues }
-        requires new { ((seen_database self.old).queue queue).sub consumer.now ≡ None }
-        requires room { length ((seen_database self.old).queue queue).members < 256 }
-        requires id { self.old.sub_count + 1 < 2 ^ 64 }
-        ensures { OnOk result (seen_database self.new ≡ after_mark (seen_database self.old)
-            (queued (registered queue consumer.now (self.old.sub_count + 1) (newest_id ((seen_database self.old).queue queue))))) }
-    {
-        let newest = self.queues[queue].ticks().newest().id();
-        self.sub_count += 1;
-        self.queues[queue].register(self.alloc, consumer, self.sub_count, newest)
-    }
-
-    /// `next_batch NAME CONSUMER`: the active batch, else a new one to the next tick, where that is made.
-    fn next_batch(&mut self, name: &Text, consumer: &Text) -> Result<Reply, AllocError>
-        ensures { IfOk result (λ reply. Gives (seen_database self.old) (seen_database self.new) reply
-            (settled (next_batch (seen_database self.old) name.now consumer.now))) }
-    {
-        let Some(queue) = self.number(name) else {
-            return self.no_queue(name);
-        };
-        if has_dot(consumer) {
-            return Ok(Reply::Refused(Refusal::NodeConsumer));
-        }
-        let Some(sub) = self.subscription(queue, consumer) else {
-            return Ok(Reply::Refused(Refusal::NoConsumer(consumer.copy(self.alloc)?)));
-        };
-        match sub.active() {
-            Some(batch) => Ok(Reply::Number(batch)),
-            None => self.new_batch(queue, consumer, &sub),
-        }
-    }
-
-    fn new_batch(
-        &mut self,
-        queue: usize,
-        consumer: &Text,
-        sub: &Subscription,
-    ) -> Result<Reply, AllocError>
-        requires { queue < length self.old.queues }
-        ensures { IfOk result (λ reply. Gives (seen_database self.old) (seen_database self.new) reply
-            (settled (opens_batch (seen_database self.old) queue consumer.now sub.now
-            (tick (sub.now.position + 1) ((seen_database self.old).queue queue).clock_ticks)))) }
-    {
-        let Some(next) = self.queue(queue).ticks().next(sub.position()) else {
-            return Ok(Reply::Null);
-        };
-        let cur = next.id();
-        if self.batch_count == u64::MAX {
-            return Ok(Reply::Refused(Refusal::IdsSpent));
-        }
-        let id = self.batch_count + 1;
-        let batch = Batch {
-            queue,
-            consumer: consumer.copy(self.alloc)?,
-            sub: sub.id(),
-            prev: sub.position(),
-            cur,
-        };
-        self.open_batch(id, batch)?;
-        Ok(Reply::Number(id))
-    }
-
-    /// `get_batch_events N`: the events of an active batch.
-    fn get_batch_events(&self, id: u64) -> Result<Reply, AllocError>
-        ensures gives { IfOk result (λ reply. Gives (seen_database self.now) (seen_database self.now) reply
-            (settled (get_batch_events (seen_database self.now) (selected (seen_database self.now)) id))) }
-        ensures moments { IfOk result ReplyHasMoments }
-    {
-        let Some(batch) = self.batches.get(&id) else {
-            return Ok(Reply::Refused(Refusal::NoBatch));
-        };
-        Ok(Reply::Events(Events::new(self.batch_events(batch)?)))
-    }
-
-    fn batch_events(&self, batch: &Batch) -> Result<Vec<Event>, AllocError>
+    /// The events of a batch.
+    pub fn batch_events(&self, batch: &Batch) -> Result<Vec<Event>, AllocError>
         ensures events { (id : ℕ) → IfOk result (λ events. events.items ≡ selected (seen_database self.now) (seen_batch id batch.now)) }
         ensures moments { IfOk result (λ events. EventsHaveMoments events.items) }
     {
         if self.queue_len() <= batch.queue {
             return Ok(Vec::new(self.alloc));
         }
-        self.queue(batch.queue).select(self.alloc, batch)
+        self.queue(batch.queue)
+            .select(self.alloc, &self.undone, batch)
     }
 
     fn queue_len(&self) -> usize
@@ -504,80 +492,4 @@ impl Database {
     {
         self.queues.len()
     }
-
-    /// `finish_batch N`: the consumer stands at the batch's closing tick.
-    fn finish_batch(&mut self, id: u64) -> Reply
-        ensures { Gives (seen_database self.old) (seen_database self.new) result (settled (finish_batch (seen_database self.old) id)) }
-    {
-        let Some(batch) = self.forget_batch(id) else {
-            return Reply::Number(0);
-        };
-        self.end_batch(batch.queue, &batch.consumer, batch.cur);
-        Reply::Number(1)
-    }
-
-    /// Runs a statement of a session that has this database open.
-    pub fn run(&mut self, now: i64, stmt: &Stmt) -> Result<Reply, AllocError>
-        requires { IsTime now }
-        ensures gives { IfOk result (λ reply. (who : ℕ) → Gives (seen_database self.old) (seen_database self.new) reply
-            (settled (statement (seen_database self.old) (selected (seen_database self.old)) now who stmt.now))) }
-        ensures moments { IfOk result ReplyHasMoments }
-    {
-        match stmt {
-            Stmt::OpenDb { name: _ } => Ok(Reply::Refused(Refusal::AlreadyOpen)),
-            Stmt::CreateQueue { queue } => self.create_queue(now, queue),
-            Stmt::InsertEvent {
-                queue,
-                ev_type,
-                ev_data,
-                extra,
-            } => self.insert_event(now, queue, ev_type, ev_data, extra),
-            Stmt::Ticker { queue } => self.ticker(now, queue),
-            Stmt::ForceTick { queue } => self.force_tick(queue),
-            Stmt::RegisterConsumer { queue, consumer } => self.register_consumer(queue, consumer),
-            Stmt::NextBatch { queue, consumer } => self.next_batch(queue, consumer),
-            Stmt::GetBatchEvents { batch } => self.get_batch_events(*batch),
-            Stmt::FinishBatch { batch } => Ok(self.finish_batch(*batch)),
-        }
-    }
-}
-
-fn has_dot(name: &Text) -> bool
-    ensures { result ≡ has_dot name.now }
-{
-    name.bytes().contains(&b'.')
-}
-
-/// An event without an owner.
-fn made_event(
-    alloc: Global,
-    id: u64,
-    now: i64,
-    txid: u64,
-    ev_type: &Option<Text>,
-    ev_data: &Option<Text>,
-    extra: &Option<Extra>,
-) -> Result<Event, AllocError>
-    ensures { IfOk result (λ event. event ≡ made_event id now txid ev_type.now ev_data.now extra.now) }
-{
-    let mut event = Event {
-        ev_id: id,
-        ev_time: now,
-        ev_txid: txid,
-        ev_owner: None,
-        ev_retry: None,
-        ev_type: copy_option(alloc, ev_type)?,
-        ev_data: copy_option(alloc, ev_data)?,
-        ev_extra1: None,
-        ev_extra2: None,
-        ev_extra3: None,
-        ev_extra4: None,
-    };
-    if let Some(extra) = extra {
-        event.ev_extra1 = copy_option(alloc, &extra.ev_extra1)?;
-        event.ev_extra2 = copy_option(alloc, &extra.ev_extra2)?;
-        event.ev_extra3 = copy_option(alloc, &extra.ev_extra3)?;
-        event.ev_extra4 = copy_option(alloc, &extra.ev_extra4)?;
-    }
-    Ok(event)
 }

@@ -6,9 +6,14 @@
 //! Nothing here reads or prints a byte.
 #![tactic(auto)]
 
+mod allowed;
 mod batch;
+mod block;
 mod database;
 mod queue;
+mod statements;
+mod stop;
+mod stored;
 mod sub;
 mod subs;
 mod subscription;

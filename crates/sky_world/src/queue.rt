@@ -5,25 +5,27 @@ ghost use Rattle.sky_model.specs.Selection.{selected_in};
 ghost use Rattle.sky_model.specs.State.{changed_for, with_batch, at_position};
 ghost use Rattle.sky_model.specs.StepQueue.{id_of};
 ghost use Rattle.sky_world.specs.Ticks.{IsTime};
-ghost use Rattle.sky_world.specs.Seen.{seen_queue, seen_batch};
+ghost use Rattle.sky_world.specs.Seen.{keeps, seen_queue, seen_batch};
 ghost use Rattle.sky_model.specs.Moment.{HasMoment};
 ghost use Rattle.sky_model.specs.Printed.{EventsHaveMoments};
 ghost use Rattle.sky_world.specs.Subs.{consumer_of};
 
 use crate::batch::{Batch, select};
+use crate::stored::Stored;
 use crate::sub::Sub;
 use crate::subs::Subs;
 use crate::subscription::Subscription;
 use crate::ticks::{Tick, Ticks};
 use sky_val::{Event, Text};
 use std::alloc::{AllocError, Global};
+use std::collections::BTreeSet;
 use std::marker::Model;
 
 /// A queue: its sequence, its events, its ticks and its consumers.
 #[derive(Drop)]
 pub struct Queue {
     seq: u64,
-    events: Vec<Event>,
+    events: Vec<Stored>,
     ticks: Ticks,
     subs: Subs,
 }
@@ -62,12 +64,6 @@ impl Queue {
         self.seq
     }
 
-    pub fn events(&self) -> &[Event]
-        ensures { result.now ≡ self.now.events }
-    {
-        self.events.as_slice()
-    }
-
     pub fn ticks(&self) -> &Ticks
         ensures { result.now ≡ self.now.ticks }
     {
@@ -101,7 +97,8 @@ impl Queue {
         requires { HasMoment event.ev_time }
         ensures { OnOk result (self.new ≡ record self.old { events = self.old.events ++ event ∷ [] }) }
     {
-        self.events.push(event)?;
+        let stored = Stored::new(*self.events.allocator(), event)?;
+        self.events.push(stored)?;
         Ok(())
     }
 
@@ -154,13 +151,18 @@ impl Queue {
         self.subs.close_batch(consumer, position);
     }
 
-    /// The events of a batch of this queue.
-    pub fn select(&self, alloc: Global, batch: &Batch) -> Result<Vec<Event>, AllocError>
-        ensures events { (id : ℕ) → IfOk result (λ events. events.items ≡ selected_in (seen_queue self.now) (seen_batch id batch.now)) }
+    /// The events of a batch of this queue, without those of the transactions that were rolled back.
+    pub fn select(
+        &self,
+        alloc: Global,
+        undone: &BTreeSet<u64>,
+        batch: &Batch,
+    ) -> Result<Vec<Event>, AllocError>
+        ensures events { (id : ℕ) → IfOk result (λ events. events.items ≡ selected_in (keeps undone.now.keys) (seen_queue self.now) (seen_batch id batch.now)) }
         ensures moments { IfOk result (λ events. EventsHaveMoments events.items) }
     {
         let prev = self.ticks.get(batch.prev);
         let cur = self.ticks.get(batch.cur);
-        select(alloc, self.events.as_slice(), prev, cur, batch.sub)
+        select(alloc, self.events.as_slice(), prev, cur, undone, batch.sub)
     }
 }

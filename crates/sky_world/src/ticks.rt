@@ -1,6 +1,7 @@
 ghost use Rattle.std.specs.Prelude.{◌≡◌, ◌+◌, ◌<◌, ◌≤◌, ◌*ℤ◌, ◌-ℤ◌, ◌||◌, ◌&&◌, not, int_lt, pos, [], ◌∷◌, ◌++◌, Some, None, IfOk, OnOk, OnErr, IfSome, option_map, option_copied, length, slice_get};
 ghost use Rattle.sky_model.specs.Queues.{tick, newest_tick};
-ghost use Rattle.sky_model.specs.StepQueue.{default_config, due_of, is_due_after, last_two, id_of};
+ghost use Rattle.sky_model.specs.StepQueue.{due_of, is_due_after, last_two, id_of};
+ghost use Rattle.sky_model.specs.Config.{default_config};
 ghost use Rattle.sky_txid.specs.Snapshot.{sees};
 ghost use Rattle.sky_world.specs.Ticks.{IsTime, IsSpan, AreTicks};
 
@@ -17,7 +18,8 @@ const MAX_LAG: i64 = 3_000_000;
 /// Without a new event a tick is due after this many microseconds.
 const IDLE_PERIOD: i64 = 60_000_000;
 
-/// A tick: a moment of a queue, with the snapshot and the value of the sequence at it.
+/// A tick: a moment of a queue, in microseconds since the clock's start, with the snapshot and the
+/// value of the sequence at it.
 #[derive(Debug, Drop)]
 pub struct Tick {
     pub id: u64,
@@ -39,18 +41,6 @@ impl Tick {
         ensures { result ≡ self.now.id }
     {
         self.id
-    }
-
-    pub fn time(&self) -> i64
-        ensures { result ≡ self.now.time }
-    {
-        self.time
-    }
-
-    pub fn seq(&self) -> u64
-        ensures { result ≡ self.now.seq }
-    {
-        self.seq
     }
 
     /// Whether a transaction had ended when the tick was made.
@@ -173,13 +163,13 @@ fn is_due_after(last: &Tick, before: Option<&Tick>, now: i64, seq: u64) -> bool
     requires before { IfSome before (λ t. IsTime t.now.time) }
     ensures { result ≡ is_due_after default_config now seq last.now (option_copied before.entry) }
 {
-    let lag = time_between(last.time(), now);
-    if last.seq() < seq {
-        return !(seq - last.seq() < MAX_COUNT && lag < MAX_LAG);
+    let lag = time_between(last.time, now);
+    if last.seq < seq {
+        return !(seq - last.seq < MAX_COUNT && lag < MAX_LAG);
     }
     match before {
         None => true,
-        Some(before) => is_idle_due(lag, time_between(before.time(), last.time())),
+        Some(before) => is_idle_due(lag, time_between(before.time, last.time)),
     }
 }
 

@@ -1,12 +1,13 @@
-ghost use Rattle.std.specs.Prelude.{◌≡◌, ℕ, ◌+◌, ◌<◌, ◌≤◌, [], Some, None, IfOk, OnOk, IfSome, All, length};
+ghost use Rattle.std.specs.Prelude.{◌≡◌, ◌+◌, ◌<◌, ◌≤◌, [], false, Some, None, IfOk, OnOk, IfSome, All, length};
 ghost use Rattle.sky_names.specs.Places.{place_of};
-ghost use Rattle.sky_model.specs.History.{appeared, founded, entered};
+ghost use Rattle.sky_model.specs.History.{appeared, founded, entered, left};
 ghost use Rattle.sky_model.specs.Printed.{HaveMoments, ReplyHasMoments};
 ghost use Rattle.sky_model.specs.Selection.{selected};
-ghost use Rattle.sky_model.specs.World.{world_of, after_fact, opens, unopened, session_does};
-ghost use Rattle.sky_model.specs.Steps.{Steps};
+ghost use Rattle.sky_model.specs.World.{world_of, after_fact, statement, deed_in, opens, unopened, session_does};
+ghost use Rattle.sky_model.specs.World as spec;
+ghost use Rattle.sky_model.specs.Steps.{Steps, deed_at};
 ghost use Rattle.sky_world.specs.Seen.{seen_world};
-ghost use Rattle.sky_world.specs.GivesDeed.{GivesDeed, AnswersCall};
+ghost use Rattle.sky_world.specs.GivesDeed.{GivesDeed};
 
 use crate::database::Database;
 use sky_model::{Limit, Refusal, Replies, Reply, Stmt};
@@ -95,7 +96,7 @@ impl World {
     }
 
     fn answer(&mut self, name: &Text, stmt: &Stmt) -> Result<Answer, AllocError>
-        ensures answers { IfOk result (λ answer. AnswersCall (seen_world self.old) (seen_world self.new) (record { who = name.now; stmt = stmt.now }) answer.who answer.reply) }
+        ensures answers { IfOk result (λ answer. GivesDeed (seen_world self.old) (seen_world self.new) answer.who answer.reply (deed_at (seen_world self.old) (record { who = name.now; stmt = stmt.now }))) }
         ensures numbered { IfOk result (λ answer. answer.who ≤ length self.new.sessions) }
         ensures moments { IfOk result (λ answer. ReplyHasMoments answer.reply) }
     {
@@ -113,7 +114,7 @@ impl World {
     ) -> Result<Answer, AllocError>
         requires known { Some who ≡ place_of name.now self.old.sessions }
         requires within { who < length self.old.homes }
-        ensures answers { IfOk result (λ answer. AnswersCall (seen_world self.old) (seen_world self.new) (record { who = name.now; stmt = stmt.now }) answer.who answer.reply) }
+        ensures answers { IfOk result (λ answer. GivesDeed (seen_world self.old) (seen_world self.new) answer.who answer.reply (deed_at (seen_world self.old) (record { who = name.now; stmt = stmt.now }))) }
         ensures numbered { IfOk result (λ answer. answer.who ≤ length self.new.sessions) }
         ensures moments { IfOk result (λ answer. ReplyHasMoments answer.reply) }
     {
@@ -123,7 +124,7 @@ impl World {
 
     fn answer_new(&mut self, name: &Text, stmt: &Stmt) -> Result<Answer, AllocError>
         requires { place_of name.now self.old.sessions ≡ None }
-        ensures answers { IfOk result (λ answer. AnswersCall (seen_world self.old) (seen_world self.new) (record { who = name.now; stmt = stmt.now }) answer.who answer.reply) }
+        ensures answers { IfOk result (λ answer. GivesDeed (seen_world self.old) (seen_world self.new) answer.who answer.reply (deed_at (seen_world self.old) (record { who = name.now; stmt = stmt.now }))) }
         ensures numbered { IfOk result (λ answer. answer.who ≤ length self.new.sessions) }
         ensures moments { IfOk result (λ answer. ReplyHasMoments answer.reply) }
     {
@@ -170,13 +171,13 @@ impl World {
     /// Runs a statement of a session.
     fn run(&mut self, who: SessionId, stmt: &Stmt) -> Result<Reply, AllocError>
         requires { who < length self.old.homes }
-        ensures gives { IfOk result (λ reply. GivesDeed (seen_world self.old) (seen_world self.new) reply
+        ensures gives { IfOk result (λ reply. GivesDeed (seen_world self.old) (seen_world self.new) who reply
             (session_does (seen_world self.old) (λ d. selected ((seen_world self.old).database d)) who stmt.now ((seen_world self.old).homes who))) }
         ensures moments { IfOk result ReplyHasMoments }
         ensures sessions { OnOk result (self.new.sessions ≡ self.old.sessions) }
     {
         match self.home(who) {
-            Some(database) => self.run_in(database, stmt),
+            Some(database) => self.run_in(database, who, stmt),
             None => self.run_unopened(who, stmt),
         }
     }
@@ -190,25 +191,57 @@ impl World {
         self.homes[who as usize]
     }
 
-    fn run_in(&mut self, database: usize, stmt: &Stmt) -> Result<Reply, AllocError>
-        requires { database < length self.old.stores }
-        ensures gives { IfOk result (λ reply. (who : ℕ) → GivesDeed (seen_world self.old) (seen_world self.new) reply
+    fn run_in(&mut self, database: usize, who: SessionId, stmt: &Stmt) -> Result<Reply, AllocError>
+        requires who { who < length self.old.homes }
+        requires database { database < length self.old.stores }
+        ensures gives { IfOk result (λ reply. GivesDeed (seen_world self.old) (seen_world self.new) who reply
             (session_does (seen_world self.old) (λ d. selected ((seen_world self.old).database d)) who stmt.now (Some database))) }
         ensures moments { IfOk result ReplyHasMoments }
         ensures sessions { OnOk result (self.new.sessions ≡ self.old.sessions) }
     {
-        let reply = self.stores[database].run(self.clock, stmt)?;
+        let reply = self.run_there(database, who, stmt)?;
+        if is_close(stmt) {
+            self.leave(who);
+        }
         Ok(reply)
+    }
+
+    /// Runs a statement in a database.
+    fn run_there(
+        &mut self,
+        database: usize,
+        who: SessionId,
+        stmt: &Stmt,
+    ) -> Result<Reply, AllocError>
+        requires { database < length self.old.stores }
+        ensures gives { IfOk result (λ reply. GivesDeed (seen_world self.old) (seen_world self.new) who reply
+            (deed_in who database false (statement ((seen_world self.old).database database) (selected ((seen_world self.old).database database)) (seen_world self.old).now who stmt.now))) }
+        ensures moments { IfOk result ReplyHasMoments }
+        ensures sessions { OnOk result (self.new.sessions ≡ self.old.sessions) }
+        ensures homes { OnOk result (length self.new.homes ≡ length self.old.homes) }
+    {
+        let reply = self.stores[database].run(self.clock, who, stmt)?;
+        Ok(reply)
+    }
+
+    /// A session has no database open from now on.
+    fn leave(&mut self, who: SessionId)
+        requires { who < length self.old.homes }
+        ensures fact { seen_world self.new ≡ after_fact (seen_world self.old) (left who) }
+        ensures sessions { self.new.sessions ≡ self.old.sessions }
+    {
+        self.homes[who as usize] = None;
     }
 
     fn run_unopened(&mut self, who: SessionId, stmt: &Stmt) -> Result<Reply, AllocError>
         requires { who < length self.old.homes }
-        ensures gives { IfOk result (λ reply. GivesDeed (seen_world self.old) (seen_world self.new) reply (unopened (seen_world self.old) who stmt.now)) }
+        ensures gives { IfOk result (λ reply. GivesDeed (seen_world self.old) (seen_world self.new) who reply (unopened (seen_world self.old) who stmt.now)) }
         ensures moments { IfOk result ReplyHasMoments }
         ensures sessions { OnOk result (self.new.sessions ≡ self.old.sessions) }
     {
         match stmt {
             Stmt::OpenDb { name } => self.open_database(who, name),
+            Stmt::Cancel => Ok(Reply::NotWaiting),
             _ => Ok(Reply::Refused(Refusal::NotOpen)),
         }
     }
@@ -216,7 +249,7 @@ impl World {
     /// `open NAME` of a session that has none open: the database is made where it is new.
     fn open_database(&mut self, who: SessionId, name: &Text) -> Result<Reply, AllocError>
         requires { who < length self.old.homes }
-        ensures gives { IfOk result (λ reply. GivesDeed (seen_world self.old) (seen_world self.new) reply
+        ensures gives { IfOk result (λ reply. GivesDeed (seen_world self.old) (seen_world self.new) who reply
             (opens (seen_world self.old) who name.now (place_of name.now (seen_world self.old).databases))) }
         ensures moments { IfOk result ReplyHasMoments }
         ensures sessions { OnOk result (self.new.sessions ≡ self.old.sessions) }
@@ -233,7 +266,7 @@ impl World {
     fn found_database(&mut self, who: SessionId, name: &Text) -> Result<Reply, AllocError>
         requires who { who < length self.old.homes }
         requires new { place_of name.now self.old.databases ≡ None }
-        ensures gives { IfOk result (λ reply. GivesDeed (seen_world self.old) (seen_world self.new) reply (opens (seen_world self.old) who name.now None)) }
+        ensures gives { IfOk result (λ reply. GivesDeed (seen_world self.old) (seen_world self.new) who reply (opens (seen_world self.old) who name.now None)) }
         ensures moments { IfOk result ReplyHasMoments }
         ensures sessions { OnOk result (self.new.sessions ≡ self.old.sessions) }
     {
@@ -286,4 +319,10 @@ impl World {
     {
         self.homes[who as usize] = Some(database);
     }
+}
+
+fn is_close(stmt: &Stmt) -> bool
+    ensures { result ≡ spec.is_close stmt.now }
+{
+    matches!(stmt, Stmt::Close)
 }

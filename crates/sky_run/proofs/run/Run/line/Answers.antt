@@ -1,7 +1,7 @@
 use Rattle.std.proofs.Common.{Err, ap}
 use Rattle.sky_run.proofs.ParsedLemmas.{OnOk-both, IfErr-both}
 use Rattle.sky_run.proofs.RunningLemmas.{GoesOn-line}
-use Rattle.sky_run.proofs.EndLemmas.{GoesOn-not_built, GoesOn-fault}
+use Rattle.sky_run.proofs.EndLemmas.{GoesOn-bad_line, GoesOn-fault}
 use Rattle.sky_run.proofs.run.Run.line.Goals as goal
 
 pub returns-in-Ok-Some-clause-goes : goal.returns-in-Ok-Some-clause-goes
@@ -16,9 +16,9 @@ pub returns-in-Ok-Some-clause-ends : goal.returns-in-Ok-Some-clause-ends
 returns-in-Ok-Some-clause-ends g c =
     let takes = rw c.in-Ok-Some.field-0-is at c.in-Ok-Some.ensures.line in
     let line_is = c.as_slice.ensures.value in
-    IfErr-both c.answer.result _ _ c.answer.ensures.not_built c.answer.ensures.err
-    (λ end not_built kept first held bytes goes. rw kept
-    (GoesOn-not_built end c.args.self.now.reader c.next_line.new.self (g.S.Source.left c.next_line.new.src) c.in-Ok-Some.line.items takes (rw line_is at not_built) goes))
+    IfErr-both c.answer.result _ _ c.answer.ensures.bad c.answer.ensures.err
+    (λ end is_bad kept first held bytes goes. rw kept
+    (GoesOn-bad_line end c.args.self.now.reader c.next_line.new.self (g.S.Source.left c.next_line.new.src) c.in-Ok-Some.line.items takes (rw line_is at is_bad) goes))
 
 pub returns-in-Err-clause-ends : goal.returns-in-Err-clause-ends
 returns-in-Err-clause-ends g c = λ first held bytes goes. rw c.end_of.ensures

@@ -1,4 +1,4 @@
-use Rattle.std.proofs.lemmas.Result.{err_from_is_err_and, IfErr-weaker}
+use Rattle.std.proofs.lemmas.Result.{err_from_is_err_and, on_ok_weaker, IfErr-weaker}
 use Rattle.sky_run.proofs.EndLemmas.{Ends-written, Ends-cut}
 use Rattle.sky_run.proofs.run.Run.turn.Goals as goal
 
@@ -17,6 +17,12 @@ returns-in_err-write-in-Err-clause-ends g c =
 pub returns-in_ok-write-in-Err-clause-ends : goal.returns-in_ok-write-in-Err-clause-ends
 returns-in_ok-write-in-Err-clause-ends g c = λ first bytes goes.
     Ends-written _ (c.in-Err.ensures.ends first _ bytes (c.in_ok-write_where.ensures.goes _ first bytes goes)) c.in_ok-write-in-Err.ensures.ok
+
+pub returns-in-Ok-clause-goes : goal.returns-in-Ok-clause-goes
+returns-in-Ok-clause-goes g c =
+    on_ok_weaker c.write_where-in-Ok.result
+    (λ more first bytes goes. more _ first bytes (c.in-Ok.ensures.goes first _ bytes (c.in_ok-write_where.ensures.goes _ first bytes goes)))
+    c.write_where-in-Ok.ensures.goes
 
 pub returns-in-Ok-clause-ends : goal.returns-in-Ok-clause-ends
 returns-in-Ok-clause-ends g c =

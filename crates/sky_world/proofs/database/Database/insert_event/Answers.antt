@@ -4,8 +4,8 @@ use Rattle.sky_model.specs.State.{Queue}
 use Rattle.sky_world.proofs.Databases.{gives-event}
 use Rattle.sky_world.proofs.database.Database.insert_event.Goals as goal
 
-pub returns-clause-gives : goal.returns-clause-gives
-returns-clause-gives c = λ who.
-    gives-event _ _ _ _ c.args.now _ who _ _ _ c.args.extra.now c.in-Some.queue c.seq-seq.result c.next_id-2.result c.in_ok-event.event
-    c.in-Some.ensures.number (omega arith) (c.seq-seq.ensures ∙ ap (λ (q : Queue). q.seq) c.queue.ensures) (omega arith) c.next_id-2.ensures
-    (to_z-of_z w64 c.args.now c.ranges.now) c.in_ok-event.ensures (c.in_ok-single.ensures.marks who) c.raise.ensures.mark c.in_ok-put.ensures.mark
+pub returns-clause-ok : goal.returns-clause-ok
+returns-clause-ok c =
+    gives-event _ _ _ _ c.args.now _ c.args.who _ _ _ c.args.extra.now c.in_ok-queue.queue c.seq-seq.result c.in_ok-txid.txid c.in_ok-event.event
+    c.in_ok-queue.ensures.ok c.in_ok-txid.ensures.ok (c.seq-seq.ensures ∙ ap (λ (q : Queue). q.seq) c.queue.ensures) (omega arith)
+    (to_z-of_z w64 c.args.now c.ranges.now) c.in_ok-event.ensures c.in_ok-take_txid.ensures.marks c.raise.ensures.mark c.in_ok-put.ensures.mark

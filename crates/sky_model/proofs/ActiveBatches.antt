@@ -1,0 +1,141 @@
+-- An active batch is its consumer's, begins where the consumer stands and closes at the next tick.
+use Rattle.std.proofs.Common.{◌≡◌, ℕ, ◌+◌, List, [], ◌∷◌, Bool, true, false, ◌&&◌, ◌||◌, ◌==◌, Option, Some, None, unwrap_or, option_map, is_some, bytes_eq, refl, sym, ◌∙◌, ap, subst, arith, if◌then◌else◌}
+use Rattle.std.proofs.lemmas.Bool.Decides.{nat_tests}
+use Rattle.sky_names.proofs.PlaceLemmas.{bytes_eq_refl, same_name}
+use Rattle.sky_model.specs.History.{Batch, History}
+use Rattle.sky_model.specs.Queues.{Tick, tick, ticks}
+use Rattle.sky_model.specs.Consumers.{subscription_id, position, active, Subscription, active_batch}
+use Rattle.sky_model.proofs.Legal.{Opens, begins, ends, begins_block, fails_block, ends_block, makes, raises, puts, ticks_next, registers, opens, closes, Legal, start, next}
+use Rattle.sky_model.proofs.TickOrder.{is_made, is_made-tick}
+
+and-true : (a b : Bool) → (a && b) ≡ true → (a ≡ true) × (b ≡ true)
+and-true true true e = (refl, refl)
+and-true true false e = absurd (cc)
+and-true false b e = absurd (cc)
+
+pub or-right : (a b : Bool) → b ≡ true → (a || b) ≡ true
+or-right true b e = refl
+or-right false b e = e
+
+-- what is read of a consumer is the same where the queue and the name are
+pub same_consumer : {A : Type 0} (read : ℕ → List ℕ → A) (q queue : ℕ) (name consumer : List ℕ)
+    → (q == queue && bytes_eq consumer name) ≡ true → read queue consumer ≡ read q name
+same_consumer read q queue name consumer e =
+    let parts : ((q == queue) ≡ true) × (bytes_eq consumer name ≡ true) = and-true (q == queue) (bytes_eq consumer name) e in
+    let test : (q == queue) ≡ true = parts.0 in
+    let same : queue ≡ q = grind (arith, nat_tests) in
+    let one : consumer ≡ name = same_name consumer name parts.1 in
+    λ i. read (same i) (one i)
+
+itself : (q : ℕ) (name : List ℕ) → (q == q && bytes_eq name name) ≡ true
+itself q name =
+    let same : (q == q) ≡ true = grind (arith, nat_tests) in
+    λ i. same i && bytes_eq_refl name i
+
+-- the parts of a subscription
+subscription_parts : (id : Option ℕ) (position : ℕ) (active : Option ℕ) (s : Subscription)
+    → option_map (λ n. record { id = n; position = position; active = active }) id ≡ Some s
+    → (id ≡ Some s.id) × (position ≡ s.position) × (active ≡ s.active)
+subscription_parts None position active s e = absurd (cc)
+subscription_parts (Some n) position active s e =
+    let one : record { id = n; position = position; active = active } ≡ s = ap (λ o. unwrap_or o s) e in
+    (ap (λ (x : Subscription). Some x.id) one, ap Subscription.position one, ap Subscription.active one)
+
+tick-id : (id : ℕ) (ts : List Tick) (t : Tick) → tick id ts ≡ Some t → t.id ≡ id
+tick-id id [] t e = absurd (cc)
+tick-id id (u ∷ ts) t e = of (u.id == id) refl e (tick-id id ts t)
+  where
+    of : (b : Bool) → (u.id == id) ≡ b → (if b then Some u else tick id ts) ≡ Some t → (tick id ts ≡ Some t → t.id ≡ id) → t.id ≡ id
+    of true test e ih = let one : u ≡ t = ap (λ o. unwrap_or o u) e in ap Tick.id (sym one) ∙ grind (arith, nat_tests)
+    of false test e ih = ih e
+
+-- what an active batch is, by what is read of its consumer
+pub record IsActiveFor (sub : Option ℕ) (active : Option ℕ) (position : ℕ) (made : Bool) (id : ℕ) (b : Batch) : Type 0 where
+  pub named : b.id ≡ id
+  pub owned : sub ≡ Some b.sub
+  pub alone : active ≡ Some b.id
+  pub begins : position ≡ b.prev
+  pub ends : b.cur ≡ b.prev + 1
+  pub closing : made ≡ true
+
+abbrev pub IsActive : History → ℕ → Batch → Type 0
+IsActive h id b = IsActiveFor (subscription_id b.queue b.consumer h) (active b.queue b.consumer h) (position b.queue b.consumer h) (is_made b.queue b.cur h) id b
+
+new_batch : (h : History) (b : Batch) → Opens h b
+    → IsActiveFor (subscription_id b.queue b.consumer h) (if b.queue == b.queue && bytes_eq b.consumer b.consumer then Some b.id else active b.queue b.consumer h)
+    (position b.queue b.consumer h) (is_made b.queue b.cur h) b.id b
+new_batch h b o =
+    let parts = subscription_parts (subscription_id b.queue b.consumer h) (position b.queue b.consumer h) (active b.queue b.consumer h) _ o.stands in
+    let after : b.cur ≡ b.prev + 1 = o.to ∙ tick-id (b.prev + 1) (ticks b.queue h) o.closing o.made in
+    record {
+      named = refl;
+      owned = parts.0;
+      alone = ap (λ c. if c then Some b.id else active b.queue b.consumer h) (itself b.queue b.consumer);
+      begins = parts.1;
+      ends = after;
+      closing = sym (is_made-tick h b.queue b.cur) ∙ ap (λ n. is_some (tick n (ticks b.queue h))) after ∙ ap is_some o.made;
+    }
+
+pub active_batches : (h : History) → Legal h → (id : ℕ) (b : Batch) → active_batch id h ≡ Some b → IsActive h id b
+active_batches [] start id b is = absurd (cc)
+active_batches _ (next {h = h} l (begins who e)) id b is = active_batches h l id b is
+active_batches _ (next {h = h} l (ends who t c mine)) id b is = active_batches h l id b is
+active_batches _ (next {h = h} l (begins_block who e)) id b is = active_batches h l id b is
+active_batches _ (next {h = h} l (fails_block who e f)) id b is = active_batches h l id b is
+active_batches _ (next {h = h} l (ends_block who e)) id b is = active_batches h l id b is
+active_batches _ (next {h = h} l (makes name new)) id b is = active_batches h l id b is
+active_batches _ (next {h = h} l (raises p v i e)) id b is = active_batches h l id b is
+active_batches _ (next {h = h} l (puts who p e i s o)) id b is = active_batches h l id b is
+active_batches _ (next {h = h} l (ticks_next p m time seq i e)) id b is =
+    let a : IsActive h id b = active_batches h l id b is in
+    record { named = a.named; owned = a.owned; alone = a.alone; begins = a.begins; ends = a.ends; closing = or-right (p == b.queue && m == b.cur) (is_made b.queue b.cur h) a.closing }
+active_batches _ (next {h = h} l (registers p name sub t i none f g)) id b is = of (p == b.queue && bytes_eq b.consumer name) refl (active_batches h l id b is)
+  where
+    of : (x : Bool) → (p == b.queue && bytes_eq b.consumer name) ≡ x → IsActive h id b
+        → IsActiveFor (if x then Some sub else subscription_id b.queue b.consumer h) (if x then None else active b.queue b.consumer h)
+        (if x then t else position b.queue b.consumer h) (is_made b.queue b.cur h) id b
+    of true test a =
+        let unregistered : subscription_id b.queue b.consumer h ≡ None = same_consumer (λ q c. subscription_id q c h) p b.queue name b.consumer test ∙ none in
+        let registered : subscription_id b.queue b.consumer h ≡ Some b.sub = a.owned in
+        absurd (cc)
+    of false test a = a
+active_batches _ (next {h = h} l (opens new o)) id b is = of (new.id == id) refl (active_batches h l id b) is
+  where
+    Now : Batch → Type 0
+    Now b = IsActiveFor (subscription_id b.queue b.consumer h) (if new.queue == b.queue && bytes_eq b.consumer new.consumer then Some new.id else active b.queue b.consumer h)
+        (position b.queue b.consumer h) (is_made b.queue b.cur h) id b
+
+    old : (x : Bool) → (new.queue == b.queue && bytes_eq b.consumer new.consumer) ≡ x → IsActive h id b
+        → IsActiveFor (subscription_id b.queue b.consumer h) (if x then Some new.id else active b.queue b.consumer h)
+        (position b.queue b.consumer h) (is_made b.queue b.cur h) id b
+    old true test a =
+        let parts = subscription_parts (subscription_id new.queue new.consumer h) (position new.queue new.consumer h) (active new.queue new.consumer h) _ o.stands in
+        let idle : active b.queue b.consumer h ≡ None = same_consumer (λ q c. active q c h) new.queue b.queue new.consumer b.consumer test ∙ parts.2 in
+        let busy : active b.queue b.consumer h ≡ Some b.id = a.alone in
+        absurd (cc)
+    old false test a = a
+
+    of : (x : Bool) → (new.id == id) ≡ x → (active_batch id h ≡ Some b → IsActive h id b) → (if x then Some new else active_batch id h) ≡ Some b → Now b
+    of true test ih is =
+        let one : new ≡ b = ap (λ o. unwrap_or o new) is in
+        let same : new.id ≡ id = grind (arith, nat_tests) in
+        let fresh = new_batch h new o in
+        subst Now one (record { named = same; owned = fresh.owned; alone = fresh.alone; begins = fresh.begins; ends = fresh.ends; closing = fresh.closing })
+    of false test ih is = old (new.queue == b.queue && bytes_eq b.consumer new.consumer) refl (ih is)
+active_batches _ (next {h = h} l (closes last e)) id b is = of (last.id == id) refl (active_batches h l id b) (active_batches h l last.id last e) is
+  where
+    old : (x : Bool) → (last.queue == b.queue && bytes_eq b.consumer last.consumer) ≡ x → (last.id == id) ≡ false → IsActive h id b → IsActive h last.id last
+        → IsActiveFor (subscription_id b.queue b.consumer h) (if x then None else active b.queue b.consumer h)
+        (if x then last.cur else position b.queue b.consumer h) (is_made b.queue b.cur h) id b
+    old true test other a c =
+        let both : Some b.id ≡ Some last.id = sym a.alone ∙ same_consumer (λ q n. active q n h) last.queue b.queue last.consumer b.consumer test ∙ c.alone in
+        let one : b.id ≡ last.id = ap (λ o. unwrap_or o b.id) both in
+        let named : b.id ≡ id = a.named in
+        absurd (grind (arith, nat_tests))
+    old false test other a c = a
+
+    of : (x : Bool) → (last.id == id) ≡ x → (active_batch id h ≡ Some b → IsActive h id b) → IsActive h last.id last → (if x then None else active_batch id h) ≡ Some b
+        → IsActiveFor (subscription_id b.queue b.consumer h) (if last.queue == b.queue && bytes_eq b.consumer last.consumer then None else active b.queue b.consumer h)
+        (if last.queue == b.queue && bytes_eq b.consumer last.consumer then last.cur else position b.queue b.consumer h) (is_made b.queue b.cur h) id b
+    of true test ih c is = absurd (cc)
+    of false test ih c is = old (last.queue == b.queue && bytes_eq b.consumer last.consumer) refl test (ih is) c

@@ -1,0 +1,120 @@
+-- Ticks are in order: what had committed at one had committed at each later one.
+use Rattle.std.proofs.Common.{◌≡◌, ℕ, ◌<◌, List, [], ◌∷◌, ◌++◌, Bool, true, false, ◌&&◌, ◌||◌, ◌==◌, Some, None, is_some, refl, sym, ◌∙◌, ap, subst, arith, if◌then◌else◌}
+use Rattle.std.proofs.lemmas.Bool.Decides.{nat_tests}
+use Rattle.sky_model.specs.History.{began, ended, block_begun, block_failed, block_ended, queued, made, raised, put, ticked, registered, opened, closed, History}
+use Rattle.sky_model.specs.Transactions.{has_committed, snapshot}
+use Rattle.sky_model.specs.Queues.{Tick, ticks, tick, newest_tick, at_tick}
+use Rattle.sky_model.specs.StepQueue.{id_of}
+use Rattle.sky_model.proofs.Legal.{begins, ends, begins_block, fails_block, ends_block, makes, raises, puts, ticks_next, registers, opens, closes, Legal, start, next}
+use Rattle.sky_model.proofs.Ticks.{none_above}
+
+-- a queue's tick is made
+abbrev pub is_made : ℕ → ℕ → History → Bool
+is_made q id [] = false
+is_made q id (queued (ticked p m time seq) ∷ h) = (p == q && m == id) || is_made q id h
+is_made q id (_ ∷ h) = is_made q id h
+
+tick-push : (id : ℕ) (ts : List Tick) (t : Tick) → is_some (tick id (ts ++ t ∷ [])) ≡ (t.id == id || is_some (tick id ts))
+tick-push id [] t = of (t.id == id)
+  where
+    of : (b : Bool) → is_some (if b then Some t else None) ≡ (b || false)
+    of true = refl
+    of false = refl
+tick-push id (u ∷ ts) t = of (u.id == id) (tick-push id ts t)
+  where
+    of : (b : Bool) → is_some (tick id (ts ++ t ∷ [])) ≡ (t.id == id || is_some (tick id ts))
+        → is_some (if b then Some u else tick id (ts ++ t ∷ [])) ≡ (t.id == id || is_some (if b then Some u else tick id ts))
+    of true ih = or_true (t.id == id)
+      where
+        or_true : (b : Bool) → true ≡ (b || true)
+        or_true true = refl
+        or_true false = refl
+    of false ih = ih
+
+-- so it is among the queue's ticks
+pub is_made-tick : (h : History) (q id : ℕ) → is_some (tick id (ticks q h)) ≡ is_made q id h
+is_made-tick [] q id = refl
+is_made-tick (began who t ∷ h) q id = is_made-tick h q id
+is_made-tick (ended who t c ∷ h) q id = is_made-tick h q id
+is_made-tick (block_begun who ∷ h) q id = is_made-tick h q id
+is_made-tick (block_failed who ∷ h) q id = is_made-tick h q id
+is_made-tick (block_ended who ∷ h) q id = is_made-tick h q id
+is_made-tick (queued (made name) ∷ h) q id = is_made-tick h q id
+is_made-tick (queued (raised p value) ∷ h) q id = is_made-tick h q id
+is_made-tick (queued (put p event) ∷ h) q id = is_made-tick h q id
+is_made-tick (queued (ticked p m time seq) ∷ h) q id = of (p == q) (is_made-tick h q id)
+  where
+    new : Tick
+    new = record { id = m; time = time; snapshot = snapshot h; seq = seq }
+
+    of : (b : Bool) → is_some (tick id (ticks q h)) ≡ is_made q id h
+        → is_some (tick id (if b then ticks q h ++ new ∷ [] else ticks q h)) ≡ ((b && m == id) || is_made q id h)
+    of true ih = tick-push id (ticks q h) new ∙ ap (λ c. m == id || c) ih
+    of false ih = ih
+is_made-tick (queued (registered p name sub t) ∷ h) q id = is_made-tick h q id
+is_made-tick (queued (opened b) ∷ h) q id = is_made-tick h q id
+is_made-tick (queued (closed b) ∷ h) q id = is_made-tick h q id
+
+-- a tick with an id above the newest one's isn't made
+unmade_above : (h : History) → Legal h → (q id : ℕ) → id_of (newest_tick (ticks q h)) < id → is_made q id h ≡ false
+unmade_above h l q id above = sym (is_made-tick h q id) ∙ ap is_some (none_above h l q id above)
+
+-- what had committed at a tick has committed
+committed_since : (h : History) (q id t : ℕ) → has_committed (at_tick q id h) t ≡ true → has_committed h t ≡ true
+committed_since [] q id t e = e
+committed_since (began who u ∷ h) q id t e = committed_since h q id t e
+committed_since (ended who u true ∷ h) q id t e = of (t == u) (committed_since h q id t e)
+  where
+    of : (b : Bool) → has_committed h t ≡ true → (b || has_committed h t) ≡ true
+    of true ih = refl
+    of false ih = ih
+committed_since (ended who u false ∷ h) q id t e = committed_since h q id t e
+committed_since (block_begun who ∷ h) q id t e = committed_since h q id t e
+committed_since (block_failed who ∷ h) q id t e = committed_since h q id t e
+committed_since (block_ended who ∷ h) q id t e = committed_since h q id t e
+committed_since (queued (made name) ∷ h) q id t e = committed_since h q id t e
+committed_since (queued (raised p value) ∷ h) q id t e = committed_since h q id t e
+committed_since (queued (put p event) ∷ h) q id t e = committed_since h q id t e
+committed_since (queued (ticked p m time seq) ∷ h) q id t e = of (p == q && m == id) (committed_since h q id t) e
+  where
+    of : (b : Bool) → (has_committed (at_tick q id h) t ≡ true → has_committed h t ≡ true) → has_committed (if b then h else at_tick q id h) t ≡ true → has_committed h t ≡ true
+    of true ih e = e
+    of false ih e = ih e
+committed_since (queued (registered p name sub tick) ∷ h) q id t e = committed_since h q id t e
+committed_since (queued (opened b) ∷ h) q id t e = committed_since h q id t e
+committed_since (queued (closed b) ∷ h) q id t e = committed_since h q id t e
+
+-- a transaction that had committed at one tick had committed at another
+abbrev pub Grows : History → ℕ → ℕ → ℕ → ℕ → Type 0
+Grows h q from to t = has_committed (at_tick q from h) t ≡ true → has_committed (at_tick q to h) t ≡ true
+
+-- what had committed at a tick had at each later one that is made
+pub committed_later : (h : History) → Legal h → (q from to t : ℕ) → from < to → is_made q to h ≡ true → Grows h q from to t
+committed_later [] start q from to t less there = absurd (cc)
+committed_later _ (next {h = h} l (begins who e)) q from to t less there = committed_later h l q from to t less there
+committed_later _ (next {h = h} l (ends who u c mine)) q from to t less there = committed_later h l q from to t less there
+committed_later _ (next {h = h} l (begins_block who e)) q from to t less there = committed_later h l q from to t less there
+committed_later _ (next {h = h} l (fails_block who e f)) q from to t less there = committed_later h l q from to t less there
+committed_later _ (next {h = h} l (ends_block who e)) q from to t less there = committed_later h l q from to t less there
+committed_later _ (next {h = h} l (makes name new)) q from to t less there = committed_later h l q from to t less there
+committed_later _ (next {h = h} l (raises p v i e)) q from to t less there = committed_later h l q from to t less there
+committed_later _ (next {h = h} l (puts who p e i s o)) q from to t less there = committed_later h l q from to t less there
+committed_later _ (next {h = h} l (ticks_next p m time seq i above)) q from to t less there =
+    of (p == q) refl (m == from) refl (m == to) refl (committed_later h l q from to t less) there
+  where
+    of : (b : Bool) → (p == q) ≡ b → (x : Bool) → (m == from) ≡ x → (y : Bool) → (m == to) ≡ y
+        → (is_made q to h ≡ true → Grows h q from to t) → ((b && y) || is_made q to h) ≡ true
+        → has_committed (if b && x then h else at_tick q from h) t ≡ true → has_committed (if b && y then h else at_tick q to h) t ≡ true
+    of false isq x isx y isy ih there e = ih there e
+    of true isq true isx true isy ih there e = absurd (grind (arith, nat_tests))
+    of true isq true isx false isy ih there e =
+        let same : p ≡ q = grind (arith, nat_tests) in
+        let at : m ≡ from = grind (arith, nat_tests) in
+        let newest : id_of (newest_tick (ticks q h)) < m = subst (λ n. id_of (newest_tick (ticks n h)) < m) same above in
+        let not_yet : is_made q to h ≡ false = unmade_above h l q to (omega arith) in
+        absurd (cc)
+    of true isq false isx true isy ih there e = committed_since h q from t e
+    of true isq false isx false isy ih there e = ih there e
+committed_later _ (next {h = h} l (registers p name sub tick i e f g)) q from to t less there = committed_later h l q from to t less there
+committed_later _ (next {h = h} l (opens b e)) q from to t less there = committed_later h l q from to t less there
+committed_later _ (next {h = h} l (closes b e)) q from to t less there = committed_later h l q from to t less there

@@ -1,0 +1,56 @@
+-- The laws on the batches that a consumer finishes, at each place of each history that calls make.
+use Rattle.std.specs.Prelude.{◌≡◌, ℕ, ◌+◌, List, [], ◌∷◌, ◌++◌, Bool, not, ◌&&◌, Some, ◌==◌, bytes_eq, length, filter, if◌then◌else◌}
+use Rattle.sky_val.specs.declared.event.Event.{Event}
+use Rattle.sky_model.specs.History.{Batch, queued, registered, closed, History}
+use Rattle.sky_model.specs.Transactions.{has_committed}
+use Rattle.sky_model.specs.Queues.{events, at_tick}
+use Rattle.sky_model.specs.Consumers.{subscription_id, position}
+use Rattle.sky_model.specs.Batches.{is_for, by_id, batch_events}
+use Rattle.sky_model.specs.LawsOfSnapshots.{IsPlace}
+
+-- the tick at which a consumer of a queue registered
+abbrev pub first_tick : ℕ → List ℕ → History → ℕ
+first_tick queue consumer [] = 0
+first_tick queue consumer (queued (registered q name sub tick) ∷ h) =
+    if q == queue && bytes_eq consumer name then tick else first_tick queue consumer h
+first_tick queue consumer (_ ∷ h) = first_tick queue consumer h
+
+-- the batches that it has finished since it registered, in the order of finishing
+abbrev pub finished : ℕ → List ℕ → History → List Batch
+finished queue consumer [] = []
+finished queue consumer (queued (registered q name sub tick) ∷ h) =
+    if q == queue && bytes_eq consumer name then [] else finished queue consumer h
+finished queue consumer (queued (closed batch) ∷ h) =
+    if batch.queue == queue && bytes_eq consumer batch.consumer then finished queue consumer h ++ batch ∷ [] else finished queue consumer h
+finished queue consumer (_ ∷ h) = finished queue consumer h
+
+-- batches lead from a tick to a tick: each begins where the one before closed, and closes at the next tick
+abbrev pub Lead : ℕ → List Batch → ℕ → Type 0
+Lead from [] to = from ≡ to
+Lead from (b ∷ bs) to = (b.prev ≡ from) × (b.cur ≡ b.prev + 1) × Lead b.cur bs to
+
+-- a consumer's finished batches lead from the tick at which it registered to its position
+abbrev pub BatchesAreConsecutive : Type 0
+BatchesAreConsecutive = (p : History) → IsPlace p → (queue : ℕ) (consumer : List ℕ)
+    → Lead (first_tick queue consumer p) (finished queue consumer p) (position queue consumer p)
+
+-- an event stands between two ticks of a queue for a subscription: its transaction had committed when
+-- the later tick was made, and hadn't when the earlier one was
+abbrev pub stands_between : History → ℕ → ℕ → ℕ → ℕ → Event → Bool
+stands_between h queue sub from to e =
+    has_committed (at_tick queue to h) e.ev_txid && not (has_committed (at_tick queue from h) e.ev_txid) && is_for sub e.ev_owner
+
+-- an event stands in a batch
+abbrev pub stands_in : History → Batch → Event → Bool
+stands_in h b e = stands_between h b.queue b.sub b.prev b.cur e
+
+-- a batch lists the events of its queue that stand in it
+abbrev pub BatchesListWhatStands : Type 0
+BatchesListWhatStands = (h : History) (b : Batch) → batch_events h b ≡ by_id (filter (stands_in h b) (events b.queue h))
+
+-- an event stands in one of a consumer's finished batches, and in one alone, where it stands between the
+-- tick at which the consumer registered and its position, else in none
+abbrev pub EventsAreListedOnce : Type 0
+EventsAreListedOnce = (p : History) → IsPlace p → (queue : ℕ) (consumer : List ℕ) (sub : ℕ) → subscription_id queue consumer p ≡ Some sub
+    → (e : Event) → length (filter (λ b. stands_in p b e) (finished queue consumer p))
+    ≡ (if stands_between p queue sub (first_tick queue consumer p) (position queue consumer p) e then 1 else 0)

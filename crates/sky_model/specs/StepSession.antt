@@ -1,0 +1,53 @@
+-- What the statements on sessions and transactions do. Each reads the database `d` as it stands.
+use Rattle.std.specs.Prelude.{ℕ, List, [], ◌∷◌, ◌++◌, Bool, true, false, Option}
+use Rattle.sky_txid.specs.Snapshot.{snapshot_of, sees}
+use Rattle.sky_txid.specs.SnapshotText.{parse_snapshot}
+use Rattle.sky_model.specs.declared.reply.Reply as reply
+use Rattle.sky_model.specs.declared.reply.Reply.TheVariants.{Number, AlreadyInTransaction, NoTransaction, Snapshot}
+use Rattle.sky_model.specs.declared.reply.Refusal.TheVariants.{BadSnapshot}
+use Rattle.sky_model.specs.History.{Mark, block_begun, block_ended}
+use Rattle.sky_model.specs.Sessions.{Block, outside, inside, failed}
+use Rattle.sky_model.specs.State.{Database}
+use Rattle.sky_model.specs.Outcome.{Outcome, Checked, ◌>>=◌, found_or, answers, does_marks, end_of}
+use Rattle.sky_model.specs.StepQueue.{txid_for, written}
+
+-- `begin`
+abbrev pub begin : ℕ → Block → Checked Outcome
+begin who outside = does_marks reply.TheVariants.Begin (block_begun who ∷ [])
+begin who _ = answers AlreadyInTransaction
+
+-- the end of a block, with its transaction
+abbrev pub leaves : Bool → ℕ → Option ℕ → List Mark
+leaves committed who txid = end_of committed who txid ++ block_ended who ∷ []
+
+-- `commit`: an aborted block is rolled back
+abbrev pub commit : ℕ → Option ℕ → Block → Checked Outcome
+commit who txid outside = answers NoTransaction
+commit who txid inside = does_marks reply.TheVariants.Commit (leaves true who txid)
+commit who txid failed = does_marks reply.TheVariants.Rollback (leaves false who txid)
+
+-- `rollback`
+abbrev pub rollback : ℕ → Option ℕ → Block → Checked Outcome
+rollback who txid outside = answers NoTransaction
+rollback who txid _ = does_marks reply.TheVariants.Rollback (leaves false who txid)
+
+-- `close`: a block is rolled back
+abbrev pub close : ℕ → Option ℕ → Block → Checked Outcome
+close who txid outside = answers reply.TheVariants.Done
+close who txid _ = does_marks reply.TheVariants.Done (leaves false who txid)
+
+-- `txid_current`: the transaction gets its id, where it has none
+abbrev pub txid_current : Database → ℕ → Checked Outcome
+txid_current d who = do
+  t ← txid_for d who
+  does_marks (Number t) (written who t (d.session who) [])
+
+-- `txid_current_snapshot`
+abbrev pub txid_current_snapshot : Database → Checked Outcome
+txid_current_snapshot d = answers (Snapshot (snapshot_of d.next d.running_ids))
+
+-- `txid_visible_in_snapshot N RAW`
+abbrev pub txid_visible_in_snapshot : ℕ → List ℕ → Checked Outcome
+txid_visible_in_snapshot t text = do
+  s ← found_or (parse_snapshot text) BadSnapshot
+  answers (reply.TheVariants.Bool (sees s t))

@@ -1,0 +1,134 @@
+ghost use Rattle.std.specs.Prelude.{◌≡◌, true, None, IfOk};
+
+use sky_val::{Event, Text, copy_option};
+use std::alloc::{AllocError, Global};
+use std::marker::Model;
+
+/// An event as a queue keeps it: what most events lack is apart, and takes no room where it is missing.
+#[derive(Drop)]
+pub struct Stored {
+    ev_id: u64,
+    ev_time: i64,
+    ev_txid: u64,
+    ev_type: Option<Text>,
+    ev_data: Option<Text>,
+    rest: Option<Box<Rest>>,
+}
+
+/// What few events have.
+#[derive(Drop)]
+struct Rest {
+    ev_owner: Option<u64>,
+    ev_retry: Option<u64>,
+    ev_extra1: Option<Text>,
+    ev_extra2: Option<Text>,
+    ev_extra3: Option<Text>,
+    ev_extra4: Option<Text>,
+}
+
+impl Model for Stored {
+    ghost use Rattle.sky_val.specs.declared.event.Event.{Event};
+
+    ghost Value = { Event };
+
+    ghost use Rattle.std.specs.Prelude.{option_and_then};
+
+    ghost view = { λ s. record {
+      ev_id = s.ev_id;
+      ev_time = s.ev_time;
+      ev_txid = s.ev_txid;
+      ev_owner = option_and_then (λ rest. rest.value.ev_owner) s.rest;
+      ev_retry = option_and_then (λ rest. rest.value.ev_retry) s.rest;
+      ev_type = s.ev_type;
+      ev_data = s.ev_data;
+      ev_extra1 = option_and_then (λ rest. rest.value.ev_extra1) s.rest;
+      ev_extra2 = option_and_then (λ rest. rest.value.ev_extra2) s.rest;
+      ev_extra3 = option_and_then (λ rest. rest.value.ev_extra3) s.rest;
+      ev_extra4 = option_and_then (λ rest. rest.value.ev_extra4) s.rest;
+    } };
+}
+
+impl Rest {
+    fn is_empty(&self) -> bool
+        ensures { result ≡ true → self.now ≡ record { ev_owner = None; ev_retry = None; ev_extra1 = None; ev_extra2 = None; ev_extra3 = None; ev_extra4 = None } }
+    {
+        self.ev_owner.is_none()
+            && self.ev_retry.is_none()
+            && self.ev_extra1.is_none()
+            && self.ev_extra2.is_none()
+            && self.ev_extra3.is_none()
+            && self.ev_extra4.is_none()
+    }
+}
+
+impl Stored {
+    /// Takes an event's texts over.
+    pub fn new(alloc: Global, event: Event) -> Result<Stored, AllocError>
+        ensures { IfOk result (λ stored. stored ≡ event) }
+    {
+        let rest = Rest {
+            ev_owner: event.ev_owner,
+            ev_retry: event.ev_retry,
+            ev_extra1: event.ev_extra1,
+            ev_extra2: event.ev_extra2,
+            ev_extra3: event.ev_extra3,
+            ev_extra4: event.ev_extra4,
+        };
+        let rest = if rest.is_empty() {
+            None
+        } else {
+            Some(Box::new(alloc, rest)?)
+        };
+        Ok(Stored {
+            ev_id: event.ev_id,
+            ev_time: event.ev_time,
+            ev_txid: event.ev_txid,
+            ev_type: event.ev_type,
+            ev_data: event.ev_data,
+            rest,
+        })
+    }
+
+    pub fn txid(&self) -> u64
+        ensures { result ≡ self.now.ev_txid }
+    {
+        self.ev_txid
+    }
+
+    pub fn owner(&self) -> Option<u64>
+        ensures { result ≡ self.now.ev_owner }
+    {
+        match &self.rest {
+            Some(rest) => rest.ev_owner,
+            None => None,
+        }
+    }
+
+    /// An equal event.
+    pub fn event(&self, alloc: Global) -> Result<Event, AllocError>
+        ensures { IfOk result (λ event. event ≡ self.now) }
+    {
+        let mut event = Event {
+            ev_id: self.ev_id,
+            ev_time: self.ev_time,
+            ev_txid: self.ev_txid,
+            ev_owner: None,
+            ev_retry: None,
+            ev_type: copy_option(alloc, &self.ev_type)?,
+            ev_data: copy_option(alloc, &self.ev_data)?,
+            ev_extra1: None,
+            ev_extra2: None,
+            ev_extra3: None,
+            ev_extra4: None,
+        };
+        if let Some(rest) = &self.rest {
+            event.ev_owner = rest.ev_owner;
+            event.ev_retry = rest.ev_retry;
+            event.ev_extra1 = copy_option(alloc, &rest.ev_extra1)?;
+            event.ev_extra2 = copy_option(alloc, &rest.ev_extra2)?;
+            event.ev_extra3 = copy_option(alloc, &rest.ev_extra3)?;
+            event.ev_extra4 = copy_option(alloc, &rest.ev_extra4)?;
+        }
+        Ok(event)
+    }
+}
