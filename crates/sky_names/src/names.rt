@@ -1,4 +1,4 @@
-ghost use Rattle.std.specs.Prelude.{◌≡◌, ◌+◌, ◌-◌, ◌^◌, ◌<◌, ◌↔◌, [], ◌∷◌, ◌++◌, length, slice_get, option_copied, IsTrue, IfOk, OnOk, OnErr};
+ghost use Rattle.std.specs.Prelude.{◌≡◌, ◌-◌, ◌^◌, ◌<◌, ◌↔◌, [], ◌∷◌, ◌++◌, length, IsTrue, IfOk, OnOk, OnErr};
 ghost use Rattle.sky_names.specs.Places.{place_of, Distinct};
 
 use indexmap::IndexSet;
@@ -61,18 +61,11 @@ impl Names {
         self.texts.len()
     }
 
+    /// Whether there is no name.
     pub fn is_empty(&self) -> bool
         ensures { IsTrue result ↔ (self.now ≡ []) }
     {
         self.len() == 0
-    }
-
-    /// The name with this number, if there is one.
-    pub fn name(&self, number: u32) -> Option<&Text>
-        ensures name { option_copied result ≡ slice_get self.now number }
-        ensures distinct { Distinct self.now }
-    {
-        self.as_slice().get(number as usize)
     }
 
     /// All the names, each at the place that is its number.
@@ -102,9 +95,8 @@ mod tests {
 
         assert_eq!(rt; (first, second), (0, 1));
         assert_eq!(rt; names.number(&beta), Some(1));
-        assert!(rt; names.name(0) == Some(&alpha));
-        assert!(rt; names.name(2).is_none());
-        assert_eq!(rt; names.as_slice().len(), names.len());
+        assert!(rt; names.as_slice() == [alpha, beta].as_slice());
+        assert_eq!(rt; (names.len(), names.is_empty()), (2, false));
         Ok(())
     }
 }

@@ -1,10 +1,11 @@
 -- What is true of every `Trans`, part by part.
-use Rattle.std.proofs.Common.{◌≡◌, ℕ, ◌+◌, ◌^◌, ◌<◌, ◌≤◌, true, false, List, [], ◌∷◌, ◌++◌, not, Result, Ok, Err, is_ok, sym, ◌∙◌, ap, arith}
-use Rattle.std.specs.Prelude.{◌&&◌, ◌==◌, nat_le, slice_get, IfSome}
+use Rattle.std.proofs.Common.{◌≡◌, ℕ, ◌+◌, ◌^◌, ◌<◌, ◌≤◌, true, false, List, [], ◌∷◌, ◌++◌, not, Result, Ok, Err, is_ok, refl, sym, ◌∙◌, ap, arith, ltb-true}
+use Rattle.std.specs.Prelude.{◌&&◌, ◌||◌, ◌==◌, nat_le, nat_lt, slice_get, IfSome}
 use Rattle.std.specs.List.{filter, remove, All}
 use Rattle.std.specs.List.Sorted.{IsBinarySearchResult}
 use Rattle.std.specs.Ordering.{nat_cmp}
 use Rattle.std.proofs.lemmas.Result.{MatchResult-at_ok}
+use Rattle.std.proofs.lemmas.Bool.Decides.{nat_tests}
 use Rattle.std.proofs.lemmas.Bool.{and_parts, and_from, leb-true, le-leb}
 use Rattle.std.proofs.lemmas.List.Elements.{All-from_get_or}
 use Rattle.sky_txid.specs.Ids.{contains, rises_within}
@@ -27,6 +28,20 @@ pub is_trans_from : (next : ℕ) (running : List ℕ) → 3 ≤ next → next �
 is_trans_from next running first last rises =
     and_from (nat_le 3 next) (nat_le next (2 ^ 62) && rises_within 3 next running) (le-leb 3 next first)
     (and_from (nat_le next (2 ^ 62)) (rises_within 3 next running) (le-leb next (2 ^ 62) last) rises)
+
+-- what rises below a number doesn't contain it
+contains-above : (low high : ℕ) (ids : List ℕ) → rises_within low high ids ≡ true → contains high ids ≡ false
+contains-above low high [] h = refl
+contains-above low high (t ∷ ts) h =
+    let outer = and_parts (nat_le low t) (nat_lt t high && rises_within (t + 1) high ts) h in
+    let inner = and_parts (nat_lt t high) (rises_within (t + 1) high ts) outer.1 in
+    let below : t < high = ltb-true t high inner.0 in
+    let other : (high == t) ≡ false = grind (arith, nat_tests) in
+    ap (λ b. b || contains high ts) other ∙ contains-above (t + 1) high ts inner.1
+
+-- the next id doesn't run
+pub next_is_fresh : (trans : TransView) → is_trans trans ≡ true → contains trans.next trans.running ≡ false
+next_is_fresh trans h = contains-above 3 trans.next trans.running (sound trans h).rises
 
 -- after the next id was given
 pub sound_assigned : (trans : TransView) (running : List ℕ) → is_trans trans ≡ true → trans.next < 2 ^ 62 → running ≡ trans.running ++ trans.next ∷ [] → is_trans (record { next = trans.next + 1; running = running }) ≡ true

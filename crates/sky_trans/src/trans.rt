@@ -1,4 +1,4 @@
-ghost use Rattle.std.specs.Prelude.{◌≡◌, ◌==◌, ◌↔◌, ◌+◌, ◌^◌, ◌≤◌, [], ◌∷◌, ◌++◌, not, slice_get, IsTrue, IfOk, IfSome, OnOk, OnErr};
+ghost use Rattle.std.specs.Prelude.{◌≡◌, ◌==◌, ◌↔◌, ◌+◌, ◌^◌, ◌<◌, ◌≤◌, [], ◌∷◌, ◌++◌, false, not, slice_get, IsTrue, IfOk, IfSome, OnOk, OnErr};
 ghost use Rattle.std.specs.List.{filter, All};
 ghost use Rattle.sky_txid.specs.Ids.{contains};
 ghost use Rattle.sky_txid.specs.Snapshot.{snapshot_of};
@@ -22,6 +22,7 @@ pub enum TransFault {
     /// The last id, 2^62 - 1, was given.
     #[error("all transaction ids were given")]
     TxidsSpent,
+    /// Memory was refused.
     #[error("out of memory")]
     NoMemory,
 }
@@ -39,6 +40,7 @@ impl From<AllocFailed<u64>> for TransFault {
 /// The transactions that have begun.
 #[derive(Debug, Drop)]
 pub struct Trans {
+    alloc: Global,
     next: u64,
     running: Vec<u64>,
 }
@@ -61,6 +63,7 @@ impl Trans {
         ensures { result ≡ record { next = 3; running = [] } }
     {
         Trans {
+            alloc,
             next: FIRST_TXID,
             running: Vec::new(alloc),
         }
@@ -69,12 +72,13 @@ impl Trans {
     /// Begins a transaction: gives it the next id.
     pub fn assign(&mut self) -> Result<u64, TransFault>
         ensures id { IfOk result (λ t. t ≡ self.old.next) }
+        ensures fresh { IfOk result (λ t. contains t self.old.running ≡ false) }
         ensures ok { let t = self.old.next in
             OnOk result (self.new ≡ record { next = t + 1; running = self.old.running ++ t ∷ [] }) }
         ensures spent { (result ≡ Err TransFault.TxidsSpent) ↔ (2 ^ 62 ≤ self.old.next) }
         ensures err { OnErr result (self.new ≡ self.old) }
     {
-        if self.next >= TXID_END {
+        if !self.id_left() {
             return Err(TransFault::TxidsSpent);
         }
         let t = self.next;
@@ -99,6 +103,7 @@ impl Trans {
         self.end(t);
     }
 
+    /// Takes the id out of those that run.
     fn end(&mut self, t: u64)
         requires { IsTrue (contains t self.old.running) }
         ensures { self.new ≡ record self.old { running = filter (λ u. not (u == t)) self.old.running } }
@@ -113,6 +118,13 @@ impl Trans {
         ensures { result ≡ contains t self.now.running }
     {
         self.running.binary_search(&t).is_ok()
+    }
+
+    /// Whether there is an id for the next transaction.
+    pub fn id_left(&self) -> bool
+        ensures { IsTrue result ↔ (self.now.next < 2 ^ 62) }
+    {
+        self.next < TXID_END
     }
 
     /// The id that the next transaction gets, or the number at which the ids are spent.
@@ -132,10 +144,10 @@ impl Trans {
     }
 
     /// Which transactions have ended.
-    pub fn snapshot(&self, alloc: Global) -> Result<Snapshot, NoMemory>
+    pub fn snapshot(&self) -> Result<Snapshot, NoMemory>
         ensures { IfOk result (λ snapshot. snapshot ≡ snapshot_of self.now.next self.now.running) }
     {
-        Snapshot::of(alloc, self.next, &self.running)
+        Snapshot::of(self.alloc, self.next, &self.running)
     }
 }
 
@@ -153,10 +165,10 @@ mod tests {
         let other = trans.assign()?;
         trans.commit(other);
         let mut printed = Vec::new(rt.alloc());
-        trans.snapshot(rt.alloc())?.print(&mut printed)?;
+        trans.snapshot()?.print(&mut printed)?;
         assert_eq!(rt; (trans.least(), trans.running(other)), (Some(held), false));
         trans.abort(held);
-        trans.snapshot(rt.alloc())?.print(&mut printed)?;
+        trans.snapshot()?.print(&mut printed)?;
         assert!(rt; printed.as_slice() == b"4:6:46:6:".as_slice());
         Ok(())
     }

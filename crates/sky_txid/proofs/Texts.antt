@@ -1,7 +1,6 @@
 -- Texts that grow at their end.
-use Rattle.std.proofs.Common.{◌≡◌, ℕ, zero, suc, ◌+◌, ◌/◌, ◌%◌, ◌^◌, ◌<◌, ◌≤◌, List, [], ◌∷◌, ◌++◌, length, take, get_or, map, sym, refl, ◌∙◌, ap, arith, append_assoc, append-nil}
+use Rattle.std.proofs.Common.{◌≡◌, ℕ, zero, suc, ◌+◌, ◌<◌, ◌≤◌, List, [], ◌∷◌, ◌++◌, length, take, get_or, map, sym, refl, ◌∙◌, ap, arith, append_assoc, append-nil}
 use Rattle.std.proofs.lemmas.List.{take_more, map-append}
-use Rattle.std.proofs.lemmas.Fmt.{decimal_step, decimal_digit}
 use Rattle.std.specs.Fmt.{decimal}
 use Rattle.std.specs.List.{join_with_byte}
 use Rattle.sky_txid.specs.SnapshotText.{comma}
@@ -38,23 +37,6 @@ list_text_more (t ∷ ts) (suc i) pos lt =
     ap (λ ids. join_with_byte comma (map decimal ids)) (take_more (t ∷ ts) (suc i) 0 lt)
     ∙ ap (λ pieces. join_with_byte comma (decimal t ∷ pieces)) (map-append decimal (take i ts) (get_or ts i 0 ∷ []))
     ∙ join-push comma (decimal t) (map decimal (take i ts)) (decimal (get_or ts i 0))
-
--- a number whose last digit is written behind the others, and one of a single digit
-pub last_digit : (into mid new : List ℕ) (n : ℕ) → n < 2 ^ 64 → new ≡ mid ++ (48 + n % 10) ∷ [] → 10 ≤ n → mid ≡ into ++ decimal (n / 10) → new ≡ into ++ decimal n
-last_digit into mid new n small pushed ge front =
-    pushed ∙ ap (λ text. text ++ (48 + n % 10) ∷ []) front ∙ append_assoc into (decimal (n / 10)) ((48 + n % 10) ∷ [])
-    ∙ ap (λ text. into ++ text) (sym (decimal_step n ge small))
-
-pub only_digit : (into mid new : List ℕ) (n : ℕ) → new ≡ mid ++ (48 + n % 10) ∷ [] → n < 10 → mid ≡ into → new ≡ into ++ decimal n
-only_digit into mid new n pushed lt is =
-    pushed ∙ ap (λ text. text ++ (48 + n % 10) ∷ []) is ∙ ap (λ digit. into ++ (48 + digit) ∷ []) (mod-lt n lt) ∙ ap (λ text. into ++ text) (sym (decimal_digit n lt))
-  where
-    mod-lt : (n : ℕ) → n < 10 → n % 10 ≡ n
-    mod-lt n lt = omega arith
-
--- a comma behind a text that is the old one and more
-pub comma_behind : (old more mid new : List ℕ) → mid ≡ old ++ more → new ≡ mid ++ comma ∷ [] → new ≡ old ++ (more ++ comma ∷ [])
-comma_behind old more mid new is pushed = pushed ∙ ap (λ text. text ++ comma ∷ []) is ∙ append_assoc old more (comma ∷ [])
 
 -- the next id of a list's text: behind a comma, or as the first
 pub next_behind_comma : (old mid grown new ids : List ℕ) (i : ℕ) → mid ≡ old ++ join_with_byte comma (map decimal (take i ids)) → grown ≡ mid ++ comma ∷ [] → new ≡ grown ++ decimal (get_or ids i 0) → 0 < i → i < length ids

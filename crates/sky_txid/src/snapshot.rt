@@ -1,5 +1,5 @@
-ghost use Rattle.std.specs.Prelude.{◌≡◌, ◌↔◌, ◌<◌, ◌++◌, length, take, IsTrue, IfOk, OnOk, OnErr};
-ghost use Rattle.sky_txid.specs.Ids.{contains, rises_within, first_or};
+ghost use Rattle.std.specs.Prelude.{◌≡◌, ◌↔◌, ◌<◌, ◌++◌, IsTrue, IfOk, OnOk, OnErr};
+ghost use Rattle.sky_txid.specs.Ids.{rises_within, first_or};
 ghost use Rattle.sky_txid.specs.Snapshot.{is_snapshot, snapshot_of, sees, Covers};
 ghost use Rattle.sky_txid.specs.SnapshotText.{snapshot_text, parse_snapshot};
 
@@ -15,6 +15,7 @@ pub enum SnapshotFault {
     /// The text isn't `xmin:xmax:xip`, or its numbers are out of order.
     #[error("not a snapshot")]
     BadSnapshot,
+    /// Memory was refused.
     #[error("out of memory")]
     NoMemory,
 }

@@ -5,22 +5,20 @@ ghost use Rattle.sky_txid.specs.Snapshot.{SnapshotView};
 ghost use Rattle.sky_txid.specs.SnapshotText.{colon, comma, snapshot_text, parts_at, parse_number, parse_list, parse_snapshot};
 
 use crate::snapshot::SnapshotFault;
+use itoa::Buffer;
 use sky_val::NoMemory;
 use std::alloc::Global;
 
-// What appends may leave a part of its text where memory is refused. What stood in front of it stays.
-
-/// Appends the number in decimal.
+/// Appends the number in decimal. At `Err` it appends nothing.
 fn append_number(number: u64, into: &mut Vec<u8>) -> Result<(), NoMemory>
     ensures ok { OnOk result (into.new.items ≡ into.old.items ++ decimal number) }
-    ensures kept { OnErr result (take (length into.old.items) into.new.items ≡ into.old.items) }
+    ensures err { OnErr result (into.new.items ≡ into.old.items) }
 {
-    if number >= 10 {
-        append_number(number / 10, into)?;
-    }
-    into.push(b'0' + (number % 10) as u8)?;
-    Ok(())
+    into.extend_from_slice(Buffer::new().format(number).as_bytes())
 }
+
+// Each of the next two may leave a part of its text where memory is refused, behind all that stood
+// there before.
 
 /// Appends the ids in decimal, with commas between them.
 fn append_list(ids: &[u64], into: &mut Vec<u8>) -> Result<(), NoMemory>

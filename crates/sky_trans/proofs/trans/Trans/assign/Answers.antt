@@ -1,6 +1,15 @@
 -- The next id is above those that run.
-use Rattle.sky_trans.proofs.TransLemmas.{sound_assigned}
+use Rattle.std.proofs.Common.{◌≡◌, ◌<◌, ◌^◌, false, subst, sym}
+use Rattle.sky_txid.specs.Ids.{contains}
+use Rattle.sky_trans.specs.Trans.{TransView}
+use Rattle.sky_trans.proofs.TransLemmas.{sound_assigned, next_is_fresh}
 use Rattle.sky_trans.proofs.trans.Trans.assign.Goals as goal
 
 pub invariant_of-self-2 : goal.invariant_of-self-2
-invariant_of-self-2 c = sound_assigned _ _ c.self.invariant c.if-self-ge-TXID_END.false c.in_ok-push.ensures.items
+invariant_of-self-2 c =
+    let trans : TransView = record { next = c.self.inside.next; running = c.self.inside.running.items } in
+    let room : trans.next < 2 ^ 62 = subst (λ (v : TransView). v.next < 2 ^ 62) (sym c.self.view_is) (c.id_left.ensures.0 c.if-not-id_left.false) in
+    sound_assigned trans c.push.new.self.items c.self.invariant room c.in_ok-push.ensures.items
+
+pub returns-clause-fresh : goal.returns-clause-fresh
+returns-clause-fresh c = subst (λ (v : TransView). contains c.self.inside.next v.running ≡ false) c.self.view_is (next_is_fresh (record { next = c.self.inside.next; running = c.self.inside.running.items }) c.self.invariant)
