@@ -39,12 +39,12 @@ none-between : (b own : Bool) → false ≡ (b && not b && own)
 none-between true own = refl
 none-between false own = refl
 
-module _ (h : History) (l : Legal h) (queue sub : ℕ) where
+module _ (h : History) (l : Legal h) (queue : ℕ) (consumer : List ℕ) (sub : ℕ) where
   abbrev Leads : ℕ → List Batch → ℕ → Type 0
-  Leads from bs to = LeadFor queue (Some sub) (λ t. is_made queue t h) from bs to
+  Leads from bs to = LeadFor queue consumer (Some sub) (λ t. is_made queue t h) from bs to
 
   abbrev Follow : ℕ → Batch → Type 0
-  Follow from b = Follows queue (Some sub) (λ t. is_made queue t h) from b
+  Follow from b = Follows queue consumer (Some sub) (λ t. is_made queue t h) from b
 
   grows_to : (from : ℕ) (b : Batch) (t : ℕ) → Follow from b → Grows h queue from b.cur t
   grows_to from b t f =
@@ -74,6 +74,6 @@ module _ (h : History) (l : Legal h) (queue sub : ℕ) where
 
 pub events_are_listed_once : EventsAreListedOnce
 events_are_listed_once p is queue consumer sub registered e =
-    stands_once p (legal_place p is) queue sub e (first_tick queue consumer p) (finished queue consumer p) (position queue consumer p)
-    (subst (λ o. LeadFor queue o (λ t. is_made queue t p) (first_tick queue consumer p) (finished queue consumer p) (position queue consumer p)) registered
+    stands_once p (legal_place p is) queue consumer sub e (first_tick queue consumer p) (finished queue consumer p) (position queue consumer p)
+    (subst (λ o. LeadFor queue consumer o (λ t. is_made queue t p) (first_tick queue consumer p) (finished queue consumer p) (position queue consumer p)) registered
     (finished_lead p (legal_place p is) queue consumer))

@@ -12,12 +12,15 @@ pub mod Legal
 pub mod Snapshots
 pub mod Ticks
 pub mod Selecting
+pub mod OrderById
 pub mod Lawful
 pub mod SnapshotLaws
 pub mod TickOrder
 pub mod ActiveBatches
 pub mod FinishedBatches
 pub mod EventsOnce
+pub mod Listings
+pub mod WereActive
 pub mod Standing
 pub mod Splitting
 pub mod Scripts

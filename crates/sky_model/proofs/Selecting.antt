@@ -176,12 +176,15 @@ between true false true own = refl
 between true false false own = refl
 
 -- the events of a batch, by places, are those that the snapshots of its ticks select
-pub batch_events-selected : (h : History) → Legal h → (b : Batch) → batch_events h b ≡ selected (database_of h) b
-batch_events-selected h l b =
+pub batch_events-by_id : (h : History) → Legal h → (b : Batch) → batch_events h b ≡ by_id (selected (database_of h) b)
+batch_events-by_id h l b =
     ap (λ p. by_id (filter p (events b.queue h))) ((λ i e.
     committed_at_tick h l b.queue b.cur e.ev_txid i
     && not (committed_at_tick h l b.queue b.prev e.ev_txid i)
     && is_for b.sub e.ev_owner)
     ∙ (λ i e. between (sees (snapshot_at (tick b.cur (ticks b.queue h))) e.ev_txid) (sees (snapshot_at (tick b.prev (ticks b.queue h))) e.ev_txid)
     (has_rolled_back h e.ev_txid) (is_for b.sub e.ev_owner) i))
-    ∙ by_id-ordered _ (Ordered-filter 0 _ (events b.queue h) (numbered h l b.queue).0)
+
+-- and while events are stored by ids that don't fall, these are in order
+pub batch_events-selected : (h : History) → Legal h → (b : Batch) → batch_events h b ≡ selected (database_of h) b
+batch_events-selected h l b = batch_events-by_id h l b ∙ by_id-ordered _ (Ordered-filter 0 _ (events b.queue h) (numbered h l b.queue).0)

@@ -1,16 +1,17 @@
 -- The laws on snapshots hold, since each place of a history that calls make is legal.
 use Rattle.std.proofs.Common.{List, [], ◌∷◌, ◌++◌, subst}
 use Rattle.sky_model.specs.History.{Mark, History}
-use Rattle.sky_model.specs.LawsOfSnapshots.{IsPlace, SnapshotsSeeWhatHasEnded, BatchesAreSelectedBySnapshots}
+use Rattle.sky_model.specs.HistoryPlaces.{IsPlace}
+use Rattle.sky_model.specs.LawsOfSnapshots.{SnapshotsSeeWhatHasEnded, BatchesAreSelectedBySnapshots}
 use Rattle.sky_model.proofs.Legal.{Legal, next}
 use Rattle.sky_model.proofs.Lawful.{legal_past}
 use Rattle.sky_model.proofs.Snapshots.{sees-snapshot}
-use Rattle.sky_model.proofs.Selecting.{batch_events-selected}
+use Rattle.sky_model.proofs.Selecting.{batch_events-by_id}
 
-legal-below_mark : {h : History} {mark : Mark} → Legal (mark ∷ h) → Legal h
+pub legal-below_mark : {h : History} {mark : Mark} → Legal (mark ∷ h) → Legal h
 legal-below_mark (next l f) = l
 
-legal-below : (later : List Mark) (p : History) → Legal (later ++ p) → Legal p
+pub legal-below : (later : List Mark) (p : History) → Legal (later ++ p) → Legal p
 legal-below [] p l = l
 legal-below (mark ∷ later) p l = legal-below later p (legal-below_mark l)
 
@@ -21,4 +22,4 @@ pub snapshots_see_what_has_ended : SnapshotsSeeWhatHasEnded
 snapshots_see_what_has_ended p is = sees-snapshot p (legal_place p is)
 
 pub batches_are_selected_by_snapshots : BatchesAreSelectedBySnapshots
-batches_are_selected_by_snapshots p is = batch_events-selected p (legal_place p is)
+batches_are_selected_by_snapshots p is = batch_events-by_id p (legal_place p is)

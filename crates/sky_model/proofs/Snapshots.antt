@@ -27,7 +27,7 @@ pub record Sound (h : History) : Type 0 where
   pub owns : (who t : ℕ) → own_txid who h ≡ Some t → contains t (running h) ≡ true
   pub once : (v w t : ℕ) → own_txid v h ≡ Some t → own_txid w h ≡ Some t → v ≡ w
 
-contains-push : (t x : ℕ) (xs : List ℕ) → contains t (xs ++ x ∷ []) ≡ (contains t xs || t == x)
+pub contains-push : (t x : ℕ) (xs : List ℕ) → contains t (xs ++ x ∷ []) ≡ (contains t xs || t == x)
 contains-push t x [] = of (t == x)
   where
     of : (b : Bool) → (b || false) ≡ (false || b)
@@ -39,7 +39,7 @@ contains-push t x (y ∷ ys) = ap (λ b. t == y || b) (contains-push t x ys) ∙
     of true b c = refl
     of false b c = refl
 
-contains-filter : (t x : ℕ) (xs : List ℕ) → contains t (filter (λ u. not (u == x)) xs) ≡ (contains t xs && not (t == x))
+pub contains-filter : (t x : ℕ) (xs : List ℕ) → contains t (filter (λ u. not (u == x)) xs) ≡ (contains t xs && not (t == x))
 contains-filter t x [] = refl
 contains-filter t x (y ∷ ys) = of (y == x) refl (contains-filter t x ys)
   where

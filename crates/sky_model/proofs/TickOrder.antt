@@ -56,11 +56,11 @@ is_made-tick (queued (opened b) ∷ h) q id = is_made-tick h q id
 is_made-tick (queued (closed b) ∷ h) q id = is_made-tick h q id
 
 -- a tick with an id above the newest one's isn't made
-unmade_above : (h : History) → Legal h → (q id : ℕ) → id_of (newest_tick (ticks q h)) < id → is_made q id h ≡ false
+pub unmade_above : (h : History) → Legal h → (q id : ℕ) → id_of (newest_tick (ticks q h)) < id → is_made q id h ≡ false
 unmade_above h l q id above = sym (is_made-tick h q id) ∙ ap is_some (none_above h l q id above)
 
 -- what had committed at a tick has committed
-committed_since : (h : History) (q id t : ℕ) → has_committed (at_tick q id h) t ≡ true → has_committed h t ≡ true
+pub committed_since : (h : History) (q id t : ℕ) → has_committed (at_tick q id h) t ≡ true → has_committed h t ≡ true
 committed_since [] q id t e = e
 committed_since (began who u ∷ h) q id t e = committed_since h q id t e
 committed_since (ended who u true ∷ h) q id t e = of (t == u) (committed_since h q id t e)

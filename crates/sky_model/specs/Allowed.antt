@@ -1,7 +1,7 @@
 -- Which statements a session may make where it stands.
 use Rattle.std.specs.Prelude.{Ok, Err}
 use Rattle.sky_model.specs.declared.stmt.Stmt.{Stmt}
-use Rattle.sky_model.specs.declared.stmt.Stmt.TheVariants.{OpenDb, Close, Cancel, Begin, Commit, Rollback, TxidCurrent, TxidCurrentSnapshot, TxidVisibleInSnapshot, InsertEvent}
+use Rattle.sky_model.specs.declared.stmt.Stmt.TheVariants.{OpenDb, Close, Cancel, Begin, Commit, Rollback, TxidCurrent, TxidCurrentSnapshot, TxidVisibleInSnapshot, CreateQueue, InsertEvent, Ticker, ForceTick, RegisterConsumer, NextBatch, GetBatchEvents, FinishBatch}
 use Rattle.sky_model.specs.declared.stmt.Where.{Where}
 use Rattle.sky_model.specs.declared.stmt.Where.TheVariants.{Anywhere, WhenOpen, WhenSound, WhenOutside}
 use Rattle.sky_model.specs.declared.reply.Refusal.TheVariants.{Aborted, InTransaction}
@@ -20,7 +20,13 @@ where_of TxidCurrent = WhenSound
 where_of TxidCurrentSnapshot = WhenSound
 where_of (TxidVisibleInSnapshot txid snapshot) = WhenSound
 where_of (InsertEvent queue ev_type ev_data extra) = WhenSound
-where_of _ = WhenOutside
+where_of (CreateQueue queue) = WhenOutside
+where_of (Ticker queue) = WhenOutside
+where_of (ForceTick queue) = WhenOutside
+where_of (RegisterConsumer queue consumer) = WhenOutside
+where_of (NextBatch queue consumer) = WhenOutside
+where_of (GetBatchEvents batch) = WhenOutside
+where_of (FinishBatch batch) = WhenOutside
 
 -- a statement, by where it may stand, in a session that has a database open
 abbrev pub allowed : Block → Where → Checked (Unit {0})

@@ -1,4 +1,4 @@
--- What happened: marks, which are facts in order, the newest first. A place in a history is the
+-- What happened: marks in a database, facts in the world, each in order, the newest first. A place in a history is the
 -- history as it was then, so 'before a place' is what stands below it in the list.
 use Rattle.std.specs.Prelude.{ℕ, ℤ, Bool, List}
 use Rattle.sky_val.specs.declared.event.Event.{Event}

@@ -1,12 +1,12 @@
 -- The laws on the batches that a consumer finishes, at each place of each history that calls make.
-use Rattle.std.specs.Prelude.{◌≡◌, ℕ, ◌+◌, List, [], ◌∷◌, ◌++◌, Bool, not, ◌&&◌, Some, ◌==◌, bytes_eq, length, filter, if◌then◌else◌}
+use Rattle.std.specs.Prelude.{◌≡◌, ℕ, ◌+◌, ◌≤◌, List, [], ◌∷◌, ◌++◌, Bool, true, not, ◌&&◌, Some, is_some, ◌==◌, bytes_eq, length, filter, All, if◌then◌else◌}
 use Rattle.sky_val.specs.declared.event.Event.{Event}
-use Rattle.sky_model.specs.History.{Batch, queued, registered, closed, History}
+use Rattle.sky_model.specs.History.{Batch, Mark, queued, registered, closed, History}
 use Rattle.sky_model.specs.Transactions.{has_committed}
-use Rattle.sky_model.specs.Queues.{events, at_tick}
-use Rattle.sky_model.specs.Consumers.{subscription_id, position}
+use Rattle.sky_model.specs.Queues.{events, ticks, tick, at_tick}
+use Rattle.sky_model.specs.Consumers.{subscription_id, position, active_batch}
 use Rattle.sky_model.specs.Batches.{is_for, by_id, batch_events}
-use Rattle.sky_model.specs.LawsOfSnapshots.{IsPlace}
+use Rattle.sky_model.specs.HistoryPlaces.{IsPlace}
 
 -- the tick at which a consumer of a queue registered
 abbrev pub first_tick : ℕ → List ℕ → History → ℕ
@@ -24,15 +24,24 @@ finished queue consumer (queued (closed batch) ∷ h) =
     if batch.queue == queue && bytes_eq consumer batch.consumer then finished queue consumer h ++ batch ∷ [] else finished queue consumer h
 finished queue consumer (_ ∷ h) = finished queue consumer h
 
--- batches lead from a tick to a tick: each begins where the one before closed, and closes at the next tick
-abbrev pub Lead : ℕ → List Batch → ℕ → Type 0
-Lead from [] to = from ≡ to
-Lead from (b ∷ bs) to = (b.prev ≡ from) × (b.cur ≡ b.prev + 1) × Lead b.cur bs to
+-- a batch of a queue's consumer, for its subscription, from a tick to the next one, which is made
+pub record IsNextBatch (p : History) (queue : ℕ) (consumer : List ℕ) (from : ℕ) (b : Batch) : Type 0 where
+  pub of_queue : b.queue ≡ queue
+  pub of_consumer : b.consumer ≡ consumer
+  pub of_subscription : subscription_id queue consumer p ≡ Some b.sub
+  pub begins : b.prev ≡ from
+  pub closes : b.cur ≡ b.prev + 1
+  pub closing_is_made : is_some (tick b.cur (ticks queue p)) ≡ true
+
+-- a consumer's batches lead from a tick to a tick: each begins where the one before closed
+abbrev pub Lead : History → ℕ → List ℕ → ℕ → List Batch → ℕ → Type 0
+Lead p queue consumer from [] to = from ≡ to
+Lead p queue consumer from (b ∷ bs) to = IsNextBatch p queue consumer from b × Lead p queue consumer b.cur bs to
 
 -- a consumer's finished batches lead from the tick at which it registered to its position
 abbrev pub BatchesAreConsecutive : Type 0
 BatchesAreConsecutive = (p : History) → IsPlace p → (queue : ℕ) (consumer : List ℕ)
-    → Lead (first_tick queue consumer p) (finished queue consumer p) (position queue consumer p)
+    → Lead p queue consumer (first_tick queue consumer p) (finished queue consumer p) (position queue consumer p)
 
 -- an event stands between two ticks of a queue for a subscription: its transaction had committed when
 -- the later tick was made, and hadn't when the earlier one was
@@ -48,9 +57,43 @@ stands_in h b e = stands_between h b.queue b.sub b.prev b.cur e
 abbrev pub BatchesListWhatStands : Type 0
 BatchesListWhatStands = (h : History) (b : Batch) → batch_events h b ≡ by_id (filter (stands_in h b) (events b.queue h))
 
+-- events whose ids don't fall
+abbrev pub InOrder : List Event → Type 0
+InOrder [] = Unit {0}
+InOrder (e ∷ []) = Unit {0}
+InOrder (e ∷ f ∷ es) = (e.ev_id ≤ f.ev_id) × InOrder (f ∷ es)
+
+-- the events with an id, as they stand
+abbrev pub with_id : ℕ → List Event → List Event
+with_id id es = filter (λ e. e.ev_id == id) es
+
+-- by id, the ids of events don't fall
+abbrev pub IdsDontFall : Type 0
+IdsDontFall = (es : List Event) → InOrder (by_id es)
+
+-- and those with each id are the same ones, as they stood
+abbrev pub EqualIdsStay : Type 0
+EqualIdsStay = (es : List Event) (id : ℕ) → with_id id (by_id es) ≡ with_id id es
+
 -- an event stands in one of a consumer's finished batches, and in one alone, where it stands between the
 -- tick at which the consumer registered and its position, else in none
 abbrev pub EventsAreListedOnce : Type 0
 EventsAreListedOnce = (p : History) → IsPlace p → (queue : ℕ) (consumer : List ℕ) (sub : ℕ) → subscription_id queue consumer p ≡ Some sub
     → (e : Event) → length (filter (λ b. stands_in p b e) (finished queue consumer p))
     ≡ (if stands_between p queue sub (first_tick queue consumer p) (position queue consumer p) e then 1 else 0)
+
+-- what a batch lists while it is active is what it lists at every later place
+abbrev pub ListingsStay : Type 0
+ListingsStay = (later : List Mark) (p : History) → IsPlace (later ++ p) → (id : ℕ) (b : Batch) → active_batch id p ≡ Some b
+    → batch_events (later ++ p) b ≡ batch_events p b
+
+-- a batch was active at a place below
+pub record WasActive (p : History) (b : Batch) : Type 0 where
+  pub later : List Mark
+  pub place : History
+  pub below : p ≡ later ++ place
+  pub active : active_batch b.id place ≡ Some b
+
+-- each batch that a consumer has finished was active before
+abbrev pub FinishedBatchesWereActive : Type 0
+FinishedBatchesWereActive = (p : History) → IsPlace p → (queue : ℕ) (consumer : List ℕ) → All (WasActive p) (finished queue consumer p)

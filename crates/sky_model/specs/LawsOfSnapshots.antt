@@ -1,24 +1,17 @@
 -- The laws on snapshots, at each place of each history that calls make.
-use Rattle.std.specs.Prelude.{◌≡◌, ℕ, List, ◌++◌}
+use Rattle.std.specs.Prelude.{◌≡◌, ℕ}
 use Rattle.sky_txid.specs.Snapshot.{sees}
-use Rattle.sky_model.specs.History.{Batch, Mark, History}
+use Rattle.sky_model.specs.History.{Batch, History}
 use Rattle.sky_model.specs.Transactions.{has_ended, snapshot}
-use Rattle.sky_model.specs.Batches.{batch_events}
+use Rattle.sky_model.specs.Batches.{by_id, batch_events}
 use Rattle.sky_model.specs.State.{database_of}
 use Rattle.sky_model.specs.Selection.{selected}
-use Rattle.sky_model.specs.World.{history_in, Call, past_of}
-
--- a place: calls made a database's history, and this stood below what came later
-pub record IsPlace (p : History) : Type 0 where
-  pub calls : List Call
-  pub database : ℕ
-  pub later : List Mark
-  pub below : history_in (past_of calls) database ≡ later ++ p
+use Rattle.sky_model.specs.HistoryPlaces.{IsPlace}
 
 -- the snapshot at a place sees exactly the transactions that have ended there
 abbrev pub SnapshotsSeeWhatHasEnded : Type 0
 SnapshotsSeeWhatHasEnded = (p : History) → IsPlace p → (t : ℕ) → sees (snapshot p) t ≡ has_ended p t
 
--- a batch's events are those that the snapshots of its two ticks select
+-- a batch's events are those that the snapshots of its two ticks select, by id
 abbrev pub BatchesAreSelectedBySnapshots : Type 0
-BatchesAreSelectedBySnapshots = (p : History) → IsPlace p → (b : Batch) → batch_events p b ≡ selected (database_of p) b
+BatchesAreSelectedBySnapshots = (p : History) → IsPlace p → (b : Batch) → batch_events p b ≡ by_id (selected (database_of p) b)

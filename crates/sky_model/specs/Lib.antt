@@ -17,6 +17,7 @@ pub mod StepConsumer
 pub mod StepSession
 pub mod Selection
 pub mod World
+pub mod HistoryPlaces
 pub mod LawsOfSnapshots
 pub mod LawsOfBatches
 pub mod Steps

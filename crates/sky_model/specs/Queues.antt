@@ -49,7 +49,7 @@ newest_tick [] = None
 newest_tick (t ∷ []) = Some t
 newest_tick (t ∷ u ∷ ts) = newest_tick (u ∷ ts)
 
--- the history as it was when a tick was made
+-- the history as it was when a tick was made; the empty one where it isn't made
 abbrev pub at_tick : ℕ → ℕ → History → History
 at_tick queue tick [] = []
 at_tick queue tick (queued (ticked q id time seq) ∷ h) = if q == queue && id == tick then h else at_tick queue tick h

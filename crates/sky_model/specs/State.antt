@@ -1,5 +1,5 @@
--- What a database and the world show at a place: all that a statement reads, each part by its
--- definition. The code keeps these, and a mark changes them.
+-- What a database shows at a place: all that a statement reads of it, each part by its definition. The
+-- code keeps these, and a mark changes them.
 use Rattle.std.specs.Prelude.{ℕ, ◌+◌, List, [], ◌∷◌, ◌++◌, Bool, true, false, not, ◌||◌, Option, Some, None, ◌==◌, bytes_eq, filter, option_map, if◌then◌else◌}
 use Rattle.sky_val.specs.declared.event.Event.{Event}
 use Rattle.sky_txid.specs.Snapshot.{snapshot_of}

@@ -24,6 +24,7 @@ own_or_next d None = do
   refused_if (nat_le (2 ^ 62) d.next) TxidsSpent
   Ok d.next
 
+-- the same for a session
 abbrev pub txid_for : Database → ℕ → Checked ℕ
 txid_for d who = own_or_next d (d.session who).txid
 
@@ -112,14 +113,16 @@ abbrev pub due_of : Config → ℤ → ℕ → Option (Tick × Option Tick) → 
 due_of config now seq None = false
 due_of config now seq (Some (last, before)) = not config.paused && is_due_after config now seq last before
 
+-- a tick of a queue is due
 abbrev pub is_due : ℤ → Queue → Bool
 is_due now q = due_of q.config now q.seq (last_two None q.tick_list)
 
--- the id of the newest tick
+-- the id of a tick, or 0
 abbrev pub id_of : Option Tick → ℕ
 id_of None = 0
 id_of (Some t) = t.id
 
+-- the id of a queue's newest tick
 abbrev pub newest_id : Queue → ℕ
 newest_id q = id_of (newest_tick q.tick_list)
 

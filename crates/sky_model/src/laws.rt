@@ -1,6 +1,6 @@
 //! The laws of the definitions: functions that do nothing, so that their contracts are proved.
 
-ghost use Rattle.sky_model.specs.LawsOfBatches.{BatchesAreConsecutive, BatchesListWhatStands, EventsAreListedOnce};
+ghost use Rattle.sky_model.specs.LawsOfBatches.{BatchesAreConsecutive, BatchesListWhatStands, EqualIdsStay, EventsAreListedOnce, FinishedBatchesWereActive, IdsDontFall, ListingsStay};
 ghost use Rattle.sky_model.specs.LawsOfLines.{BadWordIsLeast};
 ghost use Rattle.sky_model.specs.LawsOfSnapshots.{BatchesAreSelectedBySnapshots, SnapshotsSeeWhatHasEnded};
 
@@ -18,15 +18,23 @@ pub fn snapshots_see_what_has_ended()
 
 /// At each such place a batch's events are the stored ones that the closing tick's snapshot sees, the
 /// opening tick's doesn't, whose transaction hasn't rolled back, and that are for the batch's
-/// subscription, in the order of storing.
+/// subscription, by id.
 pub fn batches_are_selected_by_snapshots()
     ensures { BatchesAreSelectedBySnapshots }
 {}
 
-/// At each such place the batches that a consumer has finished lead from the tick at which it
-/// registered to its position: each begins where the one before closed, and closes at the next tick.
+/// At each such place the batches that a consumer has finished are of its queue and its subscription,
+/// and lead from the tick at which it registered to its position: each begins where the one before
+/// closed, and closes at the next tick, which is made. Of a consumer that isn't registered there are none.
 pub fn batches_are_consecutive()
     ensures { BatchesAreConsecutive }
+{}
+
+/// Events by id: their ids don't fall, and for each id those that have it are the ones that had it before,
+/// as they stood. So a listing loses, adds and doubles nothing.
+pub fn batches_are_in_order()
+    ensures rises { IdsDontFall }
+    ensures keeps { EqualIdsStay }
 {}
 
 /// At each such place an event whose transaction had committed at a consumer's position, and hadn't at
@@ -36,4 +44,12 @@ pub fn batches_are_consecutive()
 pub fn events_are_listed_once()
     ensures stands { BatchesListWhatStands }
     ensures once { EventsAreListedOnce }
+{}
+
+/// What a batch lists while it is active is what it lists at every later place: what is put or commits
+/// later isn't in it. Each batch that a consumer has finished was active before, so it lists what it
+/// listed then.
+pub fn listings_stay()
+    ensures stay { ListingsStay }
+    ensures were_active { FinishedBatchesWereActive }
 {}

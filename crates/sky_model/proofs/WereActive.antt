@@ -1,0 +1,35 @@
+-- Each batch that a consumer has finished was active when it was closed.
+use Rattle.std.proofs.Common.{ℕ, List, [], ◌∷◌, ◌++◌, Bool, true, false, ◌&&◌, ◌==◌, bytes_eq, refl, ap, All, if◌then◌else◌}
+use Rattle.std.proofs.lemmas.List.Elements.{All-nil, All-push, All-weaker}
+use Rattle.sky_model.specs.History.{Batch, Mark, History}
+use Rattle.sky_model.specs.LawsOfBatches.{finished, WasActive, FinishedBatchesWereActive}
+use Rattle.sky_model.proofs.Legal.{Fine, registers, closes, Legal, start, next}
+use Rattle.sky_model.proofs.SnapshotLaws.{legal_place}
+
+one_later : (h : History) (mark : Mark) (b : Batch) → WasActive h b → WasActive (mark ∷ h) b
+one_later h mark b was = record { later = mark ∷ was.later; place = was.place; below = ap (λ p. mark ∷ p) was.below; active = was.active }
+
+all_later : (h : History) (mark : Mark) (bs : List Batch) → All (WasActive h) bs → All (WasActive (mark ∷ h)) bs
+all_later h mark = All-weaker (WasActive h) (WasActive (mark ∷ h)) (one_later h mark)
+
+still_were : (h : History) (mark : Mark) → Fine h mark → (queue : ℕ) (consumer : List ℕ)
+    → All (WasActive (mark ∷ h)) (finished queue consumer h) → All (WasActive (mark ∷ h)) (finished queue consumer (mark ∷ h))
+still_were h mark (registers p name sub t i none f g) queue consumer were = of (p == queue && bytes_eq consumer name)
+  where
+    of : (x : Bool) → All (WasActive (mark ∷ h)) (if x then [] else finished queue consumer h)
+    of true = All-nil (WasActive (mark ∷ h))
+    of false = were
+still_were h mark (closes b active) queue consumer were = of (b.queue == queue && bytes_eq consumer b.consumer)
+  where
+    of : (x : Bool) → All (WasActive (mark ∷ h)) (if x then finished queue consumer h ++ b ∷ [] else finished queue consumer h)
+    of true = All-push (WasActive (mark ∷ h)) (finished queue consumer h) b were (record { later = mark ∷ []; place = h; below = refl; active = active })
+    of false = were
+still_were h mark _ queue consumer were = were
+
+were_active : (h : History) → Legal h → (queue : ℕ) (consumer : List ℕ) → All (WasActive h) (finished queue consumer h)
+were_active [] start queue consumer = All-nil (WasActive [])
+were_active _ (next {h = h} {mark = mark} l fine) queue consumer =
+    still_were h mark fine queue consumer (all_later h mark (finished queue consumer h) (were_active h l queue consumer))
+
+pub finished_batches_were_active : FinishedBatchesWereActive
+finished_batches_were_active p is = were_active p (legal_place p is)
