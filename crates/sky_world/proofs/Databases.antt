@@ -1,5 +1,5 @@
 -- What a database shows, after what the code changed in it.
-use Rattle.std.proofs.Common.{◌≡◌, ℕ, suc, zero, ℤ, ◌+◌, ◌<◌, ◌≤◌, ◌^◌, List, [], ◌∷◌, ◌++◌, Bool, true, false, not, ◌||◌, ◌==◌, nat_le, Option, Some, None, Result, Ok, Vec, Global, IfOk, is_some, length, get_or, slice_set, get_or-set_same, get_or-set_other, ◌≢◌, option_map, bytes_eq, filter, nat_cmp, cond, refl, sym, ◌∙◌, ap, subst, arith, if◌then◌else◌}
+use Rattle.std.proofs.Common.{◌≡◌, ℕ, suc, zero, ℤ, ◌+◌, ◌<◌, ◌≤◌, ◌^◌, List, [], ◌∷◌, ◌++◌, Bool, true, false, not, ◌||◌, ◌==◌, nat_le, Option, Some, None, Result, Ok, Vec, Global, IfOk, is_some, length, get_or, slice_set, get_or-set_same, get_or-set_other, ◌≢◌, option_map, filter, nat_cmp, cond, refl, sym, ◌∙◌, ap, subst, arith, if◌then◌else◌}
 use Rattle.std.proofs.lemmas.Bool.Decides.{nat_tests}
 use Rattle.std.proofs.lemmas.List.Elements.{All-filter}
 use Rattle.std.proofs.lemmas.Result.{IfOk-weaker}
@@ -8,7 +8,6 @@ use Rattle.std.proofs.lemmas.Option.{get_or_from_slice_get, slice_get_read}
 use Rattle.std.specs.BTreeMap.{is_at}
 use Rattle.std.specs.Map.{lookup}
 use Rattle.std.specs.List.{list_any}
-use Rattle.sky_txid.specs.Ids.{contains}
 use Rattle.sky_txid.specs.Snapshot.{snapshot_of}
 use Rattle.sky_val.specs.declared.event.Event.{Event}
 use Rattle.sky_names.specs.Places.{place_of}
@@ -20,14 +19,13 @@ use Rattle.sky_model.specs.declared.reply.Refusal.{Refusal}
 use Rattle.sky_model.specs.declared.reply.Refusal.TheVariants.{TooMany, NoBatch, EventIdsSpent}
 use Rattle.sky_model.specs.Moment.{HasMoment}
 use Rattle.sky_model.specs.Printed.{EventsHaveMoments}
-use Rattle.sky_model.specs.History.{queued, made, raised, put, ticked, opened}
+use Rattle.sky_model.specs.History.{ended, queued, made, raised, put, ticked, opened}
 use Rattle.sky_model.specs.Sessions.{Block, outside, inside, failed, Session, at_rest}
 use Rattle.sky_model.specs.Queues.{Tick, tick}
 use Rattle.sky_model.specs.Selection.{snapshot_at, is_selected, selected_in, selected}
 use Rattle.sky_model.specs.StepConsumer.{finish_batch, finishes, get_batch_events}
-use Rattle.sky_model.specs.Consumers.{Subscription}
 use Rattle.sky_model.specs.State.{Queue, Database, changed_at, changed_for, with_batch, at_position, after_mark, after_marks}
-use Rattle.sky_model.specs.Outcome.{Outcome, Checked, ◌>>=◌, ◌>>◌, refused_if, found_or, answers, does_marks, end_of, abort, settled}
+use Rattle.sky_model.specs.Outcome.{Outcome, Checked, ◌>>=◌, ◌>>◌, refused_if, found_or, answers, does_marks, abort, settled}
 use Rattle.sky_model.specs.StepQueue.{create_queue, insert_event, queue_called, txid_for, begin_of, commit_of, written, next_event_id, made_event}
 use Rattle.sky_world.specs.declared.batch.Batch.{Batch}
 use Rattle.sky_world.specs.Views.{QueueView, DatabaseView}
@@ -73,34 +71,6 @@ past_end : {A : Type 0} (xs : List A) (d : A) (i : ℕ) → length xs ≤ i → 
 past_end [] d i le = refl
 past_end (x ∷ xs) d zero le = absurd (omega arith)
 past_end (x ∷ xs) d (suc i) le = past_end xs d i (omega arith)
-
--- a consumer of a queue that isn't made has no batch to end
-pub ended-nowhere : (queues : List QueueView) (queue tick : ℕ) (consumer : List ℕ) → length queues ≤ queue
-    → (λ n. seen_queue (get_or queues n no_queue)) ≡ changed_at queue (λ q. record q { sub = changed_for consumer (option_map (at_position tick)) q.sub }) (λ n. seen_queue (get_or queues n no_queue))
-ended-nowhere queues queue tick consumer le = λ i n. pointwise n i
-  where
-    nobody : Option Subscription
-    nobody = None
-
-    none : (name : List ℕ) (b : Bool) → nobody ≡ (if b then nobody else nobody)
-    none name true = refl
-    none name false = refl
-
-    empty : seen_queue no_queue ≡ record (seen_queue no_queue) { sub = changed_for consumer (option_map (at_position tick)) (seen_queue no_queue).sub }
-    empty = λ i. record (seen_queue no_queue) { sub = λ name. none name (bytes_eq name consumer) i }
-
-    by : (n : ℕ) (b : Bool) → (queue == n) ≡ b → seen_queue (get_or queues n no_queue)
-        ≡ (if b then record (seen_queue (get_or queues n no_queue)) { sub = changed_for consumer (option_map (at_position tick)) (seen_queue (get_or queues n no_queue)).sub } else seen_queue (get_or queues n no_queue))
-    by n true e =
-        let same : queue ≡ n = grind (arith, nat_tests) in
-        let nothing : get_or queues n no_queue ≡ no_queue = past_end queues no_queue n (omega arith) in
-        ap seen_queue nothing ∙ empty
-        ∙ ap (λ (v : QueueView). record (seen_queue v) { sub = changed_for consumer (option_map (at_position tick)) (seen_queue v).sub }) (sym nothing)
-    by n false e = refl
-
-    pointwise : (n : ℕ) → seen_queue (get_or queues n no_queue)
-        ≡ (if queue == n then record (seen_queue (get_or queues n no_queue)) { sub = changed_for consumer (option_map (at_position tick)) (seen_queue (get_or queues n no_queue)).sub } else seen_queue (get_or queues n no_queue))
-    pointwise n = by n (queue == n) refl
 
 -- a queue that is made has its first tick alone
 pub queues-made : (queues : List QueueView) (t : Tick) (count : ℕ) → count ≡ length queues
@@ -289,10 +259,6 @@ pub selects-at : (d : Database) (undone : ℕ → Bool) (q : QueueView) (batch :
 selects-at d undone q batch id r but same is =
     IfOk-weaker r _ _ (λ events e. e ∙ ap (λ u. selected_in u (seen_queue q) (seen_batch id batch)) but ∙ ap (λ x. selected_in d.undone x (seen_batch id batch)) same) is
 
--- a queue that isn't made has no events
-pub selects-nowhere : (v : DatabaseView) (batch : Batch) (id count : ℕ) → count ≡ length v.queues → count ≤ batch.queue → [] ≡ selected (seen_database v) (seen_batch id batch)
-selects-nowhere v batch id count is le = sym (ap (λ q. selected_in (keeps v.undone) (seen_queue q) (seen_batch id batch)) (past_end v.queues no_queue batch.queue (omega arith)))
-
 -- what a query for a batch's events gives
 pub gives-events : (d : Database) (id : ℕ) (batch : Batch) (events : List Event) → Some (seen_batch id batch) ≡ d.batch id → events ≡ selected d (seen_batch id batch)
     → Does d d (Events events) (get_batch_events d (selected d) id)
@@ -390,22 +356,6 @@ gives-refused d s1 s2 who refusal checked refuses is =
       changed = is ∙ ap (λ (s : Database). after_marks s (abort who (s.session who).block (s.session who).txid refusal)) refuses.same;
     })
 
--- what doesn't run isn't taken out
-filter-absent : (t : ℕ) (xs : List ℕ) → contains t xs ≡ false → filter (λ u. not (u == t)) xs ≡ xs
-filter-absent t [] none = refl
-filter-absent t (x ∷ xs) none = by (t == x) refl none (filter-absent t xs)
-  where
-    by : (b : Bool) → (t == x) ≡ b → (b || contains t xs) ≡ false → (contains t xs ≡ false → filter (λ u. not (u == t)) xs ≡ xs) → filter (λ u. not (u == t)) (x ∷ xs) ≡ x ∷ xs
-    by true e absent ih = absurd (cc)
-    by false e absent ih =
-        let other : (x == t) ≡ false = grind (arith, nat_tests) in
-        ap (λ b. if not b then x ∷ filter (λ u. not (u == t)) xs else filter (λ u. not (u == t)) xs) other ∙ ap (λ ys. x ∷ ys) (ih absent)
-
--- a transaction that doesn't run needn't end
-pub running_ids-same : (v now : DatabaseView) (t : ℕ) → v ≡ now → contains t v.trans.running ≡ false → seen_database now ≡ record (seen_database now) { running_ids = filter (λ u. not (u == t)) (seen_database now).running_ids }
-running_ids-same v now t same none =
-    λ i. record (seen_database now) { running_ids = sym (filter-absent t now.trans.running (subst (λ (w : DatabaseView). contains t w.trans.running ≡ false) same none)) i }
-
 -- a transaction that was noted as rolled back
 pub undone-insert : (old new : List ℕ) (t : ℕ) → ((q : ℕ) → list_any (is_at (nat_cmp q)) new ≡ cond (is_at (nat_cmp t) q) true (list_any (is_at (nat_cmp q)) old))
     → keeps new ≡ (λ u. u == t || keeps old u)
@@ -424,41 +374,36 @@ undone-as v now more t same updates =
     (λ i. record (seen_database v) { undone = undone-insert v.undone more t updates i })
     ∙ ap (λ (w : DatabaseView). record (seen_database w) { undone = λ u. u == t || (seen_database w).undone u }) same
 
--- a transaction that doesn't commit
-pub ended-undone : (d s1 s2 : Database) (t : ℕ) (commits : Bool) → commits ≡ false → s1 ≡ record d { running_ids = filter (λ u. not (u == t)) d.running_ids }
-    → s2 ≡ record s1 { undone = λ u. u == t || s1.undone u }
-    → s2 ≡ record d { running_ids = filter (λ u. not (u == t)) d.running_ids; undone = if commits then d.undone else (λ u. u == t || d.undone u) }
-ended-undone d s1 s2 t commits isnt e1 e2 =
-    e2 ∙ ap (λ (s : Database). record s { undone = λ u. u == t || s.undone u }) e1
-    ∙ ap (λ b. record d { running_ids = filter (λ u. not (u == t)) d.running_ids; undone = if b then d.undone else (λ u. u == t || d.undone u) }) (sym isnt)
-
--- the transaction of a block has ended
-pub ended-own : (d s1 s2 : Database) (who t : ℕ) (commits : Bool) → Some t ≡ (d.session who).txid → (d.session who).block ≡ inside
-    → s1 ≡ record d { running_ids = filter (λ u. not (u == t)) d.running_ids; undone = if commits then d.undone else (λ u. u == t || d.undone u) }
-    → s2 ≡ record s1 { session = changed_at who (λ _. record { block = inside; txid = None }) s1.session }
-    → s2 ≡ after_marks d (end_of commits who (d.session who).txid)
-ended-own d s1 s2 who t commits mine within e1 e2 =
-    e2 ∙ ap (λ (s : Database). record s { session = changed_at who (λ _. record { block = inside; txid = None }) s.session }) e1
-    ∙ (λ i. record d {
-      running_ids = filter (λ u. not (u == t)) d.running_ids;
-      undone = if commits then d.undone else (λ u. u == t || d.undone u);
-      session = changed-same who (λ _. record { block = inside; txid = None }) (λ s. record s { txid = None }) d.session (ap (λ b. record { block = b; txid = None }) (sym within)) i;
-    })
-    ∙ by commits
-    ∙ ap (λ o. after_marks d (end_of commits who o)) mine
+-- a session that stands so without a transaction, in two steps
+stands-so : (who : ℕ) (to : Block) (sessions : ℕ → Session)
+    → changed_at who (λ _. record { block = to; txid = None }) sessions ≡ changed_at who (λ s. record s { block = to }) (changed_at who (λ s. record s { txid = None }) sessions)
+stands-so who to sessions = λ i n. by (who == n) (sessions n) i
   where
-    by : (c : Bool) → record d {
-      running_ids = filter (λ u. not (u == t)) d.running_ids;
-      undone = if c then d.undone else (λ u. u == t || d.undone u);
-      session = changed_at who (λ s. record s { txid = None }) d.session;
-    } ≡ after_marks d (end_of c who (Some t))
-    by true = refl
-    by false = refl
+    by : (b : Bool) (s : Session) → (if b then record { block = to; txid = None } else s) ≡ (if b then record (if b then record s { txid = None } else s) { block = to } else (if b then record s { txid = None } else s))
+    by true s = refl
+    by false s = refl
 
--- a session is itself
-same-session : (who : ℕ) → (who == who) ≡ true
-same-session who = grind (arith, nat_tests)
+-- a session without a transaction stands so
+pub left-without : (d s : Database) (who : ℕ) (to : Block) → None ≡ (d.session who).txid
+    → s ≡ record d { session = changed_at who (λ _. record { block = to; txid = None }) d.session }
+    → s ≡ record d { session = changed_at who (λ x. record x { block = to }) d.session }
+left-without d s who to none is =
+    is ∙ (λ i. record d { session = changed-same who (λ _. record { block = to; txid = None }) (λ x. record x { block = to }) d.session (ap (λ o. record { block = to; txid = o }) none) i })
 
--- what a session is after it was changed
-pub session-changed : (s1 s2 : Database) (who : ℕ) (f : Session → Session) → s2 ≡ record s1 { session = changed_at who f s1.session } → s2.session who ≡ f (s1.session who)
-session-changed s1 s2 who f is = ap (λ (s : Database). s.session who) is ∙ ap (λ b. if b then f (s1.session who) else s1.session who) (same-session who)
+-- and so does one whose transaction has committed
+pub left-committed : (d s1 s2 : Database) (who t : ℕ) (to : Block)
+    → s1 ≡ record d { session = changed_at who (λ _. record { block = to; txid = None }) d.session }
+    → s2 ≡ record s1 { running_ids = filter (λ u. not (u == t)) s1.running_ids }
+    → s2 ≡ record (after_mark d (ended who t true)) { session = changed_at who (λ x. record x { block = to }) (after_mark d (ended who t true)).session }
+left-committed d s1 s2 who t to e1 e2 =
+    e2 ∙ ap (λ (s : Database). record s { running_ids = filter (λ u. not (u == t)) s.running_ids }) e1
+    ∙ (λ i. record d { running_ids = filter (λ u. not (u == t)) d.running_ids; session = stands-so who to d.session i })
+
+-- or was rolled back
+pub left-undone : (d s1 s2 : Database) (who t : ℕ) (to : Block)
+    → s1 ≡ record d { session = changed_at who (λ _. record { block = to; txid = None }) d.session }
+    → s2 ≡ record s1 { running_ids = filter (λ u. not (u == t)) s1.running_ids; undone = λ u. u == t || s1.undone u }
+    → s2 ≡ record (after_mark d (ended who t false)) { session = changed_at who (λ x. record x { block = to }) (after_mark d (ended who t false)).session }
+left-undone d s1 s2 who t to e1 e2 =
+    e2 ∙ ap (λ (s : Database). record s { running_ids = filter (λ u. not (u == t)) s.running_ids; undone = λ u. u == t || s.undone u }) e1
+    ∙ (λ i. record d { running_ids = filter (λ u. not (u == t)) d.running_ids; undone = λ u. u == t || d.undone u; session = stands-so who to d.session i })

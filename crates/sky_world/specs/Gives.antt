@@ -1,10 +1,13 @@
 -- What a method of the code gives, by what the database showed.
-use Rattle.std.specs.Prelude.{◌≡◌, List, [], Ok, Err}
+use Rattle.std.specs.Prelude.{◌≡◌, List, [], Result, Ok, Err}
 use Rattle.sky_model.specs.declared.reply.Reply.{Reply}
 use Rattle.sky_model.specs.declared.reply.Refusal.{Refusal}
 use Rattle.sky_model.specs.History.{Mark}
 use Rattle.sky_model.specs.Outcome.{Outcome, Checked}
+use Rattle.sky_model.specs.Printed.{ReplyHasMoments}
 use Rattle.sky_model.specs.State.{Database, after_marks}
+use Rattle.sky_world.specs.Views.{DatabaseView}
+use Rattle.sky_world.specs.Seen.{seen_database}
 use Rattle.sky_world.specs.declared.stop.Stop.{Stop}
 use Rattle.sky_world.specs.declared.stop.Stop.TheVariants.{Refused, NoMemory}
 
@@ -37,3 +40,8 @@ Stops NoMemory old new checked = Unit {0}
 abbrev pub StopsAs : {A : Type 0} → Stop → Checked A → Type 0
 StopsAs (Refused refusal) checked = checked ≡ Err refusal
 StopsAs NoMemory checked = Unit {0}
+
+-- a statement was run: it does what its definition says, with times that are printed, or is refused as it says
+abbrev pub Ran : DatabaseView → DatabaseView → Result Reply Stop → Checked Outcome → Type 0
+Ran old new (Ok reply) checked = Does (seen_database old) (seen_database new) reply checked × ReplyHasMoments reply
+Ran old new (Err stop) checked = Stops stop (seen_database old) (seen_database new) checked

@@ -1,7 +1,7 @@
-ghost use Rattle.std.specs.Prelude.{◌≡◌, ℕ, ◌+◌, ◌<◌, ◌^◌, [], ◌∷◌, ◌++◌, ◌||◌, ◌==◌, not, filter, true, if◌then◌else◌, Some, None, Ok, Err, IfOk, IfErr, OnOk, IfSome, IfNone, OnSome, Option, option_copied, option_map, length};
+ghost use Rattle.std.specs.Prelude.{◌≡◌, ℕ, ◌+◌, ◌<◌, ◌^◌, [], ◌∷◌, ◌++◌, ◌||◌, ◌==◌, not, filter, true, false, if◌then◌else◌, Some, None, Ok, Err, IfOk, IfErr, OnOk, IfSome, IfNone, OnSome, Option, option_copied, option_map, length};
 ghost use Rattle.sky_txid.specs.Snapshot.{snapshot_of};
 ghost use Rattle.sky_names.specs.Places.{place_of};
-ghost use Rattle.sky_model.specs.History.{began, ended, block_begun, block_failed, block_ended, queued, made, raised, put, ticked, registered, opened, closed};
+ghost use Rattle.sky_model.specs.History.{began, ended, block_begun, block_failed, queued, made, raised, put, ticked, registered, opened, closed};
 ghost use Rattle.sky_model.specs.Sessions.{inside, failed, at_rest};
 ghost use Rattle.sky_model.specs.State.{after_mark, after_marks, changed_at, changed_for, with_batch, at_position};
 ghost use Rattle.sky_model.specs.Moment.{HasMoment};
@@ -10,6 +10,8 @@ ghost use Rattle.sky_model.specs.Outcome.{end_of, abort};
 ghost use Rattle.sky_model.specs.StepQueue.{newest_id, txid_for, begin_of, commit_of};
 ghost use Rattle.sky_model.specs.StepSession.{leaves};
 ghost use Rattle.sky_model.specs.Selection.{selected};
+ghost use Rattle.sky_txid.specs.Ids.{contains};
+ghost use Rattle.sky_world.specs.Owned.{own_id, IsFree, MayKeep};
 ghost use Rattle.sky_world.specs.Ticks.{IsTime};
 ghost use Rattle.sky_world.specs.Seen.{seen_session, seen_database, no_database, seen_queue, seen_batch};
 
@@ -26,9 +28,6 @@ use sky_val::{Event, SessionId, Text};
 use std::alloc::{AllocError, Global};
 use std::collections::{BTreeMap, BTreeSet};
 use std::marker::Model;
-
-/// The number at which transaction ids are spent.
-const TXID_END: u64 = 1 << 62;
 
 /// One database: its transactions, the blocks that sessions are in, its queues, and their active batches.
 #[derive(Drop)]
@@ -49,6 +48,7 @@ pub struct Database {
 impl Model for Database {
     ghost use Rattle.std.specs.Prelude.{◌≡◌, length};
     ghost use Rattle.sky_world.specs.Views.{DatabaseView};
+    ghost use Rattle.sky_world.specs.Owned.{AreOwned, BatchesWithin};
 
     ghost Value = { DatabaseView };
 
@@ -63,7 +63,8 @@ impl Model for Database {
       undone = d.undone.keys;
     } };
 
-    ghost invariant = { λ d. length d.queues.items ≡ length d.names };
+    ghost invariant = { λ d. (length d.queues.items ≡ length d.names)
+        × AreOwned d.blocks.entries d.trans.running × BatchesWithin (length d.queues.items) d.batches.entries };
 }
 
 impl Database {
@@ -111,7 +112,7 @@ impl Database {
     pub fn snapshot(&self) -> Result<Snapshot, AllocError>
         ensures { IfOk result (λ snapshot. snapshot ≡ snapshot_of self.now.trans.next self.now.trans.running) }
     {
-        self.trans.snapshot(self.alloc)
+        self.trans.snapshot()
     }
 
     pub fn alloc(&self) -> Global {
@@ -149,7 +150,11 @@ impl Database {
     fn own_txid(&self, who: SessionId) -> Option<u64>
         ensures txid { result ≡ ((seen_database self.now).session who).txid }
         ensures inside { IfSome result (λ _. ((seen_database self.now).session who).block ≡ inside) }
+        ensures runs { IfSome result (λ t. contains t self.now.trans.running ≡ true) }
+        ensures once { IfSome result (λ t. (w : ℕ) → own_id self.now.blocks w ≡ Some t → w ≡ who) }
     {
+        // That it runs, and in this block alone, is the database's invariant.
+        let _ = &self.blocks;
         match self.block(who) {
             Some(Block::Open(txid)) => txid,
             Some(Block::Failed) | None => None,
@@ -164,10 +169,10 @@ impl Database {
         if let Some(Block::Open(Some(txid))) = self.block(who) {
             return Ok(txid);
         }
-        match self.trans.next_id() {
-            txid if txid < TXID_END => Ok(txid),
-            _ => Err(Refusal::TxidsSpent),
+        if !self.trans.id_left() {
+            return Err(Refusal::TxidsSpent);
         }
+        Ok(self.trans.next_id())
     }
 
     /// Gives a session's transaction its id, where it has none. Outside a block it commits at once.
@@ -196,7 +201,7 @@ impl Database {
         ensures names { OnOk result (self.new.names ≡ self.old.names) }
     {
         let txid = self.assign()?;
-        self.trans.commit(txid);
+        self.commit_txid(txid);
         Ok(())
     }
 
@@ -204,6 +209,8 @@ impl Database {
     fn assign(&mut self) -> Result<u64, AllocError>
         requires ids { self.old.trans.next < 2 ^ 62 }
         ensures id { IfOk result (λ t. t ≡ self.old.trans.next) }
+        ensures runs { IfOk result (λ t. contains t self.new.trans.running ≡ true) }
+        ensures free { IfOk result (λ t. IsFree self.new.blocks t) }
         ensures ok { OnOk result (self.new ≡ record self.old {
           trans = record { next = self.old.trans.next + 1; running = self.old.trans.running ++ self.old.trans.next ∷ [] };
         }) }
@@ -230,10 +237,12 @@ impl Database {
 
     /// A session is in this block from now on.
     fn keep_block(&mut self, who: SessionId, block: Block) -> Result<(), AllocError>
+        requires { MayKeep self.old.blocks self.old.trans.running who block }
         ensures session { OnOk result (seen_database self.new ≡ record (seen_database self.old) {
           session = changed_at who (λ _. seen_session (Some block)) (seen_database self.old).session;
         }) }
         ensures trans { self.new.trans ≡ self.old.trans }
+        ensures own { OnOk result (own_id self.new.blocks ≡ (λ n. if who == n then (seen_session (Some block)).txid else own_id self.old.blocks n)) }
         ensures queues { OnOk result (self.new.queues ≡ self.old.queues) }
         ensures names { OnOk result (self.new.names ≡ self.old.names) }
     {
@@ -249,66 +258,79 @@ impl Database {
         self.keep_block(who, Block::Open(None))
     }
 
-    /// A session's block is aborted.
-    fn fail_block(&mut self, who: SessionId) -> Result<(), AllocError>
-        requires { ((seen_database self.old).session who).txid ≡ None }
-        ensures { OnOk result (seen_database self.new ≡ after_mark (seen_database self.old) (block_failed who)) }
-    {
-        self.keep_block(who, Block::Failed)
-    }
-
-    /// A session leaves its block.
+    /// A session leaves its block. The block's transaction, which runs on, is no block's from now on.
     fn leave_block(&mut self, who: SessionId)
-        requires { ((seen_database self.old).session who).txid ≡ None }
-        ensures { seen_database self.new ≡ after_mark (seen_database self.old) (block_ended who) }
+        ensures session { seen_database self.new ≡ record (seen_database self.old) { session = changed_at who (λ _. at_rest) (seen_database self.old).session } }
+        ensures trans { self.new.trans ≡ self.old.trans }
+        ensures own { own_id self.new.blocks ≡ (λ n. if who == n then None else own_id self.old.blocks n) }
     {
         self.blocks.remove(&who);
     }
 
-    /// The transaction of a session's block ends, if it has got an id, and its writes stay or don't.
-    fn end_txid(&mut self, who: SessionId, commits: bool) -> Result<(), AllocError>
-        ensures marks { OnOk result (seen_database self.new ≡ after_marks (seen_database self.old) (end_of commits who ((seen_database self.old).session who).txid)) }
-        ensures ended { OnOk result (((seen_database self.new).session who).txid ≡ None) }
-        ensures block { OnOk result (((seen_database self.new).session who).block ≡ ((seen_database self.old).session who).block) }
+    /// A session's block ends, and its transaction commits, if it has got an id.
+    pub fn commit_block(&mut self, who: SessionId)
+        ensures { seen_database self.new ≡ after_marks (seen_database self.old) (leaves true who ((seen_database self.old).session who).txid) }
     {
-        let Some(txid) = self.own_txid(who) else {
-            return Ok(());
-        };
-        self.end_writes(txid, commits)?;
-        self.keep_block(who, Block::Open(None))?;
+        let own = self.own_txid(who);
+        self.leave_block(who);
+        if let Some(txid) = own {
+            self.commit_txid(txid);
+        }
+    }
+
+    /// A session's block ends, and its transaction is rolled back, if it has got an id.
+    pub fn roll_back_block(&mut self, who: SessionId) -> Result<(), AllocError>
+        ensures { OnOk result (seen_database self.new ≡ after_marks (seen_database self.old) (leaves false who ((seen_database self.old).session who).txid)) }
+    {
+        let own = self.own_txid(who);
+        self.leave_block(who);
+        if let Some(txid) = own {
+            self.roll_back_txid(txid)?;
+        }
         Ok(())
     }
 
-    /// A transaction ends, and its writes stay or don't.
-    fn end_writes(&mut self, txid: u64, commits: bool) -> Result<(), AllocError>
+    /// A session's block is aborted, and its transaction rolled back, if it has got an id.
+    fn fail_block(&mut self, who: SessionId) -> Result<(), AllocError>
+        ensures { OnOk result (seen_database self.new ≡ after_marks (seen_database self.old) (end_of false who ((seen_database self.old).session who).txid ++ block_failed who ∷ [])) }
+    {
+        let own = self.own_txid(who);
+        self.keep_block(who, Block::Failed)?;
+        if let Some(txid) = own {
+            self.roll_back_txid(txid)?;
+        }
+        Ok(())
+    }
+
+    fn commit_txid(&mut self, txid: u64)
+        requires runs { contains txid self.old.trans.running ≡ true }
+        requires free { IsFree self.old.blocks txid }
+        ensures ended { seen_database self.new ≡ record (seen_database self.old) { running_ids = filter (λ u. not (u == txid)) (seen_database self.old).running_ids } }
+        ensures queues { self.new.queues ≡ self.old.queues }
+        ensures names { self.new.names ≡ self.old.names }
+    {
+        self.trans.commit(txid);
+    }
+
+    fn roll_back_txid(&mut self, txid: u64) -> Result<(), AllocError>
+        requires runs { contains txid self.old.trans.running ≡ true }
+        requires free { IsFree self.old.blocks txid }
         ensures { OnOk result (seen_database self.new ≡ record (seen_database self.old) {
           running_ids = filter (λ u. not (u == txid)) (seen_database self.old).running_ids;
-          undone = if commits then (seen_database self.old).undone else (λ u. u == txid || (seen_database self.old).undone u);
+          undone = λ u. u == txid || (seen_database self.old).undone u;
         }) }
     {
-        if commits {
-            self.commit_txid(txid);
-            return Ok(());
-        }
         self.abort_txid(txid);
         self.undo(txid)?;
         Ok(())
     }
 
-    fn commit_txid(&mut self, txid: u64)
-        ensures { seen_database self.new ≡ record (seen_database self.old) { running_ids = filter (λ u. not (u == txid)) (seen_database self.old).running_ids } }
-    {
-        if self.trans.running(txid) {
-            self.trans.commit(txid);
-        }
-    }
-
     fn abort_txid(&mut self, txid: u64)
+        requires runs { contains txid self.old.trans.running ≡ true }
+        requires free { IsFree self.old.blocks txid }
         ensures { seen_database self.new ≡ record (seen_database self.old) { running_ids = filter (λ u. not (u == txid)) (seen_database self.old).running_ids } }
     {
-        if self.trans.running(txid) {
-            self.trans.abort(txid);
-        }
+        self.trans.abort(txid);
     }
 
     /// Notes that a transaction was rolled back.
@@ -319,15 +341,6 @@ impl Database {
         Ok(())
     }
 
-    /// A session's block ends, with its transaction.
-    pub fn end_block(&mut self, who: SessionId, commits: bool) -> Result<(), AllocError>
-        ensures { OnOk result (seen_database self.new ≡ after_marks (seen_database self.old) (leaves commits who ((seen_database self.old).session who).txid)) }
-    {
-        self.end_txid(who, commits)?;
-        self.leave_block(who);
-        Ok(())
-    }
-
     /// A refusal rolls back the block that its session is in, and aborts it.
     pub fn abort(&mut self, who: SessionId, refusal: &Refusal) -> Result<(), AllocError>
         ensures { OnOk result (seen_database self.new ≡ after_marks (seen_database self.old)
@@ -335,10 +348,7 @@ impl Database {
     {
         match (self.block(who), refusal) {
             (Some(Block::Open(_)), Refusal::AlreadyOpen) => Ok(()),
-            (Some(Block::Open(_)), _) => {
-                self.end_txid(who, false)?;
-                self.fail_block(who)
-            }
+            (Some(Block::Open(_)), _) => self.fail_block(who),
             _ => Ok(()),
         }
     }
@@ -428,6 +438,7 @@ impl Database {
 
     /// The batch is active from now on, and the last that was made.
     fn note_batch(&mut self, id: u64, batch: Batch) -> Result<(), AllocError>
+        requires { batch.queue < length self.old.queues }
         ensures { OnOk result (seen_database self.new ≡ record (seen_database self.old) {
           last_batch_id = id;
           batch = changed_at id (λ _. Some (seen_batch id batch)) (seen_database self.old).batch;
@@ -449,19 +460,19 @@ impl Database {
 
     /// A consumer has no batch from now on, and stands at this tick.
     pub fn end_batch(&mut self, queue: usize, consumer: &Text, tick: u64)
+        requires { queue < length self.old.queues }
         ensures queue { seen_database self.new ≡ record (seen_database self.old) {
           queue = changed_at queue (λ q. record q { sub = changed_for consumer.now (option_map (at_position tick)) q.sub }) (seen_database self.old).queue;
         } }
         ensures batches { self.new.batches ≡ self.old.batches }
     {
-        if queue < self.queues.len() {
-            self.queues[queue].close_batch(consumer, tick);
-        }
+        self.queues[queue].close_batch(consumer, tick);
     }
 
     /// The batch is no longer active.
     pub fn forget_batch(&mut self, id: u64) -> Option<Batch>
         ensures batch { option_map (seen_batch id) result ≡ (seen_database self.old).batch id }
+        ensures within { IfSome result (λ b. b.queue < length self.new.queues) }
         ensures forgotten { OnSome result (seen_database self.new ≡ record (seen_database self.old) { batch = changed_at id (λ _. None) (seen_database self.old).batch }) }
         ensures none { IfNone result (seen_database self.new ≡ seen_database self.old) }
     {
@@ -470,26 +481,19 @@ impl Database {
 
     /// An active batch, by its id.
     pub fn batch(&self, id: u64) -> Option<&Batch>
-        ensures { option_map (seen_batch id) (option_copied result) ≡ (seen_database self.now).batch id }
+        ensures batch { option_map (seen_batch id) (option_copied result) ≡ (seen_database self.now).batch id }
+        ensures within { IfSome result (λ b. b.now.queue < length self.now.queues) }
     {
         self.batches.get(&id)
     }
 
     /// The events of a batch.
     pub fn batch_events(&self, batch: &Batch) -> Result<Vec<Event>, AllocError>
+        requires { batch.now.queue < length self.now.queues }
         ensures events { (id : ℕ) → IfOk result (λ events. events.items ≡ selected (seen_database self.now) (seen_batch id batch.now)) }
         ensures moments { IfOk result (λ events. EventsHaveMoments events.items) }
     {
-        if self.queue_len() <= batch.queue {
-            return Ok(Vec::new(self.alloc));
-        }
         self.queue(batch.queue)
             .select(self.alloc, &self.undone, batch)
-    }
-
-    fn queue_len(&self) -> usize
-        ensures { result ≡ length self.now.queues }
-    {
-        self.queues.len()
     }
 }

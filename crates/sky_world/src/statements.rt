@@ -1,4 +1,5 @@
-//! The statements, each in the database that its session has open. A refusal changes nothing there.
+//! The statements, each in the database that its session has open. A refusal changes nothing there but
+//! that it aborts the session's block.
 
 ghost use Rattle.std.specs.Prelude.{◌≡◌, ◌+◌, ◌<◌, [], ◌∷◌, ◌++◌, None, Ok, IfOk, IfErr, OnOk, length};
 ghost use Rattle.sky_names.specs.Places.{place_of};
@@ -15,7 +16,7 @@ ghost use Rattle.sky_model.specs.Allowed.{where_of, allowed};
 ghost use Rattle.sky_model.specs.World.{form, attempt, statement};
 ghost use Rattle.sky_world.specs.Ticks.{IsTime};
 ghost use Rattle.sky_world.specs.Seen.{seen_database};
-ghost use Rattle.sky_world.specs.Gives.{Gives, Does, Stops, StopsAs};
+ghost use Rattle.sky_world.specs.Gives.{Gives, Does, Ran, StopsAs};
 
 use crate::allowed::allow;
 use crate::batch::Batch;
@@ -23,7 +24,7 @@ use crate::block::Block;
 use crate::database::Database;
 use crate::stop::Stop;
 use crate::subscription::Subscription;
-use crate::ticks::Tick;
+use crate::ticks::{MAX_COUNT, Tick};
 use sky_model::{Events, Extra, Limit, Refusal, Reply, Stmt};
 use sky_txid::{Snapshot, SnapshotFault};
 use sky_val::{Event, SessionId, Text, copy_option};
@@ -38,8 +39,8 @@ const MAX_QUEUES: usize = 64;
 /// How many consumers a queue may have.
 const MAX_CONSUMERS: usize = 256;
 
-/// How far `force_tick` raises the sequence: twice the ticker's count, and a thousand.
-const FORCED: u64 = 2000;
+/// How far `force_tick` raises the sequence, so that a tick is due.
+const FORCED: u64 = 2 * MAX_COUNT + 1000;
 
 impl Database {
     /// Runs a statement of a session that has this database open.
@@ -62,11 +63,7 @@ impl Database {
     /// Runs a statement that its session may make where it stands.
     fn run_allowed(&mut self, now: i64, who: SessionId, stmt: &Stmt) -> Result<Reply, Stop>
         requires { IsTime now }
-        ensures ok { IfOk result (λ reply. Does (seen_database self.old) (seen_database self.new) reply
-            (attempt (seen_database self.old) (selected (seen_database self.old)) now who stmt.now)) }
-        ensures err { IfErr result (λ stop. Stops stop (seen_database self.old) (seen_database self.new)
-            (attempt (seen_database self.old) (selected (seen_database self.old)) now who stmt.now)) }
-        ensures moments { IfOk result ReplyHasMoments }
+        ensures { Ran self.old self.new result (attempt (seen_database self.old) (selected (seen_database self.old)) now who stmt.now) }
     {
         allow(self.block(who), stmt)?;
         self.run_form(now, who, stmt)
@@ -75,9 +72,7 @@ impl Database {
     fn run_form(&mut self, now: i64, who: SessionId, stmt: &Stmt) -> Result<Reply, Stop>
         requires time { IsTime now }
         requires allowed { allowed ((seen_database self.old).session who).block (where_of stmt.now) ≡ Ok tt }
-        ensures ok { IfOk result (λ reply. Does (seen_database self.old) (seen_database self.new) reply (form (seen_database self.old) (selected (seen_database self.old)) now who stmt.now)) }
-        ensures err { IfErr result (λ stop. Stops stop (seen_database self.old) (seen_database self.new) (form (seen_database self.old) (selected (seen_database self.old)) now who stmt.now)) }
-        ensures moments { IfOk result ReplyHasMoments }
+        ensures { Ran self.old self.new result (form (seen_database self.old) (selected (seen_database self.old)) now who stmt.now) }
     {
         match stmt {
             Stmt::OpenDb { name: _ } => Err(Stop::Refused(Refusal::AlreadyOpen)),
@@ -109,21 +104,17 @@ impl Database {
 
     /// `close`: a block is rolled back.
     fn close(&mut self, who: SessionId) -> Result<Reply, Stop>
-        ensures ok { IfOk result (λ reply. Does (seen_database self.old) (seen_database self.new) reply (close who ((seen_database self.old).session who).txid ((seen_database self.old).session who).block)) }
-        ensures err { IfErr result (λ stop. Stops stop (seen_database self.old) (seen_database self.new) (close who ((seen_database self.old).session who).txid ((seen_database self.old).session who).block)) }
-        ensures moments { IfOk result ReplyHasMoments }
+        ensures { Ran self.old self.new result (close who ((seen_database self.old).session who).txid ((seen_database self.old).session who).block) }
     {
         if self.block(who).is_some() {
-            self.end_block(who, false)?;
+            self.roll_back_block(who)?;
         }
         Ok(Reply::Done)
     }
 
     /// `begin`
     fn begin(&mut self, who: SessionId) -> Result<Reply, Stop>
-        ensures ok { IfOk result (λ reply. Does (seen_database self.old) (seen_database self.new) reply (begin who ((seen_database self.old).session who).block)) }
-        ensures err { IfErr result (λ stop. Stops stop (seen_database self.old) (seen_database self.new) (begin who ((seen_database self.old).session who).block)) }
-        ensures moments { IfOk result ReplyHasMoments }
+        ensures { Ran self.old self.new result (begin who ((seen_database self.old).session who).block) }
     {
         if self.block(who).is_some() {
             return Ok(Reply::AlreadyInTransaction);
@@ -134,18 +125,16 @@ impl Database {
 
     /// `commit`: an aborted block is rolled back.
     fn commit(&mut self, who: SessionId) -> Result<Reply, Stop>
-        ensures ok { IfOk result (λ reply. Does (seen_database self.old) (seen_database self.new) reply (commit who ((seen_database self.old).session who).txid ((seen_database self.old).session who).block)) }
-        ensures err { IfErr result (λ stop. Stops stop (seen_database self.old) (seen_database self.new) (commit who ((seen_database self.old).session who).txid ((seen_database self.old).session who).block)) }
-        ensures moments { IfOk result ReplyHasMoments }
+        ensures { Ran self.old self.new result (commit who ((seen_database self.old).session who).txid ((seen_database self.old).session who).block) }
     {
         match self.block(who) {
             None => Ok(Reply::NoTransaction),
             Some(Block::Open(_)) => {
-                self.end_block(who, true)?;
+                self.commit_block(who);
                 Ok(Reply::Commit)
             }
             Some(Block::Failed) => {
-                self.end_block(who, false)?;
+                self.roll_back_block(who)?;
                 Ok(Reply::Rollback)
             }
         }
@@ -153,23 +142,19 @@ impl Database {
 
     /// `rollback`
     fn rollback(&mut self, who: SessionId) -> Result<Reply, Stop>
-        ensures ok { IfOk result (λ reply. Does (seen_database self.old) (seen_database self.new) reply (rollback who ((seen_database self.old).session who).txid ((seen_database self.old).session who).block)) }
-        ensures err { IfErr result (λ stop. Stops stop (seen_database self.old) (seen_database self.new) (rollback who ((seen_database self.old).session who).txid ((seen_database self.old).session who).block)) }
-        ensures moments { IfOk result ReplyHasMoments }
+        ensures { Ran self.old self.new result (rollback who ((seen_database self.old).session who).txid ((seen_database self.old).session who).block) }
     {
         if self.block(who).is_none() {
             return Ok(Reply::NoTransaction);
         }
-        self.end_block(who, false)?;
+        self.roll_back_block(who)?;
         Ok(Reply::Rollback)
     }
 
     /// `txid_current`: the transaction gets its id, where it has none.
     fn txid_current(&mut self, who: SessionId) -> Result<Reply, Stop>
         requires { ¬ (((seen_database self.old).session who).block ≡ failed) }
-        ensures ok { IfOk result (λ reply. Does (seen_database self.old) (seen_database self.new) reply (txid_current (seen_database self.old) who)) }
-        ensures err { IfErr result (λ stop. Stops stop (seen_database self.old) (seen_database self.new) (txid_current (seen_database self.old) who)) }
-        ensures moments { IfOk result ReplyHasMoments }
+        ensures { Ran self.old self.new result (txid_current (seen_database self.old) who) }
     {
         let txid = self.txid_for(who)?;
         self.take_txid(who, txid)?;
@@ -178,18 +163,14 @@ impl Database {
 
     /// `txid_current_snapshot`
     fn txid_current_snapshot(&self) -> Result<Reply, Stop>
-        ensures ok { IfOk result (λ reply. Does (seen_database self.now) (seen_database self.now) reply (txid_current_snapshot (seen_database self.now))) }
-        ensures err { IfErr result (λ stop. Stops stop (seen_database self.now) (seen_database self.now) (txid_current_snapshot (seen_database self.now))) }
-        ensures moments { IfOk result ReplyHasMoments }
+        ensures { Ran self.now self.now result (txid_current_snapshot (seen_database self.now)) }
     {
         Ok(Reply::Snapshot(self.snapshot()?))
     }
 
     /// `txid_visible_in_snapshot N RAW`
     fn txid_visible_in_snapshot(&self, txid: u64, text: &Text) -> Result<Reply, Stop>
-        ensures ok { IfOk result (λ reply. Does (seen_database self.now) (seen_database self.now) reply (txid_visible_in_snapshot txid text.now)) }
-        ensures err { IfErr result (λ stop. Stops stop (seen_database self.now) (seen_database self.now) (txid_visible_in_snapshot txid text.now)) }
-        ensures moments { IfOk result ReplyHasMoments }
+        ensures { Ran self.now self.now result (txid_visible_in_snapshot txid text.now) }
     {
         match Snapshot::parse(self.alloc(), text.bytes()) {
             Ok(snapshot) => Ok(Reply::Bool(snapshot.sees(txid))),
@@ -214,9 +195,7 @@ impl Database {
     fn create_queue(&mut self, now: i64, who: SessionId, name: &Text) -> Result<Reply, Stop>
         requires time { IsTime now }
         requires rests { (seen_database self.old).session who ≡ at_rest }
-        ensures ok { IfOk result (λ reply. Does (seen_database self.old) (seen_database self.new) reply (create_queue (seen_database self.old) now who name.now)) }
-        ensures err { IfErr result (λ stop. Stops stop (seen_database self.old) (seen_database self.new) (create_queue (seen_database self.old) now who name.now)) }
-        ensures moments { IfOk result ReplyHasMoments }
+        ensures { Ran self.old self.new result (create_queue (seen_database self.old) now who name.now) }
     {
         if self.number(name).is_some() {
             return Ok(Reply::Number(0));
@@ -268,9 +247,7 @@ impl Database {
     ) -> Result<Reply, Stop>
         requires time { IsTime now }
         requires sound { ¬ (((seen_database self.old).session who).block ≡ failed) }
-        ensures ok { IfOk result (λ reply. Does (seen_database self.old) (seen_database self.new) reply (insert_event (seen_database self.old) now who name.now ev_type.now ev_data.now extra.now)) }
-        ensures err { IfErr result (λ stop. Stops stop (seen_database self.old) (seen_database self.new) (insert_event (seen_database self.old) now who name.now ev_type.now ev_data.now extra.now)) }
-        ensures moments { IfOk result ReplyHasMoments }
+        ensures { Ran self.old self.new result (insert_event (seen_database self.old) now who name.now ev_type.now ev_data.now extra.now) }
     {
         let queue = self.queue_called(name)?;
         let txid = self.txid_for(who)?;
@@ -289,9 +266,7 @@ impl Database {
     /// `ticker NAME`: a tick where one is due.
     fn ticker(&mut self, now: i64, name: &Text) -> Result<Reply, Stop>
         requires { IsTime now }
-        ensures ok { IfOk result (λ reply. Does (seen_database self.old) (seen_database self.new) reply (ticker (seen_database self.old) now name.now)) }
-        ensures err { IfErr result (λ stop. Stops stop (seen_database self.old) (seen_database self.new) (ticker (seen_database self.old) now name.now)) }
-        ensures moments { IfOk result ReplyHasMoments }
+        ensures { Ran self.old self.new result (ticker (seen_database self.old) now name.now) }
     {
         let queue = self.queue_called(name)?;
         let seq = self.queue(queue).seq();
@@ -314,9 +289,7 @@ impl Database {
 
     /// `force_tick NAME`: the sequence rises so far that a tick is due.
     fn force_tick(&mut self, name: &Text) -> Result<Reply, Stop>
-        ensures ok { IfOk result (λ reply. Does (seen_database self.old) (seen_database self.new) reply (force_tick (seen_database self.old) name.now)) }
-        ensures err { IfErr result (λ stop. Stops stop (seen_database self.old) (seen_database self.new) (force_tick (seen_database self.old) name.now)) }
-        ensures moments { IfOk result ReplyHasMoments }
+        ensures { Ran self.old self.new result (force_tick (seen_database self.old) name.now) }
     {
         let queue = self.queue_called(name)?;
         let seq = self.queue(queue).seq();
@@ -330,9 +303,7 @@ impl Database {
 
     /// `register_consumer NAME CONSUMER`: a subscription that stands at the newest tick.
     fn register_consumer(&mut self, name: &Text, consumer: &Text) -> Result<Reply, Stop>
-        ensures ok { IfOk result (λ reply. Does (seen_database self.old) (seen_database self.new) reply (register_consumer (seen_database self.old) name.now consumer.now)) }
-        ensures err { IfErr result (λ stop. Stops stop (seen_database self.old) (seen_database self.new) (register_consumer (seen_database self.old) name.now consumer.now)) }
-        ensures moments { IfOk result ReplyHasMoments }
+        ensures { Ran self.old self.new result (register_consumer (seen_database self.old) name.now consumer.now) }
     {
         let queue = self.queue_called(name)?;
         if has_dot(consumer) {
@@ -353,9 +324,7 @@ impl Database {
 
     /// `next_batch NAME CONSUMER`: the active batch, else a new one to the next tick, where that is made.
     fn next_batch(&mut self, name: &Text, consumer: &Text) -> Result<Reply, Stop>
-        ensures ok { IfOk result (λ reply. Does (seen_database self.old) (seen_database self.new) reply (next_batch (seen_database self.old) name.now consumer.now)) }
-        ensures err { IfErr result (λ stop. Stops stop (seen_database self.old) (seen_database self.new) (next_batch (seen_database self.old) name.now consumer.now)) }
-        ensures moments { IfOk result ReplyHasMoments }
+        ensures { Ran self.old self.new result (next_batch (seen_database self.old) name.now consumer.now) }
     {
         let queue = self.queue_called(name)?;
         if has_dot(consumer) {
@@ -378,9 +347,7 @@ impl Database {
         sub: &Subscription,
     ) -> Result<Reply, Stop>
         requires { queue < length self.old.queues }
-        ensures ok { IfOk result (λ reply. Does (seen_database self.old) (seen_database self.new) reply (opens_batch (seen_database self.old) queue consumer.now sub.now (tick (sub.now.position + 1) ((seen_database self.old).queue queue).tick_list))) }
-        ensures err { IfErr result (λ stop. Stops stop (seen_database self.old) (seen_database self.new) (opens_batch (seen_database self.old) queue consumer.now sub.now (tick (sub.now.position + 1) ((seen_database self.old).queue queue).tick_list))) }
-        ensures moments { IfOk result ReplyHasMoments }
+        ensures { Ran self.old self.new result (opens_batch (seen_database self.old) queue consumer.now sub.now (tick (sub.now.position + 1) ((seen_database self.old).queue queue).tick_list)) }
     {
         let Some(next) = self.queue(queue).ticks().next(sub.position()) else {
             return Ok(Reply::Null);
@@ -403,9 +370,7 @@ impl Database {
 
     /// `get_batch_events N`: the events of an active batch.
     fn get_batch_events(&self, id: u64) -> Result<Reply, Stop>
-        ensures ok { IfOk result (λ reply. Does (seen_database self.now) (seen_database self.now) reply (get_batch_events (seen_database self.now) (selected (seen_database self.now)) id)) }
-        ensures err { IfErr result (λ stop. Stops stop (seen_database self.now) (seen_database self.now) (get_batch_events (seen_database self.now) (selected (seen_database self.now)) id)) }
-        ensures moments { IfOk result ReplyHasMoments }
+        ensures { Ran self.now self.now result (get_batch_events (seen_database self.now) (selected (seen_database self.now)) id) }
     {
         let Some(batch) = self.batch(id) else {
             return Err(Stop::Refused(Refusal::NoBatch));

@@ -1,7 +1,7 @@
 use sky_model::Refusal;
 use std::alloc::AllocError;
 
-/// Why a statement did nothing.
+/// Why a statement has no answer.
 #[derive(Debug)]
 pub enum Stop {
     Refused(Refusal),

@@ -10,7 +10,7 @@ use std::alloc::{AllocError, Global};
 use std::marker::Model;
 
 /// With at least this many new events a tick is due at once.
-const MAX_COUNT: u64 = 500;
+pub const MAX_COUNT: u64 = 500;
 
 /// With new events a tick is due after this many microseconds.
 const MAX_LAG: i64 = 3_000_000;

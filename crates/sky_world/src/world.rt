@@ -142,6 +142,7 @@ impl World {
         ensures number { result ≡ place_of name.now self.now.sessions }
         ensures within { IfSome result (λ who. who < length self.now.homes) }
     {
+        // That each session has its place among the homes is the world's invariant.
         let _ = &self.homes;
         self.sessions.number(name)
     }
@@ -283,6 +284,7 @@ impl World {
         ensures number { result ≡ place_of name.now self.now.databases }
         ensures within { IfSome result (λ d. d < length self.now.stores) }
     {
+        // That each database has its store is the world's invariant.
         let _ = &self.stores;
         let number = self.databases.number(name)?;
         Some(number as usize)

@@ -1,6 +1,14 @@
-use Rattle.std.proofs.Common.{◌≡◌, false, sym, ◌∙◌}
-use Rattle.sky_world.proofs.Databases.{running_ids-same}
+use Rattle.std.proofs.Common.{sym, ap, subst}
+use Rattle.sky_trans.specs.Trans.{TransView}
+use Rattle.sky_world.specs.Views.{DatabaseView}
+use Rattle.sky_world.specs.Owned.{IsFree}
+use Rattle.sky_world.proofs.Owning.{owned-less}
 use Rattle.sky_world.proofs.database.Database.abort_txid.Goals as goal
 
-pub returns-else-running : goal.returns-else-running
-returns-else-running c = running_ids-same _ _ c.args.txid c.self.view_is (sym c.running.ensures ∙ c.if-running.false)
+pub invariant_of-self : goal.invariant_of-self
+invariant_of-self c = (
+  c.self.invariant.0,
+  owned-less _ _ _ c.args.txid (ap (λ (v : TransView). v.running) c.abort.ensures)
+      (subst (λ (v : DatabaseView). IsFree v.blocks c.args.txid) (sym c.self.view_is) c.requires.free) c.self.invariant.1,
+  c.self.invariant.2,
+)

@@ -13,5 +13,5 @@ returns-in_ok-abort-in-Err-Refused-clause-gives c =
     let tried = λ (now : ℤ). attempt d (selected d) now c.args.who c.args.stmt.now in
     gives-refused d (seen_database c.run_allowed.new.self) _ c.args.who c.in-Err-Refused.refusal (tried c.args.now)
     (subst (λ stop. Stops stop d (seen_database c.run_allowed.new.self) (tried c.args.now)) c.in-Err-Refused.field-0-is
-    (subst (λ now. Stops c.in-Err-Refused.field-0 d (seen_database c.run_allowed.new.self) (tried now)) (to_z-of_z w64 c.args.now c.ranges.now) c.in-Err-Refused.ensures.err))
+    (subst (λ now. Stops c.in-Err-Refused.field-0 d (seen_database c.run_allowed.new.self) (tried now)) (to_z-of_z w64 c.args.now c.ranges.now) c.in-Err-Refused.ensures))
     c.in_ok-abort-in-Err-Refused.ensures
