@@ -1,12 +1,12 @@
 -- How a run ends.
-use Rattle.std.proofs.Common.{◌≡◌, ℕ, List, [], ◌∷◌, ◌++◌, refl, sym, ap, subst, ◌∙◌, append_assoc, append-nil}
+use Rattle.std.proofs.Common.{◌≡◌, ℕ, ◌≤◌, List, [], ◌∷◌, ◌++◌, length, unwrap_or, refl, sym, ap, subst, ◌∙◌, append_assoc, append-nil, arith}
 use Rattle.std.specs.Prelude.{Option, Some}
 use Rattle.std.specs.Io.KnownBytes.{Appends}
 use Rattle.sky_io.specs.Appends.{AppendsPrefix}
 use Rattle.sky_io.proofs.AppendsLemmas.{Appends-both}
 use Rattle.sky_model.specs.declared.line.Cause.{Cause}
 use Rattle.sky_model.specs.declared.line.Cause.TheVariants as causes
-use Rattle.sky_model.specs.Transcript.{bad, said, transcript, transcript_from, bad_line, bad_line_from}
+use Rattle.sky_model.specs.Transcript.{bad, most_in_line, said, transcript, transcript_from, bad_line, bad_line_from}
 use Rattle.sky_model.specs.World.{World, past_of}
 use Rattle.sky_model.proofs.Splitting.{IsUnbroken}
 use Rattle.sky_model.proofs.Scripts.{StopsHere, transcript_from-unbroken, said-fits, said-too_late, stops_at_line, stops_unended, stops_too_long}
@@ -61,10 +61,16 @@ Ends-bad {n = n} {taken = taken} {gathered = gathered} after left cause g told s
       why = record { is_bad = is_bad_all left g same ∙ stops.is_bad; printed = sym (append-nil (g.written ++ gathered)) ∙ whole };
     }
 
+-- bytes without a line feed are good so far
+good_unended : (n taken : ℕ) (bytes : List ℕ) → IsUnbroken bytes → length bytes ≤ most_in_line → (m : ℕ) (cause : Cause) → bad_line_from n taken bytes ≡ Some (m, cause) → cause ≡ causes.Truncated
+good_unended n taken [] unbroken fits m cause is = absurd (cc)
+good_unended n taken (b ∷ bytes) unbroken fits m cause is =
+    ap (λ (o : Option (ℕ × Cause)). (unwrap_or o (m, cause)).1) (sym is ∙ (stops_unended n taken (b ∷ bytes) unbroken (omega arith) fits).is_bad)
+
 -- the source fails within a line
 pub Ends-read : {world : World} {n taken : ℕ} {unread gathered : List ℕ} {after first held : Option (List ℕ)} {bytes : List ℕ}
-    → GoesOn world n taken unread gathered after first held bytes → IsUnbroken unread → Ends Read after first held gathered bytes
-Ends-read {n = n} {taken = taken} {unread = unread} {gathered = gathered} g unbroken = record {
+    → GoesOn world n taken unread gathered after first held bytes → IsUnbroken unread → length unread ≤ most_in_line → Ends Read after first held gathered bytes
+Ends-read {n = n} {taken = taken} {unread = unread} {gathered = gathered} g unbroken fits = record {
   written = g.written;
   rest = transcript_from (past_of g.calls) taken (unread ++ g.left);
   appends = g.appends;
@@ -74,6 +80,8 @@ Ends-read {n = n} {taken = taken} {unread = unread} {gathered = gathered} g unbr
     left = g.left;
     after_is = g.told;
     bytes_are = g.bytes_are;
+    good = λ m cause is. good_unended n taken unread unbroken fits m cause
+        (sym (ap bad_line (sym (append-nil g.read)) ∙ g.is_bad [] ∙ ap (λ u. bad_line_from n taken u) (append-nil unread)) ∙ is);
     printed = sym (ap transcript (sym (append-nil g.read)) ∙ g.prints [] ∙ ap (λ u. (g.written ++ gathered) ++ transcript_from (past_of g.calls) taken u) (append-nil unread)
         ∙ ap (λ text. (g.written ++ gathered) ++ text) (transcript_from-unbroken (past_of g.calls) taken unread unbroken) ∙ append-nil (g.written ++ gathered));
   };
@@ -168,7 +176,7 @@ pub GoesOn-fault : {world : World} {n : ℕ} {gathered : List ℕ} {source first
     → GoesOn world n old.taken old.pending gathered source first held bytes → Ends (end_of fault n) after first held gathered bytes
 GoesOn-fault faults.Read old new after starts kept g =
     let keeps = kept refl g.left g.told in
-    Ends-read (GoesOn-read after g.left keeps.got keeps.rest new.pending g g.told keeps.left_is keeps.after_is (sym keeps.pending_is)) keeps.unbroken
+    Ends-read (GoesOn-read after g.left keeps.got keeps.rest new.pending g g.told keeps.left_is keeps.after_is (sym keeps.pending_is)) keeps.unbroken keeps.line_fits
 GoesOn-fault {n = n} faults.TooLong old new after starts kept g =
     Ends-bad after g.left causes.TooLong g g.told (stops_too_long_line n old.taken (old.pending ++ g.left) (starts g.left g.told))
 GoesOn-fault {n = n} faults.Truncated old new after starts kept g =

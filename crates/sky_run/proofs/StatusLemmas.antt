@@ -37,6 +37,7 @@ PrintsGiven-ends {held = held} {new_held = new_held} e = record {
   left = e.why.left;
   after_is = e.why.after_is;
   bytes_are = e.why.bytes_are;
+  good = e.why.good;
   printed = subst (Appends held new_held) (sym (append-nil e.written) ∙ e.why.printed) e.appends;
 }
 

@@ -22,12 +22,17 @@ pub record StopsAt (n : ℕ) (cause : Cause) (text bytes : List ℕ) : Type 0 wh
   pub is_bad : bad_line bytes ≡ Some (n, cause)
   pub printed : text ≡ transcript bytes
 
--- the source gave some bytes and has the others left, and the text is what those that it gave print
+-- bytes are good so far: no line of theirs is bad but a last one that its line feed doesn't end yet
+abbrev pub IsGoodSoFar : List ℕ → Type 0
+IsGoodSoFar bytes = (n : ℕ) (cause : Cause) → bad_line bytes ≡ Some (n, cause) → cause ≡ causes.Truncated
+
+-- the source gave some bytes, which are good so far, and has the others left, and the text is what those that it gave print
 pub record IsOfGiven (after : Option (List ℕ)) (text bytes : List ℕ) : Type 0 where
   pub given : List ℕ
   pub left : List ℕ
   pub after_is : after ≡ Some left
   pub bytes_are : bytes ≡ given ++ left
+  pub good : IsGoodSoFar given
   pub printed : text ≡ transcript given
 
 -- why a run ends there: how the text stands to the script, and what the source has left

@@ -5,6 +5,7 @@ use Rattle.sky_io.specs.declared.sink.SinkFault.{SinkFault}
 use Rattle.sky_io.specs.declared.sink.SinkFault.TheVariants as faults
 use Rattle.sky_model.specs.declared.line.Cause.{Cause}
 use Rattle.sky_model.specs.Transcript.{transcript, bad_line, bad_text, usage}
+use Rattle.sky_run.specs.Ends.{IsGoodSoFar}
 
 -- the words, as bytes
 abbrev pub texts : {A : Type 0} → List (String A) → List (List ℕ)
@@ -29,12 +30,13 @@ pub record TellsBadLine (held new_held err new_err : Option (List ℕ)) (bytes :
   pub printed : Appends held new_held (transcript bytes)
   pub told : Appends err new_err (bad_text (line, cause))
 
--- the source gave some bytes and has the others left, and the sink got what the lines print that it gave whole
+-- the source gave some bytes, which are good so far, and has the others left, and the sink got what the lines print that it gave whole
 pub record PrintsGiven (after held new_held : Option (List ℕ)) (bytes : List ℕ) : Type 0 where
   pub given : List ℕ
   pub left : List ℕ
   pub after_is : after ≡ Some left
   pub bytes_are : bytes ≡ given ++ left
+  pub good : IsGoodSoFar given
   pub printed : Appends held new_held (transcript given)
 
 -- what is said of a script's first bad line, if there is one

@@ -18,7 +18,7 @@ use sky_val::{NoMemory, Text};
 use sky_world::World;
 use std::alloc::Global;
 
-/// More bytes than these aren't gathered before they are written.
+/// Where more bytes than these are gathered behind a line, they are written.
 const MOST_GATHERED: usize = 65_536;
 
 /// Runs the script that the source gives to where it ends, and writes what it answers.
