@@ -1,7 +1,6 @@
 -- Whatever is called, the history of each database is legal.
 use Rattle.std.proofs.Common.{◌≡◌, ℕ, ℤ, ◌+◌, ◌<◌, List, [], ◌∷◌, ◌++◌, Bool, true, false, ◌==◌, nat_le, Option, Some, None, Ok, Err, option_map, unwrap_or, map, length, is_some, refl, sym, ◌∙◌, ap, subst, arith, if◌then◌else◌, length-append, ◌^◌}
 use Rattle.std.proofs.lemmas.Bool.Decides.{nat_tests}
-use Rattle.sky_val.specs.declared.event.Event.{Event}
 use Rattle.sky_model.specs.declared.stmt.Stmt.{Stmt}
 use Rattle.sky_model.specs.declared.stmt.Extra.{Extra}
 use Rattle.sky_model.specs.declared.stmt.Stmt.TheVariants.{OpenDb, Close, Cancel, Begin, Commit, Rollback, TxidCurrent, TxidCurrentSnapshot, TxidVisibleInSnapshot, CreateQueue, InsertEvent, Ticker, ForceTick, RegisterConsumer, NextBatch, GetBatchEvents, FinishBatch}
@@ -11,7 +10,7 @@ use Rattle.sky_model.specs.declared.reply.Refusal.{Refusal}
 use Rattle.sky_model.specs.declared.reply.Refusal.TheVariants.{AlreadyOpen, BadSnapshot, NoQueue, TooMany, TxidsSpent, EventIdsSpent, NoConsumer}
 use Rattle.sky_names.specs.Places.{place_of}
 use Rattle.sky_txid.specs.SnapshotText.{parse_snapshot}
-use Rattle.sky_model.specs.History.{Batch, Mark, began, ended, block_begun, block_failed, block_ended, queued, made, raised, put, ticked, registered, opened, closed, History, Fact, appeared, left, within, Past}
+use Rattle.sky_model.specs.History.{Batch, Mark, began, ended, block_begun, block_failed, block_ended, queued, made, raised, put, ticked, registered, opened, closed, History, Fact, left, within, Past}
 use Rattle.sky_model.specs.Transactions.{next_txid}
 use Rattle.sky_model.specs.Sessions.{Block, outside, inside, failed, block, own_txid, session}
 use Rattle.sky_model.specs.Config.{default_config}
@@ -23,7 +22,9 @@ use Rattle.sky_model.specs.Allowed.{where_of, allowed}
 use Rattle.sky_model.specs.StepQueue.{create_queue, insert_event, ticker, force_tick, is_due, forced, newest_id, id_of, own_or_next, begin_of, commit_of, written, next_event_id, made_event}
 use Rattle.sky_model.specs.StepConsumer.{has_dot, register_consumer, next_batch, opens_batch, takes_batch, finishes}
 use Rattle.sky_model.specs.StepSession.{begin, leaves, commit, rollback, close}
-use Rattle.sky_model.specs.World.{World, world_of, history_in, form, statement, is_close, Deed, opens, unopened, session_does, Call, called, on_top, after, past_of, session_names, home}
+use Rattle.sky_model.specs.World.{World, world_of, history_in, on_top, session_names, home}
+use Rattle.sky_model.specs.Reader.{Shown, shown_in, by_past, Deed, appears, followed}
+use Rattle.sky_model.specs.Calls.{form, statement, is_close, opens, unopened, session_does, turn, Call, called, after, past_of}
 use Rattle.sky_model.proofs.Legal.{Fine, begins, ends, begins_block, fails_block, ends_block, makes, raises, puts, ticks_next, registers, opens as opens_fine, closes, Chain, done, more, Legal, start, next}
 use Rattle.sky_model.proofs.Ticks.{ticks_beyond}
 use Rattle.sky_names.proofs.PlaceLemmas.{place_of_within}
@@ -249,27 +250,27 @@ good_txid_current h who None none =
     (more (begins who none) (good_commits (began who (next_txid h) ∷ h) who (next_txid h) (block who h) (ap (λ b. if b then Some (next_txid h) else own_txid who h) (same-session who))))
 good_txid_current h who (Some t) mine = good_commits h who t (block who h) mine
 
-good_form : (h : History) → Legal h → (events_of : Batch → List Event) (now : ℤ) (who : ℕ) (stmt : Stmt) → Good h who (form (database_of h) events_of now who stmt)
-good_form h l events_of now who (OpenDb name) = good_refused h who AlreadyOpen
-good_form h l events_of now who Close = good_close h who (block who h)
-good_form h l events_of now who Cancel = done
-good_form h l events_of now who Begin = good_begin h who (block who h) refl
-good_form h l events_of now who Commit = good_commit h who (block who h)
-good_form h l events_of now who Rollback = good_rollback h who (block who h)
-good_form h l events_of now who TxidCurrent = good_txid_current h who (own_txid who h) refl
-good_form h l events_of now who TxidCurrentSnapshot = done
-good_form h l events_of now who (TxidVisibleInSnapshot txid snapshot) = good_found h who (parse_snapshot snapshot) BadSnapshot _ (λ s _. done)
-good_form h l events_of now who (CreateQueue queue) = good_create_queue h l now who queue
-good_form h l events_of now who (InsertEvent queue ev_type ev_data extra) = good_insert_event h now who queue ev_type ev_data extra
-good_form h l events_of now who (Ticker queue) = good_ticker h now who queue
-good_form h l events_of now who (ForceTick queue) = good_force_tick h who queue
-good_form h l events_of now who (RegisterConsumer queue consumer) = good_register_consumer h who queue consumer
-good_form h l events_of now who (NextBatch queue consumer) = good_next_batch h who queue consumer
-good_form h l events_of now who (GetBatchEvents batch) = good_found h who ((database_of h).batch batch) _ _ (λ b _. done)
-good_form h l events_of now who (FinishBatch batch) = good_finishes h who batch (active_batch batch h) refl
+good_form : (h : History) → Legal h → (shown : Shown) (now : ℤ) (who : ℕ) (stmt : Stmt) → Good h who (form (database_of h) shown now who stmt)
+good_form h l shown now who (OpenDb name) = good_refused h who AlreadyOpen
+good_form h l shown now who Close = good_close h who (block who h)
+good_form h l shown now who Cancel = done
+good_form h l shown now who Begin = good_begin h who (block who h) refl
+good_form h l shown now who Commit = good_commit h who (block who h)
+good_form h l shown now who Rollback = good_rollback h who (block who h)
+good_form h l shown now who TxidCurrent = good_txid_current h who (own_txid who h) refl
+good_form h l shown now who TxidCurrentSnapshot = done
+good_form h l shown now who (TxidVisibleInSnapshot txid snapshot) = good_found h who (parse_snapshot snapshot) BadSnapshot _ (λ s _. done)
+good_form h l shown now who (CreateQueue queue) = good_create_queue h l now who queue
+good_form h l shown now who (InsertEvent queue ev_type ev_data extra) = good_insert_event h now who queue ev_type ev_data extra
+good_form h l shown now who (Ticker queue) = good_ticker h now who queue
+good_form h l shown now who (ForceTick queue) = good_force_tick h who queue
+good_form h l shown now who (RegisterConsumer queue consumer) = good_register_consumer h who queue consumer
+good_form h l shown now who (NextBatch queue consumer) = good_next_batch h who queue consumer
+good_form h l shown now who (GetBatchEvents batch) = good_found h who ((database_of h).batch batch) _ _ (λ b _. done)
+good_form h l shown now who (FinishBatch batch) = good_finishes h who batch (active_batch batch h) refl
 
-good_statement : (h : History) → Legal h → (events_of : Batch → List Event) (now : ℤ) (who : ℕ) (stmt : Stmt) → Chain h (statement (database_of h) events_of now who stmt).marks
-good_statement h l events_of now who stmt = good_allowed h who (allowed (block who h) (where_of stmt)) _ (good_form h l events_of now who stmt)
+good_statement : (h : History) → Legal h → (shown : Shown) (now : ℤ) (who : ℕ) (stmt : Stmt) → Chain h (statement (database_of h) shown now who stmt).marks
+good_statement h l shown now who stmt = good_allowed h who (allowed (block who h) (where_of stmt)) _ (good_form h l shown now who stmt)
 
 -- the history of each database is legal
 abbrev pub AllLegal : Past → Type 0
@@ -327,24 +328,34 @@ legal_unopened past w who (NextBatch queue consumer) all = all
 legal_unopened past w who (GetBatchEvents batch) all = all
 legal_unopened past w who (FinishBatch batch) all = all
 
-legal_session : (past : Past) (w : World) (events_of : ℕ → Batch → List Event) (who : ℕ) (stmt : Stmt) (at : Option ℕ)
-    → ((d : ℕ) → w.database d ≡ database_of (history_in past d)) → AllLegal past → AllLegal (on_top past (session_does w events_of who stmt at).facts)
-legal_session past w events_of who stmt None is all = legal_unopened past w who stmt all
-legal_session past w events_of who stmt (Some d) is all =
-    legal_leaving past who (map (within d) (statement (w.database d) (events_of d) w.now who stmt).marks) (is_close stmt)
-    (legal_marks past d (statement (w.database d) (events_of d) w.now who stmt).marks
-    (subst (λ x. Chain (history_in past d) (statement x (events_of d) w.now who stmt).marks) (sym (is d))
-    (good_statement (history_in past d) (all d) (events_of d) w.now who stmt))
+legal_session : (past : Past) (w : World) (shown : ℕ → Shown) (who : ℕ) (stmt : Stmt) (at : Option ℕ)
+    → ((d : ℕ) → w.database d ≡ database_of (history_in past d)) → AllLegal past → AllLegal (on_top past (session_does w shown who stmt at).facts)
+legal_session past w shown who stmt None is all = legal_unopened past w who stmt all
+legal_session past w shown who stmt (Some d) is all =
+    legal_leaving past who (map (within d) (statement (w.database d) (shown d) w.now who stmt).marks) (is_close stmt)
+    (legal_marks past d (statement (w.database d) (shown d) w.now who stmt).marks
+    (subst (λ x. Chain (history_in past d) (statement x (shown d) w.now who stmt).marks) (sym (is d))
+    (good_statement (history_in past d) (all d) (shown d) w.now who stmt))
     all)
 
-legal_called : (past : Past) (events_of : ℕ → Batch → List Event) (call : Call) (found : Option ℕ) → AllLegal past → AllLegal (on_top past (called (world_of past) events_of call found).facts)
-legal_called past events_of call (Some who) all = legal_session past (world_of past) events_of who call.stmt (home past who) (λ d. refl) all
-legal_called past events_of call None all =
+-- a turn, and one behind another
+legal_turn : (past : Past) (who : ℕ) (stmt : Stmt) → AllLegal past → AllLegal (on_top past (turn by_past who stmt past).facts)
+legal_turn past who stmt all = legal_session past (world_of past) (λ d. shown_in (history_in past d)) who stmt (home past who) (λ d. refl) all
+
+legal_followed : (past : Past) (rest : Past → Deed) (deed : Deed) → AllLegal (on_top past deed.facts)
+    → ((later : Past) → AllLegal later → AllLegal (on_top later (rest later).facts)) → AllLegal (on_top past (followed by_past past rest deed).facts)
+legal_followed past rest deed all also =
+    subst AllLegal (sym (on_top-append past deed.facts (rest (on_top past deed.facts)).facts)) (also (on_top past deed.facts) all)
+
+legal_called : (past : Past) (call : Call) (found : Option ℕ) → AllLegal past → AllLegal (on_top past (called by_past past call found).facts)
+legal_called past call (Some who) all = legal_turn past who call.stmt all
+legal_called past call None all =
     legal_if past (nat_le 256 (length (session_names past))) _ _ all
-    (legal_session (appeared call.who ∷ past) (world_of past) events_of (length (session_names past)) call.stmt (home past (length (session_names past))) (λ d. refl) all)
+    (legal_followed past (turn by_past (length (session_names past)) call.stmt) (appears call.who) all
+    (λ later legal. legal_turn later (length (session_names past)) call.stmt legal))
 
 pub legal_after : (past : Past) (call : Call) → AllLegal past → AllLegal (after past call)
-legal_after past call all = legal_called past _ call (place_of call.who (session_names past)) all
+legal_after past call all = legal_called past call (place_of call.who (session_names past)) all
 
 pub legal_past : (calls : List Call) → AllLegal (past_of calls)
 legal_past [] = λ d. start

@@ -7,7 +7,7 @@ use Rattle.sky_model.specs.declared.line.Cause.TheVariants.{TooLong, Truncated, 
 use Rattle.sky_model.specs.Grammar.{line_of}
 use Rattle.sky_model.specs.History.{Past}
 use Rattle.sky_model.specs.Lines.{Split, split}
-use Rattle.sky_model.specs.World.{Call, after}
+use Rattle.sky_model.specs.Calls.{Call, after}
 use Rattle.sky_model.specs.Transcript.{most_in_line, most_in_script, Said, asks, idle, bad, said_by, said, with_said, calls_from, unended, bad_or, bad_from, call_text, text_from, transcript_from, bad_line_from}
 use Rattle.sky_model.proofs.Splitting.{IsUnbroken, with_bytes, split-front, split-unbroken, split-line}
 

@@ -1,16 +1,40 @@
 -- From what the world shows to what has happened.
-use Rattle.std.proofs.Common.{◌≡◌, ℕ, List, sym, ◌∙◌, ap}
+use Rattle.std.proofs.Common.{◌≡◌, ℕ, List, nat_le, length, Option, Some, None, sym, ◌∙◌, ap, if◌then◌else◌}
+use Rattle.sky_model.specs.declared.stmt.Stmt.{Stmt}
 use Rattle.sky_model.specs.declared.reply.Reply.{Reply}
+use Rattle.sky_model.specs.declared.reply.Refusal.TheVariants.{TooMany}
+use Rattle.sky_model.specs.declared.reply.Limit.TheVariants.{Sessions}
+use Rattle.sky_names.specs.Places.{place_of}
 use Rattle.sky_model.specs.History.{Past}
-use Rattle.sky_model.specs.World.{World, world_of, Call, Deed, step, does, after, past_of, answers_of, after_facts, history_in}
+use Rattle.sky_model.specs.World.{World, world_of, session_names, history_in, on_top, after_facts}
+use Rattle.sky_model.specs.Reader.{by_past, by_world, Deed, refuses, appears, joined, followed}
+use Rattle.sky_model.specs.Calls.{session_does, turn, Call, called, does, after, past_of, answers_of}
 use Rattle.sky_model.specs.Steps.{Steps, deed_at, answers_at, after_call}
 use Rattle.sky_model.proofs.Marks.{world_of-facts}
 use Rattle.sky_model.proofs.Selecting.{batch_events-selected}
 use Rattle.sky_model.proofs.Lawful.{AllLegal, legal_past}
 
+-- a turn reads the same by what has happened as by what the world shows
+same-turn : (past : Past) → AllLegal past → (who : ℕ) (stmt : Stmt) → turn by_past who stmt past ≡ turn by_world who stmt (world_of past)
+same-turn past all who stmt =
+    ap (λ shown. session_does (world_of past) shown who stmt ((world_of past).homes who))
+    (λ i d. record { events = λ b. batch_events-selected (history_in past d) (all d) b i })
+
+-- so does one behind another, where each of them does
+same-followed : (past : Past) (rest : Past → Deed) (rest_shown : World → Deed) (deed : Deed) → AllLegal (on_top past deed.facts)
+    → ((later : Past) → AllLegal later → rest later ≡ rest_shown (world_of later)) → followed by_past past rest deed ≡ followed by_world (world_of past) rest_shown deed
+same-followed past rest rest_shown deed all same = ap (joined deed) (same (on_top past deed.facts) all ∙ ap rest_shown (world_of-facts past deed.facts))
+
+same-called : (past : Past) → AllLegal past → (call : Call) (found : Option ℕ) → called by_past past call found ≡ called by_world (world_of past) call found
+same-called past all call (Some who) = same-turn past all who call.stmt
+same-called past all call None =
+    ap (λ deed. if nat_le 256 (length (session_names past)) then refuses (length (session_names past)) (TooMany Sessions) else deed)
+    (same-followed past (turn by_past (length (session_names past)) call.stmt) (turn by_world (length (session_names past)) call.stmt) (appears call.who) all
+    (λ later legal. same-turn later legal (length (session_names past)) call.stmt))
+
 -- what a call does follows from what the world shows
 does-deed_at : (past : Past) → AllLegal past → (call : Call) → does past call ≡ deed_at (world_of past) call
-does-deed_at past all call = ap (λ f. step (world_of past) f call) (λ i d b. batch_events-selected (history_in past d) (all d) b i)
+does-deed_at past all call = same-called past all call (place_of call.who (session_names past))
 
 answers_of-answers_at : (past : Past) → AllLegal past → (call : Call) → answers_of past call ≡ answers_at (world_of past) call
 answers_of-answers_at past all call = ap Deed.answers (does-deed_at past all call)

@@ -5,7 +5,8 @@ use Rattle.sky_model.specs.declared.stmt.Stmt.TheVariants.{OpenDb, CreateQueue, 
 use Rattle.sky_model.specs.History.{Batch, History}
 use Rattle.sky_model.specs.Queues.{events}
 use Rattle.sky_model.specs.Consumers.{subscription_id, position}
-use Rattle.sky_model.specs.World.{history_in, past_of}
+use Rattle.sky_model.specs.World.{history_in}
+use Rattle.sky_model.specs.Calls.{past_of}
 use Rattle.sky_model.specs.LawsOfBatches.{first_tick, finished, stands_between, stands_in}
 
 -- an event before the consumer registers and one behind, each before a tick, and two batches, the last statement first

@@ -1,7 +1,8 @@
 -- The places of a history, of which the laws speak.
 use Rattle.std.specs.Prelude.{◌≡◌, ℕ, List, ◌++◌}
 use Rattle.sky_model.specs.History.{Mark, History}
-use Rattle.sky_model.specs.World.{history_in, Call, past_of}
+use Rattle.sky_model.specs.World.{history_in}
+use Rattle.sky_model.specs.Calls.{Call, past_of}
 
 -- a place: calls made a database's history, and this stood below what came later
 pub record IsPlace (p : History) : Type 0 where

@@ -17,6 +17,8 @@ pub mod StepConsumer
 pub mod StepSession
 pub mod Selection
 pub mod World
+pub mod Reader
+pub mod Calls
 pub mod HistoryPlaces
 pub mod LawsOfSnapshots
 pub mod LawsOfBatches

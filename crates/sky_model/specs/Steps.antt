@@ -2,8 +2,9 @@
 -- that the definitions give there, and the world is as it is after the call.
 use Rattle.std.specs.Prelude.{◌≡◌, ℕ, List, ◌∷◌}
 use Rattle.sky_model.specs.declared.reply.Reply.{Reply}
-use Rattle.sky_model.specs.Selection.{selected}
-use Rattle.sky_model.specs.World.{World, world_of, Call, Deed, step, past_of, answers_of, after_facts}
+use Rattle.sky_model.specs.World.{World, world_of, after_facts}
+use Rattle.sky_model.specs.Reader.{by_world, Deed}
+use Rattle.sky_model.specs.Calls.{Call, step, past_of, answers_of}
 
 pub record Steps (old new : World) (call : Call) (replies : List (ℕ × Reply)) : Type 0 where
   pub replied : (calls : List Call) → old ≡ world_of (past_of calls) → replies ≡ answers_of (past_of calls) call
@@ -11,7 +12,7 @@ pub record Steps (old new : World) (call : Call) (replies : List (ℕ × Reply))
 
 -- what a call does in a world, by what the world shows alone
 abbrev pub deed_at : World → Call → Deed
-deed_at w call = step w (λ d. selected (w.database d)) call
+deed_at w call = step by_world w call
 
 -- the answers of a call, by what the world shows alone
 abbrev pub answers_at : World → Call → List (ℕ × Reply)

@@ -10,7 +10,8 @@ use Rattle.sky_model.specs.Grammar.{line_of}
 use Rattle.sky_model.specs.History.{Past}
 use Rattle.sky_model.specs.Lines.{split}
 use Rattle.sky_model.specs.Printed.{printed}
-use Rattle.sky_model.specs.World.{Call, after, answers_of, session_names}
+use Rattle.sky_model.specs.World.{session_names}
+use Rattle.sky_model.specs.Calls.{Call, after, answers_of}
 
 -- a line may have this many bytes before its line feed
 abbrev pub most_in_line : ℕ

@@ -7,7 +7,8 @@ use Rattle.sky_io.proofs.AppendsLemmas.{Appends-both}
 use Rattle.sky_model.specs.declared.line.Cause.{Cause}
 use Rattle.sky_model.specs.declared.line.Cause.TheVariants as causes
 use Rattle.sky_model.specs.Transcript.{bad, most_in_line, said, transcript, transcript_from, bad_line, bad_line_from}
-use Rattle.sky_model.specs.World.{World, past_of}
+use Rattle.sky_model.specs.World.{World}
+use Rattle.sky_model.specs.Calls.{past_of}
 use Rattle.sky_model.proofs.Splitting.{IsUnbroken}
 use Rattle.sky_model.proofs.Scripts.{StopsHere, transcript_from-unbroken, said-fits, said-too_late, stops_at_line, stops_unended, stops_too_long}
 use Rattle.sky_script.specs.declared.reader.LineFault.{LineFault}

@@ -6,7 +6,8 @@ use Rattle.std.proofs.KnownBytes as known
 use Rattle.sky_io.proofs.AppendsLemmas.{Appends-both}
 use Rattle.sky_model.specs.Printed.{printed}
 use Rattle.sky_model.specs.Transcript.{Said, asks, idle, bad, said, call_text, transcript, transcript_from, bad_line, bad_line_from}
-use Rattle.sky_model.specs.World.{World, world_of, Call, past_of, after, session_names}
+use Rattle.sky_model.specs.World.{World, world_of, session_names}
+use Rattle.sky_model.specs.Calls.{Call, past_of, after}
 use Rattle.sky_model.proofs.Splitting.{IsUnbroken}
 use Rattle.sky_model.proofs.Scripts.{transcript_from-asks, transcript_from-idle, bad_line_from-asks, bad_line_from-idle, said-fits}
 use Rattle.sky_script.specs.Reader.{Reader, TakesLine}

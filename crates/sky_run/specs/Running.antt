@@ -8,7 +8,8 @@ use Rattle.sky_model.specs.Grammar.{line_of}
 use Rattle.sky_model.specs.Printed.{printed}
 use Rattle.sky_model.specs.Steps.{Steps}
 use Rattle.sky_model.specs.Transcript.{Said, asks, idle, bad, said_by, transcript, transcript_from, bad_line, bad_line_from}
-use Rattle.sky_model.specs.World.{World, world_of, Call, past_of}
+use Rattle.sky_model.specs.World.{World, world_of}
+use Rattle.sky_model.specs.Calls.{Call, past_of}
 
 -- The source told these bytes when the run began, and the sink held `first`. So many bytes were taken as
 -- lines and the next line is the nth; the pending bytes were read and stand in no line yet, and the

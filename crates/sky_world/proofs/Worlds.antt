@@ -5,18 +5,17 @@ use Rattle.std.proofs.lemmas.Bool.Decides.{nat_tests}
 use Rattle.std.proofs.lemmas.Option.{get_or_from_slice_get, slice_get_read}
 use Rattle.sky_names.specs.Places.{place_of}
 use Rattle.sky_names.proofs.PlaceLemmas.{place_of_within}
-use Rattle.sky_val.specs.declared.event.Event.{Event}
 use Rattle.sky_model.specs.declared.stmt.Stmt.{Stmt}
-use Rattle.sky_model.specs.declared.stmt.Stmt.TheVariants.{OpenDb, Close, Cancel, Begin, Commit, Rollback, TxidCurrent, TxidCurrentSnapshot, TxidVisibleInSnapshot, CreateQueue, InsertEvent, Ticker, ForceTick, RegisterConsumer, NextBatch, GetBatchEvents, FinishBatch}
 use Rattle.sky_model.specs.declared.reply.Reply.TheVariants.{Refused}
 use Rattle.sky_model.specs.declared.reply.Refusal.TheVariants.{TooMany}
 use Rattle.sky_model.specs.declared.reply.Limit.TheVariants.{Sessions}
 use Rattle.sky_model.specs.declared.reply.Reply.{Reply}
-use Rattle.sky_model.specs.History.{Batch, Mark, Fact, appeared, founded, entered, left, within}
-use Rattle.sky_model.specs.Selection.{selected}
+use Rattle.sky_model.specs.History.{Mark, Fact, appeared, founded, entered, left, within}
 use Rattle.sky_model.specs.State.{Database, database_of, changed_at, after_mark, after_marks}
 use Rattle.sky_model.specs.Outcome.{Outcome}
-use Rattle.sky_model.specs.World.{World, world_of, Call, Deed, after_fact, after_facts, statement, deed_in, session_does, opens, refuses, first, called}
+use Rattle.sky_model.specs.World.{World, world_of, after_fact, after_facts}
+use Rattle.sky_model.specs.Reader.{shown_by, by_world, Deed, refuses, appears, joined, followed}
+use Rattle.sky_model.specs.Calls.{Call, statement, deed_in, turn, called}
 use Rattle.sky_model.specs.Steps.{Steps, deed_at}
 use Rattle.sky_model.proofs.Standing.{steps_from_exact}
 use Rattle.sky_world.specs.Views.{DatabaseView, WorldView}
@@ -183,9 +182,9 @@ after_facts-append w (x ∷ xs) ys = after_facts-append (after_fact w x) xs ys
 -- what a statement of a database gives in the world
 pub gives-within : (v now : WorldView) (d who : ℕ) (old new : DatabaseView) (stmt : Stmt) (reply : Reply) → v ≡ now → d < length v.stores
     → get_or v.stores d no_database ≡ old
-    → Gives (seen_database old) (seen_database new) reply (statement (seen_database old) (selected (seen_database old)) v.now who stmt)
+    → Gives (seen_database old) (seen_database new) reply (statement (seen_database old) (shown_by (seen_database old)) v.now who stmt)
     → GivesDeed (seen_world now) (seen_world (record v { stores = slice_set v.stores d new })) who reply
-    (deed_in who d false (statement ((seen_world now).database d) (selected ((seen_world now).database d)) (seen_world now).now who stmt))
+    (deed_in who d false (statement ((seen_world now).database d) (shown_by ((seen_world now).database d)) (seen_world now).now who stmt))
 gives-within v now d who old new stmt reply same lt there gives = record {
   answered = ap (λ r. (who, r) ∷ []) (sym (gives.replied ∙ ap Outcome.reply outcome_is));
   changed = shown
@@ -196,37 +195,37 @@ gives-within v now d who old new stmt reply same lt there gives = record {
 }
   where
     there_outcome : Outcome
-    there_outcome = statement ((seen_world now).database d) (selected ((seen_world now).database d)) (seen_world now).now who stmt
+    there_outcome = statement ((seen_world now).database d) (shown_by ((seen_world now).database d)) (seen_world now).now who stmt
 
-    outcome_is : statement (seen_database old) (selected (seen_database old)) v.now who stmt ≡ there_outcome
+    outcome_is : statement (seen_database old) (shown_by (seen_database old)) v.now who stmt ≡ there_outcome
     outcome_is =
-        ap (λ x. statement (seen_database x) (selected (seen_database x)) v.now who stmt) (sym there)
-        ∙ ap (λ w. statement ((seen_world w).database d) (selected ((seen_world w).database d)) (seen_world w).now who stmt) same
+        ap (λ x. statement (seen_database x) (shown_by (seen_database x)) v.now who stmt) (sym there)
+        ∙ ap (λ w. statement ((seen_world w).database d) (shown_by ((seen_world w).database d)) (seen_world w).now who stmt) same
 
     by : (n : ℕ) (b : Bool) → (d == n) ≡ b → seen_database (if b then new else get_or v.stores n no_database)
-        ≡ (if b then after_marks (seen_database (get_or v.stores n no_database)) (statement (seen_database old) (selected (seen_database old)) v.now who stmt).marks else seen_database (get_or v.stores n no_database))
+        ≡ (if b then after_marks (seen_database (get_or v.stores n no_database)) (statement (seen_database old) (shown_by (seen_database old)) v.now who stmt).marks else seen_database (get_or v.stores n no_database))
     by n true e =
         let one : d ≡ n = grind (arith, nat_tests) in
         gives.changed
-        ∙ ap (λ x. after_marks (seen_database x) (statement (seen_database old) (selected (seen_database old)) v.now who stmt).marks) (sym there)
-        ∙ ap (λ m. after_marks (seen_database (get_or v.stores m no_database)) (statement (seen_database old) (selected (seen_database old)) v.now who stmt).marks) one
+        ∙ ap (λ x. after_marks (seen_database x) (statement (seen_database old) (shown_by (seen_database old)) v.now who stmt).marks) (sym there)
+        ∙ ap (λ m. after_marks (seen_database (get_or v.stores m no_database)) (statement (seen_database old) (shown_by (seen_database old)) v.now who stmt).marks) one
     by n false e = refl
 
     shown : seen_world (record v { stores = slice_set v.stores d new })
-        ≡ record (seen_world v) { database = changed_at d (λ y. after_marks y (statement (seen_database old) (selected (seen_database old)) v.now who stmt).marks) (seen_world v).database }
+        ≡ record (seen_world v) { database = changed_at d (λ y. after_marks y (statement (seen_database old) (shown_by (seen_database old)) v.now who stmt).marks) (seen_world v).database }
     shown = λ i. record (seen_world v) {
       database = λ n. (ap seen_database (get_or-changed v.stores d n new no_database lt) ∙ by n (d == n) refl) i;
     }
 
 pub gives-run : (v now : WorldView) (d who : ℕ) (old new : DatabaseView) (stmt : Stmt) (reply : Reply) (t : ℤ) → v ≡ now → d < length now.stores → old ≡ get_or v.stores d old → t ≡ v.now
-    → Gives (seen_database old) (seen_database new) reply (statement (seen_database old) (selected (seen_database old)) t who stmt)
+    → Gives (seen_database old) (seen_database new) reply (statement (seen_database old) (shown_by (seen_database old)) t who stmt)
     → GivesDeed (seen_world now) (seen_world (record v { stores = slice_set v.stores d new })) who reply
-    (deed_in who d false (statement ((seen_world now).database d) (selected ((seen_world now).database d)) (seen_world now).now who stmt))
+    (deed_in who d false (statement ((seen_world now).database d) (shown_by ((seen_world now).database d)) (seen_world now).now who stmt))
 gives-run v now d who old new stmt reply t same lt at is gives =
     let there : d < length v.stores = subst (λ (w : WorldView). d < length w.stores) (sym same) lt in
     gives-within v now d who old new stmt reply same there
     (get_or_from_slice_get v.stores d old no_database (slice_get_read v.stores (length v.stores) d old refl there at))
-    (subst (λ x. Gives (seen_database old) (seen_database new) reply (statement (seen_database old) (selected (seen_database old)) x who stmt)) is gives)
+    (subst (λ x. Gives (seen_database old) (seen_database new) reply (statement (seen_database old) (shown_by (seen_database old)) x who stmt)) is gives)
 
 -- a statement with which its session stays
 pub gives-stayed : (old new : World) (d who : ℕ) (leaving : Bool) (reply : Reply) (outcome : Outcome) → leaving ≡ false → GivesDeed old new who reply (deed_in who d false outcome)
@@ -243,36 +242,14 @@ gives-left old s new d who leaving reply outcome leaves gives is =
           ∙ sym (after_facts-append old (map (within d) outcome.marks) (left who ∷ []));
     })
 
--- what a statement does doesn't hang on the names of sessions
-session_does-sessions : (w : World) (names : List (List ℕ)) (f : ℕ → Batch → List Event) (who : ℕ) (stmt : Stmt) (home : Option ℕ)
-    → session_does (record w { sessions = names }) f who stmt home ≡ session_does w f who stmt home
-session_does-sessions w names f who stmt (Some d) = refl
-session_does-sessions w names f who (OpenDb name) None = by (place_of name w.databases)
-  where
-    by : (found : Option ℕ) → opens (record w { sessions = names }) who name found ≡ opens w who name found
-    by None = refl
-    by (Some d) = refl
-session_does-sessions w names f who Close None = refl
-session_does-sessions w names f who Cancel None = refl
-session_does-sessions w names f who Begin None = refl
-session_does-sessions w names f who Commit None = refl
-session_does-sessions w names f who Rollback None = refl
-session_does-sessions w names f who TxidCurrent None = refl
-session_does-sessions w names f who TxidCurrentSnapshot None = refl
-session_does-sessions w names f who (TxidVisibleInSnapshot txid snapshot) None = refl
-session_does-sessions w names f who (CreateQueue queue) None = refl
-session_does-sessions w names f who (InsertEvent queue ev_type ev_data extra) None = refl
-session_does-sessions w names f who (Ticker queue) None = refl
-session_does-sessions w names f who (ForceTick queue) None = refl
-session_does-sessions w names f who (RegisterConsumer queue consumer) None = refl
-session_does-sessions w names f who (NextBatch queue consumer) None = refl
-session_does-sessions w names f who (GetBatchEvents batch) None = refl
-session_does-sessions w names f who (FinishBatch batch) None = refl
-
 -- a call of a session that is known
 pub answers-known : (old new : World) (call : Call) (who : ℕ) (reply : Reply) → Some who ≡ place_of call.who old.sessions
-    → GivesDeed old new who reply (session_does old (λ d. selected (old.database d)) who call.stmt (old.homes who)) → GivesDeed old new who reply (deed_at old call)
-answers-known old new call who reply place gives = subst (GivesDeed old new who reply) (ap (λ found. called old (λ d. selected (old.database d)) call found) place) gives
+    → GivesDeed old new who reply (turn by_world who call.stmt old) → GivesDeed old new who reply (deed_at old call)
+answers-known old new call who reply place gives = subst (GivesDeed old new who reply) (ap (called by_world old call) place) gives
+
+-- what a session does that isn't known: it is refused, or appears and has its turn
+abbrev unknown : World → Call → Bool → Deed
+unknown w call full = if full then refuses (length w.sessions) (TooMany Sessions) else followed by_world w (turn by_world (length w.sessions) call.stmt) (appears call.who)
 
 -- a call that would bring a session too many
 pub answers-full : (old : World) (call : Call) (who : ℕ) → place_of call.who old.sessions ≡ None → 256 ≤ length old.sessions → who ≡ length old.sessions
@@ -285,32 +262,24 @@ answers-full old call who place full is = record {
     whole : deed_at old call ≡ refuses (length old.sessions) (TooMany Sessions)
     whole =
         let many : nat_le 256 (length old.sessions) ≡ true = grind (arith, nat_tests) in
-        ap (λ found. called old (λ d. selected (old.database d)) call found) place
-        ∙ ap (λ (b : Bool). if b then refuses (length old.sessions) (TooMany Sessions) else first (appeared call.who) (session_does old (λ d. selected (old.database d)) (length old.sessions) call.stmt (old.homes (length old.sessions)))) many
+        ap (called by_world old call) place ∙ ap (unknown old call) many
 
 -- the first call of a session
-pub answers-new : (old appears new : World) (call : Call) (who : ℕ) (reply : Reply) → place_of call.who old.sessions ≡ None → length old.sessions < 256
-    → appears ≡ after_fact old (appeared call.who) → who ≡ length old.sessions
-    → GivesDeed appears new who reply (session_does appears (λ d. selected (appears.database d)) who call.stmt (appears.homes who)) → GivesDeed old new who reply (deed_at old call)
-answers-new old appears new call who reply place room is number gives = record {
-  answered = ap Deed.answers (whole ∙ ap (first (appeared call.who)) (sym same)) ∙ gives.answered;
-  changed = gives.changed ∙ ap (λ w. after_facts w (session_does appears (λ d. selected (appears.database d)) who call.stmt (appears.homes who)).facts) is
-      ∙ ap (λ (x : Deed). after_facts (after_fact old (appeared call.who)) x.facts) same
-      ∙ ap (λ (x : Deed). after_facts old x.facts) (sym whole);
+pub answers-new : (old with_it new : World) (call : Call) (who : ℕ) (reply : Reply) → place_of call.who old.sessions ≡ None → length old.sessions < 256
+    → with_it ≡ after_fact old (appeared call.who) → who ≡ length old.sessions
+    → GivesDeed with_it new who reply (turn by_world who call.stmt with_it) → GivesDeed old new who reply (deed_at old call)
+answers-new old with_it new call who reply place room is number gives = record {
+  answered = ap Deed.answers (whole ∙ same) ∙ gives.answered;
+  changed = gives.changed ∙ ap (λ w. after_facts w (turn by_world who call.stmt with_it).facts) is ∙ ap (λ (x : Deed). after_facts old x.facts) (sym (whole ∙ same));
 }
   where
-    same : session_does appears (λ d. selected (appears.database d)) who call.stmt (appears.homes who)
-        ≡ session_does old (λ d. selected (old.database d)) (length old.sessions) call.stmt (old.homes (length old.sessions))
-    same =
-        ap (λ (w : World). session_does w (λ d. selected (w.database d)) who call.stmt (w.homes who)) is
-        ∙ session_does-sessions old (old.sessions ++ call.who ∷ []) (λ d. selected (old.database d)) who call.stmt (old.homes who)
-        ∙ ap (λ n. session_does old (λ d. selected (old.database d)) n call.stmt (old.homes n)) number
-
-    whole : deed_at old call ≡ first (appeared call.who) (session_does old (λ d. selected (old.database d)) (length old.sessions) call.stmt (old.homes (length old.sessions)))
+    whole : deed_at old call ≡ followed by_world old (turn by_world (length old.sessions) call.stmt) (appears call.who)
     whole =
         let few : nat_le 256 (length old.sessions) ≡ false = grind (arith, nat_tests) in
-        ap (λ found. called old (λ d. selected (old.database d)) call found) place
-        ∙ ap (λ (b : Bool). if b then refuses (length old.sessions) (TooMany Sessions) else first (appeared call.who) (session_does old (λ d. selected (old.database d)) (length old.sessions) call.stmt (old.homes (length old.sessions)))) few
+        ap (called by_world old call) place ∙ ap (unknown old call) few
+
+    same : followed by_world old (turn by_world (length old.sessions) call.stmt) (appears call.who) ≡ joined (appears call.who) (turn by_world who call.stmt with_it)
+    same = ap (joined (appears call.who)) (ap (λ n. turn by_world n call.stmt (after_fact old (appeared call.who))) (sym number) ∙ ap (turn by_world who call.stmt) (sym is))
 
 -- the answers of a step
 pub steps-answered : (old new : World) (call : Call) (who : ℕ) (reply : Reply) (replies : List (ℕ × Reply)) → replies ≡ (who, reply) ∷ [] → GivesDeed old new who reply (deed_at old call) → Steps old new call replies

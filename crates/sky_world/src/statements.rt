@@ -13,7 +13,8 @@ ghost use Rattle.sky_model.specs.StepConsumer.{has_dot, opens_batch, register_co
 ghost use Rattle.sky_model.specs.StepSession.{begin, commit, rollback, close, txid_current, txid_current_snapshot, txid_visible_in_snapshot};
 ghost use Rattle.sky_model.specs.Selection.{selected};
 ghost use Rattle.sky_model.specs.Allowed.{where_of, allowed};
-ghost use Rattle.sky_model.specs.World.{form, attempt, statement};
+ghost use Rattle.sky_model.specs.Reader.{shown_by};
+ghost use Rattle.sky_model.specs.Calls.{form, attempt, statement};
 ghost use Rattle.sky_world.specs.Ticks.{IsTime};
 ghost use Rattle.sky_world.specs.Seen.{seen_database};
 ghost use Rattle.sky_world.specs.Gives.{Gives, Does, Ran, StopsAs};
@@ -47,7 +48,7 @@ impl Database {
     pub fn run(&mut self, now: i64, who: SessionId, stmt: &Stmt) -> Result<Reply, AllocError>
         requires { IsTime now }
         ensures gives { IfOk result (λ reply. Gives (seen_database self.old) (seen_database self.new) reply
-            (statement (seen_database self.old) (selected (seen_database self.old)) now who stmt.now)) }
+            (statement (seen_database self.old) (shown_by (seen_database self.old)) now who stmt.now)) }
         ensures moments { IfOk result ReplyHasMoments }
     {
         match self.run_allowed(now, who, stmt) {
@@ -63,7 +64,7 @@ impl Database {
     /// Runs a statement that its session may make where it stands.
     fn run_allowed(&mut self, now: i64, who: SessionId, stmt: &Stmt) -> Result<Reply, Stop>
         requires { IsTime now }
-        ensures { Ran self.old self.new result (attempt (seen_database self.old) (selected (seen_database self.old)) now who stmt.now) }
+        ensures { Ran self.old self.new result (attempt (seen_database self.old) (shown_by (seen_database self.old)) now who stmt.now) }
     {
         allow(self.block(who), stmt)?;
         self.run_form(now, who, stmt)
@@ -72,7 +73,7 @@ impl Database {
     fn run_form(&mut self, now: i64, who: SessionId, stmt: &Stmt) -> Result<Reply, Stop>
         requires time { IsTime now }
         requires allowed { allowed ((seen_database self.old).session who).block (where_of stmt.now) ≡ Ok tt }
-        ensures { Ran self.old self.new result (form (seen_database self.old) (selected (seen_database self.old)) now who stmt.now) }
+        ensures { Ran self.old self.new result (form (seen_database self.old) (shown_by (seen_database self.old)) now who stmt.now) }
     {
         match stmt {
             Stmt::OpenDb { name: _ } => Err(Stop::Refused(Refusal::AlreadyOpen)),

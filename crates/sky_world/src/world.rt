@@ -2,9 +2,10 @@ ghost use Rattle.std.specs.Prelude.{◌≡◌, ◌+◌, ◌<◌, ◌≤◌, [], 
 ghost use Rattle.sky_names.specs.Places.{place_of};
 ghost use Rattle.sky_model.specs.History.{appeared, founded, entered, left};
 ghost use Rattle.sky_model.specs.Printed.{HaveMoments, ReplyHasMoments};
-ghost use Rattle.sky_model.specs.Selection.{selected};
-ghost use Rattle.sky_model.specs.World.{world_of, after_fact, statement, deed_in, opens, unopened, session_does};
-ghost use Rattle.sky_model.specs.World as spec;
+ghost use Rattle.sky_model.specs.World.{world_of, after_fact};
+ghost use Rattle.sky_model.specs.Reader.{shown_by, by_world};
+ghost use Rattle.sky_model.specs.Calls.{statement, deed_in, opens, unopened, session_does, turn};
+ghost use Rattle.sky_model.specs.Calls as spec;
 ghost use Rattle.sky_model.specs.Steps.{Steps, deed_at};
 ghost use Rattle.sky_world.specs.Seen.{seen_world};
 ghost use Rattle.sky_world.specs.GivesDeed.{GivesDeed};
@@ -172,8 +173,7 @@ impl World {
     /// Runs a statement of a session.
     fn run(&mut self, who: SessionId, stmt: &Stmt) -> Result<Reply, AllocError>
         requires { who < length self.old.homes }
-        ensures gives { IfOk result (λ reply. GivesDeed (seen_world self.old) (seen_world self.new) who reply
-            (session_does (seen_world self.old) (λ d. selected ((seen_world self.old).database d)) who stmt.now ((seen_world self.old).homes who))) }
+        ensures gives { IfOk result (λ reply. GivesDeed (seen_world self.old) (seen_world self.new) who reply (turn by_world who stmt.now (seen_world self.old))) }
         ensures moments { IfOk result ReplyHasMoments }
         ensures sessions { OnOk result (self.new.sessions ≡ self.old.sessions) }
     {
@@ -196,7 +196,7 @@ impl World {
         requires who { who < length self.old.homes }
         requires database { database < length self.old.stores }
         ensures gives { IfOk result (λ reply. GivesDeed (seen_world self.old) (seen_world self.new) who reply
-            (session_does (seen_world self.old) (λ d. selected ((seen_world self.old).database d)) who stmt.now (Some database))) }
+            (session_does (seen_world self.old) (λ d. shown_by ((seen_world self.old).database d)) who stmt.now (Some database))) }
         ensures moments { IfOk result ReplyHasMoments }
         ensures sessions { OnOk result (self.new.sessions ≡ self.old.sessions) }
     {
@@ -216,7 +216,7 @@ impl World {
     ) -> Result<Reply, AllocError>
         requires { database < length self.old.stores }
         ensures gives { IfOk result (λ reply. GivesDeed (seen_world self.old) (seen_world self.new) who reply
-            (deed_in who database false (statement ((seen_world self.old).database database) (selected ((seen_world self.old).database database)) (seen_world self.old).now who stmt.now))) }
+            (deed_in who database false (statement ((seen_world self.old).database database) (shown_by ((seen_world self.old).database database)) (seen_world self.old).now who stmt.now))) }
         ensures moments { IfOk result ReplyHasMoments }
         ensures sessions { OnOk result (self.new.sessions ≡ self.old.sessions) }
         ensures homes { OnOk result (length self.new.homes ≡ length self.old.homes) }

@@ -1,7 +1,7 @@
 use Rattle.std.proofs.Common.{ℤ, subst, w64}
 use Rattle.std.proofs.lemmas.Int.{to_z-of_z}
-use Rattle.sky_model.specs.Selection.{selected}
-use Rattle.sky_model.specs.World.{attempt}
+use Rattle.sky_model.specs.Reader.{shown_by}
+use Rattle.sky_model.specs.Calls.{attempt}
 use Rattle.sky_world.specs.Seen.{seen_database}
 use Rattle.sky_world.specs.Gives.{Stops}
 use Rattle.sky_world.proofs.Databases.{gives-refused}
@@ -10,7 +10,7 @@ use Rattle.sky_world.proofs.database.Database.run.Goals as goal
 pub returns-in_ok-abort-in-Err-Refused-clause-gives : goal.returns-in_ok-abort-in-Err-Refused-clause-gives
 returns-in_ok-abort-in-Err-Refused-clause-gives c =
     let d = seen_database c.args.self.now in
-    let tried = λ (now : ℤ). attempt d (selected d) now c.args.who c.args.stmt.now in
+    let tried = λ (now : ℤ). attempt d (shown_by d) now c.args.who c.args.stmt.now in
     gives-refused d (seen_database c.run_allowed.new.self) _ c.args.who c.in-Err-Refused.refusal (tried c.args.now)
     (subst (λ stop. Stops stop d (seen_database c.run_allowed.new.self) (tried c.args.now)) c.in-Err-Refused.field-0-is
     (subst (λ now. Stops c.in-Err-Refused.field-0 d (seen_database c.run_allowed.new.self) (tried now)) (to_z-of_z w64 c.args.now c.ranges.now) c.in-Err-Refused.ensures))
