@@ -1,1 +1,5 @@
+pub mod Entries
 pub mod Kept
+pub mod Order
+pub mod OrderLaws
+pub mod Schemas

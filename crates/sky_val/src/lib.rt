@@ -1,15 +1,29 @@
-//! Values that every other crate speaks of: texts, events and session numbers.
+//! Values that every other crate speaks of: texts, rows and keys, the schema of a table, events and
+//! session numbers.
 //!
-//! A `Text` is seen as the list of its bytes, which are UTF-8. An `Event` is seen as its fields.
-//! Nothing here knows a queue, a transaction or a database.
+//! A `Text` is seen as the list of its bytes, which are UTF-8, a `Row` and a `Key` as the lists of
+//! their values, a `Schema` as the list of its columns, and an `Event` as its fields. Nothing here
+//! knows a queue, a transaction or a database, nor which rows a table has.
 #![tactic(auto)]
 
+mod column;
 mod event;
+mod key;
+mod op;
+mod row;
+mod schema;
 mod text;
+mod val;
 
+pub use column::{ColKind, Column};
 pub use event::Event;
+pub use key::Key;
+pub use op::Op;
+pub use row::Row;
+pub use schema::{RowFault, Schema, SchemaFault};
 use std::alloc::AllocError;
 pub use text::{Text, TextFault, copy_option};
+pub use val::Val;
 
 /// Want of memory, the one answer that no clause ties to a cause.
 pub type NoMemory = AllocError;

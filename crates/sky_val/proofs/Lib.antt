@@ -1,0 +1,4 @@
+pub mod EntryLemmas
+pub mod Orders
+pub mod SchemaLemmas
+pub mod SchemaLaws

@@ -1,0 +1,101 @@
+ghost use Rattle.std.specs.Prelude.{◌≡◌, IfOk};
+
+use crate::NoMemory;
+use crate::val::{Val, copy_values};
+use std::alloc::Global;
+use std::cmp::Ordering;
+use std::marker::Model;
+
+/// A key of a row: the values of the key columns, in their order.
+#[derive(Debug, Drop)]
+pub struct Key {
+    values: Vec<Val>,
+}
+
+impl Model for Key {
+    ghost use Rattle.std.specs.Prelude.{List};
+    ghost use Rattle.sky_val.specs.declared.val.Val.{Val};
+
+    ghost Value = { List Val };
+
+    ghost view = { λ key. key.values.items };
+}
+
+impl Key {
+    /// The key of these values.
+    pub fn new(values: Vec<Val>) -> Key
+        ensures { result ≡ values.items }
+    {
+        Key { values }
+    }
+
+    /// Its values, in order.
+    pub fn values(&self) -> &[Val]
+        ensures { result.now ≡ self.now }
+    {
+        self.values.as_slice()
+    }
+
+    /// An equal key.
+    pub fn copy(&self, alloc: Global) -> Result<Key, NoMemory>
+        ensures { IfOk result (λ key. key ≡ self.now) }
+    {
+        let values = copy_values(alloc, &self.values)?;
+        Ok(Key { values })
+    }
+}
+
+impl PartialEq for Key {
+    ghost use Rattle.std.specs.Cmp.{partial_equiv_from_equiv};
+    ghost use Rattle.std.specs.Cmp.Lexicographic.{pointwise, lists_equiv};
+    ghost use Rattle.sky_val.specs.contracts.val.ValEq.TheImpl.Laws as same;
+
+    ghost eq = { pointwise ⟦<Val as PartialEq>⟧.eq };
+
+    ghost laws = { partial_equiv_from_equiv (lists_equiv same.laws-law) };
+
+    fn eq(&self, other: &Key) -> bool {
+        self.values() == other.values()
+    }
+}
+
+impl Eq for Key {
+    ghost use Rattle.std.specs.Cmp.Lexicographic.{lists_equiv};
+    ghost use Rattle.sky_val.specs.contracts.val.ValEq.TheImpl.Laws as same;
+
+    ghost laws = { lists_equiv same.laws-law };
+}
+
+impl PartialOrd for Key {
+    ghost use Rattle.std.specs.Ordering.{as_partial_cmp};
+    ghost use Rattle.std.specs.Cmp.{partial_order_from_agreeing_total};
+    ghost use Rattle.std.proofs.Common.{refl};
+    ghost use Rattle.sky_val.specs.Order.{key_cmp};
+    ghost use Rattle.sky_val.specs.OrderLaws.{key_cmp-IsTotalOrder, key_eq-ties};
+
+    ghost partial_cmp = { as_partial_cmp key_cmp };
+
+    ghost laws = { partial_order_from_agreeing_total key_cmp key_cmp-IsTotalOrder (λ x y. refl) key_eq-ties };
+
+    fn partial_cmp(&self, other: &Key) -> Option<Ordering> {
+        Some(self.cmp(other))
+    }
+}
+
+impl Ord for Key {
+    ghost use Rattle.std.proofs.Common.{refl};
+    ghost use Rattle.sky_val.specs.Order.{key_cmp};
+    ghost use Rattle.sky_val.specs.OrderLaws.{key_cmp-IsTotalOrder, key_eq-ties};
+
+    ghost cmp = { key_cmp };
+
+    ghost total = { key_cmp-IsTotalOrder };
+
+    ghost matches_partial_cmp = { λ x y. refl };
+
+    ghost matches_eq = { key_eq-ties };
+
+    fn cmp(&self, other: &Key) -> Ordering {
+        self.values().cmp(other.values())
+    }
+}
