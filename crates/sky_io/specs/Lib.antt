@@ -2,3 +2,4 @@ pub mod Faults
 pub mod Appends
 pub mod Supply
 pub mod Store
+pub mod Reading

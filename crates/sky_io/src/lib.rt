@@ -3,7 +3,8 @@
 //! A `Source` gives bytes and a `Sink` takes them. Each may tell its bytes to the contracts, and
 //! counts its faults: `Failed` comes only where the count rose. `MemSource` and `MemSink` hold their
 //! bytes in memory, tell them, and fail at the calls that they are given. `StdSource` and `StdSink`
-//! stand over std's `Read` and `Write` and tell nothing: they are the trusted edge.
+//! stand over std's `Read` and `Write`: the source tells what its reader tells, the sink nothing. Over
+//! the system's own streams, which tell nothing, they are the trusted edge.
 #![tactic(auto)]
 
 mod mem_sink;

@@ -1,5 +1,6 @@
-ghost use Rattle.std.specs.Prelude.{◌≡◌, ◌<◌, ◌≤◌, None, OnErr, OnOk, length};
+ghost use Rattle.std.specs.Prelude.{◌≡◌, ◌<◌, ◌≤◌, OnErr, OnOk, length};
 ghost use Rattle.std.specs.Io.{ReadsAtMost};
+ghost use Rattle.std.specs.Io.KnownBytes.{ReadConsumes};
 ghost use Rattle.sky_io.specs.Faults.{Rose, count_of, raised};
 ghost use Rattle.std.proofs.Common.{rules};
 
@@ -8,7 +9,8 @@ use std::io;
 use std::io::{ErrorKind, Read};
 use std::marker::Model;
 
-/// A source over one of std's readers. It tells no bytes, and is seen as the count of its faults.
+/// A source over one of std's readers. It tells what the reader tells, and is seen as the reader and the
+/// count of its faults.
 #[derive(Drop)]
 pub struct StdSource<R> {
     reader: R,
@@ -16,38 +18,39 @@ pub struct StdSource<R> {
 }
 
 impl<R> Model for StdSource<R> {
-    ghost use Rattle.std.specs.Prelude.{ℕ};
+    ghost use Rattle.sky_io.specs.Reading.{Reading};
 
-    ghost Value = { ℕ };
+    ghost Value = { Reading R };
 
-    ghost view = { λ s. s.faults };
+    ghost view = { λ s. record { reader = s.reader; faults = s.faults } };
 }
 
 impl<R: Read> StdSource<R> {
     /// A source that reads from `reader`.
     pub fn new(reader: R) -> StdSource<R>
-        ensures { result ≡ 0 }
+        ensures { result ≡ record { reader = reader; faults = 0 } }
     {
         StdSource { reader, faults: 0 }
     }
 }
 
 impl<R: Read> Source for StdSource<R> {
-    ghost left = { λ _. None };
+    ghost left = { λ source. R.remaining source.reader };
 
-    ghost faults = { count_of };
+    ghost faults = { λ source. count_of source.faults };
 
     ghost bounded = { Prim.search rules };
 
     fn read(&mut self, buf: &mut [u8]) -> Result<usize, Failed>
         requires { 0 < length buf.old }
         ensures at_most { ReadsAtMost result buf.new }
-        ensures failed { OnErr result (Rose (count_of self.old) (count_of self.new)) }
-        ensures never_falls { count_of self.old ≤ count_of self.new }
+        ensures consumes { ReadConsumes (R.remaining self.old.reader) (R.remaining self.new.reader) result buf.new }
+        ensures failed { OnErr result (Rose (count_of self.old.faults) (count_of self.new.faults)) }
+        ensures never_falls { count_of self.old.faults ≤ count_of self.new.faults }
 
         // What this source tells beside.
-        ensures ok { OnOk result (self.new ≡ self.old) }
-        ensures err { OnErr result (self.new ≡ raised self.old) }
+        ensures ok { OnOk result (self.new.faults ≡ self.old.faults) }
+        ensures err { OnErr result (self.new.faults ≡ raised self.old.faults) }
     {
         match read_retrying(&mut self.reader, buf) {
             Ok(count) => Ok(count),
@@ -65,9 +68,10 @@ const RETRIES: usize = 1000;
 // A process that was stopped and continued finds its read interrupted, which is no fault of the
 // reader's. A reader that answers nothing else is one in the end.
 fn read_retrying<R: Read>(reader: &mut R, buf: &mut [u8]) -> io::Result<usize>
-    ensures { ReadsAtMost result buf.new }
+    ensures at_most { ReadsAtMost result buf.new }
+    ensures consumes { ReadConsumes (R.remaining reader.old) (R.remaining reader.new) result buf.new }
 {
-    for _ in 0..RETRIES {
+    'tries: for _ in 0..RETRIES {
         match reader.read(buf) {
             Err(error) if error.kind() == ErrorKind::Interrupted => {}
             read => return read,
