@@ -135,6 +135,13 @@ impl Trans {
         self.next
     }
 
+    /// The ids that run, in rising order.
+    pub fn ids(&self) -> &[u64]
+        ensures { result.now ≡ self.now.running }
+    {
+        self.running.as_slice()
+    }
+
     /// The least id that runs.
     pub fn least(&self) -> Option<u64>
         ensures value { result ≡ slice_get self.now.running 0 }

@@ -5,4 +5,7 @@ pub mod ReadBack
 pub mod Searched
 pub mod Texts
 pub mod Covering
+pub mod VersionLemmas
+pub mod EntryLemmas
 mod Worked
+mod WorkedVersions

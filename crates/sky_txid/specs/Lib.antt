@@ -1,3 +1,4 @@
 pub mod Ids
 pub mod Snapshot
 pub mod SnapshotText
+pub mod Versions

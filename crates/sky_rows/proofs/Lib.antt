@@ -1,0 +1,6 @@
+pub mod VersionsBack
+pub mod PlaceLemmas
+pub mod TableLemmas
+pub mod ScanLemmas
+pub mod ForgetLemmas
+pub mod WriterLemmas

@@ -1,0 +1,115 @@
+-- Steps through the entries of a table, up to as many rows as are wanted.
+use Rattle.std.proofs.Common.{◌≡◌, ◌≢◌, ℕ, zero, suc, ◌+◌, ◌≤◌, Bool, true, false, cond, List, [], ◌∷◌, ◌++◌, length, map, take, Option, Some, None, refl, sym, subst, ap, ◌∙◌, arith, append_assoc, append-nil, length-append}
+use Rattle.std.specs.Prelude.{◌&&◌, filter}
+use Rattle.std.specs.Option.{option_or}
+use Rattle.std.specs.Ordering.{is_lt}
+use Rattle.std.specs.declared.collections.Bound.{Bound}
+use Rattle.std.specs.declared.collections.Bound.TheVariants.{Excluded, Unbounded}
+use Rattle.std.specs.BTreeMap.Range.{entries_between}
+use Rattle.sky_val.specs.declared.val.Val.{Val}
+use Rattle.sky_val.specs.Order.{key_cmp}
+use Rattle.sky_val.specs.Entries.{Entries}
+use Rattle.sky_txid.specs.declared.version.Version.{Version}
+use Rattle.sky_txid.specs.Snapshot.{SnapshotView, sees}
+use Rattle.sky_txid.specs.Versions.{newest_by, row_of, read, and_entry, rows_read, above}
+use Rattle.sky_rows.specs.Written.{AllKept, writer}
+use Rattle.sky_rows.proofs.TableLemmas.{own_version-writer}
+
+-- the rows that are read of entries, in the order of their keys
+abbrev pub rows_of : SnapshotView → Option ℕ → Entries (List Version) → List (List Val)
+rows_of s own es = map (λ e. e.1) (rows_read s own es)
+
+-- rows were found, and others are to be found in the rest
+pub record IsOnTheWay (w : ℕ → List Val → Bool) (s : SnapshotView) (own : Option ℕ) (most : ℕ) (all rest : Entries (List Version)) (found : List (List Val)) : Type 0 where
+  pub whole : found ++ rows_of s own rest ≡ rows_of s own all
+  pub few : length found ≤ most
+  pub kept : AllKept w rest
+
+-- where the code begins
+abbrev pub start_of : Option (List Val) → Bound (List Val)
+start_of None = Unbounded
+start_of (Some key) = Excluded key
+
+filter_all : {X : Type 0} (es : Entries X) → filter (λ e. true) es ≡ es
+filter_all [] = refl
+filter_all (e ∷ es) = ap (λ rest. e ∷ rest) (filter_all es)
+
+and_true : (b : Bool) → (b && true) ≡ b
+and_true true = refl
+and_true false = refl
+
+between-above : {X : Type 0} (after : Option (List Val)) (es : Entries X) → entries_between key_cmp (start_of after) Unbounded es ≡ above after es
+between-above None es = filter_all es
+between-above (Some key) es = λ i. filter (λ e. and_true (is_lt (key_cmp key e.0)) i) es
+
+kept_filter : (w : ℕ → List Val → Bool) (p : List Val × List Version → Bool) (es : Entries (List Version)) → AllKept w es → AllKept w (filter p es)
+kept_filter w p [] kept = tt
+kept_filter w p (e ∷ es) kept = elim (p e) as (λ b. AllKept w (cond b (e ∷ filter p es) (filter p es))) [
+  | true ↦ (kept.0, kept_filter w p es kept.1)
+  | false ↦ kept_filter w p es kept.1
+]
+
+kept_above : (w : ℕ → List Val → Bool) (after : Option (List Val)) (es : Entries (List Version)) → AllKept w es → AllKept w (above after es)
+kept_above w None es kept = kept
+kept_above w (Some key) es kept = kept_filter w (λ e. is_lt (key_cmp key e.0)) es kept
+
+pub started : (w : ℕ → List Val → Bool) (s : SnapshotView) (own : Option ℕ) (most : ℕ) (after : Option (List Val)) (start : Bound (List Val)) (es rest : Entries (List Version)) (found : List (List Val))
+    → AllKept w es → start ≡ start_of after → rest ≡ entries_between key_cmp start Unbounded es → found ≡ [] → IsOnTheWay w s own most (above after es) rest found
+started w s own most after start es rest found kept is between none =
+    let all : rest ≡ above after es = between ∙ ap (λ b. entries_between key_cmp b Unbounded es) is ∙ between-above after es in
+    let few : length found ≡ 0 = ap length none in
+    record {
+      whole = ap (λ rows. rows ++ rows_of s own rest) none ∙ ap (rows_of s own) all;
+      few = omega arith;
+      kept = subst (AllKept w) (sym all) (kept_above w after es kept);
+    }
+
+module _ (w : ℕ → List Val → Bool) (s : SnapshotView) (own : Option ℕ) (most : ℕ) (all : Entries (List Version)) where
+  -- what is read at the first key of the rest
+  read_first : (q : List Val) (vs : List Version) (rest : Entries (List Version)) → AllKept w ((q, vs) ∷ rest) → read s (writer w own q) vs ≡ read s own vs
+  read_first q vs rest kept = ap (λ o. row_of (option_or o (newest_by (sees s) vs))) (own_version-writer w own q vs kept.0.listed)
+
+  pub past_row : (before rest : Entries (List Version)) (found new : List (List Val)) (q row : List Val) (vs : List Version) → IsOnTheWay w s own most all before found → before ≡ (q, vs) ∷ rest
+      → Some row ≡ read s (writer w own q) vs → length found ≢ most → new ≡ found ++ row ∷ [] → IsOnTheWay w s own most all rest new
+  past_row before rest found new q row vs way first is room pushed =
+      let kept : AllKept w ((q, vs) ∷ rest) = subst (AllKept w) first way.kept in
+      let here : read s own vs ≡ Some row = sym (is ∙ read_first q vs rest kept) in
+      let whole : new ++ rows_of s own rest ≡ rows_of s own all =
+      ap (λ rows. rows ++ rows_of s own rest) pushed ∙ append_assoc found (row ∷ []) (rows_of s own rest)
+      ∙ ap (λ o. found ++ map (λ e. e.1) (and_entry q o (rows_read s own rest))) (sym here)
+      ∙ ap (λ es. found ++ rows_of s own es) (sym first) ∙ way.whole in
+      let few = way.few in
+      let grown : length new ≡ length found + 1 = ap length pushed ∙ length-append found (row ∷ []) in
+      record { whole = whole; few = omega arith; kept = kept.1 }
+
+  pub past_none : (before rest : Entries (List Version)) (found : List (List Val)) (q : List Val) (vs : List Version) → IsOnTheWay w s own most all before found → before ≡ (q, vs) ∷ rest
+      → None ≡ read s (writer w own q) vs → IsOnTheWay w s own most all rest found
+  past_none before rest found q vs way first is =
+      let kept : AllKept w ((q, vs) ∷ rest) = subst (AllKept w) first way.kept in
+      let here : read s own vs ≡ None = sym (is ∙ read_first q vs rest kept) in
+      let whole : found ++ rows_of s own rest ≡ rows_of s own all =
+      ap (λ o. found ++ map (λ e. e.1) (and_entry q o (rows_read s own rest))) (sym here)
+      ∙ ap (λ es. found ++ rows_of s own es) (sym first) ∙ way.whole in
+      record { whole = whole; few = way.few; kept = kept.1 }
+
+-- what stands in front, if it is as long
+take-front : {X : Type 0} (n : ℕ) (xs ys : List X) → length xs ≡ n → xs ≡ take n (xs ++ ys)
+take-front zero [] ys e = refl
+take-front zero (x ∷ xs) ys e = absurd (omega arith)
+take-front (suc n) [] ys e = absurd (omega arith)
+take-front (suc n) (x ∷ xs) ys e = ap (λ rest. x ∷ rest) (take-front n xs ys (omega arith))
+
+take-all : {X : Type 0} (n : ℕ) (xs : List X) → length xs ≤ n → xs ≡ take n xs
+take-all zero [] e = refl
+take-all (suc n) [] e = refl
+take-all zero (x ∷ xs) e = absurd (omega arith)
+take-all (suc n) (x ∷ xs) e = ap (λ rest. x ∷ rest) (take-all n xs (omega arith))
+
+module _ (w : ℕ → List Val → Bool) (s : SnapshotView) (own : Option ℕ) (most : ℕ) (all rest : Entries (List Version)) (found : List (List Val)) where
+  pub found_all : IsOnTheWay w s own most all rest found → rest ≡ [] → found ≡ take most (rows_of s own all)
+  found_all way over =
+      let whole : found ≡ rows_of s own all = sym (append-nil found) ∙ ap (λ es. found ++ rows_of s own es) (sym over) ∙ way.whole in
+      take-all most found way.few ∙ ap (take most) whole
+
+  pub found_most : IsOnTheWay w s own most all rest found → length found ≡ most → found ≡ take most (rows_of s own all)
+  found_most way full = take-front most found (rows_of s own rest) full ∙ ap (take most) way.whole

@@ -1,0 +1,8 @@
+use Rattle.std.proofs.Common.{◌≡◌}
+use Rattle.sky_txid.specs.Versions.{forgotten}
+use Rattle.sky_rows.specs.Written.{AllKept}
+use Rattle.sky_rows.proofs.ForgetLemmas.{may_have}
+use Rattle.sky_rows.proofs.table.forget_all.Given as goal
+
+abbrev pub invariant-loop-key : goal.invariant-loop-key
+invariant-loop-key l = AllKept (may_have l.txid l.key-iterator) l.rows.entries × (forgotten l.txid l.rows.entries ≡ forgotten l.txid l.initial.rows.entries)

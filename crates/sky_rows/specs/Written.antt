@@ -1,0 +1,30 @@
+-- Which keys each transaction wrote, as the index of a table tells.
+use Rattle.std.specs.Prelude.{◌≡◌, ℕ, Bool, false, if◌then◌else◌, List, [], ◌∷◌, Option, None, Some}
+use Rattle.std.specs.Option.{option_map_or}
+use Rattle.std.specs.Ordering.{nat_cmp}
+use Rattle.std.specs.BTreeMap.{BTreeMap, get}
+use Rattle.std.specs.BTreeSet.{BTreeSet, contains}
+use Rattle.sky_val.specs.declared.val.Val.{Val}
+use Rattle.sky_val.specs.Order.{key_cmp}
+use Rattle.sky_val.specs.Entries.{Entries}
+use Rattle.sky_txid.specs.declared.version.Version.{Version}
+use Rattle.sky_txid.specs.Versions.{version_of, unless_empty}
+
+-- whether a key is among those that a transaction wrote
+abbrev pub wrote : BTreeMap ℕ (BTreeSet (List Val)) → ℕ → List Val → Bool
+wrote keys t key = option_map_or (λ listed. contains key_cmp listed key) (get nat_cmp keys t) false
+
+-- the transaction that reads, where it wrote the key
+abbrev pub writer : (ℕ → List Val → Bool) → Option ℕ → List Val → Option ℕ
+writer wrote None key = None
+writer wrote (Some t) key = if wrote t key then Some t else None
+
+-- a key has versions, and each is of a transaction that wrote the key
+pub record IsKept (wrote : ℕ → List Val → Bool) (key : List Val) (vs : List Version) : Type 0 where
+  pub some : unless_empty vs ≡ Some vs
+  pub listed : (t : ℕ) → wrote t key ≡ false → version_of t vs ≡ None
+
+-- the same, of each key
+abbrev pub AllKept : (ℕ → List Val → Bool) → Entries (List Version) → Type 0
+AllKept wrote [] = Unit {0}
+AllKept wrote (e ∷ es) = IsKept wrote e.0 e.1 × AllKept wrote es

@@ -1,0 +1,299 @@
+ghost use Rattle.std.specs.Prelude.{◌≡◌, ◌==◌, ◌||◌, not, [], ◌∷◌, map, take, false, None, is_some, IsTrue, IfOk, OnOk, OnErr};
+ghost use Rattle.std.specs.List.{list_any};
+ghost use Rattle.std.specs.Option.{option_copied};
+ghost use Rattle.std.specs.BTreeSet.{contains};
+ghost use Rattle.sky_val.specs.Order.{key_cmp};
+ghost use Rattle.sky_val.specs.Entries.{at, is_in_order};
+ghost use Rattle.sky_txid.specs.Snapshot.{sees};
+ghost use Rattle.sky_txid.specs.Versions.{version_of, newest_by, newest_but, read, versions_at, written, forgotten, rows_read, above};
+ghost use Rattle.sky_rows.specs.Table.{forgotten_at};
+ghost use Rattle.sky_rows.specs.Written.{AllKept};
+
+use crate::versions::Versions;
+use crate::written::Written;
+use sky_txid::{Snapshot, Version};
+use sky_val::{Key, NoMemory, Row, Schema};
+use std::alloc::Global;
+use std::collections::{BTreeMap, BTreeSet};
+use std::marker::Model;
+use std::ops::Bound;
+
+/// The rows of a table, in the versions that transactions left of them.
+#[derive(Debug, Drop)]
+pub struct Table {
+    alloc: Global,
+    schema: Schema,
+    rows: BTreeMap<Key, Versions>,
+
+    // By it a transaction that has no version at a key needs not look through all that stand there,
+    // and `forget` goes to no key but its own.
+    written: Written,
+}
+
+impl Model for Table {
+    ghost use Rattle.sky_rows.specs.Table.{TableView};
+    ghost use Rattle.sky_rows.specs.Written.{wrote, AllKept};
+
+    ghost Value = { TableView };
+
+    ghost view = { λ t. record { columns = t.schema; versions = t.rows.entries } };
+
+    ghost invariant = { λ t. AllKept (wrote t.written.keys) t.rows.entries };
+}
+
+impl Table {
+    /// A table of these columns, with no rows.
+    pub fn new(alloc: Global, schema: Schema) -> Table
+        ensures { result ≡ record { columns = schema; versions = [] } }
+    {
+        Table {
+            alloc,
+            schema,
+            rows: BTreeMap::new(alloc),
+            written: Written::new(alloc),
+        }
+    }
+
+    /// The columns.
+    pub fn schema(&self) -> &Schema
+        ensures { result.now ≡ self.now.columns }
+    {
+        &self.schema
+    }
+
+    /// The versions of the key, if it has any.
+    fn versions(&self, key: &Key) -> Option<&Versions>
+        ensures { option_copied result ≡ at key.now self.now.versions }
+    {
+        self.rows.get(key)
+    }
+
+    /// The row at the key: the own one if the reading transaction wrote the key, or else the newest
+    /// that the snapshot sees.
+    pub fn read(&self, key: &Key, snapshot: &Snapshot, own: Option<u64>) -> Option<&Row>
+        ensures { option_copied result
+            ≡ read snapshot.now own (versions_at key.now self.now.versions) }
+    {
+        let versions = self.versions(key)?;
+        versions.read(snapshot, self.written.writer(own, key))
+    }
+
+    /// The newest version at the key that isn't of this transaction.
+    pub fn newest(&self, key: &Key, except: Option<u64>) -> Option<&Version>
+        ensures { option_copied result ≡ newest_but except (versions_at key.now self.now.versions) }
+    {
+        self.versions(key)?.newest(except)
+    }
+
+    /// The newest version at the key that the snapshot sees.
+    pub fn newest_seen(&self, key: &Key, snapshot: &Snapshot) -> Option<&Version>
+        ensures { option_copied result
+            ≡ newest_by (sees snapshot.now) (versions_at key.now self.now.versions) }
+    {
+        self.versions(key)?.newest_seen(snapshot)
+    }
+
+    /// Whether the transaction has a version at the key.
+    pub fn has_own(&self, key: &Key, txid: u64) -> bool
+        ensures { result ≡ is_some (version_of txid (versions_at key.now self.now.versions)) }
+    {
+        if !self.written.has(txid, key) {
+            return false;
+        }
+        match self.versions(key) {
+            Some(versions) => versions.own(txid).is_some(),
+            None => false,
+        }
+    }
+
+    /// Whether the transaction has a version at any key.
+    pub fn has_written(&self, txid: u64) -> bool
+        ensures { result ≡ list_any (λ e. is_some (version_of txid e.1)) self.now.versions }
+    {
+        if !self.written.knows(txid) {
+            return false;
+        }
+        for (_, versions) in &self.rows {
+            if versions.own(txid).is_some() {
+                return true;
+            }
+        }
+        false
+    }
+
+    /// The first `most` rows by key above `after`, or above none, as `read` gives them.
+    pub fn scan_from(
+        &self,
+        after: Option<&Key>,
+        snapshot: &Snapshot,
+        own: Option<u64>,
+        most: usize,
+    ) -> Result<Vec<Row>, NoMemory>
+        ensures { let later = above (option_copied after.entry) self.now.versions in
+            IfOk result (λ found.
+            found.items ≡ take most (map (λ e. e.1) (rows_read snapshot.now own later))) }
+    {
+        let start = match after {
+            Some(key) => Bound::Excluded(key),
+            None => Bound::Unbounded,
+        };
+        let mut found = Vec::new(self.alloc);
+        for (key, versions) in self.rows.range((start, Bound::Unbounded)) {
+            if found.len() == most {
+                break;
+            }
+            if let Some(row) = versions.read(snapshot, self.written.writer(own, key)) {
+                found.push(row.copy(self.alloc)?)?;
+            }
+        }
+        Ok(found)
+    }
+
+    /// Writes the row at the key, or none to delete it, as a version of the transaction. Where it has
+    /// one at the key already, this takes its place. After an error nothing is said of the rows.
+    pub fn write(&mut self, txid: u64, key: Key, row: Option<Row>) -> Result<(), NoMemory>
+        ensures { OnOk result
+            (self.new ≡ record self.old { versions = written txid key row self.old.versions }) }
+    {
+        let again = self.written.add(self.alloc, txid, &key)?;
+        put_version(
+            self.alloc,
+            &mut self.rows,
+            key,
+            Version { txid, row },
+            again,
+        )
+    }
+
+    /// Takes out all versions of the transaction. A key that is left without any goes too.
+    pub fn forget(&mut self, txid: u64)
+        ensures { self.new ≡ record self.old { versions = forgotten txid self.old.versions } }
+    {
+        if let Some(keys) = self.written.take(txid) {
+            forget_all(&mut self.rows, &keys, txid);
+        }
+    }
+}
+
+/// Puts the version at the key. Where its transaction may have one there already, that is looked for
+/// and replaced.
+fn put_version(
+    alloc: Global,
+    rows: &mut BTreeMap<Key, Versions>,
+    key: Key,
+    version: Version,
+    again: bool,
+) -> Result<(), NoMemory>
+    requires { again ≡ false → version_of version.txid (versions_at key rows.old.entries) ≡ None }
+    ensures ok { OnOk result
+        (rows.new.entries ≡ written version.txid key version.row rows.old.entries) }
+    ensures err { OnErr result (rows.new.entries ≡ rows.old.entries) }
+{
+    match rows.get_mut(&key) {
+        Some(versions) if again => versions.write(version),
+        Some(versions) => versions.push(version),
+        None => {
+            rows.insert(key, Versions::first(alloc, version)?)?;
+            Ok(())
+        }
+    }
+}
+
+/// Takes out the transaction's versions, which all stand at these keys, and the keys with their last.
+fn forget_all(rows: &mut BTreeMap<Key, Versions>, keys: &BTreeSet<Key>, txid: u64)
+    requires { AllKept (λ t key. not (t == txid) || contains key_cmp keys.now key) rows.old.entries }
+    ensures { rows.new.entries ≡ forgotten txid rows.old.entries }
+{
+    for key in keys {
+        forget_at(rows, key, txid);
+    }
+}
+
+/// Takes out the transaction's version at the key, and the key with its last.
+fn forget_at(rows: &mut BTreeMap<Key, Versions>, key: &Key, txid: u64)
+    ensures entries { rows.new.entries ≡ forgotten_at txid key.now rows.old.entries }
+    ensures in_order { IsTrue (is_in_order rows.old.entries) }
+{
+    let Some(versions) = rows.get_mut(key) else {
+        return;
+    };
+    versions.forget(txid);
+    if versions.is_empty() {
+        rows.remove(key);
+    }
+}
+
+#[cfg(test)]
+mod tests {
+    use super::*;
+    use sky_val::{ColKind, Column, Text, Val};
+    use std::test::Fail;
+
+    fn schema(alloc: Global) -> Result<Schema, Fail> {
+        let mut columns = Vec::new(alloc);
+        columns.push(Column {
+            name: Text::from_bytes(alloc, b"id")?,
+            kind: ColKind::Int,
+            key: true,
+        })?;
+        Ok(Schema::new(columns)?)
+    }
+
+    fn key(alloc: Global, number: i64) -> Result<Key, NoMemory> {
+        let mut values = Vec::new(alloc);
+        values.push(Val::Int(number))?;
+        Ok(Key::new(values))
+    }
+
+    fn row(alloc: Global, number: i64) -> Result<Option<Row>, NoMemory> {
+        let mut values = Vec::new(alloc);
+        values.push(Val::Int(number))?;
+        Ok(Some(Row::new(values)))
+    }
+
+    #[test]
+    fn reads_writes_and_forgets(rt: HostRuntime) -> Result<(), Fail> {
+        let alloc = rt.alloc();
+        let (one, two, three) = (key(alloc, 1)?, key(alloc, 2)?, key(alloc, 3)?);
+        let mut table = Table::new(alloc, schema(alloc)?);
+        table.write(3, key(alloc, 2)?, row(alloc, 20)?)?;
+        table.write(3, key(alloc, 1)?, row(alloc, 10)?)?;
+        table.write(4, key(alloc, 3)?, row(alloc, 30)?)?;
+        table.write(4, key(alloc, 1)?, row(alloc, 11)?)?;
+        table.write(4, key(alloc, 1)?, None)?;
+        assert_eq!(rt; table.schema().columns().len(), 1);
+
+        // Transaction 3 was committed, and 4 runs.
+        let snapshot = Snapshot::of(alloc, 5, &[4])?;
+        let committed = row(alloc, 10)?;
+        assert!(rt; table.read(&one, &snapshot, None) == committed.as_ref());
+        assert!(rt; table.read(&one, &snapshot, Some(4)).is_none());
+        assert!(rt; table.read(&three, &snapshot, None).is_none());
+        assert_eq!(rt;
+            table.newest(&one, None).map(|version| version.txid),
+            Some(4)
+        );
+        assert_eq!(rt;
+            table.newest(&one, Some(4)).map(|version| version.txid),
+            Some(3)
+        );
+        assert_eq!(rt;
+            table
+                .newest_seen(&one, &snapshot)
+                .map(|version| version.txid),
+            Some(3)
+        );
+        assert!(rt; table.has_own(&one, 4) && !table.has_own(&two, 4));
+        assert_eq!(rt; table.scan_from(None, &snapshot, None, 5)?.len(), 2);
+        assert_eq!(rt;
+            table.scan_from(Some(&one), &snapshot, Some(4), 5)?.len(),
+            2
+        );
+        assert_eq!(rt; table.scan_from(None, &snapshot, Some(4), 1)?.len(), 1);
+
+        table.forget(4);
+        assert!(rt; table.read(&one, &snapshot, Some(4)) == committed.as_ref());
+        assert!(rt; table.newest(&three, None).is_none());
+        Ok(())
+    }
+}

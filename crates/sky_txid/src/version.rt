@@ -1,0 +1,48 @@
+ghost use Rattle.std.specs.Prelude.{◌≡◌, IfOk};
+
+use sky_val::{NoMemory, Row};
+use std::alloc::Global;
+
+/// A row, or its deletion, as a transaction left it.
+#[derive(Debug, Drop)]
+pub struct Version {
+    /// The transaction.
+    pub txid: u64,
+    /// The row; none where it is deleted.
+    pub row: Option<Row>,
+}
+
+impl Version {
+    /// An equal version.
+    pub fn copy(&self, alloc: Global) -> Result<Version, NoMemory>
+        ensures { IfOk result (λ version. version ≡ self.now) }
+    {
+        let row = match &self.row {
+            Some(row) => Some(row.copy(alloc)?),
+            None => None,
+        };
+        Ok(Version {
+            txid: self.txid,
+            row,
+        })
+    }
+}
+
+#[cfg(test)]
+mod tests {
+    use super::*;
+    use sky_val::Val;
+    use std::test::Fail;
+
+    #[test]
+    fn copies_rows_and_deletions(rt: HostRuntime) -> Result<(), Fail> {
+        let mut values = Vec::new(rt.alloc());
+        values.push(Val::Int(10))?;
+        let row = Some(Row::new(values));
+        for version in [Version { txid: 3, row }, Version { txid: 4, row: None }] {
+            let copy = version.copy(rt.alloc())?;
+            assert!(rt; copy.txid == version.txid && copy.row == version.row);
+        }
+        Ok(())
+    }
+}
