@@ -2,6 +2,7 @@
 use Rattle.std.proofs.Common.{◌≡◌, ℕ, ◌+◌, ◌-◌, ◌<◌, ◌≤◌, ◌==◌, zero, suc, true, false, cond, List, [], ◌∷◌, ◌++◌, length, take, drop, Some, None, Result, Ok, Err, refl, sym, ap, ◌∙◌, arith, codes}
 use Rattle.std.proofs.lemmas.Bool.{eq-eqb, eqb-true}
 use Rattle.std.proofs.lemmas.List.{take-append-drop, take-append-le, take-take, length-take-le}
+use Rattle.sky_model.specs.declared.stmt.RowStmt.{RowStmt}
 use Rattle.sky_model.specs.declared.stmt.Stmt.{Stmt}
 use Rattle.sky_model.specs.declared.line.Line.{Line}
 use Rattle.sky_model.specs.declared.line.Line.TheVariants.{Blank, Run}
@@ -79,13 +80,17 @@ some_begin_in_form w name f ws rest row rows k j session are form is found =
     let before : k - 1 ≡ suc (suc j) = omega arith in
     record { more = found.more; says = Run name found.stmt; is = rw (before, are, session, form, found.reads_it) refl }
 
+-- `open p`
+abbrev opens_p : Stmt
+opens_p = Stmt.Row (RowStmt.OpenDb (codes "p"))
+
 some_begin_line : (w : List ℕ) (ws : List (List ℕ)) (k : ℕ) → Fault w ws k → BeginsWords (take (k - 1) (w ∷ ws))
 some_begin_line w ws k (no_session none is) =
-    record { more = codes "a:" ∷ codes "open" ∷ codes "p" ∷ []; says = Run (codes "a") (Stmt.OpenDb (codes "p")); is = rw is refl }
+    record { more = codes "a:" ∷ codes "open" ∷ codes "p" ∷ []; says = Run (codes "a") opens_p; is = rw is refl }
 some_begin_line w ws k (session_alone name session none is) =
-    record { more = codes "open" ∷ codes "p" ∷ []; says = Run name (Stmt.OpenDb (codes "p")); is = rw (is, session) refl }
+    record { more = codes "open" ∷ codes "p" ∷ []; says = Run name opens_p; is = rw (is, session) refl }
 some_begin_line w ws k (no_form name f rest session are none is) =
-    record { more = codes "open" ∷ codes "p" ∷ []; says = Run name (Stmt.OpenDb (codes "p")); is = rw (is, session) refl }
+    record { more = codes "open" ∷ codes "p" ∷ []; says = Run name opens_p; is = rw (is, session) refl }
 some_begin_line w ws k (in_form name f rest row rows j session are form bad is within) =
     some_begin_in_form w name f ws rest row rows k j session are form is (some_begins row rows rest 3 k j (omega arith) bad)
 

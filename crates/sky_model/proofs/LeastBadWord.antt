@@ -1,9 +1,14 @@
 -- The words before the bad one begin a line of the rows, and those up to it begin none.
-use Rattle.std.proofs.Common.{◌≡◌, ℕ, ◌+◌, ◌<◌, ◌≤◌, zero, suc, List, [], ◌∷◌, ◌++◌, length, take, Option, Some, None, Ok, Err, refl, ap, ◌∙◌, append_assoc, arith, codes}
+use Rattle.std.proofs.Common.{◌≡◌, ℕ, ◌+◌, ◌<◌, ◌≤◌, zero, suc, List, [], ◌∷◌, ◌++◌, length, take, Option, Some, None, Ok, Err, refl, ap, ◌∙◌, append_assoc, arith, codes, bytes_eq, true, false}
 use Rattle.std.proofs.lemmas.Bool.Decides.{nat_tests}
+use Rattle.sky_val.specs.declared.val.Val.TheVariants.{Null}
+use Rattle.sky_val.specs.declared.column.ColKind.TheVariants as kind
+use Rattle.sky_model.specs.declared.stmt.Change.TheVariants.{To}
 use Rattle.sky_model.specs.declared.stmt.Stmt.{Stmt}
-use Rattle.sky_model.specs.Kinds.{Kind, Name, Consumer, Number, OptText, Raw, Of, value}
-use Rattle.sky_model.specs.Grammar.{Row, stop, one, either, next, all_next, ended, all_ended, or_else, or_bad, goes_on, reads}
+use Rattle.sky_model.specs.declared.line.Fixed.{Fixed}
+use Rattle.sky_model.specs.declared.line.Fixed.TheVariants as fixed
+use Rattle.sky_model.specs.Kinds.{Kind, Name, Dotted, Number, OptText, Raw, Value, Column, Set, Of, value}
+use Rattle.sky_model.specs.Grammar.{Row, stop, literal, one, either, many, text_of, next, all_next, ended, all_ended, or_else, or_bad, goes_on, reads}
 
 -- some line that the rows read begins with these words
 pub record Begins (rows : List Row) (n : ℕ) (ws : List (List ℕ)) : Type 0 where
@@ -52,10 +57,19 @@ record Sample (k : Kind) : Type 0 where
 
 sample : (k : Kind) → Sample k
 sample Name = record { word = codes "a"; worth = codes "a"; is = refl }
-sample Consumer = record { word = codes "a"; worth = codes "a"; is = refl }
+sample Dotted = record { word = codes "a"; worth = codes "a"; is = refl }
 sample (Number most) = record { word = codes "0"; worth = 0; is = grind (arith, nat_tests) }
 sample OptText = record { word = codes "null"; worth = None; is = refl }
 sample Raw = record { word = codes "x"; worth = codes "x"; is = refl }
+sample Value = record { word = codes "null"; worth = Null; is = refl }
+sample Column = record { word = codes "a:int"; worth = record { name = codes "a"; kind = kind.Int; key = false }; is = refl }
+sample Set = record { word = codes "a=null"; worth = record { column = codes "a"; change = To Null }; is = refl }
+
+same_text : (f : Fixed) → bytes_eq (text_of f) (text_of f) ≡ true
+same_text fixed.Repeatable = refl
+same_text fixed.Read = refl
+same_text fixed.Table = refl
+same_text fixed.Set = refl
 
 or_else_assoc : (a b c : Option Stmt) → or_else (or_else a b) c ≡ or_else a (or_else b c)
 or_else_assoc None b c = refl
@@ -66,9 +80,18 @@ reads-either : (a b : Row) (rows : List Row) (n : ℕ) (ws : List (List ℕ)) �
 reads-either a b rows n [] = ap (or_bad n) (or_else_assoc (ended a) (ended b) (all_ended rows))
 reads-either a b rows n (w ∷ ws) = ap (λ left. goes_on left n (λ l. reads l (n + 1) ws)) (append_assoc (next a w) (next b w) (all_next rows w))
 
+-- any words of a kind are none, or one and then any
+reads-many : (k : Kind) (f : List (Of k) → Row) (rows : List Row) (n : ℕ) (ws : List (List ℕ))
+    → reads (many k f ∷ rows) n ws ≡ reads (f [] ∷ one k (λ v. many k (λ vs. f (v ∷ vs))) ∷ rows) n ws
+reads-many k f rows n [] = refl
+reads-many k f rows n (w ∷ ws) = reads-either (f []) (one k (λ v. many k (λ vs. f (v ∷ vs)))) rows n (w ∷ ws)
+
 -- each row has a line
 completes : (row : Row) (rows : List Row) (n : ℕ) → Begins (row ∷ rows) n []
 completes (stop stmt) rows n = record { more = []; stmt = stmt; reads_it = refl }
+completes (literal fixed row) rows n =
+    let rest = completes row (all_next rows (text_of fixed)) (n + 1) in
+    record { more = text_of fixed ∷ rest.more; stmt = rest.stmt; reads_it = rw (same_text fixed) rest.reads_it }
 completes (one k f) rows n =
     let s = sample k in
     let rest = completes (f s.worth) (all_next rows s.word) (n + 1) in
@@ -76,6 +99,9 @@ completes (one k f) rows n =
 completes (either a b) rows n =
     let rest = completes a (b ∷ rows) n in
     record { more = rest.more; stmt = rest.stmt; reads_it = reads-either a b rows n rest.more ∙ rest.reads_it }
+completes (many k f) rows n =
+    let rest = completes (f []) (one k (λ v. many k (λ vs. f (v ∷ vs))) ∷ rows) n in
+    record { more = rest.more; stmt = rest.stmt; reads_it = reads-many k f rows n rest.more ∙ rest.reads_it }
 
 -- the same behind a word
 record BeginsBehind (left : List Row) (n : ℕ) (ws : List (List ℕ)) : Type 0 where

@@ -1,6 +1,8 @@
 mod WorkedLines
+mod WorkedRowLines
 mod WorkedMoments
-mod WorkedScripts
+pub mod WorkedScripts
+mod WorkedRows
 mod WorkedBatches
 pub mod FirstWords
 pub mod NameLemmas
@@ -13,6 +15,9 @@ pub mod Snapshots
 pub mod Ticks
 pub mod Selecting
 pub mod OrderById
+pub mod Good
+pub mod LawfulRows
+pub mod MadeAt
 pub mod Lawful
 pub mod SnapshotLaws
 pub mod TickOrder
@@ -21,7 +26,14 @@ pub mod FinishedBatches
 pub mod EventsOnce
 pub mod Listings
 pub mod WereActive
+pub mod RowWrites
+pub mod RowKeys
+pub mod KeyVersions
+pub mod RowSights
 pub mod Standing
+pub mod RowLaws
+pub mod RowStanding
+pub mod RowOutcomes
 pub mod Splitting
 pub mod Scripts
 pub mod Naming

@@ -1,12 +1,14 @@
 -- What a database and the world show changes by marks and facts alone.
 use Rattle.std.proofs.Common.{◌≡◌, ℕ, ◌+◌, List, [], ◌∷◌, ◌++◌, Bool, true, false, not, ◌&&◌, ◌||◌, ◌==◌, filter, Option, Some, None, refl, sym, ◌∙◌, ap, bytes_eq, option_map, if◌then◌else◌}
 use Rattle.sky_val.specs.declared.event.Event.{Event}
-use Rattle.sky_model.specs.History.{Mark, began, ended, block_begun, block_failed, block_ended, queued, QueueMark, made, raised, put, ticked, registered, opened, closed, History, Fact, appeared, founded, entered, left, within, Past}
+use Rattle.sky_txid.specs.Versions.{forgotten}
+use Rattle.sky_model.specs.History.{Mark, began, ended, block_begun, repeats, looked, block_failed, block_ended, tabled, table_made, wrote, queued, QueueMark, made, raised, put, ticked, registered, opened, closed, History, Fact, appeared, founded, entered, left, within, Past}
 use Rattle.sky_model.specs.Consumers.{Subscription, subscription_id, position, active}
 use Rattle.sky_model.specs.Transactions.{next_txid, running, has_rolled_back, snapshot}
-use Rattle.sky_model.specs.Sessions.{Block, outside, inside, failed, Session, session}
+use Rattle.sky_model.specs.Sessions.{Block, outside, inside, failed, Sight, at_each, at_first, at_place, sight, sight_by, Session, session}
 use Rattle.sky_model.specs.Queues.{Tick}
-use Rattle.sky_model.specs.State.{Queue, queue_of, database_of, changed_at, changed_for, with_batch, at_position, after_queue_mark, after_mark}
+use Rattle.sky_model.specs.Versions.{versions}
+use Rattle.sky_model.specs.State.{Queue, queue_of, part_of, database_of, changed_at, changed_for, with_batch, at_position, after_queue_mark, with_txid, with_sight, with_block, without_sight, after_part, after_mark}
 use Rattle.sky_model.specs.World.{world_of, history_in, after_fact, after_facts, on_top}
 
 raised_at : (b : Bool) (x : Queue) (v : ℕ) → record x { seq = if b then v else x.seq } ≡ (if b then record x { seq = v } else x)
@@ -100,33 +102,60 @@ database_of-queue_mark h (closed b) = λ i. record (database_of h) {
   queue = λ n. closed_at (b.queue == n) (queue_of h n) b.consumer (λ c. subscription_id n c h) (λ c. position n c h) (λ c. active n c h) b.cur refl i;
 }
 
-txid_at : (b : Bool) (s : Session) (own : Option ℕ) → record s { txid = if b then own else s.txid } ≡ (if b then record s { txid = own } else s)
+txid_at : (b : Bool) (s : Session) (own : Option ℕ) → record s { txid = if b then own else s.txid } ≡ (if b then with_txid own s else s)
 txid_at true s own = refl
 txid_at false s own = refl
 
-block_at : (b : Bool) (s : Session) (to : Block) → record s { block = if b then to else s.block } ≡ (if b then record s { block = to } else s)
+block_at : (b : Bool) (s : Session) (to : Block) → record s { block = if b then to else s.block } ≡ (if b then with_block to s else s)
 block_at true s to = refl
 block_at false s to = refl
 
--- a mark changes what a database shows as `after_mark` says
-pub database_of-mark : (h : History) (mark : Mark) → database_of (mark ∷ h) ≡ after_mark (database_of h) mark
-database_of-mark h (began who t) = λ i. record (database_of h) {
+sight_at : (b : Bool) (s : Session) (old new : Sight History) → s.sight ≡ sight_by snapshot old
+    → record s { sight = sight_by snapshot (if b then new else old) } ≡ (if b then with_sight (sight_by snapshot new) s else s)
+sight_at true s old new e = refl
+sight_at false s old new e = λ i. record s { sight = sym e i }
+
+over_at : (b : Bool) (s : Session) (old : Sight History) (to : Block) → s.sight ≡ sight_by snapshot old
+    → record s { block = if b then to else s.block; sight = sight_by snapshot (if b then at_each else old) } ≡ (if b then without_sight to s else s)
+over_at true s old to e = refl
+over_at false s old to e = λ i. record s { sight = sym e i }
+
+-- a mark changes transactions, sessions and tables as `after_part` says
+pub part_of-mark : (h : History) (mark : Mark) → part_of (mark ∷ h) ≡ after_part (part_of h) mark
+part_of-mark h (began who t) = λ i. record (part_of h) {
   next = next_txid h + 1;
   running_ids = running h ++ t ∷ [];
   session = λ n. txid_at (who == n) (session h n) (Some t) i;
 }
-database_of-mark h (ended who t true) = λ i. record (database_of h) {
+part_of-mark h (ended who t true) = λ i. record (part_of h) {
   running_ids = filter (λ u. not (u == t)) (running h);
   session = λ n. txid_at (who == n) (session h n) None i;
 }
-database_of-mark h (ended who t false) = λ i. record (database_of h) {
+part_of-mark h (ended who t false) = λ i. record (part_of h) {
   running_ids = filter (λ u. not (u == t)) (running h);
-  undone = λ u. u == t || has_rolled_back h u;
   session = λ n. txid_at (who == n) (session h n) None i;
+  versions = λ n. forgotten t (versions n h);
 }
-database_of-mark h (block_begun who) = λ i. record (database_of h) { session = λ n. block_at (who == n) (session h n) inside i }
-database_of-mark h (block_failed who) = λ i. record (database_of h) { session = λ n. block_at (who == n) (session h n) failed i }
-database_of-mark h (block_ended who) = λ i. record (database_of h) { session = λ n. block_at (who == n) (session h n) outside i }
+part_of-mark h (block_begun who) = λ i. record (part_of h) { session = λ n. block_at (who == n) (session h n) inside i }
+part_of-mark h (repeats who) = λ i. record (part_of h) { session = λ n. sight_at (who == n) (session h n) (sight n h) at_first refl i }
+part_of-mark h (looked who) = λ i. record (part_of h) { session = λ n. sight_at (who == n) (session h n) (sight n h) (at_place h) refl i }
+part_of-mark h (block_failed who) = λ i. record (part_of h) { session = λ n. over_at (who == n) (session h n) (sight n h) failed refl i }
+part_of-mark h (block_ended who) = λ i. record (part_of h) { session = λ n. over_at (who == n) (session h n) (sight n h) outside refl i }
+part_of-mark h (tabled (table_made name columns)) = refl
+part_of-mark h (tabled (wrote t table key old new)) = refl
+part_of-mark h (queued mark) = refl
+
+-- and a database as `after_mark` says
+pub database_of-mark : (h : History) (mark : Mark) → database_of (mark ∷ h) ≡ after_mark (database_of h) mark
+database_of-mark h (began who t) = λ i. record (database_of h) { part = part_of-mark h (began who t) i }
+database_of-mark h (ended who t true) = λ i. record (database_of h) { part = part_of-mark h (ended who t true) i }
+database_of-mark h (ended who t false) = λ i. record (database_of h) { part = part_of-mark h (ended who t false) i; undone = λ u. u == t || has_rolled_back h u }
+database_of-mark h (block_begun who) = λ i. record (database_of h) { part = part_of-mark h (block_begun who) i }
+database_of-mark h (repeats who) = λ i. record (database_of h) { part = part_of-mark h (repeats who) i }
+database_of-mark h (looked who) = λ i. record (database_of h) { part = part_of-mark h (looked who) i }
+database_of-mark h (block_failed who) = λ i. record (database_of h) { part = part_of-mark h (block_failed who) i }
+database_of-mark h (block_ended who) = λ i. record (database_of h) { part = part_of-mark h (block_ended who) i }
+database_of-mark h (tabled mark) = λ i. record (database_of h) { part = part_of-mark h (tabled mark) i }
 database_of-mark h (queued mark) = database_of-queue_mark h mark
 
 within_at : (b : Bool) (h : History) (mark : Mark) → database_of (if b then mark ∷ h else h) ≡ (if b then after_mark (database_of h) mark else database_of h)

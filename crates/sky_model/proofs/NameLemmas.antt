@@ -4,7 +4,7 @@ use Rattle.std.proofs.lemmas.Bool.{and_parts, and_from, eqb-true}
 use Rattle.std.proofs.lemmas.List.{drop_more, take-append-drop}
 use Rattle.std.proofs.lemmas.List.Quantifiers.{position-Some}
 use Rattle.std.specs.List.{list_all}
-use Rattle.sky_model.specs.Kinds.{begins_name, continues_name, is_identifier, first_dot}
+use Rattle.sky_model.specs.Kinds.{begins_name, continues_name, is_identifier, first_place}
 
 begins_name-continues : (b : ℕ) → begins_name b ≡ true → continues_name b ≡ true
 begins_name-continues b so = rw so refl
@@ -16,9 +16,9 @@ list_all-is_identifier (b ∷ bs) so =
     let parts = and_parts (begins_name b) (list_all continues_name bs) so in
     and_from (continues_name b) (list_all continues_name bs) (begins_name-continues b parts.0) parts.1
 
--- what stands around the first dot, and the dot, are the word
-pub around_dot : (w : List ℕ) (dot : ℕ) → first_dot w ≡ Some dot → take dot w ++ (46 ∷ drop (dot + 1) w) ≡ w
-around_dot w dot is =
-    let found = position-Some (λ b. b == 46) w dot 0 is in
-    let at_dot : get_or w dot 0 ≡ 46 = eqb-true (get_or w dot 0) 46 found.1 in
-    ap (λ b. take dot w ++ (b ∷ drop (dot + 1) w)) (sym at_dot) ∙ ap (λ bs. take dot w ++ bs) (sym (drop_more w dot 0 found.0)) ∙ take-append-drop dot w
+-- what stands around the first byte of this kind, and that byte, are the word
+pub around_first : (mark : ℕ) (w : List ℕ) (at : ℕ) → first_place mark w ≡ Some at → take at w ++ (mark ∷ drop (at + 1) w) ≡ w
+around_first mark w at is =
+    let found = position-Some (λ b. b == mark) w at 0 is in
+    let here : get_or w at 0 ≡ mark = eqb-true (get_or w at 0) mark found.1 in
+    ap (λ b. take at w ++ (b ∷ drop (at + 1) w)) (sym here) ∙ ap (λ bs. take at w ++ bs) (sym (drop_more w at 0 found.0)) ∙ take-append-drop at w

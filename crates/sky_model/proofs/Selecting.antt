@@ -3,13 +3,13 @@ use Rattle.std.proofs.Common.{◌≡◌, ℕ, ◌≤◌, List, [], ◌∷◌, �
 use Rattle.std.proofs.lemmas.Bool.Decides.{nat_tests}
 use Rattle.sky_val.specs.declared.event.Event.{Event}
 use Rattle.sky_txid.specs.Snapshot.{sees}
-use Rattle.sky_model.specs.History.{Batch, began, ended, block_begun, block_failed, block_ended, queued, made, raised, put, ticked, registered, opened, closed, History}
+use Rattle.sky_model.specs.History.{Batch, began, ended, block_begun, block_failed, block_ended, repeats, looked, tabled, queued, made, raised, put, ticked, registered, opened, closed, History}
 use Rattle.sky_model.specs.Transactions.{has_ended, has_committed, has_rolled_back}
 use Rattle.sky_model.specs.Queues.{sequence, events, ticks, tick, at_tick}
 use Rattle.sky_model.specs.Batches.{with_event, by_id_onto, by_id, is_for, batch_events}
 use Rattle.sky_model.specs.Selection.{snapshot_at, selected}
 use Rattle.sky_model.specs.State.{database_of}
-use Rattle.sky_model.proofs.Legal.{begins, ends, begins_block, fails_block, ends_block, makes, raises, puts, ticks_next, registers, opens, closes, Legal, start, next}
+use Rattle.sky_model.proofs.Legal.{begins, ends, begins_block, fails_block, ends_block, repeats_block, looks, makes_table, writes, makes, raises, puts, ticks_next, registers, opens, closes, Legal, start, next}
 use Rattle.sky_model.proofs.Snapshots.{sees-snapshot, own-unended, has_committed-ended}
 use Rattle.sky_model.proofs.Ticks.{snapshot-at_tick, legal-at_tick}
 
@@ -25,6 +25,9 @@ ended-at_tick (ended who u committed ∷ h) q id t e = of (t == u) (ended-at_tic
 ended-at_tick (block_begun who ∷ h) q id t e = ended-at_tick h q id t e
 ended-at_tick (block_failed who ∷ h) q id t e = ended-at_tick h q id t e
 ended-at_tick (block_ended who ∷ h) q id t e = ended-at_tick h q id t e
+ended-at_tick (repeats who ∷ h) q id t e = ended-at_tick h q id t e
+ended-at_tick (looked who ∷ h) q id t e = ended-at_tick h q id t e
+ended-at_tick (tabled mark ∷ h) q id t e = ended-at_tick h q id t e
 ended-at_tick (queued (made name) ∷ h) q id t e = ended-at_tick h q id t e
 ended-at_tick (queued (raised p value) ∷ h) q id t e = ended-at_tick h q id t e
 ended-at_tick (queued (put p event) ∷ h) q id t e = ended-at_tick h q id t e
@@ -56,6 +59,10 @@ committed-at_tick _ (next {h = h} l (ends who u false mine)) q id t = of (t == u
 committed-at_tick _ (next {h = h} l (begins_block who e)) q id t = committed-at_tick h l q id t
 committed-at_tick _ (next {h = h} l (fails_block who e f)) q id t = committed-at_tick h l q id t
 committed-at_tick _ (next {h = h} l (ends_block who e)) q id t = committed-at_tick h l q id t
+committed-at_tick _ (next {h = h} l (repeats_block who)) q id t = committed-at_tick h l q id t
+committed-at_tick _ (next {h = h} l (looks who)) q id t = committed-at_tick h l q id t
+committed-at_tick _ (next {h = h} l (makes_table name columns e)) q id t = committed-at_tick h l q id t
+committed-at_tick _ (next {h = h} l (writes who u table key old new e free)) q id t = committed-at_tick h l q id t
 committed-at_tick _ (next {h = h} l (makes name new)) q id t = committed-at_tick h l q id t
 committed-at_tick _ (next {h = h} l (raises p v i e)) q id t = committed-at_tick h l q id t
 committed-at_tick _ (next {h = h} l (puts who p e i s o)) q id t = committed-at_tick h l q id t
@@ -109,6 +116,10 @@ numbered _ (next {h = h} l (ends who t committed mine)) q = numbered h l q
 numbered _ (next {h = h} l (begins_block who e)) q = numbered h l q
 numbered _ (next {h = h} l (fails_block who e f)) q = numbered h l q
 numbered _ (next {h = h} l (ends_block who e)) q = numbered h l q
+numbered _ (next {h = h} l (repeats_block who)) q = numbered h l q
+numbered _ (next {h = h} l (looks who)) q = numbered h l q
+numbered _ (next {h = h} l (makes_table name columns e)) q = numbered h l q
+numbered _ (next {h = h} l (writes who u table key old new e free)) q = numbered h l q
 numbered _ (next {h = h} l (makes name new)) q = numbered h l q
 numbered _ (next {h = h} l (raises p v i le)) q = of (p == q) refl (numbered h l q)
   where

@@ -1,26 +1,55 @@
 -- From what the world shows to what has happened.
-use Rattle.std.proofs.Common.{◌≡◌, ℕ, List, nat_le, length, Option, Some, None, sym, ◌∙◌, ap, if◌then◌else◌}
+use Rattle.std.proofs.Common.{◌≡◌, ℕ, ℤ, List, ◌∷◌, nat_le, length, Option, Some, None, refl, sym, ◌∙◌, ap, if◌then◌else◌}
 use Rattle.sky_model.specs.declared.stmt.Stmt.{Stmt}
 use Rattle.sky_model.specs.declared.reply.Reply.{Reply}
 use Rattle.sky_model.specs.declared.reply.Refusal.TheVariants.{TooMany}
 use Rattle.sky_model.specs.declared.reply.Limit.TheVariants.{Sessions}
 use Rattle.sky_names.specs.Places.{place_of}
-use Rattle.sky_model.specs.History.{Past}
-use Rattle.sky_model.specs.World.{World, world_of, session_names, history_in, on_top, after_facts}
-use Rattle.sky_model.specs.Reader.{by_past, by_world, Deed, refuses, appears, joined, followed}
-use Rattle.sky_model.specs.Calls.{session_does, turn, Call, called, does, after, past_of, answers_of}
+use Rattle.sky_model.specs.History.{Mark, looked, History, within, Past}
+use Rattle.sky_model.specs.State.{Database, database_of}
+use Rattle.sky_model.specs.Allowed.{where_of}
+use Rattle.sky_model.specs.World.{World, world_of, session_names, history_in, on_top, after_fact, after_facts}
+use Rattle.sky_model.specs.Reader.{shown_in, shown_by, within_database, by_past, by_world, Deed, refuses, appears, joined, followed}
+use Rattle.sky_model.specs.Calls.{form, making, statement, is_close, deed_in, session_does, turn, Call, called, does, after, past_of, answers_of}
 use Rattle.sky_model.specs.Steps.{Steps, deed_at, answers_at, after_call}
-use Rattle.sky_model.proofs.Marks.{world_of-facts}
+use Rattle.sky_model.proofs.Legal.{looks, Legal}
+use Rattle.sky_model.proofs.Marks.{world_of-fact, world_of-facts}
 use Rattle.sky_model.proofs.Selecting.{batch_events-selected}
-use Rattle.sky_model.proofs.Lawful.{AllLegal, legal_past}
+use Rattle.sky_model.proofs.RowSights.{same-rows}
+use Rattle.sky_model.proofs.MadeAt.{same-made_by}
+use Rattle.sky_model.proofs.Lawful.{AllLegal, legal_mark, legal_past}
 
--- a turn reads the same by what has happened as by what the world shows
+-- a legal history shows a statement what it keeps
+same-shown : (h : History) → Legal h → shown_in h ≡ shown_by (database_of h)
+same-shown h l = λ i. record { events = λ b. batch_events-selected h l b i; rows = same-rows h l i }
+
+-- the database behind a mark, by what has happened and by what the world shows
+same-behind : (past : Past) (d : ℕ) (mark : Mark) → database_of (history_in (within d mark ∷ past) d) ≡ (after_fact (world_of past) (within d mark)).database d
+same-behind past d mark = ap (λ (w : World). w.database d) (world_of-fact past (within d mark))
+
+-- a statement reads the same by what has happened as by what the world shows
+same-statement : (past : Past) → AllLegal past → (d : ℕ) (now : ℤ) (who : ℕ) (stmt : Stmt)
+    → statement (within_database by_past d) past now who stmt ≡ statement (within_database by_world d) (world_of past) now who stmt
+same-statement past all d now who stmt =
+    same-made_by (making (within_database by_past d) now who stmt) (making (within_database by_world d) now who stmt) (where_of stmt) who past (world_of past) (record {
+      sessions = refl;
+      outcomes = ap (λ shown. form (database_of (history_in past d)) shown now who stmt) (same-shown (history_in past d) (all d));
+      sessions_behind = ap (λ (x : Database). x.part.session who) (same-behind past d (looked who));
+      outcomes_behind =
+          ap (λ shown. form (database_of (history_in (within d (looked who) ∷ past) d)) shown now who stmt)
+          (same-shown (history_in (within d (looked who) ∷ past) d) (legal_mark past d (looked who) (looks who) all d))
+          ∙ ap (λ x. form x (shown_by x) now who stmt) (same-behind past d (looked who));
+    })
+
+-- so does a turn
+same-session : (past : Past) → AllLegal past → (who : ℕ) (stmt : Stmt) (at : Option ℕ) → session_does by_past past who stmt at ≡ session_does by_world (world_of past) who stmt at
+same-session past all who stmt None = refl
+same-session past all who stmt (Some d) = ap (deed_in who d (is_close stmt)) (same-statement past all d (world_of past).now who stmt)
+
 same-turn : (past : Past) → AllLegal past → (who : ℕ) (stmt : Stmt) → turn by_past who stmt past ≡ turn by_world who stmt (world_of past)
-same-turn past all who stmt =
-    ap (λ shown. session_does (world_of past) shown who stmt ((world_of past).homes who))
-    (λ i d. record { events = λ b. batch_events-selected (history_in past d) (all d) b i })
+same-turn past all who stmt = same-session past all who stmt ((world_of past).homes who)
 
--- so does one behind another, where each of them does
+-- and one behind another, where each of them does
 same-followed : (past : Past) (rest : Past → Deed) (rest_shown : World → Deed) (deed : Deed) → AllLegal (on_top past deed.facts)
     → ((later : Past) → AllLegal later → rest later ≡ rest_shown (world_of later)) → followed by_past past rest deed ≡ followed by_world (world_of past) rest_shown deed
 same-followed past rest rest_shown deed all same = ap (joined deed) (same (on_top past deed.facts) all ∙ ap rest_shown (world_of-facts past deed.facts))

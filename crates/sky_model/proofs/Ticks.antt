@@ -6,7 +6,7 @@ use Rattle.sky_model.specs.Transactions.{snapshot}
 use Rattle.sky_model.specs.Queues.{queue_names, Tick, ticks, tick, newest_tick, at_tick}
 use Rattle.sky_model.specs.StepQueue.{id_of}
 use Rattle.sky_model.specs.Selection.{snapshot_at}
-use Rattle.sky_model.proofs.Legal.{begins, ends, begins_block, fails_block, ends_block, makes, raises, puts, ticks_next, registers, opens, closes, Legal, start, next}
+use Rattle.sky_model.proofs.Legal.{begins, ends, begins_block, fails_block, ends_block, repeats_block, looks, makes_table, writes, makes, raises, puts, ticks_next, registers, opens, closes, Legal, start, next}
 
 -- a queue that isn't made yet has no ticks
 pub ticks_beyond : (h : History) → Legal h → (q : ℕ) → length (queue_names h) ≤ q → ticks q h ≡ []
@@ -16,6 +16,10 @@ ticks_beyond _ (next {h = h} l (ends who t committed mine)) q le = ticks_beyond 
 ticks_beyond _ (next {h = h} l (begins_block who e)) q le = ticks_beyond h l q le
 ticks_beyond _ (next {h = h} l (fails_block who e f)) q le = ticks_beyond h l q le
 ticks_beyond _ (next {h = h} l (ends_block who e)) q le = ticks_beyond h l q le
+ticks_beyond _ (next {h = h} l (repeats_block who)) q le = ticks_beyond h l q le
+ticks_beyond _ (next {h = h} l (looks who)) q le = ticks_beyond h l q le
+ticks_beyond _ (next {h = h} l (makes_table name columns e)) q le = ticks_beyond h l q le
+ticks_beyond _ (next {h = h} l (writes who u table key old new e free)) q le = ticks_beyond h l q le
 ticks_beyond _ (next {h = h} l (makes name new)) q le = ticks_beyond h l q (omega (arith, length-append (queue_names h) (name ∷ []), le))
 ticks_beyond _ (next {h = h} l (raises p v i e)) q le = ticks_beyond h l q le
 ticks_beyond _ (next {h = h} l (puts who p e i s o)) q le = ticks_beyond h l q le
@@ -70,6 +74,10 @@ none_above _ (next {h = h} l (ends who t committed mine)) q = none_above h l q
 none_above _ (next {h = h} l (begins_block who e)) q = none_above h l q
 none_above _ (next {h = h} l (fails_block who e f)) q = none_above h l q
 none_above _ (next {h = h} l (ends_block who e)) q = none_above h l q
+none_above _ (next {h = h} l (repeats_block who)) q = none_above h l q
+none_above _ (next {h = h} l (looks who)) q = none_above h l q
+none_above _ (next {h = h} l (makes_table name columns e)) q = none_above h l q
+none_above _ (next {h = h} l (writes who u table key old new e free)) q = none_above h l q
 none_above _ (next {h = h} l (makes name new)) q = none_above h l q
 none_above _ (next {h = h} l (raises p v i e)) q = none_above h l q
 none_above _ (next {h = h} l (puts who p e i s o)) q = none_above h l q
@@ -93,6 +101,10 @@ snapshot-at_tick _ (next {h = h} l (ends who t committed mine)) q id = snapshot-
 snapshot-at_tick _ (next {h = h} l (begins_block who e)) q id = snapshot-at_tick h l q id
 snapshot-at_tick _ (next {h = h} l (fails_block who e f)) q id = snapshot-at_tick h l q id
 snapshot-at_tick _ (next {h = h} l (ends_block who e)) q id = snapshot-at_tick h l q id
+snapshot-at_tick _ (next {h = h} l (repeats_block who)) q id = snapshot-at_tick h l q id
+snapshot-at_tick _ (next {h = h} l (looks who)) q id = snapshot-at_tick h l q id
+snapshot-at_tick _ (next {h = h} l (makes_table name columns e)) q id = snapshot-at_tick h l q id
+snapshot-at_tick _ (next {h = h} l (writes who u table key old new e free)) q id = snapshot-at_tick h l q id
 snapshot-at_tick _ (next {h = h} l (makes name new)) q id = snapshot-at_tick h l q id
 snapshot-at_tick _ (next {h = h} l (raises p v i e)) q id = snapshot-at_tick h l q id
 snapshot-at_tick _ (next {h = h} l (puts who p e i s o)) q id = snapshot-at_tick h l q id
@@ -125,6 +137,10 @@ legal-at_tick _ (next {h = h} l (ends who t committed mine)) q id = legal-at_tic
 legal-at_tick _ (next {h = h} l (begins_block who e)) q id = legal-at_tick h l q id
 legal-at_tick _ (next {h = h} l (fails_block who e f)) q id = legal-at_tick h l q id
 legal-at_tick _ (next {h = h} l (ends_block who e)) q id = legal-at_tick h l q id
+legal-at_tick _ (next {h = h} l (repeats_block who)) q id = legal-at_tick h l q id
+legal-at_tick _ (next {h = h} l (looks who)) q id = legal-at_tick h l q id
+legal-at_tick _ (next {h = h} l (makes_table name columns e)) q id = legal-at_tick h l q id
+legal-at_tick _ (next {h = h} l (writes who u table key old new e free)) q id = legal-at_tick h l q id
 legal-at_tick _ (next {h = h} l (makes name new)) q id = legal-at_tick h l q id
 legal-at_tick _ (next {h = h} l (raises p v i e)) q id = legal-at_tick h l q id
 legal-at_tick _ (next {h = h} l (puts who p e i s o)) q id = legal-at_tick h l q id

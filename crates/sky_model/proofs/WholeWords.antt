@@ -1,19 +1,26 @@
 -- The words that the grammar takes are whole: joined by spaces they make a line of just these words.
-use Rattle.std.proofs.Common.{◌≡◌, ℕ, ◌+◌, ◌-◌, ◌==◌, Bool, true, false, not, ◌&&◌, cond, List, [], ◌∷◌, ◌++◌, length, take, drop, Option, Some, None, option_map, Result, Ok, Err, refl, sym, ap, ◌∙◌, arith, codes, bytes_eq, nat_le}
+use Rattle.std.proofs.Common.{◌≡◌, ℕ, ◌+◌, ◌-◌, ◌^◌, ◌==◌, ℤ, pos, Bool, true, false, not, ◌&&◌, cond, List, [], ◌∷◌, ◌++◌, length, take, drop, Option, Some, None, option_map, Result, Ok, Err, refl, sym, ap, ◌∙◌, arith, codes, bytes_eq, nat_le}
 use Rattle.std.proofs.lemmas.Bool.{and_parts, eqb-true}
 use Rattle.std.proofs.lemmas.Bool.Decides.{nat_tests}
 use Rattle.std.proofs.lemmas.List.{take-append-drop}
 use Rattle.std.proofs.lemmas.Slice.Eq.{bytes_eq-Decides}
 use Rattle.std.specs.Char.{is_ascii_digit}
 use Rattle.std.specs.List.{list_all}
+use Rattle.std.specs.Option.{option_or, option_and_then}
+use Rattle.sky_val.specs.declared.val.Val.{Val}
+use Rattle.sky_val.specs.declared.val.Val.TheVariants as value
+use Rattle.sky_val.specs.declared.column.ColKind.{ColKind}
+use Rattle.sky_val.specs.declared.column.Column as column
+use Rattle.sky_model.specs.declared.stmt.Change.TheVariants.{To, Add}
+use Rattle.sky_model.specs.declared.stmt.Set as set
 use Rattle.sky_model.specs.declared.stmt.Stmt.{Stmt}
 use Rattle.sky_model.specs.declared.line.Line.{Line}
-use Rattle.sky_model.specs.declared.line.Form.{Form}
-use Rattle.sky_model.specs.declared.line.Form.TheVariants.{OpenDb, Close, Cancel, Begin, Commit, Rollback, TxidCurrent, TxidCurrentSnapshot, TxidVisibleInSnapshot, CreateQueue, InsertEvent, Ticker, ForceTick, RegisterConsumer, NextBatch, GetBatchEvents, FinishBatch}
+use Rattle.sky_model.specs.declared.line.Fixed.{Fixed}
+use Rattle.sky_model.specs.declared.line.Fixed.TheVariants as fixed
 use Rattle.sky_model.specs.Words.{is_parting, quoted_after, with_first, pieces, words}
-use Rattle.sky_model.specs.Kinds.{Kind, Name, Consumer, Number, OptText, Raw, Of, value, is_bare, is_bare_word, raw, continues_name, is_identifier, is_name, names_around, first_dot, is_consumer, is_number, number_from, is_text_byte, text_from, in_characters, quoted_text, opt_text}
-use Rattle.sky_model.specs.Grammar.{Row, stop, one, either, next, all_next, goes_on, when, reads, word_of, row_of, all_forms, named_form, statement_of, session_of, session_line, run_of, line_of_words}
-use Rattle.sky_model.proofs.NameLemmas.{list_all-is_identifier, around_dot}
+use Rattle.sky_model.specs.Kinds.{Kind, Name, Dotted, Number, OptText, Raw, Value, Column, Set, Of, value, is_bare, is_bare_word, raw, continues_name, is_identifier, is_name, names_around, first_place, is_dotted, is_number, number_from, number_of, int_of, below_zero, value_of, column_kind, column_around, set_as, set_by, set_around, is_text_byte, text_from, in_characters, quoted_text, opt_text}
+use Rattle.sky_model.specs.Grammar.{Row, stop, literal, one, either, many, next, all_next, goes_on, when, reads, text_of, all_forms, named_form, statement_of, session_of, session_line, run_of, line_of_words}
+use Rattle.sky_model.proofs.NameLemmas.{list_all-is_identifier, around_first}
 
 -- over these bytes no space parts words, and no quote is open behind them
 abbrev pub whole : Bool → List ℕ → Bool
@@ -80,11 +87,11 @@ is_ascii_digit-plain b so = (grind (arith, nat_tests), grind (arith, nat_tests))
 whole-is_identifier : (w : List ℕ) → is_identifier w ≡ true → whole false w ≡ true
 whole-is_identifier w so = whole-list_all continues_name continues_name-plain w (list_all-is_identifier w so)
 
-whole-names_around : (w : List ℕ) (dot : Option ℕ) → first_dot w ≡ dot → names_around dot w ≡ true → whole false w ≡ true
+whole-names_around : (w : List ℕ) (dot : Option ℕ) → first_place 46 w ≡ dot → names_around dot w ≡ true → whole false w ≡ true
 whole-names_around w None is so = whole-is_identifier w so
 whole-names_around w (Some dot) is so =
     let parts = and_parts (is_identifier (take dot w)) (is_identifier (drop (dot + 1) w)) so in
-    ap (whole false) (sym (around_dot w dot is)) ∙ whole-append false (take dot w) (46 ∷ drop (dot + 1) w) (whole-is_identifier (take dot w) parts.0) (whole-is_identifier (drop (dot + 1) w) parts.1)
+    ap (whole false) (sym (around_first 46 w dot is)) ∙ whole-append false (take dot w) (46 ∷ drop (dot + 1) w) (whole-is_identifier (take dot w) parts.0) (whole-is_identifier (drop (dot + 1) w) parts.1)
 
 whole-is_number : (w : List ℕ) → is_number w ≡ true → whole false w ≡ true
 whole-is_number [] so = refl
@@ -163,17 +170,117 @@ whole-raw w text so =
 whole-is_name : (w : List ℕ) → is_name w ≡ true → whole false w ≡ true
 whole-is_name w so = whole-is_identifier w (and_parts (nat_le (length w) 63) (is_identifier w) so).1
 
+whole-is_dotted : (w : List ℕ) → is_dotted w ≡ true → whole false w ≡ true
+whole-is_dotted w so = whole-names_around w (first_place 46 w) refl (and_parts (nat_le (length w) 63) (names_around (first_place 46 w) w) so).1
+
+whole-number_of : (most : ℕ) (w : List ℕ) (n : ℕ) → number_of most w ≡ Some n → whole false w ≡ true
+whole-number_of most w n so =
+    whole-is_number w (and_parts (is_number w) (nat_le (number_from 0 w) most) (cond-Some (is_number w && nat_le (number_from 0 w) most) (number_from 0 w) n so)).0
+
+option_and_then-Some : {A B : Type 0} (f : A → Option B) (o : Option A) (y : B) → option_and_then f o ≡ Some y → (x : A) × (o ≡ Some x)
+option_and_then-Some f None y so = absurd (cc)
+option_and_then-Some f (Some x) y so = (x, refl)
+
+whole-int_of : (w : List ℕ) (n : ℤ) → int_of w ≡ Some n → whole false w ≡ true
+whole-int_of [] n so = absurd (cc)
+whole-int_of (b ∷ bs) n so =
+    elim (b == 45) as (λ v. (b == 45) ≡ v → cond v (option_and_then below_zero (number_of (2 ^ 63) bs)) (option_map (λ m. pos m) (number_of (2 ^ 63 - 1) (b ∷ bs))) ≡ Some n → whole false (b ∷ bs) ≡ true) [
+      | true ↦ λ is e.
+          let digits = option_and_then-Some below_zero (number_of (2 ^ 63) bs) n e in
+          let minus : b ≡ 45 = eqb-true b 45 is in
+          rw minus (whole-number_of (2 ^ 63) bs digits.0 digits.1)
+      | false ↦ λ is e.
+          let number = option_map-Some (λ m. pos m) (number_of (2 ^ 63 - 1) (b ∷ bs)) n e in
+          whole-number_of (2 ^ 63 - 1) (b ∷ bs) number.0 number.1
+    ] refl so
+
+-- a word that is this text or else is whole
+whole-text : {A : Type 0} (w text : List ℕ) (x : A) (rest : Option A) (y : A) → whole false text ≡ true → (rest ≡ Some y → whole false w ≡ true)
+    → cond (bytes_eq w text) (Some x) rest ≡ Some y → whole false w ≡ true
+whole-text w text x rest y text_so rest_so so =
+    elim (bytes_eq w text) as (λ v. bytes_eq w text ≡ v → cond v (Some x) rest ≡ Some y → whole false w ≡ true) [
+      | true ↦ λ is e. ap (whole false) ((bytes_eq-Decides w text).0 is) ∙ text_so
+      | false ↦ λ is e. rest_so e
+    ] refl so
+
+whole-int_or_text : (w : List ℕ) (v : Val) → option_or (option_map (λ n. value.Int n) (int_of w)) (option_map (λ text. value.Text text) (quoted_text w)) ≡ Some v → whole false w ≡ true
+whole-int_or_text w v so =
+    elim (int_of w) as (λ n. int_of w ≡ n → option_or (option_map (λ n. value.Int n) n) (option_map (λ text. value.Text text) (quoted_text w)) ≡ Some v → whole false w ≡ true) [
+      | None ↦ λ is e. let text = option_map-Some (λ text. value.Text text) (quoted_text w) v e in whole-quoted_text w text.0 text.1
+      | Some n ↦ λ is e. whole-int_of w n is
+    ] refl so
+
+whole-value_of : (w : List ℕ) (v : Val) → value_of w ≡ Some v → whole false w ≡ true
+whole-value_of w v so = whole-text w (codes "null") value.Null _ v refl (whole-int_or_text w v) so
+
+whole-column_kind : (w : List ℕ) (k : ColKind × Bool) → column_kind w ≡ Some k → whole false w ≡ true
+whole-column_kind w k so =
+    whole-text w (codes "int") _ _ k refl (whole-text w (codes "int:key") _ _ k refl (whole-text w (codes "text") _ _ k refl (whole-text w (codes "text:key") _ _ k refl (λ e. absurd (cc))))) so
+
+-- what a test let through passed it
+cond-passed : {A : Type 0} (b : Bool) (o : Option A) (y : A) → cond b o None ≡ Some y → (b ≡ true) × (o ≡ Some y)
+cond-passed true o y so = (refl, so)
+cond-passed false o y so = absurd (cc)
+
+-- a word is whole where what stands around a byte of it is
+whole-around : (mark : ℕ) (w : List ℕ) (at : ℕ) → IsPlain mark → first_place mark w ≡ Some at → whole false (take at w) ≡ true → whole false (drop (at + 1) w) ≡ true → whole false w ≡ true
+whole-around mark w at plain is front back =
+    ap (whole false) (sym (around_first mark w at is)) ∙ whole-append false (take at w) (mark ∷ drop (at + 1) w) front (rw (plain.0, plain.1) back)
+
+whole-column_around : (w : List ℕ) (colon : Option ℕ) (c : column.Column) → first_place 58 w ≡ colon → column_around colon w ≡ Some c → whole false w ≡ true
+whole-column_around w None c is so = absurd (cc)
+whole-column_around w (Some colon) c is so =
+    let parts = cond-passed (is_name (take colon w)) _ c so in
+    let kind = option_map-Some _ (column_kind (drop (colon + 1) w)) c parts.1 in
+    whole-around 58 w colon (refl, refl) is (whole-is_name (take colon w) parts.0) (whole-column_kind (drop (colon + 1) w) kind.0 kind.1)
+
+-- a word is whole where what stands before its last byte is, and that byte
+whole-last : (w last : List ℕ) → bytes_eq (drop (length w - 1) w) last ≡ true → whole false last ≡ true → whole false (take (length w - 1) w) ≡ true → whole false w ≡ true
+whole-last w last is last_so front_so =
+    let front : List ℕ = take (length w - 1) w in
+    let back : List ℕ = drop (length w - 1) w in
+    let all : front ++ last ≡ w = ap (λ b. front ++ b) (sym ((bytes_eq-Decides back last).0 is)) ∙ take-append-drop (length w - 1) w in
+    ap (whole false) (sym all) ∙ whole-append false front last front_so last_so
+
+-- both parts of a change are whole
+whole-set_by : (front back : List ℕ) (s : set.Set) → set_by front back ≡ Some s → (whole false front ≡ true) × (whole false back ≡ true)
+whole-set_by front back s so =
+    let name : List ℕ = take (length front - 1) front in
+    elim (bytes_eq (drop (length front - 1) front) (codes "+")) as (λ v. bytes_eq (drop (length front - 1) front) (codes "+") ≡ v → cond v (set_as name (option_map (λ n. Add n) (int_of back))) (set_as front (option_map (λ v. To v) (value_of back))) ≡ Some s → (whole false front ≡ true) × (whole false back ≡ true)) [
+      | true ↦ λ is e.
+          let parts = cond-passed (is_name name) _ s e in
+          let change = option_map-Some _ (option_map (λ n. Add n) (int_of back)) s parts.1 in
+          let number = option_map-Some (λ n. Add n) (int_of back) change.0 change.1 in
+          (whole-last front (codes "+") is refl (whole-is_name name parts.0), whole-int_of back number.0 number.1)
+      | false ↦ λ is e.
+          let parts = cond-passed (is_name front) _ s e in
+          let change = option_map-Some _ (option_map (λ v. To v) (value_of back)) s parts.1 in
+          let worth = option_map-Some (λ v. To v) (value_of back) change.0 change.1 in
+          (whole-is_name front parts.0, whole-value_of back worth.0 worth.1)
+    ] refl so
+
+whole-set_around : (w : List ℕ) (at : Option ℕ) (s : set.Set) → first_place 61 w ≡ at → set_around at w ≡ Some s → whole false w ≡ true
+whole-set_around w None s is so = absurd (cc)
+whole-set_around w (Some at) s is so =
+    let parts = whole-set_by (take at w) (drop (at + 1) w) s so in
+    whole-around 61 w at (refl, refl) is parts.0 parts.1
+
 -- a word of a kind is whole
 whole-value : (k : Kind) (w : List ℕ) (v : Of k) → value k w ≡ Some v → whole false w ≡ true
 whole-value Name w v so = whole-is_name w (cond-Some (is_name w) w v so)
-whole-value Consumer w v so =
-    let parts = and_parts (nat_le (length w) 63) (names_around (first_dot w) w) (cond-Some (is_consumer w) w v so) in
-    whole-names_around w (first_dot w) refl parts.1
-whole-value (Number most) w v so =
-    let parts = and_parts (is_number w) (nat_le (number_from 0 w) most) (cond-Some (is_number w && nat_le (number_from 0 w) most) (number_from 0 w) v so) in
-    whole-is_number w parts.0
+whole-value Dotted w v so = whole-is_dotted w (cond-Some (is_dotted w) w v so)
+whole-value (Number most) w v so = whole-number_of most w v so
 whole-value OptText w v so = whole-opt_text w v so
 whole-value Raw w v so = whole-raw w v so
+whole-value Value w v so = whole-value_of w v so
+whole-value Column w v so = whole-column_around w (first_place 58 w) v refl so
+whole-value Set w v so = whole-set_around w (first_place 61 w) v refl so
+
+whole-text_of : (f : Fixed) → whole false (text_of f) ≡ true
+whole-text_of fixed.Repeatable = refl
+whole-text_of fixed.Read = refl
+whole-text_of fixed.Table = refl
+whole-text_of fixed.Set = refl
 
 -- a word behind which a row goes on is whole
 whole-when : (k : Kind) (w : List ℕ) (v : Option (Of k)) (f : Of k → Row) (row : Row) (rows : List Row) → value k w ≡ v → when v f ≡ row ∷ rows → whole false w ≡ true
@@ -182,11 +289,22 @@ whole-when k w (Some v) f row rows is so = whole-value k w v is
 
 whole-next : (r : Row) (w : List ℕ) (row : Row) (rows : List Row) → next r w ≡ row ∷ rows → whole false w ≡ true
 whole-next (stop stmt) w row rows so = absurd (cc)
+whole-next (literal fixed rest) w row rows so =
+    elim (bytes_eq w (text_of fixed)) as (λ v. bytes_eq w (text_of fixed) ≡ v → cond v (rest ∷ []) [] ≡ row ∷ rows → whole false w ≡ true) [
+      | true ↦ λ is e. ap (whole false) ((bytes_eq-Decides w (text_of fixed)).0 is) ∙ whole-text_of fixed
+      | false ↦ λ is e. absurd (cc)
+    ] refl so
 whole-next (one k f) w row rows so = whole-when k w (value k w) f row rows refl so
 whole-next (either a b) w row rows so =
     elim (next a w) as (λ left. next a w ≡ left → left ++ next b w ≡ row ∷ rows → whole false w ≡ true) [
       | [] ↦ λ is e. whole-next b w row rows e
       | first ∷ others ↦ λ is e. whole-next a w first others is
+    ] refl so
+whole-next (many k f) w row rows so =
+    let more : Of k → Row = λ v. many k (λ vs. f (v ∷ vs)) in
+    elim (next (f []) w) as (λ left. next (f []) w ≡ left → left ++ when (value k w) more ≡ row ∷ rows → whole false w ≡ true) [
+      | [] ↦ λ is e. whole-when k w (value k w) more row rows refl e
+      | first ∷ others ↦ λ is e. whole-next (f []) w first others is
     ] refl so
 
 whole-all_next : (rs : List Row) (w : List ℕ) (row : Row) (rows : List Row) → all_next rs w ≡ row ∷ rows → whole false w ≡ true
@@ -205,31 +323,17 @@ whole-reads rows n (w ∷ ws) stmt so =
       | row ∷ left ↦ λ is e. (whole-all_next rows w row left is, whole-reads (row ∷ left) (n + 1) ws stmt e)
     ] refl so
 
-whole-word_of : (form : Form) → whole false (word_of form) ≡ true
-whole-word_of OpenDb = refl
-whole-word_of Close = refl
-whole-word_of Cancel = refl
-whole-word_of Begin = refl
-whole-word_of Commit = refl
-whole-word_of Rollback = refl
-whole-word_of TxidCurrent = refl
-whole-word_of TxidCurrentSnapshot = refl
-whole-word_of TxidVisibleInSnapshot = refl
-whole-word_of CreateQueue = refl
-whole-word_of InsertEvent = refl
-whole-word_of Ticker = refl
-whole-word_of ForceTick = refl
-whole-word_of RegisterConsumer = refl
-whole-word_of NextBatch = refl
-whole-word_of GetBatchEvents = refl
-whole-word_of FinishBatch = refl
+-- the first words of these forms are whole
+abbrev are_whole : List (List ℕ × Row) → Bool
+are_whole forms = list_all (λ form. whole false form.0) forms
 
-whole-named_form : (w : List ℕ) (forms : List Form) (row : Row) (rows : List Row) → named_form w forms ≡ row ∷ rows → whole false w ≡ true
-whole-named_form w [] row rows so = absurd (cc)
-whole-named_form w (form ∷ forms) row rows so =
-    elim (bytes_eq w (word_of form)) as (λ v. bytes_eq w (word_of form) ≡ v → cond v (row_of form ∷ []) (named_form w forms) ≡ row ∷ rows → whole false w ≡ true) [
-      | true ↦ λ is e. ap (whole false) ((bytes_eq-Decides w (word_of form)).0 is) ∙ whole-word_of form
-      | false ↦ λ is e. whole-named_form w forms row rows e
+whole-named_form : (w : List ℕ) (forms : List (List ℕ × Row)) (row : Row) (rows : List Row) → are_whole forms ≡ true → named_form w forms ≡ row ∷ rows → whole false w ≡ true
+whole-named_form w [] row rows all so = absurd (cc)
+whole-named_form w (form ∷ forms) row rows all so =
+    let parts = and_parts (whole false form.0) (are_whole forms) all in
+    elim (bytes_eq w form.0) as (λ v. bytes_eq w form.0 ≡ v → cond v (form.1 ∷ []) (named_form w forms) ≡ row ∷ rows → whole false w ≡ true) [
+      | true ↦ λ is e. ap (whole false) ((bytes_eq-Decides w form.0).0 is) ∙ parts.0
+      | false ↦ λ is e. whole-named_form w forms row rows parts.1 e
     ] refl so
 
 whole-statement_of : (ws : List (List ℕ)) (stmt : Stmt) → statement_of ws ≡ Ok stmt → AllWhole ws
@@ -237,18 +341,14 @@ whole-statement_of [] stmt so = absurd (cc)
 whole-statement_of (w ∷ ws) stmt so =
     elim (named_form w all_forms) as (λ rows. named_form w all_forms ≡ rows → goes_on rows 2 (λ l. reads l 3 ws) ≡ Ok stmt → AllWhole (w ∷ ws)) [
       | [] ↦ λ is e. absurd (cc)
-      | row ∷ rows ↦ λ is e. (whole-named_form w all_forms row rows is, whole-reads (row ∷ rows) 3 ws stmt e)
+      | row ∷ rows ↦ λ is e. (whole-named_form w all_forms row rows refl is, whole-reads (row ∷ rows) 3 ws stmt e)
     ] refl so
 
 whole-session_of : (w name : List ℕ) → session_of w ≡ Some name → whole false w ≡ true
 whole-session_of w name so =
     let front : List ℕ = take (length w - 1) w in
-    let back : List ℕ = drop (length w - 1) w in
-    elim (bytes_eq back (codes ":")) as (λ v. bytes_eq back (codes ":") ≡ v → cond v (value Name front) None ≡ Some name → whole false w ≡ true) [
-      | true ↦ λ is e.
-          let colon : back ≡ codes ":" = (bytes_eq-Decides back (codes ":")).0 is in
-          let all : front ++ codes ":" ≡ w = ap (λ b. front ++ b) (sym colon) ∙ take-append-drop (length w - 1) w in
-          ap (whole false) (sym all) ∙ whole-append false front (codes ":") (whole-value Name front name e) refl
+    elim (bytes_eq (drop (length w - 1) w) (codes ":")) as (λ v. bytes_eq (drop (length w - 1) w) (codes ":") ≡ v → cond v (value Name front) None ≡ Some name → whole false w ≡ true) [
+      | true ↦ λ is e. whole-last w (codes ":") is refl (whole-value Name front name e)
       | false ↦ λ is e. absurd (cc)
     ] refl so
 

@@ -1,7 +1,8 @@
 -- A consumer's finished batches in a worked run, by computation: the laws on batches speak of something.
 use Rattle.std.proofs.Common.{◌≡◌, ℕ, List, [], ◌∷◌, true, false, Some, None, refl, codes, map}
 use Rattle.sky_model.specs.declared.stmt.Stmt.{Stmt}
-use Rattle.sky_model.specs.declared.stmt.Stmt.TheVariants.{OpenDb, CreateQueue, InsertEvent, Ticker, ForceTick, RegisterConsumer, NextBatch, FinishBatch}
+use Rattle.sky_model.specs.declared.stmt.RowStmt.TheVariants.{OpenDb}
+use Rattle.sky_model.specs.declared.stmt.Stmt.TheVariants.{Row, CreateQueue, InsertEvent, Ticker, ForceTick, RegisterConsumer, NextBatch, FinishBatch}
 use Rattle.sky_model.specs.History.{Batch, History}
 use Rattle.sky_model.specs.Queues.{events}
 use Rattle.sky_model.specs.Consumers.{subscription_id, position}
@@ -14,7 +15,7 @@ abbrev run : List Stmt
 run = FinishBatch 2 ∷ NextBatch (codes "q") (codes "w") ∷ FinishBatch 1 ∷ NextBatch (codes "q") (codes "w")
     ∷ Ticker (codes "q") ∷ ForceTick (codes "q") ∷ Ticker (codes "q") ∷ ForceTick (codes "q")
     ∷ InsertEvent (codes "q") (Some (codes "later")) None None ∷ RegisterConsumer (codes "q") (codes "w")
-    ∷ Ticker (codes "q") ∷ ForceTick (codes "q") ∷ InsertEvent (codes "q") (Some (codes "before")) None None ∷ CreateQueue (codes "q") ∷ OpenDb (codes "d") ∷ []
+    ∷ Ticker (codes "q") ∷ ForceTick (codes "q") ∷ InsertEvent (codes "q") (Some (codes "before")) None None ∷ CreateQueue (codes "q") ∷ Row (OpenDb (codes "d")) ∷ []
 
 abbrev then : History
 then = history_in (past_of (map (λ stmt. record { who = codes "a"; stmt = stmt }) run)) 0

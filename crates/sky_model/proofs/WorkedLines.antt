@@ -2,6 +2,7 @@
 use Rattle.std.specs.Prelude.{◌≡◌, ℕ, ◌-◌, ◌^◌, [], ◌∷◌, ◌++◌, Some, None, Result, Ok, Err, codes, refl}
 use Rattle.std.specs.Str.{is_utf8, chars}
 use Rattle.std.specs.Char.{encode_utf8}
+use Rattle.sky_model.specs.declared.stmt.RowStmt.{RowStmt}
 use Rattle.sky_model.specs.declared.stmt.Stmt.{Stmt}
 use Rattle.sky_model.specs.declared.line.Line.{Line}
 use Rattle.sky_model.specs.declared.line.Line.TheVariants.{Blank, Run}
@@ -11,42 +12,45 @@ use Rattle.sky_model.specs.Grammar.{line_of}
 abbrev runs : Stmt → Result Line ℕ
 runs stmt = Ok (Run (codes "a") stmt)
 
-open_db : line_of (codes "a: open p") ≡ runs (Stmt.OpenDb (codes "p"))
+abbrev runs_row : RowStmt → Result Line ℕ
+runs_row stmt = runs (Stmt.Row stmt)
+
+open_db : line_of (codes "a: open p") ≡ runs_row (RowStmt.OpenDb (codes "p"))
 open_db = refl
 
-close : line_of (codes "a: close") ≡ runs Stmt.Close
+close : line_of (codes "a: close") ≡ runs_row RowStmt.Close
 close = refl
 
-cancel : line_of (codes "a: cancel") ≡ runs Stmt.Cancel
+cancel : line_of (codes "a: cancel") ≡ runs_row RowStmt.Cancel
 cancel = refl
 
-begin : line_of (codes "a: begin") ≡ runs Stmt.Begin
+begin : line_of (codes "a: begin") ≡ runs_row RowStmt.Begin
 begin = refl
 
-commit : line_of (codes "a: commit") ≡ runs Stmt.Commit
+commit : line_of (codes "a: commit") ≡ runs_row RowStmt.Commit
 commit = refl
 
-rollback : line_of (codes "a: rollback") ≡ runs Stmt.Rollback
+rollback : line_of (codes "a: rollback") ≡ runs_row RowStmt.Rollback
 rollback = refl
 
-txid_current : line_of (codes "a: txid_current") ≡ runs Stmt.TxidCurrent
+txid_current : line_of (codes "a: txid_current") ≡ runs_row RowStmt.TxidCurrent
 txid_current = refl
 
-txid_current_snapshot : line_of (codes "a: txid_current_snapshot") ≡ runs Stmt.TxidCurrentSnapshot
+txid_current_snapshot : line_of (codes "a: txid_current_snapshot") ≡ runs_row RowStmt.TxidCurrentSnapshot
 txid_current_snapshot = refl
 
-txid_visible_in_snapshot : line_of (codes "a: txid_visible_in_snapshot 9 10:20:10,14,15") ≡ runs (Stmt.TxidVisibleInSnapshot 9 (codes "10:20:10,14,15"))
+txid_visible_in_snapshot : line_of (codes "a: txid_visible_in_snapshot 9 10:20:10,14,15") ≡ runs_row (RowStmt.TxidVisibleInSnapshot 9 (codes "10:20:10,14,15"))
 txid_visible_in_snapshot = refl
 
-txid_visible_in_snapshot_quoted : line_of (codes "a: txid_visible_in_snapshot 9 'it''s a b'") ≡ runs (Stmt.TxidVisibleInSnapshot 9 (codes "it's a b"))
+txid_visible_in_snapshot_quoted : line_of (codes "a: txid_visible_in_snapshot 9 'it''s a b'") ≡ runs_row (RowStmt.TxidVisibleInSnapshot 9 (codes "it's a b"))
 unfolding is_utf8 chars encode_utf8
 txid_visible_in_snapshot_quoted = refl
 
-txid_visible_in_snapshot_empty : line_of (codes "a: txid_visible_in_snapshot 9 ''") ≡ runs (Stmt.TxidVisibleInSnapshot 9 [])
+txid_visible_in_snapshot_empty : line_of (codes "a: txid_visible_in_snapshot 9 ''") ≡ runs_row (RowStmt.TxidVisibleInSnapshot 9 [])
 unfolding is_utf8 chars encode_utf8
 txid_visible_in_snapshot_empty = refl
 
-txid_visible_in_snapshot_null : line_of (codes "a: txid_visible_in_snapshot 9 null") ≡ runs (Stmt.TxidVisibleInSnapshot 9 (codes "null"))
+txid_visible_in_snapshot_null : line_of (codes "a: txid_visible_in_snapshot 9 null") ≡ runs_row (RowStmt.TxidVisibleInSnapshot 9 (codes "null"))
 txid_visible_in_snapshot_null = refl
 
 create_queue : line_of (codes "a: create_queue q") ≡ runs (Stmt.CreateQueue (codes "q"))
@@ -158,9 +162,6 @@ three_texts = refl
 
 seven_texts : line_of (codes "a: insert_event q null null null null null null null") ≡ Err 10
 seven_texts = refl
-
-kind_of_block : line_of (codes "a: begin repeatable read") ≡ Err 3
-kind_of_block = refl
 
 word_behind_commit : line_of (codes "a: commit x") ≡ Err 3
 word_behind_commit = refl

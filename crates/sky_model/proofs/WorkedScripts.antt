@@ -12,7 +12,7 @@ abbrev script : List (List ℕ) → List ℕ
 script lines = flat_map (λ line. line ++ 10 ∷ []) lines
 
 -- the script of these lines is good, and prints those
-record Prints (lines printed : List (List ℕ)) : Type 0 where
+pub record Prints (lines printed : List (List ℕ)) : Type 0 where
   pub transcript_is : transcript (script lines) ≡ script printed
   pub none_bad : bad_line (script lines) ≡ None
 

@@ -1,25 +1,38 @@
 -- Which statements a session may make where it stands.
 use Rattle.std.specs.Prelude.{Ok, Err}
 use Rattle.sky_model.specs.declared.stmt.Stmt.{Stmt}
-use Rattle.sky_model.specs.declared.stmt.Stmt.TheVariants.{OpenDb, Close, Cancel, Begin, Commit, Rollback, TxidCurrent, TxidCurrentSnapshot, TxidVisibleInSnapshot, CreateQueue, InsertEvent, Ticker, ForceTick, RegisterConsumer, NextBatch, GetBatchEvents, FinishBatch}
+use Rattle.sky_model.specs.declared.stmt.RowStmt.{RowStmt}
+use Rattle.sky_model.specs.declared.stmt.RowStmt.TheVariants.{OpenDb, Close, Cancel, Begin, BeginRepeatableRead, Commit, Rollback, TxidCurrent, TxidCurrentSnapshot, TxidVisibleInSnapshot, CreateTable, Insert, Update, Delete, Get, Scan}
+use Rattle.sky_model.specs.declared.stmt.Stmt.TheVariants.{Row, CreateQueue, InsertEvent, Ticker, ForceTick, RegisterConsumer, NextBatch, GetBatchEvents, FinishBatch}
 use Rattle.sky_model.specs.declared.stmt.Where.{Where}
-use Rattle.sky_model.specs.declared.stmt.Where.TheVariants.{Anywhere, WhenOpen, WhenSound, WhenOutside}
+use Rattle.sky_model.specs.declared.stmt.Where.TheVariants.{Anywhere, WhenOpen, WhenSound, WhenReading, WhenOutside}
 use Rattle.sky_model.specs.declared.reply.Refusal.TheVariants.{Aborted, InTransaction}
 use Rattle.sky_model.specs.Sessions.{Block, outside, inside, failed}
 use Rattle.sky_model.specs.Outcome.{Checked}
 
+-- where a statement on rows may stand
+abbrev pub where_of_row : RowStmt → Where
+where_of_row (OpenDb name) = Anywhere
+where_of_row Cancel = Anywhere
+where_of_row Close = WhenOpen
+where_of_row Commit = WhenOpen
+where_of_row Rollback = WhenOpen
+where_of_row Begin = WhenSound
+where_of_row BeginRepeatableRead = WhenSound
+where_of_row TxidCurrent = WhenReading
+where_of_row TxidCurrentSnapshot = WhenReading
+where_of_row (TxidVisibleInSnapshot txid snapshot) = WhenReading
+where_of_row (CreateTable table columns) = WhenOutside
+where_of_row (Insert table r) = WhenReading
+where_of_row (Update table key sets) = WhenReading
+where_of_row (Delete table key) = WhenReading
+where_of_row (Get table key) = WhenReading
+where_of_row (Scan table) = WhenReading
+
 -- where a statement may stand
 abbrev pub where_of : Stmt → Where
-where_of (OpenDb name) = Anywhere
-where_of Cancel = Anywhere
-where_of Close = WhenOpen
-where_of Commit = WhenOpen
-where_of Rollback = WhenOpen
-where_of Begin = WhenSound
-where_of TxidCurrent = WhenSound
-where_of TxidCurrentSnapshot = WhenSound
-where_of (TxidVisibleInSnapshot txid snapshot) = WhenSound
-where_of (InsertEvent queue ev_type ev_data extra) = WhenSound
+where_of (Row stmt) = where_of_row stmt
+where_of (InsertEvent queue ev_type ev_data extra) = WhenReading
 where_of (CreateQueue queue) = WhenOutside
 where_of (Ticker queue) = WhenOutside
 where_of (ForceTick queue) = WhenOutside

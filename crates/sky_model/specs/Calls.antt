@@ -1,33 +1,49 @@
 -- What a call does: a statement of a session, with all that it causes.
 use Rattle.std.specs.Prelude.{ℕ, ℤ, Bool, true, false, List, [], ◌∷◌, ◌++◌, Option, Some, None, Err, nat_le, length, map, if◌then◌else◌}
 use Rattle.sky_model.specs.declared.stmt.Stmt.{Stmt}
-use Rattle.sky_model.specs.declared.stmt.Stmt.TheVariants.{OpenDb, Close, Cancel, Begin, Commit, Rollback, TxidCurrent, TxidCurrentSnapshot, TxidVisibleInSnapshot, CreateQueue, InsertEvent, Ticker, ForceTick, RegisterConsumer, NextBatch, GetBatchEvents, FinishBatch}
+use Rattle.sky_model.specs.declared.stmt.RowStmt.{RowStmt}
+use Rattle.sky_model.specs.declared.stmt.RowStmt.TheVariants.{OpenDb, Close, Cancel, Begin, BeginRepeatableRead, Commit, Rollback, TxidCurrent, TxidCurrentSnapshot, TxidVisibleInSnapshot, CreateTable, Insert, Update, Delete, Get, Scan}
+use Rattle.sky_model.specs.declared.stmt.Stmt.TheVariants.{Row, CreateQueue, InsertEvent, Ticker, ForceTick, RegisterConsumer, NextBatch, GetBatchEvents, FinishBatch}
 use Rattle.sky_model.specs.declared.reply.Reply.{Reply}
 use Rattle.sky_model.specs.declared.reply.Reply.TheVariants.{Done, NotWaiting}
 use Rattle.sky_model.specs.declared.reply.Limit.TheVariants.{Sessions, Databases}
 use Rattle.sky_model.specs.declared.reply.Refusal.TheVariants.{TooMany, AlreadyOpen, NotOpen}
 use Rattle.sky_names.specs.Places.{place_of}
 use Rattle.sky_model.specs.History.{founded, entered, left, within, Past}
-use Rattle.sky_model.specs.State.{Database}
-use Rattle.sky_model.specs.Outcome.{Outcome, Checked, ◌>>◌, answers, settled}
-use Rattle.sky_model.specs.Allowed.{where_of, allowed}
+use Rattle.sky_model.specs.State.{RowPart, Database}
+use Rattle.sky_model.specs.ShownRows.{RowsShown}
+use Rattle.sky_model.specs.Outcome.{Outcome, Checked, answers}
+use Rattle.sky_model.specs.Allowed.{where_of_row, where_of}
+use Rattle.sky_model.specs.Made.{Making, made_by}
 use Rattle.sky_model.specs.StepQueue.{create_queue, insert_event, ticker, force_tick}
-use Rattle.sky_model.specs.StepSession.{begin, commit, rollback, close, txid_current, txid_current_snapshot, txid_visible_in_snapshot}
+use Rattle.sky_model.specs.StepSession.{begin, begin_repeatable_read, commit, rollback, close, txid_current, txid_current_snapshot, txid_visible_in_snapshot}
+use Rattle.sky_model.specs.StepRows.{create_table, insert, update, delete, get, scan}
 use Rattle.sky_model.specs.StepConsumer.{register_consumer, next_batch, get_batch_events, finish_batch}
 use Rattle.sky_model.specs.World.{World, on_top}
-use Rattle.sky_model.specs.Reader.{Shown, Reader, by_past, Deed, answers_with, refuses, appears, followed}
+use Rattle.sky_model.specs.Reader.{Shown, PartReader, DatabaseReader, Reader, within_database, by_past, Deed, answers_with, refuses, appears, followed}
+
+-- what a statement on sessions, transactions, tables and rows does that its session may make
+abbrev pub row_form : RowPart → RowsShown → ℕ → RowStmt → Checked Outcome
+row_form d shown who (OpenDb name) = Err AlreadyOpen
+row_form d shown who Close = close who (d.session who).txid (d.session who).block
+row_form d shown who Cancel = answers NotWaiting
+row_form d shown who Begin = begin who (d.session who).block
+row_form d shown who BeginRepeatableRead = begin_repeatable_read who (d.session who).block
+row_form d shown who Commit = commit who (d.session who).txid (d.session who).block
+row_form d shown who Rollback = rollback who (d.session who).txid (d.session who).block
+row_form d shown who TxidCurrent = txid_current d who
+row_form d shown who TxidCurrentSnapshot = txid_current_snapshot d who
+row_form d shown who (TxidVisibleInSnapshot txid snapshot) = txid_visible_in_snapshot txid snapshot
+row_form d shown who (CreateTable table columns) = create_table d table columns
+row_form d shown who (Insert table row) = insert d shown who table row
+row_form d shown who (Update table key sets) = update d shown who table key sets
+row_form d shown who (Delete table key) = delete d shown who table key
+row_form d shown who (Get table key) = get d shown who table key
+row_form d shown who (Scan table) = scan d shown who table
 
 -- what a statement does that its session may make
 abbrev pub form : Database → Shown → ℤ → ℕ → Stmt → Checked Outcome
-form d shown now who (OpenDb name) = Err AlreadyOpen
-form d shown now who Close = close who (d.session who).txid (d.session who).block
-form d shown now who Cancel = answers NotWaiting
-form d shown now who Begin = begin who (d.session who).block
-form d shown now who Commit = commit who (d.session who).txid (d.session who).block
-form d shown now who Rollback = rollback who (d.session who).txid (d.session who).block
-form d shown now who TxidCurrent = txid_current d who
-form d shown now who TxidCurrentSnapshot = txid_current_snapshot d
-form d shown now who (TxidVisibleInSnapshot txid snapshot) = txid_visible_in_snapshot txid snapshot
+form d shown now who (Row stmt) = row_form d.part shown.rows who stmt
 form d shown now who (CreateQueue queue) = create_queue d now who queue
 form d shown now who (InsertEvent queue ev_type ev_data extra) = insert_event d now who queue ev_type ev_data extra
 form d shown now who (Ticker queue) = ticker d now queue
@@ -37,15 +53,27 @@ form d shown now who (NextBatch queue consumer) = next_batch d queue consumer
 form d shown now who (GetBatchEvents batch) = get_batch_events d shown.events batch
 form d shown now who (FinishBatch batch) = finish_batch d batch
 
--- what a statement of a session does in the database that it has open, or its refusal
-abbrev pub attempt : Database → Shown → ℤ → ℕ → Stmt → Checked Outcome
-attempt d shown now who stmt = do
-  allowed (d.session who).block (where_of stmt)
-  form d shown now who stmt
+-- a statement on rows, at a place of its database's row part
+abbrev pub row_making : {P : Type 0} → PartReader P → ℕ → RowStmt → Making P
+row_making r who stmt = record {
+  session = λ p. (r.part p).session who;
+  outcome = λ p. row_form (r.part p) (r.rows p) who stmt;
+  behind = r.behind;
+}
 
--- its answer, which may be a refusal
-abbrev pub statement : Database → Shown → ℤ → ℕ → Stmt → Outcome
-statement d shown now who stmt = settled who (d.session who) (attempt d shown now who stmt)
+abbrev pub row_statement : {P : Type 0} → PartReader P → P → ℕ → RowStmt → Outcome
+row_statement r p who stmt = made_by (row_making r who stmt) (where_of_row stmt) who p
+
+-- a statement of a session, at a place of the database that it has open
+abbrev pub making : {P : Type 0} → DatabaseReader P → ℤ → ℕ → Stmt → Making P
+making r now who stmt = record {
+  session = λ p. (r.database p).part.session who;
+  outcome = λ p. form (r.database p) (r.shown p) now who stmt;
+  behind = r.behind;
+}
+
+abbrev pub statement : {P : Type 0} → DatabaseReader P → P → ℤ → ℕ → Stmt → Outcome
+statement r p now who stmt = made_by (making r now who stmt) (where_of stmt) who p
 
 -- `open NAME` of a session that has none open: the database is made where it is new
 abbrev pub opens : World → ℕ → List ℕ → Option ℕ → Deed
@@ -56,12 +84,12 @@ opens w who name None =
 
 -- a statement of a session without a database
 abbrev pub unopened : World → ℕ → Stmt → Deed
-unopened w who (OpenDb name) = opens w who name (place_of name w.databases)
-unopened w who Cancel = answers_with who NotWaiting []
+unopened w who (Row (OpenDb name)) = opens w who name (place_of name w.databases)
+unopened w who (Row Cancel) = answers_with who NotWaiting []
 unopened w who _ = refuses who NotOpen
 
 abbrev pub is_close : Stmt → Bool
-is_close Close = true
+is_close (Row Close) = true
 is_close _ = false
 
 -- the outcome of a statement in a database, which a session leaves by `close`
@@ -69,13 +97,13 @@ abbrev pub deed_in : ℕ → ℕ → Bool → Outcome → Deed
 deed_in who d leaving outcome = answers_with who outcome.reply (map (within d) outcome.marks ++ (if leaving then left who ∷ [] else []))
 
 -- a statement of a session, by the database that it has open
-abbrev pub session_does : World → (ℕ → Shown) → ℕ → Stmt → Option ℕ → Deed
-session_does w shown who stmt None = unopened w who stmt
-session_does w shown who stmt (Some d) = deed_in who d (is_close stmt) (statement (w.database d) (shown d) w.now who stmt)
+abbrev pub session_does : {P : Type 0} → Reader P → P → ℕ → Stmt → Option ℕ → Deed
+session_does r p who stmt None = unopened (r.world p) who stmt
+session_does r p who stmt (Some d) = deed_in who d (is_close stmt) (statement (within_database r d) p (r.world p).now who stmt)
 
 -- a turn: what a statement of a session does at a place
 abbrev pub turn : {P : Type 0} → Reader P → ℕ → Stmt → P → Deed
-turn r who stmt p = session_does (r.world p) (r.shown p) who stmt ((r.world p).homes who)
+turn r who stmt p = session_does r p who stmt ((r.world p).homes who)
 
 -- a statement of a session, by its name
 pub record Call : Type 0 where

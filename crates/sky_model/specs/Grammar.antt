@@ -1,85 +1,110 @@
 -- The statement forms as a table, and what a line says by it.
 use Rattle.std.specs.Prelude.{ℕ, ◌+◌, ◌-◌, ◌^◌, ◌==◌, if◌then◌else◌, List, [], ◌∷◌, ◌++◌, length, take, drop, Option, Some, None, Result, Ok, Err, bytes_eq, codes}
+use Rattle.sky_model.specs.declared.stmt.RowStmt.TheVariants as row
 use Rattle.sky_model.specs.declared.stmt.Stmt.{Stmt}
+use Rattle.sky_model.specs.declared.stmt.Stmt.TheVariants as stmt
 use Rattle.sky_model.specs.declared.line.Line.{Line}
 use Rattle.sky_model.specs.declared.line.Line.TheVariants.{Blank, Run}
-use Rattle.sky_model.specs.declared.line.Form.{Form}
-use Rattle.sky_model.specs.declared.line.Form.TheVariants.{OpenDb, Close, Cancel, Begin, Commit, Rollback, TxidCurrent, TxidCurrentSnapshot, TxidVisibleInSnapshot, CreateQueue, InsertEvent, Ticker, ForceTick, RegisterConsumer, NextBatch, GetBatchEvents, FinishBatch}
+use Rattle.sky_model.specs.declared.line.Fixed.{Fixed}
+use Rattle.sky_model.specs.declared.line.Fixed.TheVariants as fixed
 use Rattle.sky_model.specs.Words.{words}
-use Rattle.sky_model.specs.Kinds.{Kind, Name, Consumer, Number, OptText, Raw, Of, value}
+use Rattle.sky_model.specs.Kinds.{Kind, Name, Dotted, Number, OptText, Raw, Value, Column, Set, Of, value}
 
--- what may follow in a line: its end, with the statement; a word of a kind, and on by its value; either of two
+-- ---- what may follow in a line
+
+-- its end, with the statement; a fixed word, and on; a word of a kind, and on by its value; either of two; any words of a kind, and on by their values
 pub data Row : Type 0 where
   stop : Stmt → Row
+  literal : Fixed → Row → Row
   one : (k : Kind) → (Of k → Row) → Row
   either : Row → Row → Row
+  many : (k : Kind) → (List (Of k) → Row) → Row
 
 -- a word of a kind, and the line's end
 abbrev pub last : (k : Kind) → (Of k → Stmt) → Row
 last k make = one k (λ v. stop (make v))
 
--- the first words, one for each form
-abbrev pub word_of : Form → List ℕ
-word_of OpenDb = codes "open"
-word_of Close = codes "close"
-word_of Cancel = codes "cancel"
-word_of Begin = codes "begin"
-word_of Commit = codes "commit"
-word_of Rollback = codes "rollback"
-word_of TxidCurrent = codes "txid_current"
-word_of TxidCurrentSnapshot = codes "txid_current_snapshot"
-word_of TxidVisibleInSnapshot = codes "txid_visible_in_snapshot"
-word_of CreateQueue = codes "create_queue"
-word_of InsertEvent = codes "insert_event"
-word_of Ticker = codes "ticker"
-word_of ForceTick = codes "force_tick"
-word_of RegisterConsumer = codes "register_consumer"
-word_of NextBatch = codes "next_batch"
-word_of GetBatchEvents = codes "get_batch_events"
-word_of FinishBatch = codes "finish_batch"
+-- one or more words of a kind, and on by their values
+abbrev pub some : (k : Kind) → (List (Of k) → Row) → Row
+some k f = one k (λ v. many k (λ vs. f (v ∷ vs)))
+
+-- one or more words of a kind, and the line's end
+abbrev pub some_last : (k : Kind) → (List (Of k) → Stmt) → Row
+some_last k make = some k (λ vs. stop (make vs))
+
+-- one or more words of a kind, a fixed word, and on by their values
+abbrev pub some_until : Fixed → (k : Kind) → (List (Of k) → Row) → Row
+some_until end k f = some k (λ vs. literal end (f vs))
+
+-- the fixed words
+abbrev pub text_of : Fixed → List ℕ
+text_of fixed.Repeatable = codes "repeatable"
+text_of fixed.Read = codes "read"
+text_of fixed.Table = codes "table"
+text_of fixed.Set = codes "set"
+
+-- ---- the statement forms: of each its first word, and what follows it
+
+-- on sessions and transactions
+abbrev pub session_forms : List (List ℕ × Row)
+session_forms =
+    (codes "open", last Name (λ name. stmt.Row (row.OpenDb name)))
+    ∷ (codes "close", stop (stmt.Row row.Close))
+    ∷ (codes "cancel", stop (stmt.Row row.Cancel))
+    ∷ (codes "begin", either (stop (stmt.Row row.Begin)) (literal fixed.Repeatable (literal fixed.Read (stop (stmt.Row row.BeginRepeatableRead)))))
+    ∷ (codes "commit", stop (stmt.Row row.Commit))
+    ∷ (codes "rollback", stop (stmt.Row row.Rollback))
+    ∷ (codes "txid_current", stop (stmt.Row row.TxidCurrent))
+    ∷ (codes "txid_current_snapshot", stop (stmt.Row row.TxidCurrentSnapshot))
+    ∷ (codes "txid_visible_in_snapshot", one (Number (2 ^ 64 - 1)) (λ txid. last Raw (λ snapshot. stmt.Row (row.TxidVisibleInSnapshot txid snapshot))))
+    ∷ []
+
+-- on tables and rows
+abbrev pub row_forms : List (List ℕ × Row)
+row_forms =
+    (codes "create", literal fixed.Table (one Dotted (λ table. some_last Column (λ columns. stmt.Row (row.CreateTable table columns)))))
+    ∷ (codes "insert", one Dotted (λ table. some_last Value (λ values. stmt.Row (row.Insert table values))))
+    ∷ (codes "update", one Dotted (λ table. some_until fixed.Set Value (λ key. some_last Set (λ sets. stmt.Row (row.Update table key sets)))))
+    ∷ (codes "delete", one Dotted (λ table. some_last Value (λ key. stmt.Row (row.Delete table key))))
+    ∷ (codes "get", one Dotted (λ table. some_last Value (λ key. stmt.Row (row.Get table key))))
+    ∷ (codes "scan", last Dotted (λ table. stmt.Row (row.Scan table)))
+    ∷ []
 
 -- the four further texts of an event, to the line's end
 abbrev pub extra_row : (queue : List ℕ) (ev_type ev_data : Option (List ℕ)) → Row
 extra_row queue ev_type ev_data =
     one OptText (λ extra1. one OptText (λ extra2. one OptText (λ extra3. last OptText (λ extra4.
-    Stmt.InsertEvent queue ev_type ev_data (Some (record { ev_extra1 = extra1; ev_extra2 = extra2; ev_extra3 = extra3; ev_extra4 = extra4 }))))))
+    stmt.InsertEvent queue ev_type ev_data (Some (record { ev_extra1 = extra1; ev_extra2 = extra2; ev_extra3 = extra3; ev_extra4 = extra4 }))))))
 
 -- an event's queue, type and data, and then none or four further texts
 abbrev pub insert_event : Row
 insert_event =
     one Name (λ queue. one OptText (λ ev_type. one OptText (λ ev_data.
-    either (stop (Stmt.InsertEvent queue ev_type ev_data None)) (extra_row queue ev_type ev_data))))
+    either (stop (stmt.InsertEvent queue ev_type ev_data None)) (extra_row queue ev_type ev_data))))
 
--- what follows the first word, for each form
-abbrev pub row_of : Form → Row
-row_of OpenDb = last Name (λ name. Stmt.OpenDb name)
-row_of Close = stop Stmt.Close
-row_of Cancel = stop Stmt.Cancel
-row_of Begin = stop Stmt.Begin
-row_of Commit = stop Stmt.Commit
-row_of Rollback = stop Stmt.Rollback
-row_of TxidCurrent = stop Stmt.TxidCurrent
-row_of TxidCurrentSnapshot = stop Stmt.TxidCurrentSnapshot
-row_of TxidVisibleInSnapshot = one (Number (2 ^ 64 - 1)) (λ txid. last Raw (λ snapshot. Stmt.TxidVisibleInSnapshot txid snapshot))
-row_of CreateQueue = last Name (λ queue. Stmt.CreateQueue queue)
-row_of InsertEvent = insert_event
-row_of Ticker = last Name (λ queue. Stmt.Ticker queue)
-row_of ForceTick = last Name (λ queue. Stmt.ForceTick queue)
-row_of RegisterConsumer = one Name (λ queue. last Consumer (λ consumer. Stmt.RegisterConsumer queue consumer))
-row_of NextBatch = one Name (λ queue. last Consumer (λ consumer. Stmt.NextBatch queue consumer))
-row_of GetBatchEvents = last (Number (2 ^ 64 - 1)) (λ batch. Stmt.GetBatchEvents batch)
-row_of FinishBatch = last (Number (2 ^ 64 - 1)) (λ batch. Stmt.FinishBatch batch)
+-- on queues
+abbrev pub queue_forms : List (List ℕ × Row)
+queue_forms =
+    (codes "create_queue", last Name (λ queue. stmt.CreateQueue queue))
+    ∷ (codes "insert_event", insert_event)
+    ∷ (codes "ticker", last Name (λ queue. stmt.Ticker queue))
+    ∷ (codes "force_tick", last Name (λ queue. stmt.ForceTick queue))
+    ∷ (codes "register_consumer", one Name (λ queue. last Dotted (λ consumer. stmt.RegisterConsumer queue consumer)))
+    ∷ (codes "next_batch", one Name (λ queue. last Dotted (λ consumer. stmt.NextBatch queue consumer)))
+    ∷ (codes "get_batch_events", last (Number (2 ^ 64 - 1)) (λ batch. stmt.GetBatchEvents batch))
+    ∷ (codes "finish_batch", last (Number (2 ^ 64 - 1)) (λ batch. stmt.FinishBatch batch))
+    ∷ []
 
--- every form, in the order of the statements
-abbrev pub all_forms : List Form
-all_forms =
-    OpenDb ∷ Close ∷ Cancel ∷ Begin ∷ Commit ∷ Rollback ∷ TxidCurrent ∷ TxidCurrentSnapshot ∷ TxidVisibleInSnapshot
-    ∷ CreateQueue ∷ InsertEvent ∷ Ticker ∷ ForceTick ∷ RegisterConsumer ∷ NextBatch ∷ GetBatchEvents ∷ FinishBatch ∷ []
+-- every form
+abbrev pub all_forms : List (List ℕ × Row)
+all_forms = session_forms ++ row_forms ++ queue_forms
 
 -- the row of the first form with this first word, in a list of at most one
-abbrev pub named_form : List ℕ → List Form → List Row
+abbrev pub named_form : List ℕ → List (List ℕ × Row) → List Row
 named_form w [] = []
-named_form w (form ∷ forms) = if bytes_eq w (word_of form) then row_of form ∷ [] else named_form w forms
+named_form w (form ∷ forms) = if bytes_eq w form.0 then form.1 ∷ [] else named_form w forms
+
+-- ---- what the words of a line say
 
 -- the row for a value, if there is one
 abbrev pub when : {A : Type 0} → Option A → (A → Row) → List Row
@@ -89,8 +114,10 @@ when (Some v) f = f v ∷ []
 -- the rows with which a row may go on behind a word
 abbrev pub next : Row → List ℕ → List Row
 next (stop stmt) w = []
+next (literal fixed row) w = if bytes_eq w (text_of fixed) then row ∷ [] else []
 next (one k f) w = when (value k w) f
 next (either a b) w = next a w ++ next b w
+next (many k f) w = next (f []) w ++ when (value k w) (λ v. many k (λ vs. f (v ∷ vs)))
 
 -- the rows with which some of these may go on behind a word
 abbrev pub all_next : List Row → List ℕ → List Row
@@ -105,8 +132,10 @@ or_else (Some stmt) other = Some stmt
 -- the statement of a row that may end
 abbrev pub ended : Row → Option Stmt
 ended (stop stmt) = Some stmt
+ended (literal fixed row) = None
 ended (one k f) = None
 ended (either a b) = or_else (ended a) (ended b)
+ended (many k f) = ended (f [])
 
 -- the statement of the first row that may end
 abbrev pub all_ended : List Row → Option Stmt

@@ -1,7 +1,9 @@
 -- What happened: marks in a database, facts in the world, each in order, the newest first. A place in a history is the
 -- history as it was then, so 'before a place' is what stands below it in the list.
-use Rattle.std.specs.Prelude.{ℕ, ℤ, Bool, List}
+use Rattle.std.specs.Prelude.{ℕ, ℤ, Bool, List, Option}
 use Rattle.sky_val.specs.declared.event.Event.{Event}
+use Rattle.sky_val.specs.declared.val.Val.{Val}
+use Rattle.sky_val.specs.declared.column.Column.{Column}
 
 -- a batch: a consumer's, from one tick of its queue to another
 pub record Batch : Type 0 where
@@ -29,6 +31,13 @@ pub data QueueMark : Type 0 where
   -- a batch was finished
   closed : (batch : Batch) → QueueMark
 
+-- what happened to the tables of a database; a table goes by its number in the order of making
+pub data TableMark : Type 0 where
+  -- a table was made
+  table_made : (name : List ℕ) (columns : List Column) → TableMark
+  -- a transaction wrote a key of a table: the row that it had, and the row that it has
+  wrote : (t table : ℕ) (key : List Val) (old new : Option (List Val)) → TableMark
+
 -- what happened in a database
 pub data Mark : Type 0 where
   -- a transaction of the session got its id
@@ -37,10 +46,15 @@ pub data Mark : Type 0 where
   ended : (who t : ℕ) (committed : Bool) → Mark
   -- the session began a transaction block
   block_begun : (who : ℕ) → Mark
+  -- which is to read at one place
+  repeats : (who : ℕ) → Mark
+  -- the place at which it reads is here
+  looked : (who : ℕ) → Mark
   -- a refusal aborted it
   block_failed : (who : ℕ) → Mark
   -- the session ended it
   block_ended : (who : ℕ) → Mark
+  tabled : TableMark → Mark
   queued : QueueMark → Mark
 
 -- what happened in one database

@@ -1,24 +1,40 @@
 -- The kinds of words, and the value of a word of a kind.
-use Rattle.std.specs.Prelude.{ℕ, ◌+◌, ◌-◌, ◌*◌, ◌==◌, nat_le, Bool, true, false, not, ◌&&◌, ◌||◌, if◌then◌else◌, List, [], ◌∷◌, length, take, drop, Option, Some, None, option_map, bytes_eq, codes, position}
+use Rattle.std.specs.Prelude.{ℕ, zero, suc, ◌+◌, ◌-◌, ◌*◌, ◌^◌, ◌==◌, nat_le, ℤ, pos, negsuc, Bool, true, false, not, ◌&&◌, ◌||◌, if◌then◌else◌, List, [], ◌∷◌, length, take, drop, Option, Some, None, option_map, bytes_eq, codes, position}
 use Rattle.std.specs.Char.{is_ascii_digit, is_ascii_lowercase}
 use Rattle.std.specs.List.{list_all}
+use Rattle.std.specs.Option.{option_or, option_and_then}
 use Rattle.std.specs.Str.{is_utf8}
+use Rattle.sky_val.specs.declared.val.Val.{Val}
+use Rattle.sky_val.specs.declared.val.Val.TheVariants.{Null, Int, Text}
+use Rattle.sky_val.specs.declared.column.ColKind.{ColKind}
+use Rattle.sky_val.specs.declared.column.ColKind.TheVariants as kind
+use Rattle.sky_val.specs.declared.column.Column as column
+use Rattle.sky_model.specs.declared.stmt.Change.{Change}
+use Rattle.sky_model.specs.declared.stmt.Change.TheVariants.{To, Add}
+use Rattle.sky_model.specs.declared.stmt.Set as set
 
--- the kinds; a number's is with the most that it may be
+-- a name; one, or two with a dot between; a number, with the most that it may be; `null` or a text; a word without quotes or a text;
+-- a value of a row; a column of a new table; the change of a column
 pub data Kind : Type 0 where
   Name : Kind
-  Consumer : Kind
+  Dotted : Kind
   Number : ℕ → Kind
   OptText : Kind
   Raw : Kind
+  Value : Kind
+  Column : Kind
+  Set : Kind
 
 -- what a word of a kind is worth
 abbrev pub Of : Kind → Type 0
 Of Name = List ℕ
-Of Consumer = List ℕ
+Of Dotted = List ℕ
 Of (Number most) = ℕ
 Of OptText = Option (List ℕ)
 Of Raw = List ℕ
+Of Value = Val
+Of Column = column.Column
+Of Set = set.Set
 
 -- a lower-case letter or `_`
 abbrev pub begins_name : ℕ → Bool
@@ -42,13 +58,13 @@ abbrev pub names_around : Option ℕ → List ℕ → Bool
 names_around None w = is_identifier w
 names_around (Some dot) w = is_identifier (take dot w) && is_identifier (drop (dot + 1) w)
 
--- the place of the first dot
-abbrev pub first_dot : List ℕ → Option ℕ
-first_dot w = position (λ b. b == 46) w
+-- the place of the first byte of this kind
+abbrev pub first_place : ℕ → List ℕ → Option ℕ
+first_place byte w = position (λ b. b == byte) w
 
 -- a name, or two with a dot between, of at most 63 bytes together
-abbrev pub is_consumer : List ℕ → Bool
-is_consumer w = nat_le (length w) 63 && names_around (first_dot w) w
+abbrev pub is_dotted : List ℕ → Bool
+is_dotted w = nat_le (length w) 63 && names_around (first_place 46 w) w
 
 -- digits, with a zero in front only where it is alone
 abbrev pub is_number : List ℕ → Bool
@@ -103,10 +119,72 @@ is_bare_word (b ∷ bs) = list_all is_bare (b ∷ bs)
 abbrev pub raw : List ℕ → Option (List ℕ)
 raw w = if is_bare_word w then Some w else quoted_text w
 
+-- a number below zero by how far it is, which isn't 0
+abbrev pub below_zero : ℕ → Option ℤ
+below_zero zero = None
+below_zero (suc n) = Some (negsuc n)
+
+-- the number that a word writes, with `-` in front of one below zero, if it has 64 bits with its sign
+abbrev pub int_of : List ℕ → Option ℤ
+int_of [] = None
+int_of (b ∷ bs) =
+    if b == 45 then option_and_then below_zero (number_of (2 ^ 63) bs)
+    else option_map (λ n. pos n) (number_of (2 ^ 63 - 1) (b ∷ bs))
+
+-- `null`, a number or the text of a quoted word
+abbrev pub value_of : List ℕ → Option Val
+value_of w =
+    if bytes_eq w (codes "null") then Some Null
+    else option_or (option_map (λ n. Int n) (int_of w)) (option_map (λ text. Text text) (quoted_text w))
+
+-- a column's kind and whether it is part of the key, by what stands behind its name's colon
+abbrev pub column_kind : List ℕ → Option (ColKind × Bool)
+column_kind w =
+    if bytes_eq w (codes "int") then Some (kind.Int, false)
+    else if bytes_eq w (codes "int:key") then Some (kind.Int, true)
+    else if bytes_eq w (codes "text") then Some (kind.Text, false)
+    else if bytes_eq w (codes "text:key") then Some (kind.Text, true)
+    else None
+
+-- the column of this name, if it is a name
+abbrev pub column_as : List ℕ → Option (ColKind × Bool) → Option column.Column
+column_as name kind = if is_name name then option_map (λ k. record { name = name; kind = k.0; key = k.1 }) kind else None
+
+-- the column that a word with a colon at this place describes
+abbrev pub column_around : Option ℕ → List ℕ → Option column.Column
+column_around None w = None
+column_around (Some colon) w = column_as (take colon w) (column_kind (drop (colon + 1) w))
+
+-- the column that a word describes: a name, its kind, and whether it is part of the key
+abbrev pub column_of : List ℕ → Option column.Column
+column_of w = column_around (first_place 58 w) w
+
+-- the change of the column of this name, if it is a name
+abbrev pub set_as : List ℕ → Option Change → Option set.Set
+set_as name change = if is_name name then option_map (λ c. record { column = name; change = c }) change else None
+
+-- the change by what stands before the first `=` and behind it: a number is added where `+` stands before it
+abbrev pub set_by : List ℕ → List ℕ → Option set.Set
+set_by front back =
+    if bytes_eq (drop (length front - 1) front) (codes "+") then set_as (take (length front - 1) front) (option_map (λ n. Add n) (int_of back))
+    else set_as front (option_map (λ v. To v) (value_of back))
+
+-- the change that a word with an `=` at this place describes
+abbrev pub set_around : Option ℕ → List ℕ → Option set.Set
+set_around None w = None
+set_around (Some at) w = set_by (take at w) (drop (at + 1) w)
+
+-- the change of a column that a word describes
+abbrev pub set_of : List ℕ → Option set.Set
+set_of w = set_around (first_place 61 w) w
+
 -- the value of a word of a kind; no value where the word is of another
 abbrev pub value : (k : Kind) → List ℕ → Option (Of k)
 value Name w = if is_name w then Some w else None
-value Consumer w = if is_consumer w then Some w else None
+value Dotted w = if is_dotted w then Some w else None
 value (Number most) w = number_of most w
 value OptText w = opt_text w
 value Raw w = raw w
+value Value w = value_of w
+value Column w = column_of w
+value Set w = set_of w

@@ -1,13 +1,17 @@
 -- How answers are printed.
 use Rattle.std.specs.Prelude.{ℕ, ◌<◌, ◌==◌, true, false, List, [], ◌∷◌, ◌++◌, map, flat_map, length, All, Option, Some, None, unwrap_or, slice_get, if◌then◌else◌, codes}
-use Rattle.std.specs.Fmt.{decimal}
+use Rattle.std.specs.Fmt.{decimal, signed_decimal}
 use Rattle.sky_val.specs.declared.event.Event.{Event}
+use Rattle.sky_val.specs.declared.val.Val.{Val}
+use Rattle.sky_val.specs.declared.val.Val.TheVariants as value
 use Rattle.sky_model.specs.declared.reply.Reply.{Reply}
-use Rattle.sky_model.specs.declared.reply.Reply.TheVariants.{Done, Number, Null, Bool, Begin, AlreadyInTransaction, Commit, Rollback, NoTransaction, NotWaiting, Snapshot, Events, Refused}
+use Rattle.sky_model.specs.declared.reply.Reply.TheVariants.{Done, Number, Null, Bool, Begin, AlreadyInTransaction, Commit, Rollback, NoTransaction, NotWaiting, Snapshot, Events, Row, NoRow, Rows, Refused}
 use Rattle.sky_model.specs.declared.reply.Limit.{Limit}
-use Rattle.sky_model.specs.declared.reply.Limit.TheVariants.{Sessions, Databases, Queues, Consumers}
+use Rattle.sky_model.specs.declared.reply.Limit.TheVariants.{Sessions, Databases, Queues, Consumers, Tables, Columns}
+use Rattle.sky_model.specs.declared.reply.BadRow as bad_row
+use Rattle.sky_model.specs.declared.reply.BadRow.TheVariants.{Count, «Type», NullKey, NoColumn, Twice}
 use Rattle.sky_model.specs.declared.reply.Refusal.{Refusal}
-use Rattle.sky_model.specs.declared.reply.Refusal.TheVariants.{Aborted, AlreadyOpen, BadSnapshot, EventIdsSpent, IdsSpent, InTransaction, NoBatch, NoConsumer, NodeConsumer, NoQueue, NotOpen, TooMany, TxidsSpent}
+use Rattle.sky_model.specs.declared.reply.Refusal.TheVariants.{Aborted, AlreadyOpen, BadRow, BadSnapshot, Duplicate, EventIdsSpent, IdsSpent, InTransaction, KeyBusy, KeyChange, NoBatch, NoConsumer, NodeConsumer, NoKey, NoQueue, NoTable, NotOpen, OutOfRange, ReservedColumn, Serialize, TableExists, TooMany, TwiceNamed, TxidsSpent}
 use Rattle.sky_txid.specs.SnapshotText.{snapshot_text}
 use Rattle.sky_model.specs.Moment.{moment, HasMoment}
 
@@ -16,10 +20,14 @@ abbrev pub doubled : List ℕ → List ℕ
 doubled [] = []
 doubled (b ∷ bs) = if b == 39 then 39 ∷ 39 ∷ doubled bs else b ∷ doubled bs
 
+-- a text in quotes
+abbrev pub quoted : List ℕ → List ℕ
+quoted text = 39 ∷ doubled text ++ 39 ∷ []
+
 -- a text in quotes, or null
 abbrev pub text_or_null : Option (List ℕ) → List ℕ
 text_or_null None = codes "null"
-text_or_null (Some text) = 39 ∷ doubled text ++ 39 ∷ []
+text_or_null (Some text) = quoted text
 
 -- a number, or null
 abbrev pub number_or_null : Option ℕ → List ℕ
@@ -45,27 +53,62 @@ event_text e = codes "event" ++ spaced (
     ∷ text_or_null e.ev_extra4
     ∷ [])
 
+-- a value: null, a number, or a text in quotes
+abbrev pub value_text : Val → List ℕ
+value_text value.Null = codes "null"
+value_text (value.Int n) = signed_decimal n
+value_text (value.Text text) = quoted text
+
+-- a row
+abbrev pub row_text : List Val → List ℕ
+row_text row = codes "row" ++ spaced (map value_text row)
+
+-- how many there are
+abbrev pub count_text : ℕ → List ℕ
+count_text n = codes "rows " ++ decimal n
+
 -- what there can be only so many of, and how many
 abbrev pub limit_text : Limit → List ℕ
 limit_text Sessions = codes "sessions 256"
 limit_text Databases = codes "databases 16"
 limit_text Queues = codes "queues 64"
 limit_text Consumers = codes "consumers 256"
+limit_text Tables = codes "tables 64"
+limit_text Columns = codes "columns 32"
+
+-- what is wrong with the values of a row
+abbrev pub bad_row_text : bad_row.BadRow → List ℕ
+bad_row_text Count = codes "count"
+bad_row_text («Type» column) = codes "type " ++ column
+bad_row_text (NullKey column) = codes "nullkey " ++ column
+bad_row_text (NoColumn column) = codes "nocolumn " ++ column
+bad_row_text (Twice column) = codes "twice " ++ column
 
 -- a refusal
 abbrev pub refusal_text : Refusal → List ℕ
 refusal_text Aborted = codes "Aborted"
 refusal_text AlreadyOpen = codes "AlreadyOpen"
+refusal_text (BadRow why) = codes "BadRow " ++ bad_row_text why
 refusal_text BadSnapshot = codes "BadSnapshot"
+refusal_text Duplicate = codes "Duplicate"
 refusal_text EventIdsSpent = codes "EventIdsSpent"
 refusal_text IdsSpent = codes "IdsSpent"
 refusal_text InTransaction = codes "InTransaction"
+refusal_text (KeyBusy txid) = codes "KeyBusy " ++ decimal txid
+refusal_text (KeyChange column) = codes "KeyChange " ++ column
 refusal_text NoBatch = codes "NoBatch"
 refusal_text (NoConsumer name) = codes "NoConsumer " ++ name
 refusal_text NodeConsumer = codes "NodeConsumer"
+refusal_text NoKey = codes "NoKey"
 refusal_text (NoQueue name) = codes "NoQueue " ++ name
+refusal_text (NoTable name) = codes "NoTable " ++ name
 refusal_text NotOpen = codes "NotOpen"
+refusal_text (OutOfRange column) = codes "OutOfRange " ++ column
+refusal_text (ReservedColumn column) = codes "ReservedColumn " ++ column
+refusal_text (Serialize txid) = codes "Serialize " ++ decimal txid
+refusal_text (TableExists name) = codes "TableExists " ++ name
 refusal_text (TooMany limit) = codes "TooMany " ++ limit_text limit
+refusal_text (TwiceNamed column) = codes "TwiceNamed " ++ column
 refusal_text TxidsSpent = codes "TxidsSpent"
 
 -- the lines of an answer
@@ -82,7 +125,10 @@ reply_lines Rollback = codes "ROLLBACK" ∷ []
 reply_lines NoTransaction = codes "WARNING no transaction" ∷ []
 reply_lines NotWaiting = codes "not waiting" ∷ []
 reply_lines (Snapshot s) = snapshot_text s ∷ []
-reply_lines (Events events) = map event_text events ++ (codes "rows " ++ decimal (length events)) ∷ []
+reply_lines (Events events) = map event_text events ++ count_text (length events) ∷ []
+reply_lines (Row row) = row_text row ∷ []
+reply_lines NoRow = codes "none" ∷ []
+reply_lines (Rows rows) = map row_text rows ++ count_text (length rows) ∷ []
 reply_lines (Refused refusal) = (codes "error " ++ refusal_text refusal) ∷ []
 
 -- a line of an answer, behind its session's name

@@ -4,30 +4,64 @@ use Rattle.sky_val.specs.declared.event.Event.{Event}
 use Rattle.sky_model.specs.declared.reply.Reply.{Reply}
 use Rattle.sky_model.specs.declared.reply.Reply.TheVariants.{Refused}
 use Rattle.sky_model.specs.declared.reply.Refusal.{Refusal}
-use Rattle.sky_model.specs.History.{Batch, History, Fact, appeared, Past}
+use Rattle.sky_model.specs.History.{Batch, Mark, History, Fact, appeared, within, Past}
 use Rattle.sky_model.specs.Batches.{batch_events}
-use Rattle.sky_model.specs.State.{Database}
+use Rattle.sky_model.specs.State.{RowPart, part_of, after_part, Database, database_of, after_mark}
+use Rattle.sky_model.specs.ShownRows.{RowsShown, rows_in, rows_by}
 use Rattle.sky_model.specs.Selection.{selected}
 use Rattle.sky_model.specs.World.{World, world_of, after_facts, history_in, on_top}
 
--- what a database shows a statement that isn't kept as a mark leaves it
+-- what a database shows a statement beside what it keeps: the events of a batch, and the rows of its tables
 pub record Shown : Type 0 where
-  -- the events of a batch
   pub events : Batch → List Event
+  pub rows : RowsShown
 
--- what a database shows by its history
+-- by its history
 abbrev pub shown_in : History → Shown
-shown_in h = record { events = batch_events h }
+shown_in h = record { events = batch_events h; rows = rows_in h }
 
--- what a database shows by what it keeps
+-- by what it keeps
 abbrev pub shown_by : Database → Shown
-shown_by d = record { events = selected d }
+shown_by d = record { events = selected d; rows = rows_by d.part }
 
--- how a place is read: the world there, what each database shows there, and the place behind what happens
+-- how a place is read by a statement on rows: the row part there, what its tables show there, and the place behind a mark
+pub record PartReader (P : Type 0) : Type 0 where
+  pub part : P → RowPart
+  pub rows : P → RowsShown
+  pub behind : P → Mark → P
+
+-- a place is the history there, or what the row part keeps there
+abbrev pub part_by_history : PartReader History
+part_by_history = record { part = part_of; rows = rows_in; behind = λ h mark. mark ∷ h }
+
+abbrev pub part_by_itself : PartReader RowPart
+part_by_itself = record { part = λ d. d; rows = rows_by; behind = after_part }
+
+-- the same of a whole database
+pub record DatabaseReader (P : Type 0) : Type 0 where
+  pub database : P → Database
+  pub shown : P → Shown
+  pub behind : P → Mark → P
+
+abbrev pub database_by_history : DatabaseReader History
+database_by_history = record { database = database_of; shown = shown_in; behind = λ h mark. mark ∷ h }
+
+abbrev pub database_by_itself : DatabaseReader Database
+database_by_itself = record { database = λ d. d; shown = shown_by; behind = after_mark }
+
+-- and of the world: the world there, what each database shows there, and the place behind what happens
 pub record Reader (P : Type 0) : Type 0 where
   pub world : P → World
   pub shown : P → ℕ → Shown
   pub behind : P → List Fact → P
+
+-- a place of the world, as one of a database
+abbrev pub within_database : {P : Type 0} → Reader P → ℕ → DatabaseReader P
+within_database r d = record {
+  database = λ p. (r.world p).database d;
+  shown = λ p. r.shown p d;
+  behind = λ p mark. r.behind p (within d mark ∷ []);
+}
 
 -- a place is what has happened there
 abbrev pub by_past : Reader Past

@@ -1,6 +1,8 @@
--- The transaction blocks of sessions.
+-- The transaction blocks of sessions, and the places at which they read.
 use Rattle.std.specs.Prelude.{ℕ, [], ◌∷◌, Option, Some, None, ◌==◌, if◌then◌else◌}
-use Rattle.sky_model.specs.History.{began, ended, block_begun, block_failed, block_ended, History}
+use Rattle.sky_txid.specs.Snapshot.{SnapshotView}
+use Rattle.sky_model.specs.History.{began, ended, block_begun, repeats, looked, block_failed, block_ended, History}
+use Rattle.sky_model.specs.Transactions.{snapshot}
 
 -- where a session stands: in no transaction block, in one, or in one that a refusal has aborted
 pub data Block : Type 0 where
@@ -22,14 +24,42 @@ own_txid who (began w t ∷ h) = if w == who then Some t else own_txid who h
 own_txid who (ended w t committed ∷ h) = if w == who then None else own_txid who h
 own_txid who (_ ∷ h) = own_txid who h
 
--- a session
+-- where a session's statements read: each at its own place; all at that of the first one, which is still
+-- to come; or at this one
+pub data Sight (P : Type 0) : Type 0 where
+  at_each : Sight P
+  at_first : Sight P
+  at_place : P → Sight P
+
+-- a repeatable read block reads the history as it was at its first statement
+abbrev pub sight : ℕ → History → Sight History
+sight who [] = at_each
+sight who (repeats w ∷ h) = if w == who then at_first else sight who h
+sight who (looked w ∷ h) = if w == who then at_place h else sight who h
+sight who (block_failed w ∷ h) = if w == who then at_each else sight who h
+sight who (block_ended w ∷ h) = if w == who then at_each else sight who h
+sight who (_ ∷ h) = sight who h
+
+-- a sight, as what `f` gives of its place
+abbrev pub sight_by : {P Q : Type 0} → (P → Q) → Sight P → Sight Q
+sight_by f at_each = at_each
+sight_by f at_first = at_first
+sight_by f (at_place p) = at_place (f p)
+
+-- the place of a statement's sight, which may be its own
+abbrev pub place_of_sight : {P : Type 0} → P → Sight P → P
+place_of_sight own (at_place p) = p
+place_of_sight own _ = own
+
+-- a session: its sight goes by the snapshot there
 pub record Session : Type 0 where
   pub block : Block
   pub txid : Option ℕ
+  pub sight : Sight SnapshotView
 
 abbrev pub session : History → ℕ → Session
-session h who = record { block = block who h; txid = own_txid who h }
+session h who = record { block = block who h; txid = own_txid who h; sight = sight_by snapshot (sight who h) }
 
 -- a session that is in no transaction
 abbrev pub at_rest : Session
-at_rest = record { block = outside; txid = None }
+at_rest = record { block = outside; txid = None; sight = at_each }

@@ -1,12 +1,18 @@
 -- What a database shows at a place: all that a statement reads of it, each part by its definition. The
 -- code keeps these, and a mark changes them.
-use Rattle.std.specs.Prelude.{ℕ, ◌+◌, List, [], ◌∷◌, ◌++◌, Bool, true, false, not, ◌||◌, Option, Some, None, ◌==◌, bytes_eq, filter, option_map, if◌then◌else◌}
+use Rattle.std.specs.Prelude.{ℕ, ◌+◌, List, [], ◌∷◌, ◌++◌, Bool, true, false, not, ◌||◌, Option, Some, None, ◌==◌, bytes_eq, filter, length, option_map, if◌then◌else◌}
 use Rattle.sky_val.specs.declared.event.Event.{Event}
-use Rattle.sky_txid.specs.Snapshot.{snapshot_of}
-use Rattle.sky_model.specs.History.{Batch, Mark, began, ended, block_begun, block_failed, block_ended, queued, QueueMark, made, raised, put, ticked, registered, opened, closed, History}
+use Rattle.sky_val.specs.declared.column.Column.{Column}
+use Rattle.sky_val.specs.Entries.{Entries}
+use Rattle.sky_txid.specs.declared.version.Version.{Version}
+use Rattle.sky_txid.specs.Snapshot.{SnapshotView, snapshot_of}
+use Rattle.sky_txid.specs.Versions.{written, forgotten}
+use Rattle.sky_model.specs.History.{Batch, Mark, began, ended, block_begun, repeats, looked, block_failed, block_ended, tabled, TableMark, table_made, wrote, queued, QueueMark, made, raised, put, ticked, registered, opened, closed, History}
 use Rattle.sky_model.specs.Transactions.{next_txid, running, has_rolled_back}
-use Rattle.sky_model.specs.Sessions.{inside, failed, outside, Session, session}
+use Rattle.sky_model.specs.Sessions.{Block, inside, failed, outside, Sight, at_each, at_first, at_place, Session, session}
 use Rattle.sky_model.specs.Config.{Config, config}
+use Rattle.sky_model.specs.Rows.{table_names, columns_of}
+use Rattle.sky_model.specs.Versions.{versions}
 use Rattle.sky_model.specs.Queues.{queue_names, sequence, events, Tick, ticks}
 use Rattle.sky_model.specs.Consumers.{consumers, Subscription, subscription, last_subscription, last_batch, active_batch}
 
@@ -19,12 +25,19 @@ pub record Queue : Type 0 where
   pub members : List (List ℕ)
   pub sub : List ℕ → Option Subscription
 
--- a database, as a statement reads it
-pub record Database : Type 0 where
+-- the transactions, sessions and tables of a database, as a statement reads them
+pub record RowPart : Type 0 where
   pub next : ℕ
   pub running_ids : List ℕ
-  pub undone : ℕ → Bool
   pub session : ℕ → Session
+  pub tables : List (List ℕ)
+  pub columns : ℕ → List Column
+  pub versions : ℕ → Entries (List Version)
+
+-- a database, as a statement reads it
+pub record Database : Type 0 where
+  pub part : RowPart
+  pub undone : ℕ → Bool
   pub last_batch_id : ℕ
   pub last_sub_id : ℕ
   pub names : List (List ℕ)
@@ -41,12 +54,20 @@ queue_of h q = record {
   sub = λ name. subscription q name h;
 }
 
-abbrev pub database_of : History → Database
-database_of h = record {
+abbrev pub part_of : History → RowPart
+part_of h = record {
   next = next_txid h;
   running_ids = running h;
-  undone = has_rolled_back h;
   session = session h;
+  tables = table_names h;
+  columns = λ n. columns_of n h;
+  versions = λ n. versions n h;
+}
+
+abbrev pub database_of : History → Database
+database_of h = record {
+  part = part_of h;
+  undone = has_rolled_back h;
   last_batch_id = last_batch h;
   last_sub_id = last_subscription h;
   names = queue_names h;
@@ -77,7 +98,7 @@ after_queue_mark d (raised q value) = record d { queue = changed_at q (λ x. rec
 after_queue_mark d (put q event) = record d { queue = changed_at q (λ x. record x { stored = x.stored ++ event ∷ [] }) d.queue }
 after_queue_mark d (ticked q id time seq) = record d {
   queue = changed_at q (λ x. record x {
-    tick_list = x.tick_list ++ record { id = id; time = time; snapshot = snapshot_of d.next d.running_ids; seq = seq } ∷ [];
+    tick_list = x.tick_list ++ record { id = id; time = time; snapshot = snapshot_of d.part.next d.part.running_ids; seq = seq } ∷ [];
   }) d.queue;
 }
 after_queue_mark d (registered q name id tick) = record d {
@@ -101,26 +122,69 @@ after_queue_mark d (closed b) = record d {
   }) d.queue;
 }
 
--- a database after a mark
-abbrev pub after_mark : Database → Mark → Database
-after_mark d (began who t) = record d {
+-- a session after a mark of its own
+abbrev pub with_txid : Option ℕ → Session → Session
+with_txid own s = record s { txid = own }
+
+abbrev pub with_sight : Sight SnapshotView → Session → Session
+with_sight sight s = record s { sight = sight }
+
+abbrev pub with_block : Block → Session → Session
+with_block block s = record s { block = block }
+
+-- a session whose block is over, or aborted
+abbrev pub without_sight : Block → Session → Session
+without_sight block s = record s { block = block; sight = at_each }
+
+-- tables after something happened to them
+abbrev pub after_table_mark : RowPart → TableMark → RowPart
+after_table_mark d (table_made name columns) = record d {
+  tables = d.tables ++ name ∷ [];
+  columns = changed_at (length d.tables) (λ _. columns) d.columns;
+}
+after_table_mark d (wrote t table key old new) = record d { versions = changed_at table (written t key new) d.versions }
+
+-- transactions, sessions and tables after a mark
+abbrev pub after_part : RowPart → Mark → RowPart
+after_part d (began who t) = record d {
   next = d.next + 1;
   running_ids = d.running_ids ++ t ∷ [];
-  session = changed_at who (λ s. record s { txid = Some t }) d.session;
+  session = changed_at who (with_txid (Some t)) d.session;
 }
-after_mark d (ended who t true) = record d {
+after_part d (ended who t true) = record d {
   running_ids = filter (λ u. not (u == t)) d.running_ids;
-  session = changed_at who (λ s. record s { txid = None }) d.session;
+  session = changed_at who (with_txid None) d.session;
 }
-after_mark d (ended who t false) = record d {
+after_part d (ended who t false) = record d {
   running_ids = filter (λ u. not (u == t)) d.running_ids;
-  undone = λ u. u == t || d.undone u;
-  session = changed_at who (λ s. record s { txid = None }) d.session;
+  session = changed_at who (with_txid None) d.session;
+  versions = λ n. forgotten t (d.versions n);
 }
-after_mark d (block_begun who) = record d { session = changed_at who (λ s. record s { block = inside }) d.session }
-after_mark d (block_failed who) = record d { session = changed_at who (λ s. record s { block = failed }) d.session }
-after_mark d (block_ended who) = record d { session = changed_at who (λ s. record s { block = outside }) d.session }
+after_part d (block_begun who) = record d { session = changed_at who (with_block inside) d.session }
+after_part d (repeats who) = record d { session = changed_at who (with_sight at_first) d.session }
+after_part d (looked who) = record d { session = changed_at who (with_sight (at_place (snapshot_of d.next d.running_ids))) d.session }
+after_part d (block_failed who) = record d { session = changed_at who (without_sight failed) d.session }
+after_part d (block_ended who) = record d { session = changed_at who (without_sight outside) d.session }
+after_part d (tabled mark) = after_table_mark d mark
+after_part d (queued mark) = d
+
+-- the same after marks, the first one first
+abbrev pub after_part_marks : RowPart → List Mark → RowPart
+after_part_marks d [] = d
+after_part_marks d (mark ∷ marks) = after_part_marks (after_part d mark) marks
+
+-- a database after a mark
+abbrev pub after_mark : Database → Mark → Database
 after_mark d (queued mark) = after_queue_mark d mark
+after_mark d (ended who t false) = record d { part = after_part d.part (ended who t false); undone = λ u. u == t || d.undone u }
+after_mark d (ended who t true) = record d { part = after_part d.part (ended who t true) }
+after_mark d (began who t) = record d { part = after_part d.part (began who t) }
+after_mark d (block_begun who) = record d { part = after_part d.part (block_begun who) }
+after_mark d (repeats who) = record d { part = after_part d.part (repeats who) }
+after_mark d (looked who) = record d { part = after_part d.part (looked who) }
+after_mark d (block_failed who) = record d { part = after_part d.part (block_failed who) }
+after_mark d (block_ended who) = record d { part = after_part d.part (block_ended who) }
+after_mark d (tabled mark) = record d { part = after_part d.part (tabled mark) }
 
 -- a database after marks, the first one first
 abbrev pub after_marks : Database → List Mark → Database

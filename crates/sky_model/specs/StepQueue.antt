@@ -4,52 +4,27 @@ use Rattle.sky_val.specs.declared.event.Event.{Event}
 use Rattle.sky_model.specs.declared.stmt.Extra.{Extra}
 use Rattle.sky_model.specs.declared.reply.Reply.TheVariants.{Number, Null}
 use Rattle.sky_model.specs.declared.reply.Limit.TheVariants.{Queues}
-use Rattle.sky_model.specs.declared.reply.Refusal.TheVariants.{NoQueue, TooMany, TxidsSpent, EventIdsSpent, IdsSpent}
+use Rattle.sky_model.specs.declared.reply.Refusal.TheVariants.{NoQueue, TooMany, EventIdsSpent, IdsSpent}
 use Rattle.sky_names.specs.Places.{place_of}
-use Rattle.sky_model.specs.History.{Mark, began, ended, queued, made, raised, put, ticked}
+use Rattle.sky_model.specs.History.{queued, made, raised, put, ticked}
 use Rattle.sky_model.specs.Queues.{Tick, newest_tick}
-use Rattle.sky_model.specs.Sessions.{Block, outside, Session}
 use Rattle.sky_model.specs.Config.{Config}
 use Rattle.sky_model.specs.State.{Queue, Database}
+use Rattle.sky_model.specs.OwnTransaction.{txid_for, written}
 use Rattle.sky_model.specs.Outcome.{Outcome, Checked, ◌>>=◌, ◌>>◌, refused_if, found_or, answers, does_marks}
 
 -- the queue of a name
 abbrev pub queue_called : List ℕ → Database → Checked ℕ
 queue_called name d = found_or (place_of name d.names) (NoQueue name)
 
--- the id of a session's transaction: its own, or the next one, if there is one
-abbrev pub own_or_next : Database → Option ℕ → Checked ℕ
-own_or_next d (Some t) = Ok t
-own_or_next d None = do
-  refused_if (nat_le (2 ^ 62) d.next) TxidsSpent
-  Ok d.next
-
--- the same for a session
-abbrev pub txid_for : Database → ℕ → Checked ℕ
-txid_for d who = own_or_next d (d.session who).txid
-
--- a transaction gets its id at its first write
-abbrev pub begin_of : ℕ → ℕ → Option ℕ → List Mark
-begin_of who t None = began who t ∷ []
-begin_of who t (Some own) = []
-
--- outside a block a statement is a transaction of its own, which commits
-abbrev pub commit_of : ℕ → ℕ → Block → List Mark
-commit_of who t outside = ended who t true ∷ []
-commit_of who t _ = []
-
--- what a session writes, in its transaction with this id
-abbrev pub written : ℕ → ℕ → Session → List Mark → List Mark
-written who t s marks = begin_of who t s.txid ++ marks ++ commit_of who t s.block
-
 -- `create_queue NAME`: a queue with its first tick, which is made when the transaction has ended
 abbrev pub create_queue : Database → ℤ → ℕ → List ℕ → Checked Outcome
 create_queue d now who name =
     if is_some (place_of name d.names) then answers (Number 0) else do
       refused_if (nat_le 64 (length d.names)) (TooMany Queues)
-      t ← txid_for d who
+      t ← txid_for d.part who
       does_marks (Number 1)
-          (written who t (d.session who) (queued (made name) ∷ []) ++ queued (ticked (length d.names) 1 now 0) ∷ [])
+          (written who t (d.part.session who) (queued (made name) ∷ []) ++ queued (ticked (length d.names) 1 now 0) ∷ [])
 
 -- the further texts of an event
 abbrev pub extra_of : (Extra → Option (List ℕ)) → Option Extra → Option (List ℕ)
@@ -82,10 +57,10 @@ next_event_id q = do
 abbrev pub insert_event : Database → ℤ → ℕ → List ℕ → Option (List ℕ) → Option (List ℕ) → Option Extra → Checked Outcome
 insert_event d now who name ev_type ev_data extra = do
   queue ← queue_called name d
-  t ← txid_for d who
+  t ← txid_for d.part who
   id ← next_event_id (d.queue queue)
   does_marks (Number id)
-      (written who t (d.session who) (queued (raised queue id) ∷ queued (put queue (made_event id now t ev_type ev_data extra)) ∷ []))
+      (written who t (d.part.session who) (queued (raised queue id) ∷ queued (put queue (made_event id now t ev_type ev_data extra)) ∷ []))
 
 -- without a new event a tick is due where no other is kept, or the queue has been idle long enough:
 -- twice the lag reaches the limit, and the lag twice the time between the last two ticks or the idle period

@@ -1,20 +1,25 @@
--- What the statements on sessions and transactions do. Each reads the database `d` as it stands.
+-- What the statements on sessions and transactions do. Each reads the part `d` of its database as it stands.
 use Rattle.std.specs.Prelude.{ℕ, List, [], ◌∷◌, ◌++◌, Bool, true, false, Option}
 use Rattle.sky_txid.specs.Snapshot.{snapshot_of, sees}
 use Rattle.sky_txid.specs.SnapshotText.{parse_snapshot}
 use Rattle.sky_model.specs.declared.reply.Reply as reply
 use Rattle.sky_model.specs.declared.reply.Reply.TheVariants.{Number, AlreadyInTransaction, NoTransaction, Snapshot}
 use Rattle.sky_model.specs.declared.reply.Refusal.TheVariants.{BadSnapshot}
-use Rattle.sky_model.specs.History.{Mark, block_begun, block_ended}
-use Rattle.sky_model.specs.Sessions.{Block, outside, inside, failed}
-use Rattle.sky_model.specs.State.{Database}
+use Rattle.sky_model.specs.History.{Mark, block_begun, repeats, block_ended}
+use Rattle.sky_model.specs.Sessions.{Block, outside, inside, failed, place_of_sight}
+use Rattle.sky_model.specs.State.{RowPart}
 use Rattle.sky_model.specs.Outcome.{Outcome, Checked, ◌>>=◌, found_or, answers, does_marks, end_of}
-use Rattle.sky_model.specs.StepQueue.{txid_for, written}
+use Rattle.sky_model.specs.OwnTransaction.{txid_for, written}
 
 -- `begin`
 abbrev pub begin : ℕ → Block → Checked Outcome
 begin who outside = does_marks reply.TheVariants.Begin (block_begun who ∷ [])
 begin who _ = answers AlreadyInTransaction
+
+-- `begin repeatable read`
+abbrev pub begin_repeatable_read : ℕ → Block → Checked Outcome
+begin_repeatable_read who outside = does_marks reply.TheVariants.Begin (block_begun who ∷ repeats who ∷ [])
+begin_repeatable_read who _ = answers AlreadyInTransaction
 
 -- the end of a block, with its transaction
 abbrev pub leaves : Bool → ℕ → Option ℕ → List Mark
@@ -37,14 +42,14 @@ close who txid outside = answers reply.TheVariants.Done
 close who txid _ = does_marks reply.TheVariants.Done (leaves false who txid)
 
 -- `txid_current`: the transaction gets its id, where it has none
-abbrev pub txid_current : Database → ℕ → Checked Outcome
+abbrev pub txid_current : RowPart → ℕ → Checked Outcome
 txid_current d who = do
   t ← txid_for d who
   does_marks (Number t) (written who t (d.session who) [])
 
--- `txid_current_snapshot`
-abbrev pub txid_current_snapshot : Database → Checked Outcome
-txid_current_snapshot d = answers (Snapshot (snapshot_of d.next d.running_ids))
+-- `txid_current_snapshot`: the snapshot of the statement's sight
+abbrev pub txid_current_snapshot : RowPart → ℕ → Checked Outcome
+txid_current_snapshot d who = answers (Snapshot (place_of_sight (snapshot_of d.next d.running_ids) (d.session who).sight))
 
 -- `txid_visible_in_snapshot N RAW`
 abbrev pub txid_visible_in_snapshot : ℕ → List ℕ → Checked Outcome

@@ -2,6 +2,7 @@
 
 ghost use Rattle.sky_model.specs.LawsOfBatches.{BatchesAreConsecutive, BatchesListWhatStands, EqualIdsStay, EventsAreListedOnce, FinishedBatchesWereActive, IdsDontFall, ListingsStay};
 ghost use Rattle.sky_model.specs.LawsOfLines.{BadWordIsLeast};
+ghost use Rattle.sky_model.specs.LawsOfRows.{RowsAreReadUnderSnapshots};
 ghost use Rattle.sky_model.specs.LawsOfSnapshots.{BatchesAreSelectedBySnapshots, SnapshotsSeeWhatHasEnded};
 
 /// The number of a line's bad word is the least such that no line of the grammar begins with the
@@ -21,6 +22,13 @@ pub fn snapshots_see_what_has_ended()
 /// subscription, by id.
 pub fn batches_are_selected_by_snapshots()
     ensures { BatchesAreSelectedBySnapshots }
+{}
+
+/// At each such place the rows that a session is shown, by the order of commits at its sight and its own
+/// writes on top, are what is read of the kept versions under the snapshot of its sight. So rows read under
+/// a snapshot are those of one serial order of commits.
+pub fn rows_are_read_under_snapshots()
+    ensures { RowsAreReadUnderSnapshots }
 {}
 
 /// At each such place the batches that a consumer has finished are of its queue and its subscription,

@@ -1,26 +1,17 @@
 use crate::stmt::Stmt;
 use sky_val::Text;
 
-/// The statement forms, in the order of `Stmt`.
+/// The words that stand in a statement as they are, behind its first word.
 #[derive(Clone, Copy, Debug, PartialEq, Eq)]
-pub enum Form {
-    OpenDb,
-    Close,
-    Cancel,
-    Begin,
-    Commit,
-    Rollback,
-    TxidCurrent,
-    TxidCurrentSnapshot,
-    TxidVisibleInSnapshot,
-    CreateQueue,
-    InsertEvent,
-    Ticker,
-    ForceTick,
-    RegisterConsumer,
-    NextBatch,
-    GetBatchEvents,
-    FinishBatch,
+pub enum Fixed {
+    /// `repeatable`
+    Repeatable,
+    /// `read`
+    Read,
+    /// `table`
+    Table,
+    /// `set`
+    Set,
 }
 
 /// Why a line is bad.

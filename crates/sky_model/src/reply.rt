@@ -1,7 +1,7 @@
 ghost use Rattle.std.specs.Prelude.{◌≡◌, [], ◌∷◌, ◌++◌, OnOk, OnErr};
 
 use sky_txid::Snapshot;
-use sky_val::{Event, SessionId, Text};
+use sky_val::{Event, Row, SessionId, Text};
 use std::alloc::{AllocError, Global};
 use std::marker::Model;
 
@@ -16,6 +16,37 @@ pub enum Limit {
     Queues,
     /// 256 consumers of a queue
     Consumers,
+    /// 64 tables in a database
+    Tables,
+    /// 32 columns in a table
+    Columns,
+}
+
+/// What is wrong with the values of a row, of a key, or of an update's changes.
+#[derive(Debug)]
+pub enum BadRow {
+    /// They are more or fewer than the columns that they are for.
+    Count,
+    /// A value is of another kind than this column, or a number is added to a text.
+    Type(Text),
+    /// Null stands for this column, which is part of the key.
+    NullKey(Text),
+    /// The table has no column of this name.
+    NoColumn(Text),
+    /// This column is changed a second time.
+    Twice(Text),
+}
+
+impl Drop for BadRow {
+    fn drop(self) {
+        match self {
+            BadRow::Count => {}
+            BadRow::Type(_) => {}
+            BadRow::NullKey(_) => {}
+            BadRow::NoColumn(_) => {}
+            BadRow::Twice(_) => {}
+        }
+    }
 }
 
 /// Why a statement is refused.
@@ -25,26 +56,48 @@ pub enum Refusal {
     Aborted,
     /// The session has a database open already.
     AlreadyOpen,
+    /// Values don't fit the table.
+    BadRow(BadRow),
     /// The text is no snapshot.
     BadSnapshot,
+    /// The table has a row with this key.
+    Duplicate,
     /// The sequence of the queue's event ids has ended.
     EventIdsSpent,
     /// The last tick, batch or subscription id was given.
     IdsSpent,
     /// The statement may not stand in a transaction block.
     InTransaction,
+    /// The running transaction of this id has written the key.
+    KeyBusy(u64),
+    /// An update names this column, which is part of the key.
+    KeyChange(Text),
     /// No active batch of the database has this id.
     NoBatch,
     /// The queue has no such consumer.
     NoConsumer(Text),
     /// The consumer is a node's.
     NodeConsumer,
+    /// No column of the table is part of its key.
+    NoKey,
     /// The database has no such queue.
     NoQueue(Text),
+    /// The database has no such table.
+    NoTable(Text),
     /// The session has no database open.
     NotOpen,
+    /// The sum leaves the range of numbers in this column.
+    OutOfRange(Text),
+    /// No column may have this name.
+    ReservedColumn(Text),
+    /// The transaction of this id has written the key since the block began to read.
+    Serialize(u64),
+    /// The database has such a table.
+    TableExists(Text),
     /// There are as many as there can be.
     TooMany(Limit),
+    /// Two columns have this name.
+    TwiceNamed(Text),
     /// The last transaction id was given.
     TxidsSpent,
 }
@@ -54,16 +107,27 @@ impl Drop for Refusal {
         match self {
             Refusal::Aborted => {}
             Refusal::AlreadyOpen => {}
+            Refusal::BadRow(_) => {}
             Refusal::BadSnapshot => {}
+            Refusal::Duplicate => {}
             Refusal::EventIdsSpent => {}
             Refusal::IdsSpent => {}
             Refusal::InTransaction => {}
+            Refusal::KeyBusy(_) => {}
+            Refusal::KeyChange(_) => {}
             Refusal::NoBatch => {}
             Refusal::NoConsumer(_) => {}
             Refusal::NodeConsumer => {}
+            Refusal::NoKey => {}
             Refusal::NoQueue(_) => {}
+            Refusal::NoTable(_) => {}
             Refusal::NotOpen => {}
+            Refusal::OutOfRange(_) => {}
+            Refusal::ReservedColumn(_) => {}
+            Refusal::Serialize(_) => {}
+            Refusal::TableExists(_) => {}
             Refusal::TooMany(_) => {}
+            Refusal::TwiceNamed(_) => {}
             Refusal::TxidsSpent => {}
         }
     }
@@ -99,6 +163,36 @@ impl Events {
     }
 }
 
+/// Rows in order.
+#[derive(Debug, Drop)]
+pub struct Rows {
+    items: Vec<Row>,
+}
+
+impl Model for Rows {
+    ghost use Rattle.std.specs.Prelude.{List};
+    ghost use Rattle.sky_val.specs.declared.val.Val.{Val};
+
+    ghost Value = { List (List Val) };
+
+    ghost view = { λ r. r.items.items };
+}
+
+impl Rows {
+    /// The rows of a list. No memory is taken.
+    pub fn new(items: Vec<Row>) -> Rows
+        ensures { result ≡ items.items }
+    {
+        Rows { items }
+    }
+
+    pub fn as_slice(&self) -> &[Row]
+        ensures { result.now ≡ self.now }
+    {
+        self.items.as_slice()
+    }
+}
+
 /// What a statement answers.
 #[derive(Debug)]
 pub enum Reply {
@@ -126,6 +220,12 @@ pub enum Reply {
     Snapshot(Snapshot),
     /// The events of a batch, and how many they are.
     Events(Events),
+    /// A row.
+    Row(Row),
+    /// `none`
+    NoRow,
+    /// The rows of a table, and how many they are.
+    Rows(Rows),
     /// `error` and the refusal.
     Refused(Refusal),
 }
@@ -145,6 +245,9 @@ impl Drop for Reply {
             Reply::NotWaiting => {}
             Reply::Snapshot(_) => {}
             Reply::Events(_) => {}
+            Reply::Row(_) => {}
+            Reply::NoRow => {}
+            Reply::Rows(_) => {}
             Reply::Refused(_) => {}
         }
     }

@@ -1,4 +1,7 @@
-use sky_val::Text;
+ghost use Rattle.std.specs.Prelude.{◌≡◌};
+
+use sky_val::{Column, Key, Row, Text, Val};
+use std::marker::Model;
 
 /// The four further texts of an event.
 #[derive(Debug, Drop)]
@@ -18,23 +21,108 @@ pub enum Where {
     WhenOpen,
     /// where a database is open, but not in an aborted block
     WhenSound,
+    /// the same, and a repeatable read block reads at the place of the first one
+    WhenReading,
     /// where a database is open, and in no block
     WhenOutside,
 }
 
-/// A statement, with the words of its line in their order.
+/// The columns of a new table, in order.
+#[derive(Debug, Drop)]
+pub struct Columns {
+    items: Vec<Column>,
+}
+
+impl Model for Columns {
+    ghost use Rattle.std.specs.Prelude.{List};
+    ghost use Rattle.sky_val.specs.declared.column.Column.{Column};
+
+    ghost Value = { List Column };
+
+    ghost view = { λ c. c.items.items };
+}
+
+impl Columns {
+    /// The columns of a list. No memory is taken.
+    pub fn new(items: Vec<Column>) -> Columns
+        ensures { result ≡ items.items }
+    {
+        Columns { items }
+    }
+
+    pub fn as_slice(&self) -> &[Column]
+        ensures { result.now ≡ self.now }
+    {
+        self.items.as_slice()
+    }
+
+    /// The list of the columns.
+    pub fn into_vec(self) -> Vec<Column>
+        ensures { result.items ≡ self }
+    {
+        self.items
+    }
+}
+
+/// What an update makes of a column's value.
+#[derive(Debug, Drop)]
+pub enum Change {
+    /// this value
+    To(Val),
+    /// a number more
+    Add(i64),
+}
+
+/// What an update makes of the column of this name.
+#[derive(Debug, Drop)]
+pub struct Set {
+    pub column: Text,
+    pub change: Change,
+}
+
+/// The changes of an update, in order.
+#[derive(Debug, Drop)]
+pub struct Sets {
+    items: Vec<Set>,
+}
+
+impl Model for Sets {
+    ghost use Rattle.std.specs.Prelude.{List};
+    ghost use Rattle.sky_model.specs.declared.stmt.Set.{Set};
+
+    ghost Value = { List Set };
+
+    ghost view = { λ s. s.items.items };
+}
+
+impl Sets {
+    /// The changes of a list. No memory is taken.
+    pub fn new(items: Vec<Set>) -> Sets
+        ensures { result ≡ items.items }
+    {
+        Sets { items }
+    }
+
+    pub fn as_slice(&self) -> &[Set]
+        ensures { result.now ≡ self.now }
+    {
+        self.items.as_slice()
+    }
+}
+
+/// A statement on sessions, transactions, tables and rows, with the words of its line in their order.
 #[derive(Debug)]
-pub enum Stmt {
+pub enum RowStmt {
     /// `open NAME`
-    OpenDb {
-        name: Text,
-    },
+    OpenDb { name: Text },
     /// `close`
     Close,
     /// `cancel`
     Cancel,
     /// `begin`
     Begin,
+    /// `begin repeatable read`
+    BeginRepeatableRead,
     /// `commit`
     Commit,
     /// `rollback`
@@ -44,10 +132,60 @@ pub enum Stmt {
     /// `txid_current_snapshot`
     TxidCurrentSnapshot,
     /// `txid_visible_in_snapshot N RAW`
-    TxidVisibleInSnapshot {
-        txid: u64,
-        snapshot: Text,
-    },
+    TxidVisibleInSnapshot { txid: u64, snapshot: Text },
+    /// `create table TABLE COL..`
+    CreateTable { table: Text, columns: Columns },
+    /// `insert TABLE VAL..`
+    Insert { table: Text, row: Row },
+    /// `update TABLE VAL.. set SET..`
+    Update { table: Text, key: Key, sets: Sets },
+    /// `delete TABLE VAL..`
+    Delete { table: Text, key: Key },
+    /// `get TABLE VAL..`
+    Get { table: Text, key: Key },
+    /// `scan TABLE`
+    Scan { table: Text },
+}
+
+// By hand, so that letting a statement go is one step for the functions that own one.
+impl Drop for RowStmt {
+    fn drop(self) {
+        match self {
+            RowStmt::OpenDb { name: _ } => {}
+            RowStmt::Close => {}
+            RowStmt::Cancel => {}
+            RowStmt::Begin => {}
+            RowStmt::BeginRepeatableRead => {}
+            RowStmt::Commit => {}
+            RowStmt::Rollback => {}
+            RowStmt::TxidCurrent => {}
+            RowStmt::TxidCurrentSnapshot => {}
+            RowStmt::TxidVisibleInSnapshot {
+                txid: _,
+                snapshot: _,
+            } => {}
+            RowStmt::CreateTable {
+                table: _,
+                columns: _,
+            } => {}
+            RowStmt::Insert { table: _, row: _ } => {}
+            RowStmt::Update {
+                table: _,
+                key: _,
+                sets: _,
+            } => {}
+            RowStmt::Delete { table: _, key: _ } => {}
+            RowStmt::Get { table: _, key: _ } => {}
+            RowStmt::Scan { table: _ } => {}
+        }
+    }
+}
+
+/// A statement, with the words of its line in their order.
+#[derive(Debug)]
+pub enum Stmt {
+    /// one on sessions, transactions, tables and rows
+    Row(RowStmt),
     /// `create_queue NAME`
     CreateQueue {
         queue: Text,
@@ -87,22 +225,11 @@ pub enum Stmt {
     },
 }
 
-// By hand, so that letting a statement go is one step for the functions that own one.
+// By hand, as for the statements on rows.
 impl Drop for Stmt {
     fn drop(self) {
         match self {
-            Stmt::OpenDb { name: _ } => {}
-            Stmt::Close => {}
-            Stmt::Cancel => {}
-            Stmt::Begin => {}
-            Stmt::Commit => {}
-            Stmt::Rollback => {}
-            Stmt::TxidCurrent => {}
-            Stmt::TxidCurrentSnapshot => {}
-            Stmt::TxidVisibleInSnapshot {
-                txid: _,
-                snapshot: _,
-            } => {}
+            Stmt::Row(_) => {}
             Stmt::CreateQueue { queue: _ } => {}
             Stmt::InsertEvent {
                 queue: _,

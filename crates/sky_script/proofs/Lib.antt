@@ -1,6 +1,7 @@
 pub mod WordLemmas
 pub mod KindLemmas
 pub mod ReadingLemmas
+pub mod ListLemmas
 pub mod TextLemmas
 pub mod DayLemmas
 pub mod Doubling

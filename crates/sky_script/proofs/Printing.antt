@@ -1,24 +1,34 @@
 -- Answers, and the lines of one, are printed one behind the other.
-use Rattle.std.proofs.Common.{◌≡◌, ℕ, ◌+◌, ◌<◌, List, [], ◌∷◌, ◌++◌, length, take, get_or, map, flat_map, codes, sym, subst, ap, ap₂, ◌∙◌, append_assoc, append-nil}
+use Rattle.std.proofs.Common.{◌≡◌, ℕ, ◌+◌, ◌<◌, List, [], ◌∷◌, ◌++◌, length, take, get_or, map, flat_map, sym, subst, ap, ap₂, ◌∙◌, append_assoc, append-nil}
 use Rattle.std.proofs.lemmas.List.{take_more, get_or_read}
 use Rattle.std.proofs.lemmas.List.Elements.{All-get_or}
 use Rattle.std.proofs.lemmas.List.Folds.{flat_map-map}
 use Rattle.std.proofs.lemmas.Option.{unwrap_or-slice_get}
 use Rattle.std.proofs.lemmas.Grind.{flat_map-append}
-use Rattle.std.specs.Fmt.{decimal}
 use Rattle.sky_val.specs.declared.event.Event.{Event}
+use Rattle.sky_val.specs.declared.val.Val.{Val}
 use Rattle.sky_model.specs.declared.reply.Reply.{Reply}
-use Rattle.sky_model.specs.declared.reply.Reply.TheVariants.{Events}
-use Rattle.sky_model.specs.Printed.{event_text, line_text, reply_text, name_at, printed, HaveNames}
+use Rattle.sky_model.specs.declared.reply.Reply.TheVariants.{Events, Rows}
+use Rattle.sky_model.specs.Printed.{event_text, row_text, count_text, line_text, reply_text, name_at, printed, HaveNames}
+
+-- lines, and one for how many they are
+reply_text-listed : {A : Type 0} (name : List ℕ) (text : A → List ℕ) (items : List A)
+    → flat_map (line_text name) (map text items ++ count_text (length items) ∷ []) ≡ flat_map (λ x. line_text name (text x)) items ++ line_text name (count_text (length items))
+reply_text-listed name text items =
+    let count = count_text (length items) in
+    flat_map-append (line_text name) (map text items) (count ∷ [])
+    ∙ ap (λ lines. lines ++ (line_text name count ++ [])) (flat_map-map (line_text name) text items)
+    ∙ ap (λ line. flat_map (λ x. line_text name (text x)) items ++ line) (append-nil (line_text name count))
 
 -- a batch is its events' lines, and one for how many they are
 pub reply_text-Events : (name : List ℕ) (events : List Event)
-    → reply_text name (Events events) ≡ flat_map (λ e. line_text name (event_text e)) events ++ line_text name (codes "rows " ++ decimal (length events))
-reply_text-Events name events =
-    let count = codes "rows " ++ decimal (length events) in
-    flat_map-append (line_text name) (map event_text events) (count ∷ [])
-    ∙ ap (λ lines. lines ++ (line_text name count ++ [])) (flat_map-map (line_text name) event_text events)
-    ∙ ap (λ line. flat_map (λ e. line_text name (event_text e)) events ++ line) (append-nil (line_text name count))
+    → reply_text name (Events events) ≡ flat_map (λ e. line_text name (event_text e)) events ++ line_text name (count_text (length events))
+reply_text-Events name events = reply_text-listed name event_text events
+
+-- so are the rows of a table
+pub reply_text-Rows : (name : List ℕ) (rows : List (List Val))
+    → reply_text name (Rows rows) ≡ flat_map (λ r. line_text name (row_text r)) rows ++ line_text name (count_text (length rows))
+reply_text-Rows name rows = reply_text-listed name row_text rows
 
 -- one answer more
 pub printed-take : (names : List (List ℕ)) (replies : List (ℕ × Reply)) (i : ℕ) (d : ℕ × Reply) → i < length replies

@@ -1,8 +1,10 @@
 -- What the next word of a line says of a row that begins with a kind.
-use Rattle.std.proofs.Common.{◌≡◌, ℕ, ◌+◌, true, List, [], ◌∷◌, Option, Some, None, Result, Err, refl, Bor, is_some, option_copied}
+use Rattle.std.proofs.Common.{◌≡◌, ◌≢◌, ℕ, ◌+◌, true, false, length, bytes_eq, ap, arith, ◌∙◌, List, [], ◌∷◌, Option, Some, None, Result, Ok, Err, refl, Bor, is_some, option_copied}
+use Rattle.std.proofs.lemmas.Slice.Eq.{bytes_eq-Decides}
 use Rattle.sky_model.specs.declared.stmt.Stmt.{Stmt}
 use Rattle.sky_model.specs.Kinds.{Kind, Of, value}
-use Rattle.sky_model.specs.Grammar.{Row, stop, either}
+use Rattle.sky_model.specs.declared.line.Fixed.{Fixed}
+use Rattle.sky_model.specs.Grammar.{Row, stop, literal, either, many, some_last, some_until, text_of}
 use Rattle.sky_model.proofs.FirstWords.{HasFirst, has_first}
 use Rattle.sky_script.specs.declared.cause.LineCause.{LineCause}
 use Rattle.sky_script.specs.declared.cause.LineCause.TheVariants.{BadWord, NoMemory}
@@ -14,6 +16,7 @@ pub goes_word : (k : Kind) (word : List ℕ) (v : Of k) (old new : Unread) → o
 unfolding Answers
 goes_word k word v old new first number worth = record {
   on = λ r f rest. rw (first, worth, ← number) rest;
+  fewer = omega (arith, ap length first);
 }
 
 -- the next word has none
@@ -33,6 +36,13 @@ stops_memory k old = record { bad = λ f. tt }
 
 pub ruleset one_word = (goes_word, stops_word, stops_end, stops_memory)
 
+pub some_left : (ws : List (List ℕ)) → HasFirst ws → ws ≢ []
+some_left ws first none = absurd (cc)
+
+has_first_of : (ws : List (List ℕ)) → ws ≢ [] → HasFirst ws
+has_first_of [] some = absurd (some refl)
+has_first_of (w ∷ ws) some = record { first = w; others = ws; is = refl }
+
 -- where a word is left, a row that may end there goes on as its other side
 pub either_goes_on : (r : Result Stmt LineCause) (stmt : Stmt) (row : Row) (at : Unread) → HasFirst at.left → Answers r row at → Answers r (either (stop stmt) row) at
 unfolding Answers
@@ -47,3 +57,51 @@ stop_goes_on stmt at some = rw some.is refl
 pub has_first_in : (rest : Option (Bor (List ℕ))) → is_some rest ≡ true → HasFirst (words_in (option_copied rest))
 has_first_in None more = absurd (cc)
 has_first_in (Some bytes) more = has_first bytes.now
+
+-- the next word is the fixed one
+pub goes_fixed : (fixed : Fixed) (w : List ℕ) (old new : Unread) (r : Result Stmt LineCause) (row : Row)
+    → old.left ≡ w ∷ new.left → new.number ≡ old.number + 1 → bytes_eq w (text_of fixed) ≡ true → Answers r row new → Answers r (literal fixed row) old
+unfolding Answers
+goes_fixed fixed w old new r row first number same rest = rw (first, same, ← number) rest
+
+-- the next word is another
+pub stops_fixed : (fixed : Fixed) (w : List ℕ) (ws : List (List ℕ)) (old : Unread) (row : Row) → old.left ≡ w ∷ ws → bytes_eq w (text_of fixed) ≡ false → Answers (Err (BadWord old.number)) (literal fixed row) old
+unfolding Answers
+stops_fixed fixed w ws old row first other = rw (first, other) refl
+
+-- no word is left
+pub stops_fixed_end : (fixed : Fixed) (old : Unread) (row : Row) → old.left ≡ [] → Answers (Err (BadWord old.number)) (literal fixed row) old
+unfolding Answers
+stops_fixed_end fixed old row none = rw none refl
+
+-- where no word is left, any words may end
+pub many_ends : (k : Kind) (make : List (Of k) → Stmt) (at : Unread) → at.left ≡ [] → Answers (Ok (make [])) (many k (λ vs. stop (make vs))) at
+unfolding Answers
+many_ends k make at none = rw none refl
+
+-- where a word is left, any words go on
+pub many_goes_on : (k : Kind) (r : Result Stmt LineCause) (make : List (Of k) → Stmt) (at : Unread) → at.left ≢ [] → Answers r (some_last k make) at → Answers r (many k (λ vs. stop (make vs))) at
+unfolding Answers
+many_goes_on k r make at some rest =
+    let first = has_first_of at.left some in
+    rw first.is (rw first.is at rest)
+
+-- any words end before a fixed word that isn't of their kind
+pub many_ends_at : (fixed : Fixed) (k : Kind) (w : List ℕ) (ws : List (List ℕ)) (r : Result Stmt LineCause) (f : List (Of k) → Row) (at : Unread)
+    → at.left ≡ w ∷ ws → bytes_eq w (text_of fixed) ≡ true → value k (text_of fixed) ≡ None → Answers r (literal fixed (f [])) at → Answers r (many k (λ vs. literal fixed (f vs))) at
+unfolding Answers
+many_ends_at fixed k w ws r f at first same none rest =
+    let worthless : value k w ≡ None = ap (value k) ((bytes_eq-Decides w (text_of fixed)).0 same) ∙ none in
+    rw (first, same, worthless) (rw (first, same) at rest)
+
+-- any words go on before another word
+pub many_goes_on_at : (fixed : Fixed) (k : Kind) (w : List ℕ) (ws : List (List ℕ)) (r : Result Stmt LineCause) (f : List (Of k) → Row) (at : Unread)
+    → at.left ≡ w ∷ ws → bytes_eq w (text_of fixed) ≡ false → Answers r (some_until fixed k f) at → Answers r (many k (λ vs. literal fixed (f vs))) at
+unfolding Answers
+many_goes_on_at fixed k w ws r f at first other rest = rw (first, other) (rw first at rest)
+
+-- and where no word is left
+pub many_goes_on_end : (fixed : Fixed) (k : Kind) (r : Result Stmt LineCause) (f : List (Of k) → Row) (at : Unread)
+    → at.left ≡ [] → Answers r (some_until fixed k f) at → Answers r (many k (λ vs. literal fixed (f vs))) at
+unfolding Answers
+many_goes_on_end fixed k r f at none rest = rw none (rw none at rest)

@@ -6,8 +6,8 @@ use Rattle.std.proofs.lemmas.Str.{IsUtf8-from_ascii, IsUtf8-append}
 use Rattle.std.proofs.lemmas.Str.Ascii.{IsAscii-nil}
 use Rattle.std.specs.List.{list_all}
 use Rattle.std.specs.Str.{IsAscii}
-use Rattle.sky_model.specs.Kinds.{is_bare, is_bare_word, continues_name, is_identifier, is_name, names_around, first_dot, is_consumer}
-use Rattle.sky_model.proofs.NameLemmas.{list_all-is_identifier, around_dot}
+use Rattle.sky_model.specs.Kinds.{is_bare, is_bare_word, continues_name, is_identifier, is_name, names_around, first_place, is_dotted}
+use Rattle.sky_model.proofs.NameLemmas.{list_all-is_identifier, around_first}
 
 continues_name-lt : (b : ℕ) → continues_name b ≡ true → b < 128
 continues_name-lt b so = grind (arith, nat_tests)
@@ -32,17 +32,17 @@ IsAscii-dot : IsAscii (46 ∷ [])
 IsAscii-dot zero = omega arith
 IsAscii-dot (suc i) = IsAscii-nil i
 
-IsUtf8-names_around : (w : List ℕ) (dot : Option ℕ) → first_dot w ≡ dot → names_around dot w ≡ true → IsUtf8 w
+IsUtf8-names_around : (w : List ℕ) (dot : Option ℕ) → first_place 46 w ≡ dot → names_around dot w ≡ true → IsUtf8 w
 IsUtf8-names_around w None is so = IsUtf8-is_identifier w so
 IsUtf8-names_around w (Some dot) is so =
     let front : List ℕ = take dot w in
     let back : List ℕ = drop (dot + 1) w in
     let parts = and_parts (is_identifier front) (is_identifier back) so in
     let behind = IsUtf8-append (46 ∷ []) back (IsUtf8-from_ascii (46 ∷ []) IsAscii-dot) (IsUtf8-is_identifier back parts.1) in
-    subst IsUtf8 (around_dot w dot is) (IsUtf8-append front (46 ∷ back) (IsUtf8-is_identifier front parts.0) behind)
+    subst IsUtf8 (around_first 46 w dot is) (IsUtf8-append front (46 ∷ back) (IsUtf8-is_identifier front parts.0) behind)
 
 pub IsUtf8-is_name : (w : List ℕ) → is_name w ≡ true → IsUtf8 w
 IsUtf8-is_name w so = IsUtf8-is_identifier w (and_parts (nat_le (length w) 63) (is_identifier w) so).1
 
-pub IsUtf8-is_consumer : (w : List ℕ) → is_consumer w ≡ true → IsUtf8 w
-IsUtf8-is_consumer w so = IsUtf8-names_around w (first_dot w) refl (and_parts (nat_le (length w) 63) (names_around (first_dot w) w) so).1
+pub IsUtf8-is_dotted : (w : List ℕ) → is_dotted w ≡ true → IsUtf8 w
+IsUtf8-is_dotted w so = IsUtf8-names_around w (first_place 46 w) refl (and_parts (nat_le (length w) 63) (names_around (first_place 46 w) w) so).1

@@ -1,8 +1,9 @@
--- How the readers of single words answer a row of the grammar.
-use Rattle.std.specs.Prelude.{◌≡◌, ℕ, [], ◌∷◌, Result, Ok, Err}
+-- How the readers of single words, of lists of words and of forms answer a row of the grammar.
+use Rattle.std.specs.Prelude.{◌≡◌, ℕ, ◌-◌, ◌<◌, List, [], ◌∷◌, length, Result, Ok, Err}
 use Rattle.sky_model.specs.declared.stmt.Stmt.{Stmt}
+use Rattle.sky_model.specs.declared.line.Fixed.{Fixed}
 use Rattle.sky_model.specs.Kinds.{Kind, Of}
-use Rattle.sky_model.specs.Grammar.{Row, one, reads}
+use Rattle.sky_model.specs.Grammar.{Row, one, some_last, some_until, named_form, goes_on, reads}
 use Rattle.sky_script.specs.declared.cause.LineCause.{LineCause}
 use Rattle.sky_script.specs.declared.cause.LineCause.TheVariants.{NotUtf8, BadWord, NoMemory}
 use Rattle.sky_script.specs.Unread.{Unread}
@@ -21,6 +22,7 @@ Answers r row at = IsAnswer r (reads (row ∷ []) at.number at.left)
 -- the value v was read: what answers the rest of a row answers the row
 pub record Goes (k : Kind) (v : Of k) (old new : Unread) : Type 0 where
   pub on : (r : Result Stmt LineCause) (f : Of k → Row) → Answers r (f v) new → Answers r (one k f) old
+  pub fewer : length new.left < length old.left
 
 -- no value was read: the cause answers each row that begins with the kind
 pub record Stops (k : Kind) (cause : LineCause) (old : Unread) : Type 0 where
@@ -30,3 +32,23 @@ pub record Stops (k : Kind) (cause : LineCause) (old : Unread) : Type 0 where
 abbrev pub Reads : (k : Kind) → Result (Of k) LineCause → Unread → Unread → Type 0
 Reads k (Ok v) old new = Goes k v old new
 Reads k (Err cause) old new = Stops k cause old
+
+-- these values were read, to the line's end
+abbrev pub GoesLast : (k : Kind) → List (Of k) → Unread → Type 0
+GoesLast k vs old = (make : List (Of k) → Stmt) → Answers (Ok (make vs)) (some_last k make) old
+
+-- no such values were read: the cause answers each row that ends with them
+abbrev pub StopsLast : Kind → LineCause → Unread → Type 0
+StopsLast k cause old = (make : List (Of k) → Stmt) → Answers (Err cause) (some_last k make) old
+
+-- these values were read, and a fixed word behind them
+abbrev pub GoesUntil : (end : Fixed) (k : Kind) → List (Of k) → Unread → Unread → Type 0
+GoesUntil end k vs old new = (r : Result Stmt LineCause) (f : List (Of k) → Row) → Answers r (f vs) new → Answers r (some_until end k f) old
+
+-- no such values were read: the cause answers each row that begins with them and the fixed word
+abbrev pub StopsUntil : Fixed → Kind → LineCause → Unread → Type 0
+StopsUntil end k cause old = (f : List (Of k) → Row) → Answers (Err cause) (some_until end k f) old
+
+-- a result is what these forms say of the words that are left, behind this first word
+unfoldable pub AnswersAmong : Result Stmt LineCause → (first : List ℕ) → List (List ℕ × Row) → Unread → Type 0
+AnswersAmong r first forms at = IsAnswer r (goes_on (named_form first forms) (at.number - 1) (λ rows. reads rows at.number at.left))

@@ -1,4 +1,4 @@
-use std::alloc::AllocError;
+use std::alloc::{AllocError, AllocFailed};
 use thiserror::Error;
 
 /// Why a line is none.
@@ -20,6 +20,17 @@ impl From<AllocError> for LineCause {
     ghost from_gives = { λ _ cause. cause ≡ NoMemory };
 
     fn from(_: AllocError) -> LineCause {
+        LineCause::NoMemory
+    }
+}
+
+impl<T: Drop> From<AllocFailed<T>> for LineCause {
+    ghost use Rattle.std.specs.Prelude.{◌≡◌};
+    ghost use Rattle.sky_script.specs.declared.cause.LineCause.TheVariants.{NoMemory};
+
+    ghost from_gives = { λ _ cause. cause ≡ NoMemory };
+
+    fn from(_: AllocFailed<T>) -> LineCause {
         LineCause::NoMemory
     }
 }

@@ -1,7 +1,7 @@
 ghost use Rattle.std.specs.Prelude.{◌≡◌, [], ◌∷◌, ◌++◌, OnOk, OnErr};
 ghost use Rattle.std.specs.Fmt.{decimal};
 ghost use Rattle.sky_model.specs.Moment.{moment, HasMoment};
-ghost use Rattle.sky_model.specs.Printed.{doubled, text_or_null, number_or_null, spaced, event_text};
+ghost use Rattle.sky_model.specs.Printed.{doubled, quoted, text_or_null, number_or_null, spaced, event_text};
 ghost use Rattle.sky_script.specs.Kept.{Keeps};
 
 use crate::moment::print_moment;
@@ -88,6 +88,14 @@ fn append_text_word(text: &Option<Text>, into: &mut Vec<u8>) -> Result<(), NoMem
     let Some(text) = text else {
         return into.extend_from_slice(b" null");
     };
+    append_quoted_word(text, into)
+}
+
+/// Appends the text in quotes, behind a space.
+pub(crate) fn append_quoted_word(text: &Text, into: &mut Vec<u8>) -> Result<(), NoMemory>
+    ensures ok { OnOk result (into.new.items ≡ into.old.items ++ 32 ∷ quoted text.now) }
+    ensures kept { OnErr result (Keeps into.old.items into.new.items) }
+{
     into.extend_from_slice(b" '")?;
     append_doubled(text.bytes(), into)?;
     into.extend_from_slice(b"'")

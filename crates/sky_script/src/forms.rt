@@ -1,157 +1,109 @@
-//! The statement forms: of each, what follows its first word.
+//! The statement forms: of each, its first word and the function that reads what follows it.
 
-ghost use Rattle.std.specs.Prelude.{◌-◌, ◌^◌};
-ghost use Rattle.sky_model.specs.Kinds.{Name, Consumer, Number, Raw};
-ghost use Rattle.sky_model.specs.Grammar.{stop, one, last, row_of};
-ghost use Rattle.sky_model.specs.Grammar as grammar;
-ghost use Rattle.sky_script.specs.Reading.{Answers};
+ghost use Rattle.std.specs.Prelude.{◌++◌};
+ghost use Rattle.sky_model.specs.Grammar.{all_forms, row_forms, queue_forms};
+ghost use Rattle.sky_script.specs.Reading.{AnswersAmong};
 
 use crate::cause::LineCause;
+use crate::queue_forms::{
+    create_queue, finish_batch, force_tick, get_batch_events, insert_event, next_batch,
+    register_consumer, ticker,
+};
+use crate::row_forms::{create_table, delete, get, insert, scan, update};
+use crate::session_forms::{alone, begin, open_db, txid_visible_in_snapshot};
 use crate::words::Words;
-use sky_model::{Extra, Form, Stmt};
+use sky_model::{RowStmt, Stmt};
 use std::alloc::Global;
 
-/// A statement that is its first word alone.
-fn alone(stmt: Stmt, words: &Words) -> Result<Stmt, LineCause>
-    ensures { Answers result (stop stmt) words.now }
+/// The statement with this first word, of the words behind it.
+#[tactic(auto, unfolding(crate::specs::Reading::Answers, crate::specs::Reading::AnswersAmong))]
+pub(crate) fn read_form(alloc: Global, first: &[u8], words: &mut Words) -> Result<Stmt, LineCause>
+    ensures { AnswersAmong result first.now all_forms words.old }
 {
-    words.end()?;
-    Ok(stmt)
-}
-
-fn open_db(alloc: Global, words: &mut Words) -> Result<Stmt, LineCause>
-    ensures { Answers result (last Name (λ name. Stmt.OpenDb name)) words.old }
-{
-    let name = words.name(alloc)?;
-    words.end()?;
-    Ok(Stmt::OpenDb { name })
-}
-
-fn txid_visible_in_snapshot(alloc: Global, words: &mut Words) -> Result<Stmt, LineCause>
-    ensures { let row = one (Number (2 ^ 64 - 1)) (λ txid.
-        last Raw (λ snapshot. Stmt.TxidVisibleInSnapshot txid snapshot)) in
-        Answers result row words.old }
-{
-    let txid = words.number(u64::MAX)?;
-    let snapshot = words.raw(alloc)?;
-    words.end()?;
-    Ok(Stmt::TxidVisibleInSnapshot { txid, snapshot })
-}
-
-fn create_queue(alloc: Global, words: &mut Words) -> Result<Stmt, LineCause>
-    ensures { Answers result (last Name (λ queue. Stmt.CreateQueue queue)) words.old }
-{
-    let queue = words.name(alloc)?;
-    words.end()?;
-    Ok(Stmt::CreateQueue { queue })
-}
-
-fn insert_event(alloc: Global, words: &mut Words) -> Result<Stmt, LineCause>
-    ensures { Answers result grammar.insert_event words.old }
-{
-    let queue = words.name(alloc)?;
-    let ev_type = words.opt_text(alloc)?;
-    let ev_data = words.opt_text(alloc)?;
-    if words.at_end() {
-        return Ok(Stmt::InsertEvent {
-            queue,
-            ev_type,
-            ev_data,
-            extra: None,
-        });
+    if first == b"open".as_slice() {
+        return open_db(alloc, words);
     }
-    let ev_extra1 = words.opt_text(alloc)?;
-    let ev_extra2 = words.opt_text(alloc)?;
-    let ev_extra3 = words.opt_text(alloc)?;
-    let ev_extra4 = words.opt_text(alloc)?;
-    words.end()?;
-    let extra = Some(Extra {
-        ev_extra1,
-        ev_extra2,
-        ev_extra3,
-        ev_extra4,
-    });
-    Ok(Stmt::InsertEvent {
-        queue,
-        ev_type,
-        ev_data,
-        extra,
-    })
-}
-
-fn ticker(alloc: Global, words: &mut Words) -> Result<Stmt, LineCause>
-    ensures { Answers result (last Name (λ queue. Stmt.Ticker queue)) words.old }
-{
-    let queue = words.name(alloc)?;
-    words.end()?;
-    Ok(Stmt::Ticker { queue })
-}
-
-fn force_tick(alloc: Global, words: &mut Words) -> Result<Stmt, LineCause>
-    ensures { Answers result (last Name (λ queue. Stmt.ForceTick queue)) words.old }
-{
-    let queue = words.name(alloc)?;
-    words.end()?;
-    Ok(Stmt::ForceTick { queue })
-}
-
-fn register_consumer(alloc: Global, words: &mut Words) -> Result<Stmt, LineCause>
-    ensures { let row = one Name (λ queue. last Consumer (λ consumer. Stmt.RegisterConsumer queue consumer)) in
-        Answers result row words.old }
-{
-    let queue = words.name(alloc)?;
-    let consumer = words.consumer(alloc)?;
-    words.end()?;
-    Ok(Stmt::RegisterConsumer { queue, consumer })
-}
-
-fn next_batch(alloc: Global, words: &mut Words) -> Result<Stmt, LineCause>
-    ensures { let row = one Name (λ queue. last Consumer (λ consumer. Stmt.NextBatch queue consumer)) in
-        Answers result row words.old }
-{
-    let queue = words.name(alloc)?;
-    let consumer = words.consumer(alloc)?;
-    words.end()?;
-    Ok(Stmt::NextBatch { queue, consumer })
-}
-
-fn get_batch_events(words: &mut Words) -> Result<Stmt, LineCause>
-    ensures { Answers result (last (Number (2 ^ 64 - 1)) (λ batch. Stmt.GetBatchEvents batch)) words.old }
-{
-    let batch = words.number(u64::MAX)?;
-    words.end()?;
-    Ok(Stmt::GetBatchEvents { batch })
-}
-
-fn finish_batch(words: &mut Words) -> Result<Stmt, LineCause>
-    ensures { Answers result (last (Number (2 ^ 64 - 1)) (λ batch. Stmt.FinishBatch batch)) words.old }
-{
-    let batch = words.number(u64::MAX)?;
-    words.end()?;
-    Ok(Stmt::FinishBatch { batch })
-}
-
-/// The statement of a form, of the words behind its first word.
-pub(crate) fn read_form(alloc: Global, form: Form, words: &mut Words) -> Result<Stmt, LineCause>
-    ensures { Answers result (row_of form) words.old }
-{
-    match form {
-        Form::OpenDb => open_db(alloc, words),
-        Form::Close => alone(Stmt::Close, words),
-        Form::Cancel => alone(Stmt::Cancel, words),
-        Form::Begin => alone(Stmt::Begin, words),
-        Form::Commit => alone(Stmt::Commit, words),
-        Form::Rollback => alone(Stmt::Rollback, words),
-        Form::TxidCurrent => alone(Stmt::TxidCurrent, words),
-        Form::TxidCurrentSnapshot => alone(Stmt::TxidCurrentSnapshot, words),
-        Form::TxidVisibleInSnapshot => txid_visible_in_snapshot(alloc, words),
-        Form::CreateQueue => create_queue(alloc, words),
-        Form::InsertEvent => insert_event(alloc, words),
-        Form::Ticker => ticker(alloc, words),
-        Form::ForceTick => force_tick(alloc, words),
-        Form::RegisterConsumer => register_consumer(alloc, words),
-        Form::NextBatch => next_batch(alloc, words),
-        Form::GetBatchEvents => get_batch_events(words),
-        Form::FinishBatch => finish_batch(words),
+    if first == b"close".as_slice() {
+        return alone(RowStmt::Close, words);
     }
+    if first == b"cancel".as_slice() {
+        return alone(RowStmt::Cancel, words);
+    }
+    if first == b"begin".as_slice() {
+        return begin(words);
+    }
+    if first == b"commit".as_slice() {
+        return alone(RowStmt::Commit, words);
+    }
+    if first == b"rollback".as_slice() {
+        return alone(RowStmt::Rollback, words);
+    }
+    if first == b"txid_current".as_slice() {
+        return alone(RowStmt::TxidCurrent, words);
+    }
+    if first == b"txid_current_snapshot".as_slice() {
+        return alone(RowStmt::TxidCurrentSnapshot, words);
+    }
+    if first == b"txid_visible_in_snapshot".as_slice() {
+        return txid_visible_in_snapshot(alloc, words);
+    }
+    read_row_form(alloc, first, words)
+}
+
+/// The same among the forms on tables and rows, and on queues.
+#[tactic(auto, unfolding(crate::specs::Reading::Answers, crate::specs::Reading::AnswersAmong))]
+fn read_row_form(alloc: Global, first: &[u8], words: &mut Words) -> Result<Stmt, LineCause>
+    ensures { AnswersAmong result first.now (row_forms ++ queue_forms) words.old }
+{
+    if first == b"create".as_slice() {
+        return create_table(alloc, words);
+    }
+    if first == b"insert".as_slice() {
+        return insert(alloc, words);
+    }
+    if first == b"update".as_slice() {
+        return update(alloc, words);
+    }
+    if first == b"delete".as_slice() {
+        return delete(alloc, words);
+    }
+    if first == b"get".as_slice() {
+        return get(alloc, words);
+    }
+    if first == b"scan".as_slice() {
+        return scan(alloc, words);
+    }
+    read_queue_form(alloc, first, words)
+}
+
+/// The same among the forms on queues.
+#[tactic(auto, unfolding(crate::specs::Reading::Answers, crate::specs::Reading::AnswersAmong))]
+fn read_queue_form(alloc: Global, first: &[u8], words: &mut Words) -> Result<Stmt, LineCause>
+    ensures { AnswersAmong result first.now queue_forms words.old }
+{
+    if first == b"create_queue".as_slice() {
+        return create_queue(alloc, words);
+    }
+    if first == b"insert_event".as_slice() {
+        return insert_event(alloc, words);
+    }
+    if first == b"ticker".as_slice() {
+        return ticker(alloc, words);
+    }
+    if first == b"force_tick".as_slice() {
+        return force_tick(alloc, words);
+    }
+    if first == b"register_consumer".as_slice() {
+        return register_consumer(alloc, words);
+    }
+    if first == b"next_batch".as_slice() {
+        return next_batch(alloc, words);
+    }
+    if first == b"get_batch_events".as_slice() {
+        return get_batch_events(words);
+    }
+    if first == b"finish_batch".as_slice() {
+        return finish_batch(words);
+    }
+    Err(words.refused())
 }

@@ -45,23 +45,24 @@ pub(crate) fn is_name(word: &[u8]) -> bool
     word.len() <= LONGEST_NAME && is_identifier(word)
 }
 
-fn first_dot(word: &[u8]) -> Option<usize>
-    ensures { result ≡ kind.first_dot word.now }
+/// The place of the first byte that is this one.
+pub(crate) fn first_place(byte: u8, word: &[u8]) -> Option<usize>
+    ensures { result ≡ kind.first_place byte word.now }
 {
-    word.iter().position(|byte| *byte == b'.')
+    word.iter().position(|other| *other == byte)
 }
 
 fn is_one_name_or_two(word: &[u8]) -> bool
-    ensures { result ≡ kind.names_around (kind.first_dot word.now) word.now }
+    ensures { result ≡ kind.names_around (kind.first_place 46 word.now) word.now }
 {
-    match first_dot(word) {
+    match first_place(b'.', word) {
         Some(dot) => is_identifier(&word[..dot]) && is_identifier(&word[dot + 1..]),
         None => is_identifier(word),
     }
 }
 
-pub(crate) fn is_consumer(word: &[u8]) -> bool
-    ensures { result ≡ kind.is_consumer word.now }
+pub(crate) fn is_dotted(word: &[u8]) -> bool
+    ensures { result ≡ kind.is_dotted word.now }
 {
     word.len() <= LONGEST_NAME && is_one_name_or_two(word)
 }

@@ -12,11 +12,17 @@ mod cause;
 mod event;
 mod forms;
 mod kinds;
+mod lists;
 mod moment;
 mod parse;
 mod print;
+mod queue_forms;
 mod reader;
 mod refusal;
+mod row;
+mod row_forms;
+mod row_words;
+mod session_forms;
 mod words;
 
 pub use cause::LineCause;

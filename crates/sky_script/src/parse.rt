@@ -1,80 +1,16 @@
-ghost use Rattle.std.specs.Prelude.{◌≡◌, ◌↔◌, [], ◌∷◌, IsUtf8, MatchOption};
+ghost use Rattle.std.specs.Prelude.{◌≡◌, ◌↔◌, IsUtf8};
 ghost use Rattle.sky_model.specs.Words as line_words;
-ghost use Rattle.sky_model.specs.Grammar.{word_of, row_of, all_forms, named_form, statement_of, line_of_words, line_of};
+ghost use Rattle.sky_model.specs.Grammar.{statement_of, line_of_words, line_of};
 ghost use Rattle.sky_script.specs.Reading.{IsAnswer};
 
 use crate::cause::LineCause;
 use crate::forms::read_form;
 use crate::words::Words;
-use sky_model::{Form, Line, Stmt};
+use sky_model::{Line, Stmt};
 use std::alloc::Global;
 
-/// The forms, in the order of `Stmt`.
-const FORMS: [Form; 17] = [
-    Form::OpenDb,
-    Form::Close,
-    Form::Cancel,
-    Form::Begin,
-    Form::Commit,
-    Form::Rollback,
-    Form::TxidCurrent,
-    Form::TxidCurrentSnapshot,
-    Form::TxidVisibleInSnapshot,
-    Form::CreateQueue,
-    Form::InsertEvent,
-    Form::Ticker,
-    Form::ForceTick,
-    Form::RegisterConsumer,
-    Form::NextBatch,
-    Form::GetBatchEvents,
-    Form::FinishBatch,
-];
-
-fn first_word(form: Form) -> &'static [u8]
-    ensures { result.now ≡ word_of form }
-{
-    match form {
-        Form::OpenDb => b"open",
-        Form::Close => b"close",
-        Form::Cancel => b"cancel",
-        Form::Begin => b"begin",
-        Form::Commit => b"commit",
-        Form::Rollback => b"rollback",
-        Form::TxidCurrent => b"txid_current",
-        Form::TxidCurrentSnapshot => b"txid_current_snapshot",
-        Form::TxidVisibleInSnapshot => b"txid_visible_in_snapshot",
-        Form::CreateQueue => b"create_queue",
-        Form::InsertEvent => b"insert_event",
-        Form::Ticker => b"ticker",
-        Form::ForceTick => b"force_tick",
-        Form::RegisterConsumer => b"register_consumer",
-        Form::NextBatch => b"next_batch",
-        Form::GetBatchEvents => b"get_batch_events",
-        Form::FinishBatch => b"finish_batch",
-    }
-}
-
-fn find_form(forms: &[Form], first: &[u8]) -> Option<Form>
-    ensures { MatchOption result (named_form first.now forms.now ≡ [])
-        (λ form. named_form first.now forms.now ≡ row_of form ∷ []) }
-{
-    for form in forms {
-        if first == first_word(*form) {
-            return Some(*form);
-        }
-    }
-    None
-}
-
-fn form_of(first: &[u8]) -> Option<Form>
-    ensures { MatchOption result (named_form first.now all_forms ≡ [])
-        (λ form. named_form first.now all_forms ≡ row_of form ∷ []) }
-{
-    find_form(&FORMS, first)
-}
-
 /// The statement of a line's words from the second on.
-#[tactic(auto, unfolding(crate::specs::Reading::Answers))]
+#[tactic(auto, unfolding(crate::specs::Reading::AnswersAmong))]
 fn statement(alloc: Global, words: &mut Words) -> Result<Stmt, LineCause>
     requires { words.old.number ≡ 2 }
     ensures { IsAnswer result (statement_of words.old.left) }
@@ -82,10 +18,7 @@ fn statement(alloc: Global, words: &mut Words) -> Result<Stmt, LineCause>
     let Some(first) = words.next() else {
         return Err(words.missing());
     };
-    match form_of(first) {
-        Some(form) => read_form(alloc, form, words),
-        None => Err(words.refused()),
-    }
+    read_form(alloc, first, words)
 }
 
 /// What a line says that is neither empty nor a comment.
@@ -122,15 +55,15 @@ mod tests {
         let lines = [
             ("", "Ok(Blank)"),
             ("# a: ticker", "Ok(Blank)"),
-            ("a: open p", "Ok(Run(\"a\", OpenDb { name: \"p\" }))"),
-            ("a: begin", "Ok(Run(\"a\", Begin))"),
+            ("a: open p", "Ok(Run(\"a\", Row(OpenDb { name: \"p\" })))"),
+            ("a: begin", "Ok(Run(\"a\", Row(Begin)))"),
             (
                 "a: txid_visible_in_snapshot 9 '10:20:10,14,15'",
-                "Ok(Run(\"a\", TxidVisibleInSnapshot { txid: 9, snapshot: \"10:20:10,14,15\" }))",
+                "Ok(Run(\"a\", Row(TxidVisibleInSnapshot { txid: 9, snapshot: \"10:20:10,14,15\" })))",
             ),
             (
                 "a: txid_visible_in_snapshot 9 10:20:",
-                "Ok(Run(\"a\", TxidVisibleInSnapshot { txid: 9, snapshot: \"10:20:\" }))",
+                "Ok(Run(\"a\", Row(TxidVisibleInSnapshot { txid: 9, snapshot: \"10:20:\" })))",
             ),
             (
                 "a: next_batch q w.m",
@@ -161,6 +94,40 @@ mod tests {
                 Err(LineCause::NotUtf8)
             )
         );
+        Ok(())
+    }
+
+    #[test]
+    fn reads_worked_lines_of_rows(rt: HostRuntime) -> Result<(), AllocError> {
+        let lines = [
+            (
+                "a: begin repeatable read",
+                "Ok(Run(\"a\", Row(BeginRepeatableRead)))",
+            ),
+            (
+                "a: create table t id:int:key",
+                "Ok(Run(\"a\", Row(CreateTable { table: \"t\", columns: Columns { items: [Column { name: \"id\", kind: Int, key: true }] } })))",
+            ),
+            (
+                "a: insert p.t -9223372036854775808 null 'it''s'",
+                "Ok(Run(\"a\", Row(Insert { table: \"p.t\", row: Row { values: [Int(-9223372036854775808), Null, Text(\"it's\")] } })))",
+            ),
+            (
+                "a: update t 1 set s='x y' n+=-2",
+                "Ok(Run(\"a\", Row(Update { table: \"t\", key: Key { values: [Int(1)] }, sets: Sets { items: [Set { column: \"s\", change: To(Text(\"x y\")) }, Set { column: \"n\", change: Add(-2) }] } })))",
+            ),
+            ("a: begin repeatable", "Err(BadWord(4))"),
+            ("a: create table t", "Err(BadWord(5))"),
+            ("a: insert t -0", "Err(BadWord(4))"),
+            ("a: insert t 9223372036854775808", "Err(BadWord(4))"),
+            ("a: update t 1 set", "Err(BadWord(6))"),
+            ("a: update t 1 set n+='2'", "Err(BadWord(6))"),
+        ];
+        for (line, want) in lines {
+            let said = parse_line(rt.alloc(), line.as_bytes());
+            let got = format!(in rt.alloc(); "{said:?}")?;
+            assert_eq!(rt; got.as_str(), want, "of {line:?}");
+        }
         Ok(())
     }
 }

@@ -1,16 +1,17 @@
 ghost use Rattle.std.specs.Prelude.{◌≡◌, ◌++◌, codes, OnOk, OnErr};
 ghost use Rattle.std.specs.Fmt.{decimal};
 ghost use Rattle.sky_model.specs.Moment.{HasMoment};
-ghost use Rattle.sky_model.specs.Printed.{event_text, refusal_text, line_text, reply_text, printed, HaveNames, EventsHaveMoments, ReplyHasMoments, HaveMoments};
+ghost use Rattle.sky_model.specs.Printed.{event_text, row_text, count_text, refusal_text, line_text, reply_text, printed, HaveNames, EventsHaveMoments, ReplyHasMoments, HaveMoments};
 ghost use Rattle.sky_txid.specs.SnapshotText.{snapshot_text};
 ghost use Rattle.sky_script.specs.Kept.{Keeps};
 
 use crate::event::append_event;
 use crate::refusal::append_refusal;
+use crate::row::append_row;
 use itoa::Buffer;
 use sky_model::{Refusal, Replies, Reply};
 use sky_txid::Snapshot;
-use sky_val::{Event, NoMemory, SessionId, Text};
+use sky_val::{Event, NoMemory, Row, SessionId, Text, Val};
 
 /// Appends the lines of these answers, each behind its session's name. A session's number is its
 /// name's place in `names`.
@@ -68,6 +69,9 @@ fn append_reply(name: &[u8], reply: &Reply, into: &mut Vec<u8>) -> Result<(), No
         Reply::NotWaiting => append_line(name, b"not waiting", into),
         Reply::Snapshot(snapshot) => append_snapshot(name, snapshot, into),
         Reply::Events(events) => append_batch(name, events.as_slice(), into),
+        Reply::Row(row) => append_row_line(name, row.values(), into),
+        Reply::NoRow => append_line(name, b"none", into),
+        Reply::Rows(rows) => append_listing(name, rows.as_slice(), into),
         Reply::Refused(refusal) => append_refused(name, refusal, into),
     }
 }
@@ -103,7 +107,7 @@ fn append_batch(name: &[u8], events: &[Event], into: &mut Vec<u8>) -> Result<(),
     for event in events {
         append_event_line(name, event, into)?;
     }
-    append_rows(name, events.len() as u64, into)
+    append_count(name, events.len() as u64, into)
 }
 
 fn append_event_line(name: &[u8], event: &Event, into: &mut Vec<u8>) -> Result<(), NoMemory>
@@ -118,9 +122,32 @@ fn append_event_line(name: &[u8], event: &Event, into: &mut Vec<u8>) -> Result<(
     Ok(())
 }
 
-fn append_rows(name: &[u8], count: u64, into: &mut Vec<u8>) -> Result<(), NoMemory>
+// The rows of a table, and how many they are.
+fn append_listing(name: &[u8], rows: &[Row], into: &mut Vec<u8>) -> Result<(), NoMemory>
     ensures ok { OnOk result
-        (into.new.items ≡ into.old.items ++ line_text name.now (codes "rows " ++ decimal count)) }
+        (into.new.items ≡ into.old.items ++ reply_text name.now (Reply.Rows rows.now)) }
+    ensures kept { OnErr result (Keeps into.old.items into.new.items) }
+{
+    for row in rows {
+        append_row_line(name, row.values(), into)?;
+    }
+    append_count(name, rows.len() as u64, into)
+}
+
+fn append_row_line(name: &[u8], values: &[Val], into: &mut Vec<u8>) -> Result<(), NoMemory>
+    ensures ok { OnOk result
+        (into.new.items ≡ into.old.items ++ line_text name.now (row_text values.now)) }
+    ensures kept { OnErr result (Keeps into.old.items into.new.items) }
+{
+    append_name(name, into)?;
+    append_row(values, into)?;
+    into.push(b'\n')?;
+    Ok(())
+}
+
+fn append_count(name: &[u8], count: u64, into: &mut Vec<u8>) -> Result<(), NoMemory>
+    ensures ok { OnOk result
+        (into.new.items ≡ into.old.items ++ line_text name.now (count_text count)) }
     ensures kept { OnErr result (Keeps into.old.items into.new.items) }
 {
     append_name(name, into)?;
@@ -157,4 +184,34 @@ pub(crate) fn append_number(number: u64, into: &mut Vec<u8>) -> Result<(), NoMem
     ensures err { OnErr result (into.new.items ≡ into.old.items) }
 {
     into.extend_from_slice(Buffer::new().format(number).as_bytes())
+}
+
+#[cfg(test)]
+mod tests {
+    use super::*;
+    use sky_model::{BadRow, Rows};
+    use std::alloc::AllocError;
+
+    #[test]
+    fn prints_rows(rt: HostRuntime) -> Result<(), AllocError> {
+        let alloc = rt.alloc();
+        let Ok(name) = Text::from_bytes(alloc, b"a") else {
+            return Err(AllocError);
+        };
+        let Ok(text) = Text::from_bytes(alloc, b"it's") else {
+            return Err(AllocError);
+        };
+        let column = name.copy(alloc)?;
+        let values = vec![in alloc; Val::Int(i64::MIN), Val::Null, Val::Text(text)]?;
+        let mut replies = Replies::new(alloc);
+        replies.push(0, Reply::Rows(Rows::new(vec![in alloc; Row::new(values)]?)))?;
+        replies.push(0, Reply::NoRow)?;
+        replies.push(0, Reply::Refused(Refusal::BadRow(BadRow::Type(column))))?;
+        let mut printed = Vec::new(alloc);
+        print_replies(&[name], &replies, &mut printed)?;
+        let want =
+            b"a: row -9223372036854775808 null 'it''s'\na: rows 1\na: none\na: error BadRow type a\n";
+        assert_eq!(rt; printed.as_slice(), want.as_slice());
+        Ok(())
+    }
 }

@@ -1,8 +1,10 @@
-ghost use Rattle.std.specs.Prelude.{◌≡◌, ◌++◌, OnOk, OnErr};
-ghost use Rattle.sky_model.specs.Printed.{limit_text, refusal_text};
+ghost use Rattle.std.specs.Prelude.{◌≡◌, ◌++◌, codes, OnOk, OnErr};
+ghost use Rattle.std.specs.Fmt.{decimal};
+ghost use Rattle.sky_model.specs.Printed.{limit_text, bad_row_text, refusal_text};
 ghost use Rattle.sky_script.specs.Kept.{Keeps};
 
-use sky_model::{Limit, Refusal};
+use crate::print::append_number;
+use sky_model::{BadRow, Limit, Refusal};
 use sky_val::NoMemory;
 
 /// Appends the refusal's name and its fields. Where memory is refused a part of them may be left,
@@ -14,17 +16,42 @@ pub(crate) fn append_refusal(refusal: &Refusal, into: &mut Vec<u8>) -> Result<()
     match refusal {
         Refusal::Aborted => into.extend_from_slice(b"Aborted"),
         Refusal::AlreadyOpen => into.extend_from_slice(b"AlreadyOpen"),
+        Refusal::BadRow(why) => append_bad_row(why, into),
         Refusal::BadSnapshot => into.extend_from_slice(b"BadSnapshot"),
+        Refusal::Duplicate => into.extend_from_slice(b"Duplicate"),
         Refusal::EventIdsSpent => into.extend_from_slice(b"EventIdsSpent"),
         Refusal::IdsSpent => into.extend_from_slice(b"IdsSpent"),
         Refusal::InTransaction => into.extend_from_slice(b"InTransaction"),
+        Refusal::KeyBusy(txid) => append_numbered(b"KeyBusy ", *txid, into),
+        Refusal::KeyChange(column) => append_named(b"KeyChange ", column.bytes(), into),
         Refusal::NoBatch => into.extend_from_slice(b"NoBatch"),
         Refusal::NoConsumer(name) => append_named(b"NoConsumer ", name.bytes(), into),
         Refusal::NodeConsumer => into.extend_from_slice(b"NodeConsumer"),
+        Refusal::NoKey => into.extend_from_slice(b"NoKey"),
         Refusal::NoQueue(name) => append_named(b"NoQueue ", name.bytes(), into),
+        Refusal::NoTable(name) => append_named(b"NoTable ", name.bytes(), into),
         Refusal::NotOpen => into.extend_from_slice(b"NotOpen"),
+        Refusal::OutOfRange(column) => append_named(b"OutOfRange ", column.bytes(), into),
+        Refusal::ReservedColumn(column) => append_named(b"ReservedColumn ", column.bytes(), into),
+        Refusal::Serialize(txid) => append_numbered(b"Serialize ", *txid, into),
+        Refusal::TableExists(name) => append_named(b"TableExists ", name.bytes(), into),
         Refusal::TooMany(limit) => append_named(b"TooMany ", limit_text(*limit), into),
+        Refusal::TwiceNamed(column) => append_named(b"TwiceNamed ", column.bytes(), into),
         Refusal::TxidsSpent => into.extend_from_slice(b"TxidsSpent"),
+    }
+}
+
+// The refusal of a row's values.
+fn append_bad_row(why: &BadRow, into: &mut Vec<u8>) -> Result<(), NoMemory>
+    ensures ok { OnOk result (into.new.items ≡ into.old.items ++ (codes "BadRow " ++ bad_row_text why.now)) }
+    ensures kept { OnErr result (Keeps into.old.items into.new.items) }
+{
+    match why {
+        BadRow::Count => into.extend_from_slice(b"BadRow count"),
+        BadRow::Type(column) => append_named(b"BadRow type ", column.bytes(), into),
+        BadRow::NullKey(column) => append_named(b"BadRow nullkey ", column.bytes(), into),
+        BadRow::NoColumn(column) => append_named(b"BadRow nocolumn ", column.bytes(), into),
+        BadRow::Twice(column) => append_named(b"BadRow twice ", column.bytes(), into),
     }
 }
 
@@ -37,6 +64,15 @@ fn append_named(name: &[u8], field: &[u8], into: &mut Vec<u8>) -> Result<(), NoM
     into.extend_from_slice(field)
 }
 
+// A refusal's name, which ends in a space, and a number.
+fn append_numbered(name: &[u8], number: u64, into: &mut Vec<u8>) -> Result<(), NoMemory>
+    ensures ok { OnOk result (into.new.items ≡ into.old.items ++ (name.now ++ decimal number)) }
+    ensures kept { OnErr result (Keeps into.old.items into.new.items) }
+{
+    into.extend_from_slice(name)?;
+    append_number(number, into)
+}
+
 fn limit_text(limit: Limit) -> &'static [u8]
     ensures { result.now ≡ limit_text limit }
 {
@@ -45,5 +81,7 @@ fn limit_text(limit: Limit) -> &'static [u8]
         Limit::Databases => b"databases 16",
         Limit::Queues => b"queues 64",
         Limit::Consumers => b"consumers 256",
+        Limit::Tables => b"tables 64",
+        Limit::Columns => b"columns 32",
     }
 }

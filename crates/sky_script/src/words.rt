@@ -1,16 +1,19 @@
 //! The words of a line, read one after another.
 
-ghost use Rattle.std.specs.Prelude.{◌≡◌, ◌+◌, ◌-◌, ◌<◌, [], ◌∷◌, true, false, IfOk, IfErr, IfNone, IfSome, OnOk, MatchOption, Result, Ok, Err, length, option_copied};
+ghost use Rattle.std.specs.Prelude.{◌≡◌, ◌≢◌, ◌+◌, ◌-◌, ◌<◌, List, [], ◌∷◌, true, false, IfOk, IfErr, IfNone, IfSome, OnOk, MatchOption, Result, Ok, Err, None, length, option_copied};
 ghost use Rattle.sky_model.specs.declared.stmt.Stmt.{Stmt};
 ghost use Rattle.sky_model.specs.Words.{words};
-ghost use Rattle.sky_model.specs.Kinds.{Name, Consumer, Number, OptText, Raw};
-ghost use Rattle.sky_model.specs.Grammar.{Row, stop, either, line_of_words, run_of, statement_of};
+ghost use Rattle.sky_model.specs.Kinds.{Kind, Name, Dotted, Number, OptText, Raw, Of, value};
+ghost use Rattle.sky_model.specs.Kinds as kind;
+ghost use Rattle.sky_model.specs.Grammar.{Row, stop, literal, either, many, text_of, some_until, line_of_words, run_of, statement_of};
 ghost use Rattle.sky_script.specs.Unread.{words_in};
 ghost use Rattle.sky_script.specs.Reading.{Answers, IsAnswer, Reads};
 
 use crate::cause::LineCause;
-use crate::kinds::{is_bare_word, is_consumer, is_name, number_of, plain_text, quoted_text};
-use sky_val::Text;
+use crate::kinds::{is_bare_word, is_dotted, is_name, number_of, plain_text, quoted_text};
+use crate::row_words::{column_of, set_of, value_of};
+use sky_model::{Fixed, Set};
+use sky_val::{Column, Text, Val};
 use std::alloc::Global;
 use std::marker::Model;
 
@@ -49,6 +52,17 @@ fn split_word(bytes: &[u8]) -> (&[u8], Option<&[u8]>)
         }
     }
     (bytes, None)
+}
+
+fn fixed_text(fixed: Fixed) -> &'static [u8]
+    ensures { result.now ≡ text_of fixed }
+{
+    match fixed {
+        Fixed::Repeatable => b"repeatable",
+        Fixed::Read => b"read",
+        Fixed::Table => b"table",
+        Fixed::Set => b"set",
+    }
 }
 
 impl<'a> Words<'a> {
@@ -99,6 +113,8 @@ impl<'a> Words<'a> {
         ensures goes_on { result ≡ false →
             (r : Result Stmt LineCause) (stmt : Stmt) (row : Row) →
             Answers r row self.now → Answers r (either (stop stmt) row) self.now }
+        ensures none { result ≡ true → self.now.left ≡ [] }
+        ensures some { result ≡ false → self.now.left ≢ [] }
     {
         self.rest.is_none()
     }
@@ -111,6 +127,36 @@ impl<'a> Words<'a> {
         match self.rest {
             None => Ok(()),
             Some(_) => Err(self.missing()),
+        }
+    }
+
+    /// A fixed word.
+    pub(crate) fn fixed(&mut self, fixed: Fixed) -> Result<(), LineCause>
+        ensures ok { IfOk result (λ _. (r : Result Stmt LineCause) (row : Row) →
+            Answers r row self.new → Answers r (literal fixed row) self.old) }
+        ensures err { IfErr result (λ cause. (row : Row) → Answers (Err cause) (literal fixed row) self.old) }
+    {
+        let Some(next) = self.next() else {
+            return Err(self.missing());
+        };
+        if next != fixed_text(fixed) {
+            return Err(self.refused());
+        }
+        Ok(())
+    }
+
+    /// Whether a fixed word comes next, behind words of a kind that it isn't of.
+    pub(crate) fn next_is(&self, fixed: Fixed) -> bool
+        ensures ends { result ≡ true →
+            (k : Kind) (r : Result Stmt LineCause) (f : List (Of k) → Row) → value k (text_of fixed) ≡ None →
+            Answers r (literal fixed (f [])) self.now → Answers r (many k (λ vs. literal fixed (f vs))) self.now }
+        ensures goes_on { result ≡ false →
+            (k : Kind) (r : Result Stmt LineCause) (f : List (Of k) → Row) →
+            Answers r (some_until fixed k f) self.now → Answers r (many k (λ vs. literal fixed (f vs))) self.now }
+    {
+        match self.rest {
+            Some(rest) => split_word(rest).0 == fixed_text(fixed),
+            None => false,
         }
     }
 
@@ -142,13 +188,13 @@ impl<'a> Words<'a> {
         plain_text(alloc, word)
     }
 
-    pub(crate) fn consumer(&mut self, alloc: Global) -> Result<Text, LineCause>
-        ensures { Reads Consumer result self.old self.new }
+    pub(crate) fn dotted(&mut self, alloc: Global) -> Result<Text, LineCause>
+        ensures { Reads Dotted result self.old self.new }
     {
         let Some(word) = self.next() else {
             return Err(self.missing());
         };
-        if !is_consumer(word) {
+        if !is_dotted(word) {
             return Err(self.refused());
         }
         plain_text(alloc, word)
@@ -192,6 +238,42 @@ impl<'a> Words<'a> {
         }
         match quoted_text(alloc, word)? {
             Some(text) => Ok(text),
+            None => Err(self.refused()),
+        }
+    }
+
+    pub(crate) fn value(&mut self, alloc: Global) -> Result<Val, LineCause>
+        ensures { Reads kind.Value result self.old self.new }
+    {
+        let Some(word) = self.next() else {
+            return Err(self.missing());
+        };
+        match value_of(alloc, word)? {
+            Some(value) => Ok(value),
+            None => Err(self.refused()),
+        }
+    }
+
+    pub(crate) fn column(&mut self, alloc: Global) -> Result<Column, LineCause>
+        ensures { Reads kind.Column result self.old self.new }
+    {
+        let Some(word) = self.next() else {
+            return Err(self.missing());
+        };
+        match column_of(alloc, word)? {
+            Some(column) => Ok(column),
+            None => Err(self.refused()),
+        }
+    }
+
+    pub(crate) fn set(&mut self, alloc: Global) -> Result<Set, LineCause>
+        ensures { Reads kind.Set result self.old self.new }
+    {
+        let Some(word) = self.next() else {
+            return Err(self.missing());
+        };
+        match set_of(alloc, word)? {
+            Some(set) => Ok(set),
             None => Err(self.refused()),
         }
     }

@@ -1,5 +1,5 @@
 -- What a database shows, after what the code changed in it.
-use Rattle.std.proofs.Common.{◌≡◌, ℕ, suc, zero, ℤ, ◌+◌, ◌<◌, ◌≤◌, ◌^◌, List, [], ◌∷◌, ◌++◌, Bool, true, false, not, ◌||◌, ◌==◌, nat_le, Option, Some, None, Result, Ok, Vec, Global, IfOk, is_some, length, get_or, slice_set, get_or-set_same, get_or-set_other, ◌≢◌, option_map, filter, nat_cmp, cond, refl, sym, ◌∙◌, ap, subst, arith, if◌then◌else◌}
+use Rattle.std.proofs.Common.{Err, is_ok, drop, ◌≡◌, ℕ, suc, zero, ℤ, ◌+◌, ◌<◌, ◌≤◌, ◌^◌, List, [], ◌∷◌, ◌++◌, Bool, true, false, not, ◌||◌, ◌==◌, nat_le, Option, Some, None, Result, Ok, Vec, Global, IfOk, is_some, length, get_or, slice_set, get_or-set_same, get_or-set_other, ◌≢◌, option_map, filter, nat_cmp, cond, refl, sym, ◌∙◌, ap, subst, arith, if◌then◌else◌}
 use Rattle.std.proofs.lemmas.Bool.Decides.{nat_tests}
 use Rattle.std.proofs.lemmas.List.Elements.{All-filter}
 use Rattle.std.proofs.lemmas.Result.{IfOk-weaker}
@@ -8,7 +8,6 @@ use Rattle.std.proofs.lemmas.Option.{get_or_from_slice_get, slice_get_read}
 use Rattle.std.specs.BTreeMap.{is_at}
 use Rattle.std.specs.Map.{lookup}
 use Rattle.std.specs.List.{list_any}
-use Rattle.sky_txid.specs.Snapshot.{snapshot_of}
 use Rattle.sky_val.specs.declared.event.Event.{Event}
 use Rattle.sky_names.specs.Places.{place_of}
 use Rattle.sky_model.specs.declared.stmt.Extra.{Extra}
@@ -19,19 +18,37 @@ use Rattle.sky_model.specs.declared.reply.Refusal.{Refusal}
 use Rattle.sky_model.specs.declared.reply.Refusal.TheVariants.{TooMany, NoBatch, EventIdsSpent}
 use Rattle.sky_model.specs.Moment.{HasMoment}
 use Rattle.sky_model.specs.Printed.{EventsHaveMoments}
-use Rattle.sky_model.specs.History.{ended, queued, made, raised, put, ticked, opened}
-use Rattle.sky_model.specs.Sessions.{Block, outside, inside, failed, Session, at_rest}
+use Rattle.sky_model.specs.declared.stmt.Stmt.{Stmt}
+use Rattle.sky_model.specs.declared.stmt.Where.{Where}
+use Rattle.sky_model.specs.declared.stmt.RowStmt.{RowStmt}
+use Rattle.sky_model.specs.History.{Mark, began, ended, block_begun, repeats, looked, block_failed, block_ended, tabled, table_made, wrote, queued, made, raised, put, ticked, opened}
+use Rattle.sky_model.specs.Sessions.{Block, outside, inside, failed}
 use Rattle.sky_model.specs.Queues.{Tick, tick}
 use Rattle.sky_model.specs.Selection.{snapshot_at, is_selected, selected_in, selected}
 use Rattle.sky_model.specs.StepConsumer.{finish_batch, finishes, get_batch_events}
-use Rattle.sky_model.specs.State.{Queue, Database, changed_at, changed_for, with_batch, at_position, after_mark, after_marks}
-use Rattle.sky_model.specs.Outcome.{Outcome, Checked, ◌>>=◌, ◌>>◌, refused_if, found_or, answers, does_marks, abort, settled}
-use Rattle.sky_model.specs.StepQueue.{create_queue, insert_event, queue_called, txid_for, begin_of, commit_of, written, next_event_id, made_event}
+use Rattle.sky_model.specs.State.{Queue, with_txid, RowPart, after_part_marks, Database, changed_at, changed_for, with_batch, at_position, after_mark, after_marks}
+use Rattle.sky_model.specs.ShownRows.{snapshot_now}
+use Rattle.sky_model.specs.Outcome.{Outcome, Checked, ◌>>=◌, ◌>>◌, refused_if, found_or, answers, does_marks, end_of, aborts, abort, settled}
+use Rattle.sky_model.specs.OwnTransaction.{own_or_next, txid_for, begin_of, commit_of, written}
+use Rattle.sky_model.specs.StepQueue.{create_queue, insert_event, queue_called, next_event_id, made_event}
+use Rattle.sky_model.specs.Allowed.{where_of}
+use Rattle.sky_model.specs.Made.{Making, takes_sight, runs, looking, runs_if}
+use Rattle.sky_model.specs.Reader.{part_by_itself, database_by_itself, shown_by}
+use Rattle.sky_model.specs.Calls.{row_statement, form, making, statement}
+use Rattle.sky_model.proofs.RowOutcomes.{RowMarks, row_statement-rows}
+use Rattle.sky_session.specs.declared.answer.RowStep.{RowStep}
+use Rattle.sky_session.specs.Effects.{effects_of}
+use Rattle.sky_session.specs.declared.effect.Effect.{Effect}
+use Rattle.sky_session.specs.declared.effect.Effect.TheVariants.{Wrote, Committed, Aborted}
+use Rattle.sky_session.specs.Marks.{look_of, single_end, failure}
+use Rattle.sky_session.specs.Gives.{GivesStep, Enters}
+use Rattle.sky_session.specs.Views.{RowDbView}
+use Rattle.sky_session.specs.Seen.{seen}
 use Rattle.sky_world.specs.declared.batch.Batch.{Batch}
 use Rattle.sky_world.specs.Views.{QueueView, DatabaseView}
-use Rattle.sky_world.specs.Seen.{seen_queue, no_queue, seen_batch, seen_session, keeps, seen_database}
-use Rattle.sky_world.specs.declared.block.Block as kept
-use Rattle.sky_world.specs.Gives.{Gives, Does, Refuses}
+use Rattle.sky_world.specs.Seen.{seen_queue, no_queue, seen_batch, keeps, seen_database}
+use Rattle.sky_world.specs.Undone.{undone_by}
+use Rattle.sky_world.specs.Gives.{Gives, GivesReply, Does, Refuses}
 
 -- the test on an entry's key is equality
 pub is_at-nat : (k n : ℕ) → is_at (nat_cmp k) n ≡ (k == n)
@@ -143,14 +160,14 @@ queue-at v now i q same lt at =
 
 -- a tick that is stored is one with the snapshot as it was
 pub ticked-as : (d s : Database) (q : ℕ) (t : Tick) → s ≡ record d { queue = changed_at q (λ x. record x { tick_list = x.tick_list ++ t ∷ [] }) d.queue }
-    → t.snapshot ≡ snapshot_of d.next d.running_ids → s ≡ after_mark d (queued (ticked q t.id t.time t.seq))
+    → t.snapshot ≡ snapshot_now d.part → s ≡ after_mark d (queued (ticked q t.id t.time t.seq))
 ticked-as d s q t is snap =
     is ∙ ap (λ x. record d { queue = changed_at q (λ y. record y { tick_list = y.tick_list ++ record { id = t.id; time = t.time; snapshot = x; seq = t.seq } ∷ [] }) d.queue }) snap
 
 -- a queue that is made has its first tick, with the snapshot as it was
 pub made-as : (v now : DatabaseView) (names : List (List ℕ)) (queues : List QueueView) (q : QueueView) (name : List ℕ) (t : Tick) → v ≡ now
     → names ≡ v.names ++ name ∷ [] → queues ≡ v.queues ++ q ∷ [] → q ≡ record { seq = 0; events = []; ticks = t ∷ []; subs = [] } → length v.queues ≡ length v.names
-    → t.id ≡ 1 → t.seq ≡ 0 → t.snapshot ≡ snapshot_of now.trans.next now.trans.running
+    → t.id ≡ 1 → t.seq ≡ 0 → t.snapshot ≡ snapshot_now (seen_database now).part
     → seen_database (record v { names = names; queues = queues }) ≡ after_marks (seen_database now) (queued (made name) ∷ queued (ticked (length now.names) 1 t.time 0) ∷ [])
 made-as v now names queues q name t same more one new count id seq snap =
     (λ i. record (seen_database v) {
@@ -168,7 +185,7 @@ made-as v now names queues q name t same more one new count id seq snap =
       queue = changed_at (length now.names) (λ y. record y { tick_list = y.tick_list ++ x ∷ [] }) (seen_database now).queue;
     }) is
   where
-    is : t ≡ record { id = 1; time = t.time; snapshot = snapshot_of now.trans.next now.trans.running; seq = 0 }
+    is : t ≡ record { id = 1; time = t.time; snapshot = snapshot_now (seen_database now).part; seq = 0 }
     is = λ i. record { id = id i; time = t.time; snapshot = snap i; seq = seq i }
 
 pub none-from : (found : Option ℕ) (place : Option ℕ) → found ≡ place → is_some found ≡ false → place ≡ None
@@ -188,17 +205,17 @@ event-written d who t (Some own) failed q id event = refl
 
 -- what an inserted event gives
 pub gives-event : (d s1 s2 s3 : Database) (now time : ℤ) (who : ℕ) (name : List ℕ) (ev_type ev_data : Option (List ℕ)) (extra : Option Extra) (q seq t : ℕ) (event : Event)
-    → queue_called name d ≡ Ok q → txid_for d who ≡ Ok t → seq ≡ (d.queue q).seq → seq + 1 < 2 ^ 62 → time ≡ now
+    → queue_called name d ≡ Ok q → txid_for d.part who ≡ Ok t → seq ≡ (d.queue q).seq → seq + 1 < 2 ^ 62 → time ≡ now
     → event ≡ made_event (seq + 1) time t ev_type ev_data extra
-    → s1 ≡ after_marks d (begin_of who t (d.session who).txid ++ commit_of who t (d.session who).block)
+    → s1 ≡ after_marks d (begin_of who t (d.part.session who).txid ++ commit_of who t (d.part.session who).block)
     → s2 ≡ after_mark s1 (queued (raised q (seq + 1))) → s3 ≡ after_mark s2 (queued (put q event))
     → Does d s3 (Number (seq + 1)) (insert_event d now who name ev_type ev_data extra)
 gives-event d s1 s2 s3 now time who name ev_type ev_data extra q seq t event place txid is room at made_is m1 m2 m3 =
     subst (Does d s3 (Number (seq + 1))) (sym whole) (record {
       accepted = refl;
       changed = m3 ∙ ap (λ s. after_mark s (queued (put q event))) (m2 ∙ ap (λ s. after_mark s (queued (raised q (seq + 1)))) m1)
-          ∙ event-written d who t (d.session who).txid (d.session who).block q (seq + 1) event
-          ∙ ap (λ e. after_marks d (written who t (d.session who) (queued (raised q (seq + 1)) ∷ queued (put q e) ∷ [])))
+          ∙ event-written d who t (d.part.session who).txid (d.part.session who).block q (seq + 1) event
+          ∙ ap (λ e. after_marks d (written who t (d.part.session who) (queued (raised q (seq + 1)) ∷ queued (put q e) ∷ [])))
           (made_is ∙ ap (λ x. made_event (seq + 1) x t ev_type ev_data extra) at);
     })
   where
@@ -206,14 +223,14 @@ gives-event d s1 s2 s3 now time who name ev_type ev_data extra q seq t event pla
     unspent = grind (arith, nat_tests)
 
     result : ℕ → Checked Outcome
-    result id = does_marks (Number id) (written who t (d.session who) (queued (raised q id) ∷ queued (put q (made_event id now t ev_type ev_data extra)) ∷ []))
+    result id = does_marks (Number id) (written who t (d.part.session who) (queued (raised q id) ∷ queued (put q (made_event id now t ev_type ev_data extra)) ∷ []))
 
     whole : insert_event d now who name ev_type ev_data extra ≡ result (seq + 1)
     whole =
-        ap (λ c. c >>= (λ n. txid_for d who >>= (λ x. next_event_id (d.queue n) >>= (λ id.
-        does_marks (Number id) (written who x (d.session who) (queued (raised n id) ∷ queued (put n (made_event id now x ev_type ev_data extra)) ∷ [])))))) place
+        ap (λ c. c >>= (λ n. txid_for d.part who >>= (λ x. next_event_id (d.queue n) >>= (λ id.
+        does_marks (Number id) (written who x (d.part.session who) (queued (raised n id) ∷ queued (put n (made_event id now x ev_type ev_data extra)) ∷ [])))))) place
         ∙ ap (λ c. c >>= (λ x. next_event_id (d.queue q) >>= (λ id.
-        does_marks (Number id) (written who x (d.session who) (queued (raised q id) ∷ queued (put q (made_event id now x ev_type ev_data extra)) ∷ []))))) txid
+        does_marks (Number id) (written who x (d.part.session who) (queued (raised q id) ∷ queued (put q (made_event id now x ev_type ev_data extra)) ∷ []))))) txid
         ∙ ap (λ b. (refused_if b EventIdsSpent >> Ok ((d.queue q).seq + 1)) >>= result) unspent
         ∙ ap (λ n. result (n + 1)) (sym is)
 
@@ -280,19 +297,19 @@ queue-written d who t (Some own) failed n name time = refl
 
 -- a queue that is made, in a transaction of its own
 pub made-queue : (d s1 s2 : Database) (now time : ℤ) (who t count : ℕ) (name copied : List ℕ) → copied ≡ name → count ≡ length d.names → time ≡ now
-    → s1 ≡ after_marks d (begin_of who t (d.session who).txid ++ commit_of who t (d.session who).block)
+    → s1 ≡ after_marks d (begin_of who t (d.part.session who).txid ++ commit_of who t (d.part.session who).block)
     → s2 ≡ after_marks s1 (queued (made copied) ∷ queued (ticked count 1 time 0) ∷ [])
-    → s2 ≡ after_marks d (written who t (d.session who) (queued (made name) ∷ []) ++ queued (ticked (length d.names) 1 now 0) ∷ [])
+    → s2 ≡ after_marks d (written who t (d.part.session who) (queued (made name) ∷ []) ++ queued (ticked (length d.names) 1 now 0) ∷ [])
 made-queue d s1 s2 now time who t count name copied same names at m1 m2 =
     m2 ∙ ap (λ s. after_marks s (queued (made copied) ∷ queued (ticked count 1 time 0) ∷ [])) m1
-    ∙ queue-written d who t (d.session who).txid (d.session who).block count copied time
-    ∙ ap (λ n. after_marks d (written who t (d.session who) (queued (made n) ∷ []) ++ queued (ticked count 1 time 0) ∷ [])) same
-    ∙ ap (λ n. after_marks d (written who t (d.session who) (queued (made name) ∷ []) ++ queued (ticked n 1 time 0) ∷ [])) names
-    ∙ ap (λ x. after_marks d (written who t (d.session who) (queued (made name) ∷ []) ++ queued (ticked (length d.names) 1 x 0) ∷ [])) at
+    ∙ queue-written d who t (d.part.session who).txid (d.part.session who).block count copied time
+    ∙ ap (λ n. after_marks d (written who t (d.part.session who) (queued (made n) ∷ []) ++ queued (ticked count 1 time 0) ∷ [])) same
+    ∙ ap (λ n. after_marks d (written who t (d.part.session who) (queued (made name) ∷ []) ++ queued (ticked n 1 time 0) ∷ [])) names
+    ∙ ap (λ x. after_marks d (written who t (d.part.session who) (queued (made name) ∷ []) ++ queued (ticked (length d.names) 1 x 0) ∷ [])) at
 
 -- what a queue that is made gives
-pub gives-queue : (d s : Database) (now : ℤ) (who t : ℕ) (name : List ℕ) → place_of name d.names ≡ None → length d.names < 64 → txid_for d who ≡ Ok t
-    → s ≡ after_marks d (written who t (d.session who) (queued (made name) ∷ []) ++ queued (ticked (length d.names) 1 now 0) ∷ [])
+pub gives-queue : (d s : Database) (now : ℤ) (who t : ℕ) (name : List ℕ) → place_of name d.names ≡ None → length d.names < 64 → txid_for d.part who ≡ Ok t
+    → s ≡ after_marks d (written who t (d.part.session who) (queued (made name) ∷ []) ++ queued (ticked (length d.names) 1 now 0) ∷ [])
     → Does d s (Number 1) (create_queue d now who name)
 gives-queue d s now who t name new room txid is = subst (Does d s (Number 1)) (sym whole) (record { accepted = refl; changed = is })
   where
@@ -300,61 +317,13 @@ gives-queue d s now who t name new room txid is = subst (Does d s (Number 1)) (s
     few = grind (arith, nat_tests)
 
     result : ℕ → Checked Outcome
-    result x = does_marks (Number 1) (written who x (d.session who) (queued (made name) ∷ []) ++ queued (ticked (length d.names) 1 now 0) ∷ [])
+    result x = does_marks (Number 1) (written who x (d.part.session who) (queued (made name) ∷ []) ++ queued (ticked (length d.names) 1 now 0) ∷ [])
 
     whole : create_queue d now who name ≡ result t
     whole =
-        ap (λ found. if is_some found then answers (Number 0) else (refused_if (nat_le 64 (length d.names)) (TooMany Queues) >> (txid_for d who >>= result))) new
-        ∙ ap (λ b. refused_if b (TooMany Queues) >> (txid_for d who >>= result)) few
+        ap (λ found. if is_some found then answers (Number 0) else (refused_if (nat_le 64 (length d.names)) (TooMany Queues) >> (txid_for d.part who >>= result))) new
+        ∙ ap (λ b. refused_if b (TooMany Queues) >> (txid_for d.part who >>= result)) few
         ∙ ap (λ c. c >>= result) txid
-
--- a session is in a block from now on
-pub sessions-insert : (old new : List (ℕ × kept.Block)) (who : ℕ) (block : kept.Block)
-    → ((q : ℕ) → lookup (is_at (nat_cmp q)) new ≡ cond (is_at (nat_cmp who) q) (Some block) (lookup (is_at (nat_cmp q)) old))
-    → (λ n. seen_session (lookup (is_at (nat_cmp n)) new)) ≡ changed_at who (λ _. seen_session (Some block)) (λ n. seen_session (lookup (is_at (nat_cmp n)) old))
-sessions-insert old new who block updates = λ i n. pointwise n i
-  where
-    by : (n : ℕ) (b : Bool) → seen_session (cond b (Some block) (lookup (is_at (nat_cmp n)) old)) ≡ (if b then seen_session (Some block) else seen_session (lookup (is_at (nat_cmp n)) old))
-    by n true = refl
-    by n false = refl
-
-    pointwise : (n : ℕ) → seen_session (lookup (is_at (nat_cmp n)) new) ≡ (if who == n then seen_session (Some block) else seen_session (lookup (is_at (nat_cmp n)) old))
-    pointwise n = ap seen_session (updates n ∙ ap (λ b. cond b (Some block) (lookup (is_at (nat_cmp n)) old)) (is_at-nat who n)) ∙ by n (who == n)
-
--- and in none
-pub sessions-remove : (old new : List (ℕ × kept.Block)) (who : ℕ)
-    → ((q : ℕ) → lookup (is_at (nat_cmp q)) new ≡ cond (is_at (nat_cmp who) q) None (lookup (is_at (nat_cmp q)) old))
-    → (λ n. seen_session (lookup (is_at (nat_cmp n)) new)) ≡ changed_at who (λ _. at_rest) (λ n. seen_session (lookup (is_at (nat_cmp n)) old))
-sessions-remove old new who updates = λ i n. pointwise n i
-  where
-    by : (n : ℕ) (b : Bool) → seen_session (cond b None (lookup (is_at (nat_cmp n)) old)) ≡ (if b then at_rest else seen_session (lookup (is_at (nat_cmp n)) old))
-    by n true = refl
-    by n false = refl
-
-    pointwise : (n : ℕ) → seen_session (lookup (is_at (nat_cmp n)) new) ≡ (if who == n then at_rest else seen_session (lookup (is_at (nat_cmp n)) old))
-    pointwise n = ap seen_session (updates n ∙ ap (λ b. cond b None (lookup (is_at (nat_cmp n)) old)) (is_at-nat who n)) ∙ by n (who == n)
-
--- changes of one session that come to the same
-pub changed-same : (who : ℕ) (f g : Session → Session) (sessions : ℕ → Session) → f (sessions who) ≡ g (sessions who) → changed_at who f sessions ≡ changed_at who g sessions
-changed-same who f g sessions same = λ i n. by n (who == n) refl i
-  where
-    by : (n : ℕ) (b : Bool) → (who == n) ≡ b → (if b then f (sessions n) else sessions n) ≡ (if b then g (sessions n) else sessions n)
-    by n true e = (let one : who ≡ n = grind (arith, nat_tests) in subst (λ m. f (sessions m) ≡ g (sessions m)) one same)
-    by n false e = refl
-
--- what a statement gives that isn't refused
-pub gives-done : (d s : Database) (who : ℕ) (reply : Reply) (checked : Checked Outcome) → Does d s reply checked → Gives d s reply (settled who (d.session who) checked)
-gives-done d s who reply checked does =
-    subst (λ c. Gives d s reply (settled who (d.session who) c)) (sym does.accepted) (record { replied = refl; changed = does.changed })
-
--- and one that is
-pub gives-refused : (d s1 s2 : Database) (who : ℕ) (refusal : Refusal) (checked : Checked Outcome) → Refuses d s1 refusal checked
-    → s2 ≡ after_marks s1 (abort who (s1.session who).block (s1.session who).txid refusal) → Gives d s2 (Refused refusal) (settled who (d.session who) checked)
-gives-refused d s1 s2 who refusal checked refuses is =
-    subst (λ c. Gives d s2 (Refused refusal) (settled who (d.session who) c)) (sym refuses.refused) (record {
-      replied = refl;
-      changed = is ∙ ap (λ (s : Database). after_marks s (abort who (s.session who).block (s.session who).txid refusal)) refuses.same;
-    })
 
 -- a transaction that was noted as rolled back
 pub undone-insert : (old new : List ℕ) (t : ℕ) → ((q : ℕ) → list_any (is_at (nat_cmp q)) new ≡ cond (is_at (nat_cmp t) q) true (list_any (is_at (nat_cmp q)) old))
@@ -374,36 +343,209 @@ undone-as v now more t same updates =
     (λ i. record (seen_database v) { undone = undone-insert v.undone more t updates i })
     ∙ ap (λ (w : DatabaseView). record (seen_database w) { undone = λ u. u == t || (seen_database w).undone u }) same
 
--- a session that stands so without a transaction, in two steps
-stands-so : (who : ℕ) (to : Block) (sessions : ℕ → Session)
-    → changed_at who (λ _. record { block = to; txid = None }) sessions ≡ changed_at who (λ s. record s { block = to }) (changed_at who (λ s. record s { txid = None }) sessions)
-stands-so who to sessions = λ i n. by (who == n) (sessions n) i
+-- a database whose row part alone has changed
+pub part-as : (v now : DatabaseView) (rows : RowDbView) (part : RowPart) → v ≡ now → seen rows ≡ part → seen_database (record v { rows = rows }) ≡ record (seen_database now) { part = part }
+part-as v now rows part same is = (λ i. record (seen_database v) { part = is i }) ∙ ap (λ (w : DatabaseView). record (seen_database w) { part = part }) same
+
+-- marks of rows change the row part, and which transactions were rolled back
+pub after-row_marks : (d : Database) (marks : List Mark) → RowMarks marks
+    → after_marks d marks ≡ record d { part = after_part_marks d.part marks; undone = undone_by (effects_of marks) d.undone }
+after-row_marks d [] rows = refl
+after-row_marks d (began who t ∷ marks) rows = after-row_marks (after_mark d (began who t)) marks rows
+after-row_marks d (ended who t true ∷ marks) rows = after-row_marks (after_mark d (ended who t true)) marks rows
+after-row_marks d (ended who t false ∷ marks) rows = after-row_marks (after_mark d (ended who t false)) marks rows
+after-row_marks d (block_begun who ∷ marks) rows = after-row_marks (after_mark d (block_begun who)) marks rows
+after-row_marks d (repeats who ∷ marks) rows = after-row_marks (after_mark d (repeats who)) marks rows
+after-row_marks d (looked who ∷ marks) rows = after-row_marks (after_mark d (looked who)) marks rows
+after-row_marks d (block_failed who ∷ marks) rows = after-row_marks (after_mark d (block_failed who)) marks rows
+after-row_marks d (block_ended who ∷ marks) rows = after-row_marks (after_mark d (block_ended who)) marks rows
+after-row_marks d (tabled (table_made name columns) ∷ marks) rows = after-row_marks (after_mark d (tabled (table_made name columns))) marks rows
+after-row_marks d (tabled (wrote t table key old new) ∷ marks) rows = after-row_marks (after_mark d (tabled (wrote t table key old new))) marks rows
+after-row_marks d (queued mark ∷ marks) rows = absurd rows
+
+-- what a statement on rows gives
+pub gives-rows : (d s1 s2 : Database) (who : ℕ) (stmt : RowStmt) (step : RowStep)
+    → GivesStep d.part s1.part step ((who, (row_statement part_by_itself d.part who stmt).reply) ∷ []) (row_statement part_by_itself d.part who stmt).marks
+    → s1 ≡ record d { part = s1.part } → s2 ≡ record s1 { undone = undone_by step.effects s1.undone }
+    → Gives d s2 step.replies who (row_statement part_by_itself d.part who stmt)
+gives-rows d s1 s2 who stmt step gives but noted = record {
+  replied = gives.replied;
+  changed = noted ∙ (λ i. record (but i) { undone = undone_by (gives.told i) (but i).undone })
+      ∙ ap (λ part. record d { part = part; undone = undone_by (effects_of (row_statement part_by_itself d.part who stmt).marks) d.undone }) gives.changed
+      ∙ sym (after-row_marks d (row_statement part_by_itself d.part who stmt).marks (row_statement-rows d.part who stmt).marks);
+}
+
+-- and a block that is aborted
+failure-rows : (who : ℕ) (txid : Option ℕ) (b : Block) → RowMarks (failure who txid b)
+failure-rows who txid outside = tt
+failure-rows who None inside = tt
+failure-rows who (Some t) inside = tt
+failure-rows who txid failed = tt
+
+pub failed-as : (d s1 s2 : Database) (who : ℕ) (step : RowStep)
+    → GivesStep d.part s1.part step [] (failure who (d.part.session who).txid (d.part.session who).block)
+    → s1 ≡ record d { part = s1.part } → s2 ≡ record s1 { undone = undone_by step.effects s1.undone }
+    → s2 ≡ after_marks d (failure who (d.part.session who).txid (d.part.session who).block)
+failed-as d s1 s2 who step gives but noted =
+    noted ∙ (λ i. record (but i) { undone = undone_by (gives.told i) (but i).undone })
+    ∙ ap (λ part. record d { part = part; undone = undone_by (effects_of (failure who (d.part.session who).txid (d.part.session who).block)) d.undone }) gives.changed
+    ∙ sym (after-row_marks d (failure who (d.part.session who).txid (d.part.session who).block) (failure-rows who (d.part.session who).txid (d.part.session who).block))
+
+-- the rest of a list from a place on begins with what stands there
+drop-at : {A : Type 0} (xs : List A) (i : ℕ) (x d : A) → i < length xs → x ≡ get_or xs i d → drop i xs ≡ x ∷ drop (suc i) xs
+drop-at [] i x d lt is = absurd (omega arith)
+drop-at (y ∷ ys) zero x d lt is = ap (λ z. z ∷ ys) (sym is)
+drop-at (y ∷ ys) (suc i) x d lt is = drop-at ys i x d (omega arith) is
+
+undone-step : (d s whole : Database) (rest all : List Effect) (effect : Effect) → s ≡ record d { undone = undone_by (effect ∷ []) d.undone } → all ≡ effect ∷ rest
+    → record d { undone = undone_by all d.undone } ≡ whole → record s { undone = undone_by rest s.undone } ≡ whole
+undone-step d s whole rest all effect noted is before =
+    ap (λ (x : Database). record x { undone = undone_by rest x.undone }) noted
+    ∙ (λ i. record d { undone = one effect i })
+    ∙ ap (λ effects. record d { undone = undone_by effects d.undone }) (sym is) ∙ before
   where
-    by : (b : Bool) (s : Session) → (if b then record { block = to; txid = None } else s) ≡ (if b then record (if b then record s { txid = None } else s) { block = to } else (if b then record s { txid = None } else s))
-    by true s = refl
-    by false s = refl
+    one : (e : Effect) → undone_by rest (undone_by (e ∷ []) d.undone) ≡ undone_by (e ∷ rest) d.undone
+    one (Wrote txid table op old new) = refl
+    one (Committed txid) = refl
+    one (Aborted txid) = refl
 
--- a session without a transaction stands so
-pub left-without : (d s : Database) (who : ℕ) (to : Block) → None ≡ (d.session who).txid
-    → s ≡ record d { session = changed_at who (λ _. record { block = to; txid = None }) d.session }
-    → s ≡ record d { session = changed_at who (λ x. record x { block = to }) d.session }
-left-without d s who to none is =
-    is ∙ (λ i. record d { session = changed-same who (λ _. record { block = to; txid = None }) (λ x. record x { block = to }) d.session (ap (λ o. record { block = to; txid = o }) none) i })
+-- what one more effect undoes
+pub undone-at : (d s whole : Database) (items effects : List Effect) (i : ℕ) (effect : Effect) → s ≡ record d { undone = undone_by (effect ∷ []) d.undone } → items ≡ effects
+    → i < length items → effect ≡ get_or items i effect → record d { undone = undone_by (drop i effects) d.undone } ≡ whole
+    → record s { undone = undone_by (drop (i + 1) effects) s.undone } ≡ whole
+undone-at d s whole items effects i effect noted same lt is before =
+    let next : suc i ≡ i + 1 = omega arith in
+    undone-step d s whole (drop (i + 1) effects) (drop i effects) effect noted
+    (ap (drop i) (sym same) ∙ drop-at items i effect effect lt is ∙ ap (λ n. effect ∷ drop n items) next ∙ ap (λ es. effect ∷ drop (i + 1) es) same) before
 
--- and so does one whose transaction has committed
-pub left-committed : (d s1 s2 : Database) (who t : ℕ) (to : Block)
-    → s1 ≡ record d { session = changed_at who (λ _. record { block = to; txid = None }) d.session }
-    → s2 ≡ record s1 { running_ids = filter (λ u. not (u == t)) s1.running_ids }
-    → s2 ≡ record (after_mark d (ended who t true)) { session = changed_at who (λ x. record x { block = to }) (after_mark d (ended who t true)).session }
-left-committed d s1 s2 who t to e1 e2 =
-    e2 ∙ ap (λ (s : Database). record s { running_ids = filter (λ u. not (u == t)) s.running_ids }) e1
-    ∙ (λ i. record d { running_ids = filter (λ u. not (u == t)) d.running_ids; session = stands-so who to d.session i })
+-- a refusal that aborts leaves what a block does that is aborted
+pub abort-failure : (who : ℕ) (txid : Option ℕ) (b : Block) (refusal : Refusal) → aborts refusal ≡ true → abort who b txid refusal ≡ failure who txid b
+abort-failure who txid outside refusal is = refl
+abort-failure who txid inside refusal is = ap (λ b. if b then end_of false who txid ++ block_failed who ∷ [] else []) is
+abort-failure who txid failed refusal is = refl
 
--- or was rolled back
-pub left-undone : (d s1 s2 : Database) (who t : ℕ) (to : Block)
-    → s1 ≡ record d { session = changed_at who (λ _. record { block = to; txid = None }) d.session }
-    → s2 ≡ record s1 { running_ids = filter (λ u. not (u == t)) s1.running_ids; undone = λ u. u == t || s1.undone u }
-    → s2 ≡ record (after_mark d (ended who t false)) { session = changed_at who (λ x. record x { block = to }) (after_mark d (ended who t false)).session }
-left-undone d s1 s2 who t to e1 e2 =
-    e2 ∙ ap (λ (s : Database). record s { running_ids = filter (λ u. not (u == t)) s.running_ids; undone = λ u. u == t || s.undone u }) e1
-    ∙ (λ i. record d { running_ids = filter (λ u. not (u == t)) d.running_ids; undone = λ u. u == t || d.undone u; session = stands-so who to d.session i })
+pub abort-nothing : (who : ℕ) (txid : Option ℕ) (b : Block) (refusal : Refusal) → aborts refusal ≡ false → abort who b txid refusal ≡ []
+abort-nothing who txid outside refusal is = refl
+abort-nothing who txid inside refusal is = ap (λ b. if b then end_of false who txid ++ block_failed who ∷ [] else []) is
+abort-nothing who txid failed refusal is = refl
+
+-- what a statement gives that came in
+pub gives-entered : (d s1 s2 : Database) (time now : ℤ) (who : ℕ) (stmt : Stmt) (place : Where) (reply : Reply) → time ≡ now → place ≡ where_of stmt
+    → Enters d.part s1.part who place None → s1 ≡ record d { part = s1.part }
+    → GivesReply s1 s2 reply (settled who (s1.part.session who) (form s1 (shown_by s1) time who stmt))
+    → GivesReply d s2 reply (statement database_by_itself d now who stmt)
+gives-entered d s1 s2 time now who stmt place reply at is enters but gives =
+    subst (GivesReply d s2 reply) (sym whole) (of (takes_sight (where_of stmt) (d.part.session who).sight) behind)
+  where
+    m : Making Database
+    m = making database_by_itself now who stmt
+
+    entered : Enters d.part s1.part who (where_of stmt) None
+    entered = subst (λ p. Enters d.part s1.part who p None) is enters
+
+    whole : statement database_by_itself d now who stmt ≡ runs_if m (where_of stmt) who d (Ok tt)
+    whole = ap (runs_if m (where_of stmt) who d) entered.0
+
+    behind : s1 ≡ record d { part = after_part_marks d.part (look_of who (takes_sight (where_of stmt) (d.part.session who).sight)) }
+    behind = but ∙ ap (λ part. record d { part = part }) entered.1
+
+    then_gives : (x : Database) → s1 ≡ x → GivesReply x s2 reply (settled who (x.part.session who) (form x (shown_by x) now who stmt))
+    then_gives x e =
+        subst (λ (y : Database). GivesReply y s2 reply (settled who (y.part.session who) (form y (shown_by y) now who stmt))) e
+        (subst (λ t. GivesReply s1 s2 reply (settled who (s1.part.session who) (form s1 (shown_by s1) t who stmt))) at gives)
+
+    of : (b : Bool) → s1 ≡ record d { part = after_part_marks d.part (look_of who b) }
+        → GivesReply d s2 reply (if b then looking who (runs m who (after_mark d (looked who))) else runs m who d)
+    of true e = (let g = then_gives (after_mark d (looked who)) e in record { replied = g.replied; changed = g.changed })
+    of false e = then_gives d e
+
+-- and one that was refused at the door
+pub gives-turned_away : (d s1 s2 : Database) (now : ℤ) (who : ℕ) (stmt : Stmt) (place : Where) (reply : Reply) (refusal : Refusal) → place ≡ where_of stmt
+    → Enters d.part s1.part who place (Some refusal) → s1 ≡ record d { part = s1.part } → reply ≡ Refused refusal
+    → s2 ≡ after_marks s1 (abort who (s1.part.session who).block (s1.part.session who).txid refusal)
+    → GivesReply d s2 reply (statement database_by_itself d now who stmt)
+gives-turned_away d s1 s2 now who stmt place reply refusal is enters but replied marks =
+    subst (GivesReply d s2 reply) (sym (ap (runs_if (making database_by_itself now who stmt) (where_of stmt) who d) turned.0)) (record {
+      replied = replied;
+      changed = marks ∙ ap (λ (s : Database). after_marks s (abort who (s.part.session who).block (s.part.session who).txid refusal))
+          (but ∙ ap (λ part. record d { part = part }) turned.1);
+    })
+  where
+    turned : Enters d.part s1.part who (where_of stmt) (Some refusal)
+    turned = subst (λ p. Enters d.part s1.part who p (Some refusal)) is enters
+
+-- what a statement gives that isn't refused, and one that is
+pub replies-done : (d s : Database) (who : ℕ) (reply : Reply) (checked : Checked Outcome) → Does d s reply checked → GivesReply d s reply (settled who (d.part.session who) checked)
+replies-done d s who reply checked does =
+    subst (λ c. GivesReply d s reply (settled who (d.part.session who) c)) (sym does.accepted) (record { replied = refl; changed = does.changed })
+
+pub replies-refused : (d s1 s2 : Database) (who : ℕ) (refusal : Refusal) (reply : Reply) (checked : Checked Outcome) → Refuses d s1 refusal checked → reply ≡ Refused refusal
+    → s2 ≡ after_marks s1 (abort who (s1.part.session who).block (s1.part.session who).txid refusal) → GivesReply d s2 reply (settled who (d.part.session who) checked)
+replies-refused d s1 s2 who refusal reply checked refuses replied is =
+    subst (λ c. GivesReply d s2 reply (settled who (d.part.session who) c)) (sym refuses.refused) (record {
+      replied = replied;
+      changed = is ∙ ap (λ (s : Database). after_marks s (abort who (s.part.session who).block (s.part.session who).txid refusal)) refuses.same;
+    })
+
+-- a reply of its own
+pub gives-reply : (d s : Database) (who : ℕ) (reply : Reply) (replies : List (ℕ × Reply)) (outcome : Outcome) → GivesReply d s reply outcome → replies ≡ (who, reply) ∷ [] → Gives d s replies who outcome
+gives-reply d s who reply replies outcome gives is = record { replied = is ∙ ap (λ r. (who, r) ∷ []) gives.replied; changed = gives.changed }
+
+-- ids that are spent keep an event from being made
+pub spent-events : (d : Database) (now : ℤ) (who : ℕ) (name : List ℕ) (ev_type ev_data : Option (List ℕ)) (extra : Option Extra) (q seq : ℕ) → queue_called name d ≡ Ok q
+    → is_ok (txid_for d.part who) ≡ true → seq ≡ (d.queue q).seq → 2 ^ 62 ≤ seq + 1 → insert_event d now who name ev_type ev_data extra ≡ Err EventIdsSpent
+spent-events d now who name ev_type ev_data extra q seq place left is over =
+    ap (λ c. c >>= (λ n. txid_for d.part who >>= (λ x. next_event_id (d.queue n) >>= (λ id.
+    does_marks (Number id) (written who x (d.part.session who) (queued (raised n id) ∷ queued (put n (made_event id now x ev_type ev_data extra)) ∷ [])))))) place
+    ∙ of (txid_for d.part who) left
+  where
+    spent : nat_le (2 ^ 62) ((d.queue q).seq + 1) ≡ true
+    spent = grind (arith, nat_tests)
+
+    of : (c : Checked ℕ) → is_ok c ≡ true → (c >>= (λ x. next_event_id (d.queue q) >>= (λ id.
+        does_marks (Number id) (written who x (d.part.session who) (queued (raised q id) ∷ queued (put q (made_event id now x ev_type ev_data extra)) ∷ []))))) ≡ Err EventIdsSpent
+    of (Ok x) e = ap (λ b. (refused_if b EventIdsSpent >> Ok ((d.queue q).seq + 1)) >>= (λ id.
+        does_marks (Number id) (written who x (d.part.session who) (queued (raised q id) ∷ queued (put q (made_event id now x ev_type ev_data extra)) ∷ [])))) spent
+    of (Err refusal) e = absurd (cc)
+
+-- a transaction that got its id, and ended where it stands in no block
+same-session : (who : ℕ) → (who == who) ≡ true
+same-session who = grind (arith, nat_tests)
+
+pub took : (d : Database) (taken left : RowPart) (who t : ℕ) → txid_for d.part who ≡ Ok t → taken ≡ after_part_marks d.part (begin_of who t (d.part.session who).txid)
+    → left ≡ after_part_marks taken (single_end who (taken.session who).txid (taken.session who).block)
+    → record d { part = left } ≡ after_marks d (begin_of who t (d.part.session who).txid ++ commit_of who t (d.part.session who).block)
+took d taken left who t id begins ends =
+    ap (λ part. record d { part = part }) (ends ∙ ap (after_part_marks taken) marks_are ∙ ap (λ (x : RowPart). after_part_marks x (commit_of who t (d.part.session who).block)) begins)
+    ∙ joined (d.part.session who).txid (d.part.session who).block
+  where
+    txid_of : (o : Option ℕ) → (d.part.session who).txid ≡ o → own_or_next d.part o ≡ Ok t → ((after_part_marks d.part (begin_of who t o)).session who).txid ≡ Some t
+    txid_of None is e = ap (λ b. (if b then with_txid (Some t) (d.part.session who) else d.part.session who).txid) (same-session who)
+    txid_of (Some u) is e = (let one : u ≡ t = cc in is ∙ ap Some one)
+
+    same_block : (b : Bool) → (if b then with_txid (Some t) (d.part.session who) else d.part.session who).block ≡ (d.part.session who).block
+    same_block true = refl
+    same_block false = refl
+
+    block_of : (o : Option ℕ) → ((after_part_marks d.part (begin_of who t o)).session who).block ≡ (d.part.session who).block
+    block_of None = same_block (who == who)
+    block_of (Some u) = refl
+
+    single : (b : Block) → single_end who (Some t) b ≡ commit_of who t b
+    single outside = refl
+    single inside = refl
+    single failed = refl
+
+    marks_are : single_end who (taken.session who).txid (taken.session who).block ≡ commit_of who t (d.part.session who).block
+    marks_are =
+        ap (λ o. single_end who o (taken.session who).block) (ap (λ (x : RowPart). (x.session who).txid) begins ∙ txid_of (d.part.session who).txid refl id)
+        ∙ ap (single_end who (Some t)) (ap (λ (x : RowPart). (x.session who).block) begins ∙ block_of (d.part.session who).txid)
+        ∙ single (d.part.session who).block
+
+    joined : (o : Option ℕ) (b : Block) → record d { part = after_part_marks (after_part_marks d.part (begin_of who t o)) (commit_of who t b) } ≡ after_marks d (begin_of who t o ++ commit_of who t b)
+    joined None outside = refl
+    joined None inside = refl
+    joined None failed = refl
+    joined (Some u) outside = refl
+    joined (Some u) inside = refl
+    joined (Some u) failed = refl

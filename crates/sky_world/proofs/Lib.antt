@@ -1,5 +1,4 @@
 pub mod TickLists
 pub mod SubLists
 pub mod Databases
-pub mod Owning
 pub mod Worlds

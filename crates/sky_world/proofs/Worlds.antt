@@ -1,6 +1,6 @@
 -- What the world shows, after what the code changed in it.
 use Rattle.std.proofs.Common.{◌≡◌, ℕ, suc, zero, ◌+◌, ◌<◌, ◌≤◌, List, [], ◌∷◌, ◌++◌, Bool, true, false, ◌==◌, nat_le, Option, Some, None, map, length, append-nil, length-append, get_or, slice_set, get_or-set_same, get_or-set_other, ◌≢◌, refl, sym, ◌∙◌, ap, subst, arith, All, if◌then◌else◌, IfSome, ℤ, pos}
-use Rattle.std.proofs.lemmas.List.Elements.{All-from_recursion}
+use Rattle.std.proofs.lemmas.List.Elements.{All-from_recursion, All-weaker}
 use Rattle.std.proofs.lemmas.Bool.Decides.{nat_tests}
 use Rattle.std.proofs.lemmas.Option.{get_or_from_slice_get, slice_get_read}
 use Rattle.sky_names.specs.Places.{place_of}
@@ -14,10 +14,13 @@ use Rattle.sky_model.specs.History.{Mark, Fact, appeared, founded, entered, left
 use Rattle.sky_model.specs.State.{Database, database_of, changed_at, after_mark, after_marks}
 use Rattle.sky_model.specs.Outcome.{Outcome}
 use Rattle.sky_model.specs.World.{World, world_of, after_fact, after_facts}
-use Rattle.sky_model.specs.Reader.{shown_by, by_world, Deed, refuses, appears, joined, followed}
+use Rattle.sky_model.specs.Printed.{ReplyHasMoments, HaveMoments}
+use Rattle.sky_model.specs.Reader.{database_by_itself, within_database, by_world, Deed, refuses, appears, joined, followed}
 use Rattle.sky_model.specs.Calls.{Call, statement, deed_in, turn, called}
 use Rattle.sky_model.specs.Steps.{Steps, deed_at}
 use Rattle.sky_model.proofs.Standing.{steps_from_exact}
+use Rattle.sky_model.proofs.RowStanding.{statement-within}
+use Rattle.sky_session.proofs.Empty.{seen-no_rows}
 use Rattle.sky_world.specs.Views.{DatabaseView, WorldView}
 use Rattle.sky_world.specs.Seen.{seen_database, no_database, seen_world}
 use Rattle.sky_world.specs.Homes.{HomesWithin}
@@ -93,6 +96,10 @@ pub counted-push : {A B : Type 0} (xs : List A) (x : A) (ys : List B) (y : B) (l
 counted-push xs x ys y longer more same is and =
     ap length is ∙ length-append xs (x ∷ []) ∙ ap (λ n. n + 1) same ∙ sym (length-append ys (y ∷ [])) ∙ ap length (sym and)
 
+-- a database that isn't made shows what one shows in which nothing has happened
+no_database-is : seen_database no_database ≡ database_of []
+no_database-is = λ i. record (database_of []) { part = seen-no_rows i }
+
 pub world-new : (sessions : List (List ℕ)) (homes : List (Option ℕ)) (databases : List (List ℕ)) (stores : List DatabaseView) → sessions ≡ [] → homes ≡ [] → databases ≡ [] → stores ≡ []
     → seen_world (record { now = pos 0; sessions = sessions; homes = homes; databases = databases; stores = stores }) ≡ world_of []
 world-new sessions homes databases stores none-appeared none-home none-made none-stored = λ i. record {
@@ -109,8 +116,8 @@ world-new sessions homes databases stores none-appeared none-home none-made none
     nowhere (_ ∷ all) is who = absurd (cc)
 
     nothing : (all : List DatabaseView) → all ≡ [] → (d : ℕ) → seen_database (get_or all d no_database) ≡ database_of []
-    nothing [] is zero = refl
-    nothing [] is (suc d) = refl
+    nothing [] is zero = no_database-is
+    nothing [] is (suc d) = no_database-is
     nothing (_ ∷ all) is d = absurd (cc)
 
 pub entered-within : (v now : WorldView) (who d : ℕ) → v ≡ now → HomesWithin (length v.stores) v.homes → d < length now.stores → HomesWithin (length v.stores) (slice_set v.homes who (Some d))
@@ -126,7 +133,13 @@ length-homes [] who at = refl
 length-homes (_ ∷ homes) zero at = refl
 length-homes (_ ∷ homes) (suc who) at = ap suc (length-homes homes who at)
 
--- an entry like those past the end changes nothing that is shown
+-- an entry that is read as those past the end changes nothing that is shown
+seen-push : {A B : Type 0} (f : A → B) (xs : List A) (x d : A) (n : ℕ) → f x ≡ f d → f (get_or (xs ++ x ∷ []) n d) ≡ f (get_or xs n d)
+seen-push f [] x d zero same = same
+seen-push f [] x d (suc n) same = refl
+seen-push f (y ∷ xs) x d zero same = refl
+seen-push f (y ∷ xs) x d (suc n) same = seen-push f xs x d n same
+
 pub get_or-push : {A : Type 0} (xs : List A) (d : A) (n : ℕ) → get_or (xs ++ d ∷ []) n d ≡ get_or xs n d
 get_or-push [] d zero = refl
 get_or-push [] d (suc n) = refl
@@ -159,12 +172,12 @@ appeared-as v now sessions homes name copied same more is longer =
 
 -- a database that is made shows nothing yet
 pub founded-as : (v now : WorldView) (names : List (List ℕ)) (stores : List DatabaseView) (new : DatabaseView) (name copied : List ℕ) → v ≡ now → names ≡ v.databases ++ copied ∷ [] → copied ≡ name
-    → stores ≡ v.stores ++ new ∷ [] → new ≡ no_database → seen_world (record v { databases = names; stores = stores }) ≡ after_fact (seen_world now) (founded name)
+    → stores ≡ v.stores ++ new ∷ [] → seen_database new ≡ database_of [] → seen_world (record v { databases = names; stores = stores }) ≡ after_fact (seen_world now) (founded name)
 founded-as v now names stores new name copied same more is longer empty =
     (λ i. record (seen_world v) {
       databases = (more ∙ ap (λ n. v.databases ++ n ∷ []) is) i;
-      database = (ap (λ (ds : List DatabaseView). λ n. seen_database (get_or ds n no_database)) (longer ∙ ap (λ x. v.stores ++ x ∷ []) empty)
-          ∙ (λ j n. seen_database (get_or-push v.stores no_database n j))) i;
+      database = (ap (λ (ds : List DatabaseView). λ n. seen_database (get_or ds n no_database)) longer
+          ∙ (λ j n. seen-push seen_database v.stores new no_database n (empty ∙ sym no_database-is) j)) i;
     })
     ∙ ap (λ w. after_fact (seen_world w) (founded name)) same
 
@@ -180,72 +193,72 @@ after_facts-append w [] ys = refl
 after_facts-append w (x ∷ xs) ys = after_facts-append (after_fact w x) xs ys
 
 -- what a statement of a database gives in the world
-pub gives-within : (v now : WorldView) (d who : ℕ) (old new : DatabaseView) (stmt : Stmt) (reply : Reply) → v ≡ now → d < length v.stores
-    → get_or v.stores d no_database ≡ old
-    → Gives (seen_database old) (seen_database new) reply (statement (seen_database old) (shown_by (seen_database old)) v.now who stmt)
-    → GivesDeed (seen_world now) (seen_world (record v { stores = slice_set v.stores d new })) who reply
-    (deed_in who d false (statement ((seen_world now).database d) (shown_by ((seen_world now).database d)) (seen_world now).now who stmt))
-gives-within v now d who old new stmt reply same lt there gives = record {
-  answered = ap (λ r. (who, r) ∷ []) (sym (gives.replied ∙ ap Outcome.reply outcome_is));
+pub gives-within : (v now : WorldView) (d who : ℕ) (old new : DatabaseView) (stmt : Stmt) (replies : List (ℕ × Reply)) (t : ℤ) → v ≡ now → d < length now.stores
+    → old ≡ get_or v.stores d old → t ≡ v.now
+    → Gives (seen_database old) (seen_database new) replies who (statement database_by_itself (seen_database old) t who stmt)
+    → GivesDeed (seen_world now) (seen_world (record v { stores = slice_set v.stores d new })) replies
+    (deed_in who d false (statement (within_database by_world d) (seen_world now) (seen_world now).now who stmt))
+gives-within v now d who old new stmt replies t same lt at is gives = record {
+  answered = gives.replied ∙ ap (λ (o : Outcome). (who, o.reply) ∷ []) outcome_is;
   changed = shown
-      ∙ ap (λ (x : Outcome). record (seen_world v) { database = changed_at d (λ y. after_marks y x.marks) (seen_world v).database }) outcome_is
-      ∙ sym (after_facts-within (seen_world v) d there_outcome.marks)
-      ∙ ap (λ w. after_facts (seen_world w) (map (within d) there_outcome.marks)) same
-      ∙ ap (λ facts. after_facts (seen_world now) facts) (sym (append-nil (map (within d) there_outcome.marks)));
+      ∙ ap (λ (o : Outcome). record (seen_world v) { database = changed_at d (λ y. after_marks y o.marks) (seen_world v).database }) outcome_is
+      ∙ sym (after_facts-within (seen_world v) d outcome.marks)
+      ∙ ap (λ w. after_facts (seen_world w) (map (within d) outcome.marks)) same
+      ∙ ap (λ facts. after_facts (seen_world now) facts) (sym (append-nil (map (within d) outcome.marks)));
 }
   where
-    there_outcome : Outcome
-    there_outcome = statement ((seen_world now).database d) (shown_by ((seen_world now).database d)) (seen_world now).now who stmt
+    lt_there : d < length v.stores
+    lt_there = subst (λ (w : WorldView). d < length w.stores) (sym same) lt
 
-    outcome_is : statement (seen_database old) (shown_by (seen_database old)) v.now who stmt ≡ there_outcome
+    there : get_or v.stores d no_database ≡ old
+    there = get_or_from_slice_get v.stores d old no_database (slice_get_read v.stores (length v.stores) d old refl lt_there at)
+
+    outcome : Outcome
+    outcome = statement (within_database by_world d) (seen_world now) (seen_world now).now who stmt
+
+    done : Outcome
+    done = statement database_by_itself (seen_database old) t who stmt
+
+    outcome_is : done ≡ outcome
     outcome_is =
-        ap (λ x. statement (seen_database x) (shown_by (seen_database x)) v.now who stmt) (sym there)
-        ∙ ap (λ w. statement ((seen_world w).database d) (shown_by ((seen_world w).database d)) (seen_world w).now who stmt) same
+        ap (λ x. statement database_by_itself (seen_database old) x who stmt) is
+        ∙ ap (λ x. statement database_by_itself (seen_database x) v.now who stmt) (sym there)
+        ∙ ap (λ (w : WorldView). statement database_by_itself ((seen_world w).database d) w.now who stmt) same
+        ∙ sym (statement-within (seen_world now) d (seen_world now).now who stmt)
 
     by : (n : ℕ) (b : Bool) → (d == n) ≡ b → seen_database (if b then new else get_or v.stores n no_database)
-        ≡ (if b then after_marks (seen_database (get_or v.stores n no_database)) (statement (seen_database old) (shown_by (seen_database old)) v.now who stmt).marks else seen_database (get_or v.stores n no_database))
+        ≡ (if b then after_marks (seen_database (get_or v.stores n no_database)) done.marks else seen_database (get_or v.stores n no_database))
     by n true e =
         let one : d ≡ n = grind (arith, nat_tests) in
         gives.changed
-        ∙ ap (λ x. after_marks (seen_database x) (statement (seen_database old) (shown_by (seen_database old)) v.now who stmt).marks) (sym there)
-        ∙ ap (λ m. after_marks (seen_database (get_or v.stores m no_database)) (statement (seen_database old) (shown_by (seen_database old)) v.now who stmt).marks) one
+        ∙ ap (λ x. after_marks (seen_database x) done.marks) (sym there)
+        ∙ ap (λ m. after_marks (seen_database (get_or v.stores m no_database)) done.marks) one
     by n false e = refl
 
-    shown : seen_world (record v { stores = slice_set v.stores d new })
-        ≡ record (seen_world v) { database = changed_at d (λ y. after_marks y (statement (seen_database old) (shown_by (seen_database old)) v.now who stmt).marks) (seen_world v).database }
+    shown : seen_world (record v { stores = slice_set v.stores d new }) ≡ record (seen_world v) { database = changed_at d (λ y. after_marks y done.marks) (seen_world v).database }
     shown = λ i. record (seen_world v) {
-      database = λ n. (ap seen_database (get_or-changed v.stores d n new no_database lt) ∙ by n (d == n) refl) i;
+      database = λ n. (ap seen_database (get_or-changed v.stores d n new no_database lt_there) ∙ by n (d == n) refl) i;
     }
 
-pub gives-run : (v now : WorldView) (d who : ℕ) (old new : DatabaseView) (stmt : Stmt) (reply : Reply) (t : ℤ) → v ≡ now → d < length now.stores → old ≡ get_or v.stores d old → t ≡ v.now
-    → Gives (seen_database old) (seen_database new) reply (statement (seen_database old) (shown_by (seen_database old)) t who stmt)
-    → GivesDeed (seen_world now) (seen_world (record v { stores = slice_set v.stores d new })) who reply
-    (deed_in who d false (statement ((seen_world now).database d) (shown_by ((seen_world now).database d)) (seen_world now).now who stmt))
-gives-run v now d who old new stmt reply t same lt at is gives =
-    let there : d < length v.stores = subst (λ (w : WorldView). d < length w.stores) (sym same) lt in
-    gives-within v now d who old new stmt reply same there
-    (get_or_from_slice_get v.stores d old no_database (slice_get_read v.stores (length v.stores) d old refl there at))
-    (subst (λ x. Gives (seen_database old) (seen_database new) reply (statement (seen_database old) (shown_by (seen_database old)) x who stmt)) is gives)
-
 -- a statement with which its session stays
-pub gives-stayed : (old new : World) (d who : ℕ) (leaving : Bool) (reply : Reply) (outcome : Outcome) → leaving ≡ false → GivesDeed old new who reply (deed_in who d false outcome)
-    → GivesDeed old new who reply (deed_in who d leaving outcome)
-gives-stayed old new d who leaving reply outcome stays gives = subst (λ b. GivesDeed old new who reply (deed_in who d b outcome)) (sym stays) gives
+pub gives-stayed : (old new : World) (d who : ℕ) (leaving : Bool) (replies : List (ℕ × Reply)) (outcome : Outcome) → leaving ≡ false → GivesDeed old new replies (deed_in who d false outcome)
+    → GivesDeed old new replies (deed_in who d leaving outcome)
+gives-stayed old new d who leaving replies outcome stays gives = subst (λ b. GivesDeed old new replies (deed_in who d b outcome)) (sym stays) gives
 
 -- and one with which it leaves
-pub gives-left : (old s new : World) (d who : ℕ) (leaving : Bool) (reply : Reply) (outcome : Outcome) → leaving ≡ true → GivesDeed old s who reply (deed_in who d false outcome)
-    → new ≡ after_fact s (left who) → GivesDeed old new who reply (deed_in who d leaving outcome)
-gives-left old s new d who leaving reply outcome leaves gives is =
-    subst (λ b. GivesDeed old new who reply (deed_in who d b outcome)) (sym leaves) (record {
+pub gives-left : (old s new : World) (d who : ℕ) (leaving : Bool) (replies : List (ℕ × Reply)) (outcome : Outcome) → leaving ≡ true → GivesDeed old s replies (deed_in who d false outcome)
+    → new ≡ after_fact s (left who) → GivesDeed old new replies (deed_in who d leaving outcome)
+gives-left old s new d who leaving replies outcome leaves gives is =
+    subst (λ b. GivesDeed old new replies (deed_in who d b outcome)) (sym leaves) (record {
       answered = gives.answered;
       changed = is ∙ ap (λ w. after_fact w (left who)) (gives.changed ∙ ap (λ facts. after_facts old facts) (append-nil (map (within d) outcome.marks)))
           ∙ sym (after_facts-append old (map (within d) outcome.marks) (left who ∷ []));
     })
 
 -- a call of a session that is known
-pub answers-known : (old new : World) (call : Call) (who : ℕ) (reply : Reply) → Some who ≡ place_of call.who old.sessions
-    → GivesDeed old new who reply (turn by_world who call.stmt old) → GivesDeed old new who reply (deed_at old call)
-answers-known old new call who reply place gives = subst (GivesDeed old new who reply) (ap (called by_world old call) place) gives
+pub answers-known : (old new : World) (call : Call) (who : ℕ) (replies : List (ℕ × Reply)) → Some who ≡ place_of call.who old.sessions
+    → GivesDeed old new replies (turn by_world who call.stmt old) → GivesDeed old new replies (deed_at old call)
+answers-known old new call who replies place gives = subst (GivesDeed old new replies) (ap (called by_world old call) place) gives
 
 -- what a session does that isn't known: it is refused, or appears and has its turn
 abbrev unknown : World → Call → Bool → Deed
@@ -253,9 +266,9 @@ unknown w call full = if full then refuses (length w.sessions) (TooMany Sessions
 
 -- a call that would bring a session too many
 pub answers-full : (old : World) (call : Call) (who : ℕ) → place_of call.who old.sessions ≡ None → 256 ≤ length old.sessions → who ≡ length old.sessions
-    → GivesDeed old old who (Refused (TooMany Sessions)) (deed_at old call)
+    → GivesDeed old old ((who, Refused (TooMany Sessions)) ∷ []) (deed_at old call)
 answers-full old call who place full is = record {
-  answered = ap Deed.answers whole ∙ ap (λ n. (n, Refused (TooMany Sessions)) ∷ []) (sym is);
+  answered = ap (λ n. (n, Refused (TooMany Sessions)) ∷ []) is ∙ sym (ap Deed.answers whole);
   changed = ap (λ (x : Deed). after_facts old x.facts) (sym whole);
 }
   where
@@ -265,11 +278,11 @@ answers-full old call who place full is = record {
         ap (called by_world old call) place ∙ ap (unknown old call) many
 
 -- the first call of a session
-pub answers-new : (old with_it new : World) (call : Call) (who : ℕ) (reply : Reply) → place_of call.who old.sessions ≡ None → length old.sessions < 256
+pub answers-new : (old with_it new : World) (call : Call) (who : ℕ) (replies : List (ℕ × Reply)) → place_of call.who old.sessions ≡ None → length old.sessions < 256
     → with_it ≡ after_fact old (appeared call.who) → who ≡ length old.sessions
-    → GivesDeed with_it new who reply (turn by_world who call.stmt with_it) → GivesDeed old new who reply (deed_at old call)
-answers-new old with_it new call who reply place room is number gives = record {
-  answered = ap Deed.answers (whole ∙ same) ∙ gives.answered;
+    → GivesDeed with_it new replies (turn by_world who call.stmt with_it) → GivesDeed old new replies (deed_at old call)
+answers-new old with_it new call who replies place room is number gives = record {
+  answered = gives.answered ∙ sym (ap Deed.answers (whole ∙ same));
   changed = gives.changed ∙ ap (λ w. after_facts w (turn by_world who call.stmt with_it).facts) is ∙ ap (λ (x : Deed). after_facts old x.facts) (sym (whole ∙ same));
 }
   where
@@ -282,8 +295,26 @@ answers-new old with_it new call who reply place room is number gives = record {
     same = ap (joined (appears call.who)) (ap (λ n. turn by_world n call.stmt (after_fact old (appeared call.who))) (sym number) ∙ ap (turn by_world who call.stmt) (sym is))
 
 -- the answers of a step
-pub steps-answered : (old new : World) (call : Call) (who : ℕ) (reply : Reply) (replies : List (ℕ × Reply)) → replies ≡ (who, reply) ∷ [] → GivesDeed old new who reply (deed_at old call) → Steps old new call replies
-steps-answered old new call who reply replies is gives = steps_from_exact old new call replies (is ∙ sym gives.answered) gives.changed
+pub steps-answered : (old new : World) (call : Call) (replies : List (ℕ × Reply)) → GivesDeed old new replies (deed_at old call) → Steps old new call replies
+steps-answered old new call replies gives = steps_from_exact old new call replies gives.answered gives.changed
 
-pub All-one : {A : Type 0} (P : A → Type 0) (x : A) (xs : List A) → xs ≡ x ∷ [] → P x → All P xs
-All-one P x xs is p = subst (All P) (sym is) (All-from_recursion P (x ∷ []) (p, tt))
+-- an answer of its own
+abbrev IsOf : ℕ → ℕ × Reply → Type 0
+IsOf who answer = answer.0 ≡ who
+
+abbrev HasMoments : ℕ × Reply → Type 0
+HasMoments answer = ReplyHasMoments answer.1
+
+pub one-own : (who : ℕ) (replies : List (ℕ × Reply)) (reply : Reply) → replies ≡ (who, reply) ∷ [] → All (λ answer. answer.0 ≡ who) replies
+one-own who replies reply is = subst (All (IsOf who)) (sym is) (All-from_recursion (IsOf who) ((who, reply) ∷ []) (refl, tt))
+
+-- whose events were made at times that are printed
+pub one-moments : (who : ℕ) (replies : List (ℕ × Reply)) (reply : Reply) → replies ≡ (who, reply) ∷ [] → ReplyHasMoments reply → HaveMoments replies
+one-moments who replies reply is has = subst (All HasMoments) (sym is) (All-from_recursion HasMoments ((who, reply) ∷ []) (has, tt))
+
+-- answers of a session that is there
+abbrev IsWithin : ℕ → ℕ × Reply → Type 0
+IsWithin count answer = answer.0 ≤ count
+
+pub own-numbered : (who count : ℕ) (replies : List (ℕ × Reply)) → who ≤ count → All (λ (answer : ℕ × Reply). answer.0 ≡ who) replies → All (λ (answer : ℕ × Reply). answer.0 ≤ count) replies
+own-numbered who count replies le all = All-weaker (IsOf who) (IsWithin count) (λ answer e. subst (λ n. n ≤ count) (sym e) le) replies all

@@ -1,5 +1,7 @@
 -- What a method of the code gives, by what the database showed.
-use Rattle.std.specs.Prelude.{◌≡◌, List, [], Result, Ok, Err}
+use Rattle.std.specs.Prelude.{◌≡◌, ℕ, Bool, true, false, List, [], ◌∷◌, Result, Ok, Err}
+use Rattle.sky_model.specs.declared.stmt.Stmt.{Stmt}
+use Rattle.sky_model.specs.declared.stmt.Stmt.TheVariants.{Row}
 use Rattle.sky_model.specs.declared.reply.Reply.{Reply}
 use Rattle.sky_model.specs.declared.reply.Refusal.{Refusal}
 use Rattle.sky_model.specs.History.{Mark}
@@ -11,8 +13,18 @@ use Rattle.sky_world.specs.Seen.{seen_database}
 use Rattle.sky_world.specs.declared.stop.Stop.{Stop}
 use Rattle.sky_world.specs.declared.stop.Stop.TheVariants.{Refused, NoMemory}
 
--- the answer is the outcome's, and the database is then as after its marks
-pub record Gives (old new : Database) (reply : Reply) (outcome : Outcome) : Type 0 where
+-- whether a statement is one on rows
+abbrev pub is_row : Stmt → Bool
+is_row (Row stmt) = true
+is_row _ = false
+
+-- the outcome's answer is the only one, of this session, and the database is then as after its marks
+pub record Gives (old new : Database) (replies : List (ℕ × Reply)) (who : ℕ) (outcome : Outcome) : Type 0 where
+  pub replied : replies ≡ (who, outcome.reply) ∷ []
+  pub changed : new ≡ after_marks old outcome.marks
+
+-- the same of the answer alone
+pub record GivesReply (old new : Database) (reply : Reply) (outcome : Outcome) : Type 0 where
   pub replied : reply ≡ outcome.reply
   pub changed : new ≡ after_marks old outcome.marks
 

@@ -2,7 +2,8 @@ pub mod Ticks
 pub mod Subs
 pub mod Views
 pub mod Seen
-pub mod Owned
+pub mod Batches
 pub mod Gives
 pub mod Homes
 pub mod GivesDeed
+pub mod Undone

@@ -7,14 +7,13 @@ use Rattle.std.specs.Map.{lookup}
 use Rattle.sky_names.specs.Places.{named}
 use Rattle.sky_model.specs.History as model
 use Rattle.sky_model.specs.Consumers.{Subscription}
-use Rattle.sky_model.specs.Sessions.{inside, failed, Session, at_rest}
 use Rattle.sky_model.specs.Config.{default_config}
 use Rattle.sky_model.specs.State.{Queue, Database}
 use Rattle.sky_model.specs.World.{World}
 use Rattle.sky_world.specs.declared.sub.Sub.{Sub}
 use Rattle.sky_world.specs.declared.batch.Batch.{Batch}
-use Rattle.sky_world.specs.declared.block.Block.{Block}
-use Rattle.sky_world.specs.declared.block.Block.TheVariants.{Open, Failed}
+use Rattle.sky_session.specs.Views.{no_rows}
+use Rattle.sky_session.specs.Seen.{seen}
 use Rattle.sky_world.specs.Subs.{consumer_of}
 use Rattle.sky_world.specs.Views.{QueueView, DatabaseView, WorldView}
 
@@ -39,12 +38,6 @@ no_queue = record { seq = 0; events = []; ticks = []; subs = [] }
 abbrev pub seen_batch : ℕ → Batch → model.Batch
 seen_batch id b = record { id = id; queue = b.queue; consumer = b.consumer; sub = b.sub; prev = b.prev; cur = b.cur }
 
--- a session by the block that is kept for it
-abbrev pub seen_session : Option Block → Session
-seen_session None = at_rest
-seen_session (Some (Open txid)) = record { block = inside; txid = txid }
-seen_session (Some Failed) = record { block = failed; txid = None }
-
 -- what is kept under a number
 abbrev pub kept : {A : Type 0} → List (ℕ × A) → ℕ → Option A
 kept entries n = lookup (is_at (nat_cmp n)) entries
@@ -55,10 +48,8 @@ keeps numbers n = list_any (is_at (nat_cmp n)) numbers
 
 abbrev pub seen_database : DatabaseView → Database
 seen_database d = record {
-  next = d.trans.next;
-  running_ids = d.trans.running;
+  part = seen d.rows;
   undone = keeps d.undone;
-  session = λ who. seen_session (kept d.blocks who);
   last_batch_id = d.last_batch_id;
   last_sub_id = d.last_sub_id;
   names = d.names;
@@ -69,13 +60,12 @@ seen_database d = record {
 -- a database that isn't made
 abbrev pub no_database : DatabaseView
 no_database = record {
-  trans = record { next = 3; running = [] };
+  rows = no_rows;
   last_batch_id = 0;
   last_sub_id = 0;
   names = [];
   queues = [];
   batches = [];
-  blocks = [];
   undone = [];
 }
 

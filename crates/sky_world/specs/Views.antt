@@ -1,9 +1,8 @@
 -- What contracts see of a queue, a database and the world, as the code keeps them.
 use Rattle.std.specs.Prelude.{ℕ, ℤ, List, Option}
 use Rattle.sky_val.specs.declared.event.Event.{Event}
-use Rattle.sky_trans.specs.Trans.{TransView}
+use Rattle.sky_session.specs.Views.{RowDbView}
 use Rattle.sky_world.specs.declared.batch.Batch.{Batch}
-use Rattle.sky_world.specs.declared.block.Block.{Block}
 use Rattle.sky_model.specs.Queues.{Tick}
 use Rattle.sky_world.specs.declared.sub.Sub.{Sub}
 
@@ -14,12 +13,11 @@ pub record QueueView : Type 0 where
   pub subs : List Sub
 
 pub record DatabaseView : Type 0 where
-  pub trans : TransView
+  pub rows : RowDbView
   pub last_batch_id : ℕ
   pub last_sub_id : ℕ
   pub names : List (List ℕ)
   pub queues : List QueueView
-  pub blocks : List (ℕ × Block)
   pub undone : List ℕ
   pub batches : List (ℕ × Batch)
 

@@ -1,46 +1,47 @@
-ghost use Rattle.std.specs.Prelude.{◌≡◌, ℕ, ◌+◌, ◌<◌, ◌^◌, [], ◌∷◌, ◌++◌, ◌||◌, ◌==◌, not, filter, true, false, if◌then◌else◌, Some, None, Ok, Err, IfOk, IfErr, OnOk, IfSome, IfNone, OnSome, Option, option_copied, option_map, length};
-ghost use Rattle.sky_txid.specs.Snapshot.{snapshot_of};
+ghost use Rattle.std.specs.Prelude.{◌≡◌, ℕ, ◌+◌, ◌<◌, ◌^◌, [], ◌∷◌, ◌++◌, ◌||◌, ◌==◌, true, if◌then◌else◌, Some, None, Ok, Err, IfOk, IfErr, OnOk, IfSome, IfNone, OnSome, Option, option_copied, option_map, length, is_ok};
 ghost use Rattle.sky_names.specs.Places.{place_of};
-ghost use Rattle.sky_model.specs.History.{began, ended, block_begun, block_failed, queued, made, raised, put, ticked, registered, opened, closed};
-ghost use Rattle.sky_model.specs.Sessions.{inside, failed, at_rest};
-ghost use Rattle.sky_model.specs.State.{after_mark, after_marks, changed_at, changed_for, with_batch, at_position};
+ghost use Rattle.sky_model.specs.declared.stmt.Where.TheVariants.{WhenReading, WhenOutside};
+ghost use Rattle.sky_model.specs.History.{queued, made, raised, put, ticked, registered, opened, closed};
+ghost use Rattle.sky_model.specs.State.{database_of, after_mark, after_marks, changed_at, changed_for, with_batch, at_position};
+ghost use Rattle.sky_model.specs.ShownRows.{snapshot_now};
 ghost use Rattle.sky_model.specs.Moment.{HasMoment};
-ghost use Rattle.sky_model.specs.Printed.{EventsHaveMoments};
-ghost use Rattle.sky_model.specs.Outcome.{end_of, abort};
-ghost use Rattle.sky_model.specs.StepQueue.{newest_id, txid_for, begin_of, commit_of};
-ghost use Rattle.sky_model.specs.StepSession.{leaves};
+ghost use Rattle.sky_model.specs.Printed.{EventsHaveMoments, HaveMoments};
+ghost use Rattle.sky_model.specs.OwnTransaction.{txid_for, begin_of, commit_of};
+ghost use Rattle.sky_model.specs.StepQueue.{newest_id};
 ghost use Rattle.sky_model.specs.Selection.{selected};
-ghost use Rattle.sky_txid.specs.Ids.{contains};
-ghost use Rattle.sky_world.specs.Owned.{own_id, IsFree, MayKeep};
+ghost use Rattle.sky_model.specs.Reader.{part_by_itself};
+ghost use Rattle.sky_model.specs.Calls.{row_statement};
+ghost use Rattle.sky_session.specs.Marks.{failure};
+ghost use Rattle.sky_session.specs.Gives.{Enters};
 ghost use Rattle.sky_world.specs.Ticks.{IsTime};
-ghost use Rattle.sky_world.specs.Seen.{seen_session, seen_database, no_database, seen_queue, seen_batch};
+ghost use Rattle.sky_world.specs.Seen.{seen_database, seen_queue, seen_batch};
+ghost use Rattle.sky_world.specs.Undone.{undone_by};
+ghost use Rattle.sky_world.specs.Gives.{Gives};
 
 use crate::batch::Batch;
-use crate::block::Block;
 use crate::queue::Queue;
 use crate::subscription::Subscription;
 use crate::ticks::Tick;
-use sky_model::Refusal;
+use sky_model::{Refusal, Replies, RowStmt};
 use sky_names::Names;
-use sky_trans::{Trans, TransFault};
+use sky_session::{Effect, Effects, RowDb};
+use sky_trans::TransFault;
 use sky_txid::Snapshot;
 use sky_val::{Event, SessionId, Text};
 use std::alloc::{AllocError, Global};
 use std::collections::{BTreeMap, BTreeSet};
 use std::marker::Model;
 
-/// One database: its transactions, the blocks that sessions are in, its queues, and their active batches.
+/// One database: its transactions, sessions, tables and rows; its queues, and their active batches.
 #[derive(Drop)]
 pub struct Database {
     alloc: Global,
-    trans: Trans,
+    rows: RowDb,
     last_batch_id: u64,
     last_sub_id: u64,
     names: Names,
     queues: Vec<Queue>,
     batches: BTreeMap<u64, Batch>,
-    // The sessions that are in a transaction block.
-    blocks: BTreeMap<SessionId, Block>,
     // The transactions that were rolled back.
     undone: BTreeSet<u64>,
 }
@@ -48,38 +49,35 @@ pub struct Database {
 impl Model for Database {
     ghost use Rattle.std.specs.Prelude.{◌≡◌, length};
     ghost use Rattle.sky_world.specs.Views.{DatabaseView};
-    ghost use Rattle.sky_world.specs.Owned.{AreOwned, BatchesWithin};
+    ghost use Rattle.sky_world.specs.Batches.{BatchesWithin};
 
     ghost Value = { DatabaseView };
 
     ghost view = { λ d. record {
-      trans = d.trans;
+      rows = d.rows;
       last_batch_id = d.last_batch_id;
       last_sub_id = d.last_sub_id;
       names = d.names;
       queues = d.queues.items;
       batches = d.batches.entries;
-      blocks = d.blocks.entries;
       undone = d.undone.keys;
     } };
 
-    ghost invariant = { λ d. (length d.queues.items ≡ length d.names)
-        × AreOwned d.blocks.entries d.trans.running × BatchesWithin (length d.queues.items) d.batches.entries };
+    ghost invariant = { λ d. (length d.queues.items ≡ length d.names) × BatchesWithin (length d.queues.items) d.batches.entries };
 }
 
 impl Database {
     pub fn new(alloc: Global) -> Database
-        ensures { result ≡ no_database }
+        ensures { seen_database result ≡ database_of [] }
     {
         Database {
             alloc,
-            trans: Trans::new(alloc),
+            rows: RowDb::new(alloc),
             last_batch_id: 0,
             last_sub_id: 0,
             names: Names::new(alloc),
             queues: Vec::new(alloc),
             batches: BTreeMap::new(alloc),
-            blocks: BTreeMap::new(alloc),
             undone: BTreeSet::new(alloc),
         }
     }
@@ -110,9 +108,9 @@ impl Database {
     }
 
     pub fn snapshot(&self) -> Result<Snapshot, AllocError>
-        ensures { IfOk result (λ snapshot. snapshot ≡ snapshot_of self.now.trans.next self.now.trans.running) }
+        ensures { IfOk result (λ snapshot. snapshot ≡ snapshot_now (seen_database self.now).part) }
     {
-        self.trans.snapshot()
+        self.rows.snapshot_now()
     }
 
     pub fn alloc(&self) -> Global {
@@ -139,198 +137,81 @@ impl Database {
         self.names.len()
     }
 
-    /// The block that a session is in, if it is in one.
-    pub fn block(&self, who: SessionId) -> Option<Block>
-        ensures { seen_session result ≡ (seen_database self.now).session who }
+    /// Refuses where the session's transaction has no id, and none is left.
+    pub fn id_left(&self, who: SessionId) -> Result<(), Refusal>
+        ensures ok { OnOk result (is_ok (txid_for (seen_database self.now).part who) ≡ true) }
+        ensures err { IfErr result (λ refusal. txid_for (seen_database self.now).part who ≡ Err refusal) }
     {
-        self.blocks.get(&who).copied()
-    }
-
-    /// The id of the transaction of a session's block, if it has got one.
-    fn own_txid(&self, who: SessionId) -> Option<u64>
-        ensures txid { result ≡ ((seen_database self.now).session who).txid }
-        ensures inside { IfSome result (λ _. ((seen_database self.now).session who).block ≡ inside) }
-        ensures runs { IfSome result (λ t. contains t self.now.trans.running ≡ true) }
-        ensures once { IfSome result (λ t. (w : ℕ) → own_id self.now.blocks w ≡ Some t → w ≡ who) }
-    {
-        // That it runs, and in this block alone, is the database's invariant.
-        let _ = &self.blocks;
-        match self.block(who) {
-            Some(Block::Open(txid)) => txid,
-            Some(Block::Failed) | None => None,
-        }
-    }
-
-    /// The id of a session's transaction: its own, or the next one.
-    pub fn txid_for(&self, who: SessionId) -> Result<u64, Refusal>
-        ensures ok { IfOk result (λ t. txid_for (seen_database self.now) who ≡ Ok t) }
-        ensures err { IfErr result (λ refusal. txid_for (seen_database self.now) who ≡ Err refusal) }
-    {
-        if let Some(Block::Open(Some(txid))) = self.block(who) {
-            return Ok(txid);
-        }
-        if !self.trans.id_left() {
+        if !self.rows.id_left(who) {
             return Err(Refusal::TxidsSpent);
         }
-        Ok(self.trans.next_id())
-    }
-
-    /// Gives a session's transaction its id, where it has none. Outside a block it commits at once.
-    pub fn take_txid(&mut self, who: SessionId, txid: u64) -> Result<(), AllocError>
-        requires sound { ¬ (((seen_database self.old).session who).block ≡ failed) }
-        requires id { txid_for (seen_database self.old) who ≡ Ok txid }
-        ensures marks { OnOk result (seen_database self.new ≡ after_marks (seen_database self.old)
-            (begin_of who txid ((seen_database self.old).session who).txid ++ commit_of who txid ((seen_database self.old).session who).block)) }
-        ensures queues { OnOk result (self.new.queues ≡ self.old.queues) }
-        ensures names { OnOk result (self.new.names ≡ self.old.names) }
-    {
-        match self.block(who) {
-            None => self.single(who),
-            Some(Block::Open(None)) => self.begin_in_block(who),
-            Some(Block::Open(Some(_)) | Block::Failed) => Ok(()),
-        }
-    }
-
-    /// A transaction of its own, which takes the next id and commits.
-    fn single(&mut self, who: SessionId) -> Result<(), AllocError>
-        requires ids { self.old.trans.next < 2 ^ 62 }
-        requires rests { (seen_database self.old).session who ≡ at_rest }
-        ensures marks { OnOk result (seen_database self.new ≡ after_marks (seen_database self.old)
-            (began who self.old.trans.next ∷ ended who self.old.trans.next true ∷ [])) }
-        ensures queues { OnOk result (self.new.queues ≡ self.old.queues) }
-        ensures names { OnOk result (self.new.names ≡ self.old.names) }
-    {
-        let txid = self.assign()?;
-        self.commit_txid(txid);
         Ok(())
     }
 
-    /// The next id, which runs from now on.
-    fn assign(&mut self) -> Result<u64, AllocError>
-        requires ids { self.old.trans.next < 2 ^ 62 }
-        ensures id { IfOk result (λ t. t ≡ self.old.trans.next) }
-        ensures runs { IfOk result (λ t. contains t self.new.trans.running ≡ true) }
-        ensures free { IfOk result (λ t. IsFree self.new.blocks t) }
-        ensures ok { OnOk result (self.new ≡ record self.old {
-          trans = record { next = self.old.trans.next + 1; running = self.old.trans.running ++ self.old.trans.next ∷ [] };
-        }) }
+    /// The id of the session's transaction, which gets one where it has none. Outside a block it commits at once.
+    pub fn take_txid(&mut self, who: SessionId) -> Result<u64, AllocError>
+        requires { is_ok (txid_for (seen_database self.old).part who) ≡ true }
+        ensures id { IfOk result (λ txid. txid_for (seen_database self.old).part who ≡ Ok txid) }
+        ensures marks { IfOk result (λ txid. seen_database self.new ≡ after_marks (seen_database self.old)
+            (begin_of who txid ((seen_database self.old).part.session who).txid ++ commit_of who txid ((seen_database self.old).part.session who).block)) }
+        ensures queues { OnOk result (self.new.queues ≡ self.old.queues) }
+        ensures names { OnOk result (self.new.names ≡ self.old.names) }
     {
-        match self.trans.assign() {
-            Ok(txid) => Ok(txid),
+        match self.rows.take_txid(who) {
+            Ok(txid) => {
+                self.rows.end_single(who);
+                Ok(txid)
+            }
             Err(TransFault::NoMemory) => Err(AllocError),
             Err(TransFault::TxidsSpent) => unreachable!(),
         }
     }
 
-    /// The transaction of the block that a session is in gets the next id.
-    fn begin_in_block(&mut self, who: SessionId) -> Result<(), AllocError>
-        requires ids { self.old.trans.next < 2 ^ 62 }
-        requires inside { (seen_database self.old).session who ≡ record { block = inside; txid = None } }
-        ensures marks { OnOk result (seen_database self.new ≡ after_mark (seen_database self.old) (began who self.old.trans.next)) }
-        ensures queues { OnOk result (self.new.queues ≡ self.old.queues) }
-        ensures names { OnOk result (self.new.names ≡ self.old.names) }
+    /// Lets a session make a statement on queues where it stands, or refuses it.
+    pub fn enter(&mut self, who: SessionId, outside: bool) -> Result<Option<Refusal>, AllocError>
+        ensures enters { IfOk result (λ refusal. Enters (seen_database self.old).part (seen_database self.new).part who (if outside then WhenOutside else WhenReading) refusal) }
+        ensures but { seen_database self.new ≡ record (seen_database self.old) { part = (seen_database self.new).part } }
     {
-        let txid = self.assign()?;
-        self.keep_block(who, Block::Open(Some(txid)))?;
+        self.rows.enter(who, outside)
+    }
+
+    /// Runs a statement on rows.
+    pub fn step(&mut self, who: SessionId, stmt: &RowStmt) -> Result<Replies, AllocError>
+        ensures gives { IfOk result (λ replies. Gives (seen_database self.old) (seen_database self.new) replies who (row_statement part_by_itself (seen_database self.old).part who stmt.now)) }
+        ensures moments { IfOk result HaveMoments }
+    {
+        let step = self.rows.step(who, stmt)?;
+        self.undo_aborted(&step.effects)?;
+        Ok(step.replies)
+    }
+
+    /// A refusal rolls back the block that its session is in, and aborts it.
+    pub fn fail(&mut self, who: SessionId) -> Result<(), AllocError>
+        ensures { OnOk result (seen_database self.new ≡ after_marks (seen_database self.old)
+            (failure who ((seen_database self.old).part.session who).txid ((seen_database self.old).part.session who).block)) }
+    {
+        let step = self.rows.fail(who)?;
+        self.undo_aborted(&step.effects)?;
         Ok(())
     }
 
-    /// A session is in this block from now on.
-    fn keep_block(&mut self, who: SessionId, block: Block) -> Result<(), AllocError>
-        requires { MayKeep self.old.blocks self.old.trans.running who block }
-        ensures session { OnOk result (seen_database self.new ≡ record (seen_database self.old) {
-          session = changed_at who (λ _. seen_session (Some block)) (seen_database self.old).session;
-        }) }
-        ensures trans { self.new.trans ≡ self.old.trans }
-        ensures own { OnOk result (own_id self.new.blocks ≡ (λ n. if who == n then (seen_session (Some block)).txid else own_id self.old.blocks n)) }
-        ensures queues { OnOk result (self.new.queues ≡ self.old.queues) }
-        ensures names { OnOk result (self.new.names ≡ self.old.names) }
+    /// Notes the transactions that were rolled back.
+    fn undo_aborted(&mut self, effects: &Effects) -> Result<(), AllocError>
+        ensures { OnOk result (seen_database self.new ≡ record (seen_database self.old) { undone = undone_by effects.now (seen_database self.old).undone }) }
     {
-        self.blocks.insert(who, block)?;
-        Ok(())
-    }
-
-    /// A session begins a block.
-    pub fn begin_block(&mut self, who: SessionId) -> Result<(), AllocError>
-        requires { (seen_database self.old).session who ≡ at_rest }
-        ensures { OnOk result (seen_database self.new ≡ after_mark (seen_database self.old) (block_begun who)) }
-    {
-        self.keep_block(who, Block::Open(None))
-    }
-
-    /// A session leaves its block. The block's transaction, which runs on, is no block's from now on.
-    fn leave_block(&mut self, who: SessionId)
-        ensures session { seen_database self.new ≡ record (seen_database self.old) { session = changed_at who (λ _. at_rest) (seen_database self.old).session } }
-        ensures trans { self.new.trans ≡ self.old.trans }
-        ensures own { own_id self.new.blocks ≡ (λ n. if who == n then None else own_id self.old.blocks n) }
-    {
-        self.blocks.remove(&who);
-    }
-
-    /// A session's block ends, and its transaction commits, if it has got an id.
-    pub fn commit_block(&mut self, who: SessionId)
-        ensures { seen_database self.new ≡ after_marks (seen_database self.old) (leaves true who ((seen_database self.old).session who).txid) }
-    {
-        let own = self.own_txid(who);
-        self.leave_block(who);
-        if let Some(txid) = own {
-            self.commit_txid(txid);
-        }
-    }
-
-    /// A session's block ends, and its transaction is rolled back, if it has got an id.
-    pub fn roll_back_block(&mut self, who: SessionId) -> Result<(), AllocError>
-        ensures { OnOk result (seen_database self.new ≡ after_marks (seen_database self.old) (leaves false who ((seen_database self.old).session who).txid)) }
-    {
-        let own = self.own_txid(who);
-        self.leave_block(who);
-        if let Some(txid) = own {
-            self.roll_back_txid(txid)?;
+        for effect in effects.as_slice() {
+            self.note(effect)?;
         }
         Ok(())
     }
 
-    /// A session's block is aborted, and its transaction rolled back, if it has got an id.
-    fn fail_block(&mut self, who: SessionId) -> Result<(), AllocError>
-        ensures { OnOk result (seen_database self.new ≡ after_marks (seen_database self.old) (end_of false who ((seen_database self.old).session who).txid ++ block_failed who ∷ [])) }
+    fn note(&mut self, effect: &Effect) -> Result<(), AllocError>
+        ensures { OnOk result (seen_database self.new ≡ record (seen_database self.old) { undone = undone_by (effect.now ∷ []) (seen_database self.old).undone }) }
     {
-        let own = self.own_txid(who);
-        self.keep_block(who, Block::Failed)?;
-        if let Some(txid) = own {
-            self.roll_back_txid(txid)?;
+        match effect {
+            Effect::Aborted(txid) => self.undo(*txid),
+            _ => Ok(()),
         }
-        Ok(())
-    }
-
-    fn commit_txid(&mut self, txid: u64)
-        requires runs { contains txid self.old.trans.running ≡ true }
-        requires free { IsFree self.old.blocks txid }
-        ensures ended { seen_database self.new ≡ record (seen_database self.old) { running_ids = filter (λ u. not (u == txid)) (seen_database self.old).running_ids } }
-        ensures queues { self.new.queues ≡ self.old.queues }
-        ensures names { self.new.names ≡ self.old.names }
-    {
-        self.trans.commit(txid);
-    }
-
-    fn roll_back_txid(&mut self, txid: u64) -> Result<(), AllocError>
-        requires runs { contains txid self.old.trans.running ≡ true }
-        requires free { IsFree self.old.blocks txid }
-        ensures { OnOk result (seen_database self.new ≡ record (seen_database self.old) {
-          running_ids = filter (λ u. not (u == txid)) (seen_database self.old).running_ids;
-          undone = λ u. u == txid || (seen_database self.old).undone u;
-        }) }
-    {
-        self.abort_txid(txid);
-        self.undo(txid)?;
-        Ok(())
-    }
-
-    fn abort_txid(&mut self, txid: u64)
-        requires runs { contains txid self.old.trans.running ≡ true }
-        requires free { IsFree self.old.blocks txid }
-        ensures { seen_database self.new ≡ record (seen_database self.old) { running_ids = filter (λ u. not (u == txid)) (seen_database self.old).running_ids } }
-    {
-        self.trans.abort(txid);
     }
 
     /// Notes that a transaction was rolled back.
@@ -339,18 +220,6 @@ impl Database {
     {
         self.undone.insert(txid)?;
         Ok(())
-    }
-
-    /// A refusal rolls back the block that its session is in, and aborts it.
-    pub fn abort(&mut self, who: SessionId, refusal: &Refusal) -> Result<(), AllocError>
-        ensures { OnOk result (seen_database self.new ≡ after_marks (seen_database self.old)
-            (abort who ((seen_database self.old).session who).block ((seen_database self.old).session who).txid refusal.now)) }
-    {
-        match (self.block(who), refusal) {
-            (Some(Block::Open(_)), Refusal::AlreadyOpen) => Ok(()),
-            (Some(Block::Open(_)), _) => self.fail_block(who),
-            _ => Ok(()),
-        }
     }
 
     pub fn raise(&mut self, queue: usize, value: u64)
@@ -386,7 +255,7 @@ impl Database {
         requires queue { queue < length self.old.queues }
         requires next { tick.id ≡ newest_id ((seen_database self.old).queue queue) + 1 }
         requires time { IsTime tick.time }
-        requires snapshot { tick.snapshot ≡ snapshot_of self.old.trans.next self.old.trans.running }
+        requires snapshot { tick.snapshot ≡ snapshot_now (seen_database self.old).part }
         ensures { OnOk result (seen_database self.new ≡ after_mark (seen_database self.old) (queued (ticked queue tick.id tick.time tick.seq))) }
     {
         self.store_tick(queue, tick)?;
@@ -400,7 +269,7 @@ impl Database {
         requires first { first.id ≡ 1 }
         requires time { IsTime first.time }
         requires seq { first.seq ≡ 0 }
-        requires snapshot { first.snapshot ≡ snapshot_of self.old.trans.next self.old.trans.running }
+        requires snapshot { first.snapshot ≡ snapshot_now (seen_database self.old).part }
         ensures { OnOk result (seen_database self.new ≡ after_marks (seen_database self.old)
             (queued (made name) ∷ queued (ticked (length self.old.names) 1 first.time 0) ∷ [])) }
     {

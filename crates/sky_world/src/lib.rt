@@ -6,9 +6,7 @@
 //! Nothing here reads or prints a byte.
 #![tactic(auto)]
 
-mod allowed;
 mod batch;
-mod block;
 mod database;
 mod queue;
 mod statements;

@@ -1,33 +1,32 @@
 //! The statements, each in the database that its session has open. A refusal changes nothing there but
 //! that it aborts the session's block.
 
-ghost use Rattle.std.specs.Prelude.{◌≡◌, ◌+◌, ◌<◌, [], ◌∷◌, ◌++◌, None, Ok, IfOk, IfErr, OnOk, length};
+ghost use Rattle.std.specs.Prelude.{◌≡◌, ◌+◌, ◌<◌, [], ◌∷◌, ◌++◌, true, false, if◌then◌else◌, None, Ok, IfOk, IfErr, OnOk, length, is_ok};
 ghost use Rattle.sky_names.specs.Places.{place_of};
+ghost use Rattle.sky_model.specs.declared.stmt.Where.TheVariants.{WhenReading, WhenOutside};
+ghost use Rattle.sky_model.specs.declared.reply.Reply.TheVariants.{Refused};
 ghost use Rattle.sky_model.specs.Queues.{tick};
 ghost use Rattle.sky_model.specs.History.{queued, made, ticked};
-ghost use Rattle.sky_model.specs.Sessions.{failed, at_rest};
 ghost use Rattle.sky_model.specs.State.{after_marks};
-ghost use Rattle.sky_model.specs.Printed.{ReplyHasMoments};
-ghost use Rattle.sky_model.specs.StepQueue.{queue_called, create_queue, insert_event, ticker, force_tick, txid_for, written, made_event};
+ghost use Rattle.sky_model.specs.Outcome.{aborts, abort, settled};
+ghost use Rattle.sky_model.specs.Printed.{HaveMoments, ReplyHasMoments};
+ghost use Rattle.sky_model.specs.OwnTransaction.{txid_for, written};
+ghost use Rattle.sky_model.specs.StepQueue.{queue_called, create_queue, insert_event, ticker, force_tick, made_event};
 ghost use Rattle.sky_model.specs.StepConsumer.{has_dot, opens_batch, register_consumer, next_batch, get_batch_events, finish_batch};
-ghost use Rattle.sky_model.specs.StepSession.{begin, commit, rollback, close, txid_current, txid_current_snapshot, txid_visible_in_snapshot};
 ghost use Rattle.sky_model.specs.Selection.{selected};
-ghost use Rattle.sky_model.specs.Allowed.{where_of, allowed};
-ghost use Rattle.sky_model.specs.Reader.{shown_by};
-ghost use Rattle.sky_model.specs.Calls.{form, attempt, statement};
+ghost use Rattle.sky_model.specs.Allowed.{where_of};
+ghost use Rattle.sky_model.specs.Reader.{shown_by, database_by_itself};
+ghost use Rattle.sky_model.specs.Calls.{form, statement};
 ghost use Rattle.sky_world.specs.Ticks.{IsTime};
 ghost use Rattle.sky_world.specs.Seen.{seen_database};
-ghost use Rattle.sky_world.specs.Gives.{Gives, Does, Ran, StopsAs};
+ghost use Rattle.sky_world.specs.Gives.{is_row, Gives, GivesReply, Does, Ran, StopsAs};
 
-use crate::allowed::allow;
 use crate::batch::Batch;
-use crate::block::Block;
 use crate::database::Database;
 use crate::stop::Stop;
 use crate::subscription::Subscription;
 use crate::ticks::{MAX_COUNT, Tick};
-use sky_model::{Events, Extra, Limit, Refusal, Reply, Stmt};
-use sky_txid::{Snapshot, SnapshotFault};
+use sky_model::{Events, Extra, Limit, Refusal, Replies, Reply, Stmt};
 use sky_val::{Event, SessionId, Text, copy_option};
 use std::alloc::{AllocError, Global};
 
@@ -45,48 +44,93 @@ const FORCED: u64 = 2 * MAX_COUNT + 1000;
 
 impl Database {
     /// Runs a statement of a session that has this database open.
-    pub fn run(&mut self, now: i64, who: SessionId, stmt: &Stmt) -> Result<Reply, AllocError>
+    pub fn run(&mut self, now: i64, who: SessionId, stmt: &Stmt) -> Result<Replies, AllocError>
         requires { IsTime now }
-        ensures gives { IfOk result (λ reply. Gives (seen_database self.old) (seen_database self.new) reply
-            (statement (seen_database self.old) (shown_by (seen_database self.old)) now who stmt.now)) }
+        ensures gives { IfOk result (λ replies. Gives (seen_database self.old) (seen_database self.new) replies who
+            (statement database_by_itself (seen_database self.old) now who stmt.now)) }
+        ensures moments { IfOk result HaveMoments }
+    {
+        match stmt {
+            Stmt::Row(stmt) => self.step(who, stmt),
+            _ => self.run_on_queues(now, who, stmt),
+        }
+    }
+
+    /// Runs a statement on queues, which answers once.
+    fn run_on_queues(
+        &mut self,
+        now: i64,
+        who: SessionId,
+        stmt: &Stmt,
+    ) -> Result<Replies, AllocError>
+        requires time { IsTime now }
+        requires kind { is_row stmt.now ≡ false }
+        ensures gives { IfOk result (λ replies. Gives (seen_database self.old) (seen_database self.new) replies who
+            (statement database_by_itself (seen_database self.old) now who stmt.now)) }
+        ensures moments { IfOk result HaveMoments }
+    {
+        let reply = self.run_or_refuse(now, who, stmt)?;
+        let replies = one_reply(self.alloc(), who, reply)?;
+        Ok(replies)
+    }
+
+    /// Runs a statement on queues, if its session may make it where it stands.
+    fn run_or_refuse(&mut self, now: i64, who: SessionId, stmt: &Stmt) -> Result<Reply, AllocError>
+        requires time { IsTime now }
+        requires kind { is_row stmt.now ≡ false }
+        ensures gives { IfOk result (λ reply. GivesReply (seen_database self.old) (seen_database self.new) reply
+            (statement database_by_itself (seen_database self.old) now who stmt.now)) }
         ensures moments { IfOk result ReplyHasMoments }
     {
-        match self.run_allowed(now, who, stmt) {
+        match self.enter(who, is_outside(stmt))? {
+            None => {
+                let reply = self.run_entered(now, who, stmt)?;
+                Ok(reply)
+            }
+            Some(refusal) => {
+                let reply = self.refuse(who, refusal)?;
+                Ok(reply)
+            }
+        }
+    }
+
+    /// Runs a statement that its session may make.
+    fn run_entered(&mut self, now: i64, who: SessionId, stmt: &Stmt) -> Result<Reply, AllocError>
+        requires time { IsTime now }
+        requires kind { is_row stmt.now ≡ false }
+        ensures gives { IfOk result (λ reply. GivesReply (seen_database self.old) (seen_database self.new) reply
+            (settled who ((seen_database self.old).part.session who) (form (seen_database self.old) (shown_by (seen_database self.old)) now who stmt.now))) }
+        ensures moments { IfOk result ReplyHasMoments }
+    {
+        match self.run_form(now, who, stmt) {
             Ok(reply) => Ok(reply),
             Err(Stop::Refused(refusal)) => {
-                self.abort(who, &refusal)?;
-                Ok(Reply::Refused(refusal))
+                let reply = self.refuse(who, refusal)?;
+                Ok(reply)
             }
             Err(Stop::NoMemory) => Err(AllocError),
         }
     }
 
-    /// Runs a statement that its session may make where it stands.
-    fn run_allowed(&mut self, now: i64, who: SessionId, stmt: &Stmt) -> Result<Reply, Stop>
-        requires { IsTime now }
-        ensures { Ran self.old self.new result (attempt (seen_database self.old) (shown_by (seen_database self.old)) now who stmt.now) }
+    /// Answers with a refusal, which may abort the session's block.
+    fn refuse(&mut self, who: SessionId, refusal: Refusal) -> Result<Reply, AllocError>
+        ensures reply { IfOk result (λ reply. reply ≡ Refused refusal) }
+        ensures marks { OnOk result (seen_database self.new ≡ after_marks (seen_database self.old)
+            (abort who ((seen_database self.old).part.session who).block ((seen_database self.old).part.session who).txid refusal)) }
     {
-        allow(self.block(who), stmt)?;
-        self.run_form(now, who, stmt)
+        if aborts(&refusal) {
+            self.fail(who)?;
+        }
+        Ok(Reply::Refused(refusal))
     }
 
     fn run_form(&mut self, now: i64, who: SessionId, stmt: &Stmt) -> Result<Reply, Stop>
         requires time { IsTime now }
-        requires allowed { allowed ((seen_database self.old).session who).block (where_of stmt.now) ≡ Ok tt }
-        ensures { Ran self.old self.new result (form (seen_database self.old) (shown_by (seen_database self.old)) now who stmt.now) }
+        requires kind { is_row stmt.now ≡ false }
+        ensures ran { Ran self.old self.new result (form (seen_database self.old) (shown_by (seen_database self.old)) now who stmt.now) }
     {
         match stmt {
-            Stmt::OpenDb { name: _ } => Err(Stop::Refused(Refusal::AlreadyOpen)),
-            Stmt::Close => self.close(who),
-            Stmt::Cancel => Ok(Reply::NotWaiting),
-            Stmt::Begin => self.begin(who),
-            Stmt::Commit => self.commit(who),
-            Stmt::Rollback => self.rollback(who),
-            Stmt::TxidCurrent => self.txid_current(who),
-            Stmt::TxidCurrentSnapshot => self.txid_current_snapshot(),
-            Stmt::TxidVisibleInSnapshot { txid, snapshot } => {
-                self.txid_visible_in_snapshot(*txid, snapshot)
-            }
+            Stmt::Row(_) => unreachable!(),
             Stmt::CreateQueue { queue } => self.create_queue(now, who, queue),
             Stmt::InsertEvent {
                 queue,
@@ -100,83 +144,6 @@ impl Database {
             Stmt::NextBatch { queue, consumer } => self.next_batch(queue, consumer),
             Stmt::GetBatchEvents { batch } => self.get_batch_events(*batch),
             Stmt::FinishBatch { batch } => Ok(self.finish_batch(*batch)),
-        }
-    }
-
-    /// `close`: a block is rolled back.
-    fn close(&mut self, who: SessionId) -> Result<Reply, Stop>
-        ensures { Ran self.old self.new result (close who ((seen_database self.old).session who).txid ((seen_database self.old).session who).block) }
-    {
-        if self.block(who).is_some() {
-            self.roll_back_block(who)?;
-        }
-        Ok(Reply::Done)
-    }
-
-    /// `begin`
-    fn begin(&mut self, who: SessionId) -> Result<Reply, Stop>
-        ensures { Ran self.old self.new result (begin who ((seen_database self.old).session who).block) }
-    {
-        if self.block(who).is_some() {
-            return Ok(Reply::AlreadyInTransaction);
-        }
-        self.begin_block(who)?;
-        Ok(Reply::Begin)
-    }
-
-    /// `commit`: an aborted block is rolled back.
-    fn commit(&mut self, who: SessionId) -> Result<Reply, Stop>
-        ensures { Ran self.old self.new result (commit who ((seen_database self.old).session who).txid ((seen_database self.old).session who).block) }
-    {
-        match self.block(who) {
-            None => Ok(Reply::NoTransaction),
-            Some(Block::Open(_)) => {
-                self.commit_block(who);
-                Ok(Reply::Commit)
-            }
-            Some(Block::Failed) => {
-                self.roll_back_block(who)?;
-                Ok(Reply::Rollback)
-            }
-        }
-    }
-
-    /// `rollback`
-    fn rollback(&mut self, who: SessionId) -> Result<Reply, Stop>
-        ensures { Ran self.old self.new result (rollback who ((seen_database self.old).session who).txid ((seen_database self.old).session who).block) }
-    {
-        if self.block(who).is_none() {
-            return Ok(Reply::NoTransaction);
-        }
-        self.roll_back_block(who)?;
-        Ok(Reply::Rollback)
-    }
-
-    /// `txid_current`: the transaction gets its id, where it has none.
-    fn txid_current(&mut self, who: SessionId) -> Result<Reply, Stop>
-        requires { ¬ (((seen_database self.old).session who).block ≡ failed) }
-        ensures { Ran self.old self.new result (txid_current (seen_database self.old) who) }
-    {
-        let txid = self.txid_for(who)?;
-        self.take_txid(who, txid)?;
-        Ok(Reply::Number(txid))
-    }
-
-    /// `txid_current_snapshot`
-    fn txid_current_snapshot(&self) -> Result<Reply, Stop>
-        ensures { Ran self.now self.now result (txid_current_snapshot (seen_database self.now)) }
-    {
-        Ok(Reply::Snapshot(self.snapshot()?))
-    }
-
-    /// `txid_visible_in_snapshot N RAW`
-    fn txid_visible_in_snapshot(&self, txid: u64, text: &Text) -> Result<Reply, Stop>
-        ensures { Ran self.now self.now result (txid_visible_in_snapshot txid text.now) }
-    {
-        match Snapshot::parse(self.alloc(), text.bytes()) {
-            Ok(snapshot) => Ok(Reply::Bool(snapshot.sees(txid))),
-            Err(SnapshotFault::BadSnapshot) => Err(Stop::Refused(Refusal::BadSnapshot)),
-            Err(SnapshotFault::NoMemory) => Err(Stop::NoMemory),
         }
     }
 
@@ -195,7 +162,6 @@ impl Database {
     /// `create_queue NAME`: the first tick is made when the transaction has ended.
     fn create_queue(&mut self, now: i64, who: SessionId, name: &Text) -> Result<Reply, Stop>
         requires time { IsTime now }
-        requires rests { (seen_database self.old).session who ≡ at_rest }
         ensures { Ran self.old self.new result (create_queue (seen_database self.old) now who name.now) }
     {
         if self.number(name).is_some() {
@@ -204,28 +170,22 @@ impl Database {
         if self.queue_count() >= MAX_QUEUES {
             return Err(Stop::Refused(Refusal::TooMany(Limit::Queues)));
         }
-        let txid = self.txid_for(who)?;
-        self.new_queue(now, who, txid, name)?;
+        self.id_left(who)?;
+        self.new_queue(now, who, name)?;
         Ok(Reply::Number(1))
     }
 
-    fn new_queue(
-        &mut self,
-        now: i64,
-        who: SessionId,
-        txid: u64,
-        name: &Text,
-    ) -> Result<(), AllocError>
+    fn new_queue(&mut self, now: i64, who: SessionId, name: &Text) -> Result<u64, AllocError>
         requires time { IsTime now }
-        requires rests { (seen_database self.old).session who ≡ at_rest }
         requires new { place_of name.now self.old.names ≡ None }
         requires room { length self.old.names < 64 }
-        requires id { txid_for (seen_database self.old) who ≡ Ok txid }
-        ensures { OnOk result (seen_database self.new ≡ after_marks (seen_database self.old)
-            (written who txid ((seen_database self.old).session who) (queued (made name.now) ∷ []) ++ queued (ticked (length self.old.names) 1 now 0) ∷ [])) }
+        requires id { is_ok (txid_for (seen_database self.old).part who) ≡ true }
+        ensures id { IfOk result (λ txid. txid_for (seen_database self.old).part who ≡ Ok txid) }
+        ensures marks { IfOk result (λ txid. seen_database self.new ≡ after_marks (seen_database self.old)
+            (written who txid ((seen_database self.old).part.session who) (queued (made name.now) ∷ []) ++ queued (ticked (length self.old.names) 1 now 0) ∷ [])) }
     {
         let name = name.copy(self.alloc())?;
-        self.take_txid(who, txid)?;
+        let txid = self.take_txid(who)?;
         let first = Tick {
             id: 1,
             time: now,
@@ -233,7 +193,7 @@ impl Database {
             seq: 0,
         };
         self.make(name, first)?;
-        Ok(())
+        Ok(txid)
     }
 
     /// `insert_event NAME TVAL TVAL`: an event with the next id of the queue's sequence.
@@ -247,18 +207,17 @@ impl Database {
         extra: &Option<Extra>,
     ) -> Result<Reply, Stop>
         requires time { IsTime now }
-        requires sound { ¬ (((seen_database self.old).session who).block ≡ failed) }
         ensures { Ran self.old self.new result (insert_event (seen_database self.old) now who name.now ev_type.now ev_data.now extra.now) }
     {
         let queue = self.queue_called(name)?;
-        let txid = self.txid_for(who)?;
+        self.id_left(who)?;
         let seq = self.queue(queue).seq();
         if seq >= EVENT_ID_END - 1 {
             return Err(Stop::Refused(Refusal::EventIdsSpent));
         }
         let id = seq + 1;
+        let txid = self.take_txid(who)?;
         let event = made_event(self.alloc(), id, now, txid, ev_type, ev_data, extra)?;
-        self.take_txid(who, txid)?;
         self.raise(queue, id);
         self.put(queue, event)?;
         Ok(Reply::Number(id))
@@ -430,4 +389,27 @@ fn made_event(
         event.ev_extra4 = copy_option(alloc, &extra.ev_extra4)?;
     }
     Ok(event)
+}
+
+/// Whether a refusal aborts the block of its session.
+fn aborts(refusal: &Refusal) -> bool
+    ensures { result ≡ aborts refusal.now }
+{
+    !matches!(refusal, Refusal::AlreadyOpen)
+}
+
+/// Whether a statement on queues may stand in no block.
+fn is_outside(stmt: &Stmt) -> bool
+    requires { is_row stmt.now ≡ false }
+    ensures { (if result then WhenOutside else WhenReading) ≡ where_of stmt.now }
+{
+    !matches!(stmt, Stmt::InsertEvent { .. })
+}
+
+fn one_reply(alloc: Global, who: SessionId, reply: Reply) -> Result<Replies, AllocError>
+    ensures { IfOk result (λ replies. replies ≡ (who, reply) ∷ []) }
+{
+    let mut replies = Replies::new(alloc);
+    replies.push(who, reply)?;
+    Ok(replies)
 }

@@ -1,9 +1,9 @@
-ghost use Rattle.std.specs.Prelude.{◌≡◌, ◌+◌, ◌<◌, ◌≤◌, [], false, Some, None, IfOk, OnOk, IfSome, All, length};
+ghost use Rattle.std.specs.Prelude.{◌≡◌, ◌+◌, ◌<◌, ◌≤◌, [], ◌∷◌, false, Some, None, IfOk, OnOk, IfSome, All, length};
 ghost use Rattle.sky_names.specs.Places.{place_of};
 ghost use Rattle.sky_model.specs.History.{appeared, founded, entered, left};
 ghost use Rattle.sky_model.specs.Printed.{HaveMoments, ReplyHasMoments};
 ghost use Rattle.sky_model.specs.World.{world_of, after_fact};
-ghost use Rattle.sky_model.specs.Reader.{shown_by, by_world};
+ghost use Rattle.sky_model.specs.Reader.{within_database, by_world};
 ghost use Rattle.sky_model.specs.Calls.{statement, deed_in, opens, unopened, session_does, turn};
 ghost use Rattle.sky_model.specs.Calls as spec;
 ghost use Rattle.sky_model.specs.Steps.{Steps, deed_at};
@@ -11,7 +11,7 @@ ghost use Rattle.sky_world.specs.Seen.{seen_world};
 ghost use Rattle.sky_world.specs.GivesDeed.{GivesDeed};
 
 use crate::database::Database;
-use sky_model::{Limit, Refusal, Replies, Reply, Stmt};
+use sky_model::{Limit, Refusal, Replies, Reply, RowStmt, Stmt};
 use sky_names::Names;
 use sky_val::{NoMemory, SessionId, Text};
 use std::alloc::{AllocError, Global};
@@ -22,13 +22,6 @@ const MAX_SESSIONS: SessionId = 256;
 
 /// How many databases there may be.
 const MAX_DATABASES: usize = 16;
-
-/// An answer, and the session that it goes to.
-#[derive(Drop)]
-struct Answer {
-    who: SessionId,
-    reply: Reply,
-}
 
 /// The sessions and databases of a script, and the clock, which stands at its start.
 #[derive(Drop)]
@@ -90,16 +83,14 @@ impl World {
         ensures numbered { IfOk result (λ replies. All (λ answer. answer.0 ≤ length (seen_world self.new).sessions) replies) }
         ensures times { IfOk result (λ replies. HaveMoments replies) }
     {
-        let answer = self.answer(name, stmt)?;
-        let mut replies = Replies::new(self.alloc);
-        replies.push(answer.who, answer.reply)?;
+        let replies = self.answer(name, stmt)?;
         Ok(replies)
     }
 
-    fn answer(&mut self, name: &Text, stmt: &Stmt) -> Result<Answer, AllocError>
-        ensures answers { IfOk result (λ answer. GivesDeed (seen_world self.old) (seen_world self.new) answer.who answer.reply (deed_at (seen_world self.old) (record { who = name.now; stmt = stmt.now }))) }
-        ensures numbered { IfOk result (λ answer. answer.who ≤ length self.new.sessions) }
-        ensures moments { IfOk result (λ answer. ReplyHasMoments answer.reply) }
+    fn answer(&mut self, name: &Text, stmt: &Stmt) -> Result<Replies, AllocError>
+        ensures answers { IfOk result (λ replies. GivesDeed (seen_world self.old) (seen_world self.new) replies (deed_at (seen_world self.old) (record { who = name.now; stmt = stmt.now }))) }
+        ensures numbered { IfOk result (λ replies. All (λ answer. answer.0 ≤ length self.new.sessions) replies) }
+        ensures moments { IfOk result HaveMoments }
     {
         match self.number(name) {
             Some(who) => self.answer_known(who, name, stmt),
@@ -112,31 +103,38 @@ impl World {
         who: SessionId,
         name: &Text,
         stmt: &Stmt,
-    ) -> Result<Answer, AllocError>
+    ) -> Result<Replies, AllocError>
         requires known { Some who ≡ place_of name.now self.old.sessions }
         requires within { who < length self.old.homes }
-        ensures answers { IfOk result (λ answer. GivesDeed (seen_world self.old) (seen_world self.new) answer.who answer.reply (deed_at (seen_world self.old) (record { who = name.now; stmt = stmt.now }))) }
-        ensures numbered { IfOk result (λ answer. answer.who ≤ length self.new.sessions) }
-        ensures moments { IfOk result (λ answer. ReplyHasMoments answer.reply) }
+        ensures answers { IfOk result (λ replies. GivesDeed (seen_world self.old) (seen_world self.new) replies (deed_at (seen_world self.old) (record { who = name.now; stmt = stmt.now }))) }
+        ensures numbered { IfOk result (λ replies. All (λ answer. answer.0 ≤ length self.new.sessions) replies) }
+        ensures moments { IfOk result HaveMoments }
     {
-        let reply = self.run(who, stmt)?;
-        Ok(Answer { who, reply })
+        let replies = self.run(who, stmt)?;
+        Ok(replies)
     }
 
-    fn answer_new(&mut self, name: &Text, stmt: &Stmt) -> Result<Answer, AllocError>
+    fn answer_new(&mut self, name: &Text, stmt: &Stmt) -> Result<Replies, AllocError>
         requires { place_of name.now self.old.sessions ≡ None }
-        ensures answers { IfOk result (λ answer. GivesDeed (seen_world self.old) (seen_world self.new) answer.who answer.reply (deed_at (seen_world self.old) (record { who = name.now; stmt = stmt.now }))) }
-        ensures numbered { IfOk result (λ answer. answer.who ≤ length self.new.sessions) }
-        ensures moments { IfOk result (λ answer. ReplyHasMoments answer.reply) }
+        ensures answers { IfOk result (λ replies. GivesDeed (seen_world self.old) (seen_world self.new) replies (deed_at (seen_world self.old) (record { who = name.now; stmt = stmt.now }))) }
+        ensures numbered { IfOk result (λ replies. All (λ answer. answer.0 ≤ length self.new.sessions) replies) }
+        ensures moments { IfOk result HaveMoments }
     {
         let who = self.session_count();
         if who >= MAX_SESSIONS {
-            let reply = Reply::Refused(Refusal::TooMany(Limit::Sessions));
-            return Ok(Answer { who, reply });
+            return self.one_reply(who, Reply::Refused(Refusal::TooMany(Limit::Sessions)));
         }
         self.appear(name)?;
-        let reply = self.run(who, stmt)?;
-        Ok(Answer { who, reply })
+        let replies = self.run(who, stmt)?;
+        Ok(replies)
+    }
+
+    fn one_reply(&self, who: SessionId, reply: Reply) -> Result<Replies, AllocError>
+        ensures { IfOk result (λ replies. replies ≡ (who, reply) ∷ []) }
+    {
+        let mut replies = Replies::new(self.alloc);
+        replies.push(who, reply)?;
+        Ok(replies)
     }
 
     fn number(&self, name: &Text) -> Option<SessionId>
@@ -171,15 +169,19 @@ impl World {
     }
 
     /// Runs a statement of a session.
-    fn run(&mut self, who: SessionId, stmt: &Stmt) -> Result<Reply, AllocError>
+    fn run(&mut self, who: SessionId, stmt: &Stmt) -> Result<Replies, AllocError>
         requires { who < length self.old.homes }
-        ensures gives { IfOk result (λ reply. GivesDeed (seen_world self.old) (seen_world self.new) who reply (turn by_world who stmt.now (seen_world self.old))) }
-        ensures moments { IfOk result ReplyHasMoments }
+        ensures gives { IfOk result (λ replies. GivesDeed (seen_world self.old) (seen_world self.new) replies (turn by_world who stmt.now (seen_world self.old))) }
+        ensures own { IfOk result (λ replies. All (λ answer. answer.0 ≡ who) replies) }
+        ensures moments { IfOk result HaveMoments }
         ensures sessions { OnOk result (self.new.sessions ≡ self.old.sessions) }
     {
         match self.home(who) {
             Some(database) => self.run_in(database, who, stmt),
-            None => self.run_unopened(who, stmt),
+            None => {
+                let reply = self.run_unopened(who, stmt)?;
+                self.one_reply(who, reply)
+            }
         }
     }
 
@@ -192,19 +194,25 @@ impl World {
         self.homes[who as usize]
     }
 
-    fn run_in(&mut self, database: usize, who: SessionId, stmt: &Stmt) -> Result<Reply, AllocError>
+    fn run_in(
+        &mut self,
+        database: usize,
+        who: SessionId,
+        stmt: &Stmt,
+    ) -> Result<Replies, AllocError>
         requires who { who < length self.old.homes }
         requires database { database < length self.old.stores }
-        ensures gives { IfOk result (λ reply. GivesDeed (seen_world self.old) (seen_world self.new) who reply
-            (session_does (seen_world self.old) (λ d. shown_by ((seen_world self.old).database d)) who stmt.now (Some database))) }
-        ensures moments { IfOk result ReplyHasMoments }
+        ensures gives { IfOk result (λ replies. GivesDeed (seen_world self.old) (seen_world self.new) replies
+            (session_does by_world (seen_world self.old) who stmt.now (Some database))) }
+        ensures own { IfOk result (λ replies. All (λ answer. answer.0 ≡ who) replies) }
+        ensures moments { IfOk result HaveMoments }
         ensures sessions { OnOk result (self.new.sessions ≡ self.old.sessions) }
     {
-        let reply = self.run_there(database, who, stmt)?;
+        let replies = self.run_there(database, who, stmt)?;
         if is_close(stmt) {
             self.leave(who);
         }
-        Ok(reply)
+        Ok(replies)
     }
 
     /// Runs a statement in a database.
@@ -213,16 +221,17 @@ impl World {
         database: usize,
         who: SessionId,
         stmt: &Stmt,
-    ) -> Result<Reply, AllocError>
+    ) -> Result<Replies, AllocError>
         requires { database < length self.old.stores }
-        ensures gives { IfOk result (λ reply. GivesDeed (seen_world self.old) (seen_world self.new) who reply
-            (deed_in who database false (statement ((seen_world self.old).database database) (shown_by ((seen_world self.old).database database)) (seen_world self.old).now who stmt.now))) }
-        ensures moments { IfOk result ReplyHasMoments }
+        ensures gives { IfOk result (λ replies. GivesDeed (seen_world self.old) (seen_world self.new) replies
+            (deed_in who database false (statement (within_database by_world database) (seen_world self.old) (seen_world self.old).now who stmt.now))) }
+        ensures own { IfOk result (λ replies. All (λ answer. answer.0 ≡ who) replies) }
+        ensures moments { IfOk result HaveMoments }
         ensures sessions { OnOk result (self.new.sessions ≡ self.old.sessions) }
         ensures homes { OnOk result (length self.new.homes ≡ length self.old.homes) }
     {
-        let reply = self.stores[database].run(self.clock, who, stmt)?;
-        Ok(reply)
+        let replies = self.stores[database].run(self.clock, who, stmt)?;
+        Ok(replies)
     }
 
     /// A session has no database open from now on.
@@ -236,13 +245,13 @@ impl World {
 
     fn run_unopened(&mut self, who: SessionId, stmt: &Stmt) -> Result<Reply, AllocError>
         requires { who < length self.old.homes }
-        ensures gives { IfOk result (λ reply. GivesDeed (seen_world self.old) (seen_world self.new) who reply (unopened (seen_world self.old) who stmt.now)) }
+        ensures gives { IfOk result (λ reply. GivesDeed (seen_world self.old) (seen_world self.new) ((who, reply) ∷ []) (unopened (seen_world self.old) who stmt.now)) }
         ensures moments { IfOk result ReplyHasMoments }
         ensures sessions { OnOk result (self.new.sessions ≡ self.old.sessions) }
     {
         match stmt {
-            Stmt::OpenDb { name } => self.open_database(who, name),
-            Stmt::Cancel => Ok(Reply::NotWaiting),
+            Stmt::Row(RowStmt::OpenDb { name }) => self.open_database(who, name),
+            Stmt::Row(RowStmt::Cancel) => Ok(Reply::NotWaiting),
             _ => Ok(Reply::Refused(Refusal::NotOpen)),
         }
     }
@@ -250,7 +259,7 @@ impl World {
     /// `open NAME` of a session that has none open: the database is made where it is new.
     fn open_database(&mut self, who: SessionId, name: &Text) -> Result<Reply, AllocError>
         requires { who < length self.old.homes }
-        ensures gives { IfOk result (λ reply. GivesDeed (seen_world self.old) (seen_world self.new) who reply
+        ensures gives { IfOk result (λ reply. GivesDeed (seen_world self.old) (seen_world self.new) ((who, reply) ∷ [])
             (opens (seen_world self.old) who name.now (place_of name.now (seen_world self.old).databases))) }
         ensures moments { IfOk result ReplyHasMoments }
         ensures sessions { OnOk result (self.new.sessions ≡ self.old.sessions) }
@@ -267,7 +276,7 @@ impl World {
     fn found_database(&mut self, who: SessionId, name: &Text) -> Result<Reply, AllocError>
         requires who { who < length self.old.homes }
         requires new { place_of name.now self.old.databases ≡ None }
-        ensures gives { IfOk result (λ reply. GivesDeed (seen_world self.old) (seen_world self.new) who reply (opens (seen_world self.old) who name.now None)) }
+        ensures gives { IfOk result (λ reply. GivesDeed (seen_world self.old) (seen_world self.new) ((who, reply) ∷ []) (opens (seen_world self.old) who name.now None)) }
         ensures moments { IfOk result ReplyHasMoments }
         ensures sessions { OnOk result (self.new.sessions ≡ self.old.sessions) }
     {
@@ -326,5 +335,5 @@ impl World {
 fn is_close(stmt: &Stmt) -> bool
     ensures { result ≡ spec.is_close stmt.now }
 {
-    matches!(stmt, Stmt::Close)
+    matches!(stmt, Stmt::Row(RowStmt::Close))
 }

@@ -4,7 +4,7 @@ use Rattle.sky_world.specs.Seen.{seen_database}
 use Rattle.sky_world.proofs.Databases.{made-queue}
 use Rattle.sky_world.proofs.database.Database.new_queue.Goals as goal
 
-pub returns : goal.returns
-returns c =
-    made-queue (seen_database c.args.self.now) _ _ c.args.now _ c.args.who c.args.txid _ c.args.name.now _ c.in_ok-name.ensures
-    (ap length c.in_ok-take_txid.ensures.names) (to_z-of_z w64 c.args.now c.ranges.now) c.in_ok-take_txid.ensures.marks c.in_ok-make.ensures
+pub returns-clause-marks : goal.returns-clause-marks
+returns-clause-marks c =
+    made-queue (seen_database c.args.self.now) _ _ c.args.now _ c.args.who c.in_ok-txid.txid _ c.args.name.now _ c.in_ok-name.ensures
+    (ap length c.in_ok-txid.ensures.names) (to_z-of_z w64 c.args.now c.ranges.now) c.in_ok-txid.ensures.marks c.in_ok-make.ensures

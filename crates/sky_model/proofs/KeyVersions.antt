@@ -1,0 +1,281 @@
+-- What the versions of a key say of its rows, at each place of a legal history.
+use Rattle.std.proofs.Common.{◌≡◌, ℕ, ◌≤◌, Bool, true, false, not, List, [], ◌∷◌, ◌++◌, Option, Some, None, option_map, is_some, refl, sym, ◌∙◌, ap, subst, arith, if◌then◌else◌, ◌⊎◌, inl, inr}
+use Rattle.std.specs.Prelude.{◌||◌, ◌&&◌, ◌==◌, nat_lt, find, cond}
+use Rattle.std.specs.Option.{option_or}
+use Rattle.std.specs.Ordering.{eq_by_cmp}
+use Rattle.std.proofs.lemmas.Bool.Decides.{nat_tests}
+use Rattle.sky_val.specs.declared.val.Val.{Val}
+use Rattle.sky_val.specs.Order.{key_cmp}
+use Rattle.sky_val.specs.Entries.{at}
+use Rattle.sky_txid.specs.Ids.{contains}
+use Rattle.sky_txid.specs.declared.version.Version.{Version}
+use Rattle.sky_txid.specs.Versions.{with_version, without, version_of, newest_by, row_of, is_other, versions_at, written}
+use Rattle.sky_txid.proofs.VersionLemmas.{left, OnlyLast, OthersPass, newest_with, newest_without, newest_more, version_of-with, version_of-without, only_more, only_without, only_with}
+use Rattle.sky_txid.proofs.EntryLemmas.{key_ties-is, versions_at-written, versions_at-forgotten}
+use Rattle.sky_model.specs.History.{Mark, ended, tabled, wrote, History}
+use Rattle.sky_model.specs.Transactions.{next_txid, running, has_ended}
+use Rattle.sky_model.specs.Sessions.{own_txid}
+use Rattle.sky_model.specs.Rows.{committed, writes as writes_of, rows, has_written, holder, last_writer}
+use Rattle.sky_model.specs.Versions.{versions}
+use Rattle.sky_model.proofs.Legal.{Fine, begins, ends, begins_block, fails_block, ends_block, repeats_block, looks, makes_table, writes, makes, raises, puts, ticks_next, registers, opens, closes, Legal, start, next}
+use Rattle.sky_model.proofs.Snapshots.{sound, own-unended}
+use Rattle.sky_model.proofs.RowWrites.{over, last_of, at-put_all, last_of-push, has_written-last_of, in_turn-push, in_turn-same, last_writer-push, last_writer-same}
+use Rattle.sky_model.proofs.RowKeys.{is_in_order-versions, committed-ended, begun}
+
+-- the versions of a key at a place
+abbrev pub kept : History → ℕ → List Val → List Version
+kept h table key = versions_at key (versions table h)
+
+-- what the versions of a key say at a place
+pub record KeyHolds (h : History) (table : ℕ) (key : List Val) : Type 0 where
+  -- the newest one whose transaction has ended is the row
+  pub newest : row_of (newest_by (has_ended h) (kept h table key)) ≡ at key (rows table h)
+  -- and its transaction is the last that has written the key, of those that have committed
+  pub writer : option_map Version.txid (newest_by (has_ended h) (kept h table key)) ≡ last_writer key (λ t. writes_of table t h) None (committed h)
+  -- one that hasn't ended has its last write as its version
+  pub own : (t : ℕ) → has_ended h t ≡ false → option_map Version.row (version_of t (kept h table key)) ≡ last_of key (writes_of table t h)
+  -- and only the last version may be such a one's
+  pub only : OnlyLast (has_ended h) (kept h table key)
+
+-- a transaction's version is its own
+pub version_of-txid : (t : ℕ) (vs : List Version) (v : Version) → version_of t vs ≡ Some v → v.txid ≡ t
+version_of-txid t [] v e = absurd (cc)
+version_of-txid t (w ∷ vs) v e = of (t == w.txid) refl e (version_of-txid t vs v)
+  where
+    of : (b : Bool) → (t == w.txid) ≡ b → (if b then Some w else version_of t vs) ≡ Some v → (version_of t vs ≡ Some v → v.txid ≡ t) → v.txid ≡ t
+    of true is e ih = (let one : w ≡ v = cc in let mine : t ≡ w.txid = grind (arith, nat_tests) in sym (mine ∙ ap Version.txid one))
+    of false is e ih = ih e
+
+-- the end of a transaction, as a test on others
+ended-or : (h : History) (t u : ℕ) → ((u == t) || has_ended h u) ≡ ((t == u) || has_ended h u)
+ended-or h t u = (let turned : (u == t) ≡ (t == u) = of (u == t) refl in ap (λ b. b || has_ended h u) turned)
+  where
+    of : (b : Bool) → (u == t) ≡ b → (u == t) ≡ (t == u)
+    of true e = (let other : (t == u) ≡ true = grind (arith, nat_tests) in e ∙ sym other)
+    of false e = (let other : (t == u) ≡ false = grind (arith, nat_tests) in e ∙ sym other)
+
+still-ended : (b c : Bool) → c ≡ true → (b || c) ≡ true
+still-ended true c e = refl
+still-ended false c e = e
+
+-- who hasn't ended behind the end of another hadn't before, and is another
+unended-before : (b c : Bool) → (b || c) ≡ false → c ≡ false
+unended-before true c e = absurd (cc)
+unended-before false c e = e
+
+another : (b c : Bool) → (b || c) ≡ false → b ≡ false
+another true c e = absurd (cc)
+another false c e = refl
+
+-- a commit makes a transaction's last write the row
+row-committed : (left : Option Version) (before : Option Version) (last : Option (Option (List Val))) → option_map Version.row left ≡ last → row_of (option_or left before) ≡ over last (row_of before)
+row-committed None before last e = ap (λ o. over o (row_of before)) e
+row-committed (Some v) before last e = ap (λ o. over o (row_of before)) e
+
+-- and it the last writer
+writer-committed : (t : ℕ) (own : Option Version) (before : Option Version) (last : Option (Option (List Val))) (earlier : Option ℕ) → option_map Version.row own ≡ last
+    → ((v : Version) → own ≡ Some v → v.txid ≡ t) → option_map Version.txid before ≡ earlier → option_map Version.txid (option_or own before) ≡ (if is_some last then Some t else earlier)
+writer-committed t None before last earlier e mine is = is ∙ ap (λ o. if is_some o then Some t else earlier) e
+writer-committed t (Some v) before last earlier e mine is = ap Some (mine v refl) ∙ ap (λ o. if is_some o then Some t else earlier) e
+
+key_committed : (h : History) → Legal h → (who t : ℕ) → has_ended h t ≡ false → (table : ℕ) (key : List Val) → KeyHolds h table key → KeyHolds (ended who t true ∷ h) table key
+key_committed h l who t unended table key k = record {
+  newest = ap row_of newer
+      ∙ row-committed (version_of t (kept h table key)) (newest_by (has_ended h) (kept h table key)) (last_of key (writes_of table t h)) (k.own t unended)
+      ∙ ap (over (last_of key (writes_of table t h))) k.newest
+      ∙ sym (ap (at key) (in_turn-push (λ u. writes_of table u h) (committed h) t []) ∙ at-put_all key (writes_of table t h) (rows table h));
+  writer = ap (option_map Version.txid) newer
+      ∙ writer-committed t (version_of t (kept h table key)) (newest_by (has_ended h) (kept h table key)) (last_of key (writes_of table t h)) _ (k.own t unended)
+      (version_of-txid t (kept h table key)) k.writer
+      ∙ ap (λ b. if b then Some t else last_writer key (λ u. writes_of table u h) None (committed h)) (sym (has_written-last_of key (writes_of table t h)))
+      ∙ sym (last_writer-push key (λ u. writes_of table u h) (committed h) t);
+  own = λ u e. k.own u (unended-before (u == t) (has_ended h u) e);
+  only = only_more (has_ended h) (has_ended (ended who t true ∷ h)) (kept h table key) (λ u e. still-ended (u == t) (has_ended h u) e) k.only;
+}
+  where
+    newer : newest_by (has_ended (ended who t true ∷ h)) (kept h table key) ≡ option_or (version_of t (kept h table key)) (newest_by (has_ended h) (kept h table key))
+    newer = newest_more (has_ended h) (has_ended (ended who t true ∷ h)) t (kept h table key) k.only unended (ended-or h t)
+
+key_rolled_back : (h : History) → Legal h → (who t : ℕ) → has_ended h t ≡ false → (table : ℕ) (key : List Val) → KeyHolds h table key → KeyHolds (ended who t false ∷ h) table key
+key_rolled_back h l who t unended table key k = record {
+  newest = ap row_of same ∙ k.newest;
+  writer = ap (option_map Version.txid) same ∙ k.writer;
+  own = λ u e. ap (λ vs. option_map Version.row (version_of u vs)) gone
+      ∙ ap (option_map Version.row) (version_of-without u t (kept h table key) ∙ ap (λ b. cond b None (version_of u (kept h table key))) (another (u == t) (has_ended h u) e))
+      ∙ k.own u (unended-before (u == t) (has_ended h u) e);
+  only = subst (OnlyLast (has_ended (ended who t false ∷ h))) (sym gone) (only_more (has_ended h) (has_ended (ended who t false ∷ h)) (without t (kept h table key))
+      (λ u e. still-ended (u == t) (has_ended h u) e) (only_without (has_ended h) t (kept h table key) k.only));
+}
+  where
+    gone : kept (ended who t false ∷ h) table key ≡ without t (kept h table key)
+    gone = versions_at-forgotten t key (versions table h) (is_in_order-versions table h)
+
+    none : (b : Bool) (o : Option Version) → b ≡ true → cond b None o ≡ None
+    none true o e = refl
+    none false o e = absurd (cc)
+
+    same : newest_by (has_ended (ended who t false ∷ h)) (kept (ended who t false ∷ h) table key) ≡ newest_by (has_ended h) (kept h table key)
+    same =
+        let mine : (t == t) ≡ true = grind (arith, nat_tests) in
+        ap (newest_by (has_ended (ended who t false ∷ h))) gone
+        ∙ newest_more (has_ended h) (has_ended (ended who t false ∷ h)) t (without t (kept h table key)) (only_without (has_ended h) t (kept h table key) k.only) unended (ended-or h t)
+        ∙ ap (λ o. option_or o (newest_by (has_ended h) (without t (kept h table key)))) (version_of-without t t (kept h table key) ∙ none (t == t) (version_of t (kept h table key)) mine)
+        ∙ newest_without (has_ended h) t (kept h table key) unended
+
+-- what isn't found among all isn't any of them
+pub find-none : (p : ℕ → Bool) (xs : List ℕ) (u : ℕ) → find p xs ≡ None → contains u xs ≡ true → p u ≡ false
+find-none p [] u none there = absurd (cc)
+find-none p (x ∷ xs) u none there = of (p x) refl (u == x) refl none there (find-none p xs u)
+  where
+    of : (a : Bool) → p x ≡ a → (b : Bool) → (u == x) ≡ b → (if a then Some x else find p xs) ≡ None → (b || contains u xs) ≡ true
+        → (find p xs ≡ None → contains u xs ≡ true → p u ≡ false) → p u ≡ false
+    of true pass b same e t ih = absurd (cc)
+    of false fail true same e t ih = (let one : u ≡ x = grind (arith, nat_tests) in ap p one ∙ fail)
+    of false fail false same e t ih = ih e t
+
+-- where no other transaction that hasn't ended has a version, all others' pass
+others-from : (p : ℕ → Bool) (t : ℕ) (vs : List Version) → ((u : ℕ) → p u ≡ false → (t == u) ≡ false → version_of u vs ≡ None) → OthersPass p t vs
+others-from p t [] none = tt
+others-from p t (v ∷ vs) none = (of (t == v.txid) refl (p v.txid) refl, others-from p t vs (λ u unended other. later u (none u unended other)))
+  where
+    of : (b : Bool) → (t == v.txid) ≡ b → (c : Bool) → p v.txid ≡ c → (t ≡ v.txid) ⊎ (p v.txid ≡ true)
+    of true same c e = inl (grind (arith, nat_tests))
+    of false other true e = inr e
+    of false other false e =
+        let itself : (v.txid == v.txid) ≡ true = grind (arith, nat_tests) in
+        let there : (if v.txid == v.txid then Some v else version_of v.txid vs) ≡ None = none v.txid e other in
+        absurd (cc (sym (ap (λ b. if b then Some v else version_of v.txid vs) itself) ∙ there))
+
+    later : (u : ℕ) → (if u == v.txid then Some v else version_of u vs) ≡ None → version_of u vs ≡ None
+    later u e = by (u == v.txid) e
+      where
+        by : (b : Bool) → (if b then Some v else version_of u vs) ≡ None → version_of u vs ≡ None
+        by true e = absurd (cc)
+        by false e = e
+
+-- a transaction that runs is none that has ended or hasn't begun
+pub runs-written : (h : History) → Legal h → (table u : ℕ) (key : List Val) → has_ended h u ≡ false → is_some (last_of key (writes_of table u h)) ≡ true → contains u (running h) ≡ true
+runs-written h l table u key unended wrote_it = (sound h l).runs u ∙ ap (λ b. nat_lt u (next_txid h) && not b) unended ∙ of (nat_lt u (next_txid h)) refl
+  where
+    of : (b : Bool) → nat_lt u (next_txid h) ≡ b → (b && true) ≡ true
+    of true e = refl
+    of false e =
+        let over : next_txid h ≤ u = grind (arith, nat_tests) in
+        absurd (cc (ap (λ ws. is_some (last_of key ws)) (sym (begun h l table u over)) ∙ wrote_it))
+
+module _ (h : History) (l : Legal h) (who t n : ℕ) (at_key : List Val) (old new : Option (List Val)) (mine : own_txid who h ≡ Some t) (free : holder n at_key (Some t) h ≡ None) where
+  abbrev g : History
+  g = tabled (wrote t n at_key old new) ∷ h
+
+  unended : has_ended h t ≡ false
+  unended = own-unended h l who t mine
+
+  -- nobody else that runs has a version of the key
+  unwritten : (k : KeyHolds h n at_key) (u : ℕ) → has_ended h u ≡ false → (t == u) ≡ false → version_of u (kept h n at_key) ≡ None
+  unwritten k u runs_on other = of (version_of u (kept h n at_key)) refl
+    where
+      of : (o : Option Version) → version_of u (kept h n at_key) ≡ o → o ≡ None
+      of None e = refl
+      of (Some v) e =
+          let wrote_it : is_some (last_of at_key (writes_of n u h)) ≡ true = ap is_some (sym (k.own u runs_on)) ∙ ap (λ x. is_some (option_map Version.row x)) e in
+          let fails : (not (t == u) && has_written at_key (writes_of n u h)) ≡ false =
+          find-none (λ x. is_other (Some t) x && has_written at_key (writes_of n x h)) (running h) u free (runs-written h l n u at_key runs_on wrote_it) in
+          absurd (cc (sym fails ∙ ap (λ b. not b && has_written at_key (writes_of n u h)) other ∙ has_written-last_of at_key (writes_of n u h) ∙ wrote_it))
+
+  pub kept-wrote : (table : ℕ) (key : List Val) → kept g table key ≡ (if (n == table) && eq_by_cmp key_cmp key at_key then with_version t new (kept h table key) else kept h table key)
+  kept-wrote table key = of (n == table)
+    where
+      of : (b : Bool) → versions_at key (if b then written t at_key new (versions table h) else versions table h)
+          ≡ (if b && eq_by_cmp key_cmp key at_key then with_version t new (kept h table key) else kept h table key)
+      of true = versions_at-written key t at_key new (versions table h)
+      of false = refl
+
+  last_of-wrote : (table u : ℕ) (key : List Val) → last_of key (writes_of table u g) ≡ (if (n == table && t == u) && eq_by_cmp key_cmp key at_key then Some new else last_of key (writes_of table u h))
+  last_of-wrote table u key = of (n == table && t == u)
+    where
+      of : (b : Bool) → last_of key (if b then writes_of table u h ++ record { key = at_key; row = new } ∷ [] else writes_of table u h)
+          ≡ (if b && eq_by_cmp key_cmp key at_key then Some new else last_of key (writes_of table u h))
+      of true = last_of-push key (writes_of table u h) (record { key = at_key; row = new })
+      of false = refl
+
+  -- a write is in nobody's that has committed
+  same-writes : (table u : ℕ) → contains u (committed h) ≡ true → writes_of table u g ≡ writes_of table u h
+  same-writes table u there = of (n == table) (t == u) refl
+    where
+      of : (b c : Bool) → (t == u) ≡ c → (if b && c then writes_of table u h ++ record { key = at_key; row = new } ∷ [] else writes_of table u h) ≡ writes_of table u h
+      of true true e = (let one : t ≡ u = grind (arith, nat_tests) in absurd (cc (sym unended ∙ ap (has_ended h) one ∙ committed-ended h u there)))
+      of true false e = refl
+      of false c e = refl
+
+  own-wrote : (table : ℕ) (key : List Val) → KeyHolds h table key → (u : ℕ) → has_ended h u ≡ false
+      → option_map Version.row (version_of u (kept g table key)) ≡ last_of key (writes_of table u g)
+  own-wrote table key k u runs_on =
+      ap (λ vs. option_map Version.row (version_of u vs)) (kept-wrote table key)
+      ∙ of (n == table) (eq_by_cmp key_cmp key at_key) (t == u) refl
+      ∙ sym (last_of-wrote table u key)
+    where
+      of : (b c d : Bool) → (t == u) ≡ d → option_map Version.row (version_of u (if b && c then with_version t new (kept h table key) else kept h table key))
+          ≡ (if (b && d) && c then Some new else last_of key (writes_of table u h))
+      of true true true e =
+          let same : (u == t) ≡ true = grind (arith, nat_tests) in
+          ap (option_map Version.row) (version_of-with u t new (kept h table key) ∙ ap (λ x. cond x (Some (left t new)) (version_of u (kept h table key))) same)
+      of true true false e =
+          let other : (u == t) ≡ false = grind (arith, nat_tests) in
+          ap (option_map Version.row) (version_of-with u t new (kept h table key) ∙ ap (λ x. cond x (Some (left t new)) (version_of u (kept h table key))) other) ∙ k.own u runs_on
+      of true false true e = k.own u runs_on
+      of true false false e = k.own u runs_on
+      of false c d e = k.own u runs_on
+
+  newest-wrote : (table : ℕ) (key : List Val) → newest_by (has_ended h) (kept g table key) ≡ newest_by (has_ended h) (kept h table key)
+  newest-wrote table key = ap (newest_by (has_ended h)) (kept-wrote table key) ∙ of ((n == table) && eq_by_cmp key_cmp key at_key)
+    where
+      of : (b : Bool) → newest_by (has_ended h) (if b then with_version t new (kept h table key) else kept h table key) ≡ newest_by (has_ended h) (kept h table key)
+      of true = newest_with (has_ended h) t new (kept h table key) unended
+      of false = refl
+
+  only-wrote : (table : ℕ) (key : List Val) → KeyHolds h table key → OnlyLast (has_ended h) (kept g table key)
+  only-wrote table key k = subst (OnlyLast (has_ended h)) (sym (kept-wrote table key)) (of (n == table) refl (eq_by_cmp key_cmp key at_key) refl)
+    where
+      of : (b : Bool) → (n == table) ≡ b → (c : Bool) → eq_by_cmp key_cmp key at_key ≡ c
+          → OnlyLast (has_ended h) (if b && c then with_version t new (kept h table key) else kept h table key)
+      of true same true tie =
+          let table_is : n ≡ table = grind (arith, nat_tests) in
+          let here : KeyHolds h n at_key = subst (λ m. KeyHolds h m at_key) (sym table_is) (subst (KeyHolds h table) (key_ties-is key at_key tie) k) in
+          let others : OthersPass (has_ended h) t (kept h n at_key) = others-from (has_ended h) t (kept h n at_key) (unwritten here) in
+          only_with (has_ended h) t new (kept h table key)
+          (subst (λ m. OthersPass (has_ended h) t (kept h m key)) table_is (subst (λ x. OthersPass (has_ended h) t (kept h n x)) (sym (key_ties-is key at_key tie)) others)) k.only
+      of true same false tie = k.only
+      of false same c tie = k.only
+
+  pub key_written : (table : ℕ) (key : List Val) → KeyHolds h table key → KeyHolds g table key
+  key_written table key k = record {
+    newest = ap row_of (newest-wrote table key) ∙ k.newest
+        ∙ sym (ap (at key) (in_turn-same (λ u. writes_of table u g) (λ u. writes_of table u h) (committed h) [] (same-writes table)));
+    writer = ap (option_map Version.txid) (newest-wrote table key) ∙ k.writer
+        ∙ sym (last_writer-same key (λ u. writes_of table u g) (λ u. writes_of table u h) (committed h) (same-writes table));
+    own = own-wrote table key k;
+    only = only-wrote table key k;
+  }
+
+key_step : (h : History) (mark : Mark) → Fine h mark → Legal h → (table : ℕ) (key : List Val) → KeyHolds h table key → KeyHolds (mark ∷ h) table key
+key_step h _ (ends who t true e) l table key k = key_committed h l who t (own-unended h l who t e) table key k
+key_step h _ (ends who t false e) l table key k = key_rolled_back h l who t (own-unended h l who t e) table key k
+key_step h _ (writes who t n at_key old new e free) l table key k = key_written h l who t n at_key old new e free table key k
+key_step h _ (begins who e) l table key k = record { newest = k.newest; writer = k.writer; own = k.own; only = k.only }
+key_step h _ (begins_block who e) l table key k = record { newest = k.newest; writer = k.writer; own = k.own; only = k.only }
+key_step h _ (fails_block who e f) l table key k = record { newest = k.newest; writer = k.writer; own = k.own; only = k.only }
+key_step h _ (ends_block who e) l table key k = record { newest = k.newest; writer = k.writer; own = k.own; only = k.only }
+key_step h _ (repeats_block who) l table key k = record { newest = k.newest; writer = k.writer; own = k.own; only = k.only }
+key_step h _ (looks who) l table key k = record { newest = k.newest; writer = k.writer; own = k.own; only = k.only }
+key_step h _ (makes_table name columns e) l table key k = record { newest = k.newest; writer = k.writer; own = k.own; only = k.only }
+key_step h _ (makes name e) l table key k = record { newest = k.newest; writer = k.writer; own = k.own; only = k.only }
+key_step h _ (raises q v i le) l table key k = record { newest = k.newest; writer = k.writer; own = k.own; only = k.only }
+key_step h _ (puts who q e i n o) l table key k = record { newest = k.newest; writer = k.writer; own = k.own; only = k.only }
+key_step h _ (ticks_next q id time seq i le) l table key k = record { newest = k.newest; writer = k.writer; own = k.own; only = k.only }
+key_step h _ (registers q name sub tick i e f le) l table key k = record { newest = k.newest; writer = k.writer; own = k.own; only = k.only }
+key_step h _ (opens batch e) l table key k = record { newest = k.newest; writer = k.writer; own = k.own; only = k.only }
+key_step h _ (closes batch e) l table key k = record { newest = k.newest; writer = k.writer; own = k.own; only = k.only }
+
+pub key_holds : (h : History) → Legal h → (table : ℕ) (key : List Val) → KeyHolds h table key
+key_holds _ start table key = record { newest = refl; writer = refl; own = λ t e. refl; only = tt }
+key_holds _ (next {h = h} {mark = mark} l fine) table key = key_step h mark fine l table key (key_holds h l table key)

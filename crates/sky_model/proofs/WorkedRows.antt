@@ -1,0 +1,24 @@
+-- Worked scripts of tables and rows, from their bytes to their printed bytes, by computation.
+use Rattle.std.proofs.Common.{ℕ, List, [], ◌∷◌, ◌++◌, refl, codes}
+use Rattle.std.specs.Str.{is_utf8, chars}
+use lib.Utf8.{encode}
+use Rattle.std.specs.Fmt.{digits}
+use Rattle.sky_model.proofs.WorkedScripts.{Prints}
+
+abbrev beginning : List (List ℕ)
+beginning = codes "a: open d" ∷ codes "a: create table t id:int:key n:int" ∷ codes "a: insert t 1 0" ∷ codes "b: open d" ∷ []
+
+abbrev beginning_printed : List (List ℕ)
+beginning_printed = codes "a: ok" ∷ codes "a: ok" ∷ codes "a: 1" ∷ codes "b: ok" ∷ []
+
+-- a repeatable read block reads at its first statement, and changes no row that was changed since
+repeatable_read : Prints (beginning ++ codes "b: begin repeatable read" ∷ codes "b: get t 1" ∷ codes "a: update t 1 set n=1" ∷ codes "b: get t 1" ∷ codes "b: update t 1 set n+=10" ∷ codes "b: rollback" ∷ codes "a: begin" ∷ codes "a: update t 1 set n=2" ∷ codes "b: update t 1 set n=3" ∷ [])
+    (beginning_printed ++ codes "b: BEGIN" ∷ codes "b: row 1 0" ∷ codes "a: 1" ∷ codes "b: row 1 0" ∷ codes "b: error Serialize 4" ∷ codes "b: ROLLBACK" ∷ codes "a: BEGIN" ∷ codes "a: 1" ∷ codes "b: error KeyBusy 5" ∷ [])
+unfolding is_utf8 chars encode digits
+repeatable_read = record { transcript_is = refl; none_bad = refl }
+
+-- a transaction sees its own writes, and a rollback undoes them; a key that was deleted since may be written anew
+own_writes : Prints (beginning ++ codes "a: begin" ∷ codes "a: delete t 1" ∷ codes "a: insert t 1 7" ∷ codes "a: update t 1 set n+=1" ∷ codes "a: get t 1" ∷ codes "a: insert t 1 9" ∷ codes "a: rollback" ∷ codes "b: begin repeatable read" ∷ codes "b: get t 1" ∷ codes "a: insert t 5 0" ∷ codes "a: delete t 5" ∷ codes "b: insert t 5 1" ∷ codes "b: update t 5 set n+=1" ∷ codes "b: get t 5" ∷ [])
+    (beginning_printed ++ codes "a: BEGIN" ∷ codes "a: 1" ∷ codes "a: 1" ∷ codes "a: 1" ∷ codes "a: row 1 8" ∷ codes "a: error Duplicate" ∷ codes "a: ROLLBACK" ∷ codes "b: BEGIN" ∷ codes "b: row 1 0" ∷ codes "a: 1" ∷ codes "a: 1" ∷ codes "b: 1" ∷ codes "b: 1" ∷ codes "b: row 5 2" ∷ [])
+unfolding is_utf8 chars encode digits
+own_writes = record { transcript_is = refl; none_bad = refl }

@@ -1,0 +1,105 @@
+//! The statement forms on queues: of each, what follows its first word.
+
+ghost use Rattle.std.specs.Prelude.{◌-◌, ◌^◌};
+ghost use Rattle.sky_model.specs.Kinds.{Name, Dotted, Number};
+ghost use Rattle.sky_model.specs.Grammar.{one, last};
+ghost use Rattle.sky_model.specs.Grammar as grammar;
+ghost use Rattle.sky_script.specs.Reading.{Answers};
+
+use crate::cause::LineCause;
+use crate::words::Words;
+use sky_model::{Extra, Stmt};
+use std::alloc::Global;
+
+pub(crate) fn create_queue(alloc: Global, words: &mut Words) -> Result<Stmt, LineCause>
+    ensures { Answers result (last Name (λ queue. Stmt.CreateQueue queue)) words.old }
+{
+    let queue = words.name(alloc)?;
+    words.end()?;
+    Ok(Stmt::CreateQueue { queue })
+}
+
+pub(crate) fn insert_event(alloc: Global, words: &mut Words) -> Result<Stmt, LineCause>
+    ensures { Answers result grammar.insert_event words.old }
+{
+    let queue = words.name(alloc)?;
+    let ev_type = words.opt_text(alloc)?;
+    let ev_data = words.opt_text(alloc)?;
+    if words.at_end() {
+        return Ok(Stmt::InsertEvent {
+            queue,
+            ev_type,
+            ev_data,
+            extra: None,
+        });
+    }
+    let ev_extra1 = words.opt_text(alloc)?;
+    let ev_extra2 = words.opt_text(alloc)?;
+    let ev_extra3 = words.opt_text(alloc)?;
+    let ev_extra4 = words.opt_text(alloc)?;
+    words.end()?;
+    let extra = Some(Extra {
+        ev_extra1,
+        ev_extra2,
+        ev_extra3,
+        ev_extra4,
+    });
+    Ok(Stmt::InsertEvent {
+        queue,
+        ev_type,
+        ev_data,
+        extra,
+    })
+}
+
+pub(crate) fn ticker(alloc: Global, words: &mut Words) -> Result<Stmt, LineCause>
+    ensures { Answers result (last Name (λ queue. Stmt.Ticker queue)) words.old }
+{
+    let queue = words.name(alloc)?;
+    words.end()?;
+    Ok(Stmt::Ticker { queue })
+}
+
+pub(crate) fn force_tick(alloc: Global, words: &mut Words) -> Result<Stmt, LineCause>
+    ensures { Answers result (last Name (λ queue. Stmt.ForceTick queue)) words.old }
+{
+    let queue = words.name(alloc)?;
+    words.end()?;
+    Ok(Stmt::ForceTick { queue })
+}
+
+pub(crate) fn register_consumer(alloc: Global, words: &mut Words) -> Result<Stmt, LineCause>
+    ensures { let row = one Name (λ queue. last Dotted (λ consumer. Stmt.RegisterConsumer queue consumer)) in
+        Answers result row words.old }
+{
+    let queue = words.name(alloc)?;
+    let consumer = words.dotted(alloc)?;
+    words.end()?;
+    Ok(Stmt::RegisterConsumer { queue, consumer })
+}
+
+pub(crate) fn next_batch(alloc: Global, words: &mut Words) -> Result<Stmt, LineCause>
+    ensures { let row = one Name (λ queue. last Dotted (λ consumer. Stmt.NextBatch queue consumer)) in
+        Answers result row words.old }
+{
+    let queue = words.name(alloc)?;
+    let consumer = words.dotted(alloc)?;
+    words.end()?;
+    Ok(Stmt::NextBatch { queue, consumer })
+}
+
+pub(crate) fn get_batch_events(words: &mut Words) -> Result<Stmt, LineCause>
+    ensures { Answers result (last (Number (2 ^ 64 - 1)) (λ batch. Stmt.GetBatchEvents batch)) words.old }
+{
+    let batch = words.number(u64::MAX)?;
+    words.end()?;
+    Ok(Stmt::GetBatchEvents { batch })
+}
+
+pub(crate) fn finish_batch(words: &mut Words) -> Result<Stmt, LineCause>
+    ensures { Answers result (last (Number (2 ^ 64 - 1)) (λ batch. Stmt.FinishBatch batch)) words.old }
+{
+    let batch = words.number(u64::MAX)?;
+    words.end()?;
+    Ok(Stmt::FinishBatch { batch })
+}

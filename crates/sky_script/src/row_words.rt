@@ -1,0 +1,129 @@
+//! The tests of the words of tables and rows.
+
+ghost use Rattle.std.specs.Prelude.{◌≡◌, ◌^◌, ◌≤◌, Some, MatchResult};
+ghost use Rattle.sky_model.specs.Kinds as kinds;
+
+use crate::cause::LineCause;
+use crate::kinds::{first_place, is_name, number_of, plain_text, quoted_text};
+use sky_model::{Change, Set};
+use sky_val::{ColKind, Column, Val};
+use std::alloc::Global;
+
+/// How far below zero a number may be.
+const FARTHEST_BELOW: u64 = 1 << 63;
+
+/// The number that is so far below zero, if there is one.
+fn below_zero(distance: u64) -> Option<i64>
+    requires { distance ≤ 2 ^ 63 }
+    ensures { result ≡ kinds.below_zero distance }
+{
+    if distance == 0 {
+        return None;
+    }
+    Some(-((distance - 1) as i64) - 1)
+}
+
+/// The number that a word writes, with its sign.
+fn int_of(word: &[u8]) -> Option<i64>
+    ensures { result ≡ kinds.int_of word.now }
+{
+    match word.split_first() {
+        Some((b'-', digits)) => below_zero(number_of(digits, FARTHEST_BELOW)?),
+        _ => Some(number_of(word, FARTHEST_BELOW - 1)? as i64),
+    }
+}
+
+/// The value that a word writes.
+pub(crate) fn value_of(alloc: Global, word: &[u8]) -> Result<Option<Val>, LineCause>
+    ensures { MatchResult result (λ value. value ≡ kinds.value_of word.now) (λ cause. cause ≡ LineCause.NoMemory) }
+{
+    if word == b"null".as_slice() {
+        return Ok(Some(Val::Null));
+    }
+    if let Some(number) = int_of(word) {
+        return Ok(Some(Val::Int(number)));
+    }
+    match quoted_text(alloc, word)? {
+        Some(text) => Ok(Some(Val::Text(text))),
+        None => Ok(None),
+    }
+}
+
+/// A column's kind and whether it is part of the key, by what stands behind its name's colon.
+fn column_kind(word: &[u8]) -> Option<(ColKind, bool)>
+    ensures { result ≡ kinds.column_kind word.now }
+{
+    if word == b"int".as_slice() {
+        return Some((ColKind::Int, false));
+    }
+    if word == b"int:key".as_slice() {
+        return Some((ColKind::Int, true));
+    }
+    if word == b"text".as_slice() {
+        return Some((ColKind::Text, false));
+    }
+    if word == b"text:key".as_slice() {
+        return Some((ColKind::Text, true));
+    }
+    None
+}
+
+/// The column that a word describes.
+pub(crate) fn column_of(alloc: Global, word: &[u8]) -> Result<Option<Column>, LineCause>
+    ensures { MatchResult result (λ column. column ≡ kinds.column_of word.now) (λ cause. cause ≡ LineCause.NoMemory) }
+{
+    match first_place(b':', word) {
+        Some(colon) => column_as(alloc, &word[..colon], column_kind(&word[colon + 1..])),
+        None => Ok(None),
+    }
+}
+
+/// The column of this name, if it is a name.
+fn column_as(
+    alloc: Global,
+    name: &[u8],
+    kind: Option<(ColKind, bool)>,
+) -> Result<Option<Column>, LineCause>
+    ensures { MatchResult result (λ column. column ≡ kinds.column_as name.now kind) (λ cause. cause ≡ LineCause.NoMemory) }
+{
+    match kind {
+        Some((kind, key)) if is_name(name) => {
+            let name = plain_text(alloc, name)?;
+            Ok(Some(Column { name, kind, key }))
+        }
+        _ => Ok(None),
+    }
+}
+
+/// The change of a column that a word describes.
+pub(crate) fn set_of(alloc: Global, word: &[u8]) -> Result<Option<Set>, LineCause>
+    ensures { MatchResult result (λ set. set ≡ kinds.set_of word.now) (λ cause. cause ≡ LineCause.NoMemory) }
+{
+    match first_place(b'=', word) {
+        Some(at) => set_by(alloc, &word[..at], &word[at + 1..]),
+        None => Ok(None),
+    }
+}
+
+/// The change by what stands before the first `=` and behind it.
+fn set_by(alloc: Global, front: &[u8], back: &[u8]) -> Result<Option<Set>, LineCause>
+    ensures { MatchResult result (λ set. set ≡ kinds.set_by front.now back.now) (λ cause. cause ≡ LineCause.NoMemory) }
+{
+    match front.strip_suffix(b"+") {
+        Some(name) => set_as(alloc, name, int_of(back).map(Change::Add)),
+        None => set_as(alloc, front, value_of(alloc, back)?.map(Change::To)),
+    }
+}
+
+/// The change of the column of this name, if it is a name.
+fn set_as(alloc: Global, name: &[u8], change: Option<Change>) -> Result<Option<Set>, LineCause>
+    ensures { MatchResult result (λ set. set ≡ kinds.set_as name.now change) (λ cause. cause ≡ LineCause.NoMemory) }
+{
+    match change {
+        Some(change) if is_name(name) => {
+            let column = plain_text(alloc, name)?;
+            Ok(Some(Set { column, change }))
+        }
+        _ => Ok(None),
+    }
+}

@@ -1,0 +1,9 @@
+pub mod SessionLists
+pub mod Owning
+pub mod Steps
+pub mod ValueLemmas
+pub mod SetLemmas
+pub mod FaultLemmas
+pub mod WrittenLemmas
+pub mod ScanLemmas
+pub mod Empty

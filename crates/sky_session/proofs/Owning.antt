@@ -1,0 +1,76 @@
+-- What sessions own stays so, mark by mark.
+use Rattle.std.proofs.Common.{◌≡◌, ℕ, List, [], ◌∷◌, ◌++◌, Bool, true, false, not, ◌||◌, ◌&&◌, ◌==◌, filter, Some, None, unwrap_or, refl, sym, ◌∙◌, ap, subst, arith, if◌then◌else◌}
+use Rattle.std.proofs.lemmas.Bool.Decides.{nat_tests}
+use Rattle.sky_txid.specs.Ids.{contains}
+use Rattle.sky_txid.proofs.Rising.{contains-push, contains-without}
+use Rattle.sky_model.specs.Sessions.{Session}
+use Rattle.sky_model.specs.State.{changed_at, with_txid}
+use Rattle.sky_session.specs.Owned.{AreOwned}
+
+some-is : (m n : ℕ) → Some m ≡ Some n → m ≡ n
+some-is m n e = ap (λ o. unwrap_or o m) e
+
+-- a session whose id stays
+pub owned-change : (old new : ℕ → Session) (running : List ℕ) (who : ℕ) (f : Session → Session) → new ≡ changed_at who f old
+    → ((s : Session) → (f s).txid ≡ s.txid) → AreOwned old running → AreOwned new running
+owned-change old new running who f is same owned = subst (λ s. AreOwned s running) (sym is) (record {
+  runs = λ n t e. owned.runs n t (sym (id n (who == n)) ∙ e);
+  once = λ v w t ev ew. owned.once v w t (sym (id v (who == v)) ∙ ev) (sym (id w (who == w)) ∙ ew);
+})
+  where
+    id : (n : ℕ) (b : Bool) → (if b then f (old n) else old n).txid ≡ (old n).txid
+    id n true = same (old n)
+    id n false = refl
+
+-- a new id is its session's
+pub owned-begin : (old new : ℕ → Session) (before after : List ℕ) (who t : ℕ) → new ≡ changed_at who (with_txid (Some t)) old → after ≡ before ++ t ∷ [] → contains t before ≡ false
+    → AreOwned old before → AreOwned new after
+owned-begin old new before after who t is more fresh owned = subst (λ s. AreOwned s after) (sym is) (subst (AreOwned (changed_at who (with_txid (Some t)) old)) (sym more) (record {
+  runs = λ n u e. runs n u (who == n) e;
+  once = λ v w u ev ew. once v w u (who == v) (who == w) refl refl ev ew;
+}))
+  where
+    runs : (n u : ℕ) (b : Bool) → (if b then with_txid (Some t) (old n) else old n).txid ≡ Some u → contains u (before ++ t ∷ []) ≡ true
+    runs n u true e = let one : t ≡ u = some-is t u e in contains-push u t before ∙ grind (arith, nat_tests)
+    runs n u false e = contains-push u t before ∙ ap (λ b. b || u == t) (owned.runs n u e)
+
+    once : (v w u : ℕ) (b c : Bool) → (who == v) ≡ b → (who == w) ≡ c → (if b then with_txid (Some t) (old v) else old v).txid ≡ Some u → (if c then with_txid (Some t) (old w) else old w).txid ≡ Some u → v ≡ w
+    once v w u true true isv isw ev ew = grind (arith, nat_tests)
+    once v w u true false isv isw ev ew = let one : t ≡ u = some-is t u ev in let run : contains u before ≡ true = owned.runs w u ew in let not_run : contains u before ≡ false = subst (λ m. contains m before ≡ false) one fresh in absurd (cc)
+    once v w u false true isv isw ev ew = let one : t ≡ u = some-is t u ew in let run : contains u before ≡ true = owned.runs v u ev in let not_run : contains u before ≡ false = subst (λ m. contains m before ≡ false) one fresh in absurd (cc)
+    once v w u false false isv isw ev ew = owned.once v w u ev ew
+
+-- an id that has ended is no session's
+pub owned-end : (old new : ℕ → Session) (before after : List ℕ) (who t : ℕ) → new ≡ changed_at who (with_txid None) old → after ≡ filter (λ u. not (u == t)) before → (old who).txid ≡ Some t
+    → AreOwned old before → AreOwned new after
+owned-end old new before after who t is less own owned = subst (λ s. AreOwned s after) (sym is) (subst (AreOwned (changed_at who (with_txid None) old)) (sym less) (record {
+  runs = λ n u e. runs n u (who == n) refl e;
+  once = λ v w u ev ew. once v w u (who == v) (who == w) ev ew;
+}))
+  where
+    other : (n u : ℕ) → (who == n) ≡ false → (old n).txid ≡ Some u → (b : Bool) → (u == t) ≡ b → (true && not b) ≡ true
+    other n u apart e true same =
+        let one : u ≡ t = grind (arith, nat_tests) in
+        let same_session : n ≡ who = owned.once n who t (e ∙ ap Some one) own in
+        absurd (grind (arith, nat_tests))
+    other n u apart e false same = refl
+
+    runs : (n u : ℕ) (b : Bool) → (who == n) ≡ b → (if b then with_txid None (old n) else old n).txid ≡ Some u → contains u (filter (λ m. not (m == t)) before) ≡ true
+    runs n u true apart e = absurd (cc)
+    runs n u false apart e = contains-without u t before ∙ ap (λ b. b && not (u == t)) (owned.runs n u e) ∙ other n u apart e (u == t) refl
+
+    once : (v w u : ℕ) (b c : Bool) → (if b then with_txid None (old v) else old v).txid ≡ Some u → (if c then with_txid None (old w) else old w).txid ≡ Some u → v ≡ w
+    once v w u true c ev ew = absurd (cc)
+    once v w u false true ev ew = absurd (cc)
+    once v w u false false ev ew = owned.once v w u ev ew
+
+-- nothing has changed
+pub owned-kept : (old new : ℕ → Session) (running : List ℕ) → new ≡ old → AreOwned old running → AreOwned new running
+owned-kept old new running is owned = subst (λ s. AreOwned s running) (sym is) owned
+
+-- one more runs, which is no session's
+pub owned-more : (old new : ℕ → Session) (before after : List ℕ) (t : ℕ) → new ≡ old → after ≡ before ++ t ∷ [] → AreOwned old before → AreOwned new after
+owned-more old new before after t is more owned = subst (λ s. AreOwned s after) (sym is) (subst (AreOwned old) (sym more) (record {
+  runs = λ who u e. contains-push u t before ∙ ap (λ b. b || u == t) (owned.runs who u e);
+  once = owned.once;
+}))

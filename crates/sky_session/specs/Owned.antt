@@ -1,0 +1,9 @@
+-- What the sessions of a database own.
+use Rattle.std.specs.Prelude.{◌≡◌, ℕ, List, true, Some}
+use Rattle.sky_txid.specs.Ids.{contains}
+use Rattle.sky_model.specs.Sessions.{Session}
+
+-- the transaction of each session runs, and is no other session's
+pub record AreOwned (session : ℕ → Session) (running : List ℕ) : Type 0 where
+  pub runs : (who t : ℕ) → (session who).txid ≡ Some t → contains t running ≡ true
+  pub once : (v w t : ℕ) → (session v).txid ≡ Some t → (session w).txid ≡ Some t → v ≡ w

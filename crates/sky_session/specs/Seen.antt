@@ -1,0 +1,60 @@
+-- The readings of the definitions, in what the code keeps.
+use Rattle.std.specs.Prelude.{ℕ, List, [], None, slice_index_or}
+use Rattle.sky_val.specs.declared.column.Column.{Column}
+use Rattle.sky_val.specs.Entries.{Entries}
+use Rattle.sky_txid.specs.declared.version.Version.{Version}
+use Rattle.sky_txid.specs.Snapshot.{SnapshotView}
+use Rattle.sky_rows.specs.Table.{TableView}
+use Rattle.sky_model.specs.Sessions as model
+use Rattle.sky_model.specs.State.{RowPart}
+use Rattle.sky_session.specs.declared.block.Block.{Block}
+use Rattle.sky_session.specs.declared.block.Block.TheVariants.{Outside, Inside, Failed}
+use Rattle.sky_session.specs.declared.session.Sight.{Sight}
+use Rattle.sky_session.specs.declared.session.Sight.TheVariants.{AtEach, AtFirst, AtPlace}
+use Rattle.sky_session.specs.declared.session.Session.{Session}
+use Rattle.sky_session.specs.Views.{RowDbView}
+
+abbrev pub seen_block : Block → model.Block
+seen_block Outside = model.outside
+seen_block Inside = model.inside
+seen_block Failed = model.failed
+
+abbrev pub seen_sight : Sight → model.Sight SnapshotView
+seen_sight AtEach = model.at_each
+seen_sight AtFirst = model.at_first
+seen_sight (AtPlace snapshot) = model.at_place snapshot
+
+abbrev pub seen_session : Session → model.Session
+seen_session s = record { block = seen_block s.block; txid = s.txid; sight = seen_sight s.sight }
+
+-- a session that is in no transaction
+abbrev pub rest : Session
+rest = record { block = Outside; txid = None; sight = AtEach }
+
+-- the sessions, by number
+abbrev pub session_of : List Session → ℕ → model.Session
+session_of sessions who = seen_session (slice_index_or sessions who rest)
+
+-- a table that isn't made
+abbrev pub no_table : TableView
+no_table = record { columns = []; versions = [] }
+
+-- the tables, by number
+abbrev pub table_of : List TableView → ℕ → TableView
+table_of tables n = slice_index_or tables n no_table
+
+abbrev pub columns_of : List TableView → ℕ → List Column
+columns_of tables n = (table_of tables n).columns
+
+abbrev pub versions_of : List TableView → ℕ → Entries (List Version)
+versions_of tables n = (table_of tables n).versions
+
+abbrev pub seen : RowDbView → RowPart
+seen d = record {
+  next = d.trans.next;
+  running_ids = d.trans.running;
+  session = session_of d.sessions;
+  tables = d.names;
+  columns = columns_of d.tables;
+  versions = versions_of d.tables;
+}

@@ -1,0 +1,17 @@
+-- What contracts see of the transactions, sessions and tables of a database, as the code keeps them.
+use Rattle.std.specs.Prelude.{ℕ, List, []}
+use Rattle.sky_trans.specs.Trans.{TransView}
+use Rattle.sky_rows.specs.Table.{TableView}
+use Rattle.sky_session.specs.declared.session.Session.{Session}
+
+pub record RowDbView : Type 0 where
+  pub trans : TransView
+  -- each session at its number; further ones are at rest
+  pub sessions : List Session
+  -- the names of the tables, and the tables, each at its number
+  pub names : List (List ℕ)
+  pub tables : List TableView
+
+-- those of a database in which nothing has happened
+abbrev pub no_rows : RowDbView
+no_rows = record { trans = record { next = 3; running = [] }; sessions = []; names = []; tables = [] }

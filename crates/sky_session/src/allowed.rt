@@ -1,0 +1,40 @@
+ghost use Rattle.std.specs.Prelude.{◌≡◌, Result, Ok, Err, true, IfErr, OnOk};
+ghost use Rattle.sky_model.specs.Allowed as spec;
+ghost use Rattle.sky_session.specs.Seen.{seen_block};
+
+use crate::block::Block;
+use sky_model::{Refusal, RowStmt, Where};
+
+/// Where a statement may stand.
+pub fn where_of(stmt: &RowStmt) -> Where
+    ensures { result ≡ spec.where_of_row stmt.now }
+{
+    match stmt {
+        RowStmt::OpenDb { .. } | RowStmt::Cancel => Where::Anywhere,
+        RowStmt::Close | RowStmt::Commit | RowStmt::Rollback => Where::WhenOpen,
+        RowStmt::Begin | RowStmt::BeginRepeatableRead => Where::WhenSound,
+        RowStmt::TxidCurrent
+        | RowStmt::TxidCurrentSnapshot
+        | RowStmt::TxidVisibleInSnapshot { .. }
+        | RowStmt::Insert { .. }
+        | RowStmt::Update { .. }
+        | RowStmt::Delete { .. }
+        | RowStmt::Get { .. }
+        | RowStmt::Scan { .. } => Where::WhenReading,
+        RowStmt::CreateTable { .. } => Where::WhenOutside,
+    }
+}
+
+/// Refuses a statement that may not stand in the block of its session.
+pub fn allow(block: Block, place: Where) -> Result<(), Refusal>
+    ensures ok { OnOk result (spec.allowed (seen_block block) place ≡ Ok tt) }
+    ensures err { IfErr result (λ refusal. spec.allowed (seen_block block) place ≡ Err refusal) }
+{
+    match (block, place) {
+        (Block::Inside, Where::WhenOutside) => Err(Refusal::InTransaction),
+        (Block::Failed, Where::WhenSound | Where::WhenReading | Where::WhenOutside) => {
+            Err(Refusal::Aborted)
+        }
+        _ => Ok(()),
+    }
+}

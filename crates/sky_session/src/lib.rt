@@ -1,0 +1,27 @@
+//! The transactions, sessions, tables and rows of one database.
+//!
+//! `RowDb::step` runs a statement on them, of one session. It answers with the replies and with the effects on
+//! rows and transactions, for those that follow the database. What a contract sees of a `RowDb` is read by `seen` as
+//! the definitions' part of a database. Statements on queues run elsewhere: they come in by `enter`, take their
+//! transaction's id by `take_txid`, and leave by `end_single` or `fail`. Nothing here knows a queue, a name of a
+//! session, or a byte of a script.
+#![tactic(auto)]
+
+mod allowed;
+mod answer;
+mod block;
+mod effect;
+mod key_shown;
+mod marks;
+mod own_transaction;
+mod row_db;
+mod row_statements;
+mod session;
+mod sessions;
+mod statements;
+mod stop;
+mod values;
+
+pub use answer::RowStep;
+pub use effect::{Effect, Effects};
+pub use row_db::RowDb;

@@ -1,0 +1,130 @@
+//! What can happen in a database, each mark by a method of its own. After want of memory the state isn't said.
+
+ghost use Rattle.std.specs.Prelude.{◌≡◌, ◌+◌, ◌-◌, ◌<◌, ◌^◌, true, false, None, Some, IfOk, OnOk, length};
+ghost use Rattle.sky_names.specs.Places.{place_of};
+ghost use Rattle.sky_model.specs.History.{began, ended, block_begun, repeats, looked, block_failed, block_ended, tabled, table_made, wrote};
+ghost use Rattle.sky_model.specs.State.{after_part};
+ghost use Rattle.sky_txid.specs.Versions.{forgotten};
+ghost use Rattle.sky_session.specs.Seen.{seen, columns_of, versions_of};
+
+use crate::block::Block;
+use crate::row_db::RowDb;
+use crate::session::Sight;
+use sky_rows::Table;
+use sky_trans::TransFault;
+use sky_val::{Key, NoMemory, Row, Schema, SessionId, Text};
+use std::alloc::AllocError;
+
+impl RowDb {
+    /// The session's transaction gets the next id.
+    pub(crate) fn began(&mut self, who: SessionId) -> Result<u64, NoMemory>
+        requires { (seen self.old).next < 2 ^ 62 }
+        ensures id { IfOk result (λ txid. txid ≡ (seen self.old).next) }
+        ensures mark { IfOk result (λ txid. seen self.new ≡ after_part (seen self.old) (began who txid)) }
+    {
+        let txid = match self.trans.assign() {
+            Ok(txid) => txid,
+            Err(TransFault::NoMemory) => return Err(AllocError),
+            Err(TransFault::TxidsSpent) => unreachable!(),
+        };
+        self.sessions.set_txid(who, Some(txid))?;
+        Ok(txid)
+    }
+
+    /// The session's transaction commits.
+    pub(crate) fn committed(&mut self, who: SessionId, txid: u64)
+        requires { ((seen self.old).session who).txid ≡ Some txid }
+        ensures { seen self.new ≡ after_part (seen self.old) (ended who txid true) }
+    {
+        self.sessions.end_txid(who);
+        self.trans.commit(txid);
+    }
+
+    /// The session's transaction is rolled back.
+    pub(crate) fn aborted(&mut self, who: SessionId, txid: u64)
+        requires { ((seen self.old).session who).txid ≡ Some txid }
+        ensures { seen self.new ≡ after_part (seen self.old) (ended who txid false) }
+    {
+        self.sessions.end_txid(who);
+        self.trans.abort(txid);
+        forget_all(&mut self.tables, txid);
+    }
+
+    /// The session begins a block.
+    pub(crate) fn block_begun(&mut self, who: SessionId) -> Result<(), NoMemory>
+        ensures { OnOk result (seen self.new ≡ after_part (seen self.old) (block_begun who)) }
+    {
+        self.sessions.set_block(who, Block::Inside)?;
+        Ok(())
+    }
+
+    /// Its block is to read at one place.
+    pub(crate) fn repeats(&mut self, who: SessionId) -> Result<(), NoMemory>
+        ensures { OnOk result (seen self.new ≡ after_part (seen self.old) (repeats who)) }
+    {
+        self.sessions.set_sight(who, Sight::AtFirst)?;
+        Ok(())
+    }
+
+    /// The place at which it reads is here.
+    pub(crate) fn looked(&mut self, who: SessionId) -> Result<(), NoMemory>
+        ensures { OnOk result (seen self.new ≡ after_part (seen self.old) (looked who)) }
+    {
+        let snapshot = self.trans.snapshot()?;
+        self.sessions.set_sight(who, Sight::AtPlace(snapshot))?;
+        Ok(())
+    }
+
+    /// A refusal aborted its block.
+    pub(crate) fn block_failed(&mut self, who: SessionId) -> Result<(), NoMemory>
+        ensures { OnOk result (seen self.new ≡ after_part (seen self.old) (block_failed who)) }
+    {
+        self.sessions.fail(who)?;
+        Ok(())
+    }
+
+    /// Its block is over.
+    pub(crate) fn block_ended(&mut self, who: SessionId)
+        ensures { seen self.new ≡ after_part (seen self.old) (block_ended who) }
+    {
+        self.sessions.leave(who);
+    }
+
+    /// A table was made.
+    pub(crate) fn table_made(&mut self, name: Text, schema: Schema) -> Result<(), NoMemory>
+        requires new { place_of name (seen self.old).tables ≡ None }
+        requires room { length (seen self.old).tables < 2 ^ 32 - 1 }
+        ensures { OnOk result (seen self.new ≡ after_part (seen self.old) (tabled (table_made name schema))) }
+    {
+        self.tables.reserve(1)?;
+        self.names.add(name)?;
+        self.tables.push_reserved(Table::new(self.alloc, schema));
+        Ok(())
+    }
+
+    /// A transaction wrote a key of a table. The row that it had is no part of what is kept, so here it is none.
+    pub(crate) fn wrote(
+        &mut self,
+        txid: u64,
+        table: u32,
+        key: Key,
+        row: Option<Row>,
+    ) -> Result<(), NoMemory>
+        requires { table < length (seen self.old).tables }
+        ensures { OnOk result (seen self.new ≡ after_part (seen self.old) (tabled (wrote txid table key None row))) }
+    {
+        self.tables[table as usize].write(txid, key, row)?;
+        Ok(())
+    }
+}
+
+/// Takes what the transaction wrote out of all tables.
+fn forget_all(tables: &mut Vec<Table>, txid: u64)
+    ensures count { length tables.new.items ≡ length tables.old.items }
+    ensures columns { columns_of tables.new.items ≡ columns_of tables.old.items }
+    ensures versions { versions_of tables.new.items ≡ (λ n. forgotten txid (versions_of tables.old.items n)) }
+{
+    for table in tables.iter_mut() {
+        table.forget(txid);
+    }
+}

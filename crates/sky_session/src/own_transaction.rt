@@ -1,0 +1,97 @@
+//! Which statements a session may make, and the transaction of a statement: the one of its session's block, or one of
+//! its own.
+
+ghost use Rattle.std.specs.Prelude.{◌≡◌, ◌++◌, [], Ok, IfOk, IfErr, OnOk};
+ghost use Rattle.sky_model.specs.Outcome.{end_of};
+ghost use Rattle.sky_model.specs.State.{after_part_marks};
+ghost use Rattle.sky_model.specs.OwnTransaction.{txid_for, begin_of, commit_of};
+ghost use Rattle.sky_session.specs.Effects.{effects_of};
+ghost use Rattle.sky_session.specs.Marks.{failure};
+ghost use Rattle.sky_session.specs.Gives.{Enters};
+ghost use Rattle.sky_session.specs.Seen.{seen};
+
+use crate::allowed::allow;
+use crate::block::Block;
+use crate::effect::{Effect, Effects};
+use crate::row_db::RowDb;
+use sky_model::{Refusal, Where};
+use sky_val::{NoMemory, SessionId};
+
+impl RowDb {
+    /// The id of the session's transaction: its own, or the next one.
+    pub(crate) fn txid_for(&self, who: SessionId) -> Result<u64, Refusal>
+        ensures ok { IfOk result (λ txid. txid_for (seen self.now) who ≡ Ok txid) }
+        ensures err { IfErr result (λ refusal. txid_for (seen self.now) who ≡ Err refusal) }
+    {
+        if let Some(txid) = self.own_txid(who) {
+            return Ok(txid);
+        }
+        if !self.trans.id_left() {
+            return Err(Refusal::TxidsSpent);
+        }
+        Ok(self.trans.next_id())
+    }
+
+    /// Lets the session make a statement that may stand at this place, or refuses it. A repeatable read block takes its
+    /// sight in front of the first one that reads, whether that is refused later or not.
+    pub(crate) fn admit(
+        &mut self,
+        who: SessionId,
+        place: Where,
+    ) -> Result<Option<Refusal>, NoMemory>
+        ensures { IfOk result (λ refusal. Enters (seen self.old) (seen self.new) who place refusal) }
+    {
+        if let Err(refusal) = allow(self.block(who), place) {
+            return Ok(Some(refusal));
+        }
+        if place == Where::WhenReading && self.is_first(who) {
+            self.looked(who)?;
+        }
+        Ok(None)
+    }
+
+    /// Gives the session's transaction its id, where it has none.
+    pub(crate) fn begin_own(&mut self, who: SessionId, txid: u64) -> Result<(), NoMemory>
+        requires { txid_for (seen self.old) who ≡ Ok txid }
+        ensures { OnOk result (seen self.new ≡ after_part_marks (seen self.old) (begin_of who txid ((seen self.old).session who).txid)) }
+    {
+        if self.own_txid(who).is_none() {
+            self.began(who)?;
+        }
+        Ok(())
+    }
+
+    /// Commits the session's transaction, which has this id, where it is in no block.
+    pub(crate) fn commit_own(
+        &mut self,
+        who: SessionId,
+        txid: u64,
+        effects: &mut Effects,
+    ) -> Result<(), NoMemory>
+        requires { ((seen self.old).session who).txid ≡ Some txid }
+        ensures marks { OnOk result (seen self.new ≡ after_part_marks (seen self.old) (commit_of who txid ((seen self.old).session who).block)) }
+        ensures told { OnOk result (effects.new ≡ effects.old ++ effects_of (commit_of who txid ((seen self.old).session who).block)) }
+    {
+        if self.block(who) == Block::Outside {
+            self.committed(who, txid);
+            effects.push(Effect::Committed(txid))?;
+        }
+        Ok(())
+    }
+
+    /// Rolls back the transaction of the session's block, and aborts the block, if it is in one that isn't aborted.
+    pub(crate) fn roll_back(&mut self, who: SessionId) -> Result<Effects, NoMemory>
+        ensures marks { IfOk result (λ effects. seen self.new ≡ after_part_marks (seen self.old) (failure who ((seen self.old).session who).txid ((seen self.old).session who).block)) }
+        ensures told { IfOk result (λ effects. effects ≡ effects_of (failure who ((seen self.old).session who).txid ((seen self.old).session who).block)) }
+    {
+        let mut effects = Effects::new(self.alloc);
+        if self.block(who) == Block::Inside {
+            if let Some(txid) = self.own_txid(who) {
+                self.aborted(who, txid);
+                effects.push(Effect::Aborted(txid))?;
+            }
+            self.block_failed(who)?;
+        }
+        Ok(effects)
+    }
+}

@@ -1,0 +1,225 @@
+//! The statements on tables and rows. A refusal changes nothing here, so all tests stand in front of the first change.
+
+ghost use Rattle.std.specs.Prelude.{◌≡◌, ◌<◌, None, Some, Ok, Err, IfOk, IfErr, OnOk, length};
+ghost use Rattle.sky_model.specs.ShownRows.{snapshot_now, rows_by};
+ghost use Rattle.sky_model.specs.StepRows.{table_called, is_free, is_seen, writes_key, create_table, insert, update, delete, get, scan};
+ghost use Rattle.sky_session.specs.Effects.{op_of};
+ghost use Rattle.sky_session.specs.Gives.{Ran, StopsAs};
+ghost use Rattle.sky_session.specs.Seen.{seen};
+
+use crate::answer::Answer;
+use crate::effect::{Effect, Effects};
+use crate::row_db::RowDb;
+use crate::stop::Stop;
+use crate::values::{key_fits, key_stays, new_schema, row_fits, sets_fit, with_sets};
+use sky_model::{Columns, Limit, Refusal, Reply, Rows, Sets};
+use sky_txid::Snapshot;
+use sky_val::{Key, NoMemory, Op, Row, SessionId, Text};
+use std::alloc::Global;
+
+/// How many tables a database may have.
+const MOST_TABLES: usize = 64;
+
+/// What a write did, by the row that it found and the row that it left.
+fn op_of(old: &Option<Row>, new: &Option<Row>) -> Op
+    ensures { result ≡ op_of old.now new.now }
+{
+    match (old, new) {
+        (None, _) => Op::Insert,
+        (Some(_), None) => Op::Delete,
+        (Some(_), Some(_)) => Op::Update,
+    }
+}
+
+/// An equal row, if there is one.
+fn copy_row(alloc: Global, row: &Option<Row>) -> Result<Option<Row>, NoMemory>
+    ensures { IfOk result (λ copy. copy ≡ row.now) }
+{
+    match row {
+        Some(row) => Ok(Some(row.copy(alloc)?)),
+        None => Ok(None),
+    }
+}
+
+impl RowDb {
+    /// The number of the table of this name.
+    fn table_called(&self, name: &Text) -> Result<u32, Stop>
+        ensures ok { IfOk result (λ table. table_called name.now (seen self.now) ≡ Ok table) }
+        ensures within { IfOk result (λ table. table < length (seen self.now).tables) }
+        ensures err { IfErr result (λ stop. StopsAs stop (table_called name.now (seen self.now))) }
+    {
+        match self.names.number(name) {
+            Some(table) => Ok(table),
+            None => Err(Stop::Refused(Refusal::NoTable(name.copy(self.alloc)?))),
+        }
+    }
+
+    /// Refuses a write of a key that another running transaction has written.
+    fn check_free(&self, who: SessionId, table: u32, key: &Key) -> Result<(), Refusal>
+        requires { table < length (seen self.now).tables }
+        ensures ok { OnOk result (is_free ((rows_by (seen self.now)).key who table key.now) ≡ Ok tt) }
+        ensures err { IfErr result (λ refusal. is_free ((rows_by (seen self.now)).key who table key.now) ≡ Err refusal) }
+    {
+        match self.holder(who, table, key) {
+            Some(txid) => Err(Refusal::KeyBusy(txid)),
+            None => Ok(()),
+        }
+    }
+
+    /// Refuses a change of a row that was written since the session's sight.
+    fn check_seen(
+        &self,
+        who: SessionId,
+        table: u32,
+        key: &Key,
+        now: &Snapshot,
+    ) -> Result<(), Refusal>
+        requires within { table < length (seen self.now).tables }
+        requires now { now.now ≡ snapshot_now (seen self.now) }
+        ensures ok { OnOk result (is_seen ((rows_by (seen self.now)).key who table key.now) ≡ Ok tt) }
+        ensures err { IfErr result (λ refusal. is_seen ((rows_by (seen self.now)).key who table key.now) ≡ Err refusal) }
+    {
+        match self.unseen(who, table, key, now) {
+            Some(txid) => Err(Refusal::Serialize(txid)),
+            None => Ok(()),
+        }
+    }
+
+    /// Writes the key in the session's transaction.
+    fn write_key(
+        &mut self,
+        who: SessionId,
+        table: u32,
+        key: Key,
+        old: Option<Row>,
+        new: Option<Row>,
+    ) -> Result<Answer, Stop>
+        requires { table < length (seen self.old).tables }
+        ensures { Ran self.old self.new result (writes_key (seen self.old) who table key old new) }
+    {
+        let txid = self.txid_for(who)?;
+        let stored = copy_row(self.alloc, &new)?;
+        self.begin_own(who, txid)?;
+        self.wrote(txid, table, key, stored)?;
+        let op = op_of(&old, &new);
+        let mut effects = Effects::new(self.alloc);
+        effects.push(Effect::Wrote {
+            txid,
+            table,
+            op,
+            old,
+            new,
+        })?;
+        self.commit_own(who, txid, &mut effects)?;
+        Ok(Answer {
+            reply: Reply::Number(1),
+            effects,
+        })
+    }
+
+    /// `create table TABLE COL..`
+    pub(crate) fn create_table(&mut self, name: &Text, columns: &Columns) -> Result<Answer, Stop>
+        ensures { Ran self.old self.new result (create_table (seen self.old) name.now columns.now) }
+    {
+        if self.names.number(name).is_some() {
+            return Err(Stop::Refused(Refusal::TableExists(name.copy(self.alloc)?)));
+        }
+        if self.names.len() >= MOST_TABLES {
+            return Err(Stop::Refused(Refusal::TooMany(Limit::Tables)));
+        }
+        let schema = new_schema(self.alloc, columns)?;
+        let name = name.copy(self.alloc)?;
+        self.table_made(name, schema)?;
+        Ok(Answer::only(self.alloc, Reply::Done))
+    }
+
+    /// `insert TABLE VAL..`
+    pub(crate) fn insert(&mut self, who: SessionId, table: &Text, row: &Row) -> Result<Answer, Stop>
+        ensures { Ran self.old self.new result (insert (seen self.old) (rows_by (seen self.old)) who table.now row.now) }
+    {
+        let table = self.table_called(table)?;
+        let schema = self.table_at(table).schema();
+        row_fits(self.alloc, schema.columns(), row)?;
+        let key = schema.key_of(row)?;
+        self.check_free(who, table, &key)?;
+        let now = self.snapshot_now()?;
+        if self.has_standing(who, table, &key, &now) {
+            return Err(Stop::Refused(Refusal::Duplicate));
+        }
+        let row = row.copy(self.alloc)?;
+        self.write_key(who, table, key, None, Some(row))
+    }
+
+    /// `update TABLE VAL.. set SET..`: where no row is shown, it changes none.
+    pub(crate) fn update(
+        &mut self,
+        who: SessionId,
+        table: &Text,
+        key: &Key,
+        sets: &Sets,
+    ) -> Result<Answer, Stop>
+        ensures { Ran self.old self.new result (update (seen self.old) (rows_by (seen self.old)) who table.now key.now sets.now) }
+    {
+        let table = self.table_called(table)?;
+        let columns = self.table_at(table).schema().columns();
+        let sets = sets.as_slice();
+        key_fits(self.alloc, columns, key)?;
+        sets_fit(self.alloc, columns, sets)?;
+        key_stays(self.alloc, columns, sets)?;
+        let now = self.snapshot_now()?;
+        let Some(old) = self.row_shown(who, table, key, &now) else {
+            return Ok(Answer::only(self.alloc, Reply::Number(0)));
+        };
+        self.check_free(who, table, key)?;
+        self.check_seen(who, table, key, &now)?;
+        let new = with_sets(self.alloc, columns, sets, old)?;
+        let old = old.copy(self.alloc)?;
+        let key = key.copy(self.alloc)?;
+        self.write_key(who, table, key, Some(old), Some(new))
+    }
+
+    /// `delete TABLE VAL..`: where no row is shown, it deletes none.
+    pub(crate) fn delete(&mut self, who: SessionId, table: &Text, key: &Key) -> Result<Answer, Stop>
+        ensures { Ran self.old self.new result (delete (seen self.old) (rows_by (seen self.old)) who table.now key.now) }
+    {
+        let table = self.table_called(table)?;
+        key_fits(self.alloc, self.table_at(table).schema().columns(), key)?;
+        let now = self.snapshot_now()?;
+        let Some(old) = self.row_shown(who, table, key, &now) else {
+            return Ok(Answer::only(self.alloc, Reply::Number(0)));
+        };
+        self.check_free(who, table, key)?;
+        self.check_seen(who, table, key, &now)?;
+        let old = old.copy(self.alloc)?;
+        let key = key.copy(self.alloc)?;
+        self.write_key(who, table, key, Some(old), None)
+    }
+
+    /// `get TABLE VAL..`
+    pub(crate) fn get(&self, who: SessionId, table: &Text, key: &Key) -> Result<Answer, Stop>
+        ensures { Ran self.now self.now result (get (seen self.now) (rows_by (seen self.now)) who table.now key.now) }
+    {
+        let table = self.table_called(table)?;
+        key_fits(self.alloc, self.table_at(table).schema().columns(), key)?;
+        let now = self.snapshot_now()?;
+        let reply = match self.row_shown(who, table, key, &now) {
+            Some(row) => Reply::Row(row.copy(self.alloc)?),
+            None => Reply::NoRow,
+        };
+        Ok(Answer::only(self.alloc, reply))
+    }
+
+    /// `scan TABLE`: the rows by key.
+    pub(crate) fn scan(&self, who: SessionId, table: &Text) -> Result<Answer, Stop>
+        ensures { Ran self.now self.now result (scan (seen self.now) (rows_by (seen self.now)) who table.now) }
+    {
+        let table = self.table_called(table)?;
+        let now = self.snapshot_now()?;
+        let sight = self.sight(who, &now);
+        let own = self.own_txid(who);
+        let rows = self
+            .table_at(table)
+            .scan_from(None, sight, own, usize::MAX)?;
+        Ok(Answer::only(self.alloc, Reply::Rows(Rows::new(rows))))
+    }
+}

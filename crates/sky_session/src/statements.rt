@@ -1,0 +1,244 @@
+//! The step, and the statements on sessions and transactions. A refusal changes nothing in them: it is `refuse` that
+//! aborts the block that its session is in.
+
+ghost use Rattle.std.specs.Prelude.{◌≡◌, [], ◌∷◌, true, false, Ok, IfOk, OnOk};
+ghost use Rattle.sky_model.specs.declared.reply.Reply.TheVariants.{Refused};
+ghost use Rattle.sky_model.specs.Sessions.{outside};
+ghost use Rattle.sky_model.specs.State.{after_part_marks};
+ghost use Rattle.sky_model.specs.ShownRows.{rows_by};
+ghost use Rattle.sky_model.specs.Outcome.{abort, settled};
+ghost use Rattle.sky_model.specs.StepSession.{begin, begin_repeatable_read, commit, rollback, close, leaves, txid_current, txid_current_snapshot, txid_visible_in_snapshot};
+ghost use Rattle.sky_model.specs.Calls.{row_form, row_statement};
+ghost use Rattle.sky_model.specs.Reader.{part_by_itself};
+ghost use Rattle.sky_model.specs.RowSteps.{RowSteps};
+ghost use Rattle.sky_session.specs.Effects.{effects_of};
+ghost use Rattle.sky_session.specs.Gives.{GivesStep, Ran};
+ghost use Rattle.sky_session.specs.Seen.{seen};
+
+use crate::allowed::where_of;
+use crate::answer::{Answer, RowStep};
+use crate::block::Block;
+use crate::effect::{Effect, Effects};
+use crate::row_db::RowDb;
+use crate::stop::Stop;
+use sky_model::{Refusal, Replies, Reply, RowStmt};
+use sky_txid::{Snapshot, SnapshotFault};
+use sky_val::{NoMemory, SessionId, Text};
+use std::alloc::AllocError;
+
+impl RowDb {
+    /// Runs a statement of a session that has this database open.
+    pub fn step(&mut self, who: SessionId, stmt: &RowStmt) -> Result<RowStep, NoMemory>
+        ensures exact { let outcome = row_statement part_by_itself (seen self.old) who stmt.now in
+            IfOk result (λ step. GivesStep (seen self.old) (seen self.new) step ((who, outcome.reply) ∷ []) outcome.marks) }
+        ensures steps { IfOk result (λ step. RowSteps (seen self.old) (seen self.new) who stmt.now step.replies) }
+    {
+        match self.admit(who, where_of(stmt))? {
+            Some(refusal) => self.refuse(who, refusal),
+            None => self.run(who, stmt),
+        }
+    }
+
+    /// Runs a statement that its session may make, which has taken its sight. A refusal is an answer too.
+    fn run(&mut self, who: SessionId, stmt: &RowStmt) -> Result<RowStep, NoMemory>
+        ensures { let outcome = settled who ((seen self.old).session who) (row_form (seen self.old) (rows_by (seen self.old)) who stmt.now) in
+            IfOk result (λ step. GivesStep (seen self.old) (seen self.new) step ((who, outcome.reply) ∷ []) outcome.marks) }
+    {
+        match self.run_form(who, stmt) {
+            Ok(answer) => self.answered(who, answer),
+            Err(Stop::Refused(refusal)) => self.refuse(who, refusal),
+            Err(Stop::NoMemory) => Err(AllocError),
+        }
+    }
+
+    /// The answer of the session's statement, alone.
+    fn answered(&self, who: SessionId, answer: Answer) -> Result<RowStep, NoMemory>
+        ensures replies { IfOk result (λ step. step.replies ≡ (who, answer.reply) ∷ []) }
+        ensures effects { IfOk result (λ step. step.effects ≡ answer.effects) }
+    {
+        let mut replies = Replies::new(self.alloc);
+        replies.push(who, answer.reply)?;
+        Ok(RowStep {
+            replies,
+            effects: answer.effects,
+        })
+    }
+
+    /// Answers with a refusal, which aborts the block that its session is in.
+    fn refuse(&mut self, who: SessionId, refusal: Refusal) -> Result<RowStep, NoMemory>
+        ensures { IfOk result (λ step. GivesStep (seen self.old) (seen self.new) step ((who, Refused refusal) ∷ [])
+            (abort who ((seen self.old).session who).block ((seen self.old).session who).txid refusal)) }
+    {
+        let effects = match &refusal {
+            Refusal::AlreadyOpen => Effects::new(self.alloc),
+            _ => self.roll_back(who)?,
+        };
+        self.answered(
+            who,
+            Answer {
+                reply: Reply::Refused(refusal),
+                effects,
+            },
+        )
+    }
+
+    fn run_form(&mut self, who: SessionId, stmt: &RowStmt) -> Result<Answer, Stop>
+        ensures { Ran self.old self.new result (row_form (seen self.old) (rows_by (seen self.old)) who stmt.now) }
+    {
+        match stmt {
+            RowStmt::OpenDb { name: _ } => Err(Stop::Refused(Refusal::AlreadyOpen)),
+            RowStmt::Close => self.close(who),
+            RowStmt::Cancel => Ok(Answer::only(self.alloc, Reply::NotWaiting)),
+            RowStmt::Begin => self.begin(who),
+            RowStmt::BeginRepeatableRead => self.begin_repeatable_read(who),
+            RowStmt::Commit => self.commit(who),
+            RowStmt::Rollback => self.rollback(who),
+            RowStmt::TxidCurrent => self.txid_current(who),
+            RowStmt::TxidCurrentSnapshot => self.txid_current_snapshot(who),
+            RowStmt::TxidVisibleInSnapshot { txid, snapshot } => {
+                self.txid_visible_in_snapshot(*txid, snapshot)
+            }
+            RowStmt::CreateTable { table, columns } => self.create_table(table, columns),
+            RowStmt::Insert { table, row } => self.insert(who, table, row),
+            RowStmt::Update { table, key, sets } => self.update(who, table, key, sets),
+            RowStmt::Delete { table, key } => self.delete(who, table, key),
+            RowStmt::Get { table, key } => self.get(who, table, key),
+            RowStmt::Scan { table } => self.scan(who, table),
+        }
+    }
+
+    /// `close`: a block is rolled back.
+    fn close(&mut self, who: SessionId) -> Result<Answer, Stop>
+        ensures { Ran self.old self.new result (close who ((seen self.old).session who).txid ((seen self.old).session who).block) }
+    {
+        if self.block(who) == Block::Outside {
+            return Ok(Answer::only(self.alloc, Reply::Done));
+        }
+        let effects = self.roll_back_block(who)?;
+        Ok(Answer {
+            reply: Reply::Done,
+            effects,
+        })
+    }
+
+    /// `begin`
+    fn begin(&mut self, who: SessionId) -> Result<Answer, Stop>
+        ensures { Ran self.old self.new result (begin who ((seen self.old).session who).block) }
+    {
+        if self.block(who) != Block::Outside {
+            return Ok(Answer::only(self.alloc, Reply::AlreadyInTransaction));
+        }
+        self.block_begun(who)?;
+        Ok(Answer::only(self.alloc, Reply::Begin))
+    }
+
+    /// `begin repeatable read`: the sight is taken later, by the first statement that reads.
+    fn begin_repeatable_read(&mut self, who: SessionId) -> Result<Answer, Stop>
+        ensures { Ran self.old self.new result (begin_repeatable_read who ((seen self.old).session who).block) }
+    {
+        if self.block(who) != Block::Outside {
+            return Ok(Answer::only(self.alloc, Reply::AlreadyInTransaction));
+        }
+        self.block_begun(who)?;
+        self.repeats(who)?;
+        Ok(Answer::only(self.alloc, Reply::Begin))
+    }
+
+    /// `commit`: an aborted block is rolled back.
+    fn commit(&mut self, who: SessionId) -> Result<Answer, Stop>
+        ensures { Ran self.old self.new result (commit who ((seen self.old).session who).txid ((seen self.old).session who).block) }
+    {
+        match self.block(who) {
+            Block::Outside => Ok(Answer::only(self.alloc, Reply::NoTransaction)),
+            Block::Inside => {
+                let effects = self.commit_block(who)?;
+                Ok(Answer {
+                    reply: Reply::Commit,
+                    effects,
+                })
+            }
+            Block::Failed => {
+                let effects = self.roll_back_block(who)?;
+                Ok(Answer {
+                    reply: Reply::Rollback,
+                    effects,
+                })
+            }
+        }
+    }
+
+    /// `rollback`
+    fn rollback(&mut self, who: SessionId) -> Result<Answer, Stop>
+        ensures { Ran self.old self.new result (rollback who ((seen self.old).session who).txid ((seen self.old).session who).block) }
+    {
+        if self.block(who) == Block::Outside {
+            return Ok(Answer::only(self.alloc, Reply::NoTransaction));
+        }
+        let effects = self.roll_back_block(who)?;
+        Ok(Answer {
+            reply: Reply::Rollback,
+            effects,
+        })
+    }
+
+    /// The session's block ends, and its transaction commits, if it has got an id.
+    fn commit_block(&mut self, who: SessionId) -> Result<Effects, NoMemory>
+        ensures marks { OnOk result (seen self.new ≡ after_part_marks (seen self.old) (leaves true who ((seen self.old).session who).txid)) }
+        ensures told { IfOk result (λ effects. effects ≡ effects_of (leaves true who ((seen self.old).session who).txid)) }
+    {
+        let mut effects = Effects::new(self.alloc);
+        if let Some(txid) = self.own_txid(who) {
+            self.committed(who, txid);
+            effects.push(Effect::Committed(txid))?;
+        }
+        self.block_ended(who);
+        Ok(effects)
+    }
+
+    /// The session's block ends, and its transaction is rolled back, if it has got an id.
+    fn roll_back_block(&mut self, who: SessionId) -> Result<Effects, NoMemory>
+        ensures marks { OnOk result (seen self.new ≡ after_part_marks (seen self.old) (leaves false who ((seen self.old).session who).txid)) }
+        ensures told { IfOk result (λ effects. effects ≡ effects_of (leaves false who ((seen self.old).session who).txid)) }
+    {
+        let mut effects = Effects::new(self.alloc);
+        if let Some(txid) = self.own_txid(who) {
+            self.aborted(who, txid);
+            effects.push(Effect::Aborted(txid))?;
+        }
+        self.block_ended(who);
+        Ok(effects)
+    }
+
+    /// `txid_current`: the transaction gets its id, where it has none.
+    fn txid_current(&mut self, who: SessionId) -> Result<Answer, Stop>
+        ensures { Ran self.old self.new result (txid_current (seen self.old) who) }
+    {
+        let txid = self.txid_for(who)?;
+        self.begin_own(who, txid)?;
+        let mut effects = Effects::new(self.alloc);
+        self.commit_own(who, txid, &mut effects)?;
+        Ok(Answer {
+            reply: Reply::Number(txid),
+            effects,
+        })
+    }
+
+    /// `txid_current_snapshot`: the snapshot of the statement's sight.
+    fn txid_current_snapshot(&self, who: SessionId) -> Result<Answer, Stop>
+        ensures { Ran self.now self.now result (txid_current_snapshot (seen self.now) who) }
+    {
+        let snapshot = self.snapshot(who)?;
+        Ok(Answer::only(self.alloc, Reply::Snapshot(snapshot)))
+    }
+
+    /// `txid_visible_in_snapshot N RAW`
+    fn txid_visible_in_snapshot(&self, txid: u64, text: &Text) -> Result<Answer, Stop>
+        ensures { Ran self.now self.now result (txid_visible_in_snapshot txid text.now) }
+    {
+        match Snapshot::parse(self.alloc, text.bytes()) {
+            Ok(snapshot) => Ok(Answer::only(self.alloc, Reply::Bool(snapshot.sees(txid)))),
+            Err(SnapshotFault::BadSnapshot) => Err(Stop::Refused(Refusal::BadSnapshot)),
+            Err(SnapshotFault::NoMemory) => Err(Stop::NoMemory),
+        }
+    }
+}

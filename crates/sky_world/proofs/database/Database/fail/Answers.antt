@@ -1,0 +1,13 @@
+use Rattle.std.proofs.Common.{◌≡◌, refl, subst}
+use Rattle.sky_model.specs.State.{after_marks}
+use Rattle.sky_session.specs.Marks.{failure}
+use Rattle.sky_world.specs.Views.{DatabaseView}
+use Rattle.sky_world.specs.Seen.{seen_database}
+use Rattle.sky_world.proofs.Databases.{failed-as}
+use Rattle.sky_world.proofs.database.Database.fail.Goals as goal
+
+pub returns : goal.returns
+returns c =
+    subst (λ (v : DatabaseView). seen_database c.undo_aborted.new.self
+    ≡ after_marks (seen_database v) (failure c.args.who ((seen_database v).part.session c.args.who).txid ((seen_database v).part.session c.args.who).block)) c.self.view_is
+    (failed-as _ _ _ c.args.who c.in_ok-step.step c.in_ok-step.ensures refl c.in_ok-undo_aborted.ensures)
