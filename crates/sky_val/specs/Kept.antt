@@ -1,9 +1,17 @@
--- The bytes of a text, wherever they are.
-use Rattle.std.specs.Prelude.{ℕ, List, string_bytes}
+-- The bytes of a text and the values of a key, wherever they are.
+use Rattle.std.specs.Prelude.{ℕ, List, [], ◌∷◌, string_bytes}
 use Rattle.sky_val.specs.declared.text.Kept.{Kept}
 use Rattle.sky_val.specs.declared.text.Kept.TheVariants.{InPlace, Apart}
+use Rattle.sky_val.specs.declared.val.Val.{Val}
+use Rattle.sky_val.specs.declared.key.KeyValues.{KeyValues}
+use Rattle.sky_val.specs.declared.key.KeyValues.TheVariants.{One, Listed}
 
 -- the bytes of a text that is kept so
 abbrev pub kept_bytes : Kept → List ℕ
 kept_bytes (InPlace short) = short.bytes
 kept_bytes (Apart long) = string_bytes long
+
+-- the values of a key that is kept so
+abbrev pub key_values : KeyValues → List Val
+key_values (One value) = value ∷ []
+key_values (Listed values) = values.items

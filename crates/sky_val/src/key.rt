@@ -1,32 +1,72 @@
 ghost use Rattle.std.specs.Prelude.{◌≡◌, IfOk};
+ghost use Rattle.sky_val.specs.Kept.{key_values};
 
 use crate::NoMemory;
 use crate::val::{Val, copy_values};
 use std::alloc::Global;
 use std::cmp::Ordering;
 use std::marker::Model;
+use std::slice;
+
+/// Where the values of a key are: most keys have one, which is kept in place and takes no memory of
+/// its own.
+#[derive(Debug, Drop)]
+enum KeyValues {
+    One(Val),
+    Listed(Vec<Val>),
+}
+
+impl KeyValues {
+    fn as_slice(&self) -> &[Val]
+        ensures { result.now ≡ key_values self.now }
+    {
+        match self {
+            KeyValues::One(value) => slice::from_ref(value),
+            KeyValues::Listed(values) => values.as_slice(),
+        }
+    }
+
+    fn copy(&self, alloc: Global) -> Result<KeyValues, NoMemory>
+        ensures { IfOk result (λ values. key_values values ≡ key_values self.now) }
+    {
+        match self {
+            KeyValues::One(value) => Ok(KeyValues::One(value.copy(alloc)?)),
+            KeyValues::Listed(values) => Ok(KeyValues::Listed(copy_values(alloc, values)?)),
+        }
+    }
+}
 
 /// A key of a row: the values of the key columns, in their order.
 #[derive(Debug, Drop)]
 pub struct Key {
-    values: Vec<Val>,
+    values: KeyValues,
 }
 
 impl Model for Key {
     ghost use Rattle.std.specs.Prelude.{List};
     ghost use Rattle.sky_val.specs.declared.val.Val.{Val};
+    ghost use Rattle.sky_val.specs.Kept.{key_values};
 
     ghost Value = { List Val };
 
-    ghost view = { λ key. key.values.items };
+    ghost view = { λ key. key_values key.values };
 }
 
 impl Key {
     /// The key of these values.
-    pub fn new(values: Vec<Val>) -> Key
+    pub fn new(mut values: Vec<Val>) -> Key
         ensures { result ≡ values.items }
     {
-        Key { values }
+        if values.len() == 1 {
+            if let Some(value) = values.pop() {
+                return Key {
+                    values: KeyValues::One(value),
+                };
+            }
+        }
+        Key {
+            values: KeyValues::Listed(values),
+        }
     }
 
     /// Its values, in order.
@@ -40,7 +80,7 @@ impl Key {
     pub fn copy(&self, alloc: Global) -> Result<Key, NoMemory>
         ensures { IfOk result (λ key. key ≡ self.now) }
     {
-        let values = copy_values(alloc, &self.values)?;
+        let values = self.values.copy(alloc)?;
         Ok(Key { values })
     }
 }
