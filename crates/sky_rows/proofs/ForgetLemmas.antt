@@ -1,10 +1,13 @@
 -- A transaction's versions go, key by key.
-use Rattle.std.proofs.Common.{◌≡◌, ℕ, Bool, true, false, cond, not, List, [], ◌∷◌, Ordering, Less, Equal, Greater, Some, None, refl, sym, ap, ◌∙◌}
-use Rattle.std.specs.Prelude.{◌==◌, ◌||◌}
+use Rattle.std.proofs.Common.{◌≡◌, ℕ, Bool, true, false, cond, not, List, [], ◌∷◌, Ordering, Less, Equal, Greater, Option, Some, None, nat_lt, refl, sym, subst, ap, ◌∙◌}
+use Rattle.std.specs.Prelude.{◌==◌, ◌||◌, ◌↔◌, ◌≢◌, IsTrue}
 use Rattle.std.specs.List.{list_any}
-use Rattle.std.specs.Ordering.{is_lt, is_eq, eq_by_cmp, ordering_reverse}
+use Rattle.std.specs.Option.{option_map_or}
+use Rattle.std.specs.Ordering.{nat_cmp, is_lt, is_eq, eq_by_cmp, ordering_reverse}
 use Rattle.std.specs.Map.{set_value, remove_entry}
-use Rattle.std.specs.BTreeMap.{is_at}
+use Rattle.std.specs.Map.Calls.{RetainsPairs}
+use Rattle.std.specs.BTreeMap.{is_at, get}
+use Rattle.std.specs.BTreeSet.{BTreeSet, contains}
 use Rattle.std.specs.FinMap.Entries.{below_all}
 use Rattle.std.proofs.lemmas.Bool.{and_parts, eqb-true, eq-eqb}
 use Rattle.sky_val.specs.declared.val.Val.{Val}
@@ -16,7 +19,8 @@ use Rattle.sky_txid.specs.Versions.{without, version_of, and_entry, unless_empty
 use Rattle.sky_txid.proofs.VersionLemmas.{version_of-without, without-none}
 use Rattle.sky_txid.proofs.EntryLemmas.{key_ties-is}
 use Rattle.sky_rows.specs.Table.{forgotten_at}
-use Rattle.sky_rows.specs.Written.{IsKept, AllKept}
+use Rattle.sky_rows.specs.declared.written.Written.{Written}
+use Rattle.sky_rows.specs.Written.{listed, wrote, IsKept, AllKept}
 use Rattle.sky_rows.proofs.TableLemmas.{all_kept_more}
 
 -- ---- at one key
@@ -86,6 +90,25 @@ forgotten-none w t (e ∷ es) none kept =
     ∙ ap (λ o. and_entry e.0 o (forgotten t es)) kept.0.some
     ∙ ap (λ rest. e ∷ rest) (forgotten-none w t es none kept.1)
 
+-- ---- at every key
+
+-- what is left of a key's versions stays with the key, unless that is none
+entry_left : (k : List Val) (new : List Version) (es : Entries (List Version)) (b : Bool) → IsTrue b ↔ (new ≢ []) → cond b ((k, new) ∷ es) es ≡ and_entry k (unless_empty new) es
+entry_left k [] es true left = absurd (left.0 refl refl)
+entry_left k [] es false left = refl
+entry_left k (v ∷ new) es true left = refl
+entry_left k (v ∷ new) es false left = let kept : false ≡ true = left.1 (λ e. cc e) in absurd (cc kept)
+
+-- where each key's versions were gone through, the transaction's are gone
+pub forgotten-retained : {F : Type 0} (T : F → List Val → List Version → Bool → List Version → F → Type 0) (t : ℕ) (f : F)
+    → ((k : List Val) (vs : List Version) (b : Bool) (new : List Version) (f' : F) → T f k vs b new f' → (new ≡ without t vs) × (IsTrue b ↔ (new ≢ [])) × (f' ≡ f))
+    → (es kept : Entries (List Version)) → RetainsPairs T f es kept → kept ≡ forgotten t es
+forgotten-retained T t f called [] kept r = r
+forgotten-retained T t f called (e ∷ es) kept r =
+    let left = called e.0 e.1 r.0 r.1 r.2 r.4 in
+    let rest = forgotten-retained T t f called es r.3 (subst (λ g. RetainsPairs T g es r.3) left.2 r.5) in
+    r.6 ∙ entry_left e.0 r.1 r.3 r.0 left.1 ∙ (λ i. and_entry e.0 (unless_empty (left.0 i)) (rest i))
+
 -- ---- the keys that are left
 
 -- whether a key may have a version of the transaction, where these keys are left; those of others aren't asked
@@ -146,6 +169,14 @@ pub forgotten-all : (t : ℕ) (es : Entries (List Version)) → AllKept (may_hav
 forgotten-all t es kept = forgotten-none (may_have t []) t es (λ q. ap (λ b. not b || false) (eq-eqb t t refl)) kept
 
 -- ---- the index
+
+-- of a transaction of which the index tells, it tells the keys that are listed
+told : (b : Bool) → not b ≡ true → b ≡ false
+told true e = absurd (cc e)
+told false e = refl
+
+pub wrote-listed : (index : Written) (t : ℕ) (q : List Val) (found : Option (BTreeSet (List Val))) → not (nat_lt t index.from) ≡ true → found ≡ get nat_cmp index.keys t → wrote index t q ≡ option_map_or (λ of_it. contains key_cmp of_it q) found false
+wrote-listed index t q found tells is = ap (λ b. b || listed index.keys t q) (told (nat_lt t index.from) tells) ∙ ap (λ o. option_map_or (λ of_it. contains key_cmp of_it q) o false) (sym is)
 
 -- what the index tells of all transactions, it tells of the one whose versions are to go
 pub may_have-wrote : (w : ℕ → List Val → Bool) (t : ℕ) (keys : List (List Val)) (es : Entries (List Version)) → ((q : List Val) → w t q ≡ list_any (is_at (key_cmp q)) keys) → AllKept w es → AllKept (may_have t keys) es

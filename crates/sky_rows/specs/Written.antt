@@ -1,5 +1,5 @@
 -- Which keys each transaction wrote, as the index of a table tells.
-use Rattle.std.specs.Prelude.{◌≡◌, ℕ, Bool, false, if◌then◌else◌, List, [], ◌∷◌, Option, None, Some}
+use Rattle.std.specs.Prelude.{◌≡◌, ℕ, Bool, false, nat_lt, ◌||◌, if◌then◌else◌, List, [], ◌∷◌, Option, None, Some}
 use Rattle.std.specs.Option.{option_map_or}
 use Rattle.std.specs.Ordering.{nat_cmp}
 use Rattle.std.specs.BTreeMap.{BTreeMap, get}
@@ -9,17 +9,22 @@ use Rattle.sky_val.specs.Order.{key_cmp}
 use Rattle.sky_val.specs.Entries.{Entries}
 use Rattle.sky_txid.specs.declared.version.Version.{Version}
 use Rattle.sky_txid.specs.Versions.{version_of, unless_empty}
+use Rattle.sky_rows.specs.declared.written.Written.{Written}
 
--- whether a key is among those that a transaction wrote
-abbrev pub wrote : BTreeMap ℕ (BTreeSet (List Val)) → ℕ → List Val → Bool
-wrote keys t key = option_map_or (λ listed. contains key_cmp listed key) (get nat_cmp keys t) false
+-- whether a key is listed among those that a transaction wrote
+abbrev pub listed : BTreeMap ℕ (BTreeSet (List Val)) → ℕ → List Val → Bool
+listed keys t key = option_map_or (λ of_it. contains key_cmp of_it key) (get nat_cmp keys t) false
+
+-- whether a transaction may have written a key, which is known of those from one on
+abbrev pub wrote : Written → ℕ → List Val → Bool
+wrote index t key = nat_lt t index.from || listed index.keys t key
 
 -- the transaction that reads, where it wrote the key
 abbrev pub writer : (ℕ → List Val → Bool) → Option ℕ → List Val → Option ℕ
 writer wrote None key = None
 writer wrote (Some t) key = if wrote t key then Some t else None
 
--- a key has versions, and each is of a transaction that wrote the key
+-- a key has versions, and each is of a transaction that may have written the key
 pub record IsKept (wrote : ℕ → List Val → Bool) (key : List Val) (vs : List Version) : Type 0 where
   pub some : unless_empty vs ≡ Some vs
   pub listed : (t : ℕ) → wrote t key ≡ false → version_of t vs ≡ None

@@ -38,7 +38,7 @@ impl Model for Table {
 
     ghost view = { λ t. record { columns = t.schema; versions = t.rows.entries } };
 
-    ghost invariant = { λ t. AllKept (wrote t.written.keys) t.rows.entries };
+    ghost invariant = { λ t. AllKept (wrote t.written) t.rows.entries };
 }
 
 impl Table {
@@ -169,9 +169,20 @@ impl Table {
     pub fn forget(&mut self, txid: u64)
         ensures { self.new ≡ record self.old { versions = forgotten txid self.old.versions } }
     {
-        if let Some(keys) = self.written.take(txid) {
+        if !self.written.tells(txid) {
+            forget_everywhere(&mut self.rows, txid);
+        } else if let Some(keys) = self.written.take(txid) {
             forget_all(&mut self.rows, &keys, txid);
         }
+    }
+
+    /// Forgets which keys the transactions below this one wrote, though no version of them. What is
+    /// asked of one of them from now on is looked for in the versions, which costs more: let `below`
+    /// be the least transaction that may still write or be taken out.
+    pub fn prune(&mut self, below: u64)
+        ensures { self.new ≡ self.old }
+    {
+        self.written.prune(below);
     }
 }
 
@@ -207,6 +218,13 @@ fn forget_all(rows: &mut BTreeMap<Key, Versions>, keys: &BTreeSet<Key>, txid: u6
     for key in keys {
         forget_at(rows, key, txid);
     }
+}
+
+/// Takes out the transaction's versions, at whatever keys they stand, and the keys with their last.
+fn forget_everywhere(rows: &mut BTreeMap<Key, Versions>, txid: u64)
+    ensures { rows.new.entries ≡ forgotten txid rows.old.entries }
+{
+    rows.retain(|_, versions| versions.outlives(txid));
 }
 
 /// Takes out the transaction's version at the key, and the key with its last.
@@ -294,6 +312,14 @@ mod tests {
         table.forget(4);
         assert!(rt; table.read(&one, &snapshot, Some(4)) == committed.as_ref());
         assert!(rt; table.newest(&three, None).is_none());
+
+        // What the index has of transaction 3 goes, and no version of it.
+        table.prune(5);
+        assert!(rt; table.has_own(&one, 3) && !table.has_own(&three, 3));
+        table.write(3, key(alloc, 1)?, None)?;
+        assert!(rt; table.read(&one, &snapshot, None).is_none());
+        table.forget(3);
+        assert!(rt; table.newest(&one, None).is_none());
         Ok(())
     }
 }

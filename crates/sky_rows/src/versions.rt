@@ -1,4 +1,4 @@
-ghost use Rattle.std.specs.Prelude.{◌≡◌, [], ◌∷◌, None, Some, MatchOption, IsTrue, ◌↔◌, IfOk, OnOk, OnErr, slice_get, option_map};
+ghost use Rattle.std.specs.Prelude.{◌≡◌, [], ◌∷◌, None, Some, MatchOption, IsTrue, ◌↔◌, ◌≢◌, IfOk, OnOk, OnErr, slice_get, option_map};
 ghost use Rattle.std.specs.Option.{option_copied};
 ghost use Rattle.sky_txid.specs.Snapshot.{sees};
 ghost use Rattle.sky_txid.specs.Versions.{with_version, without, version_of, newest_by, newest_but, read};
@@ -131,5 +131,13 @@ impl Versions {
         if let Some(place) = self.place_of(txid) {
             self.items.remove(place);
         }
+    }
+    /// Takes the transaction's version out, and tells whether others are left.
+    pub(crate) fn outlives(&mut self, txid: u64) -> bool
+        ensures value { self.new ≡ without txid self.old }
+        ensures left { IsTrue result ↔ (self.new ≢ []) }
+    {
+        self.forget(txid);
+        !self.is_empty()
     }
 }

@@ -1,4 +1,4 @@
-ghost use Rattle.std.specs.Prelude.{◌≡◌, ℕ, true, false, ◌==◌, List, IfOk, OnOk};
+ghost use Rattle.std.specs.Prelude.{◌≡◌, ℕ, true, false, not, nat_lt, ◌==◌, List, IfOk, OnOk, slice_get, option_map};
 ghost use Rattle.std.specs.Ordering.{nat_cmp};
 ghost use Rattle.std.specs.BTreeMap.{get};
 ghost use Rattle.sky_rows.specs.Written.{wrote, writer};
@@ -8,26 +8,38 @@ use sky_val::{Key, NoMemory};
 use std::alloc::Global;
 use std::collections::{BTreeMap, BTreeSet};
 
-/// Which keys each transaction wrote.
+/// Which keys each transaction wrote, of those from one on. Any earlier one may have written every key.
 #[derive(Debug, Drop)]
 pub(crate) struct Written {
+    from: u64,
     keys: BTreeMap<u64, BTreeSet<Key>>,
 }
 
 impl Written {
     /// None.
     pub(crate) fn new(alloc: Global) -> Written
-        ensures { (t : ℕ) (key : List Val) → wrote result.keys t key ≡ false }
+        ensures { (t : ℕ) (key : List Val) → wrote result t key ≡ false }
     {
         Written {
+            from: 0,
             keys: BTreeMap::new(alloc),
         }
     }
 
-    /// Whether the transaction wrote the key.
-    pub(crate) fn has(&self, txid: u64, key: &Key) -> bool
-        ensures { result ≡ wrote self.now.keys txid key.now }
+    /// Whether it is known which keys the transaction wrote.
+    pub(crate) fn tells(&self, txid: u64) -> bool
+        ensures { result ≡ not (nat_lt txid self.now.from) }
     {
+        self.from <= txid
+    }
+
+    /// Whether the transaction may have written the key.
+    pub(crate) fn has(&self, txid: u64, key: &Key) -> bool
+        ensures { result ≡ wrote self.now txid key.now }
+    {
+        if !self.tells(txid) {
+            return true;
+        }
         match self.keys.get(&txid) {
             Some(keys) => keys.contains(key),
             None => false,
@@ -36,14 +48,14 @@ impl Written {
 
     /// Whether the transaction may have written any key: if not, it wrote none.
     pub(crate) fn knows(&self, txid: u64) -> bool
-        ensures { result ≡ false → (key : List Val) → wrote self.now.keys txid key ≡ false }
+        ensures { result ≡ false → (key : List Val) → wrote self.now txid key ≡ false }
     {
-        self.keys.contains_key(&txid)
+        !self.tells(txid) || self.keys.contains_key(&txid)
     }
 
-    /// The transaction that reads, where it wrote the key.
+    /// The transaction that reads, where it may have written the key.
     pub(crate) fn writer(&self, own: Option<u64>, key: &Key) -> Option<u64>
-        ensures { result ≡ writer (wrote self.now.keys) own key.now }
+        ensures { result ≡ writer (wrote self.now) own key.now }
     {
         match own {
             Some(txid) if self.has(txid, key) => Some(txid),
@@ -51,13 +63,13 @@ impl Written {
         }
     }
 
-    /// Lists the key among those that the transaction wrote, and tells whether it was there already.
-    /// Nothing is forgotten, at an error neither.
+    /// Lists the key among those that the transaction wrote, and tells whether it may have been there
+    /// already. Nothing is forgotten, at an error neither.
     pub(crate) fn add(&mut self, alloc: Global, txid: u64, key: &Key) -> Result<bool, NoMemory>
-        ensures again { IfOk result (λ again. again ≡ wrote self.old.keys txid key.now) }
-        ensures listed { OnOk result (wrote self.new.keys txid key.now ≡ true) }
+        ensures again { IfOk result (λ again. again ≡ wrote self.old txid key.now) }
+        ensures listed { OnOk result (wrote self.new txid key.now ≡ true) }
         ensures kept { (t : ℕ) (q : List Val)
-            → wrote self.new.keys t q ≡ false → wrote self.old.keys t q ≡ false }
+            → wrote self.new t q ≡ false → wrote self.old t q ≡ false }
     {
         if self.has(txid, key) {
             return Ok(true);
@@ -80,8 +92,33 @@ impl Written {
     pub(crate) fn take(&mut self, txid: u64) -> Option<BTreeSet<Key>>
         ensures taken { result ≡ get nat_cmp self.old.keys txid }
         ensures others { (t : ℕ) (q : List Val)
-            → (t == txid) ≡ false → wrote self.new.keys t q ≡ wrote self.old.keys t q }
+            → (t == txid) ≡ false → wrote self.new t q ≡ wrote self.old t q }
     {
         self.keys.remove(&txid)
+    }
+
+    /// Forgets which keys the transactions below this one wrote.
+    pub(crate) fn prune(&mut self, below: u64)
+        ensures { (t : ℕ) (q : List Val)
+            → wrote self.new t q ≡ false → wrote self.old t q ≡ false }
+    {
+        if below <= self.from {
+            return;
+        }
+        self.from = below;
+        while let Some(first) = self.first() {
+            if first >= below {
+                break;
+            }
+            self.keys.pop_first();
+        }
+    }
+
+    /// The first transaction of which keys are listed.
+    fn first(&self) -> Option<u64>
+        ensures { result ≡ option_map (λ e. e.0) (slice_get self.now.keys.entries 0) }
+    {
+        let (txid, _) = self.keys.first_key_value()?;
+        Some(*txid)
     }
 }

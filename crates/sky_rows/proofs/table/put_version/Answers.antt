@@ -1,6 +1,7 @@
 use Rattle.std.proofs.Common.{◌≡◌, ◌∙◌, ap, sym}
 use Rattle.std.specs.BTreeMap.{insert_entry}
 use Rattle.std.proofs.lemmas.Result.{on_ok_weaker, on_err_weaker}
+use Rattle.sky_val.specs.Kept.{key_values}
 use Rattle.sky_val.specs.Order.{key_cmp}
 use Rattle.sky_txid.specs.Versions.{with_version}
 use Rattle.sky_rows.proofs.TableLemmas.{lookup-at, in_order-sorted, written-set, unchanged-set, written-insert}
@@ -35,7 +36,7 @@ returns-in-Some-2-clause-err c = on_err_weaker c.push.result
 pub returns-clause-ok : goal.returns-clause-ok
 returns-clause-ok c =
     c.in_ok-insert-in-None.ensures.entries
-    ∙ ap (λ m. insert_entry key_cmp m.entries c.key.inside.values.items c.in_ok-first-in-None.field-0) c.get_mut.follows.holds-at-none
+    ∙ ap (λ m. insert_entry key_cmp m.entries (key_values c.key.inside.values) c.in_ok-first-in-None.field-0) c.get_mut.follows.holds-at-none
     ∙ ap (λ key. insert_entry key_cmp c.args.rows.now.entries key c.in_ok-first-in-None.field-0) c.key.view_is
     ∙ written-insert c.args.version.txid c.args.key c.args.version.row c.args.rows.now.entries c.in_ok-first-in-None.field-0
     (sym (lookup-at c.args.key c.args.rows.now.entries) ∙ sym c.in-None.ensures.value) c.in_ok-first-in-None.ensures

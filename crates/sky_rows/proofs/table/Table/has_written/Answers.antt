@@ -8,7 +8,7 @@ use Rattle.sky_rows.proofs.table.Table.has_written.Goals as goal
 
 pub returns-then-not-knows : goal.returns-then-not-knows
 returns-then-not-knows c =
-    let w = wrote c.self.inside.written.keys in
+    let w = wrote c.self.inside.written in
     sym (no_version w c.args.txid c.args.self.now.versions (c.knows.ensures c.if-not-knows.true) (subst (λ (t : TableView). AllKept w t.versions) c.self.view_is c.self.invariant))
 
 pub loop-versions-init : goal.loop-versions-init

@@ -7,7 +7,7 @@ use Rattle.sky_rows.proofs.table.Table.read.Goals as goal
 
 pub returns : goal.returns
 returns c =
-    let w = wrote c.self.inside.written.keys in
+    let w = wrote c.self.inside.written in
     c.read.ensures ∙ ap (λ own. read c.args.snapshot.now own c.in_ok-versions.versions.now) c.writer.ensures
     ∙ read-writer w c.args.snapshot.now c.args.own c.args.key.now c.args.self.now.versions c.in_ok-versions.versions.now
     (subst (λ (t : TableView). AllKept w t.versions) c.self.view_is c.self.invariant) c.in_ok-versions.ensures

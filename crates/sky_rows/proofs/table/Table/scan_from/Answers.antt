@@ -14,7 +14,7 @@ loop-key-init c =
       | in-Some w ↦ ap (bound_map (λ key. key.now)) w.start-is ∙ sym (ap (λ after. start_of (option_copied after)) w.in-Some.is)
       | in-None w ↦ ap (bound_map (λ key. key.now)) w.start-is ∙ sym (ap (λ after. start_of (option_copied after)) w.in-None.is)
     ] in
-    let w = wrote c.self.inside.written.keys in
+    let w = wrote c.self.inside.written in
     subst (λ (t : TableView). IsOnTheWay w c.args.snapshot.now c.args.own c.args.most (above (option_copied c.args.after) t.versions) c.into_iter-key-iterator.result c.new-found.result.items) c.self.view_is
     (started w c.args.snapshot.now c.args.own c.args.most (option_copied c.args.after) (bound_map (λ key. key.now) c.match-after.start) c.self.inside.rows.entries c.into_iter-key-iterator.result c.new-found.result.items
     c.self.invariant start (c.into_iter-key-iterator.ensures.into_iter_gives ∙ c.range-key-items.ensures.between tt) c.new-found.ensures.items)

@@ -5,4 +5,4 @@ use Rattle.sky_rows.proofs.ScanLemmas.{IsOnTheWay}
 use Rattle.sky_rows.proofs.table.Table.scan_from.Given as goal
 
 abbrev pub invariant-loop-key : goal.invariant-loop-key
-invariant-loop-key l = IsOnTheWay (wrote l.self-inside.written.keys) l.snapshot l.own l.most (above (option_copied l.after) l.self.versions) l.key-iterator l.found.items
+invariant-loop-key l = IsOnTheWay (wrote l.self-inside.written) l.snapshot l.own l.most (above (option_copied l.after) l.self.versions) l.key-iterator l.found.items
