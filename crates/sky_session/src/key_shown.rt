@@ -84,11 +84,15 @@ impl RowDb {
         requires now { now.now ≡ snapshot_now (seen self.now) }
         ensures { result ≡ ((rows_by (seen self.now)).key who table key.now).unseen }
     {
+        let Some(sight) = self.place(who) else {
+            // It reads by the snapshot of now, which sees all that is committed.
+            return None;
+        };
         if self.has_written(who, table, key) {
             return None;
         }
         let newest = self.table_at(table).newest_seen(key, now)?;
-        if self.sight(who, now).sees(newest.txid) {
+        if sight.sees(newest.txid) {
             return None;
         }
         Some(newest.txid)

@@ -103,6 +103,7 @@ impl RowDb {
     }
 
     /// A transaction wrote a key of a table. The row that it had is no part of what is kept, so here it is none.
+    /// Of those that have ended nobody asks any more which keys of the table they wrote, so that is forgotten.
     pub(crate) fn wrote(
         &mut self,
         txid: u64,
@@ -113,7 +114,10 @@ impl RowDb {
         requires { table < length (seen self.old).tables }
         ensures { OnOk result (seen self.new ≡ after_part (seen self.old) (tabled (wrote txid table key None row))) }
     {
-        self.tables[table as usize].write(txid, key, row)?;
+        let least = self.trans.least().unwrap_or(txid);
+        let table = &mut self.tables[table as usize];
+        table.prune(least);
+        table.write(txid, key, row)?;
         Ok(())
     }
 }
