@@ -3,7 +3,7 @@ use Rattle.std.proofs.Common.{◌≡◌, ℕ, ◌+◌, List, [], ◌∷◌, ◌+
 use Rattle.sky_model.specs.History.{Batch, History}
 use Rattle.sky_model.specs.Consumers.{subscription_id, position}
 use Rattle.sky_model.specs.LawsOfBatches.{first_tick, finished, Lead, BatchesAreConsecutive}
-use Rattle.sky_model.proofs.Legal.{begins, ends, begins_block, fails_block, ends_block, repeats_block, looks, makes_table, writes, makes, raises, puts, ticks_next, registers, opens, closes, Legal, start, next}
+use Rattle.sky_model.proofs.Legal.{begins, ends, begins_block, fails_block, ends_block, repeats_block, looks, makes_table, writes, begins_waiting, ends_waiting, makes, raises, puts, ticks_next, registers, opens, closes, Legal, start, next}
 use Rattle.sky_model.proofs.SnapshotLaws.{legal_place}
 use Rattle.sky_model.proofs.TickOrder.{is_made, is_made-tick}
 use Rattle.sky_model.proofs.ActiveBatches.{or-right, same_consumer, IsActive, active_batches}
@@ -51,6 +51,8 @@ finished_lead _ (next {h = h} l (ends_block who e)) queue consumer = finished_le
 finished_lead _ (next {h = h} l (repeats_block who)) queue consumer = finished_lead h l queue consumer
 finished_lead _ (next {h = h} l (looks who)) queue consumer = finished_lead h l queue consumer
 finished_lead _ (next {h = h} l (makes_table name columns e)) queue consumer = finished_lead h l queue consumer
+finished_lead _ (next {h = h} l (begins_waiting who n at_key attempt)) queue consumer = finished_lead h l queue consumer
+finished_lead _ (next {h = h} l (ends_waiting who)) queue consumer = finished_lead h l queue consumer
 finished_lead _ (next {h = h} l (writes who u table key old new e free)) queue consumer = finished_lead h l queue consumer
 finished_lead _ (next {h = h} l (makes name new)) queue consumer = finished_lead h l queue consumer
 finished_lead _ (next {h = h} l (raises p v i e)) queue consumer = finished_lead h l queue consumer

@@ -1,26 +1,29 @@
 -- What the versions of a key say of its rows, at each place of a legal history.
-use Rattle.std.proofs.Common.{◌≡◌, ℕ, ◌≤◌, Bool, true, false, not, List, [], ◌∷◌, ◌++◌, Option, Some, None, option_map, is_some, refl, sym, ◌∙◌, ap, subst, arith, if◌then◌else◌, ◌⊎◌, inl, inr}
-use Rattle.std.specs.Prelude.{◌||◌, ◌&&◌, ◌==◌, nat_lt, find, cond}
+use Rattle.std.proofs.Common.{◌≡◌, ℕ, Bool, true, false, List, [], ◌∷◌, ◌++◌, Option, Some, None, option_map, is_some, refl, sym, ◌∙◌, ap, subst, arith, if◌then◌else◌, ◌⊎◌, inl, inr}
+use Rattle.std.specs.Prelude.{◌||◌, ◌&&◌, ◌==◌, cond}
 use Rattle.std.specs.Option.{option_or}
 use Rattle.std.specs.Ordering.{eq_by_cmp}
 use Rattle.std.proofs.lemmas.Bool.Decides.{nat_tests}
 use Rattle.sky_val.specs.declared.val.Val.{Val}
 use Rattle.sky_val.specs.Order.{key_cmp}
 use Rattle.sky_val.specs.Entries.{at}
+use Rattle.sky_val.specs.Waits.{other_than}
 use Rattle.sky_txid.specs.Ids.{contains}
 use Rattle.sky_txid.specs.declared.version.Version.{Version}
-use Rattle.sky_txid.specs.Versions.{with_version, without, version_of, newest_by, row_of, is_other, versions_at, written}
+use Rattle.sky_txid.specs.Versions.{with_version, without, version_of, newest_by, row_of, versions_at, written}
 use Rattle.sky_txid.proofs.VersionLemmas.{left, OnlyLast, OthersPass, newest_with, newest_without, newest_more, version_of-with, version_of-without, only_more, only_without, only_with}
 use Rattle.sky_txid.proofs.EntryLemmas.{key_ties-is, versions_at-written, versions_at-forgotten}
 use Rattle.sky_model.specs.History.{Mark, ended, tabled, wrote, History}
-use Rattle.sky_model.specs.Transactions.{next_txid, running, has_ended}
+use Rattle.sky_model.specs.Transactions.{has_ended}
 use Rattle.sky_model.specs.Sessions.{own_txid}
-use Rattle.sky_model.specs.Rows.{committed, writes as writes_of, rows, has_written, holder, last_writer}
+use Rattle.sky_model.specs.Rows.{committed, writes as writes_of, rows, last_writer}
 use Rattle.sky_model.specs.Versions.{versions}
-use Rattle.sky_model.proofs.Legal.{Fine, begins, ends, begins_block, fails_block, ends_block, repeats_block, looks, makes_table, writes, makes, raises, puts, ticks_next, registers, opens, closes, Legal, start, next}
-use Rattle.sky_model.proofs.Snapshots.{sound, own-unended}
+use Rattle.sky_model.specs.Locks.{holder}
+use Rattle.sky_model.proofs.Legal.{Fine, begins, ends, begins_block, fails_block, ends_block, repeats_block, looks, makes_table, writes, begins_waiting, ends_waiting, makes, raises, puts, ticks_next, registers, opens, closes, Legal, start, next}
+use Rattle.sky_model.proofs.Snapshots.{own-unended}
 use Rattle.sky_model.proofs.RowWrites.{over, last_of, at-put_all, last_of-push, has_written-last_of, in_turn-push, in_turn-same, last_writer-push, last_writer-same}
-use Rattle.sky_model.proofs.RowKeys.{is_in_order-versions, committed-ended, begun}
+use Rattle.sky_model.proofs.RowKeys.{is_in_order-versions, committed-ended}
+use Rattle.sky_model.proofs.Holders.{nobody-else}
 
 -- the versions of a key at a place
 abbrev pub kept : History → ℕ → List Val → List Version
@@ -122,17 +125,6 @@ key_rolled_back h l who t unended table key k = record {
         ∙ ap (λ o. option_or o (newest_by (has_ended h) (without t (kept h table key)))) (version_of-without t t (kept h table key) ∙ none (t == t) (version_of t (kept h table key)) mine)
         ∙ newest_without (has_ended h) t (kept h table key) unended
 
--- what isn't found among all isn't any of them
-pub find-none : (p : ℕ → Bool) (xs : List ℕ) (u : ℕ) → find p xs ≡ None → contains u xs ≡ true → p u ≡ false
-find-none p [] u none there = absurd (cc)
-find-none p (x ∷ xs) u none there = of (p x) refl (u == x) refl none there (find-none p xs u)
-  where
-    of : (a : Bool) → p x ≡ a → (b : Bool) → (u == x) ≡ b → (if a then Some x else find p xs) ≡ None → (b || contains u xs) ≡ true
-        → (find p xs ≡ None → contains u xs ≡ true → p u ≡ false) → p u ≡ false
-    of true pass b same e t ih = absurd (cc)
-    of false fail true same e t ih = (let one : u ≡ x = grind (arith, nat_tests) in ap p one ∙ fail)
-    of false fail false same e t ih = ih e t
-
 -- where no other transaction that hasn't ended has a version, all others' pass
 others-from : (p : ℕ → Bool) (t : ℕ) (vs : List Version) → ((u : ℕ) → p u ≡ false → (t == u) ≡ false → version_of u vs ≡ None) → OthersPass p t vs
 others-from p t [] none = tt
@@ -153,19 +145,9 @@ others-from p t (v ∷ vs) none = (of (t == v.txid) refl (p v.txid) refl, others
         by true e = absurd (cc)
         by false e = e
 
--- a transaction that runs is none that has ended or hasn't begun
-pub runs-written : (h : History) → Legal h → (table u : ℕ) (key : List Val) → has_ended h u ≡ false → is_some (last_of key (writes_of table u h)) ≡ true → contains u (running h) ≡ true
-runs-written h l table u key unended wrote_it = (sound h l).runs u ∙ ap (λ b. nat_lt u (next_txid h) && not b) unended ∙ of (nat_lt u (next_txid h)) refl
-  where
-    of : (b : Bool) → nat_lt u (next_txid h) ≡ b → (b && true) ≡ true
-    of true e = refl
-    of false e =
-        let over : next_txid h ≤ u = grind (arith, nat_tests) in
-        absurd (cc (ap (λ ws. is_some (last_of key ws)) (sym (begun h l table u over)) ∙ wrote_it))
-
-module _ (h : History) (l : Legal h) (who t n : ℕ) (at_key : List Val) (old new : Option (List Val)) (mine : own_txid who h ≡ Some t) (free : holder n at_key (Some t) h ≡ None) where
+module _ (h : History) (l : Legal h) (who t n : ℕ) (at_key : List Val) (old new : Option (List Val)) (mine : own_txid who h ≡ Some t) (free : other_than who (holder n at_key h) ≡ None) where
   abbrev g : History
-  g = tabled (wrote t n at_key old new) ∷ h
+  g = tabled (wrote who t n at_key old new) ∷ h
 
   unended : has_ended h t ≡ false
   unended = own-unended h l who t mine
@@ -178,9 +160,7 @@ module _ (h : History) (l : Legal h) (who t n : ℕ) (at_key : List Val) (old ne
       of None e = refl
       of (Some v) e =
           let wrote_it : is_some (last_of at_key (writes_of n u h)) ≡ true = ap is_some (sym (k.own u runs_on)) ∙ ap (λ x. is_some (option_map Version.row x)) e in
-          let fails : (not (t == u) && has_written at_key (writes_of n u h)) ≡ false =
-          find-none (λ x. is_other (Some t) x && has_written at_key (writes_of n x h)) (running h) u free (runs-written h l n u at_key runs_on wrote_it) in
-          absurd (cc (sym fails ∙ ap (λ b. not b && has_written at_key (writes_of n u h)) other ∙ has_written-last_of at_key (writes_of n u h) ∙ wrote_it))
+          absurd (nobody-else h l who t n at_key mine free u runs_on other (has_written-last_of at_key (writes_of n u h) ∙ wrote_it))
 
   pub kept-wrote : (table : ℕ) (key : List Val) → kept g table key ≡ (if (n == table) && eq_by_cmp key_cmp key at_key then with_version t new (kept h table key) else kept h table key)
   kept-wrote table key = of (n == table)
@@ -268,6 +248,8 @@ key_step h _ (ends_block who e) l table key k = record { newest = k.newest; writ
 key_step h _ (repeats_block who) l table key k = record { newest = k.newest; writer = k.writer; own = k.own; only = k.only }
 key_step h _ (looks who) l table key k = record { newest = k.newest; writer = k.writer; own = k.own; only = k.only }
 key_step h _ (makes_table name columns e) l table key k = record { newest = k.newest; writer = k.writer; own = k.own; only = k.only }
+key_step h _ (begins_waiting who n at_key attempt) l table key k = record { newest = k.newest; writer = k.writer; own = k.own; only = k.only }
+key_step h _ (ends_waiting who) l table key k = record { newest = k.newest; writer = k.writer; own = k.own; only = k.only }
 key_step h _ (makes name e) l table key k = record { newest = k.newest; writer = k.writer; own = k.own; only = k.only }
 key_step h _ (raises q v i le) l table key k = record { newest = k.newest; writer = k.writer; own = k.own; only = k.only }
 key_step h _ (puts who q e i n o) l table key k = record { newest = k.newest; writer = k.writer; own = k.own; only = k.only }

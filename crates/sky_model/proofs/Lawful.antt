@@ -1,35 +1,41 @@
 -- Whatever is called, the history of each database is legal.
-use Rattle.std.proofs.Common.{◌≡◌, ℕ, ℤ, ◌+◌, ◌<◌, List, [], ◌∷◌, ◌++◌, Bool, true, false, ◌==◌, nat_le, Option, Some, None, Ok, Err, option_map, unwrap_or, map, length, is_some, refl, sym, ◌∙◌, ap, subst, arith, if◌then◌else◌, length-append, ◌^◌}
+use Rattle.std.proofs.Common.{◌≡◌, ℕ, suc, zero, ℤ, pos, ◌+◌, ◌<◌, List, [], ◌∷◌, ◌++◌, Bool, true, false, ◌==◌, nat_le, Option, Some, None, Ok, Err, option_map, unwrap_or, map, length, is_some, refl, sym, ◌∙◌, ap, subst, arith, if◌then◌else◌, length-append, ◌^◌}
 use Rattle.std.proofs.lemmas.Bool.Decides.{nat_tests}
 use Rattle.sky_model.specs.declared.stmt.Stmt.{Stmt}
 use Rattle.sky_model.specs.declared.stmt.Extra.{Extra}
-use Rattle.sky_model.specs.declared.stmt.RowStmt.TheVariants.{OpenDb, Close, Cancel, Begin, BeginRepeatableRead, Commit, Rollback, TxidCurrent, TxidCurrentSnapshot, TxidVisibleInSnapshot, CreateTable, Insert, Update, Delete, Get, Scan}
+use Rattle.sky_model.specs.declared.stmt.RowStmt.{RowStmt}
 use Rattle.sky_model.specs.declared.stmt.Stmt.TheVariants.{Row, CreateQueue, InsertEvent, Ticker, ForceTick, RegisterConsumer, NextBatch, GetBatchEvents, FinishBatch}
 use Rattle.sky_model.specs.declared.reply.Reply.TheVariants.{Number}
 use Rattle.sky_model.specs.declared.reply.Limit.TheVariants.{Queues}
 use Rattle.sky_model.specs.declared.reply.Refusal.TheVariants.{NoQueue, TooMany, TxidsSpent, EventIdsSpent, NoConsumer}
+use Rattle.sky_val.specs.Waits.{Waiting, is_waiting}
 use Rattle.sky_names.specs.Places.{place_of}
-use Rattle.sky_model.specs.History.{Batch, Mark, began, ended, block_begun, block_failed, block_ended, repeats, looked, tabled, queued, made, raised, put, ticked, registered, opened, closed, History, Fact, left, within, Past}
+use Rattle.sky_model.specs.History.{Batch, Mark, began, ended, block_begun, block_failed, block_ended, repeats, looked, tabled, waited, queued, made, raised, put, ticked, registered, opened, closed, History, Fact, left, within, Past}
 use Rattle.sky_model.specs.Transactions.{next_txid}
 use Rattle.sky_model.specs.Sessions.{Block, outside, inside, failed, block, own_txid, session}
 use Rattle.sky_model.specs.Config.{default_config}
 use Rattle.sky_model.specs.Queues.{queue_names, Tick, ticks, tick, newest_tick, sequence}
 use Rattle.sky_model.specs.Consumers.{subscription_id, Subscription, subscription, active_batch}
+use Rattle.sky_model.specs.Locks.{waiting}
 use Rattle.sky_model.specs.State.{part_of, database_of}
+use Rattle.sky_model.specs.ShownRows.{rows_in}
 use Rattle.sky_model.specs.OwnTransaction.{own_or_next, begin_of, commit_of, written}
-use Rattle.sky_model.specs.Outcome.{Outcome, Checked, ◌>>=◌, ◌>>◌, refused_if, answers, does_marks, settled}
+use Rattle.sky_model.specs.Outcome.{Checked, ◌>>=◌, ◌>>◌, refused_if, answers, does_marks, settled}
 use Rattle.sky_model.specs.Allowed.{where_of, allowed}
 use Rattle.sky_model.specs.StepQueue.{create_queue, insert_event, ticker, force_tick, is_due, forced, newest_id, id_of, next_event_id, made_event}
 use Rattle.sky_model.specs.StepConsumer.{has_dot, register_consumer, next_batch, opens_batch, takes_batch, finishes}
 use Rattle.sky_model.specs.World.{World, world_of, history_in, on_top, session_names, home}
-use Rattle.sky_model.specs.Reader.{shown_in, database_by_history, within_database, by_past, Deed, appears, followed}
+use Rattle.sky_model.specs.Reader.{shown_in, part_by_history, database_by_history, within_part, within_database, by_past, Deed, appears, followed}
 use Rattle.sky_model.specs.Made.{takes_sight, looking, runs_if}
-use Rattle.sky_model.specs.Calls.{form, making, statement, is_close, opens, unopened, session_does, turn, Call, called, after, past_of}
-use Rattle.sky_model.proofs.Legal.{Fine, begins, ends, looks, makes, raises, puts, ticks_next, registers, opens as opens_fine, closes, Chain, done, more, Legal, start, next}
+use Rattle.sky_model.specs.Settling.{Turn, turn_of, behind_marks, and_then, ready, resumed, goes_on, settles, settling, with_settling}
+use Rattle.sky_model.specs.Calls.{form, making, row_statement, row_turn, statement, database_turn, is_leaving, unopened, session_does, turn, Call, called, after, past_of}
+use Rattle.sky_model.proofs.Legal.{Fine, begins, ends, looks, ends_waiting, makes, raises, puts, ticks_next, registers, opens as opens_fine, closes, Chain, done, more, Legal, start, next}
 use Rattle.sky_model.proofs.Good.{Good, same-session, good_test, good_test_then, good_found, good_if, good_refused, good_commits}
-use Rattle.sky_model.proofs.LawfulRows.{good_row_form}
+use Rattle.sky_model.proofs.LawfulRows.{good_attempts, good_row_form}
 use Rattle.sky_model.proofs.MadeAt.{same-made_by}
+use Rattle.sky_model.proofs.Turns.{ReadAlike, same-with_settling, Any, each-any}
 use Rattle.sky_model.proofs.Ticks.{ticks_beyond}
+use Rattle.sky_model.proofs.Unopened.{on_top-append, unopened-within}
 use Rattle.sky_names.proofs.PlaceLemmas.{place_of_within}
 
 -- an active batch is found by its id
@@ -193,7 +199,41 @@ good_runs_if h l now who stmt (Ok _) = of (takes_sight (where_of stmt) (session 
     of false = good_form h l now who stmt
 
 good_statement : (h : History) → Legal h → (now : ℤ) (who : ℕ) (stmt : Stmt) → Chain h (statement database_by_history h now who stmt).marks
-good_statement h l now who stmt = good_runs_if h l now who stmt (allowed (block who h) (where_of stmt))
+good_statement h l now who stmt = good_runs_if h l now who stmt (allowed (is_waiting who (waiting h)) (block who h) (where_of stmt))
+
+-- so are the marks of those that are let go on
+good_append : (h : History) (xs ys : List Mark) → Chain h xs → Chain (behind_marks part_by_history h xs) ys → Chain h (xs ++ ys)
+good_append h [] ys done also = also
+good_append h (x ∷ xs) ys (more fine chain) also = more fine (good_append (x ∷ h) xs ys chain also)
+
+pub legal_behind : (h : History) (marks : List Mark) → Legal h → Chain h marks → Legal (behind_marks part_by_history h marks)
+legal_behind h [] l done = l
+legal_behind h (mark ∷ marks) l (more fine chain) = legal_behind (mark ∷ h) marks (next l fine) chain
+
+good_then : (h : History) → Legal h → (turn : Turn) (rest : History → Turn) → Chain h turn.marks → ((g : History) → Legal g → Chain g (rest g).marks)
+    → Chain h (and_then part_by_history h turn rest).marks
+good_then h l turn rest chain also = good_append h turn.marks _ chain (also (behind_marks part_by_history h turn.marks) (legal_behind h turn.marks l chain))
+
+good_goes_on : (h : History) → Legal h → (rest : History → Turn) (o : Option Waiting) → ((g : History) → Legal g → Chain g (rest g).marks) → Chain h (goes_on part_by_history h rest o).marks
+good_goes_on h l rest None also = done
+good_goes_on h l rest (Some w) also =
+    good_then h l (resumed part_by_history h w) rest
+    (more (ends_waiting w.who) (good_attempts (tabled (waited w.who) ∷ h) w.who w.table w.key ((rows_in (tabled (waited w.who) ∷ h)).key w.who w.table w.key) ((part_of h).attempt w.who)))
+    also
+
+good_settles : (n : ℕ) (h : History) → Legal h → Chain h (settles part_by_history n h).marks
+good_settles zero h l = done
+good_settles (suc n) h l = good_goes_on h l (settles part_by_history n) (ready (part_of h)) (good_settles n)
+
+pub good_with_settling : (h : History) → Legal h → (turn : Turn) → Chain h turn.marks → Chain h (with_settling part_by_history h turn).marks
+good_with_settling h l turn chain = good_then h l turn (settling part_by_history) chain (λ g legal. good_settles (length (waiting g)) g legal)
+
+-- a statement on rows is one of a database
+pub good_row_turn : (h : History) → Legal h → (who : ℕ) (stmt : RowStmt) → Chain h (row_turn part_by_history h who stmt).marks
+good_row_turn h l who stmt = good_with_settling h l (turn_of who (row_statement part_by_history h who stmt)) (good_statement h l (pos 0) who (Row stmt))
+
+pub good_turn : (h : History) → Legal h → (now : ℤ) (who : ℕ) (stmt : Stmt) → Chain h (database_turn database_by_history h now who stmt).marks
+good_turn h l now who stmt = good_with_settling h l (turn_of who (statement database_by_history h now who stmt)) (good_statement h l now who stmt)
 
 -- the history of each database is legal
 abbrev pub AllLegal : Past → Type 0
@@ -216,10 +256,6 @@ legal_marks past d (mark ∷ marks) (more fine chain) all =
     same : (d == d) ≡ true
     same = grind (arith, nat_tests)
 
-on_top-append : (past : Past) (xs ys : List Fact) → on_top past (xs ++ ys) ≡ on_top (on_top past xs) ys
-on_top-append past [] ys = refl
-on_top-append past (x ∷ xs) ys = on_top-append (x ∷ past) xs ys
-
 legal_leaving : (past : Past) (who : ℕ) (facts : List Fact) (leaving : Bool) → AllLegal (on_top past facts) → AllLegal (on_top past (facts ++ (if leaving then left who ∷ [] else [])))
 legal_leaving past who facts true all = subst AllLegal (sym (on_top-append past facts (left who ∷ []))) all
 legal_leaving past who facts false all = subst AllLegal (sym (on_top-append past facts [])) all
@@ -228,54 +264,43 @@ legal_if : (past : Past) (b : Bool) (x y : Deed) → AllLegal (on_top past x.fac
 legal_if past true x y all also = all
 legal_if past false x y all also = also
 
-legal_opens : (past : Past) (w : World) (who : ℕ) (name : List ℕ) (found : Option ℕ) → AllLegal past → AllLegal (on_top past (opens w who name found).facts)
-legal_opens past w who name (Some d) all = all
-legal_opens past w who name None all = legal_if past (nat_le 16 (length w.databases)) _ _ all all
-
 legal_unopened : (past : Past) (w : World) (who : ℕ) (stmt : Stmt) → AllLegal past → AllLegal (on_top past (unopened w who stmt).facts)
-legal_unopened past w who (Row (OpenDb name)) all = legal_opens past w who name (place_of name w.databases) all
-legal_unopened past w who (Row Close) all = all
-legal_unopened past w who (Row Cancel) all = all
-legal_unopened past w who (Row Begin) all = all
-legal_unopened past w who (Row BeginRepeatableRead) all = all
-legal_unopened past w who (Row Commit) all = all
-legal_unopened past w who (Row Rollback) all = all
-legal_unopened past w who (Row TxidCurrent) all = all
-legal_unopened past w who (Row TxidCurrentSnapshot) all = all
-legal_unopened past w who (Row (TxidVisibleInSnapshot txid snapshot)) all = all
-legal_unopened past w who (Row (CreateTable table columns)) all = all
-legal_unopened past w who (Row (Insert table r)) all = all
-legal_unopened past w who (Row (Update table key sets)) all = all
-legal_unopened past w who (Row (Delete table key)) all = all
-legal_unopened past w who (Row (Get table key)) all = all
-legal_unopened past w who (Row (Scan table)) all = all
-legal_unopened past w who (CreateQueue queue) all = all
-legal_unopened past w who (InsertEvent queue ev_type ev_data extra) all = all
-legal_unopened past w who (Ticker queue) all = all
-legal_unopened past w who (ForceTick queue) all = all
-legal_unopened past w who (RegisterConsumer queue consumer) all = all
-legal_unopened past w who (NextBatch queue consumer) all = all
-legal_unopened past w who (GetBatchEvents batch) all = all
-legal_unopened past w who (FinishBatch batch) all = all
+legal_unopened past w who stmt all d = subst Legal (sym (unopened-within past w who stmt d)) (all d)
 
 -- in the past a statement reads its database's history
 same-within : (past : Past) (d : ℕ) (now : ℤ) (who : ℕ) (stmt : Stmt) → statement (within_database by_past d) past now who stmt ≡ statement database_by_history (history_in past d) now who stmt
 same-within past d now who stmt =
     same-made_by (making (within_database by_past d) now who stmt) (making database_by_history now who stmt) (where_of stmt) who past (history_in past d) (record {
       sessions = refl;
+      waiting = refl;
       outcomes = refl;
       sessions_behind = ap (λ b. session (if b then looked who ∷ history_in past d else history_in past d) who) (same-session d);
       outcomes_behind = ap (λ b. form (database_of (if b then looked who ∷ history_in past d else history_in past d)) (shown_in (if b then looked who ∷ history_in past d else history_in past d)) now who stmt) (same-session d);
     })
 
+in-database : (d : ℕ) → ReadAlike (within_part (within_database by_past d)) part_by_history Any (λ past h. history_in past d ≡ h)
+in-database d = record {
+  parts = λ past h is. ap part_of is;
+  rows = λ past h is. ap rows_in is;
+  behind = λ past h mark is _. ap (λ b. if b then mark ∷ history_in past d else history_in past d) (same-session d) ∙ ap (λ g. mark ∷ g) is;
+}
+
+-- and what it lets go on does
+pub same-turn-within : (past : Past) (d : ℕ) (now : ℤ) (who : ℕ) (stmt : Stmt) → database_turn (within_database by_past d) past now who stmt ≡ database_turn database_by_history (history_in past d) now who stmt
+same-turn-within past d now who stmt =
+    same-with_settling (within_part (within_database by_past d)) part_by_history Any (λ p h. history_in p d ≡ h) (in-database d) past (history_in past d) _ _ refl
+    (ap (turn_of who) (same-within past d now who stmt)) (each-any (within_part (within_database by_past d)) past _)
+
+pub good_turn-within : (past : Past) → AllLegal past → (d : ℕ) (now : ℤ) (who : ℕ) (stmt : Stmt) → Chain (history_in past d) (database_turn (within_database by_past d) past now who stmt).marks
+good_turn-within past all d now who stmt =
+    subst (λ (turn : Turn). Chain (history_in past d) turn.marks) (sym (same-turn-within past d now who stmt)) (good_turn (history_in past d) (all d) now who stmt)
+
 legal_session : (past : Past) (who : ℕ) (stmt : Stmt) (at : Option ℕ) → AllLegal past → AllLegal (on_top past (session_does by_past past who stmt at).facts)
 legal_session past who stmt None all = legal_unopened past (world_of past) who stmt all
 legal_session past who stmt (Some d) all =
-    legal_leaving past who (map (within d) (statement (within_database by_past d) past (world_of past).now who stmt).marks) (is_close stmt)
-    (legal_marks past d (statement (within_database by_past d) past (world_of past).now who stmt).marks
-    (subst (λ (outcome : Outcome). Chain (history_in past d) outcome.marks) (sym (same-within past d (world_of past).now who stmt))
-    (good_statement (history_in past d) (all d) (world_of past).now who stmt))
-    all)
+    legal_leaving past who (map (within d) (database_turn (within_database by_past d) past (world_of past).now who stmt).marks)
+    (is_leaving (is_waiting who ((world_of past).database d).part.waiting) stmt)
+    (legal_marks past d (database_turn (within_database by_past d) past (world_of past).now who stmt).marks (good_turn-within past all d (world_of past).now who stmt) all)
 
 -- a turn, and one behind another
 legal_turn : (past : Past) (who : ℕ) (stmt : Stmt) → AllLegal past → AllLegal (on_top past (turn by_past who stmt past).facts)

@@ -1,30 +1,34 @@
 -- The statements on sessions, transactions, tables and rows leave a legal history legal.
-use Rattle.std.proofs.Common.{◌≡◌, ℕ, ◌^◌, List, [], ◌∷◌, ◌++◌, Bool, true, false, not, nat_le, Option, Some, None, Ok, option_map, length, is_some, refl, ap, if◌then◌else◌}
-use Rattle.std.specs.Prelude.{◌&&◌, find}
+use Rattle.std.proofs.Common.{◌≡◌, ℕ, ◌^◌, List, [], ◌∷◌, ◌++◌, Bool, true, false, nat_le, Option, Some, None, Ok, option_map, length, is_some, refl, ap, if◌then◌else◌}
+use Rattle.std.specs.Prelude.{find}
 use Rattle.sky_val.specs.declared.val.Val.{Val}
 use Rattle.sky_val.specs.declared.column.Column.{Column}
 use Rattle.sky_val.specs.Schemas.{schema_fault, row_fault, key_columns, key_of}
+use Rattle.sky_val.specs.Waits.{other_than, is_waiting}
 use Rattle.sky_names.specs.Places.{place_of}
 use Rattle.sky_txid.specs.SnapshotText.{parse_snapshot}
-use Rattle.sky_txid.specs.Versions.{is_other}
 use Rattle.sky_model.specs.declared.stmt.Set.{Set}
 use Rattle.sky_model.specs.declared.stmt.RowStmt.{RowStmt}
 use Rattle.sky_model.specs.declared.stmt.RowStmt.TheVariants.{OpenDb, Close, Cancel, Begin, BeginRepeatableRead, Commit, Rollback, TxidCurrent, TxidCurrentSnapshot, TxidVisibleInSnapshot, CreateTable, Insert, Update, Delete, Get, Scan}
 use Rattle.sky_model.specs.declared.reply.Reply.TheVariants.{Number}
 use Rattle.sky_model.specs.declared.reply.Limit.TheVariants.{Tables}
-use Rattle.sky_model.specs.declared.reply.Refusal.TheVariants.{AlreadyOpen, BadRow, BadSnapshot, Duplicate, KeyBusy, KeyChange, NoTable, Serialize, TableExists, TooMany, TxidsSpent}
-use Rattle.sky_model.specs.History.{began, tabled, wrote, History}
-use Rattle.sky_model.specs.Transactions.{next_txid, running}
+use Rattle.sky_model.specs.declared.reply.Refusal.TheVariants.{AlreadyOpen, BadRow, BadSnapshot, Canceled, Deadlock, Duplicate, KeyChange, NoTable, Serialize, TableExists, TooMany, TxidsSpent}
+use Rattle.sky_model.specs.declared.stmt.Attempt.{Attempt}
+use Rattle.sky_model.specs.declared.stmt.Attempt.TheVariants.{Insertion, Changes, Deletion}
+use Rattle.sky_model.specs.History.{began, tabled, wrote, waited, History}
+use Rattle.sky_model.specs.Transactions.{next_txid}
 use Rattle.sky_model.specs.Sessions.{Block, outside, inside, failed, block, own_txid}
-use Rattle.sky_model.specs.Rows.{table_names, columns_of, writes as writes_of, has_written, holder}
+use Rattle.sky_model.specs.Rows.{table_names, columns_of}
+use Rattle.sky_model.specs.Locks.{holder, waiting}
 use Rattle.sky_model.specs.State.{part_of}
-use Rattle.sky_model.specs.ShownRows.{rows_in}
-use Rattle.sky_model.specs.Outcome.{Checked, ◌>>=◌, does_marks}
+use Rattle.sky_model.specs.ShownRows.{KeyShown, rows_in}
+use Rattle.sky_model.specs.Outcome.{Outcome, Checked, ◌>>=◌, does_marks}
 use Rattle.sky_model.specs.OwnTransaction.{own_or_next, begin_of, commit_of}
-use Rattle.sky_model.specs.StepRows.{schema_refusal, create_table, bad_values, bad_sets, is_key_change, writes_key, inserts, insert, changes, update, delete, row_or_none, get}
-use Rattle.sky_model.specs.StepSession.{begin, begin_repeatable_read, leaves, commit, rollback, close}
+use Rattle.sky_model.specs.StepLocks.{ring, once_free}
+use Rattle.sky_model.specs.StepRows.{schema_refusal, create_table, bad_values, bad_sets, is_key_change, writes_key, changes, attempts, insert, update, delete, row_or_none, get}
+use Rattle.sky_model.specs.StepSession.{begin, begin_repeatable_read, leaves, commit, rollback, close, cancel}
 use Rattle.sky_model.specs.Calls.{row_form}
-use Rattle.sky_model.proofs.Legal.{begins, ends, begins_block, repeats_block, ends_block, makes_table, writes, Chain, done, more}
+use Rattle.sky_model.proofs.Legal.{begins, ends, begins_block, repeats_block, ends_block, makes_table, writes, begins_waiting, ends_waiting, Chain, done, more}
 use Rattle.sky_model.proofs.Good.{Good, same-session, good_refused, good_test, good_test_then, good_found, good_refused_by, good_checked, good_commits}
 
 good_begin : (h : History) (who : ℕ) (b : Block) → block who h ≡ b → Good h who (begin who b)
@@ -51,6 +55,10 @@ good_close h who outside = done
 good_close h who inside = good_leaves h who false (own_txid who h) refl
 good_close h who failed = good_leaves h who false (own_txid who h) refl
 
+good_cancel : (h : History) (who : ℕ) (waits : Bool) → Good h who (cancel who (own_txid who h) (block who h) waits)
+good_cancel h who false = done
+good_cancel h who true = more (ends_waiting who) (good_refused (tabled (waited who) ∷ h) who Canceled)
+
 good_begin_repeatable_read : (h : History) (who : ℕ) (b : Block) → block who h ≡ b → Good h who (begin_repeatable_read who b)
 good_begin_repeatable_read h who outside is = more (begins_block who is) (more (repeats_block who) done)
 good_begin_repeatable_read h who inside is = done
@@ -63,66 +71,51 @@ good_txid_current h who None none =
     (more (begins who none) (good_commits (began who (next_txid h) ∷ h) who (next_txid h) (block who h) (ap (λ b. if b then Some (next_txid h) else own_txid who h) (same-session who))))
 good_txid_current h who (Some t) mine = good_commits h who t (block who h) mine
 
--- a new transaction finds the key as free as one that had none
-find-new : (p q : ℕ → Bool) (xs : List ℕ) (t : ℕ) → ((u : ℕ) → q u ≡ true → p u ≡ true) → q t ≡ false → find p xs ≡ None → find q (xs ++ t ∷ []) ≡ None
-find-new p q [] t less not_this none = ap (λ b. if b then Some t else None) not_this
-find-new p q (x ∷ xs) t less not_this none = of (p x) refl (q x) refl none (find-new p q xs t less not_this)
-  where
-    of : (a : Bool) → p x ≡ a → (b : Bool) → q x ≡ b → (if a then Some x else find p xs) ≡ None → (find p xs ≡ None → find q (xs ++ t ∷ []) ≡ None)
-        → (if b then Some x else find q (xs ++ t ∷ [])) ≡ None
-    of true pass b e is ih = absurd (cc)
-    of false fail true e is ih = absurd (cc (less x e))
-    of false fail false e is ih = ih is
-
-free_after_begin : (h : History) (who t table : ℕ) (key : List Val) → holder table key None h ≡ None → holder table key (Some t) (began who t ∷ h) ≡ None
-free_after_begin h who t table key free =
-    find-new (λ u. is_other None u && has_written key (writes_of table u h)) (λ u. is_other (Some t) u && has_written key (writes_of table u h)) (running h) t
-    (λ u. both (is_other (Some t) u) (has_written key (writes_of table u h)))
-    (ap (λ b. not b && has_written key (writes_of table t h)) (same-session t)) free
-  where
-    both : (b c : Bool) → (b && c) ≡ true → c ≡ true
-    both true c e = e
-    both false c e = absurd (cc)
-
-good_writes_key : (h : History) (who table : ℕ) (key : List Val) (old new : Option (List Val)) → holder table key (own_txid who h) h ≡ None
+good_writes_key : (h : History) (who table : ℕ) (key : List Val) (old new : Option (List Val)) → other_than who (holder table key h) ≡ None
     → Good h who (writes_key (part_of h) who table key old new)
-good_writes_key h who table key old new = by_own (own_txid who h) refl
+good_writes_key h who table key old new free = by_own (own_txid who h) refl
   where
-    by_own : (o : Option ℕ) → own_txid who h ≡ o → holder table key o h ≡ None → Good h who (own_or_next (part_of h) o >>= (λ t.
-        does_marks (Number 1) (begin_of who t o ++ (tabled (wrote t table key old new) ∷ []) ++ commit_of who t (block who h))))
-    by_own None none free =
+    by_own : (o : Option ℕ) → own_txid who h ≡ o → Good h who (own_or_next (part_of h) o >>= (λ t.
+        does_marks (Number 1) (begin_of who t o ++ (tabled (wrote who t table key old new) ∷ []) ++ commit_of who t (block who h))))
+    by_own None none =
         let mine : own_txid who (began who (next_txid h) ∷ h) ≡ Some (next_txid h) = ap (λ b. if b then Some (next_txid h) else own_txid who h) (same-session who) in
         good_test_then h who (nat_le (2 ^ 62) (next_txid h)) TxidsSpent (next_txid h) _
         (more (begins who none)
-        (more (writes who (next_txid h) table key old new mine (free_after_begin h who (next_txid h) table key free))
-        (good_commits (tabled (wrote (next_txid h) table key old new) ∷ began who (next_txid h) ∷ h) who (next_txid h) (block who h) mine)))
-    by_own (Some t) mine free = more (writes who t table key old new mine free) (good_commits (tabled (wrote t table key old new) ∷ h) who t (block who h) mine)
+        (more (writes who (next_txid h) table key old new mine free)
+        (good_commits (tabled (wrote who (next_txid h) table key old new) ∷ began who (next_txid h) ∷ h) who (next_txid h) (block who h) mine)))
+    by_own (Some t) mine = more (writes who t table key old new mine free) (good_commits (tabled (wrote who t table key old new) ∷ h) who t (block who h) mine)
 
--- what isn't refused isn't there
-none-mapped : {A B : Type 0} (f : A → B) (o : Option A) → option_map f o ≡ None → o ≡ None
-none-mapped f None e = refl
-none-mapped f (Some a) e = absurd (cc)
+-- what is done once a key is free
+good_once_free : (h : History) (who table : ℕ) (key : List Val) (attempt : Attempt) (c : Checked Outcome) → (other_than who (holder table key h) ≡ None → Good h who c)
+    → Good h who (once_free (part_of h) who table key attempt (other_than who (holder table key h)) c)
+good_once_free h who table key attempt c good = of (other_than who (holder table key h)) refl
+  where
+    of : (o : Option ℕ) → other_than who (holder table key h) ≡ o → Good h who (once_free (part_of h) who table key attempt o c)
+    of None free = good free
+    of (Some v) is = good_refused_by h who (option_map Deadlock (ring (part_of h) who v)) _ (λ _. more (begins_waiting who table key attempt) done)
 
-good_inserts : (h : History) (who table : ℕ) (key row : List Val) → Good h who (inserts (part_of h) ((rows_in h).key who table key) who table key row)
-good_inserts h who table key row =
-    good_refused_by h who (option_map KeyBusy (holder table key (own_txid who h) h)) _ (λ free.
-    good_test h who (is_some ((rows_in h).key who table key).standing) Duplicate _ (λ _.
-    good_writes_key h who table key None (Some row) (none-mapped KeyBusy _ free)))
+good_changes : (h : History) (who table : ℕ) (key : List Val) (attempt : Attempt) (shown : KeyShown) (new_of : List Val → Checked (Option (List Val))) (row : Option (List Val))
+    → Good h who (changes (part_of h) shown who table key attempt new_of row)
+good_changes h who table key attempt shown new_of None = done
+good_changes h who table key attempt shown new_of (Some row) =
+    good_once_free h who table key attempt _ (λ free.
+    good_refused_by h who (option_map Serialize shown.unseen) _ (λ _.
+    good_checked h who (new_of row) _ (λ new.
+    good_writes_key h who table key (Some row) new free)))
+
+pub good_attempts : (h : History) (who table : ℕ) (key : List Val) (shown : KeyShown) (attempt : Attempt) → Good h who (attempts (part_of h) shown who table key attempt)
+good_attempts h who table key shown (Insertion row) =
+    good_once_free h who table key (Insertion row) _ (λ free.
+    good_test h who (is_some shown.standing) Duplicate _ (λ _.
+    good_writes_key h who table key None (Some row) free))
+good_attempts h who table key shown (Changes sets) = good_changes h who table key (Changes sets) shown _ shown.row
+good_attempts h who table key shown Deletion = good_changes h who table key Deletion shown (λ row. Ok None) shown.row
 
 good_insert : (h : History) (who : ℕ) (name : List ℕ) (row : List Val) → Good h who (insert (part_of h) (rows_in h) who name row)
 good_insert h who name row =
     good_found h who (place_of name (table_names h)) (NoTable name) _ (λ table _.
     good_refused_by h who (option_map (bad_values (columns_of table h)) (row_fault (columns_of table h) row)) _ (λ _.
-    good_inserts h who table (key_of (columns_of table h) row) row))
-
-good_changes : (h : History) (who table : ℕ) (key : List Val) (new_of : List Val → Checked (Option (List Val))) (row : Option (List Val))
-    → Good h who (changes (part_of h) ((rows_in h).key who table key) who table key new_of row)
-good_changes h who table key new_of None = done
-good_changes h who table key new_of (Some row) =
-    good_refused_by h who (option_map KeyBusy (holder table key (own_txid who h) h)) _ (λ free.
-    good_refused_by h who (option_map Serialize ((rows_in h).key who table key).unseen) _ (λ _.
-    good_checked h who (new_of row) _ (λ new.
-    good_writes_key h who table key (Some row) new (none-mapped KeyBusy _ free))))
+    good_attempts h who table (key_of (columns_of table h) row) ((rows_in h).key who table (key_of (columns_of table h) row)) (Insertion row)))
 
 good_update : (h : History) (who : ℕ) (name : List ℕ) (key : List Val) (sets : List Set) → Good h who (update (part_of h) (rows_in h) who name key sets)
 good_update h who name key sets =
@@ -130,13 +123,13 @@ good_update h who name key sets =
     good_refused_by h who (option_map (bad_values (key_columns (columns_of table h))) (row_fault (key_columns (columns_of table h)) key)) _ (λ _.
     good_refused_by h who (option_map BadRow (bad_sets (columns_of table h) [] sets)) _ (λ _.
     good_refused_by h who (option_map (λ (set : Set). KeyChange set.column) (find (is_key_change (columns_of table h)) sets)) _ (λ _.
-    good_changes h who table key _ ((rows_in h).key who table key).row))))
+    good_attempts h who table key ((rows_in h).key who table key) (Changes sets)))))
 
 good_delete : (h : History) (who : ℕ) (name : List ℕ) (key : List Val) → Good h who (delete (part_of h) (rows_in h) who name key)
 good_delete h who name key =
     good_found h who (place_of name (table_names h)) (NoTable name) _ (λ table _.
     good_refused_by h who (option_map (bad_values (key_columns (columns_of table h))) (row_fault (key_columns (columns_of table h)) key)) _ (λ _.
-    good_changes h who table key (λ row. Ok None) ((rows_in h).key who table key).row))
+    good_attempts h who table key ((rows_in h).key who table key) Deletion))
 
 good_row_or_none : (h : History) (who : ℕ) (row : Option (List Val)) → Good h who (row_or_none row)
 good_row_or_none h who None = done
@@ -162,7 +155,7 @@ good_create_table h who name columns =
 pub good_row_form : (h : History) (who : ℕ) (stmt : RowStmt) → Good h who (row_form (part_of h) (rows_in h) who stmt)
 good_row_form h who (OpenDb name) = good_refused h who AlreadyOpen
 good_row_form h who Close = good_close h who (block who h)
-good_row_form h who Cancel = done
+good_row_form h who Cancel = good_cancel h who (is_waiting who (waiting h))
 good_row_form h who Begin = good_begin h who (block who h) refl
 good_row_form h who BeginRepeatableRead = good_begin_repeatable_read h who (block who h) refl
 good_row_form h who Commit = good_commit h who (block who h)

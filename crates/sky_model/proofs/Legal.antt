@@ -4,11 +4,14 @@ use Rattle.std.proofs.Common.{◌≡◌, ℕ, ◌+◌, ◌<◌, ◌≤◌, ℤ, 
 use Rattle.sky_val.specs.declared.event.Event.{Event}
 use Rattle.sky_val.specs.declared.val.Val.{Val}
 use Rattle.sky_val.specs.declared.column.Column.{Column}
+use Rattle.sky_val.specs.Waits.{other_than}
 use Rattle.sky_names.specs.Places.{place_of}
-use Rattle.sky_model.specs.History.{Batch, Mark, began, ended, block_begun, repeats, looked, block_failed, block_ended, tabled, table_made, wrote, queued, made, raised, put, ticked, registered, opened, closed, History}
+use Rattle.sky_model.specs.declared.stmt.Attempt.{Attempt}
+use Rattle.sky_model.specs.History.{Batch, Mark, began, ended, block_begun, repeats, looked, block_failed, block_ended, tabled, table_made, wrote, waits, waited, queued, made, raised, put, ticked, registered, opened, closed, History}
 use Rattle.sky_model.specs.Transactions.{next_txid}
 use Rattle.sky_model.specs.Sessions.{outside, inside, block, own_txid}
-use Rattle.sky_model.specs.Rows.{table_names, holder}
+use Rattle.sky_model.specs.Rows.{table_names}
+use Rattle.sky_model.specs.Locks.{holder}
 use Rattle.sky_model.specs.Queues.{queue_names, sequence, Tick, ticks, tick, newest_tick}
 use Rattle.sky_model.specs.Consumers.{subscription_id, subscription, last_subscription, last_batch, active_batch}
 use Rattle.sky_model.specs.StepQueue.{id_of}
@@ -36,8 +39,10 @@ pub data Fine (h : History) : Mark → Type 0 where
   repeats_block : (who : ℕ) → Fine h (repeats who)
   looks : (who : ℕ) → Fine h (looked who)
   makes_table : (name : List ℕ) (columns : List Column) → place_of name (table_names h) ≡ None → Fine h (tabled (table_made name columns))
-  writes : (who t table : ℕ) (key : List Val) (old new : Option (List Val)) → own_txid who h ≡ Some t → holder table key (Some t) h ≡ None
-      → Fine h (tabled (wrote t table key old new))
+  writes : (who t table : ℕ) (key : List Val) (old new : Option (List Val)) → own_txid who h ≡ Some t → other_than who (holder table key h) ≡ None
+      → Fine h (tabled (wrote who t table key old new))
+  begins_waiting : (who table : ℕ) (key : List Val) (attempt : Attempt) → Fine h (tabled (waits who table key attempt))
+  ends_waiting : (who : ℕ) → Fine h (tabled (waited who))
   makes : (name : List ℕ) → place_of name (queue_names h) ≡ None → Fine h (queued (made name))
   raises : (q value : ℕ) → IsQueue h q → sequence q h ≤ value → Fine h (queued (raised q value))
   puts : (who q : ℕ) (event : Event) → IsQueue h q → event.ev_id ≡ sequence q h → own_txid who h ≡ Some event.ev_txid → Fine h (queued (put q event))

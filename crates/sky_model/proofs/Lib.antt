@@ -18,6 +18,8 @@ pub mod OrderById
 pub mod Good
 pub mod LawfulRows
 pub mod MadeAt
+pub mod Turns
+pub mod Unopened
 pub mod Lawful
 pub mod SnapshotLaws
 pub mod TickOrder
@@ -28,11 +30,14 @@ pub mod Listings
 pub mod WereActive
 pub mod RowWrites
 pub mod RowKeys
+pub mod Holders
 pub mod KeyVersions
 pub mod RowSights
 pub mod Standing
 pub mod RowLaws
+pub mod Resting
 pub mod RowStanding
+pub mod LockLaws
 pub mod RowOutcomes
 pub mod Splitting
 pub mod Scripts

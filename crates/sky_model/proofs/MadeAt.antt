@@ -2,7 +2,6 @@
 use Rattle.std.proofs.Common.{◌≡◌, ℕ, Ok, Err, ◌∙◌, ap, if◌then◌else◌}
 use Rattle.sky_model.specs.declared.stmt.Where.{Where}
 use Rattle.sky_model.specs.History.{looked}
-use Rattle.sky_model.specs.Sessions.{Session}
 use Rattle.sky_model.specs.Outcome.{Checked, settled}
 use Rattle.sky_model.specs.Allowed.{allowed}
 use Rattle.sky_model.specs.Made.{Making, takes_sight, looking, runs_if, made_by}
@@ -10,6 +9,7 @@ use Rattle.sky_model.specs.Made.{Making, takes_sight, looking, runs_if, made_by}
 -- two places read alike: the session and the outcome are the same there, and behind the mark that takes the sight
 pub record Alike {P Q : Type 0} (m : Making P) (n : Making Q) (who : ℕ) (p : P) (q : Q) : Type 0 where
   pub sessions : m.session p ≡ n.session q
+  pub waiting : m.waits p ≡ n.waits q
   pub outcomes : m.outcome p ≡ n.outcome q
   pub sessions_behind : m.session (m.behind p (looked who)) ≡ n.session (n.behind q (looked who))
   pub outcomes_behind : m.outcome (m.behind p (looked who)) ≡ n.outcome (n.behind q (looked who))
@@ -23,5 +23,5 @@ same-runs_if m n place who p q alike (Ok _) = λ i.
 
 pub same-made_by : {P Q : Type 0} (m : Making P) (n : Making Q) (place : Where) (who : ℕ) (p : P) (q : Q) → Alike m n who p q → made_by m place who p ≡ made_by n place who q
 same-made_by m n place who p q alike =
-    ap (λ (s : Session). runs_if m place who p (allowed s.block place)) alike.sessions
-    ∙ same-runs_if m n place who p q alike (allowed (n.session q).block place)
+    (λ i. runs_if m place who p (allowed (alike.waiting i) (alike.sessions i).block place))
+    ∙ same-runs_if m n place who p q alike (allowed (n.waits q) (n.session q).block place)

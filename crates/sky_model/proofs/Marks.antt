@@ -1,8 +1,9 @@
 -- What a database and the world show changes by marks and facts alone.
 use Rattle.std.proofs.Common.{◌≡◌, ℕ, ◌+◌, List, [], ◌∷◌, ◌++◌, Bool, true, false, not, ◌&&◌, ◌||◌, ◌==◌, filter, Option, Some, None, refl, sym, ◌∙◌, ap, bytes_eq, option_map, if◌then◌else◌}
 use Rattle.sky_val.specs.declared.event.Event.{Event}
+use Rattle.sky_val.specs.Waits.{released}
 use Rattle.sky_txid.specs.Versions.{forgotten}
-use Rattle.sky_model.specs.History.{Mark, began, ended, block_begun, repeats, looked, block_failed, block_ended, tabled, table_made, wrote, queued, QueueMark, made, raised, put, ticked, registered, opened, closed, History, Fact, appeared, founded, entered, left, within, Past}
+use Rattle.sky_model.specs.History.{Mark, began, ended, block_begun, repeats, looked, block_failed, block_ended, tabled, table_made, wrote, waits, waited, queued, QueueMark, made, raised, put, ticked, registered, opened, closed, History, Fact, appeared, founded, entered, left, within, Past}
 use Rattle.sky_model.specs.Consumers.{Subscription, subscription_id, position, active}
 use Rattle.sky_model.specs.Transactions.{next_txid, running, has_rolled_back, snapshot}
 use Rattle.sky_model.specs.Sessions.{Block, outside, inside, failed, Sight, at_each, at_first, at_place, sight, sight_by, Session, session}
@@ -130,11 +131,13 @@ part_of-mark h (began who t) = λ i. record (part_of h) {
 part_of-mark h (ended who t true) = λ i. record (part_of h) {
   running_ids = filter (λ u. not (u == t)) (running h);
   session = λ n. txid_at (who == n) (session h n) None i;
+  holder = released who (part_of h).holder;
 }
 part_of-mark h (ended who t false) = λ i. record (part_of h) {
   running_ids = filter (λ u. not (u == t)) (running h);
   session = λ n. txid_at (who == n) (session h n) None i;
   versions = λ n. forgotten t (versions n h);
+  holder = released who (part_of h).holder;
 }
 part_of-mark h (block_begun who) = λ i. record (part_of h) { session = λ n. block_at (who == n) (session h n) inside i }
 part_of-mark h (repeats who) = λ i. record (part_of h) { session = λ n. sight_at (who == n) (session h n) (sight n h) at_first refl i }
@@ -142,7 +145,9 @@ part_of-mark h (looked who) = λ i. record (part_of h) { session = λ n. sight_a
 part_of-mark h (block_failed who) = λ i. record (part_of h) { session = λ n. over_at (who == n) (session h n) (sight n h) failed refl i }
 part_of-mark h (block_ended who) = λ i. record (part_of h) { session = λ n. over_at (who == n) (session h n) (sight n h) outside refl i }
 part_of-mark h (tabled (table_made name columns)) = refl
-part_of-mark h (tabled (wrote t table key old new)) = refl
+part_of-mark h (tabled (wrote who t table key old new)) = refl
+part_of-mark h (tabled (waits who table key attempt)) = refl
+part_of-mark h (tabled (waited who)) = refl
 part_of-mark h (queued mark) = refl
 
 -- and a database as `after_mark` says

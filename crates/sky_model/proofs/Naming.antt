@@ -1,20 +1,76 @@
--- Answers whose sessions have names.
-use Rattle.std.proofs.Common.{◌≡◌, ℕ, zero, suc, ◌<◌, ◌≤◌, List, [], ◌∷◌, ◌++◌, length, unwrap_or, refl, ap, ◌∙◌, arith, length-append}
-use Rattle.std.specs.List.{All, slice_get}
+-- Answers whose sessions, and those that they speak of, have names.
+use Rattle.std.proofs.Common.{◌≡◌, ℕ, zero, suc, true, false, ◌<◌, ◌≤◌, List, [], ◌∷◌, ◌++◌, map, length, unwrap_or, refl, ap, ◌∙◌, arith, length-append, codes}
+use Rattle.std.specs.List.{All, slice_get, flat_map}
 use Rattle.sky_model.specs.declared.reply.Reply.{Reply}
-use Rattle.sky_model.specs.Printed.{reply_text, name_at, printed}
+use Rattle.sky_model.specs.declared.reply.Reply.TheVariants as reply
+use Rattle.sky_model.specs.declared.reply.Refusal.TheVariants as refusal
+use Rattle.sky_model.specs.Printed.{spaced, name_at, reply_lines, line_text, reply_text, printed, sessions_in, AllNamed}
 
 slice_get-front : {A : Type 0} → (xs ys : List A) (n : ℕ) → n < length xs → slice_get (xs ++ ys) n ≡ slice_get xs n
 slice_get-front [] ys n within = absurd (omega arith)
 slice_get-front (x ∷ xs) ys zero within = refl
 slice_get-front (x ∷ xs) ys (suc n) within = slice_get-front xs ys n (omega arith)
 
--- further names change nothing for answers of sessions that have one
-pub printed-named : (names more : List (List ℕ)) (replies : List (ℕ × Reply)) → All (λ answer. answer.0 < length names) replies → printed (names ++ more) replies ≡ printed names replies
+name_at-front : (names more : List (List ℕ)) (n : ℕ) → n < length names → name_at (names ++ more) n ≡ name_at names n
+name_at-front names more n within = ap (λ name. unwrap_or name []) (slice_get-front names more n within)
+
+names_at-front : (names more : List (List ℕ)) (ns : List ℕ) → All (λ who. who < length names) ns → map (name_at (names ++ more)) ns ≡ map (name_at names) ns
+names_at-front names more [] named = refl
+names_at-front names more (n ∷ ns) named = λ i.
+    name_at-front names more n (named zero n (omega arith)) i ∷ names_at-front names more ns (λ k who within. named (suc k) who (omega arith)) i
+
+lines-named : (names more : List (List ℕ)) (r : Reply) → All (λ who. who < length names) (sessions_in r) → reply_lines (names ++ more) r ≡ reply_lines names r
+lines-named names more (reply.Waits holder) named = ap (λ name. (codes "waits for " ++ name) ∷ []) (name_at-front names more holder (named zero holder (omega arith)))
+lines-named names more (reply.Refused (refusal.Deadlock waiters)) named = ap (λ words. (codes "error " ++ codes "Deadlock" ++ spaced words) ∷ []) (names_at-front names more waiters named)
+lines-named names more reply.Done named = refl
+lines-named names more (reply.Number n) named = refl
+lines-named names more reply.Null named = refl
+lines-named names more (reply.Bool true) named = refl
+lines-named names more (reply.Bool false) named = refl
+lines-named names more reply.Begin named = refl
+lines-named names more reply.AlreadyInTransaction named = refl
+lines-named names more reply.Commit named = refl
+lines-named names more reply.Rollback named = refl
+lines-named names more reply.NoTransaction named = refl
+lines-named names more reply.NotWaiting named = refl
+lines-named names more (reply.Snapshot s) named = refl
+lines-named names more (reply.Events events) named = refl
+lines-named names more (reply.Row row) named = refl
+lines-named names more reply.NoRow named = refl
+lines-named names more (reply.Rows rows) named = refl
+lines-named names more (reply.Refused refusal.Aborted) named = refl
+lines-named names more (reply.Refused refusal.AlreadyOpen) named = refl
+lines-named names more (reply.Refused (refusal.BadRow why)) named = refl
+lines-named names more (reply.Refused refusal.BadSnapshot) named = refl
+lines-named names more (reply.Refused refusal.Busy) named = refl
+lines-named names more (reply.Refused refusal.Canceled) named = refl
+lines-named names more (reply.Refused refusal.Duplicate) named = refl
+lines-named names more (reply.Refused refusal.EventIdsSpent) named = refl
+lines-named names more (reply.Refused refusal.IdsSpent) named = refl
+lines-named names more (reply.Refused refusal.InTransaction) named = refl
+lines-named names more (reply.Refused (refusal.KeyChange column)) named = refl
+lines-named names more (reply.Refused refusal.NoBatch) named = refl
+lines-named names more (reply.Refused (refusal.NoConsumer name)) named = refl
+lines-named names more (reply.Refused refusal.NodeConsumer) named = refl
+lines-named names more (reply.Refused refusal.NoKey) named = refl
+lines-named names more (reply.Refused (refusal.NoQueue name)) named = refl
+lines-named names more (reply.Refused (refusal.NoTable name)) named = refl
+lines-named names more (reply.Refused refusal.NotOpen) named = refl
+lines-named names more (reply.Refused (refusal.OutOfRange column)) named = refl
+lines-named names more (reply.Refused (refusal.ReservedColumn column)) named = refl
+lines-named names more (reply.Refused (refusal.Serialize txid)) named = refl
+lines-named names more (reply.Refused (refusal.TableExists name)) named = refl
+lines-named names more (reply.Refused (refusal.TooMany limit)) named = refl
+lines-named names more (reply.Refused (refusal.TwiceNamed column)) named = refl
+lines-named names more (reply.Refused refusal.TxidsSpent) named = refl
+
+-- further names change nothing for answers whose sessions have one, and that speak of none without one
+pub printed-named : (names more : List (List ℕ)) (replies : List (ℕ × Reply)) → AllNamed names replies → printed (names ++ more) replies ≡ printed names replies
 printed-named names more [] named = refl
 printed-named names more (answer ∷ replies) named =
-    ap (λ name. reply_text (unwrap_or name []) answer.1 ++ printed (names ++ more) replies) (slice_get-front names more answer.0 (named zero answer (omega arith)))
-    ∙ ap (λ rest. reply_text (name_at names answer.0) answer.1 ++ rest) (printed-named names more replies (λ k d within. named (suc k) d (omega arith)))
+    let first : (answer.0 < length names) × All (λ who. who < length names) (sessions_in answer.1) = named zero answer (omega arith) in
+    (λ i. flat_map (line_text (name_at-front names more answer.0 first.0 i)) (lines-named names more answer.1 first.1 i) ++ printed (names ++ more) replies)
+    ∙ ap (λ rest. reply_text names (name_at names answer.0) answer.1 ++ rest) (printed-named names more replies (λ k d within. named (suc k) d (omega arith)))
 
 -- the sessions up to the next one have names, where the next name is added
 pub named-next : (names : List (List ℕ)) (name : List ℕ) (replies : List (ℕ × Reply)) → All (λ answer. answer.0 ≤ length names) replies → All (λ answer. answer.0 < length (names ++ name ∷ [])) replies

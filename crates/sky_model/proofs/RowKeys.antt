@@ -6,17 +6,17 @@ use Rattle.sky_val.specs.Entries.{is_in_order}
 use Rattle.sky_txid.specs.Ids.{contains}
 use Rattle.sky_txid.specs.Versions.{written}
 use Rattle.sky_txid.proofs.EntryLemmas.{is_in_order-written, is_in_order-forgotten}
-use Rattle.sky_model.specs.History.{Mark, began, ended, block_begun, repeats, looked, block_failed, block_ended, tabled, table_made, wrote, queued, History}
+use Rattle.sky_model.specs.History.{Mark, began, ended, block_begun, repeats, looked, block_failed, block_ended, tabled, table_made, wrote, waits, waited, queued, History}
 use Rattle.sky_model.specs.Transactions.{next_txid, running, has_ended}
 use Rattle.sky_model.specs.Rows.{committed, writes as writes_of}
 use Rattle.sky_model.specs.Versions.{versions}
-use Rattle.sky_model.proofs.Legal.{Fine, begins, ends, begins_block, fails_block, ends_block, repeats_block, looks, makes_table, writes, makes, raises, puts, ticks_next, registers, opens, closes, Legal, start, next}
+use Rattle.sky_model.proofs.Legal.{Fine, begins, ends, begins_block, fails_block, ends_block, repeats_block, looks, makes_table, writes, begins_waiting, ends_waiting, makes, raises, puts, ticks_next, registers, opens, closes, Legal, start, next}
 use Rattle.sky_model.proofs.Snapshots.{sound}
 
 -- the versions of a table stand in the order of their keys
 pub is_in_order-versions : (table : ℕ) (h : History) → is_in_order (versions table h) ≡ true
 is_in_order-versions table [] = refl
-is_in_order-versions table (tabled (wrote t n key old new) ∷ h) = of (n == table) (is_in_order-versions table h)
+is_in_order-versions table (tabled (wrote who t n key old new) ∷ h) = of (n == table) (is_in_order-versions table h)
   where
     of : (b : Bool) → is_in_order (versions table h) ≡ true → is_in_order (if b then written t key new (versions table h) else versions table h) ≡ true
     of true e = is_in_order-written t key new (versions table h) e
@@ -30,6 +30,8 @@ is_in_order-versions table (looked who ∷ h) = is_in_order-versions table h
 is_in_order-versions table (block_failed who ∷ h) = is_in_order-versions table h
 is_in_order-versions table (block_ended who ∷ h) = is_in_order-versions table h
 is_in_order-versions table (tabled (table_made name columns) ∷ h) = is_in_order-versions table h
+is_in_order-versions table (tabled (waits who n key attempt) ∷ h) = is_in_order-versions table h
+is_in_order-versions table (tabled (waited who) ∷ h) = is_in_order-versions table h
 is_in_order-versions table (queued mark ∷ h) = is_in_order-versions table h
 
 -- who has committed has ended
@@ -93,6 +95,8 @@ begun_step h _ (ends_block who e) l b = b
 begun_step h _ (repeats_block who) l b = b
 begun_step h _ (looks who) l b = b
 begun_step h _ (makes_table name columns e) l b = b
+begun_step h _ (begins_waiting who n at_key attempt) l b = b
+begun_step h _ (ends_waiting who) l b = b
 begun_step h _ (makes name e) l b = b
 begun_step h _ (raises q v i le) l b = b
 begun_step h _ (puts who q e i n o) l b = b

@@ -1,30 +1,37 @@
 -- What the statements on sessions, transactions, tables and rows can do: they list no event, and touch no queue.
-use Rattle.std.proofs.Common.{ℕ, List, [], ◌∷◌, ◌++◌, Bool, true, false, Option, Some, None, Ok, Err, option_map, length, is_some, nat_le, ◌^◌, if◌then◌else◌}
+use Rattle.std.proofs.Common.{ℕ, zero, suc, List, [], ◌∷◌, ◌++◌, Bool, true, false, Option, Some, None, Ok, Err, option_map, length, is_some, nat_le, ◌^◌, arith, if◌then◌else◌}
 use Rattle.std.specs.Prelude.{find}
+use Rattle.std.proofs.lemmas.List.Elements.{All-cons}
 use Rattle.sky_val.specs.declared.val.Val.{Val}
 use Rattle.sky_val.specs.Schemas.{schema_fault, row_fault, key_columns, key_of}
+use Rattle.sky_val.specs.Waits.{Waiting, other_holder, is_waiting}
 use Rattle.sky_names.specs.Places.{place_of}
 use Rattle.sky_txid.specs.SnapshotText.{parse_snapshot}
 use Rattle.sky_model.specs.declared.stmt.Set.{Set}
 use Rattle.sky_model.specs.declared.stmt.RowStmt.{RowStmt}
 use Rattle.sky_model.specs.declared.stmt.RowStmt.TheVariants.{OpenDb, Close, Cancel, Begin, BeginRepeatableRead, Commit, Rollback, TxidCurrent, TxidCurrentSnapshot, TxidVisibleInSnapshot, CreateTable, Insert, Update, Delete, Get, Scan}
+use Rattle.sky_model.specs.declared.reply.Reply.{Reply}
 use Rattle.sky_model.specs.declared.reply.Reply.TheVariants.{Number}
 use Rattle.sky_model.specs.declared.reply.Limit.TheVariants.{Tables}
 use Rattle.sky_model.specs.declared.reply.Refusal.{Refusal}
-use Rattle.sky_model.specs.declared.reply.Refusal.TheVariants.{BadRow, BadSnapshot, Duplicate, KeyBusy, KeyChange, NoTable, Serialize, TableExists, TooMany, TxidsSpent}
-use Rattle.sky_model.specs.History.{Mark, looked, block_failed, tabled, wrote, queued}
+use Rattle.sky_model.specs.declared.reply.Refusal.TheVariants.{BadRow, BadSnapshot, Canceled, Deadlock, Duplicate, KeyChange, NoTable, Serialize, TableExists, TooMany, TxidsSpent}
+use Rattle.sky_model.specs.declared.stmt.Attempt.{Attempt}
+use Rattle.sky_model.specs.declared.stmt.Attempt.TheVariants.{Insertion, Changes, Deletion}
+use Rattle.sky_model.specs.History.{Mark, began, ended, block_begun, repeats, block_ended, looked, block_failed, tabled, wrote, waited, queued}
 use Rattle.sky_model.specs.Sessions.{Block, outside, inside, failed, Session}
 use Rattle.sky_model.specs.State.{RowPart, after_part}
 use Rattle.sky_model.specs.ShownRows.{KeyShown, RowsShown, rows_by}
-use Rattle.sky_model.specs.Outcome.{Outcome, Checked, ◌>>=◌, ◌>>◌, refused_if, found_or, does_marks, end_of, aborts, abort, settled}
+use Rattle.sky_model.specs.Outcome.{Outcome, Checked, ◌>>=◌, ◌>>◌, refused_if, found_or, does_marks, refused_by, end_of, aborts, abort, settled}
 use Rattle.sky_model.specs.OwnTransaction.{own_or_next, begin_of, commit_of}
-use Rattle.sky_model.specs.StepRows.{refused_by, schema_refusal, bad_values, bad_sets, is_key_change, writes_key, changes, row_or_none}
-use Rattle.sky_model.specs.StepSession.{begin, begin_repeatable_read, leaves, commit, rollback, close}
-use Rattle.sky_model.specs.Printed.{ReplyHasMoments}
+use Rattle.sky_model.specs.StepRows.{schema_refusal, bad_values, bad_sets, is_key_change, with_sets, writes_key, changes, some_row, attempts, row_or_none}
+use Rattle.sky_model.specs.StepLocks.{ring, once_free}
+use Rattle.sky_model.specs.StepSession.{begin, begin_repeatable_read, leaves, commit, rollback, close, cancel}
+use Rattle.sky_model.specs.Printed.{ReplyHasMoments, HaveMoments}
 use Rattle.sky_model.specs.Allowed.{where_of_row, allowed}
 use Rattle.sky_model.specs.Made.{takes_sight, looking, runs_if}
 use Rattle.sky_model.specs.Reader.{part_by_itself}
-use Rattle.sky_model.specs.Calls.{row_form, row_making, row_statement}
+use Rattle.sky_model.specs.Settling.{Turn, turn_of, behind_marks, and_then, ready, attempted, resumed, goes_on, settles, settling}
+use Rattle.sky_model.specs.Calls.{row_form, row_making, row_statement, row_turn}
 
 -- none of the marks is a queue's
 abbrev pub RowMarks : List Mark → Type 0
@@ -73,7 +80,7 @@ marks-left committed who (Some t) = tt
 writes-rows : (d : RowPart) (who table : ℕ) (key : List Val) (old new : Option (List Val)) → OfRows (writes_key d who table key old new)
 writes-rows d who table key old new = of (d.session who).txid
   where
-    of : (o : Option ℕ) → OfRows (own_or_next d o >>= (λ t. does_marks (Number 1) (begin_of who t o ++ (tabled (wrote t table key old new) ∷ []) ++ commit_of who t (d.session who).block)))
+    of : (o : Option ℕ) → OfRows (own_or_next d o >>= (λ t. does_marks (Number 1) (begin_of who t o ++ (tabled (wrote who t table key old new) ∷ []) ++ commit_of who t (d.session who).block)))
     of None = test_then (nat_le (2 ^ 62) d.next) TxidsSpent d.next _ (record { moments = tt; marks = marks-committed who d.next (d.session who).block })
     of (Some t) = record { moments = tt; marks = marks-committed who t (d.session who).block }
 
@@ -81,10 +88,23 @@ txid-rows : (d : RowPart) (who : ℕ) (o : Option ℕ) → OfRows (own_or_next d
 txid-rows d who None = test_then (nat_le (2 ^ 62) d.next) TxidsSpent d.next _ (record { moments = tt; marks = marks-committed who d.next (d.session who).block })
 txid-rows d who (Some t) = record { moments = tt; marks = marks-committed who t (d.session who).block }
 
-changes-rows : (d : RowPart) (shown : KeyShown) (who table : ℕ) (key : List Val) (new_of : List Val → Checked (Option (List Val))) (row : Option (List Val)) → OfRows (changes d shown who table key new_of row)
-changes-rows d shown who table key new_of None = record { moments = tt; marks = tt }
-changes-rows d shown who table key new_of (Some row) =
-    by_option (option_map KeyBusy shown.holder) _ (by_option (option_map Serialize shown.unseen) _ (checked (new_of row) _ (λ new. writes-rows d who table key (Some row) new)))
+once_free-rows : (d : RowPart) (who table : ℕ) (key : List Val) (attempt : Attempt) (other : Option ℕ) (c : Checked Outcome) → OfRows c → OfRows (once_free d who table key attempt other c)
+once_free-rows d who table key attempt None c rows = rows
+once_free-rows d who table key attempt (Some v) c rows = by_option (option_map Deadlock (ring d who v)) _ (record { moments = tt; marks = tt })
+
+changes-rows : (d : RowPart) (shown : KeyShown) (who table : ℕ) (key : List Val) (attempt : Attempt) (new_of : List Val → Checked (Option (List Val))) (row : Option (List Val))
+    → OfRows (changes d shown who table key attempt new_of row)
+changes-rows d shown who table key attempt new_of None = record { moments = tt; marks = tt }
+changes-rows d shown who table key attempt new_of (Some row) =
+    once_free-rows d who table key attempt (other_holder d.holder who table key) _
+    (by_option (option_map Serialize shown.unseen) _ (checked (new_of row) _ (λ new. writes-rows d who table key (Some row) new)))
+
+attempts-rows : (d : RowPart) (shown : KeyShown) (who table : ℕ) (key : List Val) (attempt : Attempt) → OfRows (attempts d shown who table key attempt)
+attempts-rows d shown who table key (Insertion row) =
+    once_free-rows d who table key (Insertion row) (other_holder d.holder who table key) _
+    (test (is_some shown.standing) Duplicate _ (writes-rows d who table key None (Some row)))
+attempts-rows d shown who table key (Changes sets) = changes-rows d shown who table key (Changes sets) (λ row. some_row (with_sets (d.columns table) sets row)) shown.row
+attempts-rows d shown who table key Deletion = changes-rows d shown who table key Deletion (λ row. Ok None) shown.row
 
 row_or_none-rows : (row : Option (List Val)) → OfRows (row_or_none row)
 row_or_none-rows None = record { moments = tt; marks = tt }
@@ -115,10 +135,27 @@ close-rows who txid outside = record { moments = tt; marks = tt }
 close-rows who txid inside = record { moments = tt; marks = marks-left false who txid }
 close-rows who txid failed = record { moments = tt; marks = marks-left false who txid }
 
+abort-rows : (who : ℕ) (b : Block) (o : Option ℕ) (refusal : Refusal) → RowMarks (abort who b o refusal)
+abort-rows who outside o refusal = tt
+abort-rows who inside o refusal = by (aborts refusal) o
+  where
+    fails : (o : Option ℕ) → RowMarks (end_of false who o ++ block_failed who ∷ [])
+    fails None = tt
+    fails (Some t) = tt
+
+    by : (kind : Bool) (o : Option ℕ) → RowMarks (if kind then end_of false who o ++ block_failed who ∷ [] else [])
+    by true o = fails o
+    by false o = tt
+abort-rows who failed o refusal = tt
+
+cancel-rows : (who : ℕ) (txid : Option ℕ) (b : Block) (waits : Bool) → OfRows (cancel who txid b waits)
+cancel-rows who txid b false = record { moments = tt; marks = tt }
+cancel-rows who txid b true = record { moments = tt; marks = abort-rows who b txid Canceled }
+
 form-rows : (d : RowPart) (shown : RowsShown) (who : ℕ) (stmt : RowStmt) → OfRows (row_form d shown who stmt)
 form-rows d shown who (OpenDb name) = tt
 form-rows d shown who Close = close-rows who (d.session who).txid (d.session who).block
-form-rows d shown who Cancel = record { moments = tt; marks = tt }
+form-rows d shown who Cancel = cancel-rows who (d.session who).txid (d.session who).block (is_waiting who d.waiting)
 form-rows d shown who Begin = begin-rows who (d.session who).block
 form-rows d shown who BeginRepeatableRead = begin_repeatable_read-rows who (d.session who).block
 form-rows d shown who Commit = commit-rows who (d.session who).txid (d.session who).block
@@ -131,17 +168,15 @@ form-rows d shown who (CreateTable name columns) =
     (by_option (option_map (schema_refusal columns) (schema_fault columns)) _ (record { moments = tt; marks = tt })))
 form-rows d shown who (Insert name row) =
     found (place_of name d.tables) (NoTable name) _ (λ table. by_option (option_map (bad_values (d.columns table)) (row_fault (d.columns table) row)) _
-    (by_option (option_map KeyBusy (shown.key who table (key_of (d.columns table) row)).holder) _
-    (test (is_some (shown.key who table (key_of (d.columns table) row)).standing) Duplicate _
-    (writes-rows d who table (key_of (d.columns table) row) None (Some row)))))
+    (attempts-rows d (shown.key who table (key_of (d.columns table) row)) who table (key_of (d.columns table) row) (Insertion row)))
 form-rows d shown who (Update name key sets) =
     found (place_of name d.tables) (NoTable name) _ (λ table. by_option (option_map (bad_values (key_columns (d.columns table))) (row_fault (key_columns (d.columns table)) key)) _
     (by_option (option_map BadRow (bad_sets (d.columns table) [] sets)) _
     (by_option (option_map (λ (set : Set). KeyChange set.column) (find (is_key_change (d.columns table)) sets)) _
-    (changes-rows d (shown.key who table key) who table key _ (shown.key who table key).row))))
+    (attempts-rows d (shown.key who table key) who table key (Changes sets)))))
 form-rows d shown who (Delete name key) =
     found (place_of name d.tables) (NoTable name) _ (λ table. by_option (option_map (bad_values (key_columns (d.columns table))) (row_fault (key_columns (d.columns table)) key)) _
-    (changes-rows d (shown.key who table key) who table key (λ row. Ok None) (shown.key who table key).row))
+    (attempts-rows d (shown.key who table key) who table key Deletion))
 form-rows d shown who (Get name key) =
     found (place_of name d.tables) (NoTable name) _ (λ table. by_option (option_map (bad_values (key_columns (d.columns table))) (row_fault (key_columns (d.columns table)) key)) _
     (row_or_none-rows (shown.key who table key).row))
@@ -149,20 +184,7 @@ form-rows d shown who (Scan name) = found (place_of name d.tables) (NoTable name
 
 settled-rows : (who : ℕ) (s : Session) (c : Checked Outcome) → OfRows c → IsOfRows (settled who s c)
 settled-rows who s (Ok o) rows = rows
-settled-rows who s (Err refusal) rows = record { moments = tt; marks = of s.block s.txid }
-  where
-    fails : (o : Option ℕ) → RowMarks (end_of false who o ++ block_failed who ∷ [])
-    fails None = tt
-    fails (Some t) = tt
-
-    by : (kind : Bool) (o : Option ℕ) → RowMarks (if kind then end_of false who o ++ block_failed who ∷ [] else [])
-    by true o = fails o
-    by false o = tt
-
-    of : (b : Block) (o : Option ℕ) → RowMarks (abort who b o refusal)
-    of outside o = tt
-    of inside o = by (aborts refusal) o
-    of failed o = tt
+settled-rows who s (Err refusal) rows = record { moments = tt; marks = abort-rows who s.block s.txid refusal }
 
 runs-rows : (d : RowPart) (who : ℕ) (stmt : RowStmt) (may : Checked (Unit {0})) → IsOfRows (runs_if (row_making part_by_itself who stmt) (where_of_row stmt) who d may)
 runs-rows d who stmt (Err refusal) = settled-rows who (d.session who) (Err refusal) tt
@@ -179,4 +201,58 @@ runs-rows d who stmt (Ok _) = of (takes_sight (where_of_row stmt) (d.session who
 
 -- a statement on rows lists no event and touches no queue
 pub row_statement-rows : (d : RowPart) (who : ℕ) (stmt : RowStmt) → IsOfRows (row_statement part_by_itself d who stmt)
-row_statement-rows d who stmt = runs-rows d who stmt (allowed (d.session who).block (where_of_row stmt))
+row_statement-rows d who stmt = runs-rows d who stmt (allowed (is_waiting who d.waiting) (d.session who).block (where_of_row stmt))
+
+-- the same of a turn
+pub record TurnOfRows (turn : Turn) : Type 0 where
+  pub moments : HaveMoments turn.answers
+  pub marks : RowMarks turn.marks
+
+rows-append : (xs ys : List Mark) → RowMarks xs → RowMarks ys → RowMarks (xs ++ ys)
+rows-append [] ys rows also = also
+rows-append (began who t ∷ xs) ys rows also = rows-append xs ys rows also
+rows-append (ended who t c ∷ xs) ys rows also = rows-append xs ys rows also
+rows-append (block_begun who ∷ xs) ys rows also = rows-append xs ys rows also
+rows-append (repeats who ∷ xs) ys rows also = rows-append xs ys rows also
+rows-append (looked who ∷ xs) ys rows also = rows-append xs ys rows also
+rows-append (block_failed who ∷ xs) ys rows also = rows-append xs ys rows also
+rows-append (block_ended who ∷ xs) ys rows also = rows-append xs ys rows also
+rows-append (tabled mark ∷ xs) ys rows also = rows-append xs ys rows also
+rows-append (queued mark ∷ xs) ys rows also = absurd rows
+
+moments-append : (xs ys : List (ℕ × Reply)) → HaveMoments xs → HaveMoments ys → HaveMoments (xs ++ ys)
+moments-append [] ys have also = also
+moments-append (x ∷ xs) ys have also = All-cons (λ answer. ReplyHasMoments answer.1) x (xs ++ ys) (have zero x (omega arith)) (moments-append xs ys (λ k a within. have (suc k) a (omega arith)) also)
+
+and_then-rows : (d : RowPart) (turn : Turn) (rest : RowPart → Turn) → TurnOfRows turn → ((e : RowPart) → TurnOfRows (rest e)) → TurnOfRows (and_then part_by_itself d turn rest)
+and_then-rows d turn rest rows also =
+    let later : TurnOfRows (rest (behind_marks part_by_itself d turn.marks)) = also (behind_marks part_by_itself d turn.marks) in
+    record {
+      moments = moments-append turn.answers (rest (behind_marks part_by_itself d turn.marks)).answers rows.moments later.moments;
+      marks = rows-append turn.marks (rest (behind_marks part_by_itself d turn.marks)).marks rows.marks later.marks;
+    }
+
+turn_of-rows : (who : ℕ) (o : Outcome) → IsOfRows o → TurnOfRows (turn_of who o)
+turn_of-rows who o rows = record { moments = All-cons (λ answer. ReplyHasMoments answer.1) (who, o.reply) [] rows.moments (λ k a within. absurd (omega arith)); marks = rows.marks }
+
+goes_on-rows : (d : RowPart) (rest : RowPart → Turn) (o : Option Waiting) → ((e : RowPart) → TurnOfRows (rest e)) → TurnOfRows (goes_on part_by_itself d rest o)
+goes_on-rows d rest None also = record { moments = λ k a within. absurd (omega arith); marks = tt }
+goes_on-rows d rest (Some w) also = and_then-rows d (resumed part_by_itself d w) rest (record { moments = run.moments; marks = run.marks }) also
+  where
+    behind : RowPart
+    behind = after_part d (tabled (waited w.who))
+
+    run : TurnOfRows (turn_of w.who (attempted part_by_itself w (d.attempt w.who) behind))
+    run = turn_of-rows w.who _ (settled-rows w.who (behind.session w.who) _ (attempts-rows behind ((rows_by behind).key w.who w.table w.key) w.who w.table w.key (d.attempt w.who)))
+
+settles-rows : (n : ℕ) (d : RowPart) → TurnOfRows (settles part_by_itself n d)
+settles-rows zero d = record { moments = λ k a within. absurd (omega arith); marks = tt }
+settles-rows (suc n) d = goes_on-rows d (settles part_by_itself n) (ready d) (settles-rows n)
+
+-- those that go on list no event, and touch no queue
+pub settling-rows : (d : RowPart) → TurnOfRows (settling part_by_itself d)
+settling-rows d = settles-rows (length d.waiting) d
+
+-- nor does a statement on rows with those that it lets go on
+pub row_turn-rows : (d : RowPart) (who : ℕ) (stmt : RowStmt) → TurnOfRows (row_turn part_by_itself d who stmt)
+row_turn-rows d who stmt = and_then-rows d (turn_of who (row_statement part_by_itself d who stmt)) (settling part_by_itself) (turn_of-rows who _ (row_statement-rows d who stmt)) settling-rows

@@ -1,9 +1,8 @@
 -- What the versions that are kept show at a sight is what the history shows there.
-use Rattle.std.proofs.Common.{◌≡◌, ℕ, Bool, true, false, not, List, [], ◌∷◌, Option, Some, None, option_map, is_some, refl, sym, ◌∙◌, ap, subst, arith, if◌then◌else◌, ◌⊎◌, inl, inr}
-use Rattle.std.specs.Prelude.{◌||◌, ◌&&◌, ◌==◌, nat_lt, find}
+use Rattle.std.proofs.Common.{◌≡◌, ℕ, Bool, true, false, not, List, [], ◌∷◌, Option, Some, None, option_map, is_some, refl, sym, ◌∙◌, ap, subst, if◌then◌else◌}
+use Rattle.std.specs.Prelude.{◌||◌, ◌&&◌, ◌==◌}
 use Rattle.std.specs.Option.{option_or}
 use Rattle.std.specs.Ordering.{eq_by_cmp}
-use Rattle.std.proofs.lemmas.Bool.Decides.{nat_tests}
 use Rattle.sky_val.specs.declared.val.Val.{Val}
 use Rattle.sky_val.specs.Order.{key_cmp}
 use Rattle.sky_val.specs.Entries.{at}
@@ -11,21 +10,21 @@ use Rattle.sky_val.proofs.EntryLemmas.{same_entries}
 use Rattle.sky_txid.specs.Ids.{contains}
 use Rattle.sky_txid.specs.Snapshot.{sees}
 use Rattle.sky_txid.specs.declared.version.Version.{Version}
-use Rattle.sky_txid.specs.Versions.{with_version, version_of, newest_from, newest_by, newest_but, own_version, row_of, read, is_other, rows_read}
-use Rattle.sky_txid.proofs.VersionLemmas.{OnlyLast, newest_with, newest_without}
+use Rattle.sky_txid.specs.Versions.{with_version, newest_by, own_version, row_of, read, rows_read}
+use Rattle.sky_txid.proofs.VersionLemmas.{newest_with, newest_without}
 use Rattle.sky_txid.proofs.EntryLemmas.{versions_at-forgotten, at-rows_read, is_in_order-rows_read}
 use Rattle.sky_model.specs.History.{Mark, began, ended, block_begun, repeats, looked, block_failed, block_ended, tabled, queued, History}
-use Rattle.sky_model.specs.Transactions.{next_txid, running, has_ended, has_committed, has_rolled_back, snapshot}
+use Rattle.sky_model.specs.Transactions.{has_ended, has_committed, has_rolled_back, snapshot}
 use Rattle.sky_model.specs.Sessions.{own_txid, Sight, at_each, at_first, at_place, sight, sight_by, place_of_sight, session}
-use Rattle.sky_model.specs.Rows.{committed, writes as writes_of, rows, own_writes, rows_with_own, rows_shown, has_written, holder, last_writer, unless, unseen_writer}
+use Rattle.sky_model.specs.Rows.{committed, writes as writes_of, rows, own_writes, rows_with_own, rows_shown, has_written, last_writer, unless, unseen_writer}
 use Rattle.sky_model.specs.Versions.{versions}
 use Rattle.sky_model.specs.State.{part_of}
-use Rattle.sky_model.specs.ShownRows.{rows_in, rows_by, running_writer, unseen_in}
-use Rattle.sky_model.proofs.Legal.{Fine, begins, ends, begins_block, fails_block, ends_block, repeats_block, looks, makes_table, writes, makes, raises, puts, ticks_next, registers, opens, closes, Legal, next}
-use Rattle.sky_model.proofs.Snapshots.{sound, sees-snapshot, own-unended, has_committed-ended}
+use Rattle.sky_model.specs.ShownRows.{rows_in, rows_by, unseen_in}
+use Rattle.sky_model.proofs.Legal.{Fine, begins, ends, begins_block, fails_block, ends_block, repeats_block, looks, makes_table, writes, begins_waiting, ends_waiting, makes, raises, puts, ticks_next, registers, opens, closes, Legal, next}
+use Rattle.sky_model.proofs.Snapshots.{sees-snapshot, own-unended, has_committed-ended}
 use Rattle.sky_model.proofs.RowWrites.{over, last_of, at-put_all, is_in_order-put_all, is_in_order-in_turn, has_written-last_of, last_writer-has}
 use Rattle.sky_model.proofs.RowKeys.{is_in_order-versions, contains-last-of}
-use Rattle.sky_model.proofs.KeyVersions.{kept, KeyHolds, key_holds, version_of-txid, find-none, kept-wrote}
+use Rattle.sky_model.proofs.KeyVersions.{kept, key_holds, kept-wrote}
 
 -- a history goes on from another
 pub data Since (k : History) : History → Type 0 where
@@ -151,6 +150,8 @@ newest-behind k h since l _ (ends_block who e) table key = refl
 newest-behind k h since l _ (repeats_block who) table key = refl
 newest-behind k h since l _ (looks who) table key = refl
 newest-behind k h since l _ (makes_table name columns e) table key = refl
+newest-behind k h since l _ (begins_waiting who n at_key attempt) table key = refl
+newest-behind k h since l _ (ends_waiting who) table key = refl
 newest-behind k h since l _ (makes name e) table key = refl
 newest-behind k h since l _ (raises q v i le) table key = refl
 newest-behind k h since l _ (puts who q e i n o) table key = refl
@@ -194,141 +195,6 @@ rows-at h l who table =
     (is_in_order-rows_read (snapshot (place h who)) (own_txid who h) (versions table h) (is_in_order-versions table h))
     (λ key. read-at (place h who) h (place-since h who) l who table key
     ∙ sym (at-rows_read (snapshot (place h who)) (own_txid who h) key (versions table h) (is_in_order-versions table h)))
-
--- what is found passes, and is one of them
-find-some : (p : ℕ → Bool) (xs : List ℕ) (u : ℕ) → find p xs ≡ Some u → (p u ≡ true) × (contains u xs ≡ true)
-find-some p [] u e = absurd (cc)
-find-some p (x ∷ xs) u e = of (p x) refl e (find-some p xs u)
-  where
-    of : (b : Bool) → p x ≡ b → (if b then Some x else find p xs) ≡ Some u → (find p xs ≡ Some u → (p u ≡ true) × (contains u xs ≡ true)) → (p u ≡ true) × (((u == x) || contains u xs) ≡ true)
-    of true pass e ih =
-        let one : x ≡ u = cc in
-        let same : (u == x) ≡ true = grind (arith, nat_tests) in
-        (ap p (sym one) ∙ pass, ap (λ b. b || contains u xs) same)
-    of false fail e ih = ((ih e).0, later-one (u == x) (ih e).1)
-      where
-        later-one : (b : Bool) → contains u xs ≡ true → (b || contains u xs) ≡ true
-        later-one true e = refl
-        later-one false e = e
-
--- the newest version that passes does pass, and is there
-newest_from-passes : (q : ℕ → Bool) (newest : Option Version) (vs : List Version) (v : Version) → newest_from q newest vs ≡ Some v → ((w : Version) → newest ≡ Some w → q w.txid ≡ true) → q v.txid ≡ true
-newest_from-passes q newest [] v e before = before v e
-newest_from-passes q newest (x ∷ vs) v e before = newest_from-passes q (if q x.txid then Some x else newest) vs v e (of (q x.txid) refl)
-  where
-    of : (b : Bool) → q x.txid ≡ b → (w : Version) → (if b then Some x else newest) ≡ Some w → q w.txid ≡ true
-    of true pass w is = (let one : x ≡ w = cc in ap (λ (y : Version). q y.txid) (sym one) ∙ pass)
-    of false fail w is = before w is
-
-newest_from-there : (q : ℕ → Bool) (newest : Option Version) (vs : List Version) (v : Version) → newest_from q newest vs ≡ Some v → (newest ≡ Some v) ⊎ (is_some (version_of v.txid vs) ≡ true)
-newest_from-there q newest [] v e = inl e
-newest_from-there q newest (x ∷ vs) v e = by (newest_from-there q (if q x.txid then Some x else newest) vs v e)
-  where
-    found : (b : Bool) → is_some (version_of v.txid vs) ≡ true → is_some (if b then Some x else version_of v.txid vs) ≡ true
-    found true e = refl
-    found false e = e
-
-    of : (b : Bool) → (if b then Some x else newest) ≡ Some v → (newest ≡ Some v) ⊎ (is_some (if v.txid == x.txid then Some x else version_of v.txid vs) ≡ true)
-    of true is =
-        let one : x ≡ v = cc in
-        let same_id : x.txid ≡ v.txid = ap Version.txid one in
-        let same : (v.txid == x.txid) ≡ true = grind (arith, nat_tests) in
-        inr (ap (λ b. is_some (if b then Some x else version_of v.txid vs)) same)
-    of false is = inl is
-
-    by : ((if q x.txid then Some x else newest) ≡ Some v) ⊎ (is_some (version_of v.txid vs) ≡ true) → (newest ≡ Some v) ⊎ (is_some (version_of v.txid (x ∷ vs)) ≡ true)
-    by (inl is) = of (q x.txid) is
-    by (inr is) = inr (found (v.txid == x.txid) is)
-
--- only the last version may be one's that hasn't ended, so it is the newest of those that pass with it
-newest_from-only : (p q : ℕ → Bool) (newest : Option Version) (vs : List Version) (u : ℕ) (v : Version) → OnlyLast p vs → p u ≡ false → q u ≡ true → version_of u vs ≡ Some v → newest_from q newest vs ≡ Some v
-newest_from-only p q newest [] u v only runs passes is = absurd (cc)
-newest_from-only p q newest (x ∷ vs) u v only runs passes is =
-    of (u == x.txid) refl only.0 is (newest_from-only p q (if q x.txid then Some x else newest) vs u v only.1 runs passes)
-  where
-    of : (b : Bool) → (u == x.txid) ≡ b → (p x.txid ≡ true) ⊎ (vs ≡ []) → (if b then Some x else version_of u vs) ≡ Some v
-        → (version_of u vs ≡ Some v → newest_from q (if q x.txid then Some x else newest) vs ≡ Some v) → newest_from q (if q x.txid then Some x else newest) vs ≡ Some v
-    of true same (inl over) e ih = (let one : u ≡ x.txid = grind (arith, nat_tests) in absurd (cc (sym runs ∙ ap p one ∙ over)))
-    of true same (inr last) e ih =
-        let one : u ≡ x.txid = grind (arith, nat_tests) in
-        ap (λ ys. newest_from q (if q x.txid then Some x else newest) ys) last ∙ ap (λ b. if b then Some x else newest) (ap q (sym one) ∙ passes) ∙ e
-    of false other one e ih = ih e
-
--- who runs hasn't ended
-runs-unended : (h : History) → Legal h → (t : ℕ) → contains t (running h) ≡ true → has_ended h t ≡ false
-runs-unended h l t e = of (nat_lt t (next_txid h)) (has_ended h t) (sym ((sound h l).runs t) ∙ e)
-  where
-    of : (a b : Bool) → (a && not b) ≡ true → b ≡ false
-    of true true e = absurd (cc)
-    of true false e = refl
-    of false b e = absurd (cc)
-
--- the holder of a key is the transaction of its newest version but the own one, where that runs
-holder-is : (h : History) → Legal h → (table : ℕ) (key : List Val) (own : Option ℕ) → holder table key own h ≡ running_writer (running h) (newest_but own (kept h table key))
-holder-is h l table key own = of (holder table key own h) refl
-  where
-    test : ℕ → Bool
-    test = λ t. is_other own t && has_written key (writes_of table t h)
-
-    k : KeyHolds h table key
-    k = key_holds h l table key
-
-    -- one that runs and has a version has written the key
-    written_by : (t : ℕ) → contains t (running h) ≡ true → is_some (version_of t (kept h table key)) ≡ true → has_written key (writes_of table t h) ≡ true
-    written_by t runs there =
-        has_written-last_of key (writes_of table t h) ∙ ap is_some (sym (k.own t (runs-unended h l t runs))) ∙ mapped (version_of t (kept h table key)) ∙ there
-      where
-        mapped : (o : Option Version) → is_some (option_map Version.row o) ≡ is_some o
-        mapped None = refl
-        mapped (Some v) = refl
-
-    none : holder table key own h ≡ None → (o : Option Version) → newest_but own (kept h table key) ≡ o → None ≡ running_writer (running h) o
-    none nobody None is = refl
-    none nobody (Some v) is = by (contains v.txid (running h)) refl
-      where
-        there : (newest : Option Version) → newest ≡ None → (newest ≡ Some v) ⊎ (is_some (version_of v.txid (kept h table key)) ≡ true) → is_some (version_of v.txid (kept h table key)) ≡ true
-        there newest is_none (inl e) = absurd (cc (sym is_none ∙ e))
-        there newest is_none (inr e) = e
-
-        by : (b : Bool) → contains v.txid (running h) ≡ b → None ≡ (if b then Some v.txid else None)
-        by false e = refl
-        by true e =
-            let wrote_it : has_written key (writes_of table v.txid h) ≡ true =
-            written_by v.txid e (there None refl (newest_from-there (is_other own) None (kept h table key) v is)) in
-            let passes : is_other own v.txid ≡ true = newest_from-passes (is_other own) None (kept h table key) v is (λ w x. absurd (cc)) in
-            absurd (cc (sym (find-none test (running h) v.txid nobody e) ∙ ap (λ b. b && has_written key (writes_of table v.txid h)) passes ∙ wrote_it))
-
-    some : (u : ℕ) → holder table key own h ≡ Some u → (o : Option Version) → version_of u (kept h table key) ≡ o → Some u ≡ running_writer (running h) (newest_but own (kept h table key))
-    some u found o is = by o is
-      where
-        both : (is_other own u && has_written key (writes_of table u h)) ≡ true
-        both = (find-some test (running h) u found).0
-
-        runs : contains u (running h) ≡ true
-        runs = (find-some test (running h) u found).1
-
-        first_of : (a b : Bool) → (a && b) ≡ true → a ≡ true
-        first_of true b e = refl
-        first_of false b e = absurd (cc)
-
-        second_of : (a b : Bool) → (a && b) ≡ true → b ≡ true
-        second_of true b e = e
-        second_of false b e = absurd (cc)
-
-        by : (o : Option Version) → version_of u (kept h table key) ≡ o → Some u ≡ running_writer (running h) (newest_but own (kept h table key))
-        by None e =
-            absurd (cc (sym (second_of (is_other own u) (has_written key (writes_of table u h)) both) ∙ has_written-last_of key (writes_of table u h)
-            ∙ ap is_some (sym (k.own u (runs-unended h l u runs))) ∙ ap (λ x. is_some (option_map Version.row x)) e))
-        by (Some v) e =
-            let mine : v.txid ≡ u = version_of-txid u (kept h table key) v e in
-            sym (ap (running_writer (running h)) (newest_from-only (has_ended h) (is_other own) None (kept h table key) u v k.only (runs-unended h l u runs)
-            (first_of (is_other own u) (has_written key (writes_of table u h)) both) e)
-            ∙ ap (λ t. if contains t (running h) then Some t else None) mine
-            ∙ ap (λ b. if b then Some u else None) runs)
-
-    of : (o : Option ℕ) → holder table key own h ≡ o → holder table key own h ≡ running_writer (running h) (newest_but own (kept h table key))
-    of None e = e ∙ none e (newest_but own (kept h table key)) refl
-    of (Some u) e = e ∙ some u e (version_of u (kept h table key)) refl
 
 -- who stands among the committed has committed
 committed-has : (h : History) (t : ℕ) → contains t (committed h) ≡ true → has_committed h t ≡ true
@@ -403,7 +269,6 @@ same-rows h l = λ i. record {
   key = λ who table key. record {
     row = (read-at (place h who) h (place-since h who) l who table key ∙ ap (λ s. read s (own_txid who h) (kept h table key)) (sym (snapshot-place h who))) i;
     standing = read-at h h here l who table key i;
-    holder = holder-is h l table key (own_txid who h) i;
     unseen = unseen-is h l who table key i;
   };
   rows = λ who table. (rows-at h l who table ∙ ap (λ s. rows_read s (own_txid who h) (versions table h)) (sym (snapshot-place h who))) i;

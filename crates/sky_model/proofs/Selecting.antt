@@ -9,7 +9,7 @@ use Rattle.sky_model.specs.Queues.{sequence, events, ticks, tick, at_tick}
 use Rattle.sky_model.specs.Batches.{with_event, by_id_onto, by_id, is_for, batch_events}
 use Rattle.sky_model.specs.Selection.{snapshot_at, selected}
 use Rattle.sky_model.specs.State.{database_of}
-use Rattle.sky_model.proofs.Legal.{begins, ends, begins_block, fails_block, ends_block, repeats_block, looks, makes_table, writes, makes, raises, puts, ticks_next, registers, opens, closes, Legal, start, next}
+use Rattle.sky_model.proofs.Legal.{begins, ends, begins_block, fails_block, ends_block, repeats_block, looks, makes_table, writes, begins_waiting, ends_waiting, makes, raises, puts, ticks_next, registers, opens, closes, Legal, start, next}
 use Rattle.sky_model.proofs.Snapshots.{sees-snapshot, own-unended, has_committed-ended}
 use Rattle.sky_model.proofs.Ticks.{snapshot-at_tick, legal-at_tick}
 
@@ -62,6 +62,8 @@ committed-at_tick _ (next {h = h} l (ends_block who e)) q id t = committed-at_ti
 committed-at_tick _ (next {h = h} l (repeats_block who)) q id t = committed-at_tick h l q id t
 committed-at_tick _ (next {h = h} l (looks who)) q id t = committed-at_tick h l q id t
 committed-at_tick _ (next {h = h} l (makes_table name columns e)) q id t = committed-at_tick h l q id t
+committed-at_tick _ (next {h = h} l (begins_waiting who n at_key attempt)) q id t = committed-at_tick h l q id t
+committed-at_tick _ (next {h = h} l (ends_waiting who)) q id t = committed-at_tick h l q id t
 committed-at_tick _ (next {h = h} l (writes who u table key old new e free)) q id t = committed-at_tick h l q id t
 committed-at_tick _ (next {h = h} l (makes name new)) q id t = committed-at_tick h l q id t
 committed-at_tick _ (next {h = h} l (raises p v i e)) q id t = committed-at_tick h l q id t
@@ -119,6 +121,8 @@ numbered _ (next {h = h} l (ends_block who e)) q = numbered h l q
 numbered _ (next {h = h} l (repeats_block who)) q = numbered h l q
 numbered _ (next {h = h} l (looks who)) q = numbered h l q
 numbered _ (next {h = h} l (makes_table name columns e)) q = numbered h l q
+numbered _ (next {h = h} l (begins_waiting who n at_key attempt)) q = numbered h l q
+numbered _ (next {h = h} l (ends_waiting who)) q = numbered h l q
 numbered _ (next {h = h} l (writes who u table key old new e free)) q = numbered h l q
 numbered _ (next {h = h} l (makes name new)) q = numbered h l q
 numbered _ (next {h = h} l (raises p v i le)) q = of (p == q) refl (numbered h l q)

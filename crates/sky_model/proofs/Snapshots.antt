@@ -6,7 +6,7 @@ use Rattle.sky_txid.specs.Snapshot.{sees}
 use Rattle.sky_model.specs.History.{Mark, began, ended, block_begun, block_failed, block_ended, repeats, looked, tabled, queued, History}
 use Rattle.sky_model.specs.Transactions.{next_txid, running, has_ended, has_committed, has_rolled_back, snapshot}
 use Rattle.sky_model.specs.Sessions.{own_txid}
-use Rattle.sky_model.proofs.Legal.{Fine, begins, ends, begins_block, fails_block, ends_block, repeats_block, looks, makes_table, writes, makes, raises, puts, ticks_next, registers, opens, closes, Legal, start, next}
+use Rattle.sky_model.proofs.Legal.{Fine, begins, ends, begins_block, fails_block, ends_block, repeats_block, looks, makes_table, writes, begins_waiting, ends_waiting, makes, raises, puts, ticks_next, registers, opens, closes, Legal, start, next}
 
 abbrev pub IsRising : List ℕ → Type 0
 IsRising [] = Unit {0}
@@ -231,6 +231,8 @@ sound_step h _ (ends_block who e) s = record { first = s.first; runs = s.runs; e
 sound_step h _ (repeats_block who) s = record { first = s.first; runs = s.runs; ended_below = s.ended_below; rising = s.rising; below = s.below; owns = s.owns; once = s.once }
 sound_step h _ (looks who) s = record { first = s.first; runs = s.runs; ended_below = s.ended_below; rising = s.rising; below = s.below; owns = s.owns; once = s.once }
 sound_step h _ (makes_table name columns e) s = record { first = s.first; runs = s.runs; ended_below = s.ended_below; rising = s.rising; below = s.below; owns = s.owns; once = s.once }
+sound_step h _ (begins_waiting who n at_key attempt) s = record { first = s.first; runs = s.runs; ended_below = s.ended_below; rising = s.rising; below = s.below; owns = s.owns; once = s.once }
+sound_step h _ (ends_waiting who) s = record { first = s.first; runs = s.runs; ended_below = s.ended_below; rising = s.rising; below = s.below; owns = s.owns; once = s.once }
 sound_step h _ (writes who u table key old new e free) s = record { first = s.first; runs = s.runs; ended_below = s.ended_below; rising = s.rising; below = s.below; owns = s.owns; once = s.once }
 sound_step h _ (makes name e) s = record { first = s.first; runs = s.runs; ended_below = s.ended_below; rising = s.rising; below = s.below; owns = s.owns; once = s.once }
 sound_step h _ (raises q v i l) s = record { first = s.first; runs = s.runs; ended_below = s.ended_below; rising = s.rising; below = s.below; owns = s.owns; once = s.once }
@@ -332,6 +334,8 @@ has_committed-ended _ (next {h = h} l (ends_block who e)) t = has_committed-ende
 has_committed-ended _ (next {h = h} l (repeats_block who)) t = has_committed-ended h l t
 has_committed-ended _ (next {h = h} l (looks who)) t = has_committed-ended h l t
 has_committed-ended _ (next {h = h} l (makes_table name columns e)) t = has_committed-ended h l t
+has_committed-ended _ (next {h = h} l (begins_waiting who n at_key attempt)) t = has_committed-ended h l t
+has_committed-ended _ (next {h = h} l (ends_waiting who)) t = has_committed-ended h l t
 has_committed-ended _ (next {h = h} l (writes who u table key old new e free)) t = has_committed-ended h l t
 has_committed-ended _ (next {h = h} l (makes name e)) t = has_committed-ended h l t
 has_committed-ended _ (next {h = h} l (raises q v i le)) t = has_committed-ended h l t

@@ -5,7 +5,7 @@ use Rattle.sky_model.specs.History.{began, ended, block_begun, block_failed, blo
 use Rattle.sky_model.specs.Transactions.{has_committed, snapshot}
 use Rattle.sky_model.specs.Queues.{Tick, ticks, tick, newest_tick, at_tick}
 use Rattle.sky_model.specs.StepQueue.{id_of}
-use Rattle.sky_model.proofs.Legal.{begins, ends, begins_block, fails_block, ends_block, repeats_block, looks, makes_table, writes, makes, raises, puts, ticks_next, registers, opens, closes, Legal, start, next}
+use Rattle.sky_model.proofs.Legal.{begins, ends, begins_block, fails_block, ends_block, repeats_block, looks, makes_table, writes, begins_waiting, ends_waiting, makes, raises, puts, ticks_next, registers, opens, closes, Legal, start, next}
 use Rattle.sky_model.proofs.Ticks.{none_above}
 
 -- a queue's tick is made
@@ -105,6 +105,8 @@ committed_later _ (next {h = h} l (ends_block who e)) q from to t less there = c
 committed_later _ (next {h = h} l (repeats_block who)) q from to t less there = committed_later h l q from to t less there
 committed_later _ (next {h = h} l (looks who)) q from to t less there = committed_later h l q from to t less there
 committed_later _ (next {h = h} l (makes_table name columns e)) q from to t less there = committed_later h l q from to t less there
+committed_later _ (next {h = h} l (begins_waiting who n at_key attempt)) q from to t less there = committed_later h l q from to t less there
+committed_later _ (next {h = h} l (ends_waiting who)) q from to t less there = committed_later h l q from to t less there
 committed_later _ (next {h = h} l (writes who u table key old new e free)) q from to t less there = committed_later h l q from to t less there
 committed_later _ (next {h = h} l (makes name new)) q from to t less there = committed_later h l q from to t less there
 committed_later _ (next {h = h} l (raises p v i e)) q from to t less there = committed_later h l q from to t less there

@@ -6,7 +6,7 @@ use Rattle.sky_model.specs.Transactions.{snapshot}
 use Rattle.sky_model.specs.Queues.{queue_names, Tick, ticks, tick, newest_tick, at_tick}
 use Rattle.sky_model.specs.StepQueue.{id_of}
 use Rattle.sky_model.specs.Selection.{snapshot_at}
-use Rattle.sky_model.proofs.Legal.{begins, ends, begins_block, fails_block, ends_block, repeats_block, looks, makes_table, writes, makes, raises, puts, ticks_next, registers, opens, closes, Legal, start, next}
+use Rattle.sky_model.proofs.Legal.{begins, ends, begins_block, fails_block, ends_block, repeats_block, looks, makes_table, writes, begins_waiting, ends_waiting, makes, raises, puts, ticks_next, registers, opens, closes, Legal, start, next}
 
 -- a queue that isn't made yet has no ticks
 pub ticks_beyond : (h : History) → Legal h → (q : ℕ) → length (queue_names h) ≤ q → ticks q h ≡ []
@@ -19,6 +19,8 @@ ticks_beyond _ (next {h = h} l (ends_block who e)) q le = ticks_beyond h l q le
 ticks_beyond _ (next {h = h} l (repeats_block who)) q le = ticks_beyond h l q le
 ticks_beyond _ (next {h = h} l (looks who)) q le = ticks_beyond h l q le
 ticks_beyond _ (next {h = h} l (makes_table name columns e)) q le = ticks_beyond h l q le
+ticks_beyond _ (next {h = h} l (begins_waiting who n at_key attempt)) q le = ticks_beyond h l q le
+ticks_beyond _ (next {h = h} l (ends_waiting who)) q le = ticks_beyond h l q le
 ticks_beyond _ (next {h = h} l (writes who u table key old new e free)) q le = ticks_beyond h l q le
 ticks_beyond _ (next {h = h} l (makes name new)) q le = ticks_beyond h l q (omega (arith, length-append (queue_names h) (name ∷ []), le))
 ticks_beyond _ (next {h = h} l (raises p v i e)) q le = ticks_beyond h l q le
@@ -77,6 +79,8 @@ none_above _ (next {h = h} l (ends_block who e)) q = none_above h l q
 none_above _ (next {h = h} l (repeats_block who)) q = none_above h l q
 none_above _ (next {h = h} l (looks who)) q = none_above h l q
 none_above _ (next {h = h} l (makes_table name columns e)) q = none_above h l q
+none_above _ (next {h = h} l (begins_waiting who n at_key attempt)) q = none_above h l q
+none_above _ (next {h = h} l (ends_waiting who)) q = none_above h l q
 none_above _ (next {h = h} l (writes who u table key old new e free)) q = none_above h l q
 none_above _ (next {h = h} l (makes name new)) q = none_above h l q
 none_above _ (next {h = h} l (raises p v i e)) q = none_above h l q
@@ -104,6 +108,8 @@ snapshot-at_tick _ (next {h = h} l (ends_block who e)) q id = snapshot-at_tick h
 snapshot-at_tick _ (next {h = h} l (repeats_block who)) q id = snapshot-at_tick h l q id
 snapshot-at_tick _ (next {h = h} l (looks who)) q id = snapshot-at_tick h l q id
 snapshot-at_tick _ (next {h = h} l (makes_table name columns e)) q id = snapshot-at_tick h l q id
+snapshot-at_tick _ (next {h = h} l (begins_waiting who n at_key attempt)) q id = snapshot-at_tick h l q id
+snapshot-at_tick _ (next {h = h} l (ends_waiting who)) q id = snapshot-at_tick h l q id
 snapshot-at_tick _ (next {h = h} l (writes who u table key old new e free)) q id = snapshot-at_tick h l q id
 snapshot-at_tick _ (next {h = h} l (makes name new)) q id = snapshot-at_tick h l q id
 snapshot-at_tick _ (next {h = h} l (raises p v i e)) q id = snapshot-at_tick h l q id
@@ -140,6 +146,8 @@ legal-at_tick _ (next {h = h} l (ends_block who e)) q id = legal-at_tick h l q i
 legal-at_tick _ (next {h = h} l (repeats_block who)) q id = legal-at_tick h l q id
 legal-at_tick _ (next {h = h} l (looks who)) q id = legal-at_tick h l q id
 legal-at_tick _ (next {h = h} l (makes_table name columns e)) q id = legal-at_tick h l q id
+legal-at_tick _ (next {h = h} l (begins_waiting who n at_key attempt)) q id = legal-at_tick h l q id
+legal-at_tick _ (next {h = h} l (ends_waiting who)) q id = legal-at_tick h l q id
 legal-at_tick _ (next {h = h} l (writes who u table key old new e free)) q id = legal-at_tick h l q id
 legal-at_tick _ (next {h = h} l (makes name new)) q id = legal-at_tick h l q id
 legal-at_tick _ (next {h = h} l (raises p v i e)) q id = legal-at_tick h l q id

@@ -1,19 +1,19 @@
 -- Which statements a session may make where it stands.
-use Rattle.std.specs.Prelude.{Ok, Err}
+use Rattle.std.specs.Prelude.{Bool, true, false, Ok, Err}
 use Rattle.sky_model.specs.declared.stmt.Stmt.{Stmt}
 use Rattle.sky_model.specs.declared.stmt.RowStmt.{RowStmt}
 use Rattle.sky_model.specs.declared.stmt.RowStmt.TheVariants.{OpenDb, Close, Cancel, Begin, BeginRepeatableRead, Commit, Rollback, TxidCurrent, TxidCurrentSnapshot, TxidVisibleInSnapshot, CreateTable, Insert, Update, Delete, Get, Scan}
 use Rattle.sky_model.specs.declared.stmt.Stmt.TheVariants.{Row, CreateQueue, InsertEvent, Ticker, ForceTick, RegisterConsumer, NextBatch, GetBatchEvents, FinishBatch}
 use Rattle.sky_model.specs.declared.stmt.Where.{Where}
-use Rattle.sky_model.specs.declared.stmt.Where.TheVariants.{Anywhere, WhenOpen, WhenSound, WhenReading, WhenOutside}
-use Rattle.sky_model.specs.declared.reply.Refusal.TheVariants.{Aborted, InTransaction}
+use Rattle.sky_model.specs.declared.stmt.Where.TheVariants.{Always, Anywhere, WhenOpen, WhenSound, WhenReading, WhenOutside}
+use Rattle.sky_model.specs.declared.reply.Refusal.TheVariants.{Aborted, Busy, InTransaction}
 use Rattle.sky_model.specs.Sessions.{Block, outside, inside, failed}
 use Rattle.sky_model.specs.Outcome.{Checked}
 
 -- where a statement on rows may stand
 abbrev pub where_of_row : RowStmt → Where
 where_of_row (OpenDb name) = Anywhere
-where_of_row Cancel = Anywhere
+where_of_row Cancel = Always
 where_of_row Close = WhenOpen
 where_of_row Commit = WhenOpen
 where_of_row Rollback = WhenOpen
@@ -41,11 +41,18 @@ where_of (NextBatch queue consumer) = WhenOutside
 where_of (GetBatchEvents batch) = WhenOutside
 where_of (FinishBatch batch) = WhenOutside
 
--- a statement, by where it may stand, in a session that has a database open
-abbrev pub allowed : Block → Where → Checked (Unit {0})
-allowed outside place = Ok tt
-allowed inside WhenOutside = Err InTransaction
-allowed inside _ = Ok tt
-allowed failed Anywhere = Ok tt
-allowed failed WhenOpen = Ok tt
-allowed failed _ = Err Aborted
+-- a statement, by where it may stand, in a session that doesn't wait
+abbrev pub allowed_in : Block → Where → Checked (Unit {0})
+allowed_in outside place = Ok tt
+allowed_in inside WhenOutside = Err InTransaction
+allowed_in inside _ = Ok tt
+allowed_in failed Always = Ok tt
+allowed_in failed Anywhere = Ok tt
+allowed_in failed WhenOpen = Ok tt
+allowed_in failed _ = Err Aborted
+
+-- a statement, by where it may stand, in a session that has a database open, and waits or doesn't
+abbrev pub allowed : Bool → Block → Where → Checked (Unit {0})
+allowed false block place = allowed_in block place
+allowed true block Always = Ok tt
+allowed true block _ = Err Busy

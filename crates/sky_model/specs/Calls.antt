@@ -1,5 +1,5 @@
 -- What a call does: a statement of a session, with all that it causes.
-use Rattle.std.specs.Prelude.{ℕ, ℤ, Bool, true, false, List, [], ◌∷◌, ◌++◌, Option, Some, None, Err, nat_le, length, map, if◌then◌else◌}
+use Rattle.std.specs.Prelude.{ℕ, ℤ, Bool, false, List, [], ◌∷◌, ◌++◌, Option, Some, None, Err, not, nat_le, length, map, if◌then◌else◌}
 use Rattle.sky_model.specs.declared.stmt.Stmt.{Stmt}
 use Rattle.sky_model.specs.declared.stmt.RowStmt.{RowStmt}
 use Rattle.sky_model.specs.declared.stmt.RowStmt.TheVariants.{OpenDb, Close, Cancel, Begin, BeginRepeatableRead, Commit, Rollback, TxidCurrent, TxidCurrentSnapshot, TxidVisibleInSnapshot, CreateTable, Insert, Update, Delete, Get, Scan}
@@ -8,25 +8,27 @@ use Rattle.sky_model.specs.declared.reply.Reply.{Reply}
 use Rattle.sky_model.specs.declared.reply.Reply.TheVariants.{Done, NotWaiting}
 use Rattle.sky_model.specs.declared.reply.Limit.TheVariants.{Sessions, Databases}
 use Rattle.sky_model.specs.declared.reply.Refusal.TheVariants.{TooMany, AlreadyOpen, NotOpen}
+use Rattle.sky_val.specs.Waits.{is_waiting}
 use Rattle.sky_names.specs.Places.{place_of}
 use Rattle.sky_model.specs.History.{founded, entered, left, within, Past}
 use Rattle.sky_model.specs.State.{RowPart, Database}
 use Rattle.sky_model.specs.ShownRows.{RowsShown}
-use Rattle.sky_model.specs.Outcome.{Outcome, Checked, answers}
+use Rattle.sky_model.specs.Outcome.{Outcome, Checked}
 use Rattle.sky_model.specs.Allowed.{where_of_row, where_of}
 use Rattle.sky_model.specs.Made.{Making, made_by}
 use Rattle.sky_model.specs.StepQueue.{create_queue, insert_event, ticker, force_tick}
-use Rattle.sky_model.specs.StepSession.{begin, begin_repeatable_read, commit, rollback, close, txid_current, txid_current_snapshot, txid_visible_in_snapshot}
+use Rattle.sky_model.specs.StepSession.{begin, begin_repeatable_read, commit, rollback, close, cancel, txid_current, txid_current_snapshot, txid_visible_in_snapshot}
 use Rattle.sky_model.specs.StepRows.{create_table, insert, update, delete, get, scan}
 use Rattle.sky_model.specs.StepConsumer.{register_consumer, next_batch, get_batch_events, finish_batch}
 use Rattle.sky_model.specs.World.{World, on_top}
-use Rattle.sky_model.specs.Reader.{Shown, PartReader, DatabaseReader, Reader, within_database, by_past, Deed, answers_with, refuses, appears, followed}
+use Rattle.sky_model.specs.Reader.{Shown, PartReader, DatabaseReader, Reader, within_part, within_database, by_past, Deed, answers_with, refuses, appears, followed}
+use Rattle.sky_model.specs.Settling.{Turn, turn_of, with_settling}
 
 -- what a statement on sessions, transactions, tables and rows does that its session may make
 abbrev pub row_form : RowPart → RowsShown → ℕ → RowStmt → Checked Outcome
 row_form d shown who (OpenDb name) = Err AlreadyOpen
 row_form d shown who Close = close who (d.session who).txid (d.session who).block
-row_form d shown who Cancel = answers NotWaiting
+row_form d shown who Cancel = cancel who (d.session who).txid (d.session who).block (is_waiting who d.waiting)
 row_form d shown who Begin = begin who (d.session who).block
 row_form d shown who BeginRepeatableRead = begin_repeatable_read who (d.session who).block
 row_form d shown who Commit = commit who (d.session who).txid (d.session who).block
@@ -57,6 +59,7 @@ form d shown now who (FinishBatch batch) = finish_batch d batch
 abbrev pub row_making : {P : Type 0} → PartReader P → ℕ → RowStmt → Making P
 row_making r who stmt = record {
   session = λ p. (r.part p).session who;
+  waits = λ p. is_waiting who (r.part p).waiting;
   outcome = λ p. row_form (r.part p) (r.rows p) who stmt;
   behind = r.behind;
 }
@@ -64,16 +67,25 @@ row_making r who stmt = record {
 abbrev pub row_statement : {P : Type 0} → PartReader P → P → ℕ → RowStmt → Outcome
 row_statement r p who stmt = made_by (row_making r who stmt) (where_of_row stmt) who p
 
+-- with those that it lets go on
+abbrev pub row_turn : {P : Type 0} → PartReader P → P → ℕ → RowStmt → Turn
+row_turn r p who stmt = with_settling r p (turn_of who (row_statement r p who stmt))
+
 -- a statement of a session, at a place of the database that it has open
 abbrev pub making : {P : Type 0} → DatabaseReader P → ℤ → ℕ → Stmt → Making P
 making r now who stmt = record {
   session = λ p. (r.database p).part.session who;
+  waits = λ p. is_waiting who (r.database p).part.waiting;
   outcome = λ p. form (r.database p) (r.shown p) now who stmt;
   behind = r.behind;
 }
 
 abbrev pub statement : {P : Type 0} → DatabaseReader P → P → ℤ → ℕ → Stmt → Outcome
 statement r p now who stmt = made_by (making r now who stmt) (where_of stmt) who p
+
+-- with those that it lets go on
+abbrev pub database_turn : {P : Type 0} → DatabaseReader P → P → ℤ → ℕ → Stmt → Turn
+database_turn r p now who stmt = with_settling (within_part r) p (turn_of who (statement r p now who stmt))
 
 -- `open NAME` of a session that has none open: the database is made where it is new
 abbrev pub opens : World → ℕ → List ℕ → Option ℕ → Deed
@@ -88,18 +100,21 @@ unopened w who (Row (OpenDb name)) = opens w who name (place_of name w.databases
 unopened w who (Row Cancel) = answers_with who NotWaiting []
 unopened w who _ = refuses who NotOpen
 
-abbrev pub is_close : Stmt → Bool
-is_close (Row Close) = true
-is_close _ = false
+-- whether a session that waits, or doesn't, leaves its database: it does by `close`, which is refused while it waits
+abbrev pub is_leaving : Bool → Stmt → Bool
+is_leaving waits (Row Close) = not waits
+is_leaving waits _ = false
 
--- the outcome of a statement in a database, which a session leaves by `close`
-abbrev pub deed_in : ℕ → ℕ → Bool → Outcome → Deed
-deed_in who d leaving outcome = answers_with who outcome.reply (map (within d) outcome.marks ++ (if leaving then left who ∷ [] else []))
+-- what is done in a database, which a session may leave
+abbrev pub deed_in : ℕ → ℕ → Bool → Turn → Deed
+deed_in who d leaving turn = record { answers = turn.answers; facts = map (within d) turn.marks ++ (if leaving then left who ∷ [] else []) }
 
 -- a statement of a session, by the database that it has open
 abbrev pub session_does : {P : Type 0} → Reader P → P → ℕ → Stmt → Option ℕ → Deed
 session_does r p who stmt None = unopened (r.world p) who stmt
-session_does r p who stmt (Some d) = deed_in who d (is_close stmt) (statement (within_database r d) p (r.world p).now who stmt)
+session_does r p who stmt (Some d) =
+    deed_in who d (is_leaving (is_waiting who ((r.world p).database d).part.waiting) stmt)
+    (database_turn (within_database r d) p (r.world p).now who stmt)
 
 -- a turn: what a statement of a session does at a place
 abbrev pub turn : {P : Type 0} → Reader P → ℕ → Stmt → P → Deed

@@ -4,6 +4,7 @@ use Rattle.std.specs.Prelude.{ℕ, ℤ, Bool, List, Option}
 use Rattle.sky_val.specs.declared.event.Event.{Event}
 use Rattle.sky_val.specs.declared.val.Val.{Val}
 use Rattle.sky_val.specs.declared.column.Column.{Column}
+use Rattle.sky_model.specs.declared.stmt.Attempt.{Attempt}
 
 -- a batch: a consumer's, from one tick of its queue to another
 pub record Batch : Type 0 where
@@ -35,8 +36,12 @@ pub data QueueMark : Type 0 where
 pub data TableMark : Type 0 where
   -- a table was made
   table_made : (name : List ℕ) (columns : List Column) → TableMark
-  -- a transaction wrote a key of a table: the row that it had, and the row that it has
-  wrote : (t table : ℕ) (key : List Val) (old new : Option (List Val)) → TableMark
+  -- a transaction of the session wrote a key of a table: the row that it had, and the row that it has
+  wrote : (who t table : ℕ) (key : List Val) (old new : Option (List Val)) → TableMark
+  -- the session waits for a key that another one's transaction has written, and is to attempt this with the key
+  waits : (who table : ℕ) (key : List Val) (attempt : Attempt) → TableMark
+  -- the session no longer waits
+  waited : (who : ℕ) → TableMark
 
 -- what happened in a database
 pub data Mark : Type 0 where

@@ -8,6 +8,7 @@ pub mod Sessions
 pub mod Config
 pub mod Rows
 pub mod Versions
+pub mod Locks
 pub mod Queues
 pub mod Consumers
 pub mod Batches
@@ -17,6 +18,7 @@ pub mod Outcome
 pub mod Allowed
 pub mod Made
 pub mod OwnTransaction
+pub mod StepLocks
 pub mod StepRows
 pub mod StepQueue
 pub mod StepConsumer
@@ -24,11 +26,13 @@ pub mod StepSession
 pub mod Selection
 pub mod World
 pub mod Reader
+pub mod Settling
 pub mod Calls
 pub mod HistoryPlaces
 pub mod LawsOfSnapshots
 pub mod LawsOfRows
 pub mod LawsOfBatches
+pub mod LawsOfLocks
 pub mod Steps
 pub mod RowSteps
 pub mod Moment

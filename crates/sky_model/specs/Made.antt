@@ -7,9 +7,11 @@ use Rattle.sky_model.specs.Sessions.{Sight, at_first, Session}
 use Rattle.sky_model.specs.Outcome.{Outcome, Checked, settled}
 use Rattle.sky_model.specs.Allowed.{allowed}
 
--- how a statement reads a place: the session there, what the statement does there that may be made, and the place behind a mark
+-- how a statement reads a place: the session there, whether it waits there, what the statement does there that may be
+-- made, and the place behind a mark
 pub record Making (P : Type 0) : Type 0 where
   pub session : P → Session
+  pub waits : P → Bool
   pub outcome : P → Checked Outcome
   pub behind : P → Mark → P
 
@@ -35,4 +37,4 @@ runs_if m place who p (Ok _) =
 -- a statement of a session: it is refused where it may not stand, and else a repeatable read block takes its sight
 -- in front of the first one that reads
 abbrev pub made_by : {P : Type 0} → Making P → Where → ℕ → P → Outcome
-made_by m place who p = runs_if m place who p (allowed (m.session p).block place)
+made_by m place who p = runs_if m place who p (allowed (m.waits p) (m.session p).block place)

@@ -3,7 +3,7 @@ use Rattle.std.specs.Prelude.{ℕ, List, [], ◌∷◌, ◌++◌, if◌then◌el
 use Rattle.sky_model.specs.declared.reply.Reply.{Reply}
 use Rattle.sky_model.specs.declared.reply.Reply.TheVariants.{Refused}
 use Rattle.sky_model.specs.declared.reply.Refusal.{Refusal}
-use Rattle.sky_model.specs.declared.reply.Refusal.TheVariants.{AlreadyOpen}
+use Rattle.sky_model.specs.declared.reply.Refusal.TheVariants.{AlreadyOpen, Busy}
 use Rattle.sky_model.specs.History.{Mark, ended, block_failed}
 use Rattle.sky_model.specs.Sessions.{Block, inside, Session}
 
@@ -31,6 +31,11 @@ abbrev pub refused_if : Bool → Refusal → Checked (Unit {0})
 refused_if true refusal = Err refusal
 refused_if false refusal = Ok tt
 
+-- nothing is refused, or this
+abbrev pub refused_by : Option Refusal → Checked (Unit {0})
+refused_by None = Ok tt
+refused_by (Some refusal) = Err refusal
+
 -- what is there, or this refusal
 abbrev pub found_or : {A : Type 0} → Option A → Refusal → Checked A
 found_or None refusal = Err refusal
@@ -52,6 +57,7 @@ end_of committed who (Some t) = ended who t committed ∷ []
 -- a refusal aborts the session's transaction, but for these
 abbrev pub aborts : Refusal → Bool
 aborts AlreadyOpen = false
+aborts Busy = false
 aborts _ = true
 
 -- what a refusal leaves in a session: a block that it was in is rolled back, and stays aborted

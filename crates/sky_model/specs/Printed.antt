@@ -5,13 +5,13 @@ use Rattle.sky_val.specs.declared.event.Event.{Event}
 use Rattle.sky_val.specs.declared.val.Val.{Val}
 use Rattle.sky_val.specs.declared.val.Val.TheVariants as value
 use Rattle.sky_model.specs.declared.reply.Reply.{Reply}
-use Rattle.sky_model.specs.declared.reply.Reply.TheVariants.{Done, Number, Null, Bool, Begin, AlreadyInTransaction, Commit, Rollback, NoTransaction, NotWaiting, Snapshot, Events, Row, NoRow, Rows, Refused}
+use Rattle.sky_model.specs.declared.reply.Reply.TheVariants.{Done, Number, Null, Bool, Begin, AlreadyInTransaction, Commit, Rollback, NoTransaction, NotWaiting, Waits, Snapshot, Events, Row, NoRow, Rows, Refused}
 use Rattle.sky_model.specs.declared.reply.Limit.{Limit}
 use Rattle.sky_model.specs.declared.reply.Limit.TheVariants.{Sessions, Databases, Queues, Consumers, Tables, Columns}
 use Rattle.sky_model.specs.declared.reply.BadRow as bad_row
 use Rattle.sky_model.specs.declared.reply.BadRow.TheVariants.{Count, «Type», NullKey, NoColumn, Twice}
 use Rattle.sky_model.specs.declared.reply.Refusal.{Refusal}
-use Rattle.sky_model.specs.declared.reply.Refusal.TheVariants.{Aborted, AlreadyOpen, BadRow, BadSnapshot, Duplicate, EventIdsSpent, IdsSpent, InTransaction, KeyBusy, KeyChange, NoBatch, NoConsumer, NodeConsumer, NoKey, NoQueue, NoTable, NotOpen, OutOfRange, ReservedColumn, Serialize, TableExists, TooMany, TwiceNamed, TxidsSpent}
+use Rattle.sky_model.specs.declared.reply.Refusal.TheVariants.{Aborted, AlreadyOpen, BadRow, BadSnapshot, Busy, Canceled, Deadlock, Duplicate, EventIdsSpent, IdsSpent, InTransaction, KeyChange, NoBatch, NoConsumer, NodeConsumer, NoKey, NoQueue, NoTable, NotOpen, OutOfRange, ReservedColumn, Serialize, TableExists, TooMany, TwiceNamed, TxidsSpent}
 use Rattle.sky_txid.specs.SnapshotText.{snapshot_text}
 use Rattle.sky_model.specs.Moment.{moment, HasMoment}
 
@@ -84,72 +84,85 @@ bad_row_text (NullKey column) = codes "nullkey " ++ column
 bad_row_text (NoColumn column) = codes "nocolumn " ++ column
 bad_row_text (Twice column) = codes "twice " ++ column
 
--- a refusal
-abbrev pub refusal_text : Refusal → List ℕ
-refusal_text Aborted = codes "Aborted"
-refusal_text AlreadyOpen = codes "AlreadyOpen"
-refusal_text (BadRow why) = codes "BadRow " ++ bad_row_text why
-refusal_text BadSnapshot = codes "BadSnapshot"
-refusal_text Duplicate = codes "Duplicate"
-refusal_text EventIdsSpent = codes "EventIdsSpent"
-refusal_text IdsSpent = codes "IdsSpent"
-refusal_text InTransaction = codes "InTransaction"
-refusal_text (KeyBusy txid) = codes "KeyBusy " ++ decimal txid
-refusal_text (KeyChange column) = codes "KeyChange " ++ column
-refusal_text NoBatch = codes "NoBatch"
-refusal_text (NoConsumer name) = codes "NoConsumer " ++ name
-refusal_text NodeConsumer = codes "NodeConsumer"
-refusal_text NoKey = codes "NoKey"
-refusal_text (NoQueue name) = codes "NoQueue " ++ name
-refusal_text (NoTable name) = codes "NoTable " ++ name
-refusal_text NotOpen = codes "NotOpen"
-refusal_text (OutOfRange column) = codes "OutOfRange " ++ column
-refusal_text (ReservedColumn column) = codes "ReservedColumn " ++ column
-refusal_text (Serialize txid) = codes "Serialize " ++ decimal txid
-refusal_text (TableExists name) = codes "TableExists " ++ name
-refusal_text (TooMany limit) = codes "TooMany " ++ limit_text limit
-refusal_text (TwiceNamed column) = codes "TwiceNamed " ++ column
-refusal_text TxidsSpent = codes "TxidsSpent"
+-- the name at a place
+abbrev pub name_at : List (List ℕ) → ℕ → List ℕ
+name_at names n = unwrap_or (slice_get names n) []
 
--- the lines of an answer
-abbrev pub reply_lines : Reply → List (List ℕ)
-reply_lines Done = codes "ok" ∷ []
-reply_lines (Number n) = decimal n ∷ []
-reply_lines Null = codes "null" ∷ []
-reply_lines (Bool true) = codes "true" ∷ []
-reply_lines (Bool false) = codes "false" ∷ []
-reply_lines Begin = codes "BEGIN" ∷ []
-reply_lines AlreadyInTransaction = codes "WARNING already in a transaction" ∷ []
-reply_lines Commit = codes "COMMIT" ∷ []
-reply_lines Rollback = codes "ROLLBACK" ∷ []
-reply_lines NoTransaction = codes "WARNING no transaction" ∷ []
-reply_lines NotWaiting = codes "not waiting" ∷ []
-reply_lines (Snapshot s) = snapshot_text s ∷ []
-reply_lines (Events events) = map event_text events ++ count_text (length events) ∷ []
-reply_lines (Row row) = row_text row ∷ []
-reply_lines NoRow = codes "none" ∷ []
-reply_lines (Rows rows) = map row_text rows ++ count_text (length rows) ∷ []
-reply_lines (Refused refusal) = (codes "error " ++ refusal_text refusal) ∷ []
+-- a refusal, where the sessions have these names
+abbrev pub refusal_text : List (List ℕ) → Refusal → List ℕ
+refusal_text names Aborted = codes "Aborted"
+refusal_text names AlreadyOpen = codes "AlreadyOpen"
+refusal_text names (BadRow why) = codes "BadRow " ++ bad_row_text why
+refusal_text names BadSnapshot = codes "BadSnapshot"
+refusal_text names Busy = codes "Busy"
+refusal_text names Canceled = codes "Canceled"
+refusal_text names (Deadlock waiters) = codes "Deadlock" ++ spaced (map (name_at names) waiters)
+refusal_text names Duplicate = codes "Duplicate"
+refusal_text names EventIdsSpent = codes "EventIdsSpent"
+refusal_text names IdsSpent = codes "IdsSpent"
+refusal_text names InTransaction = codes "InTransaction"
+refusal_text names (KeyChange column) = codes "KeyChange " ++ column
+refusal_text names NoBatch = codes "NoBatch"
+refusal_text names (NoConsumer name) = codes "NoConsumer " ++ name
+refusal_text names NodeConsumer = codes "NodeConsumer"
+refusal_text names NoKey = codes "NoKey"
+refusal_text names (NoQueue name) = codes "NoQueue " ++ name
+refusal_text names (NoTable name) = codes "NoTable " ++ name
+refusal_text names NotOpen = codes "NotOpen"
+refusal_text names (OutOfRange column) = codes "OutOfRange " ++ column
+refusal_text names (ReservedColumn column) = codes "ReservedColumn " ++ column
+refusal_text names (Serialize txid) = codes "Serialize " ++ decimal txid
+refusal_text names (TableExists name) = codes "TableExists " ++ name
+refusal_text names (TooMany limit) = codes "TooMany " ++ limit_text limit
+refusal_text names (TwiceNamed column) = codes "TwiceNamed " ++ column
+refusal_text names TxidsSpent = codes "TxidsSpent"
+
+-- the lines of an answer, where the sessions have these names
+abbrev pub reply_lines : List (List ℕ) → Reply → List (List ℕ)
+reply_lines names Done = codes "ok" ∷ []
+reply_lines names (Number n) = decimal n ∷ []
+reply_lines names Null = codes "null" ∷ []
+reply_lines names (Bool true) = codes "true" ∷ []
+reply_lines names (Bool false) = codes "false" ∷ []
+reply_lines names Begin = codes "BEGIN" ∷ []
+reply_lines names AlreadyInTransaction = codes "WARNING already in a transaction" ∷ []
+reply_lines names Commit = codes "COMMIT" ∷ []
+reply_lines names Rollback = codes "ROLLBACK" ∷ []
+reply_lines names NoTransaction = codes "WARNING no transaction" ∷ []
+reply_lines names NotWaiting = codes "not waiting" ∷ []
+reply_lines names (Waits holder) = (codes "waits for " ++ name_at names holder) ∷ []
+reply_lines names (Snapshot s) = snapshot_text s ∷ []
+reply_lines names (Events events) = map event_text events ++ count_text (length events) ∷ []
+reply_lines names (Row row) = row_text row ∷ []
+reply_lines names NoRow = codes "none" ∷ []
+reply_lines names (Rows rows) = map row_text rows ++ count_text (length rows) ∷ []
+reply_lines names (Refused refusal) = (codes "error " ++ refusal_text names refusal) ∷ []
 
 -- a line of an answer, behind its session's name
 abbrev pub line_text : List ℕ → List ℕ → List ℕ
 line_text name line = name ++ codes ": " ++ line ++ 10 ∷ []
 
 -- an answer of the session of this name
-abbrev pub reply_text : List ℕ → Reply → List ℕ
-reply_text name reply = flat_map (line_text name) (reply_lines reply)
-
--- the name at a place
-abbrev pub name_at : List (List ℕ) → ℕ → List ℕ
-name_at names n = unwrap_or (slice_get names n) []
+abbrev pub reply_text : List (List ℕ) → List ℕ → Reply → List ℕ
+reply_text names name reply = flat_map (line_text name) (reply_lines names reply)
 
 -- answers, each behind the name of its session
 abbrev pub printed : List (List ℕ) → List (ℕ × Reply) → List ℕ
-printed names replies = flat_map (λ answer. reply_text (name_at names answer.0) answer.1) replies
+printed names replies = flat_map (λ answer. reply_text names (name_at names answer.0) answer.1) replies
+
+-- the sessions that an answer speaks of
+abbrev pub sessions_in : Reply → List ℕ
+sessions_in (Waits holder) = holder ∷ []
+sessions_in (Refused (Deadlock waiters)) = waiters
+sessions_in _ = []
 
 -- each answer is of a session that has a name
 abbrev pub HaveNames : List (List ℕ) → List (ℕ × Reply) → Type 0
 HaveNames names replies = All (λ answer. answer.0 < length names) replies
+
+-- and speaks of none that has none
+abbrev pub AllNamed : List (List ℕ) → List (ℕ × Reply) → Type 0
+AllNamed names replies = All (λ answer. (answer.0 < length names) × All (λ who. who < length names) (sessions_in answer.1)) replies
 
 -- each event was made at a time that is printed
 abbrev pub EventsHaveMoments : List Event → Type 0

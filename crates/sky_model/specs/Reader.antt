@@ -49,6 +49,10 @@ database_by_history = record { database = database_of; shown = shown_in; behind 
 abbrev pub database_by_itself : DatabaseReader Database
 database_by_itself = record { database = λ d. d; shown = shown_by; behind = after_mark }
 
+-- the row part of a database
+abbrev pub within_part : {P : Type 0} → DatabaseReader P → PartReader P
+within_part r = record { part = λ p. (r.database p).part; rows = λ p. (r.shown p).rows; behind = r.behind }
+
 -- and of the world: the world there, what each database shows there, and the place behind what happens
 pub record Reader (P : Type 0) : Type 0 where
   pub world : P → World

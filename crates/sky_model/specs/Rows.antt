@@ -1,6 +1,6 @@
 -- Tables, and their rows at a place: what the transactions that have committed there wrote, one after the other
 -- in the order of their commits.
-use Rattle.std.specs.Prelude.{ℕ, List, [], ◌∷◌, ◌++◌, Bool, true, not, ◌&&◌, ◌==◌, Option, Some, None, length, filter, find, if◌then◌else◌}
+use Rattle.std.specs.Prelude.{ℕ, List, [], ◌∷◌, ◌++◌, Bool, true, not, ◌&&◌, ◌==◌, Option, Some, None, length, filter, if◌then◌else◌}
 use Rattle.std.specs.List.{list_any}
 use Rattle.std.specs.Ordering.{eq_by_cmp}
 use Rattle.sky_val.specs.declared.val.Val.{Val}
@@ -8,9 +8,8 @@ use Rattle.sky_val.specs.declared.column.Column.{Column}
 use Rattle.sky_val.specs.Order.{key_cmp}
 use Rattle.sky_val.specs.Entries as entries
 use Rattle.sky_val.specs.Entries.{Entries, at}
-use Rattle.sky_txid.specs.Versions.{is_other}
 use Rattle.sky_model.specs.History.{ended, tabled, table_made, wrote, History}
-use Rattle.sky_model.specs.Transactions.{running, has_committed}
+use Rattle.sky_model.specs.Transactions.{has_committed}
 use Rattle.sky_model.specs.Sessions.{own_txid, sight, place_of_sight}
 
 -- the names of the tables, in the order of making: a table's number is its place here
@@ -39,7 +38,7 @@ pub record Write : Type 0 where
 -- what a transaction wrote in a table, in order
 abbrev pub writes : ℕ → ℕ → History → List Write
 writes table t [] = []
-writes table t (tabled (wrote u n key old new) ∷ h) =
+writes table t (tabled (wrote who u n key old new) ∷ h) =
     if n == table && u == t then writes table t h ++ record { key = key; row = new } ∷ [] else writes table t h
 writes table t (_ ∷ h) = writes table t h
 
@@ -86,10 +85,6 @@ rows_standing who table h = rows_with_own table (own_txid who h) h h
 -- whether writes have a key among theirs
 abbrev pub has_written : List Val → List Write → Bool
 has_written key ws = list_any (λ w. eq_by_cmp key_cmp key w.key) ws
-
--- a running transaction that isn't the own one and has written the key
-abbrev pub holder : ℕ → List Val → Option ℕ → History → Option ℕ
-holder table key own h = find (λ t. is_other own t && has_written key (writes table t h)) (running h)
 
 -- the last of these transactions that has written the key
 abbrev pub last_writer : List Val → (ℕ → List Write) → Option ℕ → List ℕ → Option ℕ

@@ -1,15 +1,14 @@
 -- What the tables of a database show a statement: by the history, and by the versions that are kept.
-use Rattle.std.specs.Prelude.{ℕ, List, Option, Some, None, option_map, is_some, find, if◌then◌else◌}
+use Rattle.std.specs.Prelude.{ℕ, List, Option, None, option_map, is_some, find, if◌then◌else◌}
 use Rattle.std.specs.List.{list_any}
 use Rattle.sky_val.specs.declared.val.Val.{Val}
 use Rattle.sky_val.specs.Entries.{Entries, at}
-use Rattle.sky_txid.specs.Ids.{contains}
 use Rattle.sky_txid.specs.Snapshot.{SnapshotView, snapshot_of, sees}
 use Rattle.sky_txid.specs.declared.version.Version.{Version}
-use Rattle.sky_txid.specs.Versions.{newest_by, newest_but, version_of, own_version, read, versions_at, rows_read}
+use Rattle.sky_txid.specs.Versions.{newest_by, version_of, own_version, read, versions_at, rows_read}
 use Rattle.sky_model.specs.History.{History}
 use Rattle.sky_model.specs.Sessions.{own_txid, sight, place_of_sight, Session}
-use Rattle.sky_model.specs.Rows.{rows_shown, rows_standing, holder, unless, unseen_writer}
+use Rattle.sky_model.specs.Rows.{rows_shown, rows_standing, unless, unseen_writer}
 use Rattle.sky_model.specs.State.{RowPart}
 
 -- what a key shows a session
@@ -18,8 +17,6 @@ pub record KeyShown : Type 0 where
   pub row : Option (List Val)
   -- its row now, or as the own transaction left it
   pub standing : Option (List Val)
-  -- another running transaction that has written it
-  pub holder : Option ℕ
   -- the transaction of its newest committed write, where the sight doesn't have that and the own one hasn't written it
   pub unseen : Option ℕ
 
@@ -34,7 +31,6 @@ rows_in h = record {
   key = λ who table key. record {
     row = at key (rows_shown who table h);
     standing = at key (rows_standing who table h);
-    holder = holder table key (own_txid who h) h;
     unseen = unseen_writer table key (own_txid who h) (place_of_sight h (sight who h)) h;
   };
   rows = λ who table. rows_shown who table h;
@@ -47,11 +43,6 @@ snapshot_now d = snapshot_of d.next d.running_ids
 abbrev pub snapshot_for : RowPart → Session → SnapshotView
 snapshot_for d s = place_of_sight (snapshot_now d) s.sight
 
--- the transaction of a version, where it runs
-abbrev pub running_writer : List ℕ → Option Version → Option ℕ
-running_writer running None = None
-running_writer running (Some v) = if contains v.txid running then Some v.txid else None
-
 -- the transaction of the newest version that is seen now, unless the sight sees it or there is an own version
 abbrev pub unseen_in : RowPart → Session → List Version → Option ℕ
 unseen_in d s vs =
@@ -63,7 +54,6 @@ abbrev pub key_by : RowPart → Session → List Version → KeyShown
 key_by d s vs = record {
   row = read (snapshot_for d s) s.txid vs;
   standing = read (snapshot_now d) s.txid vs;
-  holder = running_writer d.running_ids (newest_but s.txid vs);
   unseen = unseen_in d s vs;
 }
 

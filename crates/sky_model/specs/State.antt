@@ -4,15 +4,19 @@ use Rattle.std.specs.Prelude.{ℕ, ◌+◌, List, [], ◌∷◌, ◌++◌, Bool,
 use Rattle.sky_val.specs.declared.event.Event.{Event}
 use Rattle.sky_val.specs.declared.column.Column.{Column}
 use Rattle.sky_val.specs.Entries.{Entries}
+use Rattle.sky_val.specs.Waits.{Holders, taken, released, Waiting, without}
 use Rattle.sky_txid.specs.declared.version.Version.{Version}
 use Rattle.sky_txid.specs.Snapshot.{SnapshotView, snapshot_of}
 use Rattle.sky_txid.specs.Versions.{written, forgotten}
-use Rattle.sky_model.specs.History.{Batch, Mark, began, ended, block_begun, repeats, looked, block_failed, block_ended, tabled, TableMark, table_made, wrote, queued, QueueMark, made, raised, put, ticked, registered, opened, closed, History}
+use Rattle.sky_model.specs.declared.stmt.Attempt.{Attempt}
+use Rattle.sky_model.specs.declared.stmt.Attempt.TheVariants.{Deletion}
+use Rattle.sky_model.specs.History.{Batch, Mark, began, ended, block_begun, repeats, looked, block_failed, block_ended, tabled, TableMark, table_made, wrote, waits, waited, queued, QueueMark, made, raised, put, ticked, registered, opened, closed, History}
 use Rattle.sky_model.specs.Transactions.{next_txid, running, has_rolled_back}
 use Rattle.sky_model.specs.Sessions.{Block, inside, failed, outside, Sight, at_each, at_first, at_place, Session, session}
 use Rattle.sky_model.specs.Config.{Config, config}
 use Rattle.sky_model.specs.Rows.{table_names, columns_of}
 use Rattle.sky_model.specs.Versions.{versions}
+use Rattle.sky_model.specs.Locks.{holder, waiting, attempt}
 use Rattle.sky_model.specs.Queues.{queue_names, sequence, events, Tick, ticks}
 use Rattle.sky_model.specs.Consumers.{consumers, Subscription, subscription, last_subscription, last_batch, active_batch}
 
@@ -25,7 +29,7 @@ pub record Queue : Type 0 where
   pub members : List (List ℕ)
   pub sub : List ℕ → Option Subscription
 
--- the transactions, sessions and tables of a database, as a statement reads them
+-- the transactions, sessions, tables and locks of a database, as a statement reads them
 pub record RowPart : Type 0 where
   pub next : ℕ
   pub running_ids : List ℕ
@@ -33,6 +37,9 @@ pub record RowPart : Type 0 where
   pub tables : List (List ℕ)
   pub columns : ℕ → List Column
   pub versions : ℕ → Entries (List Version)
+  pub holder : Holders
+  pub waiting : List Waiting
+  pub attempt : ℕ → Attempt
 
 -- a database, as a statement reads it
 pub record Database : Type 0 where
@@ -62,6 +69,9 @@ part_of h = record {
   tables = table_names h;
   columns = λ n. columns_of n h;
   versions = λ n. versions n h;
+  holder = λ n key. holder n key h;
+  waiting = waiting h;
+  attempt = λ who. attempt who h;
 }
 
 abbrev pub database_of : History → Database
@@ -142,7 +152,15 @@ after_table_mark d (table_made name columns) = record d {
   tables = d.tables ++ name ∷ [];
   columns = changed_at (length d.tables) (λ _. columns) d.columns;
 }
-after_table_mark d (wrote t table key old new) = record d { versions = changed_at table (written t key new) d.versions }
+after_table_mark d (wrote who t table key old new) = record d {
+  versions = changed_at table (written t key new) d.versions;
+  holder = taken who table key d.holder;
+}
+after_table_mark d (waits who table key attempted) = record d {
+  waiting = d.waiting ++ record { who = who; table = table; key = key } ∷ [];
+  attempt = changed_at who (λ _. attempted) d.attempt;
+}
+after_table_mark d (waited who) = record d { waiting = without who d.waiting; attempt = changed_at who (λ _. Deletion) d.attempt }
 
 -- transactions, sessions and tables after a mark
 abbrev pub after_part : RowPart → Mark → RowPart
@@ -154,11 +172,13 @@ after_part d (began who t) = record d {
 after_part d (ended who t true) = record d {
   running_ids = filter (λ u. not (u == t)) d.running_ids;
   session = changed_at who (with_txid None) d.session;
+  holder = released who d.holder;
 }
 after_part d (ended who t false) = record d {
   running_ids = filter (λ u. not (u == t)) d.running_ids;
   session = changed_at who (with_txid None) d.session;
   versions = λ n. forgotten t (d.versions n);
+  holder = released who d.holder;
 }
 after_part d (block_begun who) = record d { session = changed_at who (with_block inside) d.session }
 after_part d (repeats who) = record d { session = changed_at who (with_sight at_first) d.session }

@@ -13,6 +13,7 @@ use Rattle.sky_val.specs.declared.schema.SchemaFault.TheVariants as schema
 use Rattle.sky_val.specs.declared.schema.RowFault.{RowFault}
 use Rattle.sky_val.specs.declared.schema.RowFault.TheVariants as fault
 use Rattle.sky_val.specs.Schemas.{schema_fault, row_fault, key_columns, key_of, is_of_kind}
+use Rattle.sky_val.specs.Waits.{other_holder}
 use Rattle.sky_names.specs.Places.{place_of}
 use Rattle.sky_model.specs.declared.stmt.Change.{Change}
 use Rattle.sky_model.specs.declared.stmt.Change.TheVariants.{To, Add}
@@ -22,17 +23,15 @@ use Rattle.sky_model.specs.declared.reply.Limit.TheVariants.{Tables, Columns}
 use Rattle.sky_model.specs.declared.reply.BadRow as bad
 use Rattle.sky_model.specs.declared.reply.BadRow.TheVariants as badly
 use Rattle.sky_model.specs.declared.reply.Refusal.{Refusal}
-use Rattle.sky_model.specs.declared.reply.Refusal.TheVariants.{BadRow, Duplicate, KeyBusy, KeyChange, NoKey, NoTable, OutOfRange, ReservedColumn, Serialize, TableExists, TooMany, TwiceNamed}
+use Rattle.sky_model.specs.declared.reply.Refusal.TheVariants.{BadRow, Duplicate, KeyChange, NoKey, NoTable, OutOfRange, ReservedColumn, Serialize, TableExists, TooMany, TwiceNamed}
+use Rattle.sky_model.specs.declared.stmt.Attempt.{Attempt}
+use Rattle.sky_model.specs.declared.stmt.Attempt.TheVariants.{Insertion, Changes, Deletion}
 use Rattle.sky_model.specs.History.{tabled, table_made, wrote}
 use Rattle.sky_model.specs.State.{RowPart}
 use Rattle.sky_model.specs.ShownRows.{KeyShown, RowsShown}
-use Rattle.sky_model.specs.Outcome.{Outcome, Checked, ◌>>=◌, ◌>>◌, refused_if, found_or, answers, does_marks}
+use Rattle.sky_model.specs.Outcome.{Outcome, Checked, ◌>>=◌, ◌>>◌, refused_if, refused_by, found_or, answers, does_marks}
 use Rattle.sky_model.specs.OwnTransaction.{txid_for, written}
-
--- nothing is refused, or this
-abbrev pub refused_by : Option Refusal → Checked (Unit {0})
-refused_by None = Ok tt
-refused_by (Some refusal) = Err refusal
+use Rattle.sky_model.specs.StepLocks.{once_free}
 
 -- the table of a name
 abbrev pub table_called : List ℕ → RowPart → Checked ℕ
@@ -119,10 +118,6 @@ with_sets columns (set ∷ sets) row = do
   next ← found_or (with_set columns set row) (OutOfRange set.column)
   with_sets columns sets next
 
--- another running transaction has written the key
-abbrev pub is_free : KeyShown → Checked (Unit {0})
-is_free shown = refused_by (option_map KeyBusy shown.holder)
-
 -- a newer write than the session's sight has
 abbrev pub is_seen : KeyShown → Checked (Unit {0})
 is_seen shown = refused_by (option_map Serialize shown.unseen)
@@ -131,38 +126,39 @@ is_seen shown = refused_by (option_map Serialize shown.unseen)
 abbrev pub writes_key : RowPart → ℕ → ℕ → List Val → (old new : Option (List Val)) → Checked Outcome
 writes_key d who table key old new = do
   t ← txid_for d who
-  does_marks (Number 1) (written who t (d.session who) (tabled (wrote t table key old new) ∷ []))
+  does_marks (Number 1) (written who t (d.session who) (tabled (wrote who t table key old new) ∷ []))
 
--- `insert TABLE VAL..`
+-- a row is put at the key
 abbrev pub inserts : RowPart → KeyShown → ℕ → ℕ → List Val → List Val → Checked Outcome
-inserts d shown who table key row = do
-  is_free shown
+inserts d shown who table key row = once_free d who table key (Insertion row) (other_holder d.holder who table key) (do
   refused_if (is_some shown.standing) Duplicate
-  writes_key d who table key None (Some row)
+  writes_key d who table key None (Some row))
 
-abbrev pub insert : RowPart → RowsShown → ℕ → List ℕ → List Val → Checked Outcome
-insert d shown who name row = do
-  table ← table_called name d
-  fits (d.columns table) row
-  inserts d (shown.key who table (key_of (d.columns table) row)) who table (key_of (d.columns table) row) row
-
--- an update or a deletion of the row that is shown, which leaves `new_of` it; where none is shown it changes none
-abbrev pub changes : RowPart → KeyShown → ℕ → ℕ → List Val → (List Val → Checked (Option (List Val))) → Option (List Val) → Checked Outcome
-changes d shown who table key new_of None = answers (Number 0)
-changes d shown who table key new_of (Some row) = do
-  is_free shown
+-- the row at the key is changed, which leaves `new_of` it; where none is shown, none is changed
+abbrev pub changes : RowPart → KeyShown → ℕ → ℕ → List Val → Attempt → (List Val → Checked (Option (List Val))) → Option (List Val) → Checked Outcome
+changes d shown who table key attempt new_of None = answers (Number 0)
+changes d shown who table key attempt new_of (Some row) = once_free d who table key attempt (other_holder d.holder who table key) (do
   is_seen shown
   new ← new_of row
-  writes_key d who table key (Some row) new
-
--- the same of a key
-abbrev pub changes_key : RowPart → KeyShown → ℕ → ℕ → List Val → (List Val → Checked (Option (List Val))) → Checked Outcome
-changes_key d shown who table key new_of = changes d shown who table key new_of shown.row
+  writes_key d who table key (Some row) new)
 
 -- what is there, as an option
 abbrev pub some_row : Checked (List Val) → Checked (Option (List Val))
 some_row (Ok row) = Ok (Some row)
 some_row (Err refusal) = Err refusal
+
+-- what a statement attempts with a key, now or after a wait
+abbrev pub attempts : RowPart → KeyShown → ℕ → ℕ → List Val → Attempt → Checked Outcome
+attempts d shown who table key (Insertion row) = inserts d shown who table key row
+attempts d shown who table key (Changes sets) = changes d shown who table key (Changes sets) (λ row. some_row (with_sets (d.columns table) sets row)) shown.row
+attempts d shown who table key Deletion = changes d shown who table key Deletion (λ row. Ok None) shown.row
+
+-- `insert TABLE VAL..`
+abbrev pub insert : RowPart → RowsShown → ℕ → List ℕ → List Val → Checked Outcome
+insert d shown who name row = do
+  table ← table_called name d
+  fits (d.columns table) row
+  attempts d (shown.key who table (key_of (d.columns table) row)) who table (key_of (d.columns table) row) (Insertion row)
 
 -- the first change of a key column is refused
 abbrev pub key_stays : List Column → List Set → Checked (Unit {0})
@@ -175,14 +171,14 @@ update d shown who name key sets = do
   fits (key_columns (d.columns table)) key
   refused_by (option_map BadRow (bad_sets (d.columns table) [] sets))
   key_stays (d.columns table) sets
-  changes_key d (shown.key who table key) who table key (λ row. some_row (with_sets (d.columns table) sets row))
+  attempts d (shown.key who table key) who table key (Changes sets)
 
 -- `delete TABLE VAL..`
 abbrev pub delete : RowPart → RowsShown → ℕ → List ℕ → List Val → Checked Outcome
 delete d shown who name key = do
   table ← table_called name d
   fits (key_columns (d.columns table)) key
-  changes_key d (shown.key who table key) who table key (λ row. Ok None)
+  attempts d (shown.key who table key) who table key Deletion
 
 -- a row, or that there is none
 abbrev pub row_or_none : Option (List Val) → Checked Outcome

@@ -3,12 +3,12 @@ use Rattle.std.specs.Prelude.{ℕ, List, [], ◌∷◌, ◌++◌, Bool, true, fa
 use Rattle.sky_txid.specs.Snapshot.{snapshot_of, sees}
 use Rattle.sky_txid.specs.SnapshotText.{parse_snapshot}
 use Rattle.sky_model.specs.declared.reply.Reply as reply
-use Rattle.sky_model.specs.declared.reply.Reply.TheVariants.{Number, AlreadyInTransaction, NoTransaction, Snapshot}
-use Rattle.sky_model.specs.declared.reply.Refusal.TheVariants.{BadSnapshot}
-use Rattle.sky_model.specs.History.{Mark, block_begun, repeats, block_ended}
+use Rattle.sky_model.specs.declared.reply.Reply.TheVariants.{Number, AlreadyInTransaction, NoTransaction, NotWaiting, Refused, Snapshot}
+use Rattle.sky_model.specs.declared.reply.Refusal.TheVariants.{BadSnapshot, Canceled}
+use Rattle.sky_model.specs.History.{Mark, block_begun, repeats, block_ended, tabled, waited}
 use Rattle.sky_model.specs.Sessions.{Block, outside, inside, failed, place_of_sight}
 use Rattle.sky_model.specs.State.{RowPart}
-use Rattle.sky_model.specs.Outcome.{Outcome, Checked, ◌>>=◌, found_or, answers, does_marks, end_of}
+use Rattle.sky_model.specs.Outcome.{Outcome, Checked, ◌>>=◌, found_or, answers, does_marks, end_of, abort}
 use Rattle.sky_model.specs.OwnTransaction.{txid_for, written}
 
 -- `begin`
@@ -40,6 +40,11 @@ rollback who txid _ = does_marks reply.TheVariants.Rollback (leaves false who tx
 abbrev pub close : ℕ → Option ℕ → Block → Checked Outcome
 close who txid outside = answers reply.TheVariants.Done
 close who txid _ = does_marks reply.TheVariants.Done (leaves false who txid)
+
+-- `cancel`: a session no longer waits, and its statement is refused
+abbrev pub cancel : ℕ → Option ℕ → Block → Bool → Checked Outcome
+cancel who txid block false = answers NotWaiting
+cancel who txid block true = does_marks (Refused Canceled) (tabled (waited who) ∷ abort who block txid Canceled)
 
 -- `txid_current`: the transaction gets its id, where it has none
 abbrev pub txid_current : RowPart → ℕ → Checked Outcome

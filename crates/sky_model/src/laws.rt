@@ -2,6 +2,7 @@
 
 ghost use Rattle.sky_model.specs.LawsOfBatches.{BatchesAreConsecutive, BatchesListWhatStands, EqualIdsStay, EventsAreListedOnce, FinishedBatchesWereActive, IdsDontFall, ListingsStay};
 ghost use Rattle.sky_model.specs.LawsOfLines.{BadWordIsLeast};
+ghost use Rattle.sky_model.specs.LawsOfLocks.{DeadlocksAreRings, HoldersHaveWritten, NothingIsReady};
 ghost use Rattle.sky_model.specs.LawsOfRows.{RowsAreReadUnderSnapshots};
 ghost use Rattle.sky_model.specs.LawsOfSnapshots.{BatchesAreSelectedBySnapshots, SnapshotsSeeWhatHasEnded};
 
@@ -29,6 +30,22 @@ pub fn batches_are_selected_by_snapshots()
 /// a snapshot are those of one serial order of commits.
 pub fn rows_are_read_under_snapshots()
     ensures { RowsAreReadUnderSnapshots }
+{}
+
+/// At each such place a session holds a key exactly where its running transaction has written it.
+pub fn holders_have_written()
+    ensures { HoldersHaveWritten }
+{}
+
+/// At each such place a wait is refused exactly where it would close a ring of sessions each of which
+/// waits for the next, and the refusal lists them, the refused one first.
+pub fn deadlocks_are_rings()
+    ensures { DeadlocksAreRings }
+{}
+
+/// After each call no statement waits for a key that nobody holds.
+pub fn nothing_is_ready()
+    ensures { NothingIsReady }
 {}
 
 /// At each such place the batches that a consumer has finished are of its queue and its subscription,

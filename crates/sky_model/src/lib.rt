@@ -12,5 +12,5 @@ mod reply;
 mod stmt;
 
 pub use line::{Cause, Fixed, Line};
-pub use reply::{BadRow, Events, Limit, Refusal, Replies, Reply, Rows};
-pub use stmt::{Change, Columns, Extra, RowStmt, Set, Sets, Stmt, Where};
+pub use reply::{BadRow, Events, Limit, Refusal, Replies, Reply, Rows, Waiters};
+pub use stmt::{Attempt, Change, Columns, Extra, RowStmt, Set, Sets, Stmt, Where};

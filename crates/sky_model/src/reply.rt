@@ -49,6 +49,35 @@ impl Drop for BadRow {
     }
 }
 
+/// Sessions in order.
+#[derive(Debug, Drop)]
+pub struct Waiters {
+    items: Vec<SessionId>,
+}
+
+impl Model for Waiters {
+    ghost use Rattle.std.specs.Prelude.{ℕ, List};
+
+    ghost Value = { List ℕ };
+
+    ghost view = { λ w. w.items.items };
+}
+
+impl Waiters {
+    /// The sessions of a list. No memory is taken.
+    pub fn new(items: Vec<SessionId>) -> Waiters
+        ensures { result ≡ items.items }
+    {
+        Waiters { items }
+    }
+
+    pub fn as_slice(&self) -> &[SessionId]
+        ensures { result.now ≡ self.now }
+    {
+        self.items.as_slice()
+    }
+}
+
 /// Why a statement is refused.
 #[derive(Debug)]
 pub enum Refusal {
@@ -60,6 +89,12 @@ pub enum Refusal {
     BadRow(BadRow),
     /// The text is no snapshot.
     BadSnapshot,
+    /// The session waits.
+    Busy,
+    /// The session was to wait no longer.
+    Canceled,
+    /// These sessions would wait for each other: the refused one, then each time the one that the last waits for.
+    Deadlock(Waiters),
     /// The table has a row with this key.
     Duplicate,
     /// The sequence of the queue's event ids has ended.
@@ -68,8 +103,6 @@ pub enum Refusal {
     IdsSpent,
     /// The statement may not stand in a transaction block.
     InTransaction,
-    /// The running transaction of this id has written the key.
-    KeyBusy(u64),
     /// An update names this column, which is part of the key.
     KeyChange(Text),
     /// No active batch of the database has this id.
@@ -109,11 +142,13 @@ impl Drop for Refusal {
             Refusal::AlreadyOpen => {}
             Refusal::BadRow(_) => {}
             Refusal::BadSnapshot => {}
+            Refusal::Busy => {}
+            Refusal::Canceled => {}
+            Refusal::Deadlock(_) => {}
             Refusal::Duplicate => {}
             Refusal::EventIdsSpent => {}
             Refusal::IdsSpent => {}
             Refusal::InTransaction => {}
-            Refusal::KeyBusy(_) => {}
             Refusal::KeyChange(_) => {}
             Refusal::NoBatch => {}
             Refusal::NoConsumer(_) => {}
@@ -216,6 +251,8 @@ pub enum Reply {
     NoTransaction,
     /// `not waiting`
     NotWaiting,
+    /// `waits for` the session that holds the key.
+    Waits(SessionId),
     /// A snapshot, as its text.
     Snapshot(Snapshot),
     /// The events of a batch, and how many they are.
@@ -243,6 +280,7 @@ impl Drop for Reply {
             Reply::Rollback => {}
             Reply::NoTransaction => {}
             Reply::NotWaiting => {}
+            Reply::Waits(_) => {}
             Reply::Snapshot(_) => {}
             Reply::Events(_) => {}
             Reply::Row(_) => {}
@@ -285,6 +323,15 @@ impl Replies {
         ensures err { OnErr result (self.new ≡ self.old) }
     {
         self.items.push((session, reply))?;
+        Ok(())
+    }
+
+    /// Further answers, at the end.
+    pub fn append(&mut self, mut others: Replies) -> Result<(), AllocError>
+        ensures ok { OnOk result (self.new ≡ self.old ++ others) }
+        ensures err { OnErr result (self.new ≡ self.old) }
+    {
+        self.items.append(&mut others.items)?;
         Ok(())
     }
 

@@ -1,6 +1,7 @@
-ghost use Rattle.std.specs.Prelude.{◌≡◌};
+ghost use Rattle.std.specs.Prelude.{◌≡◌, IfOk};
 
-use sky_val::{Column, Key, Row, Text, Val};
+use sky_val::{Column, Key, NoMemory, Row, Text, Val};
+use std::alloc::Global;
 use std::marker::Model;
 
 /// The four further texts of an event.
@@ -15,7 +16,9 @@ pub struct Extra {
 /// Where a statement may stand.
 #[derive(Clone, Copy, Debug, PartialEq, Eq)]
 pub enum Where {
-    /// in any state of its session
+    /// in any state of its session, be it that it waits
+    Always,
+    /// in any state of its session, unless that waits
     Anywhere,
     /// where a database is open, and in an aborted block too
     WhenOpen,
@@ -73,11 +76,35 @@ pub enum Change {
     Add(i64),
 }
 
+impl Change {
+    /// An equal change.
+    fn copy(&self, alloc: Global) -> Result<Change, NoMemory>
+        ensures { IfOk result (λ change. change ≡ self.now) }
+    {
+        match self {
+            Change::To(value) => Ok(Change::To(value.copy(alloc)?)),
+            Change::Add(number) => Ok(Change::Add(*number)),
+        }
+    }
+}
+
 /// What an update makes of the column of this name.
 #[derive(Debug, Drop)]
 pub struct Set {
     pub column: Text,
     pub change: Change,
+}
+
+impl Set {
+    /// An equal change of the same column.
+    fn copy(&self, alloc: Global) -> Result<Set, NoMemory>
+        ensures { IfOk result (λ set. set ≡ self.now) }
+    {
+        Ok(Set {
+            column: self.column.copy(alloc)?,
+            change: self.change.copy(alloc)?,
+        })
+    }
 }
 
 /// The changes of an update, in order.
@@ -108,6 +135,28 @@ impl Sets {
     {
         self.items.as_slice()
     }
+
+    /// Equal changes.
+    pub fn copy(&self, alloc: Global) -> Result<Sets, NoMemory>
+        ensures { IfOk result (λ sets. sets ≡ self.now) }
+    {
+        let mut items = Vec::with_capacity(alloc, self.items.len())?;
+        for set in &self.items {
+            items.push(set.copy(alloc)?)?;
+        }
+        Ok(Sets { items })
+    }
+}
+
+/// What a write attempts with a key of a table, at once or after a wait.
+#[derive(Debug, Drop)]
+pub enum Attempt {
+    /// A row is put there.
+    Insertion(Row),
+    /// The row there is changed.
+    Changes(Sets),
+    /// The row there is deleted.
+    Deletion,
 }
 
 /// A statement on sessions, transactions, tables and rows, with the words of its line in their order.

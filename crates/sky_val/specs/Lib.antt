@@ -3,3 +3,4 @@ pub mod Kept
 pub mod Order
 pub mod OrderLaws
 pub mod Schemas
+pub mod Waits

@@ -1,0 +1,85 @@
+-- What is let go on is the same at places that read alike.
+use Rattle.std.proofs.Common.{◌≡◌, ℕ, suc, zero, List, [], ◌∷◌, ◌++◌, Option, Some, None, length, refl, ◌∙◌, ap}
+use Rattle.sky_val.specs.Waits.{Waiting}
+use Rattle.sky_model.specs.History.{Mark, tabled, waited}
+use Rattle.sky_model.specs.Outcome.{settled}
+use Rattle.sky_model.specs.StepRows.{attempts}
+use Rattle.sky_model.specs.Reader.{PartReader}
+use Rattle.sky_model.specs.Settling.{Turn, turn_of, behind_marks, joined, and_then, ready, resumed, goes_on, settles, settling, with_settling}
+
+-- marks come one after the other, each where it may
+abbrev pub Each : {P : Type 0} → PartReader P → (P → Mark → Type 0) → P → List Mark → Type 0
+Each r may p [] = Unit {0}
+Each r may p (mark ∷ marks) = may p mark × Each r may (r.behind p mark) marks
+
+-- related places read alike, and so do those behind a mark that may come there
+pub record ReadAlike {P Q : Type 0} (r : PartReader P) (s : PartReader Q) (may : P → Mark → Type 0) (related : P → Q → Type 0) : Type 0 where
+  pub parts : (p : P) (q : Q) → related p q → r.part p ≡ s.part q
+  pub rows : (p : P) (q : Q) → related p q → r.rows p ≡ s.rows q
+  pub behind : (p : P) (q : Q) (mark : Mark) → related p q → may p mark → related (r.behind p mark) (s.behind q mark)
+
+each-split : {P : Type 0} (r : PartReader P) (may : P → Mark → Type 0) (p : P) (xs ys : List Mark) → Each r may p (xs ++ ys)
+    → Each r may p xs × Each r may (behind_marks r p xs) ys
+each-split r may p [] ys each = (tt, each)
+each-split r may p (x ∷ xs) ys each =
+    let rest : Each r may (r.behind p x) xs × Each r may (behind_marks r (r.behind p x) xs) ys = each-split r may (r.behind p x) xs ys each.1 in
+    ((each.0, rest.0), rest.1)
+
+related-behind : {P Q : Type 0} (r : PartReader P) (s : PartReader Q) (may : P → Mark → Type 0) (related : P → Q → Type 0) → ReadAlike r s may related
+    → (p : P) (q : Q) (marks : List Mark) → related p q → Each r may p marks → related (behind_marks r p marks) (behind_marks s q marks)
+related-behind r s may related alike p q [] is each = is
+related-behind r s may related alike p q (mark ∷ marks) is each =
+    related-behind r s may related alike (r.behind p mark) (s.behind q mark) marks (alike.behind p q mark is each.0) each.1
+
+same-resumed : {P Q : Type 0} (r : PartReader P) (s : PartReader Q) (may : P → Mark → Type 0) (related : P → Q → Type 0) → ReadAlike r s may related
+    → (p : P) (q : Q) (w : Waiting) → related p q → may p (tabled (waited w.who)) → resumed r p w ≡ resumed s q w
+same-resumed r s may related alike p q w is may_come = λ i.
+    joined (record { answers = []; marks = tabled (waited w.who) ∷ [] })
+    (turn_of w.who (settled w.who ((parts i).session w.who)
+    (attempts (parts i) ((rows i).key w.who w.table w.key) w.who w.table w.key ((alike.parts p q is i).attempt w.who))))
+  where
+    parts : r.part (r.behind p (tabled (waited w.who))) ≡ s.part (s.behind q (tabled (waited w.who)))
+    parts = alike.parts _ _ (alike.behind p q (tabled (waited w.who)) is may_come)
+
+    rows : r.rows (r.behind p (tabled (waited w.who))) ≡ s.rows (s.behind q (tabled (waited w.who)))
+    rows = alike.rows _ _ (alike.behind p q (tabled (waited w.who)) is may_come)
+
+same-and_then : {P Q : Type 0} (r : PartReader P) (s : PartReader Q) (may : P → Mark → Type 0) (related : P → Q → Type 0) → ReadAlike r s may related
+    → (p : P) (q : Q) (turn turn' : Turn) (rest : P → Turn) (rest' : Q → Turn) → related p q → turn ≡ turn'
+    → ((p' : P) (q' : Q) → related p' q' → Each r may p' (rest p').marks → rest p' ≡ rest' q')
+    → Each r may p (and_then r p turn rest).marks → and_then r p turn rest ≡ and_then s q turn' rest'
+same-and_then r s may related alike p q turn turn' rest rest' is same same_rest each =
+    let split : Each r may p turn.marks × Each r may (behind_marks r p turn.marks) (rest (behind_marks r p turn.marks)).marks =
+    each-split r may p turn.marks (rest (behind_marks r p turn.marks)).marks each in
+    ap (joined turn) (same_rest _ _ (related-behind r s may related alike p q turn.marks is split.0) split.1)
+    ∙ (λ i. joined (same i) (rest' (behind_marks s q (same i).marks)))
+
+same-goes_on : {P Q : Type 0} (r : PartReader P) (s : PartReader Q) (may : P → Mark → Type 0) (related : P → Q → Type 0) → ReadAlike r s may related
+    → (p : P) (q : Q) (rest : P → Turn) (rest' : Q → Turn) (o : Option Waiting) → related p q
+    → ((p' : P) (q' : Q) → related p' q' → Each r may p' (rest p').marks → rest p' ≡ rest' q')
+    → Each r may p (goes_on r p rest o).marks → goes_on r p rest o ≡ goes_on s q rest' o
+same-goes_on r s may related alike p q rest rest' None is same_rest each = refl
+same-goes_on r s may related alike p q rest rest' (Some w) is same_rest each =
+    same-and_then r s may related alike p q (resumed r p w) (resumed s q w) rest rest' is (same-resumed r s may related alike p q w is each.0) same_rest each
+
+pub same-settles : {P Q : Type 0} (r : PartReader P) (s : PartReader Q) (may : P → Mark → Type 0) (related : P → Q → Type 0) → ReadAlike r s may related
+    → (n : ℕ) (p : P) (q : Q) → related p q → Each r may p (settles r n p).marks → settles r n p ≡ settles s n q
+same-settles r s may related alike zero p q is each = refl
+same-settles r s may related alike (suc n) p q is each =
+    same-goes_on r s may related alike p q (settles r n) (settles s n) (ready (r.part p)) is (same-settles r s may related alike n) each
+    ∙ ap (λ d. goes_on s q (settles s n) (ready d)) (alike.parts p q is)
+
+-- so a turn with all that it lets go on is the same
+pub same-with_settling : {P Q : Type 0} (r : PartReader P) (s : PartReader Q) (may : P → Mark → Type 0) (related : P → Q → Type 0) → ReadAlike r s may related
+    → (p : P) (q : Q) (turn turn' : Turn) → related p q → turn ≡ turn' → Each r may p (with_settling r p turn).marks → with_settling r p turn ≡ with_settling s q turn'
+same-with_settling r s may related alike p q turn turn' is same each =
+    same-and_then r s may related alike p q turn turn' (settling r) (settling s) is same
+    (λ p' q' is' each'. same-settles r s may related alike _ p' q' is' each' ∙ ap (λ d. settles s (length d.waiting) q') (alike.parts p' q' is')) each
+
+-- where every mark may come
+abbrev pub Any : {P : Type 0} → P → Mark → Type 0
+Any p mark = Unit {0}
+
+pub each-any : {P : Type 0} (r : PartReader P) (p : P) (marks : List Mark) → Each r Any p marks
+each-any r p [] = tt
+each-any r p (mark ∷ marks) = (tt, each-any r (r.behind p mark) marks)
