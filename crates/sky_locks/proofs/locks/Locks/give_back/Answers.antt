@@ -1,0 +1,23 @@
+use Rattle.std.proofs.Common.{◌∙◌, ap, sym, subst, vec_capacity}
+use Rattle.sky_val.specs.Waits.{given_back}
+use Rattle.sky_locks.specs.declared.lock_key.LockKey.{LockKey}
+use Rattle.sky_locks.specs.Holders.{Frees}
+use Rattle.sky_locks.specs.Locks.{LocksView, holder}
+use Rattle.sky_locks.proofs.ListedLemmas.{listed_noted}
+use Rattle.sky_locks.proofs.LockLemmas.{given_back_is, not_held_is}
+use Rattle.sky_locks.proofs.locks.Locks.give_back.Goals as goal
+
+pub invariant_of-self : goal.invariant_of-self
+invariant_of-self c =
+    listed_noted c.self.inside.holders c.give_back.new.self c.self.inside.waiters c.self.inside.freed.items c.note.new.freed.items (vec_capacity c.self.inside.freed) (vec_capacity c.note.new.freed) c.args.who c.in-Some.key
+    c.self.invariant (subst (λ (k : LockKey). Frees c.self.inside.holders c.args.who k c.give_back.new.self) (sym c.in-Some.ensures.freed.0) c.in-Some.ensures.freed.1) c.note.ensures.items c.note.ensures.capacity
+
+pub returns-in-Some-clause-held : goal.returns-in-Some-clause-held
+returns-in-Some-clause-held c =
+    given_back_is c.self.inside.holders c.give_back.new.self c.args.who c.args.key.now c.in-Some.ensures.freed.1
+    ∙ ap (λ (l : LocksView). given_back c.args.who c.args.key.now.table c.args.key.now.key (holder l)) c.self.view_is
+
+pub returns-in_default-clause-held : goal.returns-in_default-clause-held
+returns-in_default-clause-held c =
+    not_held_is c.self.inside.holders c.give_back.new.self c.args.who c.args.key.now c.in_default.ensures.other c.in_default.ensures.same
+    ∙ ap (λ (l : LocksView). given_back c.args.who c.args.key.now.table c.args.key.now.key (holder l)) c.self.view_is

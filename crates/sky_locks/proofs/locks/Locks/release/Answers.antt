@@ -1,0 +1,21 @@
+use Rattle.std.proofs.Common.{◌∙◌, ap, vec_capacity}
+use Rattle.sky_val.specs.Waits.{released}
+use Rattle.sky_locks.specs.Locks.{LocksView, holder}
+use Rattle.sky_locks.proofs.ListedLemmas.{listed_noted}
+use Rattle.sky_locks.proofs.LockLemmas.{holders, released_step, released_is}
+use Rattle.sky_locks.proofs.locks.Locks.release.Goals as goal
+
+pub loop-key-preserved : goal.loop-key-preserved
+loop-key-preserved c = (
+  listed_noted c.loop-key.self-inside.holders c.pop.new.self c.loop-key.self-inside.waiters c.loop-key.self-inside.freed.items c.note.new.freed.items (vec_capacity c.loop-key.self-inside.freed) (vec_capacity c.note.new.freed) c.args.who c.in-Some.key
+      c.loop-key.invariant.0 c.in-Some.ensures.freed c.note.ensures.items c.note.ensures.capacity,
+  released_step c.loop-key.self-inside.holders c.pop.new.self c.args.who c.in-Some.key c.in-Some.ensures.freed ∙ c.loop-key.invariant.1,
+  c.loop-key.invariant.2,
+)
+
+pub returns-clause-held : goal.returns-clause-held
+returns-clause-held c =
+    ap holders c.in_default.ensures.same
+    ∙ released_is c.loop-key.self-inside.holders c.args.who c.in_default.ensures.none
+    ∙ c.loop-key.invariant.1
+    ∙ ap (λ (l : LocksView). released c.args.who (holder l)) c.self.view_is

@@ -1,0 +1,13 @@
+use Rattle.std.proofs.Common.{◌≡◌, length, vec_capacity}
+use Rattle.sky_val.specs.Waits.{released}
+use Rattle.sky_locks.specs.Freed.{IsListed}
+use Rattle.sky_locks.proofs.LockLemmas.{holders}
+use Rattle.sky_locks.proofs.locks.Locks.release.Given as goal
+
+abbrev pub decreases-loop-key : goal.decreases-loop-key
+decreases-loop-key l = length l.self-inside.holders
+
+abbrev pub invariant-loop-key : goal.invariant-loop-key
+invariant-loop-key l = IsListed l.self-inside.holders l.self-inside.waiters l.self-inside.freed.items (vec_capacity l.self-inside.freed)
+    × (released l.who (holders l.self-inside.holders) ≡ released l.who (holders l.initial.self-inside.holders))
+    × (l.self-inside.waiters ≡ l.initial.self-inside.waiters)

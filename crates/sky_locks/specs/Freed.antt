@@ -1,0 +1,23 @@
+-- The keys that were given back and are waited for, as the code lists them.
+use Rattle.std.specs.Prelude.{◌≡◌, ℕ, ◌+◌, ◌≤◌, Bool, true, is_some, if◌then◌else◌, List, [], ◌∷◌, ◌++◌, length, None, find}
+use Rattle.std.specs.List.{AllByRecursion}
+use Rattle.std.specs.Ordering.{eq_by_cmp}
+use Rattle.sky_val.specs.Waits.{Waiting}
+use Rattle.sky_locks.specs.declared.lock_key.LockKey.{LockKey}
+use Rattle.sky_locks.specs.Order.{lock_cmp}
+use Rattle.sky_locks.specs.Holders.{Held, holder_of}
+use Rattle.sky_locks.specs.Waiters.{key_of, is_among}
+
+-- whether anyone waits for a key
+abbrev pub is_waited : List Waiting → LockKey → Bool
+is_waited waiting key = is_some (find (λ w. eq_by_cmp lock_cmp (key_of w) key) waiting)
+
+-- the list once a key was given back
+abbrev pub noted : List Waiting → LockKey → List LockKey → List LockKey
+noted waiting key freed = if is_waited waiting key then freed ++ key ∷ [] else freed
+
+-- what is listed is free, and what is free and waited for is listed; each key that is held has room
+pub record IsListed (held : Held) (waiting : List Waiting) (freed : List LockKey) (capacity : ℕ) : Type 0 where
+  pub free : (q : LockKey) → is_among freed q ≡ true → holder_of held q ≡ None
+  pub waited : AllByRecursion (λ w. holder_of held (key_of w) ≡ None → is_among freed (key_of w) ≡ true) waiting
+  pub room : length freed + length held ≤ capacity

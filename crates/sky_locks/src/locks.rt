@@ -1,0 +1,202 @@
+ghost use Rattle.std.specs.Prelude.{◌≡◌, ◌<◌, [], ◌∷◌, false, None, Some, length, option_map, vec_len, vec_capacity, IfOk, OnOk, OnErr};
+ghost use Rattle.sky_val.specs.Waits.{is_waiting, entry_of, without, first_waiter, ready, other_holder, taken, given_back, released, way_back};
+ghost use Rattle.sky_locks.specs.Waiters.{entry};
+ghost use Rattle.sky_locks.specs.Freed.{noted};
+ghost use Rattle.sky_locks.specs.Locks.{LocksView, Takes, holder, waits_for_in};
+
+use crate::holders::Holders;
+use crate::lock_key::LockKey;
+use crate::taken::{Ring, Taken};
+use crate::waiters::Waiters;
+use sky_val::{NoMemory, SessionId};
+use std::alloc::Global;
+use std::marker::Model;
+
+/// The row locks of one database: which session holds each key, and which sessions wait for one.
+#[derive(Debug, Drop)]
+pub struct Locks {
+    alloc: Global,
+    holders: Holders,
+    waiters: Waiters,
+
+    // The keys that were given back and are waited for. There is room for each key that is held, so
+    // that giving it back takes no memory.
+    freed: Vec<LockKey>,
+}
+
+impl Model for Locks {
+    ghost use Rattle.std.specs.Prelude.{vec_capacity};
+    ghost use Rattle.sky_locks.specs.Freed.{IsListed};
+    ghost use Rattle.sky_locks.specs.Locks.{LocksView};
+
+    ghost Value = { LocksView };
+
+    ghost view = { λ l. record { held = l.holders; waiting = l.waiters } };
+
+    ghost invariant = { λ l. IsListed l.holders l.waiters l.freed.items (vec_capacity l.freed) };
+}
+
+impl Locks {
+    /// No key is held, and nobody waits. No memory is taken.
+    pub fn new(alloc: Global) -> Locks
+        ensures { result ≡ record { held = []; waiting = [] } }
+    {
+        Locks {
+            alloc,
+            holders: Holders::new(alloc),
+            waiters: Waiters::new(alloc),
+            freed: Vec::new(alloc),
+        }
+    }
+
+    /// The session that holds the key.
+    pub fn holder(&self, key: &LockKey) -> Option<SessionId>
+        ensures { result ≡ holder self.now key.now.table key.now.key }
+    {
+        self.holders.get(key)
+    }
+
+    /// The key that the session waits for.
+    pub fn waits_on(&self, who: SessionId) -> Option<&LockKey>
+        ensures { option_map (λ key. entry who key.now) result ≡ entry_of who self.now.waiting }
+    {
+        self.waiters.key(who)
+    }
+
+    /// The first that waits for the key.
+    pub fn first_waiter(&self, key: &LockKey) -> Option<SessionId>
+        ensures { result ≡ first_waiter key.now.table key.now.key self.now.waiting }
+    {
+        self.waiters.first(key)
+    }
+
+    /// The first entry of the waiting list whose key nobody holds.
+    pub fn ready(&self) -> Option<(SessionId, &LockKey)>
+        ensures { option_map (λ found. entry found.0 found.1.now) result ≡ ready (holder self.now) self.now.waiting }
+    {
+        self.waiters.first_of(&self.freed)
+    }
+
+    /// Takes the key for the session, or lets it wait for the one that holds it. Where it would wait
+    /// for itself, nothing changes. After an error neither.
+    pub fn try_key(&mut self, who: SessionId, key: &LockKey) -> Result<Taken, NoMemory>
+        requires { is_waiting who self.old.waiting ≡ false }
+        ensures ok { IfOk result (λ taken. Takes self.old who key.now.table key.now.key taken self.new) }
+        ensures err { OnErr result (self.new ≡ self.old) }
+    {
+        match self.holder(key) {
+            Some(holder) if holder != who => self.wait(who, holder, key),
+            Some(_) => Ok(Taken::Got),
+            None => {
+                self.take(who, key)?;
+                Ok(Taken::Got)
+            }
+        }
+    }
+
+    /// The session holds the key, which nobody held.
+    fn take(&mut self, who: SessionId, key: &LockKey) -> Result<(), NoMemory>
+        requires { holder self.old key.now.table key.now.key ≡ None }
+        ensures held { OnOk result (holder self.new ≡ taken who key.now.table key.now.key (holder self.old)) }
+        ensures waiting { OnOk result (self.new.waiting ≡ self.old.waiting) }
+        ensures err { OnErr result (self.new ≡ self.old) }
+    {
+        self.freed.reserve(self.holders.len() + 1)?;
+        self.holders.hold(who, key)?;
+        self.freed.retain(|freed| freed != key);
+        Ok(())
+    }
+
+    /// The session waits for the key, which another one holds, if it would not wait for itself.
+    fn wait(&mut self, who: SessionId, other: SessionId, key: &LockKey) -> Result<Taken, NoMemory>
+        requires idle { is_waiting who self.old.waiting ≡ false }
+        requires holds { other_holder (holder self.old) who key.now.table key.now.key ≡ Some other }
+        ensures ok { IfOk result (λ taken. Takes self.old who key.now.table key.now.key taken self.new) }
+        ensures err { OnErr result (self.new ≡ self.old) }
+    {
+        if let Some(ring) = self.ring(who, other)? {
+            return Ok(Taken::Cycle(ring));
+        }
+        self.waiters.arrive(who, key)?;
+        Ok(Taken::Waits(other))
+    }
+
+    /// The ring that would close if `who` waited for the other session, if one would.
+    fn ring(&self, who: SessionId, other: SessionId) -> Result<Option<Ring>, NoMemory>
+        ensures { IfOk result (λ ring. ring
+            ≡ option_map (λ way. who ∷ way) (way_back (waits_for_in self.now) who (length self.now.waiting) other)) }
+    {
+        let mut sessions = Vec::new(self.alloc);
+        sessions.push(who)?;
+        let mut last = other;
+
+        // No way is longer than all who wait.
+        for _step in 0..self.waiters.len() {
+            sessions.push(last)?;
+            match self.waits_for(last) {
+                Some(next) if next == who => return Ok(Some(Ring::new(sessions))),
+                Some(next) => last = next,
+                None => return Ok(None),
+            }
+        }
+        Ok(None)
+    }
+
+    /// The other session that holds the key for which this one waits.
+    fn waits_for(&self, who: SessionId) -> Option<SessionId>
+        ensures { result ≡ waits_for_in self.now who }
+    {
+        let key = self.waits_on(who)?;
+        match self.holder(key) {
+            Some(holder) if holder != who => Some(holder),
+            _ => None,
+        }
+    }
+
+    /// The session no longer holds the key, if it did.
+    pub fn give_back(&mut self, who: SessionId, key: &LockKey)
+        ensures held { holder self.new ≡ given_back who key.now.table key.now.key (holder self.old) }
+        ensures waiting { self.new.waiting ≡ self.old.waiting }
+    {
+        if let Some(key) = self.holders.give_back(who, key) {
+            note(&mut self.freed, &self.waiters, key);
+        }
+    }
+
+    /// The session holds no key any more.
+    pub fn release(&mut self, who: SessionId)
+        ensures held { holder self.new ≡ released who (holder self.old) }
+        ensures waiting { self.new.waiting ≡ self.old.waiting }
+    {
+        while let Some(key) = self.holders.pop(who) {
+            note(&mut self.freed, &self.waiters, key);
+        }
+    }
+
+    /// The session waits no more.
+    pub fn leave(&mut self, who: SessionId)
+        ensures held { holder self.new ≡ holder self.old }
+        ensures waiting { self.new.waiting ≡ without who self.old.waiting }
+    {
+        let Some(key) = self.waiters.leave(who) else {
+            return;
+        };
+        if self.waiters.first(&key).is_none() {
+            self.freed.retain(|freed| *freed != key);
+        }
+    }
+}
+
+/// Lists a key that was given back, if it is waited for.
+fn note(freed: &mut Vec<LockKey>, waiters: &Waiters, key: LockKey)
+    requires { vec_len freed.old < vec_capacity freed.old }
+    ensures items { freed.new.items ≡ noted waiters.now key freed.old.items }
+    ensures capacity { vec_capacity freed.new ≡ vec_capacity freed.old }
+{
+    if waiters.first(&key).is_some() {
+        freed.push_reserved(key);
+    }
+}
+
+#[cfg(test)]
+mod tests;

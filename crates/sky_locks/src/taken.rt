@@ -1,0 +1,53 @@
+ghost use Rattle.std.specs.Prelude.{◌≡◌};
+
+use sky_val::SessionId;
+use std::marker::Model;
+
+/// What came of asking for a key.
+#[derive(Debug, Drop)]
+pub enum Taken {
+    /// The asking session holds the key.
+    Got,
+    /// It waits for this one, which holds the key.
+    Waits(SessionId),
+    /// It would have waited for itself.
+    Cycle(Ring),
+}
+
+/// Sessions in a ring: the one that asked for a key, its holder, and on from each to the one that it
+/// waits for. The last waits for the first.
+#[derive(Debug, Drop)]
+pub struct Ring {
+    sessions: Vec<SessionId>,
+}
+
+impl Model for Ring {
+    ghost use Rattle.std.specs.Prelude.{ℕ, List};
+
+    ghost Value = { List ℕ };
+
+    ghost view = { λ r. r.sessions.items };
+}
+
+impl Ring {
+    /// The ring of these sessions.
+    pub(crate) fn new(sessions: Vec<SessionId>) -> Ring
+        ensures { result ≡ sessions.items }
+    {
+        Ring { sessions }
+    }
+
+    /// The list of the sessions, the one that asked first.
+    pub fn into_sessions(self) -> Vec<SessionId>
+        ensures { result.items ≡ self }
+    {
+        self.sessions
+    }
+
+    /// The sessions, the one that asked first.
+    pub fn sessions(&self) -> &[SessionId]
+        ensures { result.now ≡ self.now }
+    {
+        self.sessions.as_slice()
+    }
+}
