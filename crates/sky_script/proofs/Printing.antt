@@ -5,36 +5,23 @@ use Rattle.std.proofs.lemmas.List.Elements.{All-get_or}
 use Rattle.std.proofs.lemmas.List.Folds.{flat_map-map}
 use Rattle.std.proofs.lemmas.Option.{unwrap_or-slice_get}
 use Rattle.std.proofs.lemmas.Grind.{flat_map-append}
-use Rattle.sky_val.specs.declared.event.Event.{Event}
-use Rattle.sky_val.specs.declared.val.Val.{Val}
 use Rattle.sky_model.specs.declared.reply.Reply.{Reply}
-use Rattle.sky_model.specs.declared.reply.Reply.TheVariants.{Events, Rows}
-use Rattle.sky_model.specs.Printed.{event_text, row_text, count_text, line_text, reply_text, name_at, printed, HaveNames}
+use Rattle.sky_model.specs.Printed.{count_text, line_text, reply_text, name_at, printed, HaveNames}
 
--- lines, and one for how many they are
-reply_text-listed : {A : Type 0} (name : List ℕ) (text : A → List ℕ) (items : List A)
+-- the lines of a batch or a table: one for each item, and one for how many they are
+pub lines-listed : {A : Type 0} (name : List ℕ) (text : A → List ℕ) (items : List A)
     → flat_map (line_text name) (map text items ++ count_text (length items) ∷ []) ≡ flat_map (λ x. line_text name (text x)) items ++ line_text name (count_text (length items))
-reply_text-listed name text items =
+lines-listed name text items =
     let count = count_text (length items) in
     flat_map-append (line_text name) (map text items) (count ∷ [])
     ∙ ap (λ lines. lines ++ (line_text name count ++ [])) (flat_map-map (line_text name) text items)
     ∙ ap (λ line. flat_map (λ x. line_text name (text x)) items ++ line) (append-nil (line_text name count))
 
--- a batch is its events' lines, and one for how many they are
-pub reply_text-Events : (name : List ℕ) (events : List Event)
-    → reply_text name (Events events) ≡ flat_map (λ e. line_text name (event_text e)) events ++ line_text name (count_text (length events))
-reply_text-Events name events = reply_text-listed name event_text events
-
--- so are the rows of a table
-pub reply_text-Rows : (name : List ℕ) (rows : List (List Val))
-    → reply_text name (Rows rows) ≡ flat_map (λ r. line_text name (row_text r)) rows ++ line_text name (count_text (length rows))
-reply_text-Rows name rows = reply_text-listed name row_text rows
-
 -- one answer more
 pub printed-take : (names : List (List ℕ)) (replies : List (ℕ × Reply)) (i : ℕ) (d : ℕ × Reply) → i < length replies
-    → printed names (take (i + 1) replies) ≡ printed names (take i replies) ++ reply_text (name_at names (get_or replies i d).0) (get_or replies i d).1
+    → printed names (take (i + 1) replies) ≡ printed names (take i replies) ++ reply_text names (name_at names (get_or replies i d).0) (get_or replies i d).1
 printed-take names replies i d within =
-    let text : ℕ × Reply → List ℕ = λ answer. reply_text (name_at names answer.0) answer.1 in
+    let text : ℕ × Reply → List ℕ = λ answer. reply_text names (name_at names answer.0) answer.1 in
     ap (printed names) (take_more replies i d within)
     ∙ flat_map-append text (take i replies) (get_or replies i d ∷ [])
     ∙ ap (λ last. printed names (take i replies) ++ last) (append-nil (text (get_or replies i d)))
@@ -42,15 +29,15 @@ printed-take names replies i d within =
 -- an answer, printed behind those before it and by its session's name
 pub printed-more : (names : List (List ℕ)) (replies : List (ℕ × Reply)) (i : ℕ) (answer : ℕ × Reply) (name bytes old mid new : List ℕ)
     → HaveNames names replies → i < length replies → answer ≡ get_or replies i answer → name ≡ get_or names answer.0 name → bytes ≡ name
-    → mid ≡ old ++ printed names (take i replies) → new ≡ mid ++ reply_text bytes answer.1 → new ≡ old ++ printed names (take (i + 1) replies)
+    → mid ≡ old ++ printed names (take i replies) → new ≡ mid ++ reply_text names bytes answer.1 → new ≡ old ++ printed names (take (i + 1) replies)
 printed-more names replies i answer name bytes old mid new have within is name_is bytes_are before behind =
     let Named : ℕ × Reply → Type 0 = λ a. a.0 < length names in
     let named = subst Named (sym is) (All-get_or Named replies i answer within have) in
     let by_name = bytes_are ∙ get_or_read names answer.0 name named name_is [] ∙ sym (unwrap_or-slice_get names answer.0 []) in
-    let text : ℕ × Reply → List ℕ = λ a. reply_text (name_at names a.0) a.1 in
+    let text : ℕ × Reply → List ℕ = λ a. reply_text names (name_at names a.0) a.1 in
     let all : printed names (take i replies) ++ text answer ≡ printed names (take (i + 1) replies) =
     ap (λ last. printed names (take i replies) ++ last) (ap text is) ∙ sym (printed-take names replies i answer within) in
     behind
-    ∙ ap₂ (λ front who. front ++ reply_text who answer.1) before by_name
+    ∙ ap₂ (λ front who. front ++ reply_text names who answer.1) before by_name
     ∙ append_assoc old (printed names (take i replies)) (text answer)
     ∙ ap (λ more. old ++ more) all

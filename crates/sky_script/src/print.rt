@@ -1,7 +1,7 @@
-ghost use Rattle.std.specs.Prelude.{◌≡◌, ◌++◌, codes, OnOk, OnErr};
+ghost use Rattle.std.specs.Prelude.{◌≡◌, [], ◌∷◌, ◌++◌, map, flat_map, length, codes, OnOk, OnErr};
 ghost use Rattle.std.specs.Fmt.{decimal};
 ghost use Rattle.sky_model.specs.Moment.{HasMoment};
-ghost use Rattle.sky_model.specs.Printed.{event_text, row_text, count_text, refusal_text, line_text, reply_text, printed, HaveNames, EventsHaveMoments, ReplyHasMoments, HaveMoments};
+ghost use Rattle.sky_model.specs.Printed.{event_text, row_text, count_text, name_at, refusal_text, line_text, reply_text, printed, HaveNames, EventsHaveMoments, ReplyHasMoments, HaveMoments};
 ghost use Rattle.sky_txid.specs.SnapshotText.{snapshot_text};
 ghost use Rattle.sky_script.specs.Kept.{Keeps};
 
@@ -43,14 +43,20 @@ fn append_replies(
     ensures kept { OnErr result (Keeps into.old.items into.new.items) }
 {
     for (session, reply) in replies {
-        append_reply(names[*session as usize].bytes(), reply, into)?;
+        append_reply(names, names[*session as usize].bytes(), reply, into)?;
     }
     Ok(())
 }
 
-fn append_reply(name: &[u8], reply: &Reply, into: &mut Vec<u8>) -> Result<(), NoMemory>
+// The lines of an answer of the session of this name, where the sessions have these names.
+fn append_reply(
+    names: &[Text],
+    name: &[u8],
+    reply: &Reply,
+    into: &mut Vec<u8>,
+) -> Result<(), NoMemory>
     requires { ReplyHasMoments reply.now }
-    ensures ok { OnOk result (into.new.items ≡ into.old.items ++ reply_text name.now reply.now) }
+    ensures ok { OnOk result (into.new.items ≡ into.old.items ++ reply_text names.now name.now reply.now) }
     ensures kept { OnErr result (Keeps into.old.items into.new.items) }
 {
     match reply {
@@ -67,12 +73,13 @@ fn append_reply(name: &[u8], reply: &Reply, into: &mut Vec<u8>) -> Result<(), No
         Reply::Rollback => append_line(name, b"ROLLBACK", into),
         Reply::NoTransaction => append_line(name, b"WARNING no transaction", into),
         Reply::NotWaiting => append_line(name, b"not waiting", into),
+        Reply::Waits(holder) => append_waits(name, name_of(names, *holder), into),
         Reply::Snapshot(snapshot) => append_snapshot(name, snapshot, into),
         Reply::Events(events) => append_batch(name, events.as_slice(), into),
         Reply::Row(row) => append_row_line(name, row.values(), into),
         Reply::NoRow => append_line(name, b"none", into),
         Reply::Rows(rows) => append_listing(name, rows.as_slice(), into),
-        Reply::Refused(refusal) => append_refused(name, refusal, into),
+        Reply::Refused(refusal) => append_refused(names, name, refusal, into),
     }
 }
 
@@ -82,6 +89,19 @@ fn append_line(name: &[u8], line: &[u8], into: &mut Vec<u8>) -> Result<(), NoMem
 {
     append_name(name, into)?;
     into.extend_from_slice(line)?;
+    into.push(b'\n')?;
+    Ok(())
+}
+
+// The wait for the session of the holder's name.
+fn append_waits(name: &[u8], holder: &[u8], into: &mut Vec<u8>) -> Result<(), NoMemory>
+    ensures ok { OnOk result
+        (into.new.items ≡ into.old.items ++ line_text name.now (codes "waits for " ++ holder.now)) }
+    ensures kept { OnErr result (Keeps into.old.items into.new.items) }
+{
+    append_name(name, into)?;
+    into.extend_from_slice(b"waits for ")?;
+    into.extend_from_slice(holder)?;
     into.push(b'\n')?;
     Ok(())
 }
@@ -100,8 +120,8 @@ fn append_snapshot(name: &[u8], snapshot: &Snapshot, into: &mut Vec<u8>) -> Resu
 // The events of a batch, and how many they are.
 fn append_batch(name: &[u8], events: &[Event], into: &mut Vec<u8>) -> Result<(), NoMemory>
     requires { EventsHaveMoments events.now }
-    ensures ok { OnOk result
-        (into.new.items ≡ into.old.items ++ reply_text name.now (Reply.Events events.now)) }
+    ensures ok { OnOk result (into.new.items ≡ into.old.items
+        ++ flat_map (line_text name.now) (map event_text events.now ++ count_text (length events.now) ∷ [])) }
     ensures kept { OnErr result (Keeps into.old.items into.new.items) }
 {
     for event in events {
@@ -124,8 +144,8 @@ fn append_event_line(name: &[u8], event: &Event, into: &mut Vec<u8>) -> Result<(
 
 // The rows of a table, and how many they are.
 fn append_listing(name: &[u8], rows: &[Row], into: &mut Vec<u8>) -> Result<(), NoMemory>
-    ensures ok { OnOk result
-        (into.new.items ≡ into.old.items ++ reply_text name.now (Reply.Rows rows.now)) }
+    ensures ok { OnOk result (into.new.items ≡ into.old.items
+        ++ flat_map (line_text name.now) (map row_text rows.now ++ count_text (length rows.now) ∷ [])) }
     ensures kept { OnErr result (Keeps into.old.items into.new.items) }
 {
     for row in rows {
@@ -157,14 +177,19 @@ fn append_count(name: &[u8], count: u64, into: &mut Vec<u8>) -> Result<(), NoMem
     Ok(())
 }
 
-fn append_refused(name: &[u8], refusal: &Refusal, into: &mut Vec<u8>) -> Result<(), NoMemory>
+fn append_refused(
+    names: &[Text],
+    name: &[u8],
+    refusal: &Refusal,
+    into: &mut Vec<u8>,
+) -> Result<(), NoMemory>
     ensures ok { OnOk result (into.new.items
-        ≡ into.old.items ++ line_text name.now (codes "error " ++ refusal_text refusal.now)) }
+        ≡ into.old.items ++ line_text name.now (codes "error " ++ refusal_text names.now refusal.now)) }
     ensures kept { OnErr result (Keeps into.old.items into.new.items) }
 {
     append_name(name, into)?;
     into.extend_from_slice(b"error ")?;
-    append_refusal(refusal, into)?;
+    append_refusal(names, refusal, into)?;
     into.push(b'\n')?;
     Ok(())
 }
@@ -176,6 +201,16 @@ fn append_name(name: &[u8], into: &mut Vec<u8>) -> Result<(), NoMemory>
 {
     into.extend_from_slice(name)?;
     into.extend_from_slice(b": ")
+}
+
+/// The name of a session, or no byte where it has none.
+pub(crate) fn name_of(names: &[Text], session: SessionId) -> &[u8]
+    ensures { result.now ≡ name_at names.now session }
+{
+    match names.get(session as usize) {
+        Some(name) => name.bytes(),
+        None => b"",
+    }
 }
 
 /// Appends a number in decimal. At `Err` it appends nothing.

@@ -1,16 +1,20 @@
-ghost use Rattle.std.specs.Prelude.{◌≡◌, ◌++◌, codes, OnOk, OnErr};
+ghost use Rattle.std.specs.Prelude.{◌≡◌, ◌∷◌, ◌++◌, map, codes, OnOk, OnErr};
 ghost use Rattle.std.specs.Fmt.{decimal};
-ghost use Rattle.sky_model.specs.Printed.{limit_text, bad_row_text, refusal_text};
+ghost use Rattle.sky_model.specs.Printed.{spaced, limit_text, bad_row_text, name_at, refusal_text};
 ghost use Rattle.sky_script.specs.Kept.{Keeps};
 
-use crate::print::append_number;
+use crate::print::{append_number, name_of};
 use sky_model::{BadRow, Limit, Refusal};
-use sky_val::NoMemory;
+use sky_val::{NoMemory, SessionId, Text};
 
-/// Appends the refusal's name and its fields. Where memory is refused a part of them may be left,
-/// behind all that stood there before.
-pub(crate) fn append_refusal(refusal: &Refusal, into: &mut Vec<u8>) -> Result<(), NoMemory>
-    ensures ok { OnOk result (into.new.items ≡ into.old.items ++ refusal_text refusal.now) }
+/// Appends the refusal's name and its fields. Sessions stand there by these names. Where memory is
+/// refused a part of them may be left, behind all that stood there before.
+pub(crate) fn append_refusal(
+    names: &[Text],
+    refusal: &Refusal,
+    into: &mut Vec<u8>,
+) -> Result<(), NoMemory>
+    ensures ok { OnOk result (into.new.items ≡ into.old.items ++ refusal_text names.now refusal.now) }
     ensures kept { OnErr result (Keeps into.old.items into.new.items) }
 {
     match refusal {
@@ -18,11 +22,13 @@ pub(crate) fn append_refusal(refusal: &Refusal, into: &mut Vec<u8>) -> Result<()
         Refusal::AlreadyOpen => into.extend_from_slice(b"AlreadyOpen"),
         Refusal::BadRow(why) => append_bad_row(why, into),
         Refusal::BadSnapshot => into.extend_from_slice(b"BadSnapshot"),
+        Refusal::Busy => into.extend_from_slice(b"Busy"),
+        Refusal::Canceled => into.extend_from_slice(b"Canceled"),
+        Refusal::Deadlock(waiters) => append_deadlock(names, waiters.as_slice(), into),
         Refusal::Duplicate => into.extend_from_slice(b"Duplicate"),
         Refusal::EventIdsSpent => into.extend_from_slice(b"EventIdsSpent"),
         Refusal::IdsSpent => into.extend_from_slice(b"IdsSpent"),
         Refusal::InTransaction => into.extend_from_slice(b"InTransaction"),
-        Refusal::KeyBusy(txid) => append_numbered(b"KeyBusy ", *txid, into),
         Refusal::KeyChange(column) => append_named(b"KeyChange ", column.bytes(), into),
         Refusal::NoBatch => into.extend_from_slice(b"NoBatch"),
         Refusal::NoConsumer(name) => append_named(b"NoConsumer ", name.bytes(), into),
@@ -53,6 +59,32 @@ fn append_bad_row(why: &BadRow, into: &mut Vec<u8>) -> Result<(), NoMemory>
         BadRow::NoColumn(column) => append_named(b"BadRow nocolumn ", column.bytes(), into),
         BadRow::Twice(column) => append_named(b"BadRow twice ", column.bytes(), into),
     }
+}
+
+// The refusal that names these sessions, a space before each.
+fn append_deadlock(
+    names: &[Text],
+    waiters: &[SessionId],
+    into: &mut Vec<u8>,
+) -> Result<(), NoMemory>
+    ensures ok { OnOk result (into.new.items
+        ≡ into.old.items ++ (codes "Deadlock" ++ spaced (map (name_at names.now) waiters.now))) }
+    ensures kept { OnErr result (Keeps into.old.items into.new.items) }
+{
+    into.extend_from_slice(b"Deadlock")?;
+    for waiter in waiters {
+        append_name_word(name_of(names, *waiter), into)?;
+    }
+    Ok(())
+}
+
+// A name, behind a space.
+fn append_name_word(name: &[u8], into: &mut Vec<u8>) -> Result<(), NoMemory>
+    ensures ok { OnOk result (into.new.items ≡ into.old.items ++ 32 ∷ name.now) }
+    ensures kept { OnErr result (Keeps into.old.items into.new.items) }
+{
+    into.push(b' ')?;
+    into.extend_from_slice(name)
 }
 
 // A refusal's name, which ends in a space, and its field.
