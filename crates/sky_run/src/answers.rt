@@ -1,9 +1,9 @@
-ghost use Rattle.std.specs.Prelude.{◌≡◌, [], ◌∷◌, ◌++◌, ◌≤◌, ◌↔◌, All, IfOk, IsTrue, OnOk, OnErr, length};
-ghost use Rattle.sky_model.specs.Printed.{printed, HaveNames, HaveMoments};
+ghost use Rattle.std.specs.Prelude.{◌≡◌, [], ◌∷◌, ◌++◌, ◌<◌, ◌≤◌, ◌↔◌, All, IfOk, IsTrue, OnOk, OnErr, length};
+ghost use Rattle.sky_model.specs.Printed.{printed, sessions_in, AllNamed, HaveMoments};
 
-use sky_model::Replies;
+use sky_model::{Refusal, Replies, Reply};
 use sky_script::print_replies;
-use sky_val::{NoMemory, Text};
+use sky_val::{NoMemory, SessionId, Text};
 use std::alloc::Global;
 
 /// Appends what a call's answers print. A session that is one too many has no number of its own, and
@@ -28,12 +28,42 @@ pub fn print_answers(
 }
 
 fn have_names(names: &[Text], replies: &Replies) -> bool
-    ensures { IsTrue result ↔ HaveNames names.now replies.now }
+    ensures { IsTrue result ↔ AllNamed names.now replies.now }
 {
     replies
         .as_slice()
         .iter()
-        .all(|(session, _)| (*session as usize) < names.len())
+        .all(|(session, reply)| is_named(names, *session, reply))
+}
+
+// Whether the session has a name, and each session that its answer speaks of.
+fn is_named(names: &[Text], session: SessionId, reply: &Reply) -> bool
+    ensures { IsTrue result
+        ↔ ((session < length names.now) × All (λ who. who < length names.now) (sessions_in reply.now)) }
+{
+    has_name(names, session) && speaks_of_named(names, reply)
+}
+
+fn speaks_of_named(names: &[Text], reply: &Reply) -> bool
+    ensures { IsTrue result ↔ All (λ who. who < length names.now) (sessions_in reply.now) }
+{
+    match reply {
+        Reply::Waits(holder) => has_name(names, *holder),
+        Reply::Refused(Refusal::Deadlock(waiters)) => all_have_names(names, waiters.as_slice()),
+        _ => true,
+    }
+}
+
+fn all_have_names(names: &[Text], sessions: &[SessionId]) -> bool
+    ensures { IsTrue result ↔ All (λ who. who < length names.now) sessions.now }
+{
+    sessions.iter().all(|session| has_name(names, *session))
+}
+
+fn has_name(names: &[Text], session: SessionId) -> bool
+    ensures { IsTrue result ↔ session < length names.now }
+{
+    (session as usize) < names.len()
 }
 
 // The names, and one more.

@@ -1,6 +1,9 @@
 pub mod SessionLists
+pub mod AttemptLists
 pub mod Owning
+pub mod WaitLemmas
 pub mod Steps
+pub mod LockLemmas
 pub mod ValueLemmas
 pub mod SetLemmas
 pub mod FaultLemmas

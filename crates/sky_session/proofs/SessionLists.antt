@@ -9,6 +9,8 @@ use Rattle.sky_txid.specs.declared.version.Version.{Version}
 use Rattle.sky_txid.specs.Versions.{version_of, forgotten}
 use Rattle.sky_trans.specs.Trans.{TransView}
 use Rattle.sky_rows.specs.Table.{TableView}
+use Rattle.sky_val.specs.Waits.{released}
+use Rattle.sky_locks.specs.Locks.{LocksView, holder}
 use Rattle.sky_model.specs.Sessions as model
 use Rattle.sky_val.specs.declared.column.Column.{Column}
 use Rattle.sky_val.specs.Entries.{Entries}
@@ -146,13 +148,23 @@ made-as v now names tables table name columns same more one new count =
     whole : tables ≡ v.tables ++ made columns ∷ []
     whole = one ∙ ap (λ t. v.tables ++ t ∷ []) new
 
--- a transaction that was rolled back doesn't run, is no session's, and has no version
-pub aborted-as : (v now : RowDbView) (trans : TransView) (sessions : List Session) (tables : List TableView) (who t : ℕ) → v ≡ now
+-- a transaction that has committed doesn't run, is no session's, and its keys are free
+pub committed-as : (v now : RowDbView) (trans : TransView) (sessions : List Session) (locks : LocksView) (who t : ℕ) → v ≡ now
+    → trans ≡ record { next = v.trans.next; running = filter (λ u. not (u == t)) v.trans.running } → session_of sessions ≡ changed_at who (with_txid None) (session_of v.sessions)
+    → holder locks ≡ released who (holder v.locks) → locks.waiting ≡ v.locks.waiting
+    → seen (record v { trans = trans; sessions = sessions; locks = locks }) ≡ after_part (seen now) (ended who t true)
+committed-as v now trans sessions locks who t same less free keys waits =
+    (λ i. record (seen v) { next = (less i).next; running_ids = (less i).running; session = free i; holder = keys i; waiting = waits i })
+    ∙ ap (λ (w : RowDbView). after_part (seen w) (ended who t true)) same
+
+-- so it is with one that was rolled back, which has no version either
+pub aborted-as : (v now : RowDbView) (trans : TransView) (sessions : List Session) (tables : List TableView) (locks : LocksView) (who t : ℕ) → v ≡ now
     → trans ≡ record { next = v.trans.next; running = filter (λ u. not (u == t)) v.trans.running } → session_of sessions ≡ changed_at who (with_txid None) (session_of v.sessions)
     → columns_of tables ≡ columns_of v.tables → versions_of tables ≡ (λ n. forgotten t (versions_of v.tables n))
-    → seen (record v { trans = trans; sessions = sessions; tables = tables }) ≡ after_part (seen now) (ended who t false)
-aborted-as v now trans sessions tables who t same less free columns versions =
-    (λ i. record (seen v) { next = (less i).next; running_ids = (less i).running; session = free i; columns = columns i; versions = versions i })
+    → holder locks ≡ released who (holder v.locks) → locks.waiting ≡ v.locks.waiting
+    → seen (record v { trans = trans; sessions = sessions; tables = tables; locks = locks }) ≡ after_part (seen now) (ended who t false)
+aborted-as v now trans sessions tables locks who t same less free columns versions keys waits =
+    (λ i. record (seen v) { next = (less i).next; running_ids = (less i).running; session = free i; columns = columns i; versions = versions i; holder = keys i; waiting = waits i })
     ∙ ap (λ (w : RowDbView). after_part (seen w) (ended who t false)) same
 
 -- the first of the transactions that has a version at a key

@@ -4,7 +4,9 @@ use Rattle.sky_model.specs.declared.reply.Reply.TheVariants.{Number, Refused}
 use Rattle.sky_model.specs.declared.reply.Refusal.{Refusal}
 use Rattle.sky_model.specs.declared.stmt.RowStmt.{RowStmt}
 use Rattle.sky_model.specs.declared.stmt.Where.{Where}
-use Rattle.sky_model.specs.History.{Mark, looked}
+use Rattle.sky_model.specs.declared.stmt.Where.TheVariants.{WhenReading}
+use Rattle.sky_val.specs.Waits.{is_waiting}
+use Rattle.sky_model.specs.History.{Mark, began, ended, block_begun, repeats, looked, block_failed, block_ended, tabled, table_made, wrote, waits, waited, queued}
 use Rattle.sky_model.specs.State.{RowPart, with_txid, after_part, after_part_marks}
 use Rattle.sky_model.specs.ShownRows.{rows_by}
 use Rattle.sky_model.specs.Outcome.{Outcome, Checked, ◌>>=◌, does_marks, abort, settled}
@@ -13,15 +15,17 @@ use Rattle.sky_model.specs.Made.{Making, takes_sight, runs, looking, runs_if}
 use Rattle.sky_model.specs.OwnTransaction.{own_or_next, txid_for, begin_of, commit_of, written}
 use Rattle.sky_model.specs.StepSession.{txid_current}
 use Rattle.sky_model.specs.Reader.{part_by_itself}
-use Rattle.sky_model.specs.Calls.{row_form, row_making, row_statement}
+use Rattle.sky_model.specs.Calls.{row_form, row_making, row_statement, row_turn}
+use Rattle.sky_model.specs.Settling.{Turn, turn_of, behind_marks, settling, with_settling}
 use Rattle.sky_model.specs.RowSteps.{RowSteps}
-use Rattle.sky_model.proofs.RowStanding.{row_steps_from_exact}
+use Rattle.sky_model.proofs.RowStanding.{behind-after, row_steps_from_exact}
 use Rattle.sky_session.specs.declared.answer.Answer.{Answer}
 use Rattle.sky_session.specs.declared.answer.RowStep.{RowStep}
 use Rattle.sky_session.specs.declared.effect.Effect.{Effect}
-use Rattle.sky_session.specs.Effects.{effects_of}
+use Rattle.sky_session.specs.declared.effect.Effect.TheVariants.{Wrote, Committed, Aborted}
+use Rattle.sky_session.specs.Effects.{op_of, effects_of}
 use Rattle.sky_session.specs.Marks.{look_of}
-use Rattle.sky_session.specs.Gives.{GivesStep, Does, marks_of, Refuses, Enters, sight_marks}
+use Rattle.sky_session.specs.Gives.{GivesTurn, GivesOutcome, Adds, Does, marks_of, Refuses, Enters, sight_marks}
 
 -- the marks of two lists, one after the other
 pub after-append : (d : RowPart) (xs ys : List Mark) → after_part_marks d (xs ++ ys) ≡ after_part_marks (after_part_marks d xs) ys
@@ -73,62 +77,106 @@ pub entered : (d mid : RowPart) (who : ℕ) (place there : Where) (found r : Opt
 entered d mid who place there found r same is enters = subst (λ p. Enters d mid who p r) same (subst (λ o. Enters d mid who place o) is enters)
 
 -- a statement that its session may not make is refused
-pub gives-barred : (d mid new : RowPart) (step : RowStep) (who : ℕ) (stmt : RowStmt) (refusal : Refusal) → allowed (d.session who).block (where_of_row stmt) ≡ Err refusal → mid ≡ d
-    → GivesStep mid new step ((who, Refused refusal) ∷ []) (abort who (mid.session who).block (mid.session who).txid refusal)
-    → GivesStep d new step ((who, (row_statement part_by_itself d who stmt).reply) ∷ []) (row_statement part_by_itself d who stmt).marks
-gives-barred d mid new step who stmt refusal is same gives =
-    subst (λ checked. GivesStep d new step ((who, (runs_if making (where_of_row stmt) who d checked).reply) ∷ []) (runs_if making (where_of_row stmt) who d checked).marks) (sym is)
-    (subst (λ (p : RowPart). GivesStep p new step ((who, Refused refusal) ∷ []) (abort who (p.session who).block (p.session who).txid refusal)) same gives)
-  where
-    making : Making RowPart
-    making = row_making part_by_itself who stmt
+pub gives-barred : (d mid new : RowPart) (answer : Answer) (who : ℕ) (stmt : RowStmt) (refusal : Refusal) → allowed (is_waiting who d.waiting) (d.session who).block (where_of_row stmt) ≡ Err refusal
+    → mid ≡ d → GivesOutcome mid new answer (record { reply = Refused refusal; marks = abort who (mid.session who).block (mid.session who).txid refusal })
+    → GivesOutcome d new answer (row_statement part_by_itself d who stmt)
+gives-barred d mid new answer who stmt refusal is same gives =
+    subst (λ checked. GivesOutcome d new answer (runs_if (row_making part_by_itself who stmt) (where_of_row stmt) who d checked)) (sym is)
+    (subst (λ (p : RowPart). GivesOutcome p new answer (record { reply = Refused refusal; marks = abort who (p.session who).block (p.session who).txid refusal })) same gives)
 
 -- one that is refused where it is run aborts its session's block
-pub gives-refused : (d mid new : RowPart) (step : RowStep) (who : ℕ) (refusal : Refusal) (checked : Checked Outcome) → Refuses d mid refusal checked
-    → GivesStep mid new step ((who, Refused refusal) ∷ []) (abort who (mid.session who).block (mid.session who).txid refusal)
-    → GivesStep d new step ((who, (settled who (d.session who) checked).reply) ∷ []) (settled who (d.session who) checked).marks
-gives-refused d mid new step who refusal checked refuses gives =
-    subst (λ o. GivesStep d new step ((who, (settled who (d.session who) o).reply) ∷ []) (settled who (d.session who) o).marks) (sym refuses.refused)
-    (subst (λ (p : RowPart). GivesStep p new step ((who, Refused refusal) ∷ []) (abort who (p.session who).block (p.session who).txid refusal)) refuses.same gives)
+pub gives-refused : (d mid new : RowPart) (answer : Answer) (who : ℕ) (refusal : Refusal) (checked : Checked Outcome) → Refuses d mid refusal checked
+    → GivesOutcome mid new answer (record { reply = Refused refusal; marks = abort who (mid.session who).block (mid.session who).txid refusal })
+    → GivesOutcome d new answer (settled who (d.session who) checked)
+gives-refused d mid new answer who refusal checked refuses gives =
+    subst (λ o. GivesOutcome d new answer (settled who (d.session who) o)) (sym refuses.refused)
+    (subst (λ (p : RowPart). GivesOutcome p new answer (record { reply = Refused refusal; marks = abort who (p.session who).block (p.session who).txid refusal })) refuses.same gives)
 
 -- and one that isn't refused does what its outcome says
-pub gives-done : (d new : RowPart) (step : RowStep) (who : ℕ) (answer : Answer) (checked : Checked Outcome) → Does d new answer checked
-    → step.replies ≡ (who, answer.reply) ∷ [] → step.effects ≡ answer.effects
-    → GivesStep d new step ((who, (settled who (d.session who) checked).reply) ∷ []) (settled who (d.session who) checked).marks
-gives-done d new step who answer checked does replied told = record {
-  replied = replied ∙ ap (λ o. (who, (settled who (d.session who) o).reply) ∷ []) (sym does.accepted);
-  told = told ∙ does.told ∙ same;
+pub gives-done : (d new : RowPart) (who : ℕ) (answer : Answer) (checked : Checked Outcome) → Does d new answer checked → GivesOutcome d new answer (settled who (d.session who) checked)
+gives-done d new who answer checked does = record {
+  replied = ap (λ o. (settled who (d.session who) o).reply) (sym does.accepted);
+  told = does.told ∙ ap effects_of marks;
   changed = does.changed ∙ ap (after_part_marks d) marks;
 }
   where
     marks : marks_of checked ≡ (settled who (d.session who) checked).marks
     marks = ap (λ o. (settled who (d.session who) o).marks) (sym does.accepted)
 
-    same : effects_of (marks_of checked) ≡ effects_of (settled who (d.session who) checked).marks
-    same = ap effects_of marks
-
 -- a statement that is made where its sight was taken in front
-pub gives-made : (d mid new : RowPart) (step : RowStep) (who : ℕ) (stmt : RowStmt) → allowed (d.session who).block (where_of_row stmt) ≡ Ok tt
-    → mid ≡ after_part_marks d (sight_marks d who (where_of_row stmt))
-    → GivesStep mid new step ((who, (settled who (mid.session who) (row_form mid (rows_by mid) who stmt)).reply) ∷ []) (settled who (mid.session who) (row_form mid (rows_by mid) who stmt)).marks
-    → GivesStep d new step ((who, (row_statement part_by_itself d who stmt).reply) ∷ []) (row_statement part_by_itself d who stmt).marks
-gives-made d mid new step who stmt is look gives =
-    subst (λ checked. GivesStep d new step ((who, (runs_if making (where_of_row stmt) who d checked).reply) ∷ []) (runs_if making (where_of_row stmt) who d checked).marks) (sym is)
+pub gives-made : (d mid new : RowPart) (answer : Answer) (who : ℕ) (stmt : RowStmt) → allowed (is_waiting who d.waiting) (d.session who).block (where_of_row stmt) ≡ Ok tt
+    → mid ≡ after_part_marks d (sight_marks d who (where_of_row stmt)) → GivesOutcome mid new answer (settled who (mid.session who) (row_form mid (rows_by mid) who stmt))
+    → GivesOutcome d new answer (row_statement part_by_itself d who stmt)
+gives-made d mid new answer who stmt is look gives =
+    subst (λ checked. GivesOutcome d new answer (runs_if making (where_of_row stmt) who d checked)) (sym is)
     (by (takes_sight (where_of_row stmt) (d.session who).sight) look)
   where
     making : Making RowPart
     making = row_making part_by_itself who stmt
 
     there : RowPart → Type 0
-    there p = GivesStep p new step ((who, (runs making who p).reply) ∷ []) (runs making who p).marks
+    there p = GivesOutcome p new answer (runs making who p)
 
     by : (b : Bool) → mid ≡ after_part_marks d (look_of who b)
-        → GivesStep d new step ((who, (if b then looking who (runs making who (after_part d (looked who))) else runs making who d).reply) ∷ [])
-        (if b then looking who (runs making who (after_part d (looked who))) else runs making who d).marks
+        → GivesOutcome d new answer (if b then looking who (runs making who (after_part d (looked who))) else runs making who d)
     by true e = let behind : there (after_part d (looked who)) = subst there e gives in record { replied = behind.replied; told = behind.told; changed = behind.changed }
     by false e = subst there e gives
 
+-- a statement that reads is made by a session that doesn't wait
+pub awake-made : (d mid : RowPart) (who : ℕ) (place : Where) → allowed (is_waiting who d.waiting) (d.session who).block place ≡ Ok tt → mid ≡ after_part_marks d (sight_marks d who place)
+    → place ≡ WhenReading → is_waiting who mid.waiting ≡ false
+awake-made d mid who place may look reads =
+    ap (λ (p : RowPart). is_waiting who p.waiting) look ∙ same (takes_sight place (d.session who).sight) ∙ awake (is_waiting who d.waiting) refl (subst (λ p. allowed (is_waiting who d.waiting) (d.session who).block p ≡ Ok tt) reads may)
+  where
+    same : (b : Bool) → is_waiting who (after_part_marks d (look_of who b)).waiting ≡ is_waiting who d.waiting
+    same true = refl
+    same false = refl
+
+    awake : (b : Bool) → is_waiting who d.waiting ≡ b → allowed b (d.session who).block WhenReading ≡ Ok tt → is_waiting who d.waiting ≡ false
+    awake true is may = absurd (cc)
+    awake false is may = is
+
+-- the effects of two lists of marks, one after the other
+pub effects-append : (xs ys : List Mark) → effects_of (xs ++ ys) ≡ effects_of xs ++ effects_of ys
+effects-append [] ys = refl
+effects-append (began who t ∷ xs) ys = effects-append xs ys
+effects-append (ended who t true ∷ xs) ys = ap (λ es. Committed t ∷ es) (effects-append xs ys)
+effects-append (ended who t false ∷ xs) ys = ap (λ es. Aborted t ∷ es) (effects-append xs ys)
+effects-append (block_begun who ∷ xs) ys = effects-append xs ys
+effects-append (repeats who ∷ xs) ys = effects-append xs ys
+effects-append (looked who ∷ xs) ys = effects-append xs ys
+effects-append (block_failed who ∷ xs) ys = effects-append xs ys
+effects-append (block_ended who ∷ xs) ys = effects-append xs ys
+effects-append (tabled (table_made name columns) ∷ xs) ys = effects-append xs ys
+effects-append (tabled (wrote who t table key old new) ∷ xs) ys = ap (λ es. Wrote t table (op_of old new) old new ∷ es) (effects-append xs ys)
+effects-append (tabled (waits who table key attempt) ∷ xs) ys = effects-append xs ys
+effects-append (tabled (waited who) ∷ xs) ys = effects-append xs ys
+effects-append (queued mark ∷ xs) ys = effects-append xs ys
+
+-- a turn, and those that it lets go on
+pub gives-settled : (d mid new : RowPart) (before after : RowStep) (turn : Turn) → GivesTurn d mid before turn → Adds mid new before after (settling part_by_itself mid)
+    → GivesTurn d new after (with_settling part_by_itself d turn)
+gives-settled d mid new before after turn gives adds = record {
+  replied = adds.replied ∙ ap (λ rs. rs ++ (settling part_by_itself mid).answers) gives.replied ∙ ap (λ p. turn.answers ++ (settling part_by_itself p).answers) behind;
+  told = adds.told ∙ ap (λ es. es ++ effects_of (settling part_by_itself mid).marks) gives.told ∙ ap (λ p. effects_of turn.marks ++ effects_of (settling part_by_itself p).marks) behind
+      ∙ sym (effects-append turn.marks (settling part_by_itself (behind_marks part_by_itself d turn.marks)).marks);
+  changed = adds.changed ∙ ap (λ p. after_part_marks mid (settling part_by_itself p).marks) behind
+      ∙ ap (λ p. after_part_marks p (settling part_by_itself (behind_marks part_by_itself d turn.marks)).marks) gives.changed
+      ∙ sym (after-append d turn.marks (settling part_by_itself (behind_marks part_by_itself d turn.marks)).marks);
+}
+  where
+    behind : mid ≡ behind_marks part_by_itself d turn.marks
+    behind = gives.changed ∙ sym (behind-after d turn.marks)
+
+-- an answer alone is a turn
+pub gives-turn : (d new : RowPart) (answer : Answer) (step : RowStep) (who : ℕ) (outcome : Outcome) → GivesOutcome d new answer outcome → step.replies ≡ (who, answer.reply) ∷ []
+    → step.effects ≡ answer.effects → GivesTurn d new step (turn_of who outcome)
+gives-turn d new answer step who outcome gives replied told = record {
+  replied = replied ∙ ap (λ reply. (who, reply) ∷ []) gives.replied;
+  told = told ∙ gives.told;
+  changed = gives.changed;
+}
+
 -- an exact step is a step at each place of a history that leaves the part as it was
-pub steps-exact : (d new : RowPart) (step : RowStep) (who : ℕ) (stmt : RowStmt)
-    → GivesStep d new step ((who, (row_statement part_by_itself d who stmt).reply) ∷ []) (row_statement part_by_itself d who stmt).marks → RowSteps d new who stmt step.replies
+pub steps-exact : (d new : RowPart) (step : RowStep) (who : ℕ) (stmt : RowStmt) → GivesTurn d new step (row_turn part_by_itself d who stmt) → RowSteps d new who stmt step.replies
 steps-exact d new step who stmt gives = row_steps_from_exact d new who stmt step.replies gives.replied gives.changed

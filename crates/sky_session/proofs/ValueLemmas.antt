@@ -12,7 +12,8 @@ use Rattle.sky_val.proofs.SchemaLemmas.{values_fault-end}
 use Rattle.sky_model.specs.declared.reply.BadRow.TheVariants as badly
 use Rattle.sky_model.specs.declared.reply.Refusal.TheVariants.{BadRow}
 use Rattle.sky_model.specs.Outcome.{Checked, ◌>>◌}
-use Rattle.sky_model.specs.StepRows.{refused_by, column_name, bad_values, fits}
+use Rattle.sky_model.specs.Outcome.{refused_by}
+use Rattle.sky_model.specs.StepRows.{column_name, bad_values, fits}
 
 -- the first value that its column doesn't take, however many they are
 abbrev pub takes : List Column → List Val → Checked (Unit {0})

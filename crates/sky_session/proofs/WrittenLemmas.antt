@@ -13,26 +13,31 @@ use Rattle.sky_session.specs.Effects.{op_of, effects_of}
 use Rattle.sky_session.specs.Gives.{Does}
 use Rattle.sky_session.proofs.Steps.{after-append, begun-txid, begun-block}
 
+-- a transaction that gets its id holds what it held
+pub holder-begun : (d : RowPart) (who t : ℕ) (own : Option ℕ) → (after_part_marks d (begin_of who t own)).holder ≡ d.holder
+holder-begun d who t None = refl
+holder-begun d who t (Some u) = refl
+
 -- a session has its transaction's id behind the write
 pub owns-written : (d one two : RowPart) (who t table : ℕ) (key : List Val) (old new : Option (List Val)) → txid_for d who ≡ Ok t → one ≡ after_part_marks d (begin_of who t (d.session who).txid)
-    → two ≡ after_part one (tabled (wrote t table key old new)) → (two.session who).txid ≡ Some t
+    → two ≡ after_part one (tabled (wrote who t table key old new)) → (two.session who).txid ≡ Some t
 owns-written d one two who t table key old new e first second =
     ap (λ (p : RowPart). (p.session who).txid) second ∙ begun-txid d one who t e first
 
 -- and stands in its block as before
 in_block : (d one two : RowPart) (who t table : ℕ) (key : List Val) (old new : Option (List Val)) → one ≡ after_part_marks d (begin_of who t (d.session who).txid)
-    → two ≡ after_part one (tabled (wrote t table key old new)) → (two.session who).block ≡ (d.session who).block
+    → two ≡ after_part one (tabled (wrote who t table key old new)) → (two.session who).block ≡ (d.session who).block
 in_block d one two who t table key old new first second =
     ap (λ (p : RowPart). (p.session who).block) second ∙ ap (λ (p : RowPart). (p.session who).block) first ∙ begun-block d who t (d.session who).txid
 
 -- the part behind the marks of a write
 pub part-written : (d one two three : RowPart) (who t table : ℕ) (key : List Val) (old new : Option (List Val)) → one ≡ after_part_marks d (begin_of who t (d.session who).txid)
-    → two ≡ after_part one (tabled (wrote t table key old new)) → three ≡ after_part_marks two (commit_of who t (two.session who).block)
-    → three ≡ after_part_marks d (written who t (d.session who) (tabled (wrote t table key old new) ∷ []))
+    → two ≡ after_part one (tabled (wrote who t table key old new)) → three ≡ after_part_marks two (commit_of who t (two.session who).block)
+    → three ≡ after_part_marks d (written who t (d.session who) (tabled (wrote who t table key old new) ∷ []))
 part-written d one two three who t table key old new first second third =
     let begins = begin_of who t (d.session who).txid in
     let ends = commit_of who t (d.session who).block in
-    let mark = tabled (wrote t table key old new) in
+    let mark = tabled (wrote who t table key old new) in
     third ∙ ap (λ block. after_part_marks two (commit_of who t block)) (in_block d one two who t table key old new first second)
     ∙ ap (λ p. after_part_marks p ends) (second ∙ ap (λ p. after_part p mark) first ∙ sym (after-append d begins (mark ∷ [])))
     ∙ sym (after-append d (begins ++ mark ∷ []) ends)
@@ -43,20 +48,20 @@ effects_of-begin who t (Some u) marks = refl
 
 -- what is told of them
 pub told-written : (d one two : RowPart) (who t table : ℕ) (key : List Val) (old new : Option (List Val)) (effects : List Effect)
-    → one ≡ after_part_marks d (begin_of who t (d.session who).txid) → two ≡ after_part one (tabled (wrote t table key old new))
+    → one ≡ after_part_marks d (begin_of who t (d.session who).txid) → two ≡ after_part one (tabled (wrote who t table key old new))
     → effects ≡ (Wrote t table (op_of old new) old new ∷ []) ++ effects_of (commit_of who t (two.session who).block)
-    → effects ≡ effects_of (written who t (d.session who) (tabled (wrote t table key old new) ∷ []))
+    → effects ≡ effects_of (written who t (d.session who) (tabled (wrote who t table key old new) ∷ []))
 told-written d one two who t table key old new effects first second told =
     let begins = begin_of who t (d.session who).txid in
     let ends = commit_of who t (d.session who).block in
-    let mark = tabled (wrote t table key old new) in
+    let mark = tabled (wrote who t table key old new) in
     told ∙ ap (λ block. Wrote t table (op_of old new) old new ∷ effects_of (commit_of who t block)) (in_block d one two who t table key old new first second)
     ∙ sym (ap effects_of (append_assoc begins (mark ∷ []) ends) ∙ effects_of-begin who t (d.session who).txid (mark ∷ ends))
 
 -- what a write does whose transaction has an id
 pub does-writes : (d after : RowPart) (who t table : ℕ) (key : List Val) (old new : Option (List Val)) (effects : List Effect) → txid_for d who ≡ Ok t
-    → effects ≡ effects_of (written who t (d.session who) (tabled (wrote t table key old new) ∷ [])) → after ≡ after_part_marks d (written who t (d.session who) (tabled (wrote t table key old new) ∷ []))
+    → effects ≡ effects_of (written who t (d.session who) (tabled (wrote who t table key old new) ∷ [])) → after ≡ after_part_marks d (written who t (d.session who) (tabled (wrote who t table key old new) ∷ []))
     → Does d after (record { reply = Number 1; effects = effects }) (writes_key d who table key old new)
 does-writes d after who t table key old new effects e told is =
-    subst (λ checked. Does d after (record { reply = Number 1; effects = effects }) (checked >>= (λ u. does_marks (Number 1) (written who u (d.session who) (tabled (wrote u table key old new) ∷ []))))) (sym e)
+    subst (λ checked. Does d after (record { reply = Number 1; effects = effects }) (checked >>= (λ u. does_marks (Number 1) (written who u (d.session who) (tabled (wrote who u table key old new) ∷ []))))) (sym e)
     (record { accepted = refl; told = told; changed = is })

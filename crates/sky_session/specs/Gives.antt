@@ -1,11 +1,13 @@
 -- What a method of the code gives, by what the database showed.
-use Rattle.std.specs.Prelude.{◌≡◌, ℕ, List, [], Option, Some, None, Result, Ok, Err}
+use Rattle.std.specs.Prelude.{◌≡◌, ℕ, List, [], ◌++◌, Option, Some, None, Result, Ok, Err}
+use Rattle.sky_val.specs.Waits.{is_waiting}
 use Rattle.sky_model.specs.declared.reply.Reply.{Reply}
 use Rattle.sky_model.specs.declared.reply.Refusal.{Refusal}
 use Rattle.sky_model.specs.declared.stmt.Where.{Where}
 use Rattle.sky_model.specs.History.{Mark}
 use Rattle.sky_model.specs.State.{RowPart, after_part_marks}
 use Rattle.sky_model.specs.Outcome.{Outcome, Checked}
+use Rattle.sky_model.specs.Settling.{Turn}
 use Rattle.sky_model.specs.Allowed.{allowed}
 use Rattle.sky_model.specs.Made.{takes_sight}
 use Rattle.sky_session.specs.declared.answer.Answer.{Answer}
@@ -22,6 +24,22 @@ pub record GivesStep (old new : RowPart) (step : RowStep) (replies : List (ℕ �
   pub replied : step.replies ≡ replies
   pub told : step.effects ≡ effects_of marks
   pub changed : new ≡ after_part_marks old marks
+
+-- a statement's answer, its effects, and the database behind it are those of an outcome
+pub record GivesOutcome (old new : RowPart) (answer : Answer) (outcome : Outcome) : Type 0 where
+  pub replied : answer.reply ≡ outcome.reply
+  pub told : answer.effects ≡ effects_of outcome.marks
+  pub changed : new ≡ after_part_marks old outcome.marks
+
+-- the same of a turn
+abbrev pub GivesTurn : RowPart → RowPart → RowStep → Turn → Type 0
+GivesTurn old new step turn = GivesStep old new step turn.answers turn.marks
+
+-- a turn is added to what was given: its replies and effects at the end
+pub record Adds (old new : RowPart) (before after : RowStep) (turn : Turn) : Type 0 where
+  pub replied : after.replies ≡ before.replies ++ turn.answers
+  pub told : after.effects ≡ before.effects ++ effects_of turn.marks
+  pub changed : new ≡ after_part_marks old turn.marks
 
 -- the marks of an answer
 abbrev pub marks_of : Checked Outcome → List Mark
@@ -61,5 +79,5 @@ sight_marks d who place = look_of who (takes_sight place (d.session who).sight)
 
 -- a statement may be made, and has taken its session's sight if it is to, or it is refused
 abbrev pub Enters : RowPart → RowPart → ℕ → Where → Option Refusal → Type 0
-Enters old new who place (Some refusal) = (allowed (old.session who).block place ≡ Err refusal) × (new ≡ old)
-Enters old new who place None = (allowed (old.session who).block place ≡ Ok tt) × (new ≡ after_part_marks old (sight_marks old who place))
+Enters old new who place (Some refusal) = (allowed (is_waiting who old.waiting) (old.session who).block place ≡ Err refusal) × (new ≡ old)
+Enters old new who place None = (allowed (is_waiting who old.waiting) (old.session who).block place ≡ Ok tt) × (new ≡ after_part_marks old (sight_marks old who place))

@@ -1,5 +1,6 @@
--- What the sessions of a database own.
-use Rattle.std.specs.Prelude.{◌≡◌, ℕ, List, true, Some}
+-- What the sessions of a database own, and wait for.
+use Rattle.std.specs.Prelude.{◌≡◌, ◌<◌, ℕ, List, [], ◌∷◌, true, Some}
+use Rattle.sky_val.specs.Waits.{Waiting}
 use Rattle.sky_txid.specs.Ids.{contains}
 use Rattle.sky_model.specs.Sessions.{Session}
 
@@ -7,3 +8,8 @@ use Rattle.sky_model.specs.Sessions.{Session}
 pub record AreOwned (session : ℕ → Session) (running : List ℕ) : Type 0 where
   pub runs : (who t : ℕ) → (session who).txid ≡ Some t → contains t running ≡ true
   pub once : (v w t : ℕ) → (session v).txid ≡ Some t → (session w).txid ≡ Some t → v ≡ w
+
+-- each session that waits does so for a key of one of the tables, which are so many
+abbrev pub AreWithin : ℕ → List Waiting → Type 0
+AreWithin tables [] = Unit {0}
+AreWithin tables (w ∷ ws) = (w.table < tables) × AreWithin tables ws

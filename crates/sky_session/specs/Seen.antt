@@ -5,6 +5,9 @@ use Rattle.sky_val.specs.Entries.{Entries}
 use Rattle.sky_txid.specs.declared.version.Version.{Version}
 use Rattle.sky_txid.specs.Snapshot.{SnapshotView}
 use Rattle.sky_rows.specs.Table.{TableView}
+use Rattle.sky_locks.specs.Locks.{holder}
+use Rattle.sky_model.specs.declared.stmt.Attempt.{Attempt}
+use Rattle.sky_model.specs.declared.stmt.Attempt.TheVariants.{Deletion}
 use Rattle.sky_model.specs.Sessions as model
 use Rattle.sky_model.specs.State.{RowPart}
 use Rattle.sky_session.specs.declared.block.Block.{Block}
@@ -49,6 +52,10 @@ columns_of tables n = (table_of tables n).columns
 abbrev pub versions_of : List TableView → ℕ → Entries (List Version)
 versions_of tables n = (table_of tables n).versions
 
+-- what a session that waits is to do
+abbrev pub attempt_of : List Attempt → ℕ → Attempt
+attempt_of attempts who = slice_index_or attempts who Deletion
+
 abbrev pub seen : RowDbView → RowPart
 seen d = record {
   next = d.trans.next;
@@ -57,4 +64,7 @@ seen d = record {
   tables = d.names;
   columns = columns_of d.tables;
   versions = versions_of d.tables;
+  holder = holder d.locks;
+  waiting = d.locks.waiting;
+  attempt = attempt_of d.attempts;
 }

@@ -1,7 +1,9 @@
--- What contracts see of the transactions, sessions and tables of a database, as the code keeps them.
+-- What contracts see of the transactions, sessions, tables and locks of a database, as the code keeps them.
 use Rattle.std.specs.Prelude.{ℕ, List, []}
 use Rattle.sky_trans.specs.Trans.{TransView}
 use Rattle.sky_rows.specs.Table.{TableView}
+use Rattle.sky_locks.specs.Locks.{LocksView}
+use Rattle.sky_model.specs.declared.stmt.Attempt.{Attempt}
 use Rattle.sky_session.specs.declared.session.Session.{Session}
 
 pub record RowDbView : Type 0 where
@@ -11,7 +13,10 @@ pub record RowDbView : Type 0 where
   -- the names of the tables, and the tables, each at its number
   pub names : List (List ℕ)
   pub tables : List TableView
+  pub locks : LocksView
+  -- what each session that waits is to do, at its number; further ones don't wait
+  pub attempts : List Attempt
 
 -- those of a database in which nothing has happened
 abbrev pub no_rows : RowDbView
-no_rows = record { trans = record { next = 3; running = [] }; sessions = []; names = []; tables = [] }
+no_rows = record { trans = record { next = 3; running = [] }; sessions = []; names = []; tables = []; locks = record { held = []; waiting = [] }; attempts = [] }

@@ -10,7 +10,8 @@ pub fn where_of(stmt: &RowStmt) -> Where
     ensures { result ≡ spec.where_of_row stmt.now }
 {
     match stmt {
-        RowStmt::OpenDb { .. } | RowStmt::Cancel => Where::Anywhere,
+        RowStmt::Cancel => Where::Always,
+        RowStmt::OpenDb { .. } => Where::Anywhere,
         RowStmt::Close | RowStmt::Commit | RowStmt::Rollback => Where::WhenOpen,
         RowStmt::Begin | RowStmt::BeginRepeatableRead => Where::WhenSound,
         RowStmt::TxidCurrent
@@ -25,11 +26,14 @@ pub fn where_of(stmt: &RowStmt) -> Where
     }
 }
 
-/// Refuses a statement that may not stand in the block of its session.
-pub fn allow(block: Block, place: Where) -> Result<(), Refusal>
-    ensures ok { OnOk result (spec.allowed (seen_block block) place ≡ Ok tt) }
-    ensures err { IfErr result (λ refusal. spec.allowed (seen_block block) place ≡ Err refusal) }
+/// Refuses a statement of a session that waits, or that may not stand in the session's block.
+pub fn allow(waits: bool, block: Block, place: Where) -> Result<(), Refusal>
+    ensures ok { OnOk result (spec.allowed waits (seen_block block) place ≡ Ok tt) }
+    ensures err { IfErr result (λ refusal. spec.allowed waits (seen_block block) place ≡ Err refusal) }
 {
+    if waits && place != Where::Always {
+        return Err(Refusal::Busy);
+    }
     match (block, place) {
         (Block::Inside, Where::WhenOutside) => Err(Refusal::InTransaction),
         (Block::Failed, Where::WhenSound | Where::WhenReading | Where::WhenOutside) => {

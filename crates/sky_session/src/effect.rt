@@ -72,6 +72,14 @@ impl Effects {
         Ok(())
     }
 
+    /// Further effects, at the end.
+    pub(crate) fn append(&mut self, mut others: Effects) -> Result<(), NoMemory>
+        ensures { OnOk result (self.new ≡ self.old ++ others) }
+    {
+        self.items.append(&mut others.items)?;
+        Ok(())
+    }
+
     pub fn as_slice(&self) -> &[Effect]
         ensures { result.now ≡ self.now }
     {

@@ -48,18 +48,6 @@ impl RowDb {
         standing.is_some()
     }
 
-    /// Another running transaction that has written the key.
-    pub(crate) fn holder(&self, who: SessionId, table: u32, key: &Key) -> Option<u64>
-        requires { table < length (seen self.now).tables }
-        ensures { result ≡ ((rows_by (seen self.now)).key who table key.now).holder }
-    {
-        let newest = self.table_at(table).newest(key, self.own_txid(who))?;
-        if !self.trans.running(newest.txid) {
-            return None;
-        }
-        Some(newest.txid)
-    }
-
     /// Whether the session's transaction has written the key.
     fn has_written(&self, who: SessionId, table: u32, key: &Key) -> bool
         requires { table < length (seen self.now).tables }

@@ -3,21 +3,24 @@
 //! `RowDb::step` runs a statement on them, of one session. It answers with the replies and with the effects on
 //! rows and transactions, for those that follow the database. What a contract sees of a `RowDb` is read by `seen` as
 //! the definitions' part of a database. Statements on queues run elsewhere: they come in by `enter`, take their
-//! transaction's id by `take_txid`, and leave by `end_single` or `fail`. Nothing here knows a queue, a name of a
-//! session, or a byte of a script.
+//! transaction's id by `take_txid`, and leave by `end_single` or `roll_back`, and then `settle`. Nothing here knows a
+//! queue, a name of a session, or a byte of a script.
 #![tactic(auto)]
 
 mod allowed;
 mod answer;
+mod attempts;
 mod block;
 mod effect;
 mod key_shown;
+mod locking;
 mod marks;
 mod own_transaction;
 mod row_db;
 mod row_statements;
 mod session;
 mod sessions;
+mod settling;
 mod statements;
 mod stop;
 mod values;

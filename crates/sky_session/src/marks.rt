@@ -1,8 +1,9 @@
 //! What can happen in a database, each mark by a method of its own. After want of memory the state isn't said.
 
 ghost use Rattle.std.specs.Prelude.{◌≡◌, ◌+◌, ◌-◌, ◌<◌, ◌^◌, true, false, None, Some, IfOk, OnOk, length};
+ghost use Rattle.sky_val.specs.Waits.{other_holder, is_waiting};
 ghost use Rattle.sky_names.specs.Places.{place_of};
-ghost use Rattle.sky_model.specs.History.{began, ended, block_begun, repeats, looked, block_failed, block_ended, tabled, table_made, wrote};
+ghost use Rattle.sky_model.specs.History.{began, ended, block_begun, repeats, looked, block_failed, block_ended, tabled, table_made, wrote, waited};
 ghost use Rattle.sky_model.specs.State.{after_part};
 ghost use Rattle.sky_txid.specs.Versions.{forgotten};
 ghost use Rattle.sky_session.specs.Seen.{seen, columns_of, versions_of};
@@ -10,9 +11,11 @@ ghost use Rattle.sky_session.specs.Seen.{seen, columns_of, versions_of};
 use crate::block::Block;
 use crate::row_db::RowDb;
 use crate::session::Sight;
+use sky_locks::{LockKey, Taken};
+use sky_model::Attempt;
 use sky_rows::Table;
 use sky_trans::TransFault;
-use sky_val::{Key, NoMemory, Row, Schema, SessionId, Text};
+use sky_val::{NoMemory, Row, Schema, SessionId, Text};
 use std::alloc::AllocError;
 
 impl RowDb {
@@ -38,6 +41,7 @@ impl RowDb {
     {
         self.sessions.end_txid(who);
         self.trans.commit(txid);
+        self.locks.release(who);
     }
 
     /// The session's transaction is rolled back.
@@ -48,6 +52,7 @@ impl RowDb {
         self.sessions.end_txid(who);
         self.trans.abort(txid);
         forget_all(&mut self.tables, txid);
+        self.locks.release(who);
     }
 
     /// The session begins a block.
@@ -102,23 +107,39 @@ impl RowDb {
         Ok(())
     }
 
-    /// A transaction wrote a key of a table. The row that it had is no part of what is kept, so here it is none.
-    /// Of those that have ended nobody asks any more which keys of the table they wrote, so that is forgotten.
+    /// The session's transaction wrote a key of a table, which the session holds from then on. The row that the key had
+    /// is no part of what is kept, so here it is none. Of those that have ended nobody asks any more which keys of the
+    /// table they wrote, so that is forgotten.
     pub(crate) fn wrote(
         &mut self,
+        who: SessionId,
         txid: u64,
-        table: u32,
-        key: Key,
+        key: LockKey,
         row: Option<Row>,
     ) -> Result<(), NoMemory>
-        requires { table < length (seen self.old).tables }
-        ensures { OnOk result (seen self.new ≡ after_part (seen self.old) (tabled (wrote txid table key None row))) }
+        requires within { key.table < length (seen self.old).tables }
+        requires free { other_holder (seen self.old).holder who key.table key.key ≡ None }
+        requires awake { is_waiting who (seen self.old).waiting ≡ false }
+        ensures { OnOk result (seen self.new ≡ after_part (seen self.old) (tabled (wrote who txid key.table key.key None row))) }
     {
+        match self.locks.try_key(who, &key)? {
+            Taken::Got => {}
+            Taken::Waits(_) | Taken::Cycle(_) => unreachable!(),
+        }
         let least = self.trans.least().unwrap_or(txid);
-        let table = &mut self.tables[table as usize];
+        let table = &mut self.tables[key.table as usize];
         table.prune(least);
-        table.write(txid, key, row)?;
+        table.write(txid, key.key, row)?;
         Ok(())
+    }
+
+    /// The session waits no longer. The answer is what it was to do.
+    pub(crate) fn waited(&mut self, who: SessionId) -> Attempt
+        ensures taken { result ≡ (seen self.old).attempt who }
+        ensures mark { seen self.new ≡ after_part (seen self.old) (tabled (waited who)) }
+    {
+        self.locks.leave(who);
+        self.attempts.take(who)
     }
 }
 

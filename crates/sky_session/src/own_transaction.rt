@@ -41,7 +41,7 @@ impl RowDb {
     ) -> Result<Option<Refusal>, NoMemory>
         ensures { IfOk result (λ refusal. Enters (seen self.old) (seen self.new) who place refusal) }
     {
-        if let Err(refusal) = allow(self.block(who), place) {
+        if let Err(refusal) = allow(self.waits(who), self.block(who), place) {
             return Ok(Some(refusal));
         }
         if place == Where::WhenReading && self.is_first(who) {
@@ -80,7 +80,7 @@ impl RowDb {
     }
 
     /// Rolls back the transaction of the session's block, and aborts the block, if it is in one that isn't aborted.
-    pub(crate) fn roll_back(&mut self, who: SessionId) -> Result<Effects, NoMemory>
+    pub fn roll_back(&mut self, who: SessionId) -> Result<Effects, NoMemory>
         ensures marks { IfOk result (λ effects. seen self.new ≡ after_part_marks (seen self.old) (failure who ((seen self.old).session who).txid ((seen self.old).session who).block)) }
         ensures told { IfOk result (λ effects. effects ≡ effects_of (failure who ((seen self.old).session who).txid ((seen self.old).session who).block)) }
     {

@@ -1,6 +1,7 @@
 ghost use Rattle.std.specs.Prelude.{◌≡◌, ◌↔◌, ◌<◌, ◌≢◌, [], ◌∷◌, true, false, not, ◌==◌, if◌then◌else◌, None, Some, Ok, Err, IfOk, OnOk, MatchOption, IsTrue, is_ok, length, unwrap_or};
 ghost use Rattle.std.specs.Option.{option_copied};
 ghost use Rattle.sky_txid.specs.Snapshot.{SnapshotView};
+ghost use Rattle.sky_val.specs.Waits.{is_waiting};
 ghost use Rattle.sky_names.specs.Places.{place_of};
 ghost use Rattle.sky_model.specs.declared.stmt.Where.TheVariants.{WhenReading, WhenOutside};
 ghost use Rattle.sky_model.specs.declared.reply.Refusal.TheVariants.{TxidsSpent};
@@ -10,13 +11,17 @@ ghost use Rattle.sky_model.specs.ShownRows.{snapshot_now, snapshot_for, least_wr
 ghost use Rattle.sky_model.specs.Made.{takes_sight};
 ghost use Rattle.sky_model.specs.OwnTransaction.{txid_for, begin_of};
 ghost use Rattle.sky_session.specs.Marks.{single_end, failure};
-ghost use Rattle.sky_session.specs.Gives.{GivesStep, Enters};
+ghost use Rattle.sky_model.specs.Reader.{part_by_itself};
+ghost use Rattle.sky_model.specs.Settling.{settling, with_settling};
+ghost use Rattle.sky_session.specs.Gives.{GivesTurn, Enters};
 ghost use Rattle.sky_session.specs.Seen.{seen, seen_block};
 
 use crate::answer::RowStep;
+use crate::attempts::Attempts;
 use crate::block::Block;
 use crate::effect::{Effect, Effects};
 use crate::sessions::Sessions;
+use sky_locks::Locks;
 use sky_model::{Refusal, Replies, Where};
 use sky_names::Names;
 use sky_rows::Table;
@@ -34,19 +39,21 @@ pub struct RowDb {
     pub(crate) sessions: Sessions,
     pub(crate) names: Names,
     pub(crate) tables: Vec<Table>,
+    pub(crate) locks: Locks,
+    pub(crate) attempts: Attempts,
 }
 
 impl Model for RowDb {
     ghost use Rattle.std.specs.Prelude.{◌≡◌, length};
     ghost use Rattle.sky_session.specs.Views.{RowDbView};
     ghost use Rattle.sky_session.specs.Seen.{session_of};
-    ghost use Rattle.sky_session.specs.Owned.{AreOwned};
+    ghost use Rattle.sky_session.specs.Owned.{AreOwned, AreWithin};
 
     ghost Value = { RowDbView };
 
-    ghost view = { λ d. record { trans = d.trans; sessions = d.sessions; names = d.names; tables = d.tables.items } };
+    ghost view = { λ d. record { trans = d.trans; sessions = d.sessions; names = d.names; tables = d.tables.items; locks = d.locks; attempts = d.attempts } };
 
-    ghost invariant = { λ d. (length d.tables.items ≡ length d.names) × AreOwned (session_of d.sessions) d.trans.running };
+    ghost invariant = { λ d. (length d.tables.items ≡ length d.names) × (AreOwned (session_of d.sessions) d.trans.running × AreWithin (length d.tables.items) d.locks.waiting) };
 }
 
 impl RowDb {
@@ -60,6 +67,8 @@ impl RowDb {
             sessions: Sessions::new(alloc),
             names: Names::new(alloc),
             tables: Vec::new(alloc),
+            locks: Locks::new(alloc),
+            attempts: Attempts::new(alloc),
         }
     }
 
@@ -144,10 +153,10 @@ impl RowDb {
     }
 
     /// Whether the session waits for another one's transaction.
-    pub fn waits(&self, _who: SessionId) -> bool
-        ensures { result ≡ false }
+    pub fn waits(&self, who: SessionId) -> bool
+        ensures { result ≡ is_waiting who (seen self.now).waiting }
     {
-        false
+        self.locks.waits_on(who).is_some()
     }
 
     /// Whether the session is in a transaction block, an aborted one too.
@@ -169,16 +178,33 @@ impl RowDb {
         }
     }
 
-    /// Rolls back the session's block, which stays aborted. Where it is in none, or that is aborted, nothing happens.
+    /// Rolls back the session's block, which stays aborted, and runs what this lets go on. Where it is in none, or that
+    /// is aborted, nothing is rolled back.
     pub fn fail(&mut self, who: SessionId) -> Result<RowStep, NoMemory>
-        ensures { IfOk result (λ step. GivesStep (seen self.old) (seen self.new) step []
-            (failure who ((seen self.old).session who).txid ((seen self.old).session who).block)) }
+        ensures { let marks = failure who ((seen self.old).session who).txid ((seen self.old).session who).block in
+            IfOk result (λ step. GivesTurn (seen self.old) (seen self.new) step
+            (with_settling part_by_itself (seen self.old) (record { answers = []; marks = marks }))) }
     {
         let effects = self.roll_back(who)?;
-        Ok(RowStep {
+        let mut step = RowStep {
             replies: Replies::new(self.alloc),
             effects,
-        })
+        };
+        self.settle_behind(&mut step)?;
+        Ok(step)
+    }
+
+    /// Runs the statements that may go on. Behind `step` and `fail` there is none; behind `roll_back` and `end_single`, by
+    /// which a statement on queues ends a transaction, there may be some.
+    pub fn settle(&mut self) -> Result<RowStep, NoMemory>
+        ensures { IfOk result (λ step. GivesTurn (seen self.old) (seen self.new) step (settling part_by_itself (seen self.old))) }
+    {
+        let mut step = RowStep {
+            replies: Replies::new(self.alloc),
+            effects: Effects::new(self.alloc),
+        };
+        self.settle_behind(&mut step)?;
+        Ok(step)
     }
 
     /// Whether the session's transaction has an id, or can get one.

@@ -1,8 +1,9 @@
 //! The statements on tables and rows. A refusal changes nothing here, so all tests stand in front of the first change.
 
-ghost use Rattle.std.specs.Prelude.{◌≡◌, ◌<◌, None, Some, Ok, Err, IfOk, IfErr, OnOk, length};
+ghost use Rattle.std.specs.Prelude.{◌≡◌, ◌<◌, false, None, Some, Ok, Err, IfOk, IfErr, OnOk, length};
+ghost use Rattle.sky_val.specs.Waits.{other_holder, is_waiting};
 ghost use Rattle.sky_model.specs.ShownRows.{snapshot_now, rows_by};
-ghost use Rattle.sky_model.specs.StepRows.{table_called, is_free, is_seen, writes_key, create_table, insert, update, delete, get, scan};
+ghost use Rattle.sky_model.specs.StepRows.{table_called, is_seen, writes_key, create_table, insert, update, delete, get, scan};
 ghost use Rattle.sky_session.specs.Effects.{op_of};
 ghost use Rattle.sky_session.specs.Gives.{Ran, StopsAs};
 ghost use Rattle.sky_session.specs.Seen.{seen};
@@ -11,7 +12,8 @@ use crate::answer::Answer;
 use crate::effect::{Effect, Effects};
 use crate::row_db::RowDb;
 use crate::stop::Stop;
-use crate::values::{key_fits, key_stays, new_schema, row_fits, sets_fit, with_sets};
+use crate::values::{key_fits, key_stays, new_schema, row_fits, sets_fit};
+use sky_locks::LockKey;
 use sky_model::{Columns, Limit, Refusal, Reply, Rows, Sets};
 use sky_txid::Snapshot;
 use sky_val::{Key, NoMemory, Op, Row, SessionId, Text};
@@ -54,20 +56,8 @@ impl RowDb {
         }
     }
 
-    /// Refuses a write of a key that another running transaction has written.
-    fn check_free(&self, who: SessionId, table: u32, key: &Key) -> Result<(), Refusal>
-        requires { table < length (seen self.now).tables }
-        ensures ok { OnOk result (is_free ((rows_by (seen self.now)).key who table key.now) ≡ Ok tt) }
-        ensures err { IfErr result (λ refusal. is_free ((rows_by (seen self.now)).key who table key.now) ≡ Err refusal) }
-    {
-        match self.holder(who, table, key) {
-            Some(txid) => Err(Refusal::KeyBusy(txid)),
-            None => Ok(()),
-        }
-    }
-
     /// Refuses a change of a row that was written since the session's sight.
-    fn check_seen(
+    pub(crate) fn check_seen(
         &self,
         who: SessionId,
         table: u32,
@@ -85,22 +75,24 @@ impl RowDb {
         }
     }
 
-    /// Writes the key in the session's transaction.
-    fn write_key(
+    /// Writes the key, which no other session holds, in the session's transaction.
+    pub(crate) fn write_key(
         &mut self,
         who: SessionId,
-        table: u32,
-        key: Key,
+        key: LockKey,
         old: Option<Row>,
         new: Option<Row>,
     ) -> Result<Answer, Stop>
-        requires { table < length (seen self.old).tables }
-        ensures { Ran self.old self.new result (writes_key (seen self.old) who table key old new) }
+        requires within { key.table < length (seen self.old).tables }
+        requires free { other_holder (seen self.old).holder who key.table key.key ≡ None }
+        requires awake { is_waiting who (seen self.old).waiting ≡ false }
+        ensures { Ran self.old self.new result (writes_key (seen self.old) who key.table key.key old new) }
     {
         let txid = self.txid_for(who)?;
+        let table = key.table;
         let stored = copy_row(self.alloc, &new)?;
         self.begin_own(who, txid)?;
-        self.wrote(txid, table, key, stored)?;
+        self.wrote(who, txid, key, stored)?;
         let op = op_of(&old, &new);
         let mut effects = Effects::new(self.alloc);
         effects.push(Effect::Wrote {
@@ -135,22 +127,17 @@ impl RowDb {
 
     /// `insert TABLE VAL..`
     pub(crate) fn insert(&mut self, who: SessionId, table: &Text, row: &Row) -> Result<Answer, Stop>
+        requires { is_waiting who (seen self.old).waiting ≡ false }
         ensures { Ran self.old self.new result (insert (seen self.old) (rows_by (seen self.old)) who table.now row.now) }
     {
         let table = self.table_called(table)?;
         let schema = self.table_at(table).schema();
         row_fits(self.alloc, schema.columns(), row)?;
         let key = schema.key_of(row)?;
-        self.check_free(who, table, &key)?;
-        let now = self.snapshot_now()?;
-        if self.has_standing(who, table, &key, &now) {
-            return Err(Stop::Refused(Refusal::Duplicate));
-        }
-        let row = row.copy(self.alloc)?;
-        self.write_key(who, table, key, None, Some(row))
+        self.insert_key(who, LockKey { table, key }, row)
     }
 
-    /// `update TABLE VAL.. set SET..`: where no row is shown, it changes none.
+    /// `update TABLE VAL.. set SET..`
     pub(crate) fn update(
         &mut self,
         who: SessionId,
@@ -158,41 +145,27 @@ impl RowDb {
         key: &Key,
         sets: &Sets,
     ) -> Result<Answer, Stop>
+        requires { is_waiting who (seen self.old).waiting ≡ false }
         ensures { Ran self.old self.new result (update (seen self.old) (rows_by (seen self.old)) who table.now key.now sets.now) }
     {
         let table = self.table_called(table)?;
         let columns = self.table_at(table).schema().columns();
-        let sets = sets.as_slice();
         key_fits(self.alloc, columns, key)?;
-        sets_fit(self.alloc, columns, sets)?;
-        key_stays(self.alloc, columns, sets)?;
-        let now = self.snapshot_now()?;
-        let Some(old) = self.row_shown(who, table, key, &now) else {
-            return Ok(Answer::only(self.alloc, Reply::Number(0)));
-        };
-        self.check_free(who, table, key)?;
-        self.check_seen(who, table, key, &now)?;
-        let new = with_sets(self.alloc, columns, sets, old)?;
-        let old = old.copy(self.alloc)?;
+        sets_fit(self.alloc, columns, sets.as_slice())?;
+        key_stays(self.alloc, columns, sets.as_slice())?;
         let key = key.copy(self.alloc)?;
-        self.write_key(who, table, key, Some(old), Some(new))
+        self.change_key(who, LockKey { table, key }, sets)
     }
 
-    /// `delete TABLE VAL..`: where no row is shown, it deletes none.
+    /// `delete TABLE VAL..`
     pub(crate) fn delete(&mut self, who: SessionId, table: &Text, key: &Key) -> Result<Answer, Stop>
+        requires { is_waiting who (seen self.old).waiting ≡ false }
         ensures { Ran self.old self.new result (delete (seen self.old) (rows_by (seen self.old)) who table.now key.now) }
     {
         let table = self.table_called(table)?;
         key_fits(self.alloc, self.table_at(table).schema().columns(), key)?;
-        let now = self.snapshot_now()?;
-        let Some(old) = self.row_shown(who, table, key, &now) else {
-            return Ok(Answer::only(self.alloc, Reply::Number(0)));
-        };
-        self.check_free(who, table, key)?;
-        self.check_seen(who, table, key, &now)?;
-        let old = old.copy(self.alloc)?;
         let key = key.copy(self.alloc)?;
-        self.write_key(who, table, key, Some(old), None)
+        self.delete_key(who, LockKey { table, key })
     }
 
     /// `get TABLE VAL..`

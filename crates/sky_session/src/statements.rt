@@ -2,17 +2,20 @@
 //! aborts the block that its session is in.
 
 ghost use Rattle.std.specs.Prelude.{◌≡◌, [], ◌∷◌, true, false, Ok, IfOk, OnOk};
+ghost use Rattle.sky_val.specs.Waits.{is_waiting};
 ghost use Rattle.sky_model.specs.declared.reply.Reply.TheVariants.{Refused};
+ghost use Rattle.sky_model.specs.declared.stmt.Where.TheVariants.{WhenReading};
+ghost use Rattle.sky_model.specs.Allowed.{where_of_row};
 ghost use Rattle.sky_model.specs.Sessions.{outside};
 ghost use Rattle.sky_model.specs.State.{after_part_marks};
 ghost use Rattle.sky_model.specs.ShownRows.{rows_by};
-ghost use Rattle.sky_model.specs.Outcome.{abort, settled};
-ghost use Rattle.sky_model.specs.StepSession.{begin, begin_repeatable_read, commit, rollback, close, leaves, txid_current, txid_current_snapshot, txid_visible_in_snapshot};
-ghost use Rattle.sky_model.specs.Calls.{row_form, row_statement};
+ghost use Rattle.sky_model.specs.Outcome.{aborts, abort, settled};
+ghost use Rattle.sky_model.specs.StepSession.{begin, begin_repeatable_read, commit, rollback, close, cancel, leaves, txid_current, txid_current_snapshot, txid_visible_in_snapshot};
+ghost use Rattle.sky_model.specs.Calls.{row_form, row_statement, row_turn};
 ghost use Rattle.sky_model.specs.Reader.{part_by_itself};
 ghost use Rattle.sky_model.specs.RowSteps.{RowSteps};
 ghost use Rattle.sky_session.specs.Effects.{effects_of};
-ghost use Rattle.sky_session.specs.Gives.{GivesStep, Ran};
+ghost use Rattle.sky_session.specs.Gives.{GivesTurn, GivesOutcome, Ran};
 ghost use Rattle.sky_session.specs.Seen.{seen};
 
 use crate::allowed::where_of;
@@ -26,12 +29,33 @@ use sky_txid::{Snapshot, SnapshotFault};
 use sky_val::{NoMemory, SessionId, Text};
 use std::alloc::AllocError;
 
+/// Whether a refusal aborts the transaction of its session.
+fn aborts(refusal: &Refusal) -> bool
+    ensures { result ≡ aborts refusal.now }
+{
+    !matches!(refusal, Refusal::AlreadyOpen | Refusal::Busy)
+}
+
 impl RowDb {
-    /// Runs a statement of a session that has this database open.
+    /// Runs a statement of a session that has this database open, and those that it lets go on.
     pub fn step(&mut self, who: SessionId, stmt: &RowStmt) -> Result<RowStep, NoMemory>
-        ensures exact { let outcome = row_statement part_by_itself (seen self.old) who stmt.now in
-            IfOk result (λ step. GivesStep (seen self.old) (seen self.new) step ((who, outcome.reply) ∷ []) outcome.marks) }
+        ensures exact { IfOk result (λ step. GivesTurn (seen self.old) (seen self.new) step (row_turn part_by_itself (seen self.old) who stmt.now)) }
         ensures steps { IfOk result (λ step. RowSteps (seen self.old) (seen self.new) who stmt.now step.replies) }
+    {
+        let answer = self.own_answer(who, stmt)?;
+        let mut replies = Replies::new(self.alloc);
+        replies.push(who, answer.reply)?;
+        let mut step = RowStep {
+            replies,
+            effects: answer.effects,
+        };
+        self.settle_behind(&mut step)?;
+        Ok(step)
+    }
+
+    /// The answer of the statement itself, be it a refusal.
+    fn own_answer(&mut self, who: SessionId, stmt: &RowStmt) -> Result<Answer, NoMemory>
+        ensures { IfOk result (λ answer. GivesOutcome (seen self.old) (seen self.new) answer (row_statement part_by_itself (seen self.old) who stmt.now)) }
     {
         match self.admit(who, where_of(stmt))? {
             Some(refusal) => self.refuse(who, refusal),
@@ -40,55 +64,41 @@ impl RowDb {
     }
 
     /// Runs a statement that its session may make, which has taken its sight. A refusal is an answer too.
-    fn run(&mut self, who: SessionId, stmt: &RowStmt) -> Result<RowStep, NoMemory>
+    fn run(&mut self, who: SessionId, stmt: &RowStmt) -> Result<Answer, NoMemory>
+        requires { where_of_row stmt.now ≡ WhenReading → is_waiting who (seen self.old).waiting ≡ false }
         ensures { let outcome = settled who ((seen self.old).session who) (row_form (seen self.old) (rows_by (seen self.old)) who stmt.now) in
-            IfOk result (λ step. GivesStep (seen self.old) (seen self.new) step ((who, outcome.reply) ∷ []) outcome.marks) }
+            IfOk result (λ answer. GivesOutcome (seen self.old) (seen self.new) answer outcome) }
     {
         match self.run_form(who, stmt) {
-            Ok(answer) => self.answered(who, answer),
+            Ok(answer) => Ok(answer),
             Err(Stop::Refused(refusal)) => self.refuse(who, refusal),
             Err(Stop::NoMemory) => Err(AllocError),
         }
     }
 
-    /// The answer of the session's statement, alone.
-    fn answered(&self, who: SessionId, answer: Answer) -> Result<RowStep, NoMemory>
-        ensures replies { IfOk result (λ step. step.replies ≡ (who, answer.reply) ∷ []) }
-        ensures effects { IfOk result (λ step. step.effects ≡ answer.effects) }
+    /// Answers with a refusal, which aborts the block that its session is in.
+    pub(crate) fn refuse(&mut self, who: SessionId, refusal: Refusal) -> Result<Answer, NoMemory>
+        ensures { let marks = abort who ((seen self.old).session who).block ((seen self.old).session who).txid refusal in
+            IfOk result (λ answer. GivesOutcome (seen self.old) (seen self.new) answer (record { reply = Refused refusal; marks = marks })) }
     {
-        let mut replies = Replies::new(self.alloc);
-        replies.push(who, answer.reply)?;
-        Ok(RowStep {
-            replies,
-            effects: answer.effects,
+        if !aborts(&refusal) {
+            return Ok(Answer::only(self.alloc, Reply::Refused(refusal)));
+        }
+        let effects = self.roll_back(who)?;
+        Ok(Answer {
+            reply: Reply::Refused(refusal),
+            effects,
         })
     }
 
-    /// Answers with a refusal, which aborts the block that its session is in.
-    fn refuse(&mut self, who: SessionId, refusal: Refusal) -> Result<RowStep, NoMemory>
-        ensures { IfOk result (λ step. GivesStep (seen self.old) (seen self.new) step ((who, Refused refusal) ∷ [])
-            (abort who ((seen self.old).session who).block ((seen self.old).session who).txid refusal)) }
-    {
-        let effects = match &refusal {
-            Refusal::AlreadyOpen => Effects::new(self.alloc),
-            _ => self.roll_back(who)?,
-        };
-        self.answered(
-            who,
-            Answer {
-                reply: Reply::Refused(refusal),
-                effects,
-            },
-        )
-    }
-
     fn run_form(&mut self, who: SessionId, stmt: &RowStmt) -> Result<Answer, Stop>
+        requires { where_of_row stmt.now ≡ WhenReading → is_waiting who (seen self.old).waiting ≡ false }
         ensures { Ran self.old self.new result (row_form (seen self.old) (rows_by (seen self.old)) who stmt.now) }
     {
         match stmt {
             RowStmt::OpenDb { name: _ } => Err(Stop::Refused(Refusal::AlreadyOpen)),
             RowStmt::Close => self.close(who),
-            RowStmt::Cancel => Ok(Answer::only(self.alloc, Reply::NotWaiting)),
+            RowStmt::Cancel => self.cancel(who),
             RowStmt::Begin => self.begin(who),
             RowStmt::BeginRepeatableRead => self.begin_repeatable_read(who),
             RowStmt::Commit => self.commit(who),
@@ -118,6 +128,22 @@ impl RowDb {
         Ok(Answer {
             reply: Reply::Done,
             effects,
+        })
+    }
+
+    /// `cancel`: the session waits no longer, and its block is rolled back.
+    fn cancel(&mut self, who: SessionId) -> Result<Answer, Stop>
+        ensures { let s = (seen self.old).session who in
+            Ran self.old self.new result (cancel who s.txid s.block (is_waiting who (seen self.old).waiting)) }
+    {
+        if !self.waits(who) {
+            return Ok(Answer::only(self.alloc, Reply::NotWaiting));
+        }
+        self.waited(who);
+        let undone = self.roll_back(who)?;
+        Ok(Answer {
+            reply: Reply::Refused(Refusal::Canceled),
+            effects: undone,
         })
     }
 

@@ -4,7 +4,7 @@ ghost use Rattle.std.specs.Prelude.{◌≡◌, ◌<◌, [], ◌∷◌, Ok, Some,
 ghost use Rattle.std.specs.Option.{option_copied};
 ghost use Rattle.std.specs.List.{list_any};
 ghost use Rattle.sky_val.specs.Schemas.{schema_fault, key_columns};
-ghost use Rattle.sky_model.specs.Outcome.{found_or};
+ghost use Rattle.sky_model.specs.Outcome.{refused_by, found_or};
 ghost use Rattle.sky_model.specs.StepRows as spec;
 ghost use Rattle.sky_session.specs.Gives.{StopsAs};
 
@@ -103,7 +103,7 @@ fn changes(sets: &[Set], column: &Text) -> bool
 /// or such that its column can't change so.
 pub(crate) fn sets_fit(alloc: Global, columns: &[Column], sets: &[Set]) -> Result<(), Stop>
     ensures ok { OnOk result (spec.bad_sets columns.now [] sets.now ≡ None) }
-    ensures err { IfErr result (λ stop. StopsAs stop (spec.refused_by (option_map Refusal.BadRow (spec.bad_sets columns.now [] sets.now)))) }
+    ensures err { IfErr result (λ stop. StopsAs stop (refused_by (option_map Refusal.BadRow (spec.bad_sets columns.now [] sets.now)))) }
 {
     for (place, set) in sets.iter().enumerate() {
         let Some(column) = column_called(columns, &set.column) else {
@@ -256,8 +256,8 @@ fn copy_columns(alloc: Global, columns: &[Column]) -> Result<Vec<Column>, NoMemo
 /// The schema of the columns of a new table.
 pub(crate) fn new_schema(alloc: Global, columns: &Columns) -> Result<Schema, Stop>
     ensures schema { IfOk result (λ schema. schema ≡ columns.now) }
-    ensures ok { OnOk result (spec.refused_by (option_map (spec.schema_refusal columns.now) (schema_fault columns.now)) ≡ Ok tt) }
-    ensures err { IfErr result (λ stop. StopsAs stop (spec.refused_by (option_map (spec.schema_refusal columns.now) (schema_fault columns.now)))) }
+    ensures ok { OnOk result (refused_by (option_map (spec.schema_refusal columns.now) (schema_fault columns.now)) ≡ Ok tt) }
+    ensures err { IfErr result (λ stop. StopsAs stop (refused_by (option_map (spec.schema_refusal columns.now) (schema_fault columns.now)))) }
 {
     let columns = columns.as_slice();
     match Schema::new(copy_columns(alloc, columns)?) {

@@ -1,5 +1,5 @@
 -- What a database shows, after what the code changed in it.
-use Rattle.std.proofs.Common.{Err, is_ok, drop, ◌≡◌, ℕ, suc, zero, ℤ, ◌+◌, ◌<◌, ◌≤◌, ◌^◌, List, [], ◌∷◌, ◌++◌, Bool, true, false, not, ◌||◌, ◌==◌, nat_le, Option, Some, None, Result, Ok, Vec, Global, IfOk, is_some, length, get_or, slice_set, get_or-set_same, get_or-set_other, ◌≢◌, option_map, filter, nat_cmp, cond, refl, sym, ◌∙◌, ap, subst, arith, if◌then◌else◌}
+use Rattle.std.proofs.Common.{Err, is_ok, drop, ◌≡◌, ℕ, suc, zero, ℤ, ◌+◌, ◌<◌, ◌≤◌, ◌^◌, List, [], ◌∷◌, ◌++◌, Bool, true, false, ◌||◌, ◌==◌, nat_le, Option, Some, None, Result, Ok, Vec, Global, IfOk, is_some, length, get_or, slice_set, get_or-set_same, get_or-set_other, ◌≢◌, option_map, filter, nat_cmp, cond, refl, sym, ◌∙◌, ap, subst, arith, if◌then◌else◌}
 use Rattle.std.proofs.lemmas.Bool.Decides.{nat_tests}
 use Rattle.std.proofs.lemmas.List.Elements.{All-filter}
 use Rattle.std.proofs.lemmas.Result.{IfOk-weaker}
@@ -20,8 +20,7 @@ use Rattle.sky_model.specs.Moment.{HasMoment}
 use Rattle.sky_model.specs.Printed.{EventsHaveMoments}
 use Rattle.sky_model.specs.declared.stmt.Stmt.{Stmt}
 use Rattle.sky_model.specs.declared.stmt.Where.{Where}
-use Rattle.sky_model.specs.declared.stmt.RowStmt.{RowStmt}
-use Rattle.sky_model.specs.History.{Mark, began, ended, block_begun, repeats, looked, block_failed, block_ended, tabled, table_made, wrote, queued, made, raised, put, ticked, opened}
+use Rattle.sky_model.specs.History.{Mark, began, ended, block_begun, repeats, looked, block_failed, block_ended, tabled, table_made, wrote, waits, waited, queued, made, raised, put, ticked, opened}
 use Rattle.sky_model.specs.Sessions.{Block, outside, inside, failed}
 use Rattle.sky_model.specs.Queues.{Tick, tick}
 use Rattle.sky_model.specs.Selection.{snapshot_at, is_selected, selected_in, selected}
@@ -33,15 +32,16 @@ use Rattle.sky_model.specs.OwnTransaction.{own_or_next, txid_for, begin_of, comm
 use Rattle.sky_model.specs.StepQueue.{create_queue, insert_event, queue_called, next_event_id, made_event}
 use Rattle.sky_model.specs.Allowed.{where_of}
 use Rattle.sky_model.specs.Made.{Making, takes_sight, runs, looking, runs_if}
-use Rattle.sky_model.specs.Reader.{part_by_itself, database_by_itself, shown_by}
-use Rattle.sky_model.specs.Calls.{row_statement, form, making, statement}
-use Rattle.sky_model.proofs.RowOutcomes.{RowMarks, row_statement-rows}
+use Rattle.sky_model.specs.Reader.{database_by_itself, within_part, shown_by}
+use Rattle.sky_model.specs.Settling.{Turn, turn_of, behind_marks, settling, with_settling}
+use Rattle.sky_model.specs.Calls.{form, making, statement}
+use Rattle.sky_model.proofs.RowOutcomes.{RowMarks, TurnOfRows}
 use Rattle.sky_session.specs.declared.answer.RowStep.{RowStep}
 use Rattle.sky_session.specs.Effects.{effects_of}
 use Rattle.sky_session.specs.declared.effect.Effect.{Effect}
 use Rattle.sky_session.specs.declared.effect.Effect.TheVariants.{Wrote, Committed, Aborted}
 use Rattle.sky_session.specs.Marks.{look_of, single_end, failure}
-use Rattle.sky_session.specs.Gives.{GivesStep, Enters}
+use Rattle.sky_session.specs.Gives.{GivesTurn, Enters}
 use Rattle.sky_session.specs.Views.{RowDbView}
 use Rattle.sky_session.specs.Seen.{seen}
 use Rattle.sky_world.specs.declared.batch.Batch.{Batch}
@@ -360,19 +360,25 @@ after-row_marks d (looked who ∷ marks) rows = after-row_marks (after_mark d (l
 after-row_marks d (block_failed who ∷ marks) rows = after-row_marks (after_mark d (block_failed who)) marks rows
 after-row_marks d (block_ended who ∷ marks) rows = after-row_marks (after_mark d (block_ended who)) marks rows
 after-row_marks d (tabled (table_made name columns) ∷ marks) rows = after-row_marks (after_mark d (tabled (table_made name columns))) marks rows
-after-row_marks d (tabled (wrote t table key old new) ∷ marks) rows = after-row_marks (after_mark d (tabled (wrote t table key old new))) marks rows
+after-row_marks d (tabled (wrote who t table key old new) ∷ marks) rows = after-row_marks (after_mark d (tabled (wrote who t table key old new))) marks rows
+after-row_marks d (tabled (waits who table key attempt) ∷ marks) rows = after-row_marks (after_mark d (tabled (waits who table key attempt))) marks rows
+after-row_marks d (tabled (waited who) ∷ marks) rows = after-row_marks (after_mark d (tabled (waited who))) marks rows
 after-row_marks d (queued mark ∷ marks) rows = absurd rows
 
--- what a statement on rows gives
-pub gives-rows : (d s1 s2 : Database) (who : ℕ) (stmt : RowStmt) (step : RowStep)
-    → GivesStep d.part s1.part step ((who, (row_statement part_by_itself d.part who stmt).reply) ∷ []) (row_statement part_by_itself d.part who stmt).marks
-    → s1 ≡ record d { part = s1.part } → s2 ≡ record s1 { undone = undone_by step.effects s1.undone }
-    → Gives d s2 step.replies who (row_statement part_by_itself d.part who stmt)
-gives-rows d s1 s2 who stmt step gives but noted = record {
+-- marks of rows, with those noted that were rolled back
+noted-as : (d s1 s2 : Database) (marks : List Mark) (effects : List Effect) → RowMarks marks → s1.part ≡ after_part_marks d.part marks → effects ≡ effects_of marks
+    → s1 ≡ record d { part = s1.part } → s2 ≡ record s1 { undone = undone_by effects s1.undone } → s2 ≡ after_marks d marks
+noted-as d s1 s2 marks effects rows changed told but noted =
+    noted ∙ (λ i. record (but i) { undone = undone_by (told i) (but i).undone })
+    ∙ ap (λ part. record d { part = part; undone = undone_by (effects_of marks) d.undone }) changed
+    ∙ sym (after-row_marks d marks rows)
+
+-- what a turn on rows gives
+pub gives-rows : (d s1 s2 : Database) (turn : Turn) (step : RowStep) → TurnOfRows turn → GivesTurn d.part s1.part step turn
+    → s1 ≡ record d { part = s1.part } → s2 ≡ record s1 { undone = undone_by step.effects s1.undone } → Gives d s2 step.replies turn
+gives-rows d s1 s2 turn step rows gives but noted = record {
   replied = gives.replied;
-  changed = noted ∙ (λ i. record (but i) { undone = undone_by (gives.told i) (but i).undone })
-      ∙ ap (λ part. record d { part = part; undone = undone_by (effects_of (row_statement part_by_itself d.part who stmt).marks) d.undone }) gives.changed
-      ∙ sym (after-row_marks d (row_statement part_by_itself d.part who stmt).marks (row_statement-rows d.part who stmt).marks);
+  changed = noted-as d s1 s2 turn.marks step.effects rows.marks gives.changed gives.told but noted;
 }
 
 -- and a block that is aborted
@@ -382,14 +388,22 @@ failure-rows who None inside = tt
 failure-rows who (Some t) inside = tt
 failure-rows who txid failed = tt
 
-pub failed-as : (d s1 s2 : Database) (who : ℕ) (step : RowStep)
-    → GivesStep d.part s1.part step [] (failure who (d.part.session who).txid (d.part.session who).block)
-    → s1 ≡ record d { part = s1.part } → s2 ≡ record s1 { undone = undone_by step.effects s1.undone }
+pub failed-as : (d s1 s2 : Database) (who : ℕ) (effects : List Effect)
+    → s1.part ≡ after_part_marks d.part (failure who (d.part.session who).txid (d.part.session who).block)
+    → effects ≡ effects_of (failure who (d.part.session who).txid (d.part.session who).block)
+    → s1 ≡ record d { part = s1.part } → s2 ≡ record s1 { undone = undone_by effects s1.undone }
     → s2 ≡ after_marks d (failure who (d.part.session who).txid (d.part.session who).block)
-failed-as d s1 s2 who step gives but noted =
-    noted ∙ (λ i. record (but i) { undone = undone_by (gives.told i) (but i).undone })
-    ∙ ap (λ part. record d { part = part; undone = undone_by (effects_of (failure who (d.part.session who).txid (d.part.session who).block)) d.undone }) gives.changed
-    ∙ sym (after-row_marks d (failure who (d.part.session who).txid (d.part.session who).block) (failure-rows who (d.part.session who).txid (d.part.session who).block))
+failed-as d s1 s2 who effects =
+    noted-as d s1 s2 (failure who (d.part.session who).txid (d.part.session who).block) effects (failure-rows who (d.part.session who).txid (d.part.session who).block)
+
+-- marks one after the other
+pub after_marks-append : (d : Database) (xs ys : List Mark) → after_marks d (xs ++ ys) ≡ after_marks (after_marks d xs) ys
+after_marks-append d [] ys = refl
+after_marks-append d (x ∷ xs) ys = after_marks-append (after_mark d x) xs ys
+
+pub behind-all : (d : Database) (marks : List Mark) → behind_marks (within_part database_by_itself) d marks ≡ after_marks d marks
+behind-all d [] = refl
+behind-all d (mark ∷ marks) = behind-all (after_mark d mark) marks
 
 -- the rest of a list from a place on begins with what stands there
 drop-at : {A : Type 0} (xs : List A) (i : ℕ) (x d : A) → i < length xs → x ≡ get_or xs i d → drop i xs ≡ x ∷ drop (suc i) xs
@@ -487,9 +501,24 @@ replies-refused d s1 s2 who refusal reply checked refuses replied is =
       changed = is ∙ ap (λ (s : Database). after_marks s (abort who (s.part.session who).block (s.part.session who).txid refusal)) refuses.same;
     })
 
--- a reply of its own
-pub gives-reply : (d s : Database) (who : ℕ) (reply : Reply) (replies : List (ℕ × Reply)) (outcome : Outcome) → GivesReply d s reply outcome → replies ≡ (who, reply) ∷ [] → Gives d s replies who outcome
-gives-reply d s who reply replies outcome gives is = record { replied = is ∙ ap (λ r. (who, r) ∷ []) gives.replied; changed = gives.changed }
+-- a reply of its own, and then those of the statements that go on
+pub gives-settled : (d s1 s2 : Database) (who : ℕ) (reply : Reply) (own resumed all : List (ℕ × Reply)) (outcome : Outcome) → GivesReply d s1 reply outcome
+    → own ≡ (who, reply) ∷ [] → Gives s1 s2 resumed (settling (within_part database_by_itself) s1) → all ≡ own ++ resumed
+    → Gives d s2 all (with_settling (within_part database_by_itself) d (turn_of who outcome))
+gives-settled d s1 s2 who reply own resumed all outcome gives one later is = record {
+  replied = is ∙ ap (λ xs. xs ++ resumed) one ∙ ap (λ r. (who, r) ∷ resumed) gives.replied
+      ∙ ap (λ xs. (who, outcome.reply) ∷ xs) (later.replied ∙ ap (λ x. (settling (within_part database_by_itself) x).answers) there);
+  changed = later.changed
+      ∙ ap (λ x. after_marks x (settling (within_part database_by_itself) x).marks) there
+      ∙ ap (λ x. after_marks x (settling (within_part database_by_itself) place).marks) (behind-all d outcome.marks)
+      ∙ sym (after_marks-append d outcome.marks (settling (within_part database_by_itself) place).marks);
+}
+  where
+    place : Database
+    place = behind_marks (within_part database_by_itself) d outcome.marks
+
+    there : s1 ≡ place
+    there = gives.changed ∙ sym (behind-all d outcome.marks)
 
 -- ids that are spent keep an event from being made
 pub spent-events : (d : Database) (now : ℤ) (who : ℕ) (name : List ℕ) (ev_type ev_data : Option (List ℕ)) (extra : Option Extra) (q seq : ℕ) → queue_called name d ≡ Ok q

@@ -1,4 +1,5 @@
 pub mod TickLists
 pub mod SubLists
 pub mod Databases
+pub mod Waiters
 pub mod Worlds

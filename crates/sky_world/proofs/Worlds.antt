@@ -1,8 +1,9 @@
 -- What the world shows, after what the code changed in it.
 use Rattle.std.proofs.Common.{◌≡◌, ℕ, suc, zero, ◌+◌, ◌<◌, ◌≤◌, List, [], ◌∷◌, ◌++◌, Bool, true, false, ◌==◌, nat_le, Option, Some, None, map, length, append-nil, length-append, get_or, slice_set, get_or-set_same, get_or-set_other, ◌≢◌, refl, sym, ◌∙◌, ap, subst, arith, All, if◌then◌else◌, IfSome, ℤ, pos}
-use Rattle.std.proofs.lemmas.List.Elements.{All-from_recursion, All-weaker}
+use Rattle.std.proofs.lemmas.List.Elements.{All-cons, All-append, All-set, All-get_or, All-from_recursion, All-weaker}
 use Rattle.std.proofs.lemmas.Bool.Decides.{nat_tests}
 use Rattle.std.proofs.lemmas.Option.{get_or_from_slice_get, slice_get_read}
+use Rattle.sky_val.specs.Waits.{Waiting}
 use Rattle.sky_names.specs.Places.{place_of}
 use Rattle.sky_names.proofs.PlaceLemmas.{place_of_within}
 use Rattle.sky_model.specs.declared.stmt.Stmt.{Stmt}
@@ -12,20 +13,22 @@ use Rattle.sky_model.specs.declared.reply.Limit.TheVariants.{Sessions}
 use Rattle.sky_model.specs.declared.reply.Reply.{Reply}
 use Rattle.sky_model.specs.History.{Mark, Fact, appeared, founded, entered, left, within}
 use Rattle.sky_model.specs.State.{Database, database_of, changed_at, after_mark, after_marks}
-use Rattle.sky_model.specs.Outcome.{Outcome}
 use Rattle.sky_model.specs.World.{World, world_of, after_fact, after_facts}
 use Rattle.sky_model.specs.Printed.{ReplyHasMoments, HaveMoments}
 use Rattle.sky_model.specs.Reader.{database_by_itself, within_database, by_world, Deed, refuses, appears, joined, followed}
-use Rattle.sky_model.specs.Calls.{Call, statement, deed_in, turn, called}
+use Rattle.sky_model.specs.Settling.{Turn}
+use Rattle.sky_model.specs.Calls.{Call, database_turn, deed_in, turn, called}
 use Rattle.sky_model.specs.Steps.{Steps, deed_at}
 use Rattle.sky_model.proofs.Standing.{steps_from_exact}
-use Rattle.sky_model.proofs.RowStanding.{statement-within}
+use Rattle.sky_model.proofs.RowStanding.{turn-within}
 use Rattle.sky_session.proofs.Empty.{seen-no_rows}
 use Rattle.sky_world.specs.Views.{DatabaseView, WorldView}
 use Rattle.sky_world.specs.Seen.{seen_database, no_database, seen_world}
 use Rattle.sky_world.specs.Homes.{HomesWithin}
+use Rattle.sky_world.specs.Waiters.{WaitersWithin, AllWaitersWithin}
 use Rattle.sky_world.specs.Gives.{Gives}
 use Rattle.sky_world.specs.GivesDeed.{GivesDeed}
+use Rattle.sky_world.proofs.Waiters.{TurnWithin, turn-known}
 
 -- marks in a database change that database alone
 pub after_facts-within : (w : World) (d : ℕ) (marks : List Mark) → after_facts w (map (within d) marks) ≡ record w { database = changed_at d (λ x. after_marks x marks) w.database }
@@ -128,10 +131,10 @@ pub stored-more : (old longer : List DatabaseView) (new : DatabaseView) (homes :
 stored-more old longer new homes is all =
     subst (λ n. HomesWithin n homes) (sym (ap length is ∙ length-append old (new ∷ []))) (homes-more (length old) (length old + 1) homes (omega arith) all)
 
-pub length-homes : (homes : List (Option ℕ)) (who : ℕ) (at : Option ℕ) → length (slice_set homes who at) ≡ length homes
-length-homes [] who at = refl
-length-homes (_ ∷ homes) zero at = refl
-length-homes (_ ∷ homes) (suc who) at = ap suc (length-homes homes who at)
+pub length-changed : {A : Type 0} (xs : List A) (i : ℕ) (x : A) → length (slice_set xs i x) ≡ length xs
+length-changed [] i x = refl
+length-changed (_ ∷ xs) zero x = refl
+length-changed (_ ∷ xs) (suc i) x = ap suc (length-changed xs i x)
 
 -- an entry that is read as those past the end changes nothing that is shown
 seen-push : {A B : Type 0} (f : A → B) (xs : List A) (x d : A) (n : ℕ) → f x ≡ f d → f (get_or (xs ++ x ∷ []) n d) ≡ f (get_or xs n d)
@@ -195,16 +198,16 @@ after_facts-append w (x ∷ xs) ys = after_facts-append (after_fact w x) xs ys
 -- what a statement of a database gives in the world
 pub gives-within : (v now : WorldView) (d who : ℕ) (old new : DatabaseView) (stmt : Stmt) (replies : List (ℕ × Reply)) (t : ℤ) → v ≡ now → d < length now.stores
     → old ≡ get_or v.stores d old → t ≡ v.now
-    → Gives (seen_database old) (seen_database new) replies who (statement database_by_itself (seen_database old) t who stmt)
+    → Gives (seen_database old) (seen_database new) replies (database_turn database_by_itself (seen_database old) t who stmt)
     → GivesDeed (seen_world now) (seen_world (record v { stores = slice_set v.stores d new })) replies
-    (deed_in who d false (statement (within_database by_world d) (seen_world now) (seen_world now).now who stmt))
+    (deed_in who d false (database_turn (within_database by_world d) (seen_world now) (seen_world now).now who stmt))
 gives-within v now d who old new stmt replies t same lt at is gives = record {
-  answered = gives.replied ∙ ap (λ (o : Outcome). (who, o.reply) ∷ []) outcome_is;
+  answered = gives.replied ∙ ap Turn.answers turn_is;
   changed = shown
-      ∙ ap (λ (o : Outcome). record (seen_world v) { database = changed_at d (λ y. after_marks y o.marks) (seen_world v).database }) outcome_is
-      ∙ sym (after_facts-within (seen_world v) d outcome.marks)
-      ∙ ap (λ w. after_facts (seen_world w) (map (within d) outcome.marks)) same
-      ∙ ap (λ facts. after_facts (seen_world now) facts) (sym (append-nil (map (within d) outcome.marks)));
+      ∙ ap (λ (u : Turn). record (seen_world v) { database = changed_at d (λ y. after_marks y u.marks) (seen_world v).database }) turn_is
+      ∙ sym (after_facts-within (seen_world v) d whole.marks)
+      ∙ ap (λ w. after_facts (seen_world w) (map (within d) whole.marks)) same
+      ∙ ap (λ facts. after_facts (seen_world now) facts) (sym (append-nil (map (within d) whole.marks)));
 }
   where
     lt_there : d < length v.stores
@@ -213,18 +216,18 @@ gives-within v now d who old new stmt replies t same lt at is gives = record {
     there : get_or v.stores d no_database ≡ old
     there = get_or_from_slice_get v.stores d old no_database (slice_get_read v.stores (length v.stores) d old refl lt_there at)
 
-    outcome : Outcome
-    outcome = statement (within_database by_world d) (seen_world now) (seen_world now).now who stmt
+    whole : Turn
+    whole = database_turn (within_database by_world d) (seen_world now) (seen_world now).now who stmt
 
-    done : Outcome
-    done = statement database_by_itself (seen_database old) t who stmt
+    done : Turn
+    done = database_turn database_by_itself (seen_database old) t who stmt
 
-    outcome_is : done ≡ outcome
-    outcome_is =
-        ap (λ x. statement database_by_itself (seen_database old) x who stmt) is
-        ∙ ap (λ x. statement database_by_itself (seen_database x) v.now who stmt) (sym there)
-        ∙ ap (λ (w : WorldView). statement database_by_itself ((seen_world w).database d) w.now who stmt) same
-        ∙ sym (statement-within (seen_world now) d (seen_world now).now who stmt)
+    turn_is : done ≡ whole
+    turn_is =
+        ap (λ x. database_turn database_by_itself (seen_database old) x who stmt) is
+        ∙ ap (λ x. database_turn database_by_itself (seen_database x) v.now who stmt) (sym there)
+        ∙ ap (λ (w : WorldView). database_turn database_by_itself ((seen_world w).database d) w.now who stmt) same
+        ∙ sym (turn-within (seen_world now) d (seen_world now).now who stmt)
 
     by : (n : ℕ) (b : Bool) → (d == n) ≡ b → seen_database (if b then new else get_or v.stores n no_database)
         ≡ (if b then after_marks (seen_database (get_or v.stores n no_database)) done.marks else seen_database (get_or v.stores n no_database))
@@ -241,18 +244,18 @@ gives-within v now d who old new stmt replies t same lt at is gives = record {
     }
 
 -- a statement with which its session stays
-pub gives-stayed : (old new : World) (d who : ℕ) (leaving : Bool) (replies : List (ℕ × Reply)) (outcome : Outcome) → leaving ≡ false → GivesDeed old new replies (deed_in who d false outcome)
-    → GivesDeed old new replies (deed_in who d leaving outcome)
-gives-stayed old new d who leaving replies outcome stays gives = subst (λ b. GivesDeed old new replies (deed_in who d b outcome)) (sym stays) gives
+pub gives-stayed : (old new : World) (d who : ℕ) (leaving : Bool) (replies : List (ℕ × Reply)) (turn : Turn) → leaving ≡ false → GivesDeed old new replies (deed_in who d false turn)
+    → GivesDeed old new replies (deed_in who d leaving turn)
+gives-stayed old new d who leaving replies turn stays gives = subst (λ b. GivesDeed old new replies (deed_in who d b turn)) (sym stays) gives
 
 -- and one with which it leaves
-pub gives-left : (old s new : World) (d who : ℕ) (leaving : Bool) (replies : List (ℕ × Reply)) (outcome : Outcome) → leaving ≡ true → GivesDeed old s replies (deed_in who d false outcome)
-    → new ≡ after_fact s (left who) → GivesDeed old new replies (deed_in who d leaving outcome)
-gives-left old s new d who leaving replies outcome leaves gives is =
-    subst (λ b. GivesDeed old new replies (deed_in who d b outcome)) (sym leaves) (record {
+pub gives-left : (old s new : World) (d who : ℕ) (leaving : Bool) (replies : List (ℕ × Reply)) (turn : Turn) → leaving ≡ true → GivesDeed old s replies (deed_in who d false turn)
+    → new ≡ after_fact s (left who) → GivesDeed old new replies (deed_in who d leaving turn)
+gives-left old s new d who leaving replies turn leaves gives is =
+    subst (λ b. GivesDeed old new replies (deed_in who d b turn)) (sym leaves) (record {
       answered = gives.answered;
-      changed = is ∙ ap (λ w. after_fact w (left who)) (gives.changed ∙ ap (λ facts. after_facts old facts) (append-nil (map (within d) outcome.marks)))
-          ∙ sym (after_facts-append old (map (within d) outcome.marks) (left who ∷ []));
+      changed = is ∙ ap (λ w. after_fact w (left who)) (gives.changed ∙ ap (λ facts. after_facts old facts) (append-nil (map (within d) turn.marks)))
+          ∙ sym (after_facts-append old (map (within d) turn.marks) (left who ∷ []));
     })
 
 -- a call of a session that is known
@@ -298,23 +301,79 @@ answers-new old with_it new call who replies place room is number gives = record
 pub steps-answered : (old new : World) (call : Call) (replies : List (ℕ × Reply)) → GivesDeed old new replies (deed_at old call) → Steps old new call replies
 steps-answered old new call replies gives = steps_from_exact old new call replies gives.answered gives.changed
 
--- an answer of its own
-abbrev IsOf : ℕ → ℕ × Reply → Type 0
-IsOf who answer = answer.0 ≡ who
-
+-- events that were made at times that are printed
 abbrev HasMoments : ℕ × Reply → Type 0
 HasMoments answer = ReplyHasMoments answer.1
 
-pub one-own : (who : ℕ) (replies : List (ℕ × Reply)) (reply : Reply) → replies ≡ (who, reply) ∷ [] → All (λ answer. answer.0 ≡ who) replies
-one-own who replies reply is = subst (All (IsOf who)) (sym is) (All-from_recursion (IsOf who) ((who, reply) ∷ []) (refl, tt))
-
--- whose events were made at times that are printed
 pub one-moments : (who : ℕ) (replies : List (ℕ × Reply)) (reply : Reply) → replies ≡ (who, reply) ∷ [] → ReplyHasMoments reply → HaveMoments replies
 one-moments who replies reply is has = subst (All HasMoments) (sym is) (All-from_recursion HasMoments ((who, reply) ∷ []) (has, tt))
 
--- answers of a session that is there
+pub same-moments : (replies answers : List (ℕ × Reply)) → replies ≡ answers → HaveMoments answers → HaveMoments replies
+same-moments replies answers is have = subst (All HasMoments) (sym is) have
+
+-- those of an answer of its own, and of the answers of statements that go on
+pub settled-moments : (who : ℕ) (reply : Reply) (own resumed all : List (ℕ × Reply)) → own ≡ (who, reply) ∷ [] → ReplyHasMoments reply → HaveMoments resumed → all ≡ own ++ resumed → HaveMoments all
+settled-moments who reply own resumed all one has have is =
+    subst (All HasMoments) (sym (is ∙ ap (λ xs. xs ++ resumed) one)) (All-cons HasMoments (who, reply) resumed has have)
+
+-- answers of sessions that are there
+abbrev IsKnown : ℕ → ℕ × Reply → Type 0
+IsKnown count answer = answer.0 < count
+
 abbrev IsWithin : ℕ → ℕ × Reply → Type 0
 IsWithin count answer = answer.0 ≤ count
 
-pub own-numbered : (who count : ℕ) (replies : List (ℕ × Reply)) → who ≤ count → All (λ (answer : ℕ × Reply). answer.0 ≡ who) replies → All (λ (answer : ℕ × Reply). answer.0 ≤ count) replies
-own-numbered who count replies le all = All-weaker (IsOf who) (IsWithin count) (λ answer e. subst (λ n. n ≤ count) (sym e) le) replies all
+pub one-known : (who count : ℕ) (replies : List (ℕ × Reply)) (reply : Reply) → replies ≡ (who, reply) ∷ [] → who < count → All (λ (answer : ℕ × Reply). answer.0 < count) replies
+one-known who count replies reply is lt = subst (All (IsKnown count)) (sym is) (All-from_recursion (IsKnown count) ((who, reply) ∷ []) (lt, tt))
+
+pub known-numbered : (count more : ℕ) (replies : List (ℕ × Reply)) → count ≤ more → All (λ (answer : ℕ × Reply). answer.0 < count) replies → All (λ (answer : ℕ × Reply). answer.0 ≤ more) replies
+known-numbered count more replies le all = All-weaker (IsKnown count) (IsWithin more) (λ answer lt. omega (arith, lt, le)) replies all
+
+-- ---- those that wait
+
+abbrev HasWaitersWithin : ℕ → DatabaseView → Type 0
+HasWaitersWithin count d = WaitersWithin count d.rows.locks.waiting
+
+abbrev WaitsWithin : ℕ → Waiting → Type 0
+WaitsWithin count w = w.who < count
+
+-- with more sessions
+pub waiters-more : (count more : ℕ) (stores : List DatabaseView) → count ≤ more → AllWaitersWithin count stores → AllWaitersWithin more stores
+waiters-more count more stores le all =
+    All-weaker (HasWaitersWithin count) (HasWaitersWithin more)
+    (λ d within. All-weaker (WaitsWithin count) (WaitsWithin more) (λ w lt. omega (arith, lt, le)) d.rows.locks.waiting within) stores all
+
+-- with a new database
+pub waiters-founded : (count : ℕ) (old longer : List DatabaseView) (new : DatabaseView) → longer ≡ old ++ new ∷ [] → seen_database new ≡ database_of [] → AllWaitersWithin count old
+    → AllWaitersWithin count longer
+waiters-founded count old longer new is empty all =
+    subst (All (HasWaitersWithin count)) (sym is)
+    (All-append (HasWaitersWithin count) old (new ∷ []) all
+    (All-from_recursion (HasWaitersWithin count) (new ∷ []) (subst (λ (d : Database). WaitersWithin count d.part.waiting) (sym empty) (λ k w at. absurd (omega arith)), tt)))
+
+-- a statement of a database is answered to sessions that are there, and leaves none waiting that isn't
+pub known-within : (v now : WorldView) (d who : ℕ) (old new : DatabaseView) (stmt : Stmt) (replies : List (ℕ × Reply)) (t : ℤ) → v ≡ now → d < length now.stores
+    → old ≡ get_or v.stores d old → who < length now.homes → AllWaitersWithin (length v.homes) v.stores
+    → Gives (seen_database old) (seen_database new) replies (database_turn database_by_itself (seen_database old) t who stmt)
+    → All (λ (answer : ℕ × Reply). answer.0 < length now.homes) replies × AllWaitersWithin (length v.homes) (slice_set v.stores d new)
+known-within v now d who old new stmt replies t same lt at known all gives = (
+  subst (λ (w : WorldView). All (IsKnown (length w.homes)) replies) same (subst (All (IsKnown (length v.homes))) (sym gives.replied) within.answers),
+  All-set (HasWaitersWithin (length v.homes)) v.stores d new (subst (λ (x : Database). WaitersWithin (length v.homes) x.part.waiting) (sym gives.changed) within.waiting) all,
+)
+  where
+    lt_there : d < length v.stores
+    lt_there = subst (λ (w : WorldView). d < length w.stores) (sym same) lt
+
+    there : get_or v.stores d no_database ≡ old
+    there = get_or_from_slice_get v.stores d old no_database (slice_get_read v.stores (length v.stores) d old refl lt_there at)
+
+    within : TurnWithin (length v.homes) (seen_database old) (database_turn database_by_itself (seen_database old) t who stmt)
+    within = turn-known (length v.homes) (seen_database old) t who stmt (subst (λ (w : WorldView). who < length w.homes) (sym same) known)
+        (subst (λ (x : DatabaseView). WaitersWithin (length v.homes) x.rows.locks.waiting) there (All-get_or (HasWaitersWithin (length v.homes)) v.stores d no_database lt_there all))
+
+-- the database at a place is what is shown there
+pub store-at : (v now : WorldView) (d : ℕ) (store : DatabaseView) → v ≡ now → d < length now.stores → store ≡ get_or v.stores d store → seen_database store ≡ (seen_world now).database d
+store-at v now d store same lt at =
+    let there : d < length v.stores = subst (λ (w : WorldView). d < length w.stores) (sym same) lt in
+    ap seen_database (sym (get_or_from_slice_get v.stores d store no_database (slice_get_read v.stores (length v.stores) d store refl there at)))
+    ∙ ap (λ (w : WorldView). (seen_world w).database d) same

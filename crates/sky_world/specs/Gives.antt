@@ -1,5 +1,5 @@
 -- What a method of the code gives, by what the database showed.
-use Rattle.std.specs.Prelude.{◌≡◌, ℕ, Bool, true, false, List, [], ◌∷◌, Result, Ok, Err}
+use Rattle.std.specs.Prelude.{◌≡◌, ℕ, Bool, true, false, List, [], Result, Ok, Err}
 use Rattle.sky_model.specs.declared.stmt.Stmt.{Stmt}
 use Rattle.sky_model.specs.declared.stmt.Stmt.TheVariants.{Row}
 use Rattle.sky_model.specs.declared.reply.Reply.{Reply}
@@ -8,6 +8,7 @@ use Rattle.sky_model.specs.History.{Mark}
 use Rattle.sky_model.specs.Outcome.{Outcome, Checked}
 use Rattle.sky_model.specs.Printed.{ReplyHasMoments}
 use Rattle.sky_model.specs.State.{Database, after_marks}
+use Rattle.sky_model.specs.Settling.{Turn}
 use Rattle.sky_world.specs.Views.{DatabaseView}
 use Rattle.sky_world.specs.Seen.{seen_database}
 use Rattle.sky_world.specs.declared.stop.Stop.{Stop}
@@ -18,12 +19,12 @@ abbrev pub is_row : Stmt → Bool
 is_row (Row stmt) = true
 is_row _ = false
 
--- the outcome's answer is the only one, of this session, and the database is then as after its marks
-pub record Gives (old new : Database) (replies : List (ℕ × Reply)) (who : ℕ) (outcome : Outcome) : Type 0 where
-  pub replied : replies ≡ (who, outcome.reply) ∷ []
-  pub changed : new ≡ after_marks old outcome.marks
+-- the answers are the turn's, and the database is then as after its marks
+pub record Gives (old new : Database) (replies : List (ℕ × Reply)) (turn : Turn) : Type 0 where
+  pub replied : replies ≡ turn.answers
+  pub changed : new ≡ after_marks old turn.marks
 
--- the same of the answer alone
+-- the same of a statement's own answer
 pub record GivesReply (old new : Database) (reply : Reply) (outcome : Outcome) : Type 0 where
   pub replied : reply ≡ outcome.reply
   pub changed : new ≡ after_marks old outcome.marks

@@ -5,5 +5,6 @@ pub mod Seen
 pub mod Batches
 pub mod Gives
 pub mod Homes
+pub mod Waiters
 pub mod GivesDeed
 pub mod Undone

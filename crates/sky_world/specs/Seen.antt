@@ -1,5 +1,5 @@
 -- The readings of the definitions, in what the code keeps.
-use Rattle.std.specs.Prelude.{ℕ, Bool, List, [], Option, Some, None, option_map, map, slice_index_or}
+use Rattle.std.specs.Prelude.{ℕ, Bool, List, [], Option, None, option_map, map, slice_index_or}
 use Rattle.std.specs.List.{list_any}
 use Rattle.std.specs.Ordering.{nat_cmp}
 use Rattle.std.specs.BTreeMap.{is_at}

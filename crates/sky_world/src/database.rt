@@ -1,4 +1,5 @@
 ghost use Rattle.std.specs.Prelude.{◌≡◌, ℕ, ◌+◌, ◌<◌, ◌^◌, [], ◌∷◌, ◌++◌, ◌||◌, ◌==◌, true, if◌then◌else◌, Some, None, Ok, Err, IfOk, IfErr, OnOk, IfSome, IfNone, OnSome, Option, option_copied, option_map, length, is_ok};
+ghost use Rattle.sky_val.specs.Waits.{is_waiting};
 ghost use Rattle.sky_names.specs.Places.{place_of};
 ghost use Rattle.sky_model.specs.declared.stmt.Where.TheVariants.{WhenReading, WhenOutside};
 ghost use Rattle.sky_model.specs.History.{queued, made, raised, put, ticked, registered, opened, closed};
@@ -9,8 +10,9 @@ ghost use Rattle.sky_model.specs.Printed.{EventsHaveMoments, HaveMoments};
 ghost use Rattle.sky_model.specs.OwnTransaction.{txid_for, begin_of, commit_of};
 ghost use Rattle.sky_model.specs.StepQueue.{newest_id};
 ghost use Rattle.sky_model.specs.Selection.{selected};
-ghost use Rattle.sky_model.specs.Reader.{part_by_itself};
-ghost use Rattle.sky_model.specs.Calls.{row_statement};
+ghost use Rattle.sky_model.specs.Reader.{part_by_itself, database_by_itself, within_part};
+ghost use Rattle.sky_model.specs.Settling.{settling};
+ghost use Rattle.sky_model.specs.Calls.{row_turn};
 ghost use Rattle.sky_session.specs.Marks.{failure};
 ghost use Rattle.sky_session.specs.Gives.{Enters};
 ghost use Rattle.sky_world.specs.Ticks.{IsTime};
@@ -175,12 +177,29 @@ impl Database {
         self.rows.enter(who, outside)
     }
 
-    /// Runs a statement on rows.
+    /// Whether the session waits for another one's transaction.
+    pub fn waits(&self, who: SessionId) -> bool
+        ensures { result ≡ is_waiting who (seen_database self.now).part.waiting }
+    {
+        self.rows.waits(who)
+    }
+
+    /// Runs a statement on rows, and those that it lets go on.
     pub fn step(&mut self, who: SessionId, stmt: &RowStmt) -> Result<Replies, AllocError>
-        ensures gives { IfOk result (λ replies. Gives (seen_database self.old) (seen_database self.new) replies who (row_statement part_by_itself (seen_database self.old).part who stmt.now)) }
+        ensures gives { IfOk result (λ replies. Gives (seen_database self.old) (seen_database self.new) replies (row_turn part_by_itself (seen_database self.old).part who stmt.now)) }
         ensures moments { IfOk result HaveMoments }
     {
         let step = self.rows.step(who, stmt)?;
+        self.undo_aborted(&step.effects)?;
+        Ok(step.replies)
+    }
+
+    /// Runs the statements that may go on.
+    pub fn settle(&mut self) -> Result<Replies, AllocError>
+        ensures gives { IfOk result (λ replies. Gives (seen_database self.old) (seen_database self.new) replies (settling (within_part database_by_itself) (seen_database self.old))) }
+        ensures moments { IfOk result HaveMoments }
+    {
+        let step = self.rows.settle()?;
         self.undo_aborted(&step.effects)?;
         Ok(step.replies)
     }
@@ -190,8 +209,8 @@ impl Database {
         ensures { OnOk result (seen_database self.new ≡ after_marks (seen_database self.old)
             (failure who ((seen_database self.old).part.session who).txid ((seen_database self.old).part.session who).block)) }
     {
-        let step = self.rows.fail(who)?;
-        self.undo_aborted(&step.effects)?;
+        let effects = self.rows.roll_back(who)?;
+        self.undo_aborted(&effects)?;
         Ok(())
     }
 

@@ -16,7 +16,7 @@ ghost use Rattle.sky_model.specs.StepConsumer.{has_dot, opens_batch, register_co
 ghost use Rattle.sky_model.specs.Selection.{selected};
 ghost use Rattle.sky_model.specs.Allowed.{where_of};
 ghost use Rattle.sky_model.specs.Reader.{shown_by, database_by_itself};
-ghost use Rattle.sky_model.specs.Calls.{form, statement};
+ghost use Rattle.sky_model.specs.Calls.{form, statement, database_turn};
 ghost use Rattle.sky_world.specs.Ticks.{IsTime};
 ghost use Rattle.sky_world.specs.Seen.{seen_database};
 ghost use Rattle.sky_world.specs.Gives.{is_row, Gives, GivesReply, Does, Ran, StopsAs};
@@ -43,11 +43,11 @@ const MAX_CONSUMERS: usize = 256;
 const FORCED: u64 = 2 * MAX_COUNT + 1000;
 
 impl Database {
-    /// Runs a statement of a session that has this database open.
+    /// Runs a statement of a session that has this database open, and those that it lets go on.
     pub fn run(&mut self, now: i64, who: SessionId, stmt: &Stmt) -> Result<Replies, AllocError>
         requires { IsTime now }
-        ensures gives { IfOk result (λ replies. Gives (seen_database self.old) (seen_database self.new) replies who
-            (statement database_by_itself (seen_database self.old) now who stmt.now)) }
+        ensures gives { IfOk result (λ replies. Gives (seen_database self.old) (seen_database self.new) replies
+            (database_turn database_by_itself (seen_database self.old) now who stmt.now)) }
         ensures moments { IfOk result HaveMoments }
     {
         match stmt {
@@ -56,7 +56,7 @@ impl Database {
         }
     }
 
-    /// Runs a statement on queues, which answers once.
+    /// Runs a statement on queues, which answers once, and those that it lets go on.
     fn run_on_queues(
         &mut self,
         now: i64,
@@ -65,12 +65,14 @@ impl Database {
     ) -> Result<Replies, AllocError>
         requires time { IsTime now }
         requires kind { is_row stmt.now ≡ false }
-        ensures gives { IfOk result (λ replies. Gives (seen_database self.old) (seen_database self.new) replies who
-            (statement database_by_itself (seen_database self.old) now who stmt.now)) }
+        ensures gives { IfOk result (λ replies. Gives (seen_database self.old) (seen_database self.new) replies
+            (database_turn database_by_itself (seen_database self.old) now who stmt.now)) }
         ensures moments { IfOk result HaveMoments }
     {
         let reply = self.run_or_refuse(now, who, stmt)?;
-        let replies = one_reply(self.alloc(), who, reply)?;
+        let mut replies = one_reply(self.alloc(), who, reply)?;
+        let resumed = self.settle()?;
+        replies.append(resumed)?;
         Ok(replies)
     }
 
@@ -395,7 +397,7 @@ fn made_event(
 fn aborts(refusal: &Refusal) -> bool
     ensures { result ≡ aborts refusal.now }
 {
-    !matches!(refusal, Refusal::AlreadyOpen)
+    !matches!(refusal, Refusal::AlreadyOpen | Refusal::Busy)
 }
 
 /// Whether a statement on queues may stand in no block.

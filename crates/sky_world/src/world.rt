@@ -1,13 +1,13 @@
 ghost use Rattle.std.specs.Prelude.{◌≡◌, ◌+◌, ◌<◌, ◌≤◌, [], ◌∷◌, false, Some, None, IfOk, OnOk, IfSome, All, length};
+ghost use Rattle.sky_val.specs.Waits.{is_waiting};
 ghost use Rattle.sky_names.specs.Places.{place_of};
 ghost use Rattle.sky_model.specs.History.{appeared, founded, entered, left};
 ghost use Rattle.sky_model.specs.Printed.{HaveMoments, ReplyHasMoments};
 ghost use Rattle.sky_model.specs.World.{world_of, after_fact};
 ghost use Rattle.sky_model.specs.Reader.{within_database, by_world};
-ghost use Rattle.sky_model.specs.Calls.{statement, deed_in, opens, unopened, session_does, turn};
-ghost use Rattle.sky_model.specs.Calls as spec;
+ghost use Rattle.sky_model.specs.Calls.{database_turn, is_leaving, deed_in, opens, unopened, session_does, turn};
 ghost use Rattle.sky_model.specs.Steps.{Steps, deed_at};
-ghost use Rattle.sky_world.specs.Seen.{seen_world};
+ghost use Rattle.sky_world.specs.Seen.{seen_database, seen_world};
 ghost use Rattle.sky_world.specs.GivesDeed.{GivesDeed};
 
 use crate::database::Database;
@@ -32,13 +32,17 @@ pub struct World {
     homes: Vec<Option<usize>>,
     databases: Names,
     stores: Vec<Database>,
+    // Whether memory was wanting in the midst of a statement of a database. Who waits there isn't known
+    // then, so no statement is run in a database from then on.
+    is_cut: bool,
 }
 
 impl Model for World {
-    ghost use Rattle.std.specs.Prelude.{◌≡◌, ◌≤◌, length};
+    ghost use Rattle.std.specs.Prelude.{◌≡◌, ◌≤◌, false, length};
     ghost use Rattle.sky_world.specs.Views.{WorldView};
     ghost use Rattle.sky_world.specs.Ticks.{IsTime};
     ghost use Rattle.sky_world.specs.Homes.{HomesWithin};
+    ghost use Rattle.sky_world.specs.Waiters.{AllWaitersWithin};
 
     ghost Value = { WorldView };
 
@@ -51,7 +55,8 @@ impl Model for World {
     } };
 
     ghost invariant = { λ w. IsTime w.clock × (length w.homes.items ≡ length w.sessions)
-        × (length w.stores.items ≡ length w.databases) × HomesWithin (length w.stores.items) w.homes.items };
+        × (length w.stores.items ≡ length w.databases) × HomesWithin (length w.stores.items) w.homes.items
+        × (w.is_cut ≡ false → AllWaitersWithin (length w.homes.items) w.stores.items) };
 }
 
 impl World {
@@ -66,6 +71,7 @@ impl World {
             homes: Vec::new(alloc),
             databases: Names::new(alloc),
             stores: Vec::new(alloc),
+            is_cut: false,
         }
     }
 
@@ -76,8 +82,8 @@ impl World {
         self.sessions.as_slice()
     }
 
-    /// Runs a statement of the session of this name, and answers it. After want of memory nothing is said
-    /// of the world.
+    /// Runs a statement of the session of this name, and answers it and those that it lets go on. After want of
+    /// memory nothing is said of the world.
     pub fn step(&mut self, name: &Text, stmt: &Stmt) -> Result<Replies, NoMemory>
         ensures steps { IfOk result (λ replies. Steps (seen_world self.old) (seen_world self.new) (record { who = name.now; stmt = stmt.now }) replies) }
         ensures numbered { IfOk result (λ replies. All (λ answer. answer.0 ≤ length (seen_world self.new).sessions) replies) }
@@ -106,6 +112,7 @@ impl World {
     ) -> Result<Replies, AllocError>
         requires known { Some who ≡ place_of name.now self.old.sessions }
         requires within { who < length self.old.homes }
+        requires counted { length self.old.homes ≡ length self.old.sessions }
         ensures answers { IfOk result (λ replies. GivesDeed (seen_world self.old) (seen_world self.new) replies (deed_at (seen_world self.old) (record { who = name.now; stmt = stmt.now }))) }
         ensures numbered { IfOk result (λ replies. All (λ answer. answer.0 ≤ length self.new.sessions) replies) }
         ensures moments { IfOk result HaveMoments }
@@ -140,6 +147,7 @@ impl World {
     fn number(&self, name: &Text) -> Option<SessionId>
         ensures number { result ≡ place_of name.now self.now.sessions }
         ensures within { IfSome result (λ who. who < length self.now.homes) }
+        ensures counted { length self.now.homes ≡ length self.now.sessions }
     {
         // That each session has its place among the homes is the world's invariant.
         let _ = &self.homes;
@@ -172,7 +180,7 @@ impl World {
     fn run(&mut self, who: SessionId, stmt: &Stmt) -> Result<Replies, AllocError>
         requires { who < length self.old.homes }
         ensures gives { IfOk result (λ replies. GivesDeed (seen_world self.old) (seen_world self.new) replies (turn by_world who stmt.now (seen_world self.old))) }
-        ensures own { IfOk result (λ replies. All (λ answer. answer.0 ≡ who) replies) }
+        ensures known { IfOk result (λ replies. All (λ answer. answer.0 < length self.old.homes) replies) }
         ensures moments { IfOk result HaveMoments }
         ensures sessions { OnOk result (self.new.sessions ≡ self.old.sessions) }
     {
@@ -204,15 +212,35 @@ impl World {
         requires database { database < length self.old.stores }
         ensures gives { IfOk result (λ replies. GivesDeed (seen_world self.old) (seen_world self.new) replies
             (session_does by_world (seen_world self.old) who stmt.now (Some database))) }
-        ensures own { IfOk result (λ replies. All (λ answer. answer.0 ≡ who) replies) }
+        ensures known { IfOk result (λ replies. All (λ answer. answer.0 < length self.old.homes) replies) }
         ensures moments { IfOk result HaveMoments }
         ensures sessions { OnOk result (self.new.sessions ≡ self.old.sessions) }
     {
+        let leaving = self.is_leaving(database, who, stmt);
         let replies = self.run_there(database, who, stmt)?;
-        if is_close(stmt) {
+        if leaving {
             self.leave(who);
         }
         Ok(replies)
+    }
+
+    /// Whether the session leaves the database by the statement: by `close`, unless it waits.
+    fn is_leaving(&self, database: usize, who: SessionId, stmt: &Stmt) -> bool
+        requires { database < length self.now.stores }
+        ensures { result ≡ is_leaving (is_waiting who ((seen_world self.now).database database).part.waiting) stmt.now }
+    {
+        match stmt {
+            Stmt::Row(RowStmt::Close) => !self.store(database).waits(who),
+            _ => false,
+        }
+    }
+
+    /// The database of this number.
+    fn store(&self, database: usize) -> &Database
+        requires { database < length self.now.stores }
+        ensures { seen_database result.now ≡ (seen_world self.now).database database }
+    {
+        &self.stores[database]
     }
 
     /// Runs a statement in a database.
@@ -222,16 +250,25 @@ impl World {
         who: SessionId,
         stmt: &Stmt,
     ) -> Result<Replies, AllocError>
-        requires { database < length self.old.stores }
+        requires who { who < length self.old.homes }
+        requires database { database < length self.old.stores }
         ensures gives { IfOk result (λ replies. GivesDeed (seen_world self.old) (seen_world self.new) replies
-            (deed_in who database false (statement (within_database by_world database) (seen_world self.old) (seen_world self.old).now who stmt.now))) }
-        ensures own { IfOk result (λ replies. All (λ answer. answer.0 ≡ who) replies) }
+            (deed_in who database false (database_turn (within_database by_world database) (seen_world self.old) (seen_world self.old).now who stmt.now))) }
+        ensures known { IfOk result (λ replies. All (λ answer. answer.0 < length self.old.homes) replies) }
         ensures moments { IfOk result HaveMoments }
         ensures sessions { OnOk result (self.new.sessions ≡ self.old.sessions) }
         ensures homes { OnOk result (length self.new.homes ≡ length self.old.homes) }
     {
-        let replies = self.stores[database].run(self.clock, who, stmt)?;
-        Ok(replies)
+        if self.is_cut {
+            return Err(AllocError);
+        }
+        match self.stores[database].run(self.clock, who, stmt) {
+            Ok(replies) => Ok(replies),
+            Err(fault) => {
+                self.is_cut = true;
+                Err(fault)
+            }
+        }
     }
 
     /// A session has no database open from now on.
@@ -330,10 +367,4 @@ impl World {
     {
         self.homes[who as usize] = Some(database);
     }
-}
-
-fn is_close(stmt: &Stmt) -> bool
-    ensures { result ≡ spec.is_close stmt.now }
-{
-    matches!(stmt, Stmt::Row(RowStmt::Close))
 }

@@ -6,7 +6,8 @@ use Rattle.sky_model.specs.declared.stmt.Set.{Set}
 use Rattle.sky_model.specs.declared.reply.BadRow as bad
 use Rattle.sky_model.specs.declared.reply.BadRow.TheVariants.{Twice, «Type»}
 use Rattle.sky_model.specs.declared.reply.Refusal.TheVariants.{BadRow}
-use Rattle.sky_model.specs.StepRows.{refused_by, bad_sets}
+use Rattle.sky_model.specs.Outcome.{refused_by}
+use Rattle.sky_model.specs.StepRows.{bad_sets}
 use Rattle.sky_session.specs.declared.stop.Stop.{Stop}
 use Rattle.sky_session.specs.declared.stop.Stop.TheVariants.{Refused}
 use Rattle.sky_session.specs.Gives.{StopsAs}

@@ -2,16 +2,20 @@ use Rattle.std.proofs.Common.{◌≡◌, Some, ap, sym, subst, ◌∙◌}
 use Rattle.sky_trans.specs.Trans.{TransView}
 use Rattle.sky_session.specs.Views.{RowDbView}
 use Rattle.sky_session.specs.Seen.{seen}
-use Rattle.sky_session.proofs.Owning.{owned-end}
+use Rattle.sky_session.proofs.Owning.{owned-end, within-kept}
 use Rattle.sky_session.proofs.SessionLists.{aborted-as}
 use Rattle.sky_session.proofs.row_db.RowDb.aborted.Goals as goal
 
 pub invariant_of-self : goal.invariant_of-self
 invariant_of-self c = (
   c.forget_all.ensures.count ∙ c.self.invariant.0,
-  owned-end _ _ _ _ c.args.who c.args.txid c.end_txid.ensures (ap (λ (v : TransView). v.running) c.abort.ensures)
-      (subst (λ (d : RowDbView). ((seen d).session c.args.who).txid ≡ Some c.args.txid) (sym c.self.view_is) c.requires) c.self.invariant.1,
+  (
+    owned-end _ _ _ _ c.args.who c.args.txid c.end_txid.ensures (ap (λ (v : TransView). v.running) c.abort.ensures)
+        (subst (λ (d : RowDbView). ((seen d).session c.args.who).txid ≡ Some c.args.txid) (sym c.self.view_is) c.requires) c.self.invariant.1.0,
+    within-kept _ _ _ _ c.forget_all.ensures.count c.release.ensures.waiting c.self.invariant.1.1,
+  ),
 )
 
 pub returns : goal.returns
-returns c = aborted-as _ _ c.abort.new.self _ _ c.args.who c.args.txid c.self.view_is c.abort.ensures c.end_txid.ensures c.forget_all.ensures.columns c.forget_all.ensures.versions
+returns c = aborted-as _ _ c.abort.new.self _ _ c.release.new.self c.args.who c.args.txid c.self.view_is c.abort.ensures c.end_txid.ensures c.forget_all.ensures.columns c.forget_all.ensures.versions
+    c.release.ensures.held c.release.ensures.waiting

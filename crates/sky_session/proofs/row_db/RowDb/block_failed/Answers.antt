@@ -5,7 +5,7 @@ use Rattle.sky_session.proofs.Owning.{owned-kept, owned-change}
 use Rattle.sky_session.proofs.row_db.RowDb.block_failed.Goals as goal
 
 pub invariant_of-self : goal.invariant_of-self
-invariant_of-self c = (c.self.invariant.0, owned-kept _ _ _ c.in_err-fail.ensures.err c.self.invariant.1)
+invariant_of-self c = (c.self.invariant.0, (owned-kept _ _ _ c.in_err-fail.ensures.err c.self.invariant.1.0, c.self.invariant.1.1))
 
 pub invariant_of-self-2 : goal.invariant_of-self-2
-invariant_of-self-2 c = (c.self.invariant.0, owned-change _ _ _ c.args.who (without_sight failed) c.in_ok-fail.ensures.ok (λ s. refl) c.self.invariant.1)
+invariant_of-self-2 c = (c.self.invariant.0, (owned-change _ _ _ c.args.who (without_sight failed) c.in_ok-fail.ensures.ok (λ s. refl) c.self.invariant.1.0, c.self.invariant.1.1))

@@ -12,5 +12,5 @@ returns-in-Err-Refused c =
     let d = seen c.args.self.now in
     let mid = seen c.run_form.new.self in
     let checked = row_form d (rows_by d) c.args.who c.args.stmt.now in
-    IfOk-weaker c.refuse.result _ _ (λ step gives. gives-refused d mid (seen c.refuse.new.self) step c.args.who c.in-Err-Refused.refusal checked
+    IfOk-weaker c.refuse.result _ _ (λ answer gives. gives-refused d mid (seen c.refuse.new.self) answer c.args.who c.in-Err-Refused.refusal checked
     (subst (λ stop. Stops stop d mid checked) c.in-Err-Refused.field-0-is c.in-Err-Refused.ensures) gives) c.refuse.ensures

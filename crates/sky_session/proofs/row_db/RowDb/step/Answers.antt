@@ -1,28 +1,22 @@
-use Rattle.std.proofs.Common.{Some, None}
-use Rattle.std.proofs.lemmas.Result.{IfOk-weaker}
-use Rattle.sky_model.specs.Allowed.{where_of_row}
+-- The statement's own turn, and then those that it lets go on.
+use Rattle.std.proofs.Common.{[], ◌∷◌, ◌++◌, refl, ap, ◌∙◌}
+use Rattle.sky_model.specs.Settling.{turn_of}
+use Rattle.sky_model.specs.Reader.{part_by_itself}
+use Rattle.sky_model.specs.Calls.{row_statement}
+use Rattle.sky_session.specs.declared.answer.RowStep.{RowStep}
 use Rattle.sky_session.specs.Seen.{seen}
-use Rattle.sky_session.proofs.Steps.{entered, gives-barred, gives-made, steps-exact}
+use Rattle.sky_session.proofs.Steps.{gives-turn, gives-settled, steps-exact}
 use Rattle.sky_session.proofs.row_db.RowDb.step.Goals as goal
 
-pub returns-in-Some-clause-exact : goal.returns-in-Some-clause-exact
-returns-in-Some-clause-exact c =
+pub returns-clause-exact : goal.returns-clause-exact
+returns-clause-exact c =
     let d = seen c.args.self.now in
-    let mid = seen c.admit.new.self in
-    let barred = entered d mid c.args.who c.where_of.result (where_of_row c.args.stmt.now) _ (Some c.in-Some.refusal) c.where_of.ensures c.in-Some.is c.in_ok-refusal.ensures in
-    IfOk-weaker c.refuse.result _ _ (λ step gives. gives-barred d mid (seen c.refuse.new.self) step c.args.who c.args.stmt.now c.in-Some.refusal barred.0 barred.1 gives) c.refuse.ensures
+    let before : RowStep = record { replies = c.push.new.self; effects = c.in_ok-answer.answer.effects } in
+    let outcome = row_statement part_by_itself d c.args.who c.args.stmt.now in
+    gives-settled d (seen c.own_answer.new.self) (seen c.settle_behind.new.self) before c.settle_behind.new.step (turn_of c.args.who outcome)
+    (gives-turn d (seen c.own_answer.new.self) c.in_ok-answer.answer before c.args.who outcome c.in_ok-answer.ensures
+    (c.in_ok-push.ensures.ok ∙ ap (λ rs. rs ++ (c.args.who, c.in_ok-answer.answer.reply) ∷ []) c.new-replies.ensures) refl)
+    c.in_ok-settle_behind.ensures
 
-pub returns-in-None-clause-exact : goal.returns-in-None-clause-exact
-returns-in-None-clause-exact c =
-    let d = seen c.args.self.now in
-    let mid = seen c.admit.new.self in
-    let made = entered d mid c.args.who c.where_of.result (where_of_row c.args.stmt.now) _ None c.where_of.ensures c.in-None.is c.in_ok-refusal.ensures in
-    IfOk-weaker c.run.result _ _ (λ step gives. gives-made d mid (seen c.run.new.self) step c.args.who c.args.stmt.now made.0 made.1 gives) c.run.ensures
-
-pub returns-in-Some-clause-steps : goal.returns-in-Some-clause-steps
-returns-in-Some-clause-steps c =
-    IfOk-weaker c.refuse.result _ _ (λ step gives. steps-exact (seen c.args.self.now) (seen c.refuse.new.self) step c.args.who c.args.stmt.now gives) (returns-in-Some-clause-exact c)
-
-pub returns-in-None-clause-steps : goal.returns-in-None-clause-steps
-returns-in-None-clause-steps c =
-    IfOk-weaker c.run.result _ _ (λ step gives. steps-exact (seen c.args.self.now) (seen c.run.new.self) step c.args.who c.args.stmt.now gives) (returns-in-None-clause-exact c)
+pub returns-clause-steps : goal.returns-clause-steps
+returns-clause-steps c = steps-exact (seen c.args.self.now) (seen c.settle_behind.new.self) c.settle_behind.new.step c.args.who c.args.stmt.now (returns-clause-exact c)

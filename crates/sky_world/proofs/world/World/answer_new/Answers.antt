@@ -1,5 +1,5 @@
-use Rattle.std.proofs.Common.{◌≤◌, ◌<◌, length, ap, arith}
-use Rattle.sky_world.proofs.Worlds.{answers-new, own-numbered}
+use Rattle.std.proofs.Common.{◌<◌, length, ap, arith}
+use Rattle.sky_world.proofs.Worlds.{answers-new, known-numbered}
 use Rattle.sky_world.proofs.world.World.answer_new.Goals as goal
 
 pub returns-clause-answers : goal.returns-clause-answers
@@ -9,4 +9,5 @@ returns-clause-answers c =
 
 pub returns-clause-numbered : goal.returns-clause-numbered
 returns-clause-numbered c =
-    own-numbered c.session_count-who.result _ _ (omega (arith, ap length c.in_ok-replies.ensures.sessions, c.in_ok-appear.ensures.sessions, c.session_count-who.ensures.count)) c.in_ok-replies.ensures.own
+    known-numbered _ _ _ (omega (arith, ap length c.in_ok-replies.ensures.sessions, c.in_ok-appear.ensures.homes, c.in_ok-appear.ensures.sessions, c.session_count-who.ensures.count, c.session_count-who.ensures.homes))
+    c.in_ok-replies.ensures.known

@@ -1,6 +1,6 @@
-use Rattle.std.proofs.Common.{◌≡◌, ℕ, List, Option, ◌++◌, None, ◌∷◌, [], ap, sym, ◌∙◌, subst, length}
+use Rattle.std.proofs.Common.{◌≡◌, ℕ, List, Option, ◌++◌, None, ◌∷◌, [], ap, sym, ◌∙◌, subst, length, length-append, arith}
 use Rattle.sky_world.specs.Homes.{HomesWithin}
-use Rattle.sky_world.proofs.Worlds.{counted-push, homes-push, appeared-as}
+use Rattle.sky_world.proofs.Worlds.{counted-push, homes-push, waiters-more, appeared-as}
 use Rattle.sky_world.proofs.world.World.appear.Goals as goal
 
 pub invariant_of-self-2 : goal.invariant_of-self-2
@@ -10,6 +10,7 @@ invariant_of-self-2 c =
       counted-push c.self.inside.homes.items None c.self.inside.sessions _ _ _ c.self.invariant.1 longer c.in_ok-add.ensures.added,
       c.self.invariant.2,
       subst (HomesWithin (length c.self.inside.stores.items)) (sym longer) (homes-push _ c.self.inside.homes.items c.self.invariant.3),
+      (λ whole. waiters-more _ _ c.self.inside.stores.items (omega (arith, ap length longer, length-append c.self.inside.homes.items (None ∷ []))) (c.self.invariant.4 whole)),
     )
 
 pub returns-clause-fact : goal.returns-clause-fact

@@ -1,6 +1,6 @@
 use Rattle.std.proofs.Common.{◌≡◌, List, ◌++◌, ◌∷◌, [], ap, ◌∙◌}
 use Rattle.sky_world.specs.Views.{DatabaseView}
-use Rattle.sky_world.proofs.Worlds.{counted-push, stored-more, founded-as}
+use Rattle.sky_world.proofs.Worlds.{counted-push, stored-more, waiters-founded, founded-as}
 use Rattle.sky_world.proofs.world.World.found.Goals as goal
 
 pub invariant_of-self-2 : goal.invariant_of-self-2
@@ -11,6 +11,7 @@ invariant_of-self-2 c =
       c.self.invariant.1,
       counted-push c.self.inside.stores.items c.new.result c.self.inside.databases _ _ _ c.self.invariant.2 longer c.in_ok-add.ensures.added,
       stored-more c.self.inside.stores.items _ c.new.result c.self.inside.homes.items longer c.self.invariant.3,
+      (λ whole. waiters-founded _ c.self.inside.stores.items _ c.new.result longer c.new.ensures (c.self.invariant.4 whole)),
     )
 
 pub returns-clause-fact : goal.returns-clause-fact

@@ -1,12 +1,25 @@
-use Rattle.std.proofs.Common.{w64, arith}
+use Rattle.std.proofs.Common.{subst, sym, ◌∙◌, w64, arith}
 use Rattle.std.proofs.lemmas.Int.{to_z-of_z}
-use Rattle.sky_world.proofs.Worlds.{gives-within, one-own}
+use Rattle.sky_world.specs.Homes.{HomesWithin}
+use Rattle.sky_world.proofs.Worlds.{length-changed, gives-within, known-within}
 use Rattle.sky_world.proofs.world.World.run_there.Goals as goal
 
-pub returns-clause-gives : goal.returns-clause-gives
-returns-clause-gives c =
-    gives-within _ _ c.args.database c.args.who c.index_mut.result.now c.run.new.self c.args.stmt.now c.in_ok-replies.replies _ c.self.view_is c.requires c.index_mut.ensures.value
-    (to_z-of_z w64 c.self.inside.clock (omega arith)) c.in_ok-replies.ensures.gives
+pub invariant_of-self : goal.invariant_of-self
+invariant_of-self c = (
+  c.self.invariant.0,
+  c.self.invariant.1,
+  length-changed c.self.inside.stores.items c.args.database c.run.new.self ∙ c.self.invariant.2,
+  subst (λ n. HomesWithin n c.self.inside.homes.items) (sym (length-changed c.self.inside.stores.items c.args.database c.run.new.self)) c.self.invariant.3,
+  (λ whole. (known-within _ _ c.args.database c.args.who c.index_mut.result.now c.run.new.self c.args.stmt.now c.in-Ok.replies _ c.self.view_is c.requires.database c.index_mut.ensures.value
+      c.requires.who (c.self.invariant.4 whole) c.in-Ok.ensures.gives).1),
+)
 
-pub returns-clause-own : goal.returns-clause-own
-returns-clause-own c = one-own c.args.who c.in_ok-replies.replies _ c.in_ok-replies.ensures.gives.replied
+pub returns-in-Ok-clause-gives : goal.returns-in-Ok-clause-gives
+returns-in-Ok-clause-gives c =
+    gives-within _ _ c.args.database c.args.who c.index_mut.result.now c.run.new.self c.args.stmt.now c.in-Ok.replies _ c.self.view_is c.requires.database c.index_mut.ensures.value
+    (to_z-of_z w64 c.self.inside.clock (omega arith)) c.in-Ok.ensures.gives
+
+pub returns-in-Ok-clause-known : goal.returns-in-Ok-clause-known
+returns-in-Ok-clause-known c =
+    (known-within _ _ c.args.database c.args.who c.index_mut.result.now c.run.new.self c.args.stmt.now c.in-Ok.replies _ c.self.view_is c.requires.database c.index_mut.ensures.value
+    c.requires.who (c.self.invariant.4 c.if-self.false) c.in-Ok.ensures.gives).0

@@ -1,0 +1,171 @@
+-- Writes that wait, or are refused where they would wait for ever, and those that go on.
+use Rattle.std.proofs.Common.{◌≡◌, ℕ, ◌<◌, List, [], ◌∷◌, ◌++◌, Bool, true, false, Option, Some, None, Ok, Err, Result, length, option_map, refl, sym, ◌∙◌, ap, subst, append_assoc, append-nil}
+use Rattle.sky_val.specs.declared.val.Val.{Val}
+use Rattle.sky_val.specs.Waits.{Waiting, waits_for, without, LeadsBack, way_back, is_waiting}
+use Rattle.sky_val.proofs.WaitLemmas.{leads_back, way_found}
+use Rattle.sky_locks.specs.Locks.{LocksView, holder}
+use Rattle.sky_model.specs.declared.stmt.Attempt.{Attempt}
+use Rattle.sky_model.specs.declared.stmt.Attempt.TheVariants.{Deletion}
+use Rattle.sky_model.specs.declared.reply.Reply.TheVariants.{Waits, Refused}
+use Rattle.sky_model.specs.declared.reply.Refusal.TheVariants.{Canceled, Deadlock}
+use Rattle.sky_model.specs.History.{Mark, tabled, waits, waited}
+use Rattle.sky_model.specs.Sessions.{Block, outside, inside, failed}
+use Rattle.sky_model.specs.State.{RowPart, changed_at, after_part, after_part_marks}
+use Rattle.sky_model.specs.Outcome.{Outcome, Checked, ◌>>◌, refused_by, does_marks, abort}
+use Rattle.sky_model.specs.StepLocks.{ring, blocked, once_free}
+use Rattle.sky_model.specs.StepSession.{cancel}
+use Rattle.sky_model.specs.Reader.{part_by_itself}
+use Rattle.sky_model.specs.Settling.{Turn, behind_marks, ready, attempted, resumed, settling}
+use Rattle.sky_model.proofs.RowStanding.{behind-after}
+use Rattle.sky_model.proofs.Resting.{fewer-wait, settling-none, settling-some}
+use Rattle.sky_session.specs.declared.answer.Answer.{Answer}
+use Rattle.sky_session.specs.declared.answer.RowStep.{RowStep}
+use Rattle.sky_session.specs.declared.stop.Stop.{Stop}
+use Rattle.sky_session.specs.declared.effect.Effect.{Effect}
+use Rattle.sky_session.specs.Effects.{effects_of}
+use Rattle.sky_session.specs.Marks.{failure}
+use Rattle.sky_session.specs.Views.{RowDbView}
+use Rattle.sky_session.specs.Seen.{attempt_of, seen}
+use Rattle.sky_session.specs.Gives.{GivesTurn, GivesOutcome, Adds, Does, Refuses, Ran}
+use Rattle.sky_session.proofs.Steps.{after-append, effects-append}
+
+-- where no way leads back there is no ring
+ring-none : (d : RowPart) (who holder : ℕ) → ((way : List ℕ) → LeadsBack (waits_for d.holder d.waiting) who holder way → ⊥) → ring d who holder ≡ None
+ring-none d who holder apart = of (way_back (waits_for d.holder d.waiting) who (length d.waiting) holder) refl
+  where
+    of : (o : Option (List ℕ)) → way_back (waits_for d.holder d.waiting) who (length d.waiting) holder ≡ o → option_map (λ way. who ∷ way) o ≡ None
+    of None e = refl
+    of (Some way) e = absurd (apart way (leads_back (waits_for d.holder d.waiting) who (length d.waiting) holder way e))
+
+-- where the locks are as they were nothing has changed
+pub kept-as : (v now : RowDbView) (locks : LocksView) → v ≡ now → locks ≡ v.locks → seen (record v { locks = locks }) ≡ seen now
+kept-as v now locks same kept = ap (λ l. seen (record v { locks = l })) kept ∙ ap seen same
+
+-- a session that waits is one more in the list
+pub wait-as : (v now : RowDbView) (locks : LocksView) (attempts : List Attempt) (who table : ℕ) (key : List Val) (attempt : Attempt) → v ≡ now → holder locks ≡ holder v.locks
+    → locks.waiting ≡ v.locks.waiting ++ record { who = who; table = table; key = key } ∷ [] → attempt_of attempts ≡ changed_at who (λ _. attempt) (attempt_of v.attempts)
+    → seen (record v { locks = locks; attempts = attempts }) ≡ after_part (seen now) (tabled (waits who table key attempt))
+wait-as v now locks attempts who table key attempt same keys more due =
+    (λ i. record (seen v) { holder = keys i; waiting = more i; attempt = due i })
+    ∙ ap (λ (w : RowDbView). after_part (seen w) (tabled (waits who table key attempt))) same
+
+-- and one that waits no longer is none of it
+pub waited-as : (v now : RowDbView) (locks : LocksView) (attempts : List Attempt) (who : ℕ) → v ≡ now → holder locks ≡ holder v.locks → locks.waiting ≡ without who v.locks.waiting
+    → attempt_of attempts ≡ changed_at who (λ _. Deletion) (attempt_of v.attempts) → seen (record v { locks = locks; attempts = attempts }) ≡ after_part (seen now) (tabled (waited who))
+waited-as v now locks attempts who same keys less done =
+    (λ i. record (seen v) { holder = keys i; waiting = less i; attempt = done i }) ∙ ap (λ (w : RowDbView). after_part (seen w) (tabled (waited who))) same
+
+pub does-wait : (d new : RowPart) (answer : Answer) (who table : ℕ) (key : List Val) (attempt : Attempt) (holder : ℕ)
+    → ((way : List ℕ) → LeadsBack (waits_for d.holder d.waiting) who holder way → ⊥) → answer.reply ≡ Waits holder → answer.effects ≡ []
+    → new ≡ after_part d (tabled (waits who table key attempt)) → Does d new answer (blocked d who table key attempt holder)
+does-wait d new answer who table key attempt holder apart replied silent changed =
+    subst (λ o. Does d new answer (refused_by (option_map Deadlock o) >> does_marks (Waits holder) (tabled (waits who table key attempt) ∷ []))) (sym (ring-none d who holder apart))
+    (record { accepted = ap (λ reply. Ok (record { reply = reply; marks = tabled (waits who table key attempt) ∷ [] })) (sym replied); told = silent; changed = changed })
+
+pub refuses-ring : (d new : RowPart) (who table : ℕ) (key : List Val) (attempt : Attempt) (holder : ℕ) (waiters way : List ℕ) → LeadsBack (waits_for d.holder d.waiting) who holder way
+    → waiters ≡ who ∷ way → new ≡ d → Refuses d new (Deadlock waiters) (blocked d who table key attempt holder)
+refuses-ring d new who table key attempt holder waiters way leads closed same = record {
+  refused = ap (λ o. refused_by (option_map Deadlock (option_map (λ rest. who ∷ rest) o)) >> does_marks (Waits holder) (tabled (waits who table key attempt) ∷ []))
+      (way_found d.holder d.waiting who holder way leads)
+      ∙ ap (λ ws. Err (Deadlock ws)) (sym closed);
+  same = same;
+}
+
+-- a write of a key that another session holds waits for it
+pub ran-blocked : (old new : RowDbView) (result : Result Answer Stop) (d : RowPart) (who table : ℕ) (key : List Val) (made attempt : Attempt) (other : Option ℕ) (holder : ℕ) (c : Checked Outcome)
+    → other ≡ Some holder → made ≡ attempt → Ran old new result (blocked d who table key made holder) → Ran old new result (once_free d who table key attempt other c)
+ran-blocked old new result d who table key made attempt other holder c is same ran =
+    subst (λ o. Ran old new result (once_free d who table key attempt o c)) (sym is) (subst (λ a. Ran old new result (blocked d who table key a holder)) same ran)
+
+-- and of one that no other holds is done at once
+pub ran-free : (old new : RowDbView) (result : Result Answer Stop) (d : RowPart) (who table : ℕ) (key : List Val) (attempt : Attempt) (other : Option ℕ) (c : Checked Outcome)
+    → other ≡ None → Ran old new result c → Ran old new result (once_free d who table key attempt other c)
+ran-free old new result d who table key attempt other c is ran = subst (λ o. Ran old new result (once_free d who table key attempt o c)) (sym is) ran
+
+-- a cancelled statement is refused
+pub failure-abort : (who : ℕ) (txid : Option ℕ) (b : Block) → failure who txid b ≡ abort who b txid Canceled
+failure-abort who txid outside = refl
+failure-abort who txid inside = refl
+failure-abort who txid failed = refl
+
+-- one that goes on adds its answer
+pub adds-resumed : (d mid new : RowPart) (before after : RowStep) (answer : Answer) (w : Waiting) → mid ≡ after_part d (tabled (waited w.who))
+    → GivesOutcome mid new answer (attempted part_by_itself w (d.attempt w.who) mid) → after.replies ≡ before.replies ++ (w.who, answer.reply) ∷ [] → after.effects ≡ before.effects ++ answer.effects
+    → Adds d new before after (resumed part_by_itself d w)
+adds-resumed d mid new before after answer w left gives replied told =
+    let here : GivesOutcome (after_part d (tabled (waited w.who))) new answer (attempted part_by_itself w (d.attempt w.who) (after_part d (tabled (waited w.who))))
+    = subst (λ p. GivesOutcome p new answer (attempted part_by_itself w (d.attempt w.who) p)) left gives in
+    record {
+      replied = replied ∙ ap (λ reply. before.replies ++ (w.who, reply) ∷ []) here.replied;
+      told = told ∙ ap (λ es. before.effects ++ es) here.told;
+      changed = here.changed;
+    }
+
+-- what was given, and what is left to do, are the whole
+pub record Remains (first d : RowPart) (start step : RowStep) : Type 0 where
+  pub replied : step.replies ++ (settling part_by_itself d).answers ≡ start.replies ++ (settling part_by_itself first).answers
+  pub told : step.effects ++ effects_of (settling part_by_itself d).marks ≡ start.effects ++ effects_of (settling part_by_itself first).marks
+  pub changed : after_part_marks d (settling part_by_itself d).marks ≡ after_part_marks first (settling part_by_itself first).marks
+
+pub remains-resumed : (first d new : RowPart) (start before after : RowStep) (w : Waiting) → ready d ≡ Some w → Adds d new before after (resumed part_by_itself d w) → Remains first d start before
+    → Remains first new start after
+remains-resumed first d new start before after w is adds remains = record {
+  replied = ap (λ rs. rs ++ (settling part_by_itself new).answers) adds.replied ∙ append_assoc before.replies turn.answers (settling part_by_itself new).answers
+      ∙ ap (λ p. before.replies ++ (turn.answers ++ (settling part_by_itself p).answers)) behind
+      ∙ ap (λ (t : Turn). before.replies ++ t.answers) (sym whole) ∙ remains.replied;
+  told = ap (λ es. es ++ effects_of (settling part_by_itself new).marks) adds.told ∙ append_assoc before.effects (effects_of turn.marks) (effects_of (settling part_by_itself new).marks)
+      ∙ ap (λ p. before.effects ++ (effects_of turn.marks ++ effects_of (settling part_by_itself p).marks)) behind
+      ∙ ap (λ es. before.effects ++ es) (sym (effects-append turn.marks (settling part_by_itself (behind_marks part_by_itself d turn.marks)).marks))
+      ∙ ap (λ (t : Turn). before.effects ++ effects_of t.marks) (sym whole) ∙ remains.told;
+  changed = ap (λ p. after_part_marks new (settling part_by_itself p).marks) behind
+      ∙ ap (λ p. after_part_marks p (settling part_by_itself (behind_marks part_by_itself d turn.marks)).marks) adds.changed
+      ∙ sym (after-append d turn.marks (settling part_by_itself (behind_marks part_by_itself d turn.marks)).marks)
+      ∙ ap (λ (t : Turn). after_part_marks d t.marks) (sym whole) ∙ remains.changed;
+}
+  where
+    turn : Turn
+    turn = resumed part_by_itself d w
+
+    behind : new ≡ behind_marks part_by_itself d turn.marks
+    behind = adds.changed ∙ sym (behind-after d turn.marks)
+
+    whole : settling part_by_itself d ≡ record {
+      answers = turn.answers ++ (settling part_by_itself (behind_marks part_by_itself d turn.marks)).answers;
+      marks = turn.marks ++ (settling part_by_itself (behind_marks part_by_itself d turn.marks)).marks;
+    }
+    whole = settling-some d w is
+
+pub remains-done : (first d : RowPart) (start step : RowStep) → ready d ≡ None → Remains first d start step → Adds first d start step (settling part_by_itself first)
+remains-done first d start step is remains = record {
+  replied = sym (append-nil step.replies) ∙ ap (λ (t : Turn). step.replies ++ t.answers) (sym (settling-none d is)) ∙ remains.replied;
+  told = sym (append-nil step.effects) ∙ ap (λ (t : Turn). step.effects ++ effects_of t.marks) (sym (settling-none d is)) ∙ remains.told;
+  changed = ap (λ (t : Turn). after_part_marks d t.marks) (sym (settling-none d is)) ∙ remains.changed;
+}
+
+-- each time fewer wait
+pub fewer-left : (d new : RowPart) (before after : RowStep) (w : Waiting) → ready d ≡ Some w → Adds d new before after (resumed part_by_itself d w) → length new.waiting < length d.waiting
+fewer-left d new before after w is adds =
+    subst (λ (p : RowPart). length p.waiting < length d.waiting) (sym (adds.changed ∙ sym (behind-after d (resumed part_by_itself d w).marks))) (fewer-wait d w is)
+
+-- all that was added to nothing is given
+pub gives-all : (d new : RowPart) (before after : RowStep) (turn : Turn) → before.replies ≡ [] → before.effects ≡ [] → Adds d new before after turn → GivesTurn d new after turn
+gives-all d new before after turn none silent adds = record {
+  replied = adds.replied ∙ ap (λ rs. rs ++ turn.answers) none;
+  told = adds.told ∙ ap (λ es. es ++ effects_of turn.marks) silent;
+  changed = adds.changed;
+}
+
+-- a session that waits is cancelled
+pub does-cancel : (d mid new : RowPart) (who : ℕ) (effects : List Effect) → is_waiting who d.waiting ≡ true → mid ≡ after_part d (tabled (waited who))
+    → new ≡ after_part_marks mid (failure who (mid.session who).txid (mid.session who).block) → effects ≡ effects_of (failure who (mid.session who).txid (mid.session who).block)
+    → Does d new (record { reply = Refused Canceled; effects = effects }) (cancel who (d.session who).txid (d.session who).block (is_waiting who d.waiting))
+does-cancel d mid new who effects busy left back told =
+    subst (λ b. Does d new (record { reply = Refused Canceled; effects = effects }) (cancel who (d.session who).txid (d.session who).block b)) (sym busy)
+    (record {
+      accepted = refl;
+      told = told ∙ ap effects_of same;
+      changed = back ∙ ap (after_part_marks mid) same ∙ ap (λ p. after_part_marks p (abort who (d.session who).block (d.session who).txid Canceled)) left;
+    })
+  where
+    same : failure who (mid.session who).txid (mid.session who).block ≡ abort who (d.session who).block (d.session who).txid Canceled
+    same = ap (λ (p : RowPart). failure who (p.session who).txid (p.session who).block) left ∙ failure-abort who (d.session who).txid (d.session who).block

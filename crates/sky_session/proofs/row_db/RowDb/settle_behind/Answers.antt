@@ -1,0 +1,16 @@
+-- Each turn runs the one that is ready, after which fewer wait.
+use Rattle.std.proofs.Common.{option_map, sym, ap, ◌∙◌}
+use Rattle.sky_locks.specs.Locks.{entry}
+use Rattle.sky_session.specs.Seen.{seen}
+use Rattle.sky_session.proofs.LockLemmas.{remains-resumed, fewer-left}
+use Rattle.sky_session.proofs.row_db.RowDb.settle_behind.Goals as goal
+
+pub loop-who-smaller : goal.loop-who-smaller
+loop-who-smaller c =
+    fewer-left (seen c.loop-who.self) (seen c.resume.new.self) c.loop-who.step c.resume.new.step (entry c.in-Some.who c.in-Some.key)
+    (sym c.in_ok-who.ensures.found ∙ ap (option_map (λ f. entry f.0 f.1)) c.in-Some.is) c.in_ok-resume.ensures
+
+pub loop-who-preserved : goal.loop-who-preserved
+loop-who-preserved c =
+    remains-resumed (seen c.args.self.now) (seen c.loop-who.self) (seen c.resume.new.self) c.args.step.now c.loop-who.step c.resume.new.step (entry c.in-Some.who c.in-Some.key)
+    (sym c.in_ok-who.ensures.found ∙ ap (option_map (λ f. entry f.0 f.1)) c.in-Some.is) c.in_ok-resume.ensures c.loop-who.invariant

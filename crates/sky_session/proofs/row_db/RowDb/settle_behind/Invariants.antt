@@ -1,0 +1,10 @@
+use Rattle.std.proofs.Common.{length}
+use Rattle.sky_session.specs.Seen.{seen}
+use Rattle.sky_session.proofs.LockLemmas.{Remains}
+use Rattle.sky_session.proofs.row_db.RowDb.settle_behind.Given as goal
+
+abbrev pub invariant-loop-who : goal.invariant-loop-who
+invariant-loop-who l = Remains (seen l.fn.self) (seen l.self) l.fn.step l.step
+
+abbrev pub decreases-loop-who : goal.decreases-loop-who
+decreases-loop-who l = length (seen l.self).waiting

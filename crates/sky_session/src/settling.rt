@@ -1,0 +1,78 @@
+//! The statements that may go on when keys are free: each is run at the place behind the one before.
+
+ghost use Rattle.std.specs.Prelude.{◌≡◌, ◌<◌, false, Some, IfOk, IfSome, OnOk, option_map, length};
+ghost use Rattle.sky_val.specs.Waits.{is_waiting};
+ghost use Rattle.sky_locks.specs.Locks.{entry};
+ghost use Rattle.sky_model.specs.ShownRows.{rows_by};
+ghost use Rattle.sky_model.specs.Outcome.{settled};
+ghost use Rattle.sky_model.specs.StepRows.{attempts};
+ghost use Rattle.sky_model.specs.Reader.{part_by_itself};
+ghost use Rattle.sky_model.specs.Settling.{ready, resumed, settling};
+ghost use Rattle.sky_session.specs.Gives.{Adds, GivesOutcome};
+ghost use Rattle.sky_session.specs.Seen.{seen};
+
+use crate::answer::{Answer, RowStep};
+use crate::row_db::RowDb;
+use crate::stop::Stop;
+use sky_locks::LockKey;
+use sky_model::Attempt;
+use sky_val::{NoMemory, SessionId};
+use std::alloc::AllocError;
+
+impl RowDb {
+    /// The first session whose statement may go on, with the key for which it waits.
+    fn next_ready(&self) -> Result<Option<(SessionId, LockKey)>, NoMemory>
+        ensures found { IfOk result (λ found. option_map (λ f. entry f.0 f.1) found ≡ ready (seen self.now)) }
+        ensures within { IfOk result (λ found. IfSome found (λ f. f.1.table < length (seen self.now).tables)) }
+    {
+        match self.locks.ready() {
+            Some((who, key)) => Ok(Some((who, key.copy(self.alloc)?))),
+            None => Ok(None),
+        }
+    }
+
+    /// The answer of what the session attempts with the key, be it a refusal.
+    fn run_attempt(
+        &mut self,
+        who: SessionId,
+        key: LockKey,
+        attempt: &Attempt,
+    ) -> Result<Answer, NoMemory>
+        requires within { key.table < length (seen self.old).tables }
+        requires awake { is_waiting who (seen self.old).waiting ≡ false }
+        ensures { let shown = (rows_by (seen self.old)).key who key.table key.key in
+            let outcome = settled who ((seen self.old).session who) (attempts (seen self.old) shown who key.table key.key attempt.now) in
+            IfOk result (λ answer. GivesOutcome (seen self.old) (seen self.new) answer outcome) }
+    {
+        match self.attempt_key(who, key, attempt) {
+            Ok(answer) => Ok(answer),
+            Err(Stop::Refused(refusal)) => self.refuse(who, refusal),
+            Err(Stop::NoMemory) => Err(AllocError),
+        }
+    }
+
+    /// Runs the statement of a session that may go on. The answer and the effects are added.
+    fn resume(&mut self, who: SessionId, key: LockKey, step: &mut RowStep) -> Result<(), NoMemory>
+        requires ready { ready (seen self.old) ≡ Some (entry who key) }
+        requires within { key.table < length (seen self.old).tables }
+        ensures { OnOk result (Adds (seen self.old) (seen self.new) step.old step.new (resumed part_by_itself (seen self.old) (entry who key))) }
+    {
+        let attempt = self.waited(who);
+        let answer = self.run_attempt(who, key, &attempt)?;
+        step.replies.push(who, answer.reply)?;
+        step.effects.append(answer.effects)?;
+        Ok(())
+    }
+
+    /// Runs the statements that may go on. Their answers and effects are added.
+    pub(crate) fn settle_behind(&mut self, step: &mut RowStep) -> Result<(), NoMemory>
+        ensures { OnOk result (Adds (seen self.old) (seen self.new) step.old step.new (settling part_by_itself (seen self.old))) }
+    {
+        loop {
+            let Some((who, key)) = self.next_ready()? else {
+                return Ok(());
+            };
+            self.resume(who, key, step)?;
+        }
+    }
+}
