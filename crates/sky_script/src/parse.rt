@@ -114,7 +114,7 @@ mod tests {
             ),
             (
                 "a: update t 1 set s='x y' n+=-2",
-                "Ok(Run(\"a\", Row(Update { table: \"t\", key: Key { values: [Int(1)] }, sets: Sets { items: [Set { column: \"s\", change: To(Text(\"x y\")) }, Set { column: \"n\", change: Add(-2) }] } })))",
+                "Ok(Run(\"a\", Row(Update { table: \"t\", key: Key { values: One(Int(1)) }, sets: Sets { items: [Set { column: \"s\", change: To(Text(\"x y\")) }, Set { column: \"n\", change: Add(-2) }] } })))",
             ),
             ("a: begin repeatable", "Err(BadWord(4))"),
             ("a: create table t", "Err(BadWord(5))"),
