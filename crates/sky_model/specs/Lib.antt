@@ -15,6 +15,7 @@ pub mod Batches
 pub mod State
 pub mod ShownRows
 pub mod Outcome
+pub mod Stops
 pub mod Allowed
 pub mod Made
 pub mod OwnTransaction

@@ -16,6 +16,11 @@ pub record Outcome : Type 0 where
 abbrev pub Checked : Type 0 → Type 0
 Checked A = Result A Refusal
 
+-- what happened, where nothing is refused
+abbrev pub marks_of : Checked Outcome → List Mark
+marks_of (Ok outcome) = outcome.marks
+marks_of (Err refusal) = []
+
 infixl 20 ◌>>=◌
 abbrev pub ◌>>=◌ : {A B : Type 0} → Checked A → (A → Checked B) → Checked B
 Err refusal >>= next = Err refusal

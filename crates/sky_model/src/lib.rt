@@ -10,7 +10,9 @@ pub mod laws;
 mod line;
 mod reply;
 mod stmt;
+mod stop;
 
 pub use line::{Cause, Fixed, Line};
 pub use reply::{BadRow, Events, Limit, Refusal, Replies, Reply, Rows, Waiters};
 pub use stmt::{Attempt, Change, Columns, Extra, RowStmt, Set, Sets, Stmt, Where};
+pub use stop::Stop;

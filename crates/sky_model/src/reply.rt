@@ -135,6 +135,17 @@ pub enum Refusal {
     TxidsSpent,
 }
 
+impl Refusal {
+    ghost use Rattle.sky_model.specs.Outcome.{aborts};
+
+    /// Whether it aborts the transaction block that its session is in.
+    pub fn aborts(&self) -> bool
+        ensures { result ≡ aborts self.now }
+    {
+        !matches!(self, Refusal::AlreadyOpen | Refusal::Busy)
+    }
+}
+
 impl Drop for Refusal {
     fn drop(self) {
         match self {

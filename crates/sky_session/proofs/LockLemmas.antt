@@ -20,13 +20,14 @@ use Rattle.sky_model.proofs.RowStanding.{behind-after}
 use Rattle.sky_model.proofs.Resting.{fewer-wait, settling-none, settling-some}
 use Rattle.sky_session.specs.declared.answer.Answer.{Answer}
 use Rattle.sky_session.specs.declared.answer.RowStep.{RowStep}
-use Rattle.sky_session.specs.declared.stop.Stop.{Stop}
+use Rattle.sky_model.specs.declared.stop.Stop.{Stop}
 use Rattle.sky_session.specs.declared.effect.Effect.{Effect}
 use Rattle.sky_session.specs.Effects.{effects_of}
 use Rattle.sky_session.specs.Marks.{failure}
 use Rattle.sky_session.specs.Views.{RowDbView}
 use Rattle.sky_session.specs.Seen.{attempt_of, seen}
-use Rattle.sky_session.specs.Gives.{GivesTurn, GivesOutcome, Adds, Does, Refuses, Ran}
+use Rattle.sky_session.specs.Gives.{GivesTurn, GivesOutcome, Adds, Does, Ran}
+use Rattle.sky_model.specs.Stops.{Refuses}
 use Rattle.sky_session.proofs.Steps.{after-append, effects-append}
 
 -- where no way leads back there is no ring

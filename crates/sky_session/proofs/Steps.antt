@@ -25,7 +25,9 @@ use Rattle.sky_session.specs.declared.effect.Effect.{Effect}
 use Rattle.sky_session.specs.declared.effect.Effect.TheVariants.{Wrote, Committed, Aborted}
 use Rattle.sky_session.specs.Effects.{op_of, effects_of}
 use Rattle.sky_session.specs.Marks.{look_of}
-use Rattle.sky_session.specs.Gives.{GivesTurn, GivesOutcome, Adds, Does, marks_of, Refuses, Enters, sight_marks}
+use Rattle.sky_session.specs.Gives.{GivesTurn, GivesOutcome, Adds, Does, Enters, sight_marks}
+use Rattle.sky_model.specs.Stops.{Refuses}
+use Rattle.sky_model.specs.Outcome.{marks_of}
 
 -- the marks of two lists, one after the other
 pub after-append : (d : RowPart) (xs ys : List Mark) → after_part_marks d (xs ++ ys) ≡ after_part_marks (after_part_marks d xs) ys

@@ -6,14 +6,14 @@ use Rattle.sky_model.specs.declared.reply.Refusal.{Refusal}
 use Rattle.sky_model.specs.declared.stmt.Where.{Where}
 use Rattle.sky_model.specs.History.{Mark}
 use Rattle.sky_model.specs.State.{RowPart, after_part_marks}
-use Rattle.sky_model.specs.Outcome.{Outcome, Checked}
+use Rattle.sky_model.specs.declared.stop.Stop.{Stop}
+use Rattle.sky_model.specs.Outcome.{Outcome, Checked, marks_of}
+use Rattle.sky_model.specs.Stops.{Stops}
 use Rattle.sky_model.specs.Settling.{Turn}
 use Rattle.sky_model.specs.Allowed.{allowed}
 use Rattle.sky_model.specs.Made.{takes_sight}
 use Rattle.sky_session.specs.declared.answer.Answer.{Answer}
 use Rattle.sky_session.specs.declared.answer.RowStep.{RowStep}
-use Rattle.sky_session.specs.declared.stop.Stop.{Stop}
-use Rattle.sky_session.specs.declared.stop.Stop.TheVariants.{Refused, NoMemory}
 use Rattle.sky_session.specs.Effects.{effects_of}
 use Rattle.sky_session.specs.Marks.{look_of}
 use Rattle.sky_session.specs.Views.{RowDbView}
@@ -41,32 +41,12 @@ pub record Adds (old new : RowPart) (before after : RowStep) (turn : Turn) : Typ
   pub told : after.effects ≡ before.effects ++ effects_of turn.marks
   pub changed : new ≡ after_part_marks old turn.marks
 
--- the marks of an answer
-abbrev pub marks_of : Checked Outcome → List Mark
-marks_of (Ok outcome) = outcome.marks
-marks_of (Err refusal) = []
-
 -- a statement isn't refused: the answer is the definition's, the effects are those of its marks, and the database is
 -- then as after these
 pub record Does (old new : RowPart) (answer : Answer) (checked : Checked Outcome) : Type 0 where
   pub accepted : checked ≡ Ok (record { reply = answer.reply; marks = marks_of checked })
   pub told : answer.effects ≡ effects_of (marks_of checked)
   pub changed : new ≡ after_part_marks old (marks_of checked)
-
--- it is refused, and nothing has changed
-pub record Refuses {A : Type 0} (old new : RowPart) (refusal : Refusal) (checked : Checked A) : Type 0 where
-  pub refused : checked ≡ Err refusal
-  pub same : new ≡ old
-
--- it is refused as its definition says, or memory was wanting
-abbrev pub Stops : {A : Type 0} → Stop → RowPart → RowPart → Checked A → Type 0
-Stops (Refused refusal) old new checked = Refuses old new refusal checked
-Stops NoMemory old new checked = Unit {0}
-
--- a part of a statement is refused as its definition says, or memory was wanting
-abbrev pub StopsAs : {A : Type 0} → Stop → Checked A → Type 0
-StopsAs (Refused refusal) checked = checked ≡ Err refusal
-StopsAs NoMemory checked = Unit {0}
 
 -- a statement was run: it does what its definition says, or is refused as it says
 abbrev pub Ran : RowDbView → RowDbView → Result Answer Stop → Checked Outcome → Type 0

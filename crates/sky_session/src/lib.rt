@@ -22,7 +22,6 @@ mod session;
 mod sessions;
 mod settling;
 mod statements;
-mod stop;
 mod values;
 
 pub use answer::RowStep;

@@ -11,10 +11,9 @@ ghost use Rattle.sky_session.specs.Seen.{seen};
 
 use crate::answer::Answer;
 use crate::row_db::RowDb;
-use crate::stop::Stop;
 use crate::values::with_sets;
 use sky_locks::{LockKey, Taken};
-use sky_model::{Attempt, Refusal, Reply, Sets, Waiters};
+use sky_model::{Attempt, Refusal, Reply, Sets, Stop, Waiters};
 use sky_val::{Row, SessionId};
 
 impl RowDb {

@@ -13,9 +13,8 @@ ghost use Rattle.sky_session.specs.Seen.{seen};
 
 use crate::answer::{Answer, RowStep};
 use crate::row_db::RowDb;
-use crate::stop::Stop;
 use sky_locks::LockKey;
-use sky_model::Attempt;
+use sky_model::{Attempt, Stop};
 use sky_val::{NoMemory, SessionId};
 use std::alloc::AllocError;
 

@@ -9,7 +9,7 @@ ghost use Rattle.sky_model.specs.Allowed.{where_of_row};
 ghost use Rattle.sky_model.specs.Sessions.{outside};
 ghost use Rattle.sky_model.specs.State.{after_part_marks};
 ghost use Rattle.sky_model.specs.ShownRows.{rows_by};
-ghost use Rattle.sky_model.specs.Outcome.{aborts, abort, settled};
+ghost use Rattle.sky_model.specs.Outcome.{abort, settled};
 ghost use Rattle.sky_model.specs.StepSession.{begin, begin_repeatable_read, commit, rollback, close, cancel, leaves, txid_current, txid_current_snapshot, txid_visible_in_snapshot};
 ghost use Rattle.sky_model.specs.Calls.{row_form, row_statement, row_turn};
 ghost use Rattle.sky_model.specs.Reader.{part_by_itself};
@@ -23,18 +23,10 @@ use crate::answer::{Answer, RowStep};
 use crate::block::Block;
 use crate::effect::{Effect, Effects};
 use crate::row_db::RowDb;
-use crate::stop::Stop;
-use sky_model::{Refusal, Replies, Reply, RowStmt};
+use sky_model::{Refusal, Replies, Reply, RowStmt, Stop};
 use sky_txid::{Snapshot, SnapshotFault};
 use sky_val::{NoMemory, SessionId, Text};
 use std::alloc::AllocError;
-
-/// Whether a refusal aborts the transaction of its session.
-fn aborts(refusal: &Refusal) -> bool
-    ensures { result ≡ aborts refusal.now }
-{
-    !matches!(refusal, Refusal::AlreadyOpen | Refusal::Busy)
-}
 
 impl RowDb {
     /// Runs a statement of a session that has this database open, and those that it lets go on.
@@ -81,7 +73,7 @@ impl RowDb {
         ensures { let marks = abort who ((seen self.old).session who).block ((seen self.old).session who).txid refusal in
             IfOk result (λ answer. GivesOutcome (seen self.old) (seen self.new) answer (record { reply = Refused refusal; marks = marks })) }
     {
-        if !aborts(&refusal) {
+        if !refusal.aborts() {
             return Ok(Answer::only(self.alloc, Reply::Refused(refusal)));
         }
         let effects = self.roll_back(who)?;

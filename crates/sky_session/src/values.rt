@@ -6,10 +6,9 @@ ghost use Rattle.std.specs.List.{list_any};
 ghost use Rattle.sky_val.specs.Schemas.{schema_fault, key_columns};
 ghost use Rattle.sky_model.specs.Outcome.{refused_by, found_or};
 ghost use Rattle.sky_model.specs.StepRows as spec;
-ghost use Rattle.sky_session.specs.Gives.{StopsAs};
+ghost use Rattle.sky_model.specs.Stops.{StopsAs};
 
-use crate::stop::Stop;
-use sky_model::{BadRow, Change, Columns, Limit, Refusal, Set};
+use sky_model::{BadRow, Change, Columns, Limit, Refusal, Set, Stop};
 use sky_val::{ColKind, Column, Key, NoMemory, Row, Schema, SchemaFault, Text, Val};
 use std::alloc::Global;
 

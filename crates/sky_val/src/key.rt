@@ -136,6 +136,9 @@ impl Ord for Key {
     ghost matches_eq = { key_eq-ties };
 
     fn cmp(&self, other: &Key) -> Ordering {
-        self.values().cmp(other.values())
+        match (&self.values, &other.values) {
+            (KeyValues::One(value), KeyValues::One(other)) => value.cmp(other),
+            (values, others) => values.as_slice().cmp(others.as_slice()),
+        }
     }
 }

@@ -1,4 +1,4 @@
-ghost use Rattle.std.specs.Prelude.{◌≡◌, ◌↔◌, IfOk, OnOk, IsUtf8, bytes_eq};
+ghost use Rattle.std.specs.Prelude.{◌≡◌, ◌↔◌, IfOk, OnOk, IsUtf8, bytes_eq, string_bytes};
 ghost use Rattle.std.specs.Cmp.Lexicographic.{slice_cmp};
 ghost use Rattle.std.specs.Cmp.Rules.{comparing, hashing};
 ghost use Rattle.std.specs.Ordering.{nat_cmp, as_partial_cmp};
@@ -92,6 +92,15 @@ impl Text {
         match Kept::new(alloc, text) {
             Ok(kept) => Ok(Text { kept }),
             Err(_) => Err(TextFault::NoMemory),
+        }
+    }
+
+    /// The text that a string holds. No memory is taken.
+    pub fn from_string(string: String) -> Text
+        ensures { result ≡ string_bytes string }
+    {
+        Text {
+            kept: Kept::Apart(string),
         }
     }
 

@@ -48,7 +48,8 @@ use Rattle.sky_world.specs.declared.batch.Batch.{Batch}
 use Rattle.sky_world.specs.Views.{QueueView, DatabaseView}
 use Rattle.sky_world.specs.Seen.{seen_queue, no_queue, seen_batch, keeps, seen_database}
 use Rattle.sky_world.specs.Undone.{undone_by}
-use Rattle.sky_world.specs.Gives.{Gives, GivesReply, Does, Refuses}
+use Rattle.sky_world.specs.Gives.{Gives, GivesReply, Does}
+use Rattle.sky_model.specs.Stops.{Refuses}
 
 -- the test on an entry's key is equality
 pub is_at-nat : (k n : ℕ) → is_at (nat_cmp k) n ≡ (k == n)

@@ -204,8 +204,8 @@ impl Database {
         Ok(step.replies)
     }
 
-    /// A refusal rolls back the block that its session is in, and aborts it.
-    pub fn fail(&mut self, who: SessionId) -> Result<(), AllocError>
+    /// Rolls back the block that the session is in, which stays aborted. What this lets go on isn't run yet.
+    pub fn roll_back(&mut self, who: SessionId) -> Result<(), AllocError>
         ensures { OnOk result (seen_database self.new ≡ after_marks (seen_database self.old)
             (failure who ((seen_database self.old).part.session who).txid ((seen_database self.old).part.session who).block)) }
     {

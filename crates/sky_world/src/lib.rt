@@ -10,7 +10,6 @@ mod batch;
 mod database;
 mod queue;
 mod statements;
-mod stop;
 mod stored;
 mod sub;
 mod subs;

@@ -8,7 +8,7 @@ ghost use Rattle.sky_model.specs.declared.reply.Reply.TheVariants.{Refused};
 ghost use Rattle.sky_model.specs.Queues.{tick};
 ghost use Rattle.sky_model.specs.History.{queued, made, ticked};
 ghost use Rattle.sky_model.specs.State.{after_marks};
-ghost use Rattle.sky_model.specs.Outcome.{aborts, abort, settled};
+ghost use Rattle.sky_model.specs.Outcome.{abort, settled};
 ghost use Rattle.sky_model.specs.Printed.{HaveMoments, ReplyHasMoments};
 ghost use Rattle.sky_model.specs.OwnTransaction.{txid_for, written};
 ghost use Rattle.sky_model.specs.StepQueue.{queue_called, create_queue, insert_event, ticker, force_tick, made_event};
@@ -19,14 +19,14 @@ ghost use Rattle.sky_model.specs.Reader.{shown_by, database_by_itself};
 ghost use Rattle.sky_model.specs.Calls.{form, statement, database_turn};
 ghost use Rattle.sky_world.specs.Ticks.{IsTime};
 ghost use Rattle.sky_world.specs.Seen.{seen_database};
-ghost use Rattle.sky_world.specs.Gives.{is_row, Gives, GivesReply, Does, Ran, StopsAs};
+ghost use Rattle.sky_world.specs.Gives.{is_row, Gives, GivesReply, Does, Ran};
+ghost use Rattle.sky_model.specs.Stops.{StopsAs};
 
 use crate::batch::Batch;
 use crate::database::Database;
-use crate::stop::Stop;
 use crate::subscription::Subscription;
 use crate::ticks::{MAX_COUNT, Tick};
-use sky_model::{Events, Extra, Limit, Refusal, Replies, Reply, Stmt};
+use sky_model::{Events, Extra, Limit, Refusal, Replies, Reply, Stmt, Stop};
 use sky_val::{Event, SessionId, Text, copy_option};
 use std::alloc::{AllocError, Global};
 
@@ -120,8 +120,8 @@ impl Database {
         ensures marks { OnOk result (seen_database self.new ≡ after_marks (seen_database self.old)
             (abort who ((seen_database self.old).part.session who).block ((seen_database self.old).part.session who).txid refusal)) }
     {
-        if aborts(&refusal) {
-            self.fail(who)?;
+        if refusal.aborts() {
+            self.roll_back(who)?;
         }
         Ok(Reply::Refused(refusal))
     }
@@ -391,13 +391,6 @@ fn made_event(
         event.ev_extra4 = copy_option(alloc, &extra.ev_extra4)?;
     }
     Ok(event)
-}
-
-/// Whether a refusal aborts the block of its session.
-fn aborts(refusal: &Refusal) -> bool
-    ensures { result ≡ aborts refusal.now }
-{
-    !matches!(refusal, Refusal::AlreadyOpen | Refusal::Busy)
 }
 
 /// Whether a statement on queues may stand in no block.

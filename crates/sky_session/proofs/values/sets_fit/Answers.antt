@@ -8,9 +8,9 @@ use Rattle.sky_model.specs.declared.reply.BadRow.TheVariants.{Twice, «Type»}
 use Rattle.sky_model.specs.declared.reply.Refusal.TheVariants.{BadRow}
 use Rattle.sky_model.specs.Outcome.{refused_by}
 use Rattle.sky_model.specs.StepRows.{bad_sets}
-use Rattle.sky_session.specs.declared.stop.Stop.{Stop}
-use Rattle.sky_session.specs.declared.stop.Stop.TheVariants.{Refused}
-use Rattle.sky_session.specs.Gives.{StopsAs}
+use Rattle.sky_model.specs.declared.stop.Stop.{Stop}
+use Rattle.sky_model.specs.declared.stop.Stop.TheVariants.{Refused}
+use Rattle.sky_model.specs.Stops.{StopsAs}
 use Rattle.sky_session.proofs.SetLemmas.{names_onto, bad_sets-at, bad_sets-pass, twice_bad, kind_bad, not_bad, named_before}
 use Rattle.sky_session.proofs.values.sets_fit.Goals as goal
 

@@ -3,7 +3,7 @@ use Rattle.std.proofs.lemmas.Result.{IfOk-weaker}
 use Rattle.sky_model.specs.ShownRows.{rows_by}
 use Rattle.sky_model.specs.StepRows.{attempts}
 use Rattle.sky_session.specs.Seen.{seen}
-use Rattle.sky_session.specs.Gives.{Stops}
+use Rattle.sky_model.specs.Stops.{Stops}
 use Rattle.sky_session.proofs.Steps.{gives-refused}
 use Rattle.sky_session.proofs.row_db.RowDb.run_attempt.Goals as goal
 

@@ -3,7 +3,7 @@ use Rattle.std.proofs.lemmas.Int.{to_z-of_z}
 use Rattle.sky_model.specs.Reader.{shown_by}
 use Rattle.sky_model.specs.Calls.{form}
 use Rattle.sky_world.specs.Seen.{seen_database}
-use Rattle.sky_world.specs.Gives.{Stops}
+use Rattle.sky_model.specs.Stops.{Stops}
 use Rattle.sky_world.proofs.Databases.{replies-refused}
 use Rattle.sky_world.proofs.database.Database.run_entered.Goals as goal
 

@@ -1,7 +1,7 @@
-use sky_model::Refusal;
+use crate::reply::Refusal;
 use std::alloc::AllocError;
 
-/// Why a statement has no answer.
+/// Why a statement has no answer of its own.
 #[derive(Debug)]
 pub enum Stop {
     Refused(Refusal),
@@ -10,7 +10,7 @@ pub enum Stop {
 
 impl From<AllocError> for Stop {
     ghost use Rattle.std.specs.Prelude.{◌≡◌};
-    ghost use Rattle.sky_world.specs.declared.stop.Stop.TheVariants.{NoMemory};
+    ghost use Rattle.sky_model.specs.declared.stop.Stop.TheVariants.{NoMemory};
 
     ghost from_gives = { λ _ stop. stop ≡ NoMemory };
 
@@ -21,7 +21,7 @@ impl From<AllocError> for Stop {
 
 impl From<Refusal> for Stop {
     ghost use Rattle.std.specs.Prelude.{◌≡◌};
-    ghost use Rattle.sky_world.specs.declared.stop.Stop.TheVariants.{Refused};
+    ghost use Rattle.sky_model.specs.declared.stop.Stop.TheVariants.{Refused};
 
     ghost from_gives = { λ refusal stop. stop ≡ Refused refusal };
 

@@ -4,7 +4,7 @@ use Rattle.sky_session.specs.Marks.{failure}
 use Rattle.sky_world.specs.Views.{DatabaseView}
 use Rattle.sky_world.specs.Seen.{seen_database}
 use Rattle.sky_world.proofs.Databases.{failed-as}
-use Rattle.sky_world.proofs.database.Database.fail.Goals as goal
+use Rattle.sky_world.proofs.database.Database.roll_back.Goals as goal
 
 pub returns : goal.returns
 returns c =

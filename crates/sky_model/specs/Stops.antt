@@ -1,0 +1,21 @@
+-- A statement's function stops: it is refused as its definition says, or memory was wanting.
+use Rattle.std.specs.Prelude.{◌≡◌, Err}
+use Rattle.sky_model.specs.declared.reply.Refusal.{Refusal}
+use Rattle.sky_model.specs.declared.stop.Stop.{Stop}
+use Rattle.sky_model.specs.declared.stop.Stop.TheVariants.{Refused, NoMemory}
+use Rattle.sky_model.specs.Outcome.{Checked}
+
+-- it is refused, and nothing has changed
+pub record Refuses {S A : Type 0} (old new : S) (refusal : Refusal) (checked : Checked A) : Type 0 where
+  pub refused : checked ≡ Err refusal
+  pub same : new ≡ old
+
+-- it is refused as its definition says, or memory was wanting
+abbrev pub Stops : {S A : Type 0} → Stop → S → S → Checked A → Type 0
+Stops (Refused refusal) old new checked = Refuses old new refusal checked
+Stops NoMemory old new checked = Unit {0}
+
+-- the same of a part of it, which changes nothing
+abbrev pub StopsAs : {A : Type 0} → Stop → Checked A → Type 0
+StopsAs (Refused refusal) checked = checked ≡ Err refusal
+StopsAs NoMemory checked = Unit {0}
