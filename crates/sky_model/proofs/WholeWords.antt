@@ -18,7 +18,8 @@ use Rattle.sky_model.specs.declared.line.Line.{Line}
 use Rattle.sky_model.specs.declared.line.Fixed.{Fixed}
 use Rattle.sky_model.specs.declared.line.Fixed.TheVariants as fixed
 use Rattle.sky_model.specs.Words.{is_parting, quoted_after, with_first, pieces, words}
-use Rattle.sky_model.specs.Kinds.{Kind, Name, Dotted, Number, OptText, Raw, Value, Column, Set, Of, value, is_bare, is_bare_word, raw, continues_name, is_identifier, is_name, names_around, first_place, is_dotted, is_number, number_from, number_of, int_of, below_zero, value_of, column_kind, column_around, set_as, set_by, set_around, is_text_byte, text_from, in_characters, quoted_text, opt_text}
+use Rattle.sky_val.specs.Numbers.{is_number, number_from, number_of, int_of, below_zero}
+use Rattle.sky_model.specs.Kinds.{Kind, Name, Dotted, Number, OptText, Raw, Value, Column, Set, Of, value, is_bare, is_bare_word, raw, continues_name, is_identifier, is_name, names_around, first_place, is_dotted, value_of, column_kind, column_around, set_as, set_by, set_around, is_text_byte, text_from, in_characters, quoted_text, opt_text}
 use Rattle.sky_model.specs.Grammar.{Row, stop, literal, one, either, many, next, all_next, goes_on, when, reads, text_of, all_forms, named_form, statement_of, session_of, session_line, run_of, line_of_words}
 use Rattle.sky_model.proofs.NameLemmas.{list_all-is_identifier, around_first}
 

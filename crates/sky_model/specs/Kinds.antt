@@ -4,6 +4,7 @@ use Rattle.std.specs.Char.{is_ascii_digit, is_ascii_lowercase}
 use Rattle.std.specs.List.{list_all}
 use Rattle.std.specs.Option.{option_or, option_and_then}
 use Rattle.std.specs.Str.{is_utf8}
+use Rattle.sky_val.specs.Numbers.{number_of, int_of}
 use Rattle.sky_val.specs.declared.val.Val.{Val}
 use Rattle.sky_val.specs.declared.val.Val.TheVariants.{Null, Int, Text}
 use Rattle.sky_val.specs.declared.column.ColKind.{ColKind}
@@ -66,20 +67,6 @@ first_place byte w = position (λ b. b == byte) w
 abbrev pub is_dotted : List ℕ → Bool
 is_dotted w = nat_le (length w) 63 && names_around (first_place 46 w) w
 
--- digits, with a zero in front only where it is alone
-abbrev pub is_number : List ℕ → Bool
-is_number [] = false
-is_number (b ∷ bs) = list_all is_ascii_digit (b ∷ bs) && (length bs == 0 || not (b == 48))
-
--- the number that digits write behind those that write n
-abbrev pub number_from : ℕ → List ℕ → ℕ
-number_from n [] = n
-number_from n (b ∷ bs) = number_from (n * 10 + (b - 48)) bs
-
--- the number that a word writes, if it is one and at most that
-abbrev pub number_of : ℕ → List ℕ → Option ℕ
-number_of most w = if is_number w && nat_le (number_from 0 w) most then Some (number_from 0 w) else None
-
 -- a byte that may stand inside quotes: neither a line feed nor the zero byte
 abbrev pub is_text_byte : ℕ → Bool
 is_text_byte b = not (b == 10) && not (b == 0)
@@ -118,18 +105,6 @@ is_bare_word (b ∷ bs) = list_all is_bare (b ∷ bs)
 -- a word without quotes, or the text of a quoted word
 abbrev pub raw : List ℕ → Option (List ℕ)
 raw w = if is_bare_word w then Some w else quoted_text w
-
--- a number below zero by how far it is, which isn't 0
-abbrev pub below_zero : ℕ → Option ℤ
-below_zero zero = None
-below_zero (suc n) = Some (negsuc n)
-
--- the number that a word writes, with `-` in front of one below zero, if it has 64 bits with its sign
-abbrev pub int_of : List ℕ → Option ℤ
-int_of [] = None
-int_of (b ∷ bs) =
-    if b == 45 then option_and_then below_zero (number_of (2 ^ 63) bs)
-    else option_map (λ n. pos n) (number_of (2 ^ 63 - 1) (b ∷ bs))
 
 -- `null`, a number or the text of a quoted word
 abbrev pub value_of : List ℕ → Option Val

@@ -1,4 +1,4 @@
--- Going over the bytes of a number and of a quoted text.
+-- Going over the bytes of a quoted text.
 use Rattle.std.proofs.Common.{◌≡◌, ◌≢◌, ◌==◌, ◌&&◌, ℕ, ◌+◌, ◌-◌, ◌*◌, ◌<◌, ◌≤◌, Bool, true, false, not, cond, List, [], ◌∷◌, ◌++◌, length, drop, get_or, refl, sym, ap, ◌∙◌, append_assoc, arith, Option, Some, None, option_map}
 use Rattle.std.proofs.lemmas.List.{drop_more}
 use Rattle.std.proofs.lemmas.Bool.{and_parts, ne_eqb}
@@ -6,29 +6,7 @@ use Rattle.std.specs.Char.{is_ascii_digit}
 use Rattle.std.specs.List.{list_all}
 use Rattle.std.specs.Str.{IsUtf8, is_utf8}
 use Rattle.std.proofs.lemmas.Str.{is_utf8-from_IsUtf8, IsUtf8-from_is_utf8}
-use Rattle.sky_model.specs.Kinds.{number_from, is_text_byte, text_from, in_characters}
-
--- further digits make no number less
-pub number_from-le : (n : ℕ) (bs : List ℕ) → n ≤ number_from n bs
-number_from-le n [] = omega arith
-number_from-le n (b ∷ bs) = omega (arith, number_from-le (n * 10 + (b - 48)) bs)
-
--- the digits before this place write n, and digits alone follow
-pub record Counts (word : List ℕ) (n i : ℕ) : Type 0 where
-  pub so_far : number_from 0 word ≡ number_from n (drop i word)
-  pub digits : list_all is_ascii_digit (drop i word) ≡ true
-
-pub counts_more : (word : List ℕ) (n i : ℕ) → i < length word → Counts word n i → Counts word (n * 10 + (get_or word i 0 - 48)) (i + 1)
-counts_more word n i inside so = record {
-  so_far = so.so_far ∙ ap (number_from n) (drop_more word i 0 inside);
-  digits = (and_parts (is_ascii_digit (get_or word i 0)) (list_all is_ascii_digit (drop (i + 1) word)) (ap (list_all is_ascii_digit) (sym (drop_more word i 0 inside)) ∙ so.digits)).1;
-}
-
--- the number with the digit of a place is at most the whole
-pub counts-le : (word : List ℕ) (n i : ℕ) → i < length word → Counts word n i → n * 10 + (get_or word i 0 - 48) ≤ number_from 0 word
-counts-le word n i inside so =
-    let more = counts_more word n i inside so in
-    omega (arith, more.so_far, number_from-le (n * 10 + (get_or word i 0 - 48)) (drop (i + 1) word))
+use Rattle.sky_model.specs.Kinds.{is_text_byte, text_from, in_characters}
 
 -- bytes that are characters are a text, and others aren't
 pub in_characters-yes : (bs : List ℕ) → IsUtf8 bs → in_characters (Some bs) ≡ Some bs

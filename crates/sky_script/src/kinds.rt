@@ -1,7 +1,6 @@
 //! The tests of single words.
 
-ghost use Rattle.std.specs.Prelude.{◌≡◌, ◌+◌, ◌-◌, ◌*◌, ◌^◌, ◌≤◌, ◌==◌, ◌&&◌, not, false, Some, IsTrue, IsUtf8, IfOk, IfSome, MatchOption, MatchResult, option_map};
-ghost use Rattle.std.specs.Char.{is_ascii_digit};
+ghost use Rattle.std.specs.Prelude.{◌≡◌, ◌==◌, ◌&&◌, not, false, Some, IsUtf8, IfOk, IfSome, MatchResult, option_map};
 ghost use Rattle.std.specs.List.{list_all};
 ghost use Rattle.sky_model.specs.Kinds as kind;
 
@@ -65,56 +64,6 @@ pub(crate) fn is_dotted(word: &[u8]) -> bool
     ensures { result ≡ kind.is_dotted word.now }
 {
     word.len() <= LONGEST_NAME && is_one_name_or_two(word)
-}
-
-fn all_digits(bytes: &[u8]) -> bool
-    ensures { result ≡ list_all is_ascii_digit bytes.now }
-{
-    bytes.iter().all(|byte| byte.is_ascii_digit())
-}
-
-fn is_number(word: &[u8]) -> bool
-    ensures { result ≡ kind.is_number word.now }
-{
-    match word.split_first() {
-        Some((first, others)) => all_digits(word) && (others.is_empty() || *first != b'0'),
-        None => false,
-    }
-}
-
-/// The number that a digit writes behind one, if it has 64 bits.
-fn with_digit(number: u64, digit: u8) -> Option<u64>
-    requires { IsTrue (is_ascii_digit digit) }
-    ensures { let with = number * 10 + (digit - 48) in MatchOption result (2 ^ 64 ≤ with) (λ more. more ≡ with) }
-{
-    let tens = number.checked_mul(10)?;
-    tens.checked_add(u64::from(digit - b'0'))
-}
-
-/// The number that digits write, if it has 64 bits.
-fn number_from(digits: &[u8]) -> Option<u64>
-    requires { IsTrue (list_all is_ascii_digit digits.now) }
-    ensures { let whole = kind.number_from 0 digits.now in
-        MatchOption result (2 ^ 64 ≤ whole) (λ number. number ≡ whole) }
-{
-    let mut number = 0;
-    for digit in digits {
-        number = with_digit(number, *digit)?;
-    }
-    Some(number)
-}
-
-/// The number that a word writes, if it is one and at most that.
-pub(crate) fn number_of(word: &[u8], most: u64) -> Option<u64>
-    ensures { result ≡ kind.number_of most word.now }
-{
-    if !is_number(word) {
-        return None;
-    }
-    match number_from(word) {
-        Some(number) if number <= most => Some(number),
-        _ => None,
-    }
 }
 
 /// The bytes as a text, if they are characters.

@@ -1,37 +1,13 @@
 //! The tests of the words of tables and rows.
 
-ghost use Rattle.std.specs.Prelude.{◌≡◌, ◌^◌, ◌≤◌, Some, MatchResult};
+ghost use Rattle.std.specs.Prelude.{◌≡◌, Some, MatchResult};
 ghost use Rattle.sky_model.specs.Kinds as kinds;
 
 use crate::cause::LineCause;
-use crate::kinds::{first_place, is_name, number_of, plain_text, quoted_text};
+use crate::kinds::{first_place, is_name, plain_text, quoted_text};
 use sky_model::{Change, Set};
-use sky_val::{ColKind, Column, Val};
+use sky_val::{ColKind, Column, Val, int_of};
 use std::alloc::Global;
-
-/// How far below zero a number may be.
-const FARTHEST_BELOW: u64 = 1 << 63;
-
-/// The number that is so far below zero, if there is one.
-fn below_zero(distance: u64) -> Option<i64>
-    requires { distance ≤ 2 ^ 63 }
-    ensures { result ≡ kinds.below_zero distance }
-{
-    if distance == 0 {
-        return None;
-    }
-    Some(-((distance - 1) as i64) - 1)
-}
-
-/// The number that a word writes, with its sign.
-fn int_of(word: &[u8]) -> Option<i64>
-    ensures { result ≡ kinds.int_of word.now }
-{
-    match word.split_first() {
-        Some((b'-', digits)) => below_zero(number_of(digits, FARTHEST_BELOW)?),
-        _ => Some(number_of(word, FARTHEST_BELOW - 1)? as i64),
-    }
-}
 
 /// The value that a word writes.
 pub(crate) fn value_of(alloc: Global, word: &[u8]) -> Result<Option<Val>, LineCause>

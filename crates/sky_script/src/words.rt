@@ -10,10 +10,10 @@ ghost use Rattle.sky_script.specs.Unread.{words_in};
 ghost use Rattle.sky_script.specs.Reading.{Answers, IsAnswer, Reads};
 
 use crate::cause::LineCause;
-use crate::kinds::{is_bare_word, is_dotted, is_name, number_of, plain_text, quoted_text};
+use crate::kinds::{is_bare_word, is_dotted, is_name, plain_text, quoted_text};
 use crate::row_words::{column_of, set_of, value_of};
 use sky_model::{Fixed, Set};
-use sky_val::{Column, Text, Val};
+use sky_val::{Column, Text, Val, number_of};
 use std::alloc::Global;
 use std::marker::Model;
 

@@ -1,5 +1,6 @@
 pub mod EntryLemmas
 pub mod Orders
+pub mod NumberLemmas
 pub mod SchemaLemmas
 pub mod SchemaLaws
 pub mod WaitLemmas

@@ -1,5 +1,6 @@
 pub mod Entries
 pub mod Kept
+pub mod Numbers
 pub mod Order
 pub mod OrderLaws
 pub mod Schemas

@@ -9,6 +9,7 @@
 mod column;
 mod event;
 mod key;
+mod numbers;
 mod op;
 mod row;
 mod schema;
@@ -18,6 +19,7 @@ mod val;
 pub use column::{ColKind, Column};
 pub use event::Event;
 pub use key::Key;
+pub use numbers::{int_of, number_of};
 pub use op::Op;
 pub use row::Row;
 pub use schema::{RowFault, Schema, SchemaFault};

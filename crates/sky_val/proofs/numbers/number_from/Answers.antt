@@ -1,6 +1,6 @@
 use Rattle.std.proofs.Common.{arith}
-use Rattle.sky_script.proofs.KindLemmas.{counts-le}
-use Rattle.sky_script.proofs.kinds.number_from.Goals as goal
+use Rattle.sky_val.proofs.NumberLemmas.{counts-le}
+use Rattle.sky_val.proofs.numbers.number_from.Goals as goal
 
 pub returns-in_err-number : goal.returns-in_err-number
 returns-in_err-number c =
