@@ -1,0 +1,32 @@
+-- One more column is written behind those before it; where none is left, the text is whole.
+use Rattle.std.proofs.Common.{rules, ◌≡◌, [], ◌∷◌, ◌++◌, ◌+◌, ◌∙◌, sym, ap, inl, inr, append-nil, string_bytes}
+use Rattle.sky_urlenc.specs.RowText.{column_text, column_texts}
+use Rattle.sky_urlenc.proofs.RowTexts.{left_text, next_behind, next_first, left-end}
+use Rattle.sky_urlenc.proofs.encode.encode_row.Goals as goal
+use Rattle.sky_urlenc.proofs.encode.encode_row.Goals.{then-place-gt0+in_ok-push, else-place-gt0}
+
+pub loop-place-preserved : goal.loop-place-preserved
+loop-place-preserved c =
+    let steps = c.in-Some.ensures.steps in
+    let count = c.loop-place.place-iterator.count in
+    let piece = column_text c.in-Some.column.now c.in-Some.value.now in
+    let pieces = column_texts c.next.new.self.iter.a.rest.now c.next.new.self.iter.b.rest.now in
+    let old = string_bytes c.loop-place.text in
+    let new = string_bytes c.append_column.new.into in
+    let grown : new ++ left_text (count + 1) pieces ≡ old ++ left_text count (piece ∷ pieces) =
+    elim c.if-place-gt0.branch [
+      | then-place-gt0+in_ok-push w ↦
+          let pushed : string_bytes w.push.new.self ≡ old ++ 38 ∷ [] = search rules in
+          next_behind count old _ new piece pieces (rw steps.1 at w.if-place-gt0.true) pushed (rw (← w.text-is) c.in_ok-append_column.ensures)
+      | else-place-gt0 w ↦
+          next_first count old new piece pieces (rw steps.1 at w.if-place-gt0.false) (rw (← w.text-is) c.in_ok-append_column.ensures)
+    ] in
+    ap (λ n. new ++ left_text n pieces) steps.2 ∙ grown
+    ∙ ap (λ texts. old ++ left_text count texts) (sym (λ i. column_texts (steps.0.0 i) (steps.0.1 i)))
+    ∙ c.loop-place.invariant
+
+pub returns : goal.returns
+returns c =
+    let left = left-end c.loop-place.place-iterator.count c.loop-place.place-iterator.iter.a.rest.now c.loop-place.place-iterator.iter.b.rest.now
+    (elim c.in-None.ensures.steps.0 [ inl w ↦ inl w.1.0 | inr w ↦ inr w.1.0 ]) in
+    record { text = c.from_string.ensures ∙ sym (append-nil _) ∙ ap (λ text. string_bytes c.loop-place.text ++ text) (sym left) ∙ c.loop-place.invariant }

@@ -1,0 +1,9 @@
+use Rattle.std.proofs.Common.{◌≡◌, ◌++◌, string_bytes}
+use Rattle.sky_urlenc.specs.RowText.{column_texts, row_text}
+use Rattle.sky_urlenc.proofs.RowTexts.{left_text}
+use Rattle.sky_urlenc.proofs.encode.encode_row.Given as goal
+
+-- the text so far, and what is left to write, are the row's text
+abbrev pub invariant-loop-place : goal.invariant-loop-place
+invariant-loop-place l =
+    string_bytes l.text ++ left_text l.place-iterator.count (column_texts l.place-iterator.iter.a.rest.now l.place-iterator.iter.b.rest.now) ≡ row_text l.schema l.row

@@ -1,0 +1,2 @@
+pub mod EventType
+pub mod RowText

@@ -1,0 +1,66 @@
+//! Rows as text.
+
+ghost use Rattle.std.specs.Prelude.{◌≡◌, ◌++◌, None, IfOk, OnOk, string_bytes};
+ghost use Rattle.std.specs.Fmt.{signed_decimal};
+ghost use Rattle.form_urlencoded.specs.Form.{byte_serialize};
+ghost use Rattle.sky_val.specs.Schemas.{row_fault};
+ghost use Rattle.sky_urlenc.specs.RowText.{column_text, row_text};
+
+use form_urlencoded::byte_serialize;
+use itoa::Buffer;
+use sky_val::{Column, NoMemory, Row, Schema, Text, Val};
+use std::alloc::Global;
+
+/// How many bytes a column takes in most rows, its name among them.
+const USUAL_BYTES: usize = 16;
+
+/// The text of a row of the table.
+pub fn encode_row(alloc: Global, schema: &Schema, row: &Row) -> Result<Text, NoMemory>
+    requires { row_fault schema.now row.now ≡ None }
+    ensures text { IfOk result (λ text. text ≡ row_text schema.now row.now) }
+{
+    let columns = schema.columns();
+    let mut text = String::with_capacity(alloc, columns.len() * USUAL_BYTES)?;
+    for (place, (column, value)) in columns.iter().zip(row.values()).enumerate() {
+        if place > 0 {
+            text.push('&')?;
+        }
+        append_column(column, value, &mut text)?;
+    }
+    Ok(Text::from_string(text))
+}
+
+/// Appends a column with its value.
+fn append_column(column: &Column, value: &Val, into: &mut String) -> Result<(), NoMemory>
+    ensures { OnOk result
+        (string_bytes into.new ≡ string_bytes into.old ++ column_text column.now value.now) }
+{
+    append_escaped(&column.name, into)?;
+    match value {
+        Val::Null => Ok(()),
+        Val::Int(number) => {
+            into.push('=')?;
+            append_number(*number, into)
+        }
+        Val::Text(text) => {
+            into.push('=')?;
+            append_escaped(text, into)
+        }
+    }
+}
+
+fn append_number(number: i64, into: &mut String) -> Result<(), NoMemory>
+    ensures { OnOk result (string_bytes into.new ≡ string_bytes into.old ++ signed_decimal number) }
+{
+    into.push_str(Buffer::new().format(number))
+}
+
+/// Appends a text with its bytes escaped.
+fn append_escaped(text: &Text, into: &mut String) -> Result<(), NoMemory>
+    ensures { OnOk result (string_bytes into.new ≡ string_bytes into.old ++ byte_serialize text.now) }
+{
+    for piece in byte_serialize(text.bytes()) {
+        into.push_str(piece)?;
+    }
+    Ok(())
+}
