@@ -1,10 +1,12 @@
 -- A row's text as it grows, column by column.
-use Rattle.std.proofs.Common.{◌≡◌, ◌⊎◌, inl, inr, ℕ, zero, suc, ◌+◌, ◌<◌, ◌≤◌, List, [], ◌∷◌, ◌++◌, length, refl, sym, ◌∙◌, ap, arith, append_assoc, append-nil}
+use Rattle.std.proofs.Common.{◌≡◌, ◌⊎◌, inl, inr, Bool, true, false, ℕ, zero, suc, ◌+◌, ◌<◌, ◌≤◌, List, [], ◌∷◌, ◌++◌, length, refl, sym, ◌∙◌, ap, arith, append_assoc, append-nil, cond, drop, get_or, add-one}
 use Rattle.std.specs.List.{join_with_byte}
+use Rattle.std.proofs.Math.Seq.{drop-cons}
 use Rattle.std.proofs.lemmas.List.{nil_from_length}
 use Rattle.form_urlencoded.specs.Form.{ampersand}
 use Rattle.sky_val.specs.declared.val.Val.{Val}
 use Rattle.sky_val.specs.declared.column.Column.{Column}
+use Rattle.sky_val.specs.Schemas.{key_columns}
 use Rattle.sky_urlenc.specs.RowText.{column_text, column_texts}
 
 -- pieces, a byte before each
@@ -16,6 +18,11 @@ behind_byte byte (piece ∷ pieces) = byte ∷ piece ++ behind_byte byte pieces
 abbrev pub left_text : ℕ → List (List ℕ) → List ℕ
 left_text zero pieces = join_with_byte ampersand pieces
 left_text (suc place) pieces = behind_byte ampersand pieces
+
+-- what is left to write of pieces, the first of all among them or not
+abbrev pub left_from : ℕ → Bool → List (List ℕ) → List ℕ
+left_from byte true pieces = join_with_byte byte pieces
+left_from byte false pieces = behind_byte byte pieces
 
 pub join-behind : (byte : ℕ) (piece : List ℕ) (pieces : List (List ℕ)) → join_with_byte byte (piece ∷ pieces) ≡ piece ++ behind_byte byte pieces
 join-behind byte piece [] = sym (append-nil piece)
@@ -46,3 +53,19 @@ pub left-end : (place : ℕ) (columns : List Column) (row : List Val) → (lengt
 left-end place columns row (inl none) = ap (λ cs. left_text place (column_texts cs row)) (nil_from_length columns none) ∙ left_none place
 left-end place [] row (inr none) = left_none place
 left-end place (column ∷ columns) row (inr none) = ap (λ values. left_text place (column_texts (column ∷ columns) values)) (nil_from_length row none) ∙ left_none place
+
+-- one more name is written: as the first, or behind the byte
+pub next_as_first : (byte : ℕ) (old new piece : List ℕ) (pieces : List (List ℕ)) → new ≡ old ++ piece → new ++ left_from byte false pieces ≡ old ++ left_from byte true (piece ∷ pieces)
+next_as_first byte old new piece pieces added =
+    ap (λ text. text ++ behind_byte byte pieces) added ∙ append_assoc old piece (behind_byte byte pieces) ∙ ap (λ text. old ++ text) (sym (join-behind byte piece pieces))
+
+pub next_behind_byte : (byte : ℕ) (old mid new piece : List ℕ) (pieces : List (List ℕ)) → mid ≡ old ++ byte ∷ [] → new ≡ mid ++ piece → new ++ left_from byte false pieces ≡ old ++ left_from byte false (piece ∷ pieces)
+next_behind_byte byte old mid new piece pieces pushed added = rw (added, pushed) (simp append_assoc)
+
+-- the next column is the first of the key columns that are left
+pub key_next : (columns : List Column) (place : ℕ) (column : Column) → place < length columns → column ≡ get_or columns place column → column.key ≡ true
+    → key_columns (drop place columns) ≡ column ∷ key_columns (drop (place + 1) columns)
+key_next columns place column within is key =
+    ap key_columns (drop-cons columns place column within ∙ (λ i. sym is i ∷ drop (suc place) columns))
+    ∙ ap (λ b. cond b (column ∷ key_columns (drop (suc place) columns)) (key_columns (drop (suc place) columns))) key
+    ∙ ap (λ n. column ∷ key_columns (drop n columns)) (sym (add-one place))

@@ -7,5 +7,7 @@
 #![tactic(auto)]
 
 mod encode;
+mod event_kind;
 
 pub use encode::encode_row;
+pub use event_kind::event_type;

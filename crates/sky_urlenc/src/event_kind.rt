@@ -1,0 +1,49 @@
+//! The types of the events that tell of written rows.
+
+ghost use Rattle.std.specs.Prelude.{◌≡◌, [], ◌∷◌, ◌++◌, map, IfOk, OnOk, string_bytes};
+ghost use Rattle.std.specs.List.{join_with_byte};
+ghost use Rattle.sky_val.specs.Schemas.{key_columns};
+ghost use Rattle.sky_urlenc.specs.EventType.{colon, comma, op_letter, event_type};
+
+use sky_val::{Column, NoMemory, Op, Schema, Text};
+use std::alloc::Global;
+
+/// The type of the event that tells what was done to a row of the table: `I`, `U` or `D`, a colon, and the
+/// names of the key columns with commas between.
+pub fn event_type(alloc: Global, op: Op, schema: &Schema) -> Result<Text, NoMemory>
+    ensures { IfOk result (λ text. text ≡ event_type op schema.now) }
+{
+    let mut text = String::new(alloc);
+    text.push_str(op_mark(op))?;
+    append_key_names(schema.columns(), &mut text)?;
+    Ok(Text::from_string(text))
+}
+
+/// The letter of what was done, and a colon.
+fn op_mark(op: Op) -> &'static str
+    ensures { result.now ≡ op_letter op ∷ colon ∷ [] }
+{
+    match op {
+        Op::Insert => "I:",
+        Op::Update => "U:",
+        Op::Delete => "D:",
+    }
+}
+
+fn append_key_names(columns: &[Column], into: &mut String) -> Result<(), NoMemory>
+    ensures { OnOk result (string_bytes into.new ≡ string_bytes into.old
+        ++ join_with_byte comma (map (λ column. column.name) (key_columns columns.now))) }
+{
+    let mut first = true;
+    for column in columns {
+        if !column.key {
+            continue;
+        }
+        if !first {
+            into.push(',')?;
+        }
+        into.push_str(column.name.as_str())?;
+        first = false;
+    }
+    Ok(())
+}
