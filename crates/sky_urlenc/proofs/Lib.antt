@@ -1,1 +1,2 @@
 pub mod RowTexts
+mod Worked

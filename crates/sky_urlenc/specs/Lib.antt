@@ -1,2 +1,4 @@
+pub mod Changes
 pub mod EventType
+pub mod ReadRow
 pub mod RowText

@@ -8,6 +8,8 @@
 
 mod encode;
 mod event_kind;
+mod fault;
 
 pub use encode::encode_row;
 pub use event_kind::event_type;
+pub use fault::DecodeFault;

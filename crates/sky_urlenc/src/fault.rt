@@ -1,0 +1,42 @@
+//! Why a text is no row.
+
+ghost use Rattle.std.specs.Prelude.{◌≡◌};
+
+use std::alloc::AllocError;
+use thiserror::Error;
+
+/// Why a text is no row of the table: the first fault, and the byte place where its piece starts.
+#[derive(Clone, Copy, Debug, PartialEq, Eq, Error)]
+pub enum DecodeFault {
+    /// The name or the value isn't UTF-8 once it is decoded.
+    #[error("the piece at byte {0} is no text")]
+    BadText(usize),
+    /// No column has the name.
+    #[error("the piece at byte {0} is for no column of the table")]
+    UnknownColumn(usize),
+    /// An earlier piece is for the same column.
+    #[error("the piece at byte {0} is for the column of an earlier one")]
+    TwiceColumn(usize),
+    /// The piece gives Null to a column of the key.
+    #[error("the piece at byte {0} gives Null to a column of the key")]
+    NullKey(usize),
+    /// The column takes numbers, and the value is none, or has more than 64 bits.
+    #[error("the piece at byte {0} gives no number to a column of numbers")]
+    BadInt(usize),
+    /// The first column that no piece is for, by its place.
+    #[error("no piece is for the column at {0}")]
+    MissingColumn(usize),
+    /// Memory was refused.
+    #[error("out of memory")]
+    NoMemory,
+}
+
+impl From<AllocError> for DecodeFault {
+    ghost use Rattle.sky_urlenc.specs.declared.fault.DecodeFault.TheVariants.{NoMemory};
+
+    ghost from_gives = { λ _ fault. fault ≡ NoMemory };
+
+    fn from(_: AllocError) -> DecodeFault {
+        DecodeFault::NoMemory
+    }
+}
