@@ -1,6 +1,6 @@
 -- How a row is read from a text: pieces between `&`, each a column's name, `=` and its value, or a name alone for Null.
-use Rattle.std.specs.Prelude.{ℕ, ◌+◌, ◌==◌, Bool, true, not, ◌&&◌, if◌then◌else◌, List, [], ◌∷◌, length, filter, find, Option, None, Some, is_some, is_none, option_map, Result, Ok, Err, bytes_eq}
-use Rattle.std.specs.List.{slice_split, before_first, after_first, enumerate_from, list_any}
+use Rattle.std.specs.Prelude.{ℕ, ◌+◌, ◌==◌, Bool, true, not, ◌&&◌, if◌then◌else◌, List, [], ◌∷◌, length, filter, find, Option, None, Some, is_none, option_map, Result, Ok, Err, bytes_eq, slice_index_or, slice_set, map, take, drop}
+use Rattle.std.specs.List.{slice_split, enumerate_from, position}
 use Rattle.std.specs.Str.{is_utf8}
 use Rattle.form_urlencoded.specs.Form.{ampersand, equals_sign, is_nonempty, decode}
 use Rattle.sky_val.specs.declared.val.Val.{Val}
@@ -47,36 +47,35 @@ abbrev pub placed : ℕ → List (List ℕ) → List Piece
 placed start [] = []
 placed start (part ∷ parts) = record { start = start; bytes = part } ∷ placed (start + length part + 1) parts
 
--- the pieces of a text; an empty one is skipped
-abbrev pub pieces_of : List ℕ → List Piece
-pieces_of text = filter (λ piece. is_nonempty piece.bytes) (placed 0 (slice_split (λ b. b == ampersand) text))
+-- the pieces of a text that starts at a place; an empty one is skipped
+abbrev pub pieces_from : ℕ → List ℕ → List Piece
+pieces_from start text = filter (λ piece. is_nonempty piece.bytes) (placed start (slice_split (λ b. b == ampersand) text))
 
-abbrev pub is_equals : ℕ → Bool
-is_equals b = b == equals_sign
+-- what stands before the first `=` of a piece, which is here, and what stands behind it; where there is none, only the piece
+abbrev pub sides_at : Option ℕ → List ℕ → List ℕ × Option (List ℕ)
+sides_at None bytes = (bytes, None)
+sides_at (Some place) bytes = (take place bytes, Some (drop (place + 1) bytes))
 
--- the name that a piece gives: what stands before its first `=`, decoded
+abbrev pub sides_of : Piece → List ℕ × Option (List ℕ)
+sides_of piece = sides_at (position (λ b. b == equals_sign) piece.bytes) piece.bytes
+
+-- the name that a piece gives, and the text, if it gives one
 abbrev pub name_in : Piece → List ℕ
-name_in piece = decode (before_first is_equals piece.bytes)
+name_in piece = decode (sides_of piece).0
 
--- the text that it gives: what stands behind its first `=`, decoded; none where there is no `=`
 abbrev pub text_in : Piece → Option (List ℕ)
-text_in piece = if list_any is_equals piece.bytes then Some (decode (after_first is_equals piece.bytes)) else None
+text_in piece = option_map decode (sides_of piece).1
 
 -- whether the bytes of a text are characters, where there is a text
 abbrev pub is_utf8_or_none : Option (List ℕ) → Bool
 is_utf8_or_none None = true
 is_utf8_or_none (Some text) = is_utf8 text
 
+-- whether what a piece gives is text
+abbrev pub is_text : Piece → Bool
+is_text piece = is_utf8 (name_in piece) && is_utf8_or_none (text_in piece)
+
 -- ---- what they give
-
--- a value for the column at a place
-pub record Given : Type 0 where
-  pub place : ℕ
-  pub value : Val
-
--- the value for the column at a place, if it is given
-abbrev pub value_at : ℕ → List Given → Option Val
-value_at place given = option_map (λ g. g.value) (find (λ g. g.place == place) given)
 
 -- the column of a name, behind its place
 abbrev pub column_named : List ℕ → List Column → Option (ℕ × Column)
@@ -88,33 +87,34 @@ value_of k None = Some Null
 value_of kind.Int (Some text) = option_map (λ n. Int n) (int_of text)
 value_of kind.Text (Some text) = Some (Text text)
 
--- what a piece gives, where earlier ones gave these values
-abbrev pub given_by : List Column → List Given → Piece → Checked Given
+-- the value that a column takes of a piece that starts at a place and gives this text
+abbrev pub value_for : ℕ → Column → Option (List ℕ) → Checked Val
+value_for start column text = do
+  holds_or (not (column.key && is_none text)) (NullKey start)
+  found_or (value_of column.kind text) (BadInt start)
+
+-- what the columns have, each a value or nothing yet, once a piece gave one of them its value
+abbrev pub given_by : List Column → List (Option Val) → Piece → Checked (List (Option Val))
 given_by columns given piece = do
-  holds_or (is_utf8 (name_in piece) && is_utf8_or_none (text_in piece)) (BadText piece.start)
+  holds_or (is_text piece) (BadText piece.start)
   (place, column) ← found_or (column_named (name_in piece) columns) (UnknownColumn piece.start)
-  holds_or (is_none (value_at place given)) (TwiceColumn piece.start)
-  holds_or (not (column.key && is_none (text_in piece))) (NullKey piece.start)
-  value ← found_or (value_of column.kind (text_in piece)) (BadInt piece.start)
-  Ok (record { place = place; value = value })
+  holds_or (is_none (slice_index_or given place None)) (TwiceColumn piece.start)
+  value ← value_for piece.start column (text_in piece)
+  Ok (slice_set given place (Some value))
 
--- all that pieces give, with what earlier ones gave
-abbrev pub all_given : List Column → List Given → List Piece → Checked (List Given)
+-- the same once each piece did, in turn
+abbrev pub all_given : List Column → List (Option Val) → List Piece → Checked (List (Option Val))
 all_given columns given [] = Ok given
-all_given columns given (piece ∷ pieces) = do
-  more ← given_by columns given piece
-  all_given columns (more ∷ given) pieces
+all_given columns given (piece ∷ pieces) = given_by columns given piece >>= λ more. all_given columns more pieces
 
--- the values of columns, the first of which stands at a place
-abbrev pub values_from : ℕ → List Column → List Given → Checked (List Val)
-values_from place [] given = Ok []
-values_from place (column ∷ columns) given = do
-  value ← found_or (value_at place given) (MissingColumn place)
-  values ← values_from (place + 1) columns given
-  Ok (value ∷ values)
+-- the values that columns have, the first of which stands at a place
+abbrev pub values_from : ℕ → List (Option Val) → Checked (List Val)
+values_from place [] = Ok []
+values_from place (None ∷ given) = Err (MissingColumn place)
+values_from place (Some value ∷ given) = values_from (place + 1) given >>= λ values. Ok (value ∷ values)
 
 -- the row that a text writes, or the first fault
 abbrev pub read_row : List Column → List ℕ → Checked (List Val)
 read_row columns text = do
-  given ← all_given columns [] (pieces_of text)
-  values_from 0 columns given
+  given ← all_given columns (map (λ _. None) columns) (pieces_from 0 text)
+  values_from 0 given

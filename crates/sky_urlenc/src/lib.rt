@@ -6,9 +6,11 @@
 //! back. Nothing here keeps a row or an event, knows a trigger, or mends a text that is wrong.
 #![tactic(auto)]
 
+mod cut;
 mod encode;
 mod event_kind;
 mod fault;
+mod pieces;
 
 pub use encode::encode_row;
 pub use event_kind::event_type;
