@@ -2,7 +2,8 @@
 
 ghost use Rattle.std.specs.Prelude.{◌≡◌};
 
-use std::alloc::AllocError;
+use sky_val::Val;
+use std::alloc::{AllocError, AllocFailed};
 use thiserror::Error;
 
 /// Why a text is no row of the table: the first fault, and the byte place where its piece starts.
@@ -37,6 +38,16 @@ impl From<AllocError> for DecodeFault {
     ghost from_gives = { λ _ fault. fault ≡ NoMemory };
 
     fn from(_: AllocError) -> DecodeFault {
+        DecodeFault::NoMemory
+    }
+}
+
+impl From<AllocFailed<Val>> for DecodeFault {
+    ghost use Rattle.sky_urlenc.specs.declared.fault.DecodeFault.TheVariants.{NoMemory};
+
+    ghost from_gives = { λ _ fault. fault ≡ NoMemory };
+
+    fn from(_: AllocFailed<Val>) -> DecodeFault {
         DecodeFault::NoMemory
     }
 }

@@ -7,11 +7,14 @@
 #![tactic(auto)]
 
 mod cut;
+mod decode;
 mod encode;
 mod event_kind;
 mod fault;
 mod pieces;
+mod sides;
 
+pub use decode::decode_row;
 pub use encode::encode_row;
 pub use event_kind::event_type;
 pub use fault::DecodeFault;
