@@ -1,3 +1,4 @@
 pub mod RowTexts
 pub mod Cutting
+pub mod Fitting
 mod Worked

@@ -14,6 +14,7 @@ use std::alloc::Global;
 /// The row of the table that a text writes: each column once, in any order.
 pub fn decode_row(alloc: Global, schema: &Schema, text: &[u8]) -> Result<Row, DecodeFault>
     ensures row { IfOk result (λ row. read_row schema.now text.now ≡ Ok row) }
+    ensures fits { IfOk result (λ row. row_fault schema.now row ≡ None) }
 
     // Where the text is no row, memory may still be refused first.
     ensures refused { IfErr result (λ fault.
