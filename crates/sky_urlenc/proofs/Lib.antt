@@ -1,4 +1,6 @@
 pub mod RowTexts
 pub mod Cutting
 pub mod Fitting
+pub mod NumberBack
+pub mod ReadBack
 mod Worked

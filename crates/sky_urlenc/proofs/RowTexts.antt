@@ -7,6 +7,7 @@ use Rattle.form_urlencoded.specs.Form.{ampersand}
 use Rattle.sky_val.specs.declared.val.Val.{Val}
 use Rattle.sky_val.specs.declared.column.Column.{Column}
 use Rattle.sky_val.specs.Schemas.{key_columns}
+use Rattle.sky_urlenc.specs.Held.{HoldsAll}
 use Rattle.sky_urlenc.specs.RowText.{column_text, column_texts}
 
 -- pieces, a byte before each
@@ -53,6 +54,11 @@ pub left-end : (place : ℕ) (columns : List Column) (row : List Val) → (lengt
 left-end place columns row (inl none) = ap (λ cs. left_text place (column_texts cs row)) (nil_from_length columns none) ∙ left_none place
 left-end place [] row (inr none) = left_none place
 left-end place (column ∷ columns) row (inr none) = ap (λ values. left_text place (column_texts (column ∷ columns) values)) (nil_from_length row none) ∙ left_none place
+
+pub none_held : (columns : List Column) (row : List Val) → (length columns ≡ 0) ⊎ (length row ≡ 0) → HoldsAll columns row
+none_held [] row ended = tt
+none_held (column ∷ columns) [] ended = tt
+none_held (column ∷ columns) (v ∷ row) ended = absurd (elim ended [ inl none ↦ omega arith | inr none ↦ omega arith ])
 
 -- one more name is written: as the first, or behind the byte
 pub next_as_first : (byte : ℕ) (old new piece : List ℕ) (pieces : List (List ℕ)) → new ≡ old ++ piece → new ++ left_from byte false pieces ≡ old ++ left_from byte true (piece ∷ pieces)

@@ -1,6 +1,7 @@
 pub mod Changes
 pub mod Cuts
 pub mod EventType
+pub mod Held
 pub mod Pieces
 pub mod ReadRow
 pub mod RowText

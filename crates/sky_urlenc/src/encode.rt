@@ -1,10 +1,13 @@
 //! Rows as text.
 
-ghost use Rattle.std.specs.Prelude.{◌≡◌, ◌++◌, None, IfOk, OnOk, string_bytes};
+ghost use Rattle.std.specs.Prelude.{◌≡◌, ◌<◌, ◌++◌, All, None, Ok, IfOk, OnOk, FitsSigned, string_bytes};
 ghost use Rattle.std.specs.Fmt.{signed_decimal};
+ghost use Rattle.std.specs.Int.{w64};
 ghost use Rattle.form_urlencoded.specs.Form.{byte_serialize};
 ghost use Rattle.sky_val.specs.Schemas.{row_fault};
-ghost use Rattle.sky_urlenc.specs.RowText.{column_text, row_text};
+ghost use Rattle.sky_urlenc.specs.Held.{HoldsOne};
+ghost use Rattle.sky_urlenc.specs.ReadRow.{read_row};
+ghost use Rattle.sky_urlenc.specs.RowText.{AreNamed, column_text, row_text};
 
 use form_urlencoded::byte_serialize;
 use itoa::Buffer;
@@ -18,6 +21,9 @@ const USUAL_BYTES: usize = 16;
 pub fn encode_row(alloc: Global, schema: &Schema, row: &Row) -> Result<Text, NoMemory>
     requires { row_fault schema.now row.now ≡ None }
     ensures text { IfOk result (λ text. text ≡ row_text schema.now row.now) }
+
+    // A column with no name and no value would leave no trace.
+    ensures back { IfOk result (λ text. AreNamed schema.now → read_row schema.now text ≡ Ok row.now) }
 {
     let columns = schema.columns();
     let mut text = String::with_capacity(alloc, columns.len() * USUAL_BYTES)?;
@@ -32,10 +38,11 @@ pub fn encode_row(alloc: Global, schema: &Schema, row: &Row) -> Result<Text, NoM
 
 /// Appends a column with its value.
 fn append_column(column: &Column, value: &Val, into: &mut String) -> Result<(), NoMemory>
-    ensures { OnOk result
+    ensures text { OnOk result
         (string_bytes into.new ≡ string_bytes into.old ++ column_text column.now value.now) }
+    ensures holds { OnOk result (HoldsOne column.now value.now) }
 {
-    append_escaped(&column.name, into)?;
+    append_escaped(column.name.bytes(), into)?;
     match value {
         Val::Null => Ok(()),
         Val::Int(number) => {
@@ -44,22 +51,26 @@ fn append_column(column: &Column, value: &Val, into: &mut String) -> Result<(), 
         }
         Val::Text(text) => {
             into.push('=')?;
-            append_escaped(text, into)
+            append_escaped(text.bytes(), into)
         }
     }
 }
 
 fn append_number(number: i64, into: &mut String) -> Result<(), NoMemory>
-    ensures { OnOk result (string_bytes into.new ≡ string_bytes into.old ++ signed_decimal number) }
+    ensures text { OnOk result
+        (string_bytes into.new ≡ string_bytes into.old ++ signed_decimal number) }
+    ensures fits { FitsSigned w64 number }
 {
     into.push_str(Buffer::new().format(number))
 }
 
-/// Appends a text with its bytes escaped.
-fn append_escaped(text: &Text, into: &mut String) -> Result<(), NoMemory>
-    ensures { OnOk result (string_bytes into.new ≡ string_bytes into.old ++ byte_serialize text.now) }
+/// Appends bytes, escaped.
+fn append_escaped(bytes: &[u8], into: &mut String) -> Result<(), NoMemory>
+    ensures text { OnOk result
+        (string_bytes into.new ≡ string_bytes into.old ++ byte_serialize bytes.now) }
+    ensures small { OnOk result (All (λ b. b < 256) bytes.now) }
 {
-    for piece in byte_serialize(text.bytes()) {
+    for piece in byte_serialize(bytes) {
         into.push_str(piece)?;
     }
     Ok(())

@@ -1,7 +1,12 @@
 -- One more column is written behind those before it; where none is left, the text is whole.
-use Rattle.std.proofs.Common.{rules, ◌≡◌, [], ◌∷◌, ◌++◌, ◌+◌, ◌∙◌, sym, ap, inl, inr, append-nil, string_bytes}
+use Rattle.std.proofs.Common.{rules, ◌≡◌, ◌⊎◌, length, subst, List, [], ◌∷◌, ◌++◌, ◌+◌, ◌∙◌, sym, ap, inl, inr, append-nil, string_bytes}
+use Rattle.sky_urlenc.proofs.ReadBack.{read_back}
+use Rattle.sky_val.specs.declared.val.Val.{Val}
+use Rattle.sky_val.specs.declared.column.Column.{Column}
+use Rattle.sky_urlenc.specs.Held.{HoldsAll}
+use Rattle.sky_urlenc.specs.ReadRow.{read_row}
 use Rattle.sky_urlenc.specs.RowText.{column_text, column_texts}
-use Rattle.sky_urlenc.proofs.RowTexts.{left_text, next_behind, next_first, left-end}
+use Rattle.sky_urlenc.proofs.RowTexts.{left_text, next_behind, next_first, left-end, none_held}
 use Rattle.sky_urlenc.proofs.encode.encode_row.Goals as goal
 use Rattle.sky_urlenc.proofs.encode.encode_row.Goals.{then-place-gt0+in_ok-push, else-place-gt0}
 
@@ -17,16 +22,24 @@ loop-place-preserved c =
     elim c.if-place-gt0.branch [
       | then-place-gt0+in_ok-push w ↦
           let pushed : string_bytes w.push.new.self ≡ old ++ 38 ∷ [] = search rules in
-          next_behind count old _ new piece pieces (rw steps.1 at w.if-place-gt0.true) pushed (rw (← w.text-is) c.in_ok-append_column.ensures)
+          next_behind count old _ new piece pieces (rw steps.1 at w.if-place-gt0.true) pushed (rw (← w.text-is) c.in_ok-append_column.ensures.text)
       | else-place-gt0 w ↦
-          next_first count old new piece pieces (rw steps.1 at w.if-place-gt0.false) (rw (← w.text-is) c.in_ok-append_column.ensures)
+          next_first count old new piece pieces (rw steps.1 at w.if-place-gt0.false) (rw (← w.text-is) c.in_ok-append_column.ensures.text)
     ] in
-    ap (λ n. new ++ left_text n pieces) steps.2 ∙ grown
-    ∙ ap (λ texts. old ++ left_text count texts) (sym (λ i. column_texts (steps.0.0 i) (steps.0.1 i)))
-    ∙ c.loop-place.invariant
+    record {
+      text = ap (λ n. new ++ left_text n pieces) steps.2 ∙ grown ∙ ap (λ texts. old ++ left_text count texts) (sym (λ i. column_texts (steps.0.0 i) (steps.0.1 i))) ∙ c.loop-place.invariant.text;
+      held = λ later. c.loop-place.invariant.held (subst (λ (ends : List Column × List Val). HoldsAll ends.0 ends.1) (sym (λ i. (steps.0.0 i, steps.0.1 i))) (c.in_ok-append_column.ensures.holds, later));
+    }
 
 pub returns : goal.returns
 returns c =
-    let left = left-end c.loop-place.place-iterator.count c.loop-place.place-iterator.iter.a.rest.now c.loop-place.place-iterator.iter.b.rest.now
-    (elim c.in-None.ensures.steps.0 [ inl w ↦ inl w.1.0 | inr w ↦ inr w.1.0 ]) in
-    record { text = c.from_string.ensures ∙ sym (append-nil _) ∙ ap (λ text. string_bytes c.loop-place.text ++ text) (sym left) ∙ c.loop-place.invariant }
+    let columns = c.loop-place.place-iterator.iter.a.rest.now in
+    let row = c.loop-place.place-iterator.iter.b.rest.now in
+    let ended : (length columns ≡ 0) ⊎ (length row ≡ 0) = elim c.in-None.ensures.steps.0 [ inl w ↦ inl w.1.0 | inr w ↦ inr w.1.0 ] in
+    let left = left-end c.loop-place.place-iterator.count columns row ended in
+    let text = c.from_string.ensures ∙ sym (append-nil _) ∙ ap (λ text. string_bytes c.loop-place.text ++ text) (sym left) ∙ c.loop-place.invariant.text in
+    let held = c.loop-place.invariant.held (none_held columns row ended) in
+    record {
+      text = text;
+      back = λ named. ap (read_row c.args.schema.now) text ∙ read_back c.args.schema.now c.args.row.now c.columns-columns.ensures.sound.apart c.requires held named;
+    }

@@ -1,0 +1,88 @@
+-- A number that is written in decimal is read as that number.
+use Rattle.std.proofs.Common.{◌≡◌, ◌≢◌, ◌⊎◌, inl, inr, ℕ, zero, suc, ◌+◌, ◌-◌, ◌^◌, ◌<◌, ◌≤◌, ℤ, pos, negsuc, Bool, true, false, cond, List, [], ◌∷◌, ◌++◌, length, get_or, Some, None, refl, sym, ◌∙◌, ap, subst, arith, w64}
+use Rattle.std.specs.Prelude.{◌==◌, ◌&&◌, ◌||◌, not, nat_le, All, FitsSigned, option_map}
+use Rattle.std.specs.Option.{option_and_then}
+use Rattle.std.specs.Char.{is_ascii_digit}
+use Rattle.std.specs.Fmt.{decimal, signed_decimal}
+use Rattle.std.specs.List.{list_all}
+use Rattle.std.proofs.lemmas.Bool.{and_from, and_parts, cond-true, cond-false, leb-true, le-leb, lt-leb, eq-eqb, ne_eqb}
+use Rattle.std.proofs.lemmas.Fmt.{decimal_nonempty, digits_decimal, digits_value-decimal, first_decimal, decimal_digit}
+use Rattle.std.proofs.lemmas.List.Elements.{All-nil, All-cons, All-head, All-tail}
+use Rattle.std.proofs.lemmas.Str.Parse.{IsNumeralModel, IsDigitsTest, FoldsDigits, numerals_by_fold}
+use Rattle.form_urlencoded.specs.Form.{is_unchanged, IsUnchanged, byte_serialize}
+use Rattle.form_urlencoded.proofs.FormLemmas.{byte_serialize-nil, byte_serialize-cons}
+use Rattle.std.proofs.lemmas.Bool.Decides.{nat_tests}
+use Rattle.sky_val.specs.Numbers.{is_number, number_from, number_of, below_zero, int_of}
+
+-- ---- the definition's digits are std's
+
+tells : IsDigitsTest (λ ds. list_all is_ascii_digit ds ≡ true)
+tells = record {
+  empty = refl;
+  parts = λ c cs e. let k = and_parts (is_ascii_digit c) (list_all is_ascii_digit cs) e in let m = and_parts (nat_le 48 c) (nat_le c 57) k.0 in ((leb-true 48 c m.0, leb-true c 57 m.1), k.1);
+  more = λ c cs k e. and_from (is_ascii_digit c) (list_all is_ascii_digit cs) (and_from (nat_le 48 c) (nat_le c 57) (le-leb 48 c k.0) (le-leb c 57 k.1)) e;
+}
+
+own : IsNumeralModel (λ ds. list_all is_ascii_digit ds ≡ true) (number_from 0)
+own = numerals_by_fold (λ ds. list_all is_ascii_digit ds ≡ true) tells number_from (record { empty = λ n. refl; more = λ n c cs k. refl })
+
+-- digits are a number where a zero in front stands alone
+number_from_digits : (ds : List ℕ) → 0 < length ds → list_all is_ascii_digit ds ≡ true → (48 < get_or ds 0 0) ⊎ (length ds ≡ 1) → is_number ds ≡ true
+number_from_digits [] some digits first = absurd (omega arith)
+number_from_digits (b ∷ bs) some digits (inl more) =
+    and_from (list_all is_ascii_digit (b ∷ bs)) (length bs == 0 || not (b == 48)) digits (or_right (length bs == 0) (not (b == 48)) (ap not (ne_eqb b 48 (λ e. omega (arith, more)))))
+  where
+    or_right : (a c : Bool) → c ≡ true → a || c ≡ true
+    or_right true c e = refl
+    or_right false c e = e
+number_from_digits (b ∷ bs) some digits (inr one) =
+    and_from (list_all is_ascii_digit (b ∷ bs)) (length bs == 0 || not (b == 48)) digits (ap (λ v. v || not (b == 48)) (eq-eqb (length bs) 0 (omega (arith, one))))
+
+first_or_one : (n : ℕ) → n < 2 ^ 64 → (48 < get_or (decimal n) 0 0) ⊎ (length (decimal n) ≡ 1)
+first_or_one zero small = inr (ap length (decimal_digit 0 (omega arith)))
+first_or_one (suc n) small = inl (first_decimal (suc n) (omega arith) small)
+
+number_back : (most n : ℕ) → n ≤ most → n < 2 ^ 64 → number_of most (decimal n) ≡ Some n
+number_back most n le small =
+    let value : number_from 0 (decimal n) ≡ n = digits_value-decimal own n small in
+    let number = number_from_digits (decimal n) (decimal_nonempty n small) (digits_decimal own n small) (first_or_one n small) in
+    let fits : nat_le (number_from 0 (decimal n)) most ≡ true = le-leb (number_from 0 (decimal n)) most (omega (arith, value)) in
+    cond-true _ (Some (number_from 0 (decimal n))) None (and_from _ _ number fits) ∙ ap (λ n. Some n) value
+
+-- what begins with a digit has no sign
+int_from_digits : (ds : List ℕ) → 0 < length ds → list_all is_ascii_digit ds ≡ true → int_of ds ≡ option_map (λ n. pos n) (number_of (2 ^ 63 - 1) ds)
+int_from_digits [] some digits = absurd (omega arith)
+int_from_digits (b ∷ bs) some digits =
+    let digit = tells.parts b bs digits in
+    cond-false (b == 45) _ _ (ne_eqb b 45 (λ e. omega (arith, digit.0)))
+
+pub int_back : (z : ℤ) → FitsSigned w64 z → int_of (signed_decimal z) ≡ Some z
+int_back (pos n) fits =
+    let small : n < 2 ^ 63 = omega (arith, fits.sfits) in
+    int_from_digits (decimal n) (decimal_nonempty n (omega arith)) (digits_decimal own n (omega arith)) ∙ ap (option_map (λ n. pos n)) (number_back (2 ^ 63 - 1) n (omega arith) (omega arith))
+int_back (negsuc n) fits =
+    let small : n < 2 ^ 63 = omega (arith, fits.sfits) in
+    ap (option_and_then below_zero) (number_back (2 ^ 63) (suc n) (omega arith) (omega arith))
+
+-- ---- no byte of it is escaped
+
+unchanged_digit : (b : ℕ) → (48 ≤ b) × (b ≤ 57) → IsUnchanged b
+unchanged_digit b digit = grind (arith, nat_tests)
+
+unchanged_digits : (ds : List ℕ) → list_all is_ascii_digit ds ≡ true → All IsUnchanged ds
+unchanged_digits [] digits = All-nil IsUnchanged
+unchanged_digits (b ∷ bs) digits = let parts = tells.parts b bs digits in All-cons IsUnchanged b bs (unchanged_digit b parts.0) (unchanged_digits bs parts.1)
+
+unchanged_number : (z : ℤ) → FitsSigned w64 z → All IsUnchanged (signed_decimal z)
+unchanged_number (pos n) fits = let small : n < 2 ^ 63 = omega (arith, fits.sfits) in unchanged_digits (decimal n) (digits_decimal own n (omega arith))
+unchanged_number (negsuc n) fits =
+    let small : n < 2 ^ 63 = omega (arith, fits.sfits) in
+    All-cons IsUnchanged 45 (decimal (suc n)) refl (unchanged_digits (decimal (suc n)) (digits_decimal own (suc n) (omega arith)))
+
+unchanged_whole : (bs : List ℕ) → All IsUnchanged bs → byte_serialize bs ≡ bs
+unchanged_whole [] kept = byte_serialize-nil
+unchanged_whole (b ∷ bs) kept =
+    byte_serialize-cons b bs ∙ ap (λ x. x ++ byte_serialize bs) (cond-true _ _ _ (All-head IsUnchanged b bs kept)) ∙ ap (λ l. b ∷ l) (unchanged_whole bs (All-tail IsUnchanged b bs kept))
+
+pub number_unescaped : (z : ℤ) → FitsSigned w64 z → byte_serialize (signed_decimal z) ≡ signed_decimal z
+number_unescaped z fits = unchanged_whole (signed_decimal z) (unchanged_number z fits)
