@@ -1,14 +1,14 @@
 -- The first piece of a text, and those behind it.
-use Rattle.std.proofs.Common.{◌≡◌, ◌⊎◌, inl, inr, ℕ, ◌+◌, ◌-◌, ◌<◌, ◌≤◌, Bool, true, false, cond, List, [], ◌∷◌, length, take, drop, Some, None, refl, sym, subst, ◌∙◌, ap, arith, length-drop}
+use Rattle.std.proofs.Common.{◌≡◌, inl, inr, ℕ, ◌+◌, ◌-◌, ◌<◌, cond, List, [], ◌∷◌, length, take, drop, Some, None, sym, subst, ◌∙◌, ap, arith, length-drop}
 use Rattle.std.specs.Prelude.{◌==◌, filter}
-use Rattle.std.specs.List.{All, slice_split, position, position_or_len}
+use Rattle.std.specs.List.{slice_split, position, position_or_len}
 use Rattle.std.proofs.lemmas.Bool.{cond-true, cond-false, cases_lt, lt-ltb, le-ltb}
 use Rattle.std.proofs.lemmas.List.{length-take}
 use Rattle.std.proofs.lemmas.List.Sums.{fails_before_first}
 use Rattle.std.proofs.lemmas.List.Splits.{slice_split_first, slice_split_none}
 use Rattle.form_urlencoded.specs.Form.{ampersand, is_nonempty}
 use Rattle.sky_urlenc.specs.Cuts.{first_piece, first_piece_at}
-use Rattle.sky_urlenc.specs.ReadRow.{Piece, placed, pieces_from}
+use Rattle.sky_urlenc.specs.ReadRow.{placed, pieces_from}
 
 -- the pieces of a text are its first one, if that isn't empty, and those behind it
 abbrev StartsWith : ℕ → List ℕ → List ℕ × List ℕ → Type 0

@@ -1,6 +1,6 @@
 -- A row that is read fits its columns.
-use Rattle.std.proofs.Common.{◌≡◌, ◌≢◌, ℕ, zero, suc, ◌+◌, ◌<◌, Bool, true, false, cond, List, [], ◌∷◌, length, get_or, set, map, Option, Some, None, Ok, Err, refl, sym, ◌∙◌, ap, subst, arith, inl, inr}
-use Rattle.std.specs.Prelude.{◌==◌, ◌&&◌, not, ℤ, find, is_none, bytes_eq, option_map}
+use Rattle.std.proofs.Common.{◌≡◌, ℕ, zero, suc, ◌+◌, ◌<◌, Bool, true, false, List, [], ◌∷◌, length, get_or, set, map, Option, Some, None, Ok, Err, refl, sym, ◌∙◌, ap, subst, arith, inl, inr}
+use Rattle.std.specs.Prelude.{◌&&◌, not, ℤ, find, is_none, bytes_eq, option_map}
 use Rattle.std.specs.List.{enumerate_from}
 use Rattle.std.specs.Option.{option_or}
 use Rattle.std.proofs.lemmas.Bool.{cases_Bool, cases_eq, eq-eqb, cond-true, cond-false}
@@ -10,8 +10,6 @@ use Rattle.sky_val.specs.declared.val.Val.TheVariants as value
 use Rattle.sky_val.specs.declared.column.Column.{Column}
 use Rattle.sky_val.specs.declared.column.ColKind.{ColKind}
 use Rattle.sky_val.specs.declared.column.ColKind.TheVariants as kind
-use Rattle.sky_val.specs.declared.schema.RowFault.{RowFault}
-use Rattle.sky_val.specs.declared.schema.RowFault.TheVariants.{Count, Kind, NullKey}
 use Rattle.sky_val.specs.Schemas.{is_null, is_of_kind, value_fault, values_fault, row_fault}
 use Rattle.sky_val.specs.Numbers.{int_of}
 use Rattle.sky_urlenc.specs.declared.fault.DecodeFault.{DecodeFault}
@@ -100,6 +98,21 @@ fits start place column text v e =
 abbrev AllFit : List Column → List (Option Val) → Type 0
 AllFit columns given = (k place : ℕ) (d : Column) (v : Val) → k < length columns → get_or given k None ≡ Some v → value_fault place (get_or columns k d) v ≡ None
 
+-- a column gets a value that it takes
+set_here : (columns : List Column) (given : List (Option Val)) (place : ℕ) (column : Column) (x : Val) → place < length given → ((d : Column) → get_or columns place d ≡ column) → ((at : ℕ) → value_fault at column x ≡ None)
+    → (at : ℕ) (d : Column) (v : Val) → get_or (set given place (Some x)) place None ≡ Some v → value_fault at (get_or columns place d) v ≡ None
+set_here columns given place column x within is fit at d v has =
+    let same : Some x ≡ Some v = sym (get_or-set_same given place (Some x) None within) ∙ has in
+    let x_is : x ≡ v = cc in
+    subst (λ c. value_fault at c v ≡ None) (sym (is d)) (subst (λ y. value_fault at column y ≡ None) x_is (fit at))
+
+set_fits : (columns : List Column) (given : List (Option Val)) (place : ℕ) (column : Column) (x : Val) → place < length given → ((d : Column) → get_or columns place d ≡ column) → ((at : ℕ) → value_fault at column x ≡ None)
+    → AllFit columns given → AllFit columns (set given place (Some x))
+set_fits columns given place column x within is fit all k at d v inside has = elim (cases_eq k place) [
+  | inl same ↦ subst (λ n. get_or (set given place (Some x)) n None ≡ Some v → value_fault at (get_or columns n d) v ≡ None) (sym same) (set_here columns given place column x within is fit at d v) has
+  | inr other ↦ all k at d v inside (sym (get_or-set_other given place k (Some x) None other) ∙ has)
+]
+
 -- what the columns have after one more piece
 record FitsMore (columns : List Column) (given more : List (Option Val)) : Type 0 where
   count : length more ≡ length given
@@ -113,17 +126,12 @@ given_fits columns given more piece alike all e =
     let once = held (is_none (get_or given place None)) (fault.TwiceColumn piece.start) _ more column.then in
     let value = gave (value_for piece.start column.a.1 (text_in piece)) (λ value. Ok (set given place (Some value))) more once.1 in
     let named = named_from (name_in piece) 0 columns column.a (was_found (column_named (name_in piece) columns) (fault.UnknownColumn piece.start) column.a column.first) in
+    let here : named.k ≡ place = omega (arith, named.at) in
+    let is : (d : Column) → get_or columns place d ≡ column.a.1 = λ d. ap (λ n. get_or columns n d) (sym here) ∙ named.is d in
     let set_is : set given place (Some value.a) ≡ more = cc (value.then) in
-    let here : place ≡ named.k = omega (arith, named.at) in
     subst (FitsMore columns given) set_is (record {
       count = length-set given place (Some value.a);
-      all = λ k at d v within has. elim (cases_eq k place) [
-        | inl same ↦
-            let is : value.a ≡ v = cc (sym (get_or-set_same given place (Some value.a) None (omega (arith, named.within))) ∙ ap (λ n. get_or (set given place (Some value.a)) n None) (sym same) ∙ has) in
-            let column_is : column.a.1 ≡ get_or columns k d = sym (named.is d) ∙ ap (λ n. get_or columns n d) (sym (same ∙ here)) in
-            subst (λ c. value_fault at c v ≡ None) column_is (subst (λ x. value_fault at column.a.1 x ≡ None) is (fits piece.start at column.a.1 (text_in piece) value.a value.first))
-        | inr other ↦ all k at d v within (sym (get_or-set_other given place k (Some value.a) None other) ∙ has)
-      ];
+      all = set_fits columns given place column.a.1 value.a (omega (arith, named.within)) is (λ at. fits piece.start at column.a.1 (text_in piece) value.a value.first) all;
     })
 
 all_fit : (columns : List Column) (given more : List (Option Val)) (pieces : List Piece) → length given ≡ length columns → AllFit columns given → all_given columns given pieces ≡ Ok more → FitsMore columns given more

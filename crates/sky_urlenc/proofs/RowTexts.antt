@@ -8,7 +8,7 @@ use Rattle.sky_val.specs.declared.val.Val.{Val}
 use Rattle.sky_val.specs.declared.column.Column.{Column}
 use Rattle.sky_val.specs.Schemas.{key_columns}
 use Rattle.sky_urlenc.specs.Held.{HoldsAll}
-use Rattle.sky_urlenc.specs.RowText.{column_text, column_texts}
+use Rattle.sky_urlenc.specs.RowText.{column_texts}
 
 -- pieces, a byte before each
 abbrev pub behind_byte : ℕ → List (List ℕ) → List ℕ

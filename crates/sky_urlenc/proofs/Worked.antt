@@ -1,5 +1,5 @@
 -- Worked rows, by computation.
-use Rattle.std.proofs.Common.{◌≡◌, ℕ, pos, negsuc, true, false, List, [], ◌∷◌, Some, None, Ok, Err, refl}
+use Rattle.std.proofs.Common.{◌≡◌, ℕ, pos, negsuc, true, false, List, [], ◌∷◌, Ok, Err, refl}
 use Rattle.std.specs.Fmt.{digits}
 use Rattle.std.specs.Str.{is_utf8, chars}
 use lib.Utf8.{encode}
@@ -9,9 +9,8 @@ use lib.Chars.{codes}
 use Rattle.sky_val.specs.declared.val.Val.{Val}
 use Rattle.sky_val.specs.declared.val.Val.TheVariants.{Null, Int, Text}
 use Rattle.sky_val.specs.declared.column.Column.{Column}
-use Rattle.sky_val.specs.declared.column.ColKind.{ColKind}
 use Rattle.sky_val.specs.declared.column.ColKind.TheVariants as kind
-use Rattle.sky_val.specs.declared.op.Op.TheVariants.{Insert, Update, Delete}
+use Rattle.sky_val.specs.declared.op.Op.TheVariants.{Update, Delete}
 use Rattle.sky_urlenc.specs.declared.fault.DecodeFault.TheVariants.{BadText, UnknownColumn, TwiceColumn, NullKey, BadInt, MissingColumn}
 use Rattle.sky_urlenc.specs.RowText.{row_text}
 use Rattle.sky_urlenc.specs.ReadRow.{read_row}

@@ -1,5 +1,5 @@
 -- The pieces of a text as the code holds them.
-use Rattle.std.specs.Prelude.{ℕ, List}
+use Rattle.std.specs.Prelude.{List}
 use Rattle.sky_urlenc.specs.declared.pieces.Piece as held
 use Rattle.sky_urlenc.specs.declared.pieces.Pieces.{Pieces}
 use Rattle.sky_urlenc.specs.ReadRow.{Piece, pieces_from}

@@ -21,7 +21,8 @@ pub enum DecodeFault {
     /// The piece gives Null to a column of the key.
     #[error("the piece at byte {0} gives Null to a column of the key")]
     NullKey(usize),
-    /// The column takes numbers, and the value is none, or has more than 64 bits.
+    /// The column takes numbers, and the value is none of 64 bits with their sign, written as `0`, or as a
+    /// digit from 1 to 9 and digits, with `-` in front or not.
     #[error("the piece at byte {0} gives no number to a column of numbers")]
     BadInt(usize),
     /// The first column that no piece is for, by its place.

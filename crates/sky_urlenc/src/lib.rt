@@ -13,6 +13,8 @@ mod event_kind;
 mod fault;
 mod pieces;
 mod sides;
+#[cfg(test)]
+mod tests;
 
 pub use decode::decode_row;
 pub use encode::encode_row;

@@ -46,6 +46,8 @@ fn with_spaces(alloc: Global, side: &[u8]) -> Result<CowSlice<'_, u8>, NoMemory>
     if !side.contains(&b'+') {
         return Ok(CowSlice::Borrowed(side));
     }
-    let spaced = side.iter().map(|byte| if *byte == b'+' { b' ' } else { *byte });
+    let spaced = side
+        .iter()
+        .map(|byte| if *byte == b'+' { b' ' } else { *byte });
     Ok(CowSlice::Owned(spaced.collect(alloc)?))
 }

@@ -1,5 +1,5 @@
 -- One more name is written behind those before it.
-use Rattle.std.proofs.Common.{rules, ◌≡◌, [], ◌∷◌, ◌++◌, ◌+◌, ◌∙◌, Bool, true, false, map, drop, sym, ap, arith, string_bytes}
+use Rattle.std.proofs.Common.{rules, ◌≡◌, [], ◌∷◌, ◌++◌, ◌+◌, ◌∙◌, false, map, drop, sym, ap, arith, string_bytes}
 use Rattle.sky_val.specs.Schemas.{key_columns}
 use Rattle.sky_urlenc.specs.EventType.{comma}
 use Rattle.sky_urlenc.proofs.RowTexts.{left_from, next_as_first, next_behind_byte, key_next}

@@ -1,6 +1,6 @@
 -- The first piece is given, or skipped where it is empty.
-use Rattle.std.proofs.Common.{rules, ◌≡◌, ◌<◌, ◌≤◌, length, sym, ◌∙◌, arith}
-use Rattle.sky_urlenc.proofs.Cutting.{pieces_first, pieces_skip, behind_shorter}
+use Rattle.std.proofs.Common.{rules, ◌<◌, length, sym, ◌∙◌}
+use Rattle.sky_urlenc.proofs.Cutting.{pieces_first, behind_shorter}
 use Rattle.sky_urlenc.proofs.pieces.PiecesIterator.next.Goals as goal
 
 pub returns-then-not-is_empty-clause-steps : goal.returns-then-not-is_empty-clause-steps
