@@ -4,3 +4,4 @@ pub mod Fitting
 pub mod NumberBack
 pub mod ReadBack
 mod Worked
+mod WorkedChanges

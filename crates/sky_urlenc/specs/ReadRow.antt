@@ -16,6 +16,7 @@ use Rattle.sky_urlenc.specs.declared.fault.DecodeFault.TheVariants.{BadText, Unk
 abbrev pub Checked : Type 0 → Type 0
 Checked A = Result A DecodeFault
 
+-- what comes next, unless there was a fault
 infixl 20 ◌>>=◌
 abbrev pub ◌>>=◌ : {A B : Type 0} → Checked A → (A → Checked B) → Checked B
 Err fault >>= next = Err fault
@@ -56,13 +57,15 @@ abbrev pub sides_at : Option ℕ → List ℕ → List ℕ × Option (List ℕ)
 sides_at None bytes = (bytes, None)
 sides_at (Some place) bytes = (take place bytes, Some (drop (place + 1) bytes))
 
+-- the two sides of a piece
 abbrev pub sides_of : Piece → List ℕ × Option (List ℕ)
 sides_of piece = sides_at (position (λ b. b == equals_sign) piece.bytes) piece.bytes
 
--- the name that a piece gives, and the text, if it gives one
+-- the name that a piece gives
 abbrev pub name_in : Piece → List ℕ
 name_in piece = decode (sides_of piece).0
 
+-- the text that it gives, if it gives one
 abbrev pub text_in : Piece → Option (List ℕ)
 text_in piece = option_map decode (sides_of piece).1
 
