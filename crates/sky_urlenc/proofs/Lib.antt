@@ -2,6 +2,7 @@ pub mod RowTexts
 pub mod Cutting
 pub mod Fitting
 pub mod NumberBack
+pub mod PieceBack
 pub mod ReadBack
 mod Worked
 mod WorkedChanges
