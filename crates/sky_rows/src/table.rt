@@ -165,6 +165,26 @@ impl Table {
         )
     }
 
+    /// The same for a transaction that ends with it while no other one runs. The index lists no key of
+    /// it, and forgets those of all before it, as `prune` does.
+    pub fn write_last(&mut self, txid: u64, key: Key, row: Option<Row>) -> Result<(), NoMemory>
+        ensures { OnOk result
+            (self.new ≡ record self.old { versions = written txid key row self.old.versions }) }
+    {
+        let Some(next) = txid.checked_add(1) else {
+            return self.write(txid, key, row);
+        };
+        let again = self.written.has(txid, &key);
+        self.written.prune(next);
+        put_version(
+            self.alloc,
+            &mut self.rows,
+            key,
+            Version { txid, row },
+            again,
+        )
+    }
+
     /// Takes out all versions of the transaction. A key that is left without any goes too.
     pub fn forget(&mut self, txid: u64)
         ensures { self.new ≡ record self.old { versions = forgotten txid self.old.versions } }
