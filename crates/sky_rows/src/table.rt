@@ -150,10 +150,11 @@ impl Table {
     }
 
     /// Writes the row at the key, or none to delete it, as a version of the transaction. Where it has
-    /// one at the key already, this takes its place. After an error nothing is said of the rows.
+    /// one at the key already, this takes its place.
     pub fn write(&mut self, txid: u64, key: Key, row: Option<Row>) -> Result<(), NoMemory>
-        ensures { OnOk result
+        ensures ok { OnOk result
             (self.new ≡ record self.old { versions = written txid key row self.old.versions }) }
+        ensures err { OnErr result (self.new ≡ self.old) }
     {
         let again = self.written.add(self.alloc, txid, &key)?;
         put_version(
@@ -168,8 +169,9 @@ impl Table {
     /// The same for a transaction that ends with it while no other one runs. The index lists no key of
     /// it, and forgets those of all before it, as `prune` does.
     pub fn write_last(&mut self, txid: u64, key: Key, row: Option<Row>) -> Result<(), NoMemory>
-        ensures { OnOk result
+        ensures ok { OnOk result
             (self.new ≡ record self.old { versions = written txid key row self.old.versions }) }
+        ensures err { OnErr result (self.new ≡ self.old) }
     {
         let Some(next) = txid.checked_add(1) else {
             return self.write(txid, key, row);

@@ -1,6 +1,6 @@
 //! What can happen in a database, each mark by a method of its own. After want of memory the state isn't said.
 
-ghost use Rattle.std.specs.Prelude.{◌≡◌, ◌+◌, ◌-◌, ◌<◌, ◌^◌, [], ◌∷◌, true, false, None, Some, IfOk, OnOk, length};
+ghost use Rattle.std.specs.Prelude.{◌≡◌, ◌+◌, ◌-◌, ◌<◌, ◌^◌, [], ◌∷◌, true, false, None, Some, IfOk, OnOk, OnErr, length};
 ghost use Rattle.sky_val.specs.Waits.{other_holder, is_waiting};
 ghost use Rattle.sky_names.specs.Places.{place_of};
 ghost use Rattle.sky_model.specs.History.{began, ended, block_begun, repeats, looked, block_failed, block_ended, tabled, table_made, wrote, waited};
@@ -24,13 +24,15 @@ impl RowDb {
         requires { (seen self.old).next < 2 ^ 62 }
         ensures id { IfOk result (λ txid. txid ≡ (seen self.old).next) }
         ensures mark { IfOk result (λ txid. seen self.new ≡ after_part (seen self.old) (began who txid)) }
+        ensures err { OnErr result (seen self.new ≡ seen self.old) }
     {
+        self.sessions.make_room(who)?;
         let txid = match self.trans.assign() {
             Ok(txid) => txid,
             Err(TransFault::NoMemory) => return Err(AllocError),
             Err(TransFault::TxidsSpent) => unreachable!(),
         };
-        self.sessions.set_txid(who, Some(txid))?;
+        self.sessions.begin_txid(who, txid);
         Ok(txid)
     }
 
@@ -73,7 +75,8 @@ impl RowDb {
 
     /// The place at which it reads is here.
     pub(crate) fn looked(&mut self, who: SessionId) -> Result<(), NoMemory>
-        ensures { OnOk result (seen self.new ≡ after_part (seen self.old) (looked who)) }
+        ensures ok { OnOk result (seen self.new ≡ after_part (seen self.old) (looked who)) }
+        ensures err { OnErr result (seen self.new ≡ seen self.old) }
     {
         let snapshot = self.trans.snapshot()?;
         self.sessions.set_sight(who, Sight::AtPlace(snapshot))?;

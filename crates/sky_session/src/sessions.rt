@@ -79,7 +79,7 @@ impl Sessions {
     }
 
     /// Makes a place for the session, so that nothing after this wants memory for it.
-    fn make_room(&mut self, who: SessionId) -> Result<(), NoMemory>
+    pub fn make_room(&mut self, who: SessionId) -> Result<(), NoMemory>
         ensures room { OnOk result (who < length self.new) }
         ensures same { session_of self.new ≡ session_of self.old }
     {
@@ -93,13 +93,12 @@ impl Sessions {
         Ok(())
     }
 
-    pub fn set_txid(&mut self, who: SessionId, txid: Option<u64>) -> Result<(), NoMemory>
-        ensures ok { OnOk result (session_of self.new ≡ changed_at who (with_txid txid) (session_of self.old)) }
-        ensures err { OnErr result (session_of self.new ≡ session_of self.old) }
+    /// The session's transaction has got this id.
+    pub fn begin_txid(&mut self, who: SessionId, txid: u64)
+        requires { who < length self.old }
+        ensures { session_of self.new ≡ changed_at who (with_txid (Some txid)) (session_of self.old) }
     {
-        self.make_room(who)?;
-        self.items[who as usize].txid = txid;
-        Ok(())
+        self.items[who as usize].txid = Some(txid);
     }
 
     pub fn set_block(&mut self, who: SessionId, block: Block) -> Result<(), NoMemory>
