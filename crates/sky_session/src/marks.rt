@@ -1,4 +1,5 @@
-//! What can happen in a database, each mark by a method of its own. After want of memory the state isn't said.
+//! What can happen in a database, each mark by a method of its own, but that a session begins to wait: `locking` does
+//! that, as the locks tell only then whether it may. After want of memory the state isn't said.
 
 ghost use Rattle.std.specs.Prelude.{◌≡◌, ◌+◌, ◌-◌, ◌<◌, ◌^◌, [], ◌∷◌, true, false, None, Some, IfOk, OnOk, length};
 ghost use Rattle.sky_val.specs.Waits.{other_holder, is_waiting};
