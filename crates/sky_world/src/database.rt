@@ -255,7 +255,7 @@ impl Database {
         self.queues[queue].raise(value);
     }
 
-    /// Stores an event in a queue. Whether its transaction commits isn't known yet.
+    /// Stores an event in a queue, whether its transaction commits or not.
     pub fn put(&mut self, queue: usize, event: Event) -> Result<(), AllocError>
         requires queue { queue < length self.old.queues }
         requires time { HasMoment event.ev_time }
