@@ -26,7 +26,8 @@ pub struct Table {
     rows: BTreeMap<Key, Versions>,
 
     // By it a transaction that has no version at a key needs not look through all that stand there,
-    // and `forget` goes to no key but its own.
+    // and `forget` goes to no key but its own. Of a transaction that was pruned it tells nothing: that one's
+    // version is looked for at the key, and `forget` goes through all keys.
     written: Written,
 }
 
@@ -110,7 +111,7 @@ impl Table {
     pub fn has_written(&self, txid: u64) -> bool
         ensures { result ≡ list_any (λ e. is_some (version_of txid e.1)) self.now.versions }
     {
-        if !self.written.knows(txid) {
+        if !self.written.may_have_written(txid) {
             return false;
         }
         for (_, versions) in &self.rows {

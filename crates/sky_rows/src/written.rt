@@ -47,7 +47,7 @@ impl Written {
     }
 
     /// Whether the transaction may have written any key: if not, it wrote none.
-    pub(crate) fn knows(&self, txid: u64) -> bool
+    pub(crate) fn may_have_written(&self, txid: u64) -> bool
         ensures { result ≡ false → (key : List Val) → wrote self.now txid key ≡ false }
     {
         !self.tells(txid) || self.keys.contains_key(&txid)

@@ -1,4 +1,5 @@
-//! What can happen in a database, each mark by a method of its own. After want of memory the state isn't said.
+//! What can happen in a database, each mark by a method of its own, but that a session begins to wait: `locking` does
+//! that, as the locks tell only then whether it may. After want of memory the state isn't said.
 
 ghost use Rattle.std.specs.Prelude.{◌≡◌, ◌+◌, ◌-◌, ◌<◌, ◌^◌, [], ◌∷◌, true, false, None, Some, IfOk, OnOk, OnErr, length};
 ghost use Rattle.sky_val.specs.Waits.{other_holder, is_waiting};
@@ -157,7 +158,13 @@ impl RowDb {
             Err(TransFault::NoMemory) => return Err(AllocError),
             Err(TransFault::TxidsSpent) => unreachable!(),
         };
-        put_row(&mut self.tables[key.table as usize], least, txid, key.key, row)?;
+        put_row(
+            &mut self.tables[key.table as usize],
+            least,
+            txid,
+            key.key,
+            row,
+        )?;
         self.trans.commit(txid);
         self.locks.release(who);
         Ok(())

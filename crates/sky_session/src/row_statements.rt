@@ -56,7 +56,8 @@ impl RowDb {
         }
     }
 
-    /// Refuses a change of a row that was written since the session's sight.
+    /// Refuses a change of a row of whose key a write was committed since the session's sight, unless its own
+    /// transaction has written the key.
     pub(crate) fn check_seen(
         &self,
         who: SessionId,

@@ -39,6 +39,7 @@ impl Sessions {
         }
     }
 
+    /// Whether the session is in no block, in one, or in an aborted one.
     pub fn block(&self, who: SessionId) -> Block
         ensures { seen_block result ≡ (session_of self.now who).block }
     {
@@ -101,6 +102,7 @@ impl Sessions {
         self.items[who as usize].txid = Some(txid);
     }
 
+    /// Where the session reads stays as it is.
     pub fn set_block(&mut self, who: SessionId, block: Block) -> Result<(), NoMemory>
         ensures ok { OnOk result (session_of self.new ≡ changed_at who (with_block (seen_block block)) (session_of self.old)) }
         ensures err { OnErr result (session_of self.new ≡ session_of self.old) }
@@ -110,6 +112,7 @@ impl Sessions {
         Ok(())
     }
 
+    /// The session's statements read there from now on.
     pub fn set_sight(&mut self, who: SessionId, sight: Sight) -> Result<(), NoMemory>
         ensures ok { OnOk result (session_of self.new ≡ changed_at who (with_sight (seen_sight sight)) (session_of self.old)) }
         ensures err { OnErr result (session_of self.new ≡ session_of self.old) }

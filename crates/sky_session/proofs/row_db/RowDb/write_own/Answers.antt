@@ -29,4 +29,4 @@ pub returns-clause-told : goal.returns-clause-told
 returns-clause-told c =
     c.in_ok-commit_own.ensures.told
     ∙ ap (λ block. c.args.effects.now ++ effects_of (commit_of c.args.who c.args.txid block))
-        (in_block (seen c.args.self.now) (seen c.begin_own.new.self) (seen c.wrote.new.self) c.args.who c.args.txid c.args.key.table c.args.key.key None c.args.row c.in_ok-begin_own.ensures c.in_ok-wrote.ensures)
+    (in_block (seen c.args.self.now) (seen c.begin_own.new.self) (seen c.wrote.new.self) c.args.who c.args.txid c.args.key.table c.args.key.key None c.args.row c.in_ok-begin_own.ensures c.in_ok-wrote.ensures)

@@ -39,8 +39,7 @@ invariant_of-self-2 c =
     let ids : List ℕ = c.self.inside.trans.running in
     let left : c.commit.new.self.running ≡ ids
     = ap (λ (v : TransView). v.running) c.commit.ensures
-        ∙ ap (filter (λ u. not (u == t))) (ap (λ (v : TransView). v.running) c.in-Ok.ensures.ok ∙ ap (λ u. ids ++ u ∷ []) (sym c.in-Ok.ensures.id)) ∙ others-run t ids c.in-Ok.ensures.fresh in
-    (
+    ∙ ap (filter (λ u. not (u == t))) (ap (λ (v : TransView). v.running) c.in-Ok.ensures.ok ∙ ap (λ u. ids ++ u ∷ []) (sym c.in-Ok.ensures.id)) ∙ others-run t ids c.in-Ok.ensures.fresh in (
       length-set c.self.inside.tables.items c.args.key.table c.put_row.new.table ∙ c.self.invariant.0,
       (
         subst (AreOwned (session_of c.self.inside.sessions)) (sym left) c.self.invariant.1.0,
