@@ -1,6 +1,6 @@
 use Rattle.std.proofs.Common.{◌∙◌, sym, arith}
 use Rattle.sky_rows.specs.Written.{wrote}
-use Rattle.sky_rows.proofs.TableLemmas.{all_kept_more, kept_at, kept_either}
+use Rattle.sky_rows.proofs.TableLemmas.{kept_at, kept_either}
 use Rattle.sky_rows.proofs.table.Table.write_last.Goals as goal
 
 pub put_version-requires : goal.put_version-requires

@@ -1,8 +1,7 @@
 -- A write in a session's transaction, mark by mark, or in one of its own.
-use Rattle.std.proofs.Common.{◌≡◌, ◌∙◌, ap, None, [], ◌∷◌, ◌++◌}
+use Rattle.std.proofs.Common.{◌∙◌, ap, None, ◌++◌}
 use Rattle.sky_val.specs.Waits.{other_holder}
-use Rattle.sky_model.specs.History.{tabled, wrote}
-use Rattle.sky_model.specs.State.{RowPart, after_part}
+use Rattle.sky_model.specs.State.{RowPart}
 use Rattle.sky_model.specs.OwnTransaction.{commit_of}
 use Rattle.sky_session.specs.Effects.{effects_of}
 use Rattle.sky_session.specs.Seen.{seen}
