@@ -1,4 +1,4 @@
-ghost use Rattle.std.specs.Prelude.{◌≡◌, ◌<◌, [], ◌∷◌, true, false, None, Some, length, option_map, vec_len, vec_capacity, IfOk, OnOk, OnErr};
+ghost use Rattle.std.specs.Prelude.{◌≡◌, ◌<◌, [], ◌∷◌, true, false, None, Some, length, is_some, option_map, vec_len, vec_capacity, IfOk, OnOk, OnErr};
 ghost use Rattle.sky_val.specs.Waits.{is_waiting, entry_of, without, first_waiter, ready, other_holder, taken, given_back, released, way_back};
 ghost use Rattle.sky_locks.specs.Waiters.{entry};
 ghost use Rattle.sky_locks.specs.Freed.{is_waited, noted};
@@ -126,20 +126,38 @@ impl Locks {
         ensures { IfOk result (λ ring. ring
             ≡ option_map (λ way. who ∷ way) (way_back (waits_for_in self.now) who (length self.now.waiting) other)) }
     {
+        // Mostly none would, and then no list is made.
+        if !self.leads_back(who, other) {
+            return Ok(None);
+        }
         let mut sessions = Vec::new(self.alloc);
         sessions.push(who)?;
+        let mut last = other;
+        for _step in 0..self.waiters.len() {
+            sessions.push(last)?;
+            match self.waits_for(last) {
+                Some(next) if next != who => last = next,
+                _ => break,
+            }
+        }
+        Ok(Some(Ring::new(sessions)))
+    }
+
+    /// Whether a way leads from the other session back to `who`.
+    fn leads_back(&self, who: SessionId, other: SessionId) -> bool
+        ensures { result ≡ is_some (way_back (waits_for_in self.now) who (length self.now.waiting) other) }
+    {
         let mut last = other;
 
         // No way is longer than all who wait.
         for _step in 0..self.waiters.len() {
-            sessions.push(last)?;
             match self.waits_for(last) {
-                Some(next) if next == who => return Ok(Some(Ring::new(sessions))),
+                Some(next) if next == who => return true,
                 Some(next) => last = next,
-                None => return Ok(None),
+                None => return false,
             }
         }
-        Ok(None)
+        false
     }
 
     /// The other session that holds the key for which this one waits.
