@@ -13,7 +13,7 @@ use Rattle.sky_locks.specs.declared.lock_key.LockKey.{LockKey}
 use Rattle.sky_locks.specs.declared.waiters.Waiter.{Waiter}
 use Rattle.sky_locks.specs.Order.{lock_cmp}
 use Rattle.sky_locks.specs.Holders.{is_holder}
-use Rattle.sky_locks.specs.Waiters.{entry, waiting_of, is_among, is_of, is_at_key, IsIndexed, earlier}
+use Rattle.sky_locks.specs.Waiters.{entry, waiting_of, key_of, is_among, is_of, is_at_key, IsIndexed, earlier}
 use Rattle.sky_locks.proofs.Orders.{nat_ties}
 use Rattle.sky_locks.proofs.HolderLemmas.{and_no, gone, come, come_and_gone}
 use Rattle.sky_locks.proofs.Arrivals.{InOrder, arrived, arrival_of, each_entry, find-map, filter-map, find-none, find-first, arrived-found, earlier-found, filter-none, filter-one, tie_is}
@@ -29,6 +29,10 @@ is_who who e = e.1.who == who
 -- its key is this one
 abbrev pub is_key : LockKey → ℕ × Waiter → Bool
 is_key key e = eq_by_cmp lock_cmp e.1.key key
+
+all_mapped : {A B : Type 0} (P : B → Type 0) (f : A → B) (xs : List A) → AllByRecursion (λ x. P (f x)) xs → AllByRecursion P (map f xs)
+all_mapped P f [] all = tt
+all_mapped P f (x ∷ xs) all = (all.0, all_mapped P f xs all.1)
 
 -- ---- a session's entry
 
@@ -53,6 +57,20 @@ below_other a b below = elim (eq_by_cmp nat_cmp a b) as (λ t. eq_by_cmp nat_cmp
 other_entries : (es : Arrived) (arrival : ℕ → Option ℕ) (queued : LockKey → ℕ → Bool) (who a : ℕ) → InOrder es → IsIndexed (arrived es) arrival queued → arrival who ≡ Some a → AllByRecursion (λ e. eq_by_cmp nat_cmp a e.0 ≡ false → is_who who e ≡ false) es
 other_entries es arrival queued who a order indexed some = each_entry (λ b w. eq_by_cmp nat_cmp a b ≡ false → (w.who == who) ≡ false) es order (λ b w found apart.
     sym (ap (is_of who) found) ∙ sym (indexed.sessions who b) ∙ ap (is_holder b) some ∙ other_arrival a b apart)
+
+-- and all that are the session's are at its key
+pub own_key : (es : Arrived) (arrival : ℕ → Option ℕ) (queued : LockKey → ℕ → Bool) (who a : ℕ) (w : Waiter) → InOrder es → IsIndexed (arrived es) arrival queued → arrival who ≡ Some a → arrived es a ≡ Some w
+    → AllByRecursion (λ v. (v.who == who) ≡ true → key_of v ≡ w.key) (waiting_of es)
+own_key es arrival queued who a w order indexed some found = all_mapped (λ v. (v.who == who) ≡ true → key_of v ≡ w.key) (λ e. entry e.1.who e.1.key) es
+    (each_entry (λ b v. (v.who == who) ≡ true → v.key ≡ w.key) es order (λ b v here its. elim (eq_by_cmp nat_cmp a b) as (λ t. eq_by_cmp nat_cmp a b ≡ t → v.key ≡ w.key) [
+      | true ↦ λ tie.
+          let same : Some v ≡ Some w = sym here ∙ ap (arrived es) (sym (tie_is a b tie)) ∙ found in
+          let is : v ≡ w = cc same in
+          ap (λ (v : Waiter). v.key) is
+      | false ↦ λ apart.
+          let both : true ≡ false = sym its ∙ sym (ap (is_of who) here) ∙ sym (indexed.sessions who b) ∙ ap (is_holder b) some ∙ other_arrival a b apart in
+          absurd (cc both)
+    ] refl))
 
 its_entry : (es : Arrived) (arrival : ℕ → Option ℕ) (queued : LockKey → ℕ → Bool) (who a : ℕ) → IsIndexed (arrived es) arrival queued → arrival who ≡ Some a → is_of who (arrived es a) ≡ true
 its_entry es arrival queued who a indexed some = sym (indexed.sessions who a) ∙ ap (is_holder a) some ∙ eq-eqb a a refl

@@ -1,6 +1,6 @@
 -- The keys that were given back and are waited for, as the code lists them.
-use Rattle.std.specs.Prelude.{◌≡◌, ℕ, ◌+◌, ◌≤◌, Bool, true, is_some, if◌then◌else◌, List, [], ◌∷◌, ◌++◌, length, None, find}
-use Rattle.std.specs.List.{AllByRecursion}
+use Rattle.std.specs.Prelude.{◌≡◌, ℕ, ◌≤◌, Bool, true, is_some, if◌then◌else◌, List, [], ◌∷◌, ◌++◌, length, None, find}
+use Rattle.std.specs.List.{AllByRecursion, IsDistinct}
 use Rattle.std.specs.Ordering.{eq_by_cmp}
 use Rattle.sky_val.specs.Waits.{Waiting}
 use Rattle.sky_locks.specs.declared.lock_key.LockKey.{LockKey}
@@ -16,8 +16,10 @@ is_waited waiting key = is_some (find (λ w. eq_by_cmp lock_cmp (key_of w) key) 
 abbrev pub noted : List Waiting → LockKey → List LockKey → List LockKey
 noted waiting key freed = if is_waited waiting key then freed ++ key ∷ [] else freed
 
--- what is listed is free, and what is free and waited for is listed; each key that is held has room
+-- each key that is listed is so once, is free and is waited for; what is free and waited for is listed; and there is room for the key of each that waits
 pub record IsListed (held : Held) (waiting : List Waiting) (freed : List LockKey) (capacity : ℕ) : Type 0 where
+  pub distinct : IsDistinct (eq_by_cmp lock_cmp) freed
   pub free : (q : LockKey) → is_among freed q ≡ true → holder_of held q ≡ None
-  pub waited : AllByRecursion (λ w. holder_of held (key_of w) ≡ None → is_among freed (key_of w) ≡ true) waiting
-  pub room : length freed + length held ≤ capacity
+  pub waited : (q : LockKey) → is_among freed q ≡ true → is_waited waiting q ≡ true
+  pub complete : AllByRecursion (λ w. holder_of held (key_of w) ≡ None → is_among freed (key_of w) ≡ true) waiting
+  pub room : length waiting ≤ capacity

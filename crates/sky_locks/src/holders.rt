@@ -1,4 +1,4 @@
-ghost use Rattle.std.specs.Prelude.{◌≡◌, ◌≢◌, ◌<◌, ◌+◌, ◌^◌, None, Some, if◌then◌else◌, [], length, OnOk, OnErr, IfSome, IfNone};
+ghost use Rattle.std.specs.Prelude.{◌≡◌, ◌≢◌, ◌+◌, None, Some, if◌then◌else◌, [], length, OnOk, OnErr, IfSome, IfNone};
 ghost use Rattle.std.specs.Ordering.{eq_by_cmp};
 ghost use Rattle.sky_locks.specs.Order.{lock_cmp};
 ghost use Rattle.sky_locks.specs.Holders.{holder_of, Frees};
@@ -43,14 +43,6 @@ impl Holders {
             sessions: BTreeMap::new(alloc),
             keys: HeldKeys::new(alloc),
         }
-    }
-
-    /// How many keys are held.
-    pub(crate) fn len(&self) -> usize
-        ensures len { result ≡ length self.now }
-        ensures small { result < 2 ^ 63 }
-    {
-        self.sessions.len()
     }
 
     /// The holder of the key.

@@ -1,7 +1,7 @@
-ghost use Rattle.std.specs.Prelude.{◌≡◌, ◌<◌, [], ◌∷◌, false, None, Some, length, option_map, vec_len, vec_capacity, IfOk, OnOk, OnErr};
+ghost use Rattle.std.specs.Prelude.{◌≡◌, ◌<◌, [], ◌∷◌, true, false, None, Some, length, is_some, option_map, vec_len, vec_capacity, IfOk, OnOk, OnErr};
 ghost use Rattle.sky_val.specs.Waits.{is_waiting, entry_of, without, first_waiter, ready, other_holder, taken, given_back, released, way_back};
 ghost use Rattle.sky_locks.specs.Waiters.{entry};
-ghost use Rattle.sky_locks.specs.Freed.{noted};
+ghost use Rattle.sky_locks.specs.Freed.{is_waited, noted};
 ghost use Rattle.sky_locks.specs.Locks.{LocksView, Takes, holder, waits_for_in};
 
 use crate::holders::Holders;
@@ -19,8 +19,8 @@ pub struct Locks {
     holders: Holders,
     waiters: Waiters,
 
-    // The keys that were given back and are waited for. There is room for each key that is held, so
-    // that giving it back takes no memory.
+    // The keys that were given back and are waited for. There is room for the key of each that waits,
+    // so that giving it back takes no memory.
     freed: Vec<LockKey>,
 }
 
@@ -101,7 +101,6 @@ impl Locks {
         ensures waiting { OnOk result (self.new.waiting ≡ self.old.waiting) }
         ensures err { OnErr result (self.new ≡ self.old) }
     {
-        self.freed.reserve(self.holders.len() + 1)?;
         self.holders.hold(who, key)?;
         self.freed.retain(|freed| freed != key);
         Ok(())
@@ -117,6 +116,7 @@ impl Locks {
         if let Some(ring) = self.ring(who, other)? {
             return Ok(Taken::Cycle(ring));
         }
+        self.freed.reserve(self.waiters.len() + 1)?;
         self.waiters.arrive(who, key)?;
         Ok(Taken::Waits(other))
     }
@@ -126,20 +126,38 @@ impl Locks {
         ensures { IfOk result (λ ring. ring
             ≡ option_map (λ way. who ∷ way) (way_back (waits_for_in self.now) who (length self.now.waiting) other)) }
     {
+        // Mostly none would, and then no list is made.
+        if !self.leads_back(who, other) {
+            return Ok(None);
+        }
         let mut sessions = Vec::new(self.alloc);
         sessions.push(who)?;
+        let mut last = other;
+        for _step in 0..self.waiters.len() {
+            sessions.push(last)?;
+            match self.waits_for(last) {
+                Some(next) if next != who => last = next,
+                _ => break,
+            }
+        }
+        Ok(Some(Ring::new(sessions)))
+    }
+
+    /// Whether a way leads from the other session back to `who`.
+    fn leads_back(&self, who: SessionId, other: SessionId) -> bool
+        ensures { result ≡ is_some (way_back (waits_for_in self.now) who (length self.now.waiting) other) }
+    {
         let mut last = other;
 
         // No way is longer than all who wait.
         for _step in 0..self.waiters.len() {
-            sessions.push(last)?;
             match self.waits_for(last) {
-                Some(next) if next == who => return Ok(Some(Ring::new(sessions))),
+                Some(next) if next == who => return true,
                 Some(next) => last = next,
-                None => return Ok(None),
+                None => return false,
             }
         }
-        Ok(None)
+        false
     }
 
     /// The other session that holds the key for which this one waits.
@@ -189,7 +207,7 @@ impl Locks {
 
 /// Lists a key that was given back, if it is waited for.
 fn note(freed: &mut Vec<LockKey>, waiters: &Waiters, key: LockKey)
-    requires { vec_len freed.old < vec_capacity freed.old }
+    requires { is_waited waiters.now key ≡ true → vec_len freed.old < vec_capacity freed.old }
     ensures items { freed.new.items ≡ noted waiters.now key freed.old.items }
     ensures capacity { vec_capacity freed.new ≡ vec_capacity freed.old }
 {

@@ -1,4 +1,4 @@
-ghost use Rattle.std.specs.Prelude.{◌≡◌, ◌<◌, ◌^◌, ◌++◌, [], ◌∷◌, false, None, Some, length, find, option_map, OnOk, OnErr, IfOk};
+ghost use Rattle.std.specs.Prelude.{◌≡◌, ◌==◌, ◌<◌, ◌^◌, ◌++◌, [], ◌∷◌, true, false, None, Some, length, find, option_map, OnOk, OnErr, IfOk, IfSome};
 ghost use Rattle.std.specs.List.{All};
 ghost use Rattle.std.specs.BTreeMap.{keys};
 ghost use Rattle.std.specs.Ordering.{eq_by_cmp};
@@ -58,7 +58,8 @@ impl Waiters {
 
     /// How many wait.
     pub(crate) fn len(&self) -> usize
-        ensures { result ≡ length self.now }
+        ensures len { result ≡ length self.now }
+        ensures small { result < 2 ^ 63 }
     {
         self.entries.len()
     }
@@ -122,6 +123,7 @@ impl Waiters {
     /// The session waits no more. The answer is the key that it waited for.
     pub(crate) fn leave(&mut self, who: SessionId) -> Option<LockKey>
         ensures left { option_map (λ key. entry who key) result ≡ entry_of who self.old }
+        ensures own { IfSome result (λ key. All (λ w. (w.who == who) ≡ true → key_of w ≡ key) self.old) }
         ensures others { self.new ≡ without who self.old }
     {
         let arrival = self.arrivals.remove(&who)?;

@@ -1,11 +1,17 @@
 -- The laws on locks and waits.
-use Rattle.std.proofs.Common.{◌≡◌, ℕ, ℤ, List, [], ◌∷◌, map, length, Bool, true, false, ◌==◌, nat_le, Option, Some, None, option_map, refl, sym, ◌∙◌, ap, subst, arith, if◌then◌else◌}
+use Rattle.std.proofs.Common.{◌≡◌, ℕ, ℤ, List, [], ◌∷◌, map, length, Bool, true, false, ◌==◌, nat_le, Option, Some, None, Err, option_map, refl, sym, ◌∙◌, ap, subst, arith, if◌then◌else◌}
 use Rattle.std.proofs.lemmas.Bool.Decides.{nat_tests}
+use Rattle.sky_val.specs.declared.val.Val.{Val}
 use Rattle.sky_val.specs.Waits.{is_waiting, waits_for, LeadsBack, way_back}
 use Rattle.sky_val.proofs.WaitLemmas.{leads_back, way_found}
 use Rattle.sky_names.specs.Places.{place_of}
 use Rattle.sky_model.specs.declared.stmt.Stmt.{Stmt}
-use Rattle.sky_model.specs.History.{History, appeared, within, Past}
+use Rattle.sky_model.specs.declared.stmt.Attempt.{Attempt}
+use Rattle.sky_model.specs.declared.reply.Reply.TheVariants.{Waits}
+use Rattle.sky_model.specs.declared.reply.Refusal.TheVariants.{Deadlock}
+use Rattle.sky_model.specs.History.{History, appeared, within, Past, tabled, waits}
+use Rattle.sky_model.specs.Outcome.{◌>>◌, refused_by, does_marks}
+use Rattle.sky_model.specs.StepLocks.{ring, blocked}
 use Rattle.sky_model.specs.State.{RowPart, part_of}
 use Rattle.sky_model.specs.World.{world_of, session_names, history_in, on_top, home}
 use Rattle.sky_model.specs.Reader.{part_by_history, part_by_itself, database_by_history, within_database, by_past, Deed, appears}
@@ -23,8 +29,22 @@ use Rattle.sky_model.proofs.Resting.{turn-rests}
 pub holders_have_written : HoldersHaveWritten
 holders_have_written p is table key who = (holder-written p (legal_place p is) table key who, written-holder p (legal_place p is) table key who)
 
+-- a wait is refused with the ring that it would close
+refused-ring : (d : RowPart) (who table : ℕ) (key : List Val) (attempt : Attempt) (other : ℕ) (sessions : List ℕ) → blocked d who table key attempt other ≡ Err (Deadlock sessions) → ring d who other ≡ Some sessions
+refused-ring d who table key attempt other sessions refused = of (ring d who other) refused
+  where
+    of : (o : Option (List ℕ)) → (refused_by (option_map Deadlock o) >> does_marks (Waits other) (tabled (waits who table key attempt) ∷ [])) ≡ Err (Deadlock sessions) → o ≡ Some sessions
+    of None e = absurd (cc)
+    of (Some found) e = cc
+
+ring-refused : (d : RowPart) (who table : ℕ) (key : List Val) (attempt : Attempt) (other : ℕ) (sessions : List ℕ) → ring d who other ≡ Some sessions → blocked d who table key attempt other ≡ Err (Deadlock sessions)
+ring-refused d who table key attempt other sessions is = ap (λ o. refused_by (option_map Deadlock o) >> does_marks (Waits other) (tabled (waits who table key attempt) ∷ [])) is
+
 pub deadlocks_are_rings : DeadlocksAreRings
-deadlocks_are_rings p is who other way = (λ e. leads (way_back (waits_for d.holder d.waiting) who (length d.waiting) other) refl e, λ leads. ap (option_map (λ rest. who ∷ rest)) (way_found d.holder d.waiting who other way leads))
+deadlocks_are_rings p is who table key attempt other way = (
+  λ refused. leads (way_back (waits_for d.holder d.waiting) who (length d.waiting) other) refl (refused-ring d who table key attempt other (who ∷ way) refused),
+  λ leads. ring-refused d who table key attempt other (who ∷ way) (ap (option_map (λ rest. who ∷ rest)) (way_found d.holder d.waiting who other way leads)),
+)
   where
     d : RowPart
     d = part_of p

@@ -75,6 +75,7 @@ pub row_steps_from_exact : (old new : RowPart) (who : ℕ) (stmt : RowStmt) (rep
     → replies ≡ (row_turn part_by_itself old who stmt).answers
     → new ≡ after_part_marks old (row_turn part_by_itself old who stmt).marks → RowSteps old new who stmt replies
 row_steps_from_exact old new who stmt replies replied stands = record {
+  same = at_place;
   replied = λ h place is. replied ∙ ap Turn.answers (at_place h place is);
   stands = λ h place is. stands ∙ ap (λ (d : RowPart). after_part_marks d (row_turn part_by_itself old who stmt).marks) is
       ∙ ap (λ (turn : Turn). after_part_marks (part_of h) turn.marks) (at_place h place is) ∙ sym (part_of-marks h (row_turn_at h who stmt).marks);

@@ -1,4 +1,5 @@
--- The laws on the batches that a consumer finishes, at each place of each history that calls make.
+-- The laws on the batches that a consumer finishes: at each place of each history that calls make, or of any list of
+-- marks or of events, as each says.
 use Rattle.std.specs.Prelude.{◌≡◌, ℕ, ◌+◌, ◌≤◌, List, [], ◌∷◌, ◌++◌, Bool, true, not, ◌&&◌, Some, is_some, ◌==◌, bytes_eq, length, filter, All, if◌then◌else◌}
 use Rattle.sky_val.specs.declared.event.Event.{Event}
 use Rattle.sky_model.specs.History.{Batch, Mark, queued, registered, closed, History}
@@ -75,7 +76,7 @@ IdsDontFall = (es : List Event) → InOrder (by_id es)
 abbrev pub EqualIdsStay : Type 0
 EqualIdsStay = (es : List Event) (id : ℕ) → with_id id (by_id es) ≡ with_id id es
 
--- an event stands in one of a consumer's finished batches, and in one alone, where it stands between the
+-- an event stands in one of a registered consumer's finished batches, and in one alone, where it stands between the
 -- tick at which the consumer registered and its position, else in none
 abbrev pub EventsAreListedOnce : Type 0
 EventsAreListedOnce = (p : History) → IsPlace p → (queue : ℕ) (consumer : List ℕ) (sub : ℕ) → subscription_id queue consumer p ≡ Some sub

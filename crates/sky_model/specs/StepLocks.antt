@@ -1,4 +1,4 @@
--- Writes that wait for another session's transaction, or are refused where they would wait for ever.
+-- Writes that wait for another session's transaction, or are refused where the wait would close a ring.
 use Rattle.std.specs.Prelude.{ℕ, List, [], ◌∷◌, Option, Some, None, length, option_map}
 use Rattle.sky_val.specs.declared.val.Val.{Val}
 use Rattle.sky_val.specs.Waits.{waits_for, way_back}

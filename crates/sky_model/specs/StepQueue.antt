@@ -53,7 +53,7 @@ next_event_id q = do
   refused_if (nat_le (2 ^ 62) (q.seq + 1)) EventIdsSpent
   Ok (q.seq + 1)
 
--- `insert_event NAME TVAL TVAL`: an event with the next id of the queue's sequence
+-- `insert_event NAME TVAL TVAL`, or with four more TVAL: an event with the next id of the queue's sequence
 abbrev pub insert_event : Database → ℤ → ℕ → List ℕ → Option (List ℕ) → Option (List ℕ) → Option Extra → Checked Outcome
 insert_event d now who name ev_type ev_data extra = do
   queue ← queue_called name d

@@ -118,7 +118,8 @@ with_sets columns (set ∷ sets) row = do
   next ← found_or (with_set columns set row) (OutOfRange set.column)
   with_sets columns sets next
 
--- a newer write than the session's sight has
+-- refused where a write of the key was committed that the session's sight doesn't have, and the own transaction hasn't
+-- written the key
 abbrev pub is_seen : KeyShown → Checked (Unit {0})
 is_seen shown = refused_by (option_map Serialize shown.unseen)
 

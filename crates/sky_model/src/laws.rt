@@ -62,7 +62,7 @@ pub fn batches_are_in_order()
     ensures keeps { EqualIdsStay }
 {}
 
-/// At each such place an event whose transaction had committed at a consumer's position, and hadn't at
+/// At each such place an event whose transaction had committed at a registered consumer's position, and hadn't at
 /// the tick at which the consumer registered, and that is for its subscription, stands in one of the
 /// batches that the consumer has finished, and in one alone; any other event stands in none. A batch
 /// lists the events of its queue that stand in it.

@@ -2,8 +2,9 @@
 //!
 //! `Stmt` and `RowStmt` have one variant for each statement form and `Reply` one for each answer form. The
 //! definitions are in `specs/`: what happened, as one list of facts; what each reading of it is; what
-//! a statement does; and what a script prints. `docs/DEFINITIONS.md` tells them in plain words. There
-//! is no code here that a program runs but the types.
+//! a statement does; and what a script prints. `docs/DEFINITIONS.md` tells them in plain words. What a
+//! program runs of this crate is the small code of its types: they are made, read, copied and
+//! lengthened, and a refusal tells whether it aborts a block. No statement is run here.
 #![tactic(auto)]
 
 pub mod laws;

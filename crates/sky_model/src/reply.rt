@@ -71,6 +71,7 @@ impl Waiters {
         Waiters { items }
     }
 
+    /// The sessions, in their order.
     pub fn as_slice(&self) -> &[SessionId]
         ensures { result.now ≡ self.now }
     {
@@ -123,7 +124,7 @@ pub enum Refusal {
     OutOfRange(Text),
     /// No column may have this name.
     ReservedColumn(Text),
-    /// The transaction of this id has written the key since the block began to read.
+    /// The transaction of this id wrote the key; it hadn't committed at the block's sight, and has now.
     Serialize(u64),
     /// The database has such a table.
     TableExists(Text),
@@ -202,6 +203,7 @@ impl Events {
         Events { items }
     }
 
+    /// The events, in their order.
     pub fn as_slice(&self) -> &[Event]
         ensures { result.now ≡ self.now }
     {
@@ -232,6 +234,7 @@ impl Rows {
         Rows { items }
     }
 
+    /// The rows, in their order.
     pub fn as_slice(&self) -> &[Row]
         ensures { result.now ≡ self.now }
     {
@@ -346,6 +349,7 @@ impl Replies {
         Ok(())
     }
 
+    /// The answers, each with the number of its session, in their order.
     pub fn as_slice(&self) -> &[(SessionId, Reply)]
         ensures { result.now ≡ self.now }
     {

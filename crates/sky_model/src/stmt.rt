@@ -53,6 +53,7 @@ impl Columns {
         Columns { items }
     }
 
+    /// The columns, in their order.
     pub fn as_slice(&self) -> &[Column]
         ensures { result.now ≡ self.now }
     {
@@ -130,6 +131,7 @@ impl Sets {
         Sets { items }
     }
 
+    /// The changes, in their order.
     pub fn as_slice(&self) -> &[Set]
         ensures { result.now ≡ self.now }
     {

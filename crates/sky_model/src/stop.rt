@@ -4,7 +4,9 @@ use std::alloc::AllocError;
 /// Why a statement has no answer of its own.
 #[derive(Debug)]
 pub enum Stop {
+    /// It is refused, and has changed nothing.
     Refused(Refusal),
+    /// Memory was wanting. What it has changed isn't said.
     NoMemory,
 }
 

@@ -26,7 +26,8 @@ pub struct Table {
     rows: BTreeMap<Key, Versions>,
 
     // By it a transaction that has no version at a key needs not look through all that stand there,
-    // and `forget` goes to no key but its own.
+    // and `forget` goes to no key but its own. Of a transaction that was pruned it tells nothing: that one's
+    // version is looked for at the key, and `forget` goes through all keys.
     written: Written,
 }
 
@@ -110,7 +111,7 @@ impl Table {
     pub fn has_written(&self, txid: u64) -> bool
         ensures { result ≡ list_any (λ e. is_some (version_of txid e.1)) self.now.versions }
     {
-        if !self.written.knows(txid) {
+        if !self.written.may_have_written(txid) {
             return false;
         }
         for (_, versions) in &self.rows {
@@ -150,12 +151,34 @@ impl Table {
     }
 
     /// Writes the row at the key, or none to delete it, as a version of the transaction. Where it has
-    /// one at the key already, this takes its place. After an error nothing is said of the rows.
+    /// one at the key already, this takes its place.
     pub fn write(&mut self, txid: u64, key: Key, row: Option<Row>) -> Result<(), NoMemory>
-        ensures { OnOk result
+        ensures ok { OnOk result
             (self.new ≡ record self.old { versions = written txid key row self.old.versions }) }
+        ensures err { OnErr result (self.new ≡ self.old) }
     {
         let again = self.written.add(self.alloc, txid, &key)?;
+        put_version(
+            self.alloc,
+            &mut self.rows,
+            key,
+            Version { txid, row },
+            again,
+        )
+    }
+
+    /// The same for a transaction that ends with it while no other one runs. The index lists no key of
+    /// it, and forgets those of all before it, as `prune` does.
+    pub fn write_last(&mut self, txid: u64, key: Key, row: Option<Row>) -> Result<(), NoMemory>
+        ensures ok { OnOk result
+            (self.new ≡ record self.old { versions = written txid key row self.old.versions }) }
+        ensures err { OnErr result (self.new ≡ self.old) }
+    {
+        let Some(next) = txid.checked_add(1) else {
+            return self.write(txid, key, row);
+        };
+        let again = self.written.has(txid, &key);
+        self.written.prune(next);
         put_version(
             self.alloc,
             &mut self.rows,

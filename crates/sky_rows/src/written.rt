@@ -1,4 +1,4 @@
-ghost use Rattle.std.specs.Prelude.{◌≡◌, ℕ, true, false, not, nat_lt, ◌==◌, List, IfOk, OnOk, slice_get, option_map};
+ghost use Rattle.std.specs.Prelude.{◌≡◌, ℕ, ◌<◌, true, false, not, nat_lt, ◌==◌, List, IfOk, OnOk, slice_get, option_map};
 ghost use Rattle.std.specs.Ordering.{nat_cmp};
 ghost use Rattle.std.specs.BTreeMap.{get};
 ghost use Rattle.sky_rows.specs.Written.{wrote, writer};
@@ -47,7 +47,7 @@ impl Written {
     }
 
     /// Whether the transaction may have written any key: if not, it wrote none.
-    pub(crate) fn knows(&self, txid: u64) -> bool
+    pub(crate) fn may_have_written(&self, txid: u64) -> bool
         ensures { result ≡ false → (key : List Val) → wrote self.now txid key ≡ false }
     {
         !self.tells(txid) || self.keys.contains_key(&txid)
@@ -99,8 +99,9 @@ impl Written {
 
     /// Forgets which keys the transactions below this one wrote.
     pub(crate) fn prune(&mut self, below: u64)
-        ensures { (t : ℕ) (q : List Val)
+        ensures kept { (t : ℕ) (q : List Val)
             → wrote self.new t q ≡ false → wrote self.old t q ≡ false }
+        ensures forgotten { (t : ℕ) (q : List Val) → t < below → wrote self.new t q ≡ true }
     {
         if below <= self.from {
             return;

@@ -41,6 +41,7 @@ impl Model for Buffer {
 }
 
 impl Buffer {
+    /// An empty buffer, with all the room that it ever needs.
     pub fn new(alloc: Global) -> Result<Buffer, NoMemory>
         ensures { IfOk result (λ buffer. buffer ≡ []) }
     {
@@ -54,6 +55,7 @@ impl Buffer {
         })
     }
 
+    /// How many bytes were read and not taken.
     pub fn len(&self) -> usize
         ensures { result ≡ length self.now }
     {

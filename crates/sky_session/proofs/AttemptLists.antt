@@ -1,12 +1,12 @@
 -- What sessions attempt, read by number.
-use Rattle.std.proofs.Common.{◌≡◌, ℕ, ◌<◌, ◌≤◌, List, [], ◌∷◌, ◌++◌, Bool, true, false, ◌==◌, length, get_or, slice_set, refl, sym, ◌∙◌, ap, arith, if◌then◌else◌}
+use Rattle.std.proofs.Common.{◌≡◌, ℕ, ◌<◌, ◌≤◌, List, [], ◌∷◌, ◌++◌, Bool, true, false, ◌==◌, length, slice_set, refl, sym, ◌∙◌, ap, arith, if◌then◌else◌}
 use Rattle.std.proofs.lemmas.Bool.Decides.{nat_tests}
 use Rattle.std.proofs.lemmas.List.{get_or_past}
 use Rattle.sky_model.specs.declared.stmt.Attempt.{Attempt}
 use Rattle.sky_model.specs.declared.stmt.Attempt.TheVariants.{Deletion}
 use Rattle.sky_model.specs.State.{changed_at}
 use Rattle.sky_session.specs.Seen.{attempt_of}
-use Rattle.sky_session.proofs.SessionLists.{set-at, read-at, read-padded}
+use Rattle.sky_session.proofs.SessionLists.{set-at, read-padded}
 
 pub padded : (attempts : List Attempt) → attempt_of (attempts ++ Deletion ∷ []) ≡ attempt_of attempts
 padded attempts = λ i n. read-padded attempts n Deletion i

@@ -8,5 +8,6 @@ pub mod ValueLemmas
 pub mod SetLemmas
 pub mod FaultLemmas
 pub mod WrittenLemmas
+pub mod AloneLemmas
 pub mod ScanLemmas
 pub mod Empty

@@ -1,5 +1,5 @@
 -- Writes that wait, or are refused where they would wait for ever, and those that go on.
-use Rattle.std.proofs.Common.{◌≡◌, ℕ, ◌<◌, List, [], ◌∷◌, ◌++◌, Bool, true, false, Option, Some, None, Ok, Err, Result, length, option_map, refl, sym, ◌∙◌, ap, subst, append_assoc, append-nil}
+use Rattle.std.proofs.Common.{◌≡◌, ℕ, ◌<◌, List, [], ◌∷◌, ◌++◌, true, Option, Some, None, Ok, Err, Result, length, option_map, refl, sym, ◌∙◌, ap, subst, append_assoc, append-nil}
 use Rattle.sky_val.specs.declared.val.Val.{Val}
 use Rattle.sky_val.specs.Waits.{Waiting, waits_for, without, LeadsBack, way_back, is_waiting}
 use Rattle.sky_val.proofs.WaitLemmas.{leads_back, way_found}
@@ -8,7 +8,7 @@ use Rattle.sky_model.specs.declared.stmt.Attempt.{Attempt}
 use Rattle.sky_model.specs.declared.stmt.Attempt.TheVariants.{Deletion}
 use Rattle.sky_model.specs.declared.reply.Reply.TheVariants.{Waits, Refused}
 use Rattle.sky_model.specs.declared.reply.Refusal.TheVariants.{Canceled, Deadlock}
-use Rattle.sky_model.specs.History.{Mark, tabled, waits, waited}
+use Rattle.sky_model.specs.History.{tabled, waits, waited}
 use Rattle.sky_model.specs.Sessions.{Block, outside, inside, failed}
 use Rattle.sky_model.specs.State.{RowPart, changed_at, after_part, after_part_marks}
 use Rattle.sky_model.specs.Outcome.{Outcome, Checked, ◌>>◌, refused_by, does_marks, abort}

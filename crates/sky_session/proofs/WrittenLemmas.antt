@@ -25,7 +25,7 @@ owns-written d one two who t table key old new e first second =
     ap (λ (p : RowPart). (p.session who).txid) second ∙ begun-txid d one who t e first
 
 -- and stands in its block as before
-in_block : (d one two : RowPart) (who t table : ℕ) (key : List Val) (old new : Option (List Val)) → one ≡ after_part_marks d (begin_of who t (d.session who).txid)
+pub in_block : (d one two : RowPart) (who t table : ℕ) (key : List Val) (old new : Option (List Val)) → one ≡ after_part_marks d (begin_of who t (d.session who).txid)
     → two ≡ after_part one (tabled (wrote who t table key old new)) → (two.session who).block ≡ (d.session who).block
 in_block d one two who t table key old new first second =
     ap (λ (p : RowPart). (p.session who).block) second ∙ ap (λ (p : RowPart). (p.session who).block) first ∙ begun-block d who t (d.session who).txid
@@ -46,17 +46,18 @@ effects_of-begin : (who t : ℕ) (own : Option ℕ) (marks : List Mark) → effe
 effects_of-begin who t None marks = refl
 effects_of-begin who t (Some u) marks = refl
 
--- what is told of them
-pub told-written : (d one two : RowPart) (who t table : ℕ) (key : List Val) (old new : Option (List Val)) (effects : List Effect)
-    → one ≡ after_part_marks d (begin_of who t (d.session who).txid) → two ≡ after_part one (tabled (wrote who t table key old new))
-    → effects ≡ (Wrote t table (op_of old new) old new ∷ []) ++ effects_of (commit_of who t (two.session who).block)
-    → effects ≡ effects_of (written who t (d.session who) (tabled (wrote who t table key old new) ∷ []))
-told-written d one two who t table key old new effects first second told =
-    let begins = begin_of who t (d.session who).txid in
-    let ends = commit_of who t (d.session who).block in
+-- what is told of them: the write, and then its end
+pub told-written : (who t table : ℕ) (key : List Val) (old new : Option (List Val)) (own : Option ℕ) (ends : List Mark) (effects : List Effect)
+    → effects ≡ (Wrote t table (op_of old new) old new ∷ []) ++ effects_of ends → effects ≡ effects_of (begin_of who t own ++ (tabled (wrote who t table key old new) ∷ []) ++ ends)
+told-written who t table key old new own ends effects told =
     let mark = tabled (wrote who t table key old new) in
-    told ∙ ap (λ block. Wrote t table (op_of old new) old new ∷ effects_of (commit_of who t block)) (in_block d one two who t table key old new first second)
-    ∙ sym (ap effects_of (append_assoc begins (mark ∷ []) ends) ∙ effects_of-begin who t (d.session who).txid (mark ∷ ends))
+    told ∙ sym (ap effects_of (append_assoc (begin_of who t own) (mark ∷ []) ends) ∙ effects_of-begin who t own (mark ∷ ends))
+
+-- the row that was there is no part of what is kept
+pub same-parts : (d : RowPart) (who t table : ℕ) (key : List Val) (old new : Option (List Val)) (own : Option ℕ) (ends : List Mark)
+    → after_part_marks d (begin_of who t own ++ (tabled (wrote who t table key None new) ∷ []) ++ ends) ≡ after_part_marks d (begin_of who t own ++ (tabled (wrote who t table key old new) ∷ []) ++ ends)
+same-parts d who t table key old new None ends = refl
+same-parts d who t table key old new (Some u) ends = refl
 
 -- what a write does whose transaction has an id
 pub does-writes : (d after : RowPart) (who t table : ℕ) (key : List Val) (old new : Option (List Val)) (effects : List Effect) → txid_for d who ≡ Ok t

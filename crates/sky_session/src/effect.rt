@@ -80,6 +80,7 @@ impl Effects {
         Ok(())
     }
 
+    /// The effects, the first one first.
     pub fn as_slice(&self) -> &[Effect]
         ensures { result.now ≡ self.now }
     {

@@ -22,6 +22,8 @@ mod session;
 mod sessions;
 mod settling;
 mod statements;
+#[cfg(test)]
+mod tests;
 mod values;
 
 pub use answer::RowStep;

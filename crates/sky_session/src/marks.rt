@@ -1,11 +1,12 @@
-//! What can happen in a database, each mark by a method of its own. After want of memory the state isn't said.
+//! What can happen in a database, each mark by a method of its own, but that a session begins to wait: `locking` does
+//! that, as the locks tell only then whether it may. After want of memory the state isn't said.
 
-ghost use Rattle.std.specs.Prelude.{◌≡◌, ◌+◌, ◌-◌, ◌<◌, ◌^◌, true, false, None, Some, IfOk, OnOk, length};
+ghost use Rattle.std.specs.Prelude.{◌≡◌, ◌+◌, ◌-◌, ◌<◌, ◌^◌, [], ◌∷◌, true, false, None, Some, IfOk, OnOk, OnErr, length};
 ghost use Rattle.sky_val.specs.Waits.{other_holder, is_waiting};
 ghost use Rattle.sky_names.specs.Places.{place_of};
 ghost use Rattle.sky_model.specs.History.{began, ended, block_begun, repeats, looked, block_failed, block_ended, tabled, table_made, wrote, waited};
-ghost use Rattle.sky_model.specs.State.{after_part};
-ghost use Rattle.sky_txid.specs.Versions.{forgotten};
+ghost use Rattle.sky_model.specs.State.{after_part, after_part_marks};
+ghost use Rattle.sky_txid.specs.Versions.{written, forgotten};
 ghost use Rattle.sky_session.specs.Seen.{seen, columns_of, versions_of};
 
 use crate::block::Block;
@@ -15,7 +16,7 @@ use sky_locks::{LockKey, Taken};
 use sky_model::Attempt;
 use sky_rows::Table;
 use sky_trans::TransFault;
-use sky_val::{NoMemory, Row, Schema, SessionId, Text};
+use sky_val::{Key, NoMemory, Row, Schema, SessionId, Text};
 use std::alloc::AllocError;
 
 impl RowDb {
@@ -24,13 +25,15 @@ impl RowDb {
         requires { (seen self.old).next < 2 ^ 62 }
         ensures id { IfOk result (λ txid. txid ≡ (seen self.old).next) }
         ensures mark { IfOk result (λ txid. seen self.new ≡ after_part (seen self.old) (began who txid)) }
+        ensures err { OnErr result (seen self.new ≡ seen self.old) }
     {
+        self.sessions.make_room(who)?;
         let txid = match self.trans.assign() {
             Ok(txid) => txid,
             Err(TransFault::NoMemory) => return Err(AllocError),
             Err(TransFault::TxidsSpent) => unreachable!(),
         };
-        self.sessions.set_txid(who, Some(txid))?;
+        self.sessions.begin_txid(who, txid);
         Ok(txid)
     }
 
@@ -73,7 +76,8 @@ impl RowDb {
 
     /// The place at which it reads is here.
     pub(crate) fn looked(&mut self, who: SessionId) -> Result<(), NoMemory>
-        ensures { OnOk result (seen self.new ≡ after_part (seen self.old) (looked who)) }
+        ensures ok { OnOk result (seen self.new ≡ after_part (seen self.old) (looked who)) }
+        ensures err { OnErr result (seen self.new ≡ seen self.old) }
     {
         let snapshot = self.trans.snapshot()?;
         self.sessions.set_sight(who, Sight::AtPlace(snapshot))?;
@@ -133,6 +137,39 @@ impl RowDb {
         Ok(())
     }
 
+    /// The same in a transaction of its own, which gets the next id and commits with this write. So no lock is taken:
+    /// between the write and its end nobody asks for one.
+    pub(crate) fn wrote_alone(
+        &mut self,
+        who: SessionId,
+        key: LockKey,
+        row: Option<Row>,
+    ) -> Result<(), NoMemory>
+        requires within { key.table < length (seen self.old).tables }
+        requires free { other_holder (seen self.old).holder who key.table key.key ≡ None }
+        requires single { ((seen self.old).session who).txid ≡ None }
+        requires room { (seen self.old).next < 2 ^ 62 }
+        ensures { let t = (seen self.old).next in
+            OnOk result (seen self.new ≡ after_part_marks (seen self.old) (began who t ∷ tabled (wrote who t key.table key.key None row) ∷ ended who t true ∷ [])) }
+    {
+        let least = self.trans.least();
+        let txid = match self.trans.assign() {
+            Ok(txid) => txid,
+            Err(TransFault::NoMemory) => return Err(AllocError),
+            Err(TransFault::TxidsSpent) => unreachable!(),
+        };
+        put_row(
+            &mut self.tables[key.table as usize],
+            least,
+            txid,
+            key.key,
+            row,
+        )?;
+        self.trans.commit(txid);
+        self.locks.release(who);
+        Ok(())
+    }
+
     /// The session waits no longer. The answer is what it was to do.
     pub(crate) fn waited(&mut self, who: SessionId) -> Attempt
         ensures taken { result ≡ (seen self.old).attempt who }
@@ -140,6 +177,25 @@ impl RowDb {
     {
         self.locks.leave(who);
         self.attempts.take(who)
+    }
+}
+
+/// Writes the row at the key, in a transaction that ends with it; `least` is the least of the others that run.
+fn put_row(
+    table: &mut Table,
+    least: Option<u64>,
+    txid: u64,
+    key: Key,
+    row: Option<Row>,
+) -> Result<(), NoMemory>
+    ensures { OnOk result (table.new ≡ record table.old { versions = written txid key row table.old.versions }) }
+{
+    match least {
+        Some(least) => {
+            table.prune(least);
+            table.write(txid, key, row)
+        }
+        None => table.write_last(txid, key, row),
     }
 }
 

@@ -1,10 +1,13 @@
 //! Which statements a session may make, and the transaction of a statement: the one of its session's block, or one of
 //! its own.
 
-ghost use Rattle.std.specs.Prelude.{◌≡◌, ◌++◌, [], Ok, IfOk, IfErr, OnOk};
+ghost use Rattle.std.specs.Prelude.{◌≡◌, ◌<◌, ◌++◌, [], ◌∷◌, true, false, None, Ok, length, IfOk, IfErr, OnOk, OnErr};
+ghost use Rattle.sky_val.specs.Waits.{other_holder, is_waiting};
+ghost use Rattle.sky_model.specs.History.{tabled, wrote};
 ghost use Rattle.sky_model.specs.Outcome.{end_of};
+ghost use Rattle.sky_model.specs.Sessions.{outside};
 ghost use Rattle.sky_model.specs.State.{after_part_marks};
-ghost use Rattle.sky_model.specs.OwnTransaction.{txid_for, begin_of, commit_of};
+ghost use Rattle.sky_model.specs.OwnTransaction.{txid_for, begin_of, commit_of, written};
 ghost use Rattle.sky_session.specs.Effects.{effects_of};
 ghost use Rattle.sky_session.specs.Marks.{failure};
 ghost use Rattle.sky_session.specs.Gives.{Enters};
@@ -14,8 +17,9 @@ use crate::allowed::allow;
 use crate::block::Block;
 use crate::effect::{Effect, Effects};
 use crate::row_db::RowDb;
+use sky_locks::LockKey;
 use sky_model::{Refusal, Where};
-use sky_val::{NoMemory, SessionId};
+use sky_val::{NoMemory, Row, SessionId};
 
 impl RowDb {
     /// The id of the session's transaction: its own, or the next one.
@@ -39,7 +43,8 @@ impl RowDb {
         who: SessionId,
         place: Where,
     ) -> Result<Option<Refusal>, NoMemory>
-        ensures { IfOk result (λ refusal. Enters (seen self.old) (seen self.new) who place refusal) }
+        ensures ok { IfOk result (λ refusal. Enters (seen self.old) (seen self.new) who place refusal) }
+        ensures err { OnErr result (seen self.new ≡ seen self.old) }
     {
         if let Err(refusal) = allow(self.waits(who), self.block(who), place) {
             return Ok(Some(refusal));
@@ -48,6 +53,14 @@ impl RowDb {
             self.looked(who)?;
         }
         Ok(None)
+    }
+
+    /// Whether the session is in no block, and its transaction has no id: so a write is one of its own.
+    pub(crate) fn is_alone(&self, who: SessionId) -> bool
+        ensures alone { result ≡ true → ((seen self.now).session who).block ≡ outside }
+        ensures single { result ≡ true → ((seen self.now).session who).txid ≡ None }
+    {
+        self.block(who) == Block::Outside && self.own_txid(who).is_none()
     }
 
     /// Gives the session's transaction its id, where it has none.
@@ -76,6 +89,35 @@ impl RowDb {
             self.committed(who, txid);
             effects.push(Effect::Committed(txid))?;
         }
+        Ok(())
+    }
+
+    /// Writes the key in the session's transaction, which has this id or gets it. Where the session is in no block, that
+    /// then commits.
+    pub(crate) fn write_own(
+        &mut self,
+        who: SessionId,
+        txid: u64,
+        key: LockKey,
+        row: Option<Row>,
+        effects: &mut Effects,
+    ) -> Result<(), NoMemory>
+        requires id { txid_for (seen self.old) who ≡ Ok txid }
+        requires within { key.table < length (seen self.old).tables }
+        requires free { other_holder (seen self.old).holder who key.table key.key ≡ None }
+        requires awake { is_waiting who (seen self.old).waiting ≡ false }
+        ensures marks { OnOk result (seen self.new ≡ after_part_marks (seen self.old)
+            (written who txid ((seen self.old).session who) (tabled (wrote who txid key.table key.key None row) ∷ []))) }
+        ensures told { OnOk result (effects.new ≡ effects.old ++ effects_of (commit_of who txid ((seen self.old).session who).block)) }
+    {
+        if self.is_alone(who) {
+            self.wrote_alone(who, key, row)?;
+            effects.push(Effect::Committed(txid))?;
+            return Ok(());
+        }
+        self.begin_own(who, txid)?;
+        self.wrote(who, txid, key, row)?;
+        self.commit_own(who, txid, effects)?;
         Ok(())
     }
 

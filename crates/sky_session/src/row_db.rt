@@ -1,4 +1,4 @@
-ghost use Rattle.std.specs.Prelude.{◌≡◌, ◌↔◌, ◌<◌, ◌≢◌, [], ◌∷◌, true, false, not, ◌==◌, if◌then◌else◌, None, Some, Ok, Err, IfOk, OnOk, MatchOption, IsTrue, is_ok, length, unwrap_or};
+ghost use Rattle.std.specs.Prelude.{◌≡◌, ◌↔◌, ◌<◌, ◌≢◌, [], ◌∷◌, true, false, not, ◌==◌, if◌then◌else◌, None, Some, Ok, Err, IfOk, OnOk, OnErr, MatchOption, IsTrue, is_ok, length, unwrap_or};
 ghost use Rattle.std.specs.Option.{option_copied};
 ghost use Rattle.sky_txid.specs.Snapshot.{SnapshotView};
 ghost use Rattle.sky_val.specs.Waits.{is_waiting};
@@ -12,7 +12,7 @@ ghost use Rattle.sky_model.specs.Made.{takes_sight};
 ghost use Rattle.sky_model.specs.OwnTransaction.{txid_for, begin_of};
 ghost use Rattle.sky_session.specs.Marks.{single_end, failure};
 ghost use Rattle.sky_model.specs.Reader.{part_by_itself};
-ghost use Rattle.sky_model.specs.Settling.{settling, with_settling};
+ghost use Rattle.sky_model.specs.Settling.{ready, settling, with_settling};
 ghost use Rattle.sky_session.specs.Gives.{GivesTurn, Enters};
 ghost use Rattle.sky_session.specs.Seen.{seen, seen_block};
 
@@ -169,7 +169,8 @@ impl RowDb {
     /// Lets the session make a statement that isn't on rows, or refuses it. One that may stand `outside` of blocks alone
     /// reads nothing; any other takes the sight of a repeatable read block, if that is still to come.
     pub fn enter(&mut self, who: SessionId, outside: bool) -> Result<Option<Refusal>, NoMemory>
-        ensures { IfOk result (λ refusal. Enters (seen self.old) (seen self.new) who (if outside then WhenOutside else WhenReading) refusal) }
+        ensures ok { IfOk result (λ refusal. Enters (seen self.old) (seen self.new) who (if outside then WhenOutside else WhenReading) refusal) }
+        ensures err { OnErr result (seen self.new ≡ seen self.old) }
     {
         if outside {
             self.admit(who, Where::WhenOutside)
@@ -181,9 +182,10 @@ impl RowDb {
     /// Rolls back the session's block, which stays aborted, and runs what this lets go on. Where it is in none, or that
     /// is aborted, nothing is rolled back.
     pub fn fail(&mut self, who: SessionId) -> Result<RowStep, NoMemory>
-        ensures { let marks = failure who ((seen self.old).session who).txid ((seen self.old).session who).block in
+        ensures gives { let marks = failure who ((seen self.old).session who).txid ((seen self.old).session who).block in
             IfOk result (λ step. GivesTurn (seen self.old) (seen self.new) step
             (with_settling part_by_itself (seen self.old) (record { answers = []; marks = marks }))) }
+        ensures rests { OnOk result (ready (seen self.new) ≡ None) }
     {
         let effects = self.roll_back(who)?;
         let mut step = RowStep {
@@ -197,7 +199,8 @@ impl RowDb {
     /// Runs the statements that may go on. Behind `step` and `fail` there is none; behind `roll_back` and `end_single`, by
     /// which a statement on queues ends a transaction, there may be some.
     pub fn settle(&mut self) -> Result<RowStep, NoMemory>
-        ensures { IfOk result (λ step. GivesTurn (seen self.old) (seen self.new) step (settling part_by_itself (seen self.old))) }
+        ensures gives { IfOk result (λ step. GivesTurn (seen self.old) (seen self.new) step (settling part_by_itself (seen self.old))) }
+        ensures rests { OnOk result (ready (seen self.new) ≡ None) }
     {
         let mut step = RowStep {
             replies: Replies::new(self.alloc),
@@ -219,7 +222,7 @@ impl RowDb {
         ensures id { IfOk result (λ txid. txid_for (seen self.old) who ≡ Ok txid) }
         ensures marks { IfOk result (λ txid. seen self.new ≡ after_part_marks (seen self.old) (begin_of who txid ((seen self.old).session who).txid)) }
         ensures spent { (result ≡ Err TransFault.TxidsSpent) ↔ (txid_for (seen self.old) who ≡ Err TxidsSpent) }
-        ensures same { result ≡ Err TransFault.TxidsSpent → seen self.new ≡ seen self.old }
+        ensures same { OnErr result (seen self.new ≡ seen self.old) }
     {
         if let Some(txid) = self.own_txid(who) {
             return Ok(txid);

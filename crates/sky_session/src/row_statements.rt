@@ -56,7 +56,8 @@ impl RowDb {
         }
     }
 
-    /// Refuses a change of a row that was written since the session's sight.
+    /// Refuses a change of a row of whose key a write was committed since the session's sight, unless its own
+    /// transaction has written the key.
     pub(crate) fn check_seen(
         &self,
         who: SessionId,
@@ -89,20 +90,16 @@ impl RowDb {
         ensures { Ran self.old self.new result (writes_key (seen self.old) who key.table key.key old new) }
     {
         let txid = self.txid_for(who)?;
-        let table = key.table;
         let stored = copy_row(self.alloc, &new)?;
-        self.begin_own(who, txid)?;
-        self.wrote(who, txid, key, stored)?;
-        let op = op_of(&old, &new);
         let mut effects = Effects::new(self.alloc);
         effects.push(Effect::Wrote {
             txid,
-            table,
-            op,
+            table: key.table,
+            op: op_of(&old, &new),
             old,
             new,
         })?;
-        self.commit_own(who, txid, &mut effects)?;
+        self.write_own(who, txid, key, stored, &mut effects)?;
         Ok(Answer {
             reply: Reply::Number(1),
             effects,

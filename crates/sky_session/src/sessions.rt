@@ -39,6 +39,7 @@ impl Sessions {
         }
     }
 
+    /// Whether the session is in no block, in one, or in an aborted one.
     pub fn block(&self, who: SessionId) -> Block
         ensures { seen_block result ≡ (session_of self.now who).block }
     {
@@ -79,7 +80,7 @@ impl Sessions {
     }
 
     /// Makes a place for the session, so that nothing after this wants memory for it.
-    fn make_room(&mut self, who: SessionId) -> Result<(), NoMemory>
+    pub fn make_room(&mut self, who: SessionId) -> Result<(), NoMemory>
         ensures room { OnOk result (who < length self.new) }
         ensures same { session_of self.new ≡ session_of self.old }
     {
@@ -93,15 +94,15 @@ impl Sessions {
         Ok(())
     }
 
-    pub fn set_txid(&mut self, who: SessionId, txid: Option<u64>) -> Result<(), NoMemory>
-        ensures ok { OnOk result (session_of self.new ≡ changed_at who (with_txid txid) (session_of self.old)) }
-        ensures err { OnErr result (session_of self.new ≡ session_of self.old) }
+    /// The session's transaction has got this id.
+    pub fn begin_txid(&mut self, who: SessionId, txid: u64)
+        requires { who < length self.old }
+        ensures { session_of self.new ≡ changed_at who (with_txid (Some txid)) (session_of self.old) }
     {
-        self.make_room(who)?;
-        self.items[who as usize].txid = txid;
-        Ok(())
+        self.items[who as usize].txid = Some(txid);
     }
 
+    /// Where the session reads stays as it is.
     pub fn set_block(&mut self, who: SessionId, block: Block) -> Result<(), NoMemory>
         ensures ok { OnOk result (session_of self.new ≡ changed_at who (with_block (seen_block block)) (session_of self.old)) }
         ensures err { OnErr result (session_of self.new ≡ session_of self.old) }
@@ -111,6 +112,7 @@ impl Sessions {
         Ok(())
     }
 
+    /// The session's statements read there from now on.
     pub fn set_sight(&mut self, who: SessionId, sight: Sight) -> Result<(), NoMemory>
         ensures ok { OnOk result (session_of self.new ≡ changed_at who (with_sight (seen_sight sight)) (session_of self.old)) }
         ensures err { OnErr result (session_of self.new ≡ session_of self.old) }

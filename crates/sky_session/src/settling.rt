@@ -1,6 +1,6 @@
 //! The statements that may go on when keys are free: each is run at the place behind the one before.
 
-ghost use Rattle.std.specs.Prelude.{◌≡◌, ◌<◌, false, Some, IfOk, IfSome, OnOk, option_map, length};
+ghost use Rattle.std.specs.Prelude.{◌≡◌, ◌<◌, false, None, Some, IfOk, IfSome, OnOk, option_map, length};
 ghost use Rattle.sky_val.specs.Waits.{is_waiting};
 ghost use Rattle.sky_locks.specs.Locks.{entry};
 ghost use Rattle.sky_model.specs.ShownRows.{rows_by};
@@ -65,7 +65,8 @@ impl RowDb {
 
     /// Runs the statements that may go on. Their answers and effects are added.
     pub(crate) fn settle_behind(&mut self, step: &mut RowStep) -> Result<(), NoMemory>
-        ensures { OnOk result (Adds (seen self.old) (seen self.new) step.old step.new (settling part_by_itself (seen self.old))) }
+        ensures adds { OnOk result (Adds (seen self.old) (seen self.new) step.old step.new (settling part_by_itself (seen self.old))) }
+        ensures rests { OnOk result (ready (seen self.new) ≡ None) }
     {
         loop {
             let Some((who, key)) = self.next_ready()? else {

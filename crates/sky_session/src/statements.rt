@@ -13,6 +13,7 @@ ghost use Rattle.sky_model.specs.Outcome.{abort, settled};
 ghost use Rattle.sky_model.specs.StepSession.{begin, begin_repeatable_read, commit, rollback, close, cancel, leaves, txid_current, txid_current_snapshot, txid_visible_in_snapshot};
 ghost use Rattle.sky_model.specs.Calls.{row_form, row_statement, row_turn};
 ghost use Rattle.sky_model.specs.Reader.{part_by_itself};
+ghost use Rattle.sky_model.specs.Settling.{ready};
 ghost use Rattle.sky_model.specs.RowSteps.{RowSteps};
 ghost use Rattle.sky_session.specs.Effects.{effects_of};
 ghost use Rattle.sky_session.specs.Gives.{GivesTurn, GivesOutcome, Ran};
@@ -32,6 +33,7 @@ impl RowDb {
     /// Runs a statement of a session that has this database open, and those that it lets go on.
     pub fn step(&mut self, who: SessionId, stmt: &RowStmt) -> Result<RowStep, NoMemory>
         ensures exact { IfOk result (λ step. GivesTurn (seen self.old) (seen self.new) step (row_turn part_by_itself (seen self.old) who stmt.now)) }
+        ensures rests { OnOk result (ready (seen self.new) ≡ None) }
         ensures steps { IfOk result (λ step. RowSteps (seen self.old) (seen self.new) who stmt.now step.replies) }
     {
         let answer = self.own_answer(who, stmt)?;

@@ -69,6 +69,7 @@ impl Model for Database {
 }
 
 impl Database {
+    /// A database in which nothing has happened.
     pub fn new(alloc: Global) -> Database
         ensures { seen_database result ≡ database_of [] }
     {
@@ -109,12 +110,14 @@ impl Database {
         self.queue(queue).subscription(consumer)
     }
 
+    /// The snapshot of now, whatever a session's sight is.
     pub fn snapshot(&self) -> Result<Snapshot, AllocError>
         ensures { IfOk result (λ snapshot. snapshot ≡ snapshot_now (seen_database self.now).part) }
     {
         self.rows.snapshot_now()
     }
 
+    /// Where its statements take memory from.
     pub fn alloc(&self) -> Global {
         self.alloc
     }
@@ -133,6 +136,7 @@ impl Database {
         self.last_batch_id
     }
 
+    /// How many queues were made; none goes.
     pub fn queue_count(&self) -> usize
         ensures { result ≡ length self.now.names }
     {
@@ -224,6 +228,7 @@ impl Database {
         Ok(())
     }
 
+    /// Notes the effect where it is that a transaction was rolled back.
     fn note(&mut self, effect: &Effect) -> Result<(), AllocError>
         ensures { OnOk result (seen_database self.new ≡ record (seen_database self.old) { undone = undone_by (effect.now ∷ []) (seen_database self.old).undone }) }
     {
@@ -241,6 +246,7 @@ impl Database {
         Ok(())
     }
 
+    /// The sequence of a queue has this value from now on.
     pub fn raise(&mut self, queue: usize, value: u64)
         requires { queue < length self.old.queues }
         ensures mark { seen_database self.new ≡ after_mark (seen_database self.old) (queued (raised queue value)) }
@@ -249,6 +255,7 @@ impl Database {
         self.queues[queue].raise(value);
     }
 
+    /// Stores an event in a queue, whether its transaction commits or not.
     pub fn put(&mut self, queue: usize, event: Event) -> Result<(), AllocError>
         requires queue { queue < length self.old.queues }
         requires time { HasMoment event.ev_time }
@@ -257,6 +264,7 @@ impl Database {
         self.queues[queue].put(event)
     }
 
+    /// One more tick of a queue, with whatever snapshot it has.
     fn store_tick(&mut self, queue: usize, tick: Tick) -> Result<(), AllocError>
         requires queue { queue < length self.old.queues }
         requires next { tick.id ≡ newest_id ((seen_database self.old).queue queue) + 1 }
@@ -337,6 +345,7 @@ impl Database {
         Ok(())
     }
 
+    /// The batch is active from now on, and is its consumer's.
     pub fn open_batch(&mut self, id: u64, batch: Batch) -> Result<(), AllocError>
         requires { batch.queue < length self.old.queues }
         ensures { OnOk result (seen_database self.new ≡ after_mark (seen_database self.old) (queued (opened (seen_batch id batch)))) }

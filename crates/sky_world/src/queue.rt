@@ -64,6 +64,7 @@ impl Queue {
         self.seq
     }
 
+    /// The ticks, of which there is at least one.
     pub fn ticks(&self) -> &Ticks
         ensures { result.now ≡ self.now.ticks }
     {

@@ -393,7 +393,7 @@ fn made_event(
     Ok(event)
 }
 
-/// Whether a statement on queues may stand in no block.
+/// Whether a statement on queues stands outside of blocks alone.
 fn is_outside(stmt: &Stmt) -> bool
     requires { is_row stmt.now ≡ false }
     ensures { (if result then WhenOutside else WhenReading) ≡ where_of stmt.now }

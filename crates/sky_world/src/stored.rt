@@ -49,6 +49,7 @@ impl Model for Stored {
 }
 
 impl Rest {
+    /// Whether all of it is missing.
     fn is_empty(&self) -> bool
         ensures { result ≡ true → self.now ≡ record { ev_owner = None; ev_retry = None; ev_extra1 = None; ev_extra2 = None; ev_extra3 = None; ev_extra4 = None } }
     {
@@ -89,12 +90,14 @@ impl Stored {
         })
     }
 
+    /// The id of the transaction that inserted it.
     pub fn txid(&self) -> u64
         ensures { result ≡ self.now.ev_txid }
     {
         self.ev_txid
     }
 
+    /// The subscription for which alone it is, if there is one.
     pub fn owner(&self) -> Option<u64>
         ensures { result ≡ self.now.ev_owner }
     {

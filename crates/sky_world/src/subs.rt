@@ -29,6 +29,7 @@ impl Model for Subs {
 }
 
 impl Subs {
+    /// No subscriptions.
     pub fn new(alloc: Global) -> Subs
         ensures { result ≡ [] }
     {
@@ -38,6 +39,7 @@ impl Subs {
         }
     }
 
+    /// How many consumers are registered.
     pub fn len(&self) -> usize
         ensures { result ≡ length (map consumer_of self.now) }
     {

@@ -21,6 +21,7 @@ impl Model for Subscription {
 }
 
 impl Subscription {
+    /// What a queue keeps of a consumer, but its name.
     pub fn of(sub: &Sub) -> Subscription
         ensures { result ≡ seen_sub sub.now }
     {
@@ -31,6 +32,7 @@ impl Subscription {
         }
     }
 
+    /// Its number among all subscriptions of the database.
     pub fn id(&self) -> u64
         ensures { result ≡ self.now.id }
     {

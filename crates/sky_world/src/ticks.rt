@@ -37,6 +37,7 @@ impl Model for Tick {
 }
 
 impl Tick {
+    /// Its place among the ticks of its queue, from 1 on.
     pub fn id(&self) -> u64
         ensures { result ≡ self.now.id }
     {

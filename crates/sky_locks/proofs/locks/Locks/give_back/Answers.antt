@@ -1,11 +1,18 @@
-use Rattle.std.proofs.Common.{◌∙◌, ap, sym, subst, vec_capacity}
+use Rattle.std.proofs.Common.{◌<◌, ◌∙◌, ap, sym, subst, length, arith, vec_capacity}
 use Rattle.sky_val.specs.Waits.{given_back}
 use Rattle.sky_locks.specs.declared.lock_key.LockKey.{LockKey}
 use Rattle.sky_locks.specs.Holders.{Frees}
 use Rattle.sky_locks.specs.Locks.{LocksView, holder}
-use Rattle.sky_locks.proofs.ListedLemmas.{listed_noted}
+use Rattle.sky_locks.proofs.ListedLemmas.{room_for, listed_noted}
 use Rattle.sky_locks.proofs.LockLemmas.{given_back_is, not_held_is}
 use Rattle.sky_locks.proofs.locks.Locks.give_back.Goals as goal
+
+pub note-requires : goal.note-requires
+note-requires c waited =
+    let room : length c.self.inside.freed.items < vec_capacity c.self.inside.freed =
+    room_for c.self.inside.holders c.give_back.new.self c.self.inside.waiters c.self.inside.freed.items (vec_capacity c.self.inside.freed) c.args.who c.in-Some.key
+    c.self.invariant (subst (λ (k : LockKey). Frees c.self.inside.holders c.args.who k c.give_back.new.self) (sym c.in-Some.ensures.freed.0) c.in-Some.ensures.freed.1) waited in
+    omega (arith, c.self.inside.freed.ok)
 
 pub invariant_of-self : goal.invariant_of-self
 invariant_of-self c =

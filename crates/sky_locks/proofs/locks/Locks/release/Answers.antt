@@ -1,9 +1,16 @@
-use Rattle.std.proofs.Common.{◌∙◌, ap, vec_capacity}
+use Rattle.std.proofs.Common.{◌<◌, ◌∙◌, ap, length, arith, vec_capacity}
 use Rattle.sky_val.specs.Waits.{released}
 use Rattle.sky_locks.specs.Locks.{LocksView, holder}
-use Rattle.sky_locks.proofs.ListedLemmas.{listed_noted}
+use Rattle.sky_locks.proofs.ListedLemmas.{room_for, listed_noted}
 use Rattle.sky_locks.proofs.LockLemmas.{holders, released_step, released_is}
 use Rattle.sky_locks.proofs.locks.Locks.release.Goals as goal
+
+pub note-requires : goal.note-requires
+note-requires c waited =
+    let room : length c.loop-key.self-inside.freed.items < vec_capacity c.loop-key.self-inside.freed =
+    room_for c.loop-key.self-inside.holders c.pop.new.self c.loop-key.self-inside.waiters c.loop-key.self-inside.freed.items (vec_capacity c.loop-key.self-inside.freed) c.args.who c.in-Some.key
+    c.loop-key.invariant.0 c.in-Some.ensures.freed waited in
+    omega (arith, c.loop-key.self-inside.freed.ok)
 
 pub loop-key-preserved : goal.loop-key-preserved
 loop-key-preserved c = (

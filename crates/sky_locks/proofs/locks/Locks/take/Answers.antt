@@ -1,4 +1,4 @@
-use Rattle.std.proofs.Common.{◌≡◌, ◌≤◌, ◌+◌, ◌∙◌, ap, not, length, arith, rules, vec_capacity}
+use Rattle.std.proofs.Common.{◌∙◌, not, rules, vec_capacity}
 use Rattle.std.specs.Prelude.{filter}
 use Rattle.std.proofs.lemmas.Fn.{filter_same}
 use Rattle.sky_locks.specs.contracts.lock_key.LockKeyPartialEq.TheImpl as equality
@@ -8,11 +8,8 @@ use Rattle.sky_locks.proofs.locks.Locks.take.Goals as goal
 
 pub invariant_of-self-2 : goal.invariant_of-self-2
 invariant_of-self-2 c =
-    let items : length c.reserve.new.self.items ≡ length c.self.inside.freed.items = ap length c.reserve.ensures.items in
-    let room : length c.self.inside.freed.items + length c.hold.new.self ≤ vec_capacity c.retain.new.self =
-    omega (arith, c.reserve.new.self.ok, c.in_ok-reserve.ensures.ok, c.retain.ensures.capacity, c.in_ok-hold.ensures.count, c.len.ensures.len) in
     let kept = filter_same _ (λ f. not (equality.ghosts.eq f c.args.key.now)) _ (λ x b f' t. search rules) _ _ c.retain.ensures.filtered in
     listed_taken c.self.inside.holders c.hold.new.self c.self.inside.waiters c.self.inside.freed.items c.retain.new.self.items (vec_capacity c.self.inside.freed) (vec_capacity c.retain.new.self) c.args.who c.args.key.now c.self.invariant
     c.in_ok-hold.ensures.held
-    (kept ∙ (λ i. filter (λ f. not (lock_eq-ties f c.args.key.now i)) (c.reserve.ensures.items i)))
-    room
+    (kept ∙ (λ i. filter (λ f. not (lock_eq-ties f c.args.key.now i)) c.self.inside.freed.items))
+    c.retain.ensures.capacity

@@ -1,9 +1,19 @@
-use Rattle.std.proofs.Common.{◌∙◌, ◌∷◌, ◌++◌, [], ap, sym, refl, length}
+use Rattle.std.proofs.Common.{◌≤◌, ◌+◌, ◌∙◌, ◌∷◌, ◌++◌, [], ap, sym, refl, length, arith, vec_capacity}
+use Rattle.sky_val.specs.Waits.{other_than}
 use Rattle.sky_val.proofs.WaitLemmas.{no_way}
+use Rattle.sky_locks.specs.Holders.{holder_of}
 use Rattle.sky_locks.specs.Waiters.{entry}
 use Rattle.sky_locks.specs.Locks.{LocksView, holder, waits_for_in}
+use Rattle.sky_locks.proofs.ListedLemmas.{other_holds, listed_arrived}
 use Rattle.sky_locks.proofs.RingLemmas.{ring_way, no_ring}
 use Rattle.sky_locks.proofs.locks.Locks.wait.Goals as goal
+
+pub invariant_of-self-2 : goal.invariant_of-self-2
+invariant_of-self-2 c =
+    let fits : length c.self.inside.waiters + 1 ≤ vec_capacity c.reserve.new.self = omega (arith, c.in_ok-reserve.ensures.ok, c.len.ensures.len) in
+    listed_arrived c.self.inside.holders c.self.inside.waiters c.arrive.new.self c.self.inside.freed.items c.reserve.new.self.items (vec_capacity c.self.inside.freed) (vec_capacity c.reserve.new.self) c.args.who c.args.key.now c.self.invariant
+    (other_holds c.args.who c.args.other (holder_of c.self.inside.holders c.args.key.now) (ap (λ (l : LocksView). other_than c.args.who (holder_of l.held c.args.key.now)) c.self.view_is ∙ c.requires.holds))
+    c.in_ok-arrive.ensures.ok c.reserve.ensures.items fits
 
 pub returns-in-Some-clause-ok : goal.returns-in-Some-clause-ok
 returns-in-Some-clause-ok c =

@@ -1,10 +1,13 @@
-use Rattle.std.proofs.Common.{◌∙◌, ap, sym, nat_cmp}
+use Rattle.std.proofs.Common.{◌≡◌, ◌∙◌, ap, sym, subst, true, nat_cmp}
+use Rattle.std.specs.Prelude.{◌==◌}
+use Rattle.std.specs.List.{AllByRecursion}
+use Rattle.std.proofs.lemmas.List.Elements.{All-from_recursion}
 use Rattle.sky_val.specs.Waits.{entry_of, without}
 use Rattle.sky_locks.specs.Order.{lock_cmp}
 use Rattle.sky_locks.specs.Groups.{in_group}
-use Rattle.sky_locks.specs.Waiters.{waiting_of}
+use Rattle.sky_locks.specs.Waiters.{waiting_of, key_of}
 use Rattle.std.specs.BTreeMap.{get}
-use Rattle.sky_locks.proofs.WaiterLemmas.{entry-none, entry-some, not_gone, without-none, without-some, indexed_less}
+use Rattle.sky_locks.proofs.WaiterLemmas.{entry-none, entry-some, not_gone, without-none, without-some, own_key, indexed_less}
 use Rattle.sky_locks.proofs.waiters.Waiters.leave.Goals as goal
 
 pub returns-in_err-arrival-clause-left : goal.returns-in_err-arrival-clause-left
@@ -38,6 +41,12 @@ returns-clause-left c =
     entry-some c.self.inside.entries.entries (get nat_cmp c.self.inside.arrivals) (in_group lock_cmp nat_cmp c.self.inside.queues.arrivals) c.args.who c.in_ok-arrival.arrival c.in_ok-waiter.waiter c.self.invariant.in_order c.self.invariant.indexed
     (sym c.in_ok-arrival.ensures.value) (sym c.in_ok-waiter.ensures.value)
     ∙ ap (entry_of c.args.who) c.self.view_is
+
+pub returns-clause-own : goal.returns-clause-own
+returns-clause-own c = All-from_recursion (λ w. (w.who == c.args.who) ≡ true → key_of w ≡ c.in_ok-waiter.waiter.key) c.args.self.now
+    (subst (AllByRecursion (λ w. (w.who == c.args.who) ≡ true → key_of w ≡ c.in_ok-waiter.waiter.key)) c.self.view_is
+    (own_key c.self.inside.entries.entries (get nat_cmp c.self.inside.arrivals) (in_group lock_cmp nat_cmp c.self.inside.queues.arrivals) c.args.who c.in_ok-arrival.arrival c.in_ok-waiter.waiter c.self.invariant.in_order c.self.invariant.indexed
+    (sym c.in_ok-arrival.ensures.value) (sym c.in_ok-waiter.ensures.value)))
 
 pub returns-clause-others : goal.returns-clause-others
 returns-clause-others c =

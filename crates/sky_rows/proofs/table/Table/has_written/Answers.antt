@@ -6,10 +6,10 @@ use Rattle.sky_rows.specs.Written.{AllKept, wrote}
 use Rattle.sky_rows.proofs.WriterLemmas.{has_version, no_version}
 use Rattle.sky_rows.proofs.table.Table.has_written.Goals as goal
 
-pub returns-then-not-knows : goal.returns-then-not-knows
-returns-then-not-knows c =
+pub returns-then-not-may_have_written : goal.returns-then-not-may_have_written
+returns-then-not-may_have_written c =
     let w = wrote c.self.inside.written in
-    sym (no_version w c.args.txid c.args.self.now.versions (c.knows.ensures c.if-not-knows.true) (subst (λ (t : TableView). AllKept w t.versions) c.self.view_is c.self.invariant))
+    sym (no_version w c.args.txid c.args.self.now.versions (c.may_have_written.ensures c.if-not-may_have_written.true) (subst (λ (t : TableView). AllKept w t.versions) c.self.view_is c.self.invariant))
 
 pub loop-versions-init : goal.loop-versions-init
 loop-versions-init c =

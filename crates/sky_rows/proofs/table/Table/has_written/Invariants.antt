@@ -1,7 +1,4 @@
-use Rattle.std.proofs.Common.{◌≡◌, ℕ, List, Bool}
-use Rattle.std.specs.Prelude.{is_some}
-use Rattle.std.specs.List.{list_any}
-use Rattle.sky_txid.specs.Versions.{version_of}
+use Rattle.std.proofs.Common.{◌≡◌}
 use Rattle.sky_rows.proofs.WriterLemmas.{has_version}
 use Rattle.sky_rows.proofs.table.Table.has_written.Given as goal
 

@@ -16,7 +16,7 @@ returns-clause-exact c =
     gives-settled d (seen c.own_answer.new.self) (seen c.settle_behind.new.self) before c.settle_behind.new.step (turn_of c.args.who outcome)
     (gives-turn d (seen c.own_answer.new.self) c.in_ok-answer.answer before c.args.who outcome c.in_ok-answer.ensures
     (c.in_ok-push.ensures.ok ∙ ap (λ rs. rs ++ (c.args.who, c.in_ok-answer.answer.reply) ∷ []) c.new-replies.ensures) refl)
-    c.in_ok-settle_behind.ensures
+    c.in_ok-settle_behind.ensures.adds
 
 pub returns-clause-steps : goal.returns-clause-steps
 returns-clause-steps c = steps-exact (seen c.args.self.now) (seen c.settle_behind.new.self) c.settle_behind.new.step c.args.who c.args.stmt.now (returns-clause-exact c)

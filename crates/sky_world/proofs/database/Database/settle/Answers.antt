@@ -16,7 +16,7 @@ returns-clause-gives c =
     let d = seen_database c.args.self.now in
     subst (λ (turn : Turn). Gives d (seen_database c.undo_aborted.new.self) c.in_ok-step.step.replies turn) (sym (settling-part d))
     (subst (λ (v : DatabaseView). Gives (seen_database v) (seen_database c.undo_aborted.new.self) c.in_ok-step.step.replies (settling part_by_itself (seen_database v).part)) c.self.view_is
-    (gives-rows _ _ _ _ c.in_ok-step.step (settling-rows (seen c.self.inside.rows)) c.in_ok-step.ensures refl c.in_ok-undo_aborted.ensures))
+    (gives-rows _ _ _ _ c.in_ok-step.step (settling-rows (seen c.self.inside.rows)) c.in_ok-step.ensures.gives refl c.in_ok-undo_aborted.ensures))
 
 pub returns-clause-moments : goal.returns-clause-moments
-returns-clause-moments c = same-moments _ _ c.in_ok-step.ensures.replied (settling-rows (seen c.self.inside.rows)).moments
+returns-clause-moments c = same-moments _ _ c.in_ok-step.ensures.gives.replied (settling-rows (seen c.self.inside.rows)).moments
