@@ -29,7 +29,8 @@ const BAD_WORDS: u8 = 64;
 const USAGE: &str = "usage: pgqrun run\n";
 
 /// Runs the program: `words` are those after its name, the script comes from `src`, what it prints goes
-/// to `out` and a complaint to `err`. Answers the exit status.
+/// to `out` and a complaint to `err`. Answers the exit status. The memory of the script's world is kept to
+/// the process's end.
 pub fn run_main<S: Source, O: Sink, E: Sink>(
     alloc: Global,
     words: &Vec<String>,

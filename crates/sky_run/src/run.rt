@@ -17,6 +17,7 @@ use sky_script::{LineCause, LineFault, LineReader, parse_line};
 use sky_val::{NoMemory, Text};
 use sky_world::World;
 use std::alloc::Global;
+use std::mem;
 
 /// Where more bytes than these are gathered behind a line, they are written.
 const MOST_GATHERED: usize = 65_536;
@@ -28,7 +29,12 @@ pub fn run_lines<S: Source, O: Sink>(alloc: Global, src: &mut S, out: &mut O) ->
     ensures write { result ≡ End.Write → Rose (O.faults out.old) (O.faults out.new) }
 {
     match Run::new(alloc) {
-        Ok(mut fresh) => fresh.finish(src, out),
+        Ok(mut fresh) => {
+            let end = fresh.finish(src, out);
+            // The program ends behind this, and then all memory goes at once.
+            mem::forget(fresh);
+            end
+        }
         Err(_) => End::NoMemory,
     }
 }
