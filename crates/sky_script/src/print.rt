@@ -225,6 +225,7 @@ pub(crate) fn append_number(number: u64, into: &mut Vec<u8>) -> Result<(), NoMem
 mod tests {
     use super::*;
     use sky_model::{BadRow, Rows};
+    use sky_val::BoxedText;
     use std::alloc::AllocError;
 
     #[test]
@@ -237,7 +238,7 @@ mod tests {
             return Err(AllocError);
         };
         let column = name.copy(alloc)?;
-        let values = vec![in alloc; Val::Int(i64::MIN), Val::Null, Val::Text(text)]?;
+        let values = vec![in alloc; Val::Int(i64::MIN), Val::Null, Val::Text(BoxedText::new(alloc, text)?)]?;
         let mut replies = Replies::new(alloc);
         replies.push(0, Reply::Rows(Rows::new(vec![in alloc; Row::new(values)]?)))?;
         replies.push(0, Reply::NoRow)?;

@@ -30,7 +30,7 @@ fn append_value_word(value: &Val, into: &mut Vec<u8>) -> Result<(), NoMemory>
     match value {
         Val::Null => into.extend_from_slice(b" null"),
         Val::Int(number) => append_signed_word(*number, into),
-        Val::Text(text) => append_quoted_word(text, into),
+        Val::Text(text) => append_quoted_word(text.as_text(), into),
     }
 }
 

@@ -6,7 +6,7 @@ ghost use Rattle.sky_model.specs.Kinds as kinds;
 use crate::cause::LineCause;
 use crate::kinds::{first_place, is_name, plain_text, quoted_text};
 use sky_model::{Change, Set};
-use sky_val::{ColKind, Column, Val, int_of};
+use sky_val::{BoxedText, ColKind, Column, Val, int_of};
 use std::alloc::Global;
 
 /// The value that a word writes.
@@ -20,7 +20,7 @@ pub(crate) fn value_of(alloc: Global, word: &[u8]) -> Result<Option<Val>, LineCa
         return Ok(Some(Val::Int(number)));
     }
     match quoted_text(alloc, word)? {
-        Some(text) => Ok(Some(Val::Text(text))),
+        Some(text) => Ok(Some(Val::Text(BoxedText::new(alloc, text)?))),
         None => Ok(None),
     }
 }

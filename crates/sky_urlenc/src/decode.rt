@@ -8,7 +8,7 @@ ghost use Rattle.sky_urlenc.specs.Pieces.{piece_view};
 use crate::fault::DecodeFault;
 use crate::pieces::{Piece, Pieces};
 use crate::sides::side_text;
-use sky_val::{ColKind, Column, NoMemory, Row, Schema, Text, Val, int_of};
+use sky_val::{BoxedText, ColKind, Column, NoMemory, Row, Schema, Text, Val, int_of};
 use std::alloc::Global;
 
 /// The row of the table that a text writes: each column once, in any order.
@@ -60,7 +60,7 @@ fn give(
     if given[place].is_some() {
         return Err(DecodeFault::TwiceColumn(piece.start));
     }
-    given[place] = Some(value_for(piece.start, column, text)?);
+    given[place] = Some(value_for(alloc, piece.start, column, text)?);
     Ok(())
 }
 
@@ -95,26 +95,33 @@ fn column_named<'a>(name: &Text, columns: &'a [Column]) -> Option<(usize, &'a Co
 }
 
 /// The value that a column takes of a piece that starts at a place and gives this text.
-fn value_for(start: usize, column: &Column, text: Option<Text>) -> Result<Val, DecodeFault>
-    ensures { result ≡ value_for start column.now text }
+fn value_for(
+    alloc: Global,
+    start: usize,
+    column: &Column,
+    text: Option<Text>,
+) -> Result<Val, DecodeFault>
+    ensures ok { IfOk result (λ value. value_for start column.now text ≡ Ok value) }
+    ensures refused { IfErr result (λ fault.
+        fault ≢ DecodeFault.NoMemory → value_for start column.now text ≡ Err fault) }
 {
     if column.key && text.is_none() {
         return Err(DecodeFault::NullKey(start));
     }
-    match value_of(column.kind, text) {
+    match value_of(alloc, column.kind, text)? {
         Some(value) => Ok(value),
         None => Err(DecodeFault::BadInt(start)),
     }
 }
 
 /// The value that a text writes for a column of a kind, if it writes one.
-fn value_of(kind: ColKind, text: Option<Text>) -> Option<Val>
-    ensures { result ≡ value_of kind text }
+fn value_of(alloc: Global, kind: ColKind, text: Option<Text>) -> Result<Option<Val>, NoMemory>
+    ensures { IfOk result (λ value. value ≡ value_of kind text) }
 {
     match (kind, text) {
-        (_, None) => Some(Val::Null),
-        (ColKind::Int, Some(text)) => Some(Val::Int(int_of(text.bytes())?)),
-        (ColKind::Text, Some(text)) => Some(Val::Text(text)),
+        (_, None) => Ok(Some(Val::Null)),
+        (ColKind::Int, Some(text)) => Ok(int_of(text.bytes()).map(Val::Int)),
+        (ColKind::Text, Some(text)) => Ok(Some(Val::Text(BoxedText::new(alloc, text)?))),
     }
 }
 

@@ -51,7 +51,7 @@ fn append_column(column: &Column, value: &Val, into: &mut String) -> Result<(), 
         }
         Val::Text(text) => {
             into.push('=')?;
-            append_escaped(text.bytes(), into)
+            append_escaped(text.as_text().bytes(), into)
         }
     }
 }

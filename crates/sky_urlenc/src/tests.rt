@@ -1,5 +1,5 @@
 use crate::{DecodeFault, decode_row, encode_row, event_type};
-use sky_val::{ColKind, Column, Op, Row, Schema, Text, TextFault, Val};
+use sky_val::{BoxedText, ColKind, Column, Op, Row, Schema, Text, TextFault, Val};
 use std::alloc::Global;
 use std::test::Fail;
 
@@ -8,8 +8,9 @@ fn column(alloc: Global, name: &str, kind: ColKind, key: bool) -> Result<Column,
     Ok(Column { name, kind, key })
 }
 
-fn text(alloc: Global, text: &str) -> Result<Val, TextFault> {
-    Ok(Val::Text(Text::from_bytes(alloc, text.as_bytes())?))
+fn text(alloc: Global, text: &str) -> Result<Val, Fail> {
+    let text = Text::from_bytes(alloc, text.as_bytes())?;
+    Ok(Val::Text(BoxedText::new(alloc, text)?))
 }
 
 #[test]

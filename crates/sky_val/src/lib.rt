@@ -7,6 +7,7 @@
 //! sky_locks. Nothing here knows a queue, a transaction or a database, nor which rows a table has.
 #![tactic(auto)]
 
+mod boxed_text;
 mod column;
 mod event;
 mod key;
@@ -17,6 +18,7 @@ mod schema;
 mod text;
 mod val;
 
+pub use boxed_text::BoxedText;
 pub use column::{ColKind, Column};
 pub use event::Event;
 pub use key::Key;

@@ -1,8 +1,8 @@
 ghost use Rattle.std.specs.Prelude.{◌≡◌, IfOk};
 
 use crate::NoMemory;
+use crate::boxed_text::BoxedText;
 use crate::column::ColKind;
-use crate::text::Text;
 use std::alloc::Global;
 use std::cmp::Ordering;
 
@@ -14,7 +14,7 @@ pub enum Val {
     /// A number. It stands before every text.
     Int(i64),
     /// A text.
-    Text(Text),
+    Text(BoxedText),
 }
 
 impl Val {
@@ -91,6 +91,7 @@ impl Ord for Val {
 
     ghost matches_eq = { val_eq-ties };
 
+    #[inline]
     fn cmp(&self, other: &Val) -> Ordering {
         match (self, other) {
             (Val::Null, Val::Null) => Ordering::Equal,
@@ -99,7 +100,7 @@ impl Ord for Val {
             (Val::Int(number), Val::Int(other)) => number.cmp(other),
             (Val::Int(_), Val::Text(_)) => Ordering::Less,
             (Val::Text(_), Val::Int(_)) => Ordering::Greater,
-            (Val::Text(text), Val::Text(other)) => text.cmp(other),
+            (Val::Text(text), Val::Text(other)) => text.as_text().cmp(other.as_text()),
         }
     }
 }
