@@ -1,4 +1,4 @@
-ghost use Rattle.std.specs.Prelude.{◌≡◌, [], ◌∷◌, ◌++◌, OnOk, OnErr};
+ghost use Rattle.std.specs.Prelude.{◌≡◌, [], ◌∷◌, ◌++◌, IfOk, OnOk, OnErr};
 
 use sky_txid::Snapshot;
 use sky_val::{Event, Row, SessionId, Text};
@@ -329,6 +329,15 @@ impl Replies {
         Replies {
             items: Vec::new(alloc),
         }
+    }
+
+    /// One answer.
+    pub fn one(alloc: Global, session: SessionId, reply: Reply) -> Result<Replies, AllocError>
+        ensures { IfOk result (λ replies. replies ≡ (session, reply) ∷ []) }
+    {
+        let mut replies = Replies::new(alloc);
+        replies.push(session, reply)?;
+        Ok(replies)
     }
 
     /// One more answer, at the end.

@@ -168,7 +168,8 @@ impl Table {
     }
 
     /// The same for a transaction that ends with it while no other one runs. The index lists no key of
-    /// it, and forgets those of all before it, as `prune` does.
+    /// it, and forgets those of all before it, as `prune` does: if one of these does run, what it wrote
+    /// is then looked for in the versions, and `forget` goes through all keys for it.
     pub fn write_last(&mut self, txid: u64, key: Key, row: Option<Row>) -> Result<(), NoMemory>
         ensures ok { OnOk result
             (self.new ≡ record self.old { versions = written txid key row self.old.versions }) }

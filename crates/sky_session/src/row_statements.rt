@@ -16,8 +16,7 @@ use crate::values::{key_fits, key_stays, new_schema, row_fits, sets_fit};
 use sky_locks::LockKey;
 use sky_model::{Columns, Limit, Refusal, Reply, Rows, Sets, Stop};
 use sky_txid::Snapshot;
-use sky_val::{Key, NoMemory, Op, Row, SessionId, Text};
-use std::alloc::Global;
+use sky_val::{Key, Op, Row, SessionId, Text, copy_row};
 
 /// How many tables a database may have.
 const MOST_TABLES: usize = 64;
@@ -30,16 +29,6 @@ fn op_of(old: &Option<Row>, new: &Option<Row>) -> Op
         (None, _) => Op::Insert,
         (Some(_), None) => Op::Delete,
         (Some(_), Some(_)) => Op::Update,
-    }
-}
-
-/// An equal row, if there is one.
-fn copy_row(alloc: Global, row: &Option<Row>) -> Result<Option<Row>, NoMemory>
-    ensures { IfOk result (λ copy. copy ≡ row.now) }
-{
-    match row {
-        Some(row) => Ok(Some(row.copy(alloc)?)),
-        None => Ok(None),
     }
 }
 

@@ -37,10 +37,8 @@ impl RowDb {
         ensures steps { IfOk result (λ step. RowSteps (seen self.old) (seen self.new) who stmt.now step.replies) }
     {
         let answer = self.own_answer(who, stmt)?;
-        let mut replies = Replies::new(self.alloc);
-        replies.push(who, answer.reply)?;
         let mut step = RowStep {
-            replies,
+            replies: Replies::one(self.alloc, who, answer.reply)?,
             effects: answer.effects,
         };
         self.settle_behind(&mut step)?;

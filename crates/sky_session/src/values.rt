@@ -9,7 +9,7 @@ ghost use Rattle.sky_model.specs.StepRows as spec;
 ghost use Rattle.sky_model.specs.Stops.{StopsAs};
 
 use sky_model::{BadRow, Change, Columns, Limit, Refusal, Set, Stop};
-use sky_val::{ColKind, Column, Key, NoMemory, Row, Schema, SchemaFault, Text, Val};
+use sky_val::{ColKind, Column, Key, NoMemory, Row, Schema, SchemaFault, Text, Val, copy_columns};
 use std::alloc::Global;
 
 /// A refusal of values or changes.
@@ -239,17 +239,6 @@ fn schema_refusal(
         }
         SchemaFault::NoKey => Ok(Refusal::NoKey),
     }
-}
-
-/// A list of equal columns.
-fn copy_columns(alloc: Global, columns: &[Column]) -> Result<Vec<Column>, NoMemory>
-    ensures { IfOk result (λ copies. copies.items ≡ columns.now) }
-{
-    let mut copies = Vec::with_capacity(alloc, columns.len())?;
-    for column in columns {
-        copies.push(column.copy(alloc)?)?;
-    }
-    Ok(copies)
 }
 
 /// The schema of the columns of a new table.

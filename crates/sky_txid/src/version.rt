@@ -1,6 +1,6 @@
 ghost use Rattle.std.specs.Prelude.{◌≡◌, IfOk};
 
-use sky_val::{NoMemory, Row};
+use sky_val::{NoMemory, Row, copy_row};
 use std::alloc::Global;
 
 /// A row, or its deletion, as a transaction left it.
@@ -17,13 +17,9 @@ impl Version {
     pub fn copy(&self, alloc: Global) -> Result<Version, NoMemory>
         ensures { IfOk result (λ version. version ≡ self.now) }
     {
-        let row = match &self.row {
-            Some(row) => Some(row.copy(alloc)?),
-            None => None,
-        };
         Ok(Version {
             txid: self.txid,
-            row,
+            row: copy_row(alloc, &self.row)?,
         })
     }
 }

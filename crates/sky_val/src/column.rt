@@ -32,3 +32,14 @@ impl Column {
         })
     }
 }
+
+/// A list of equal columns.
+pub fn copy_columns(alloc: Global, columns: &[Column]) -> Result<Vec<Column>, NoMemory>
+    ensures { IfOk result (λ copies. copies.items ≡ columns.now) }
+{
+    let mut copies = Vec::with_capacity(alloc, columns.len())?;
+    for column in columns {
+        copies.push(column.copy(alloc)?)?;
+    }
+    Ok(copies)
+}

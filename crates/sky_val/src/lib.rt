@@ -19,12 +19,12 @@ mod text;
 mod val;
 
 pub use boxed_text::BoxedText;
-pub use column::{ColKind, Column};
+pub use column::{ColKind, Column, copy_columns};
 pub use event::Event;
 pub use key::Key;
 pub use numbers::{int_of, number_of};
 pub use op::Op;
-pub use row::Row;
+pub use row::{Row, copy_row};
 pub use schema::{RowFault, Schema, SchemaFault};
 use std::alloc::AllocError;
 pub use text::{Text, TextFault, copy_option};

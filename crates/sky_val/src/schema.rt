@@ -2,7 +2,7 @@ ghost use Rattle.std.specs.Prelude.{◌≡◌, [], IfOk, OnOk, IfErr};
 ghost use Rattle.sky_val.specs.Schemas.{has_name, twice_named, reserved_column, has_key, schema_fault};
 
 use crate::NoMemory;
-use crate::column::Column;
+use crate::column::{Column, copy_columns};
 use crate::key::Key;
 use crate::row::Row;
 use crate::text::Text;
@@ -125,10 +125,7 @@ impl Schema {
     pub fn copy(&self, alloc: Global) -> Result<Schema, NoMemory>
         ensures { IfOk result (λ schema. schema ≡ self.now) }
     {
-        let mut columns = Vec::with_capacity(alloc, self.columns.len())?;
-        for column in &self.columns {
-            columns.push(column.copy(alloc)?)?;
-        }
+        let columns = copy_columns(alloc, &self.columns)?;
         Ok(Schema { columns })
     }
 }

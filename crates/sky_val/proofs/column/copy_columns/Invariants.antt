@@ -1,5 +1,5 @@
 use Rattle.std.proofs.Common.{◌≡◌, take}
-use Rattle.sky_session.proofs.values.copy_columns.Given as goal
+use Rattle.sky_val.proofs.column.copy_columns.Given as goal
 
 abbrev pub invariant-loop-column : goal.invariant-loop-column
 invariant-loop-column l = l.copies.items ≡ take l.column-index l.columns
