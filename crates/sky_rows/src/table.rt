@@ -293,6 +293,17 @@ mod tests {
         Ok(Some(Row::new(values)))
     }
 
+    // The first value of each row, where it is a number.
+    fn numbers(alloc: Global, rows: Vec<Row>) -> Result<Vec<i64>, NoMemory> {
+        let mut numbers = Vec::new(alloc);
+        for row in &rows {
+            if let Some(Val::Int(number)) = row.values().first() {
+                numbers.push(*number)?;
+            }
+        }
+        Ok(numbers)
+    }
+
     #[test]
     fn reads_writes_and_forgets(rt: HostRuntime) -> Result<(), Fail> {
         let alloc = rt.alloc();
@@ -326,12 +337,18 @@ mod tests {
             Some(3)
         );
         assert!(rt; table.has_own(&one, 4) && !table.has_own(&two, 4));
-        assert_eq!(rt; table.scan_from(None, &snapshot, None, 5)?.len(), 2);
-        assert_eq!(rt;
-            table.scan_from(Some(&one), &snapshot, Some(4), 5)?.len(),
-            2
+        assert!(rt;
+            numbers(alloc, table.scan_from(None, &snapshot, None, 5)?)?.as_slice()
+                == [10, 20].as_slice()
         );
-        assert_eq!(rt; table.scan_from(None, &snapshot, Some(4), 1)?.len(), 1);
+        assert!(rt;
+            numbers(alloc, table.scan_from(Some(&one), &snapshot, Some(4), 5)?)?.as_slice()
+                == [20, 30].as_slice()
+        );
+        assert!(rt;
+            numbers(alloc, table.scan_from(None, &snapshot, Some(4), 1)?)?.as_slice()
+                == [20].as_slice()
+        );
 
         table.forget(4);
         assert!(rt; table.read(&one, &snapshot, Some(4)) == committed.as_ref());

@@ -210,8 +210,9 @@ mod tests {
             assert_eq!(rt; snapshot.sees(id), seen, "at {id}");
         }
         for refused in ["10:9:", "10:20:20", "0:5:"] {
-            assert!(rt;
-                Snapshot::parse(rt.alloc(), refused.as_bytes()).is_err(),
+            assert_eq!(rt;
+                Snapshot::parse(rt.alloc(), refused.as_bytes()).err(),
+                Some(SnapshotFault::BadSnapshot),
                 "at {refused}"
             );
         }
