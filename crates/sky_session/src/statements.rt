@@ -37,8 +37,9 @@ impl RowDb {
         ensures steps { IfOk result (λ step. RowSteps (seen self.old) (seen self.new) who stmt.now step.replies) }
     {
         let answer = self.own_answer(who, stmt)?;
+        let replies = Replies::one(self.alloc, who, answer.reply)?;
         let mut step = RowStep {
-            replies: Replies::one(self.alloc, who, answer.reply)?,
+            replies,
             effects: answer.effects,
         };
         self.settle_behind(&mut step)?;

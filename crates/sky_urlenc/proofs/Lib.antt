@@ -6,3 +6,4 @@ pub mod PieceBack
 pub mod ReadBack
 mod Worked
 mod WorkedChanges
+mod WorkedEvents

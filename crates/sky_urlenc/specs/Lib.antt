@@ -4,4 +4,5 @@ pub mod EventType
 pub mod Held
 pub mod Pieces
 pub mod ReadRow
+pub mod RowEvents
 pub mod RowText

@@ -1,5 +1,5 @@
 -- The statement's own turn, and then those that it lets go on.
-use Rattle.std.proofs.Common.{[], ◌∷◌, ◌++◌, refl, ap, ◌∙◌}
+use Rattle.std.proofs.Common.{refl}
 use Rattle.sky_model.specs.Settling.{turn_of}
 use Rattle.sky_model.specs.Reader.{part_by_itself}
 use Rattle.sky_model.specs.Calls.{row_statement}
@@ -11,11 +11,11 @@ use Rattle.sky_session.proofs.row_db.RowDb.step.Goals as goal
 pub returns-clause-exact : goal.returns-clause-exact
 returns-clause-exact c =
     let d = seen c.args.self.now in
-    let before : RowStep = record { replies = c.push.new.self; effects = c.in_ok-answer.answer.effects } in
+    let before : RowStep = record { replies = c.in_ok-replies.replies; effects = c.in_ok-answer.answer.effects } in
     let outcome = row_statement part_by_itself d c.args.who c.args.stmt.now in
     gives-settled d (seen c.own_answer.new.self) (seen c.settle_behind.new.self) before c.settle_behind.new.step (turn_of c.args.who outcome)
     (gives-turn d (seen c.own_answer.new.self) c.in_ok-answer.answer before c.args.who outcome c.in_ok-answer.ensures
-    (c.in_ok-push.ensures.ok ∙ ap (λ rs. rs ++ (c.args.who, c.in_ok-answer.answer.reply) ∷ []) c.new-replies.ensures) refl)
+    c.in_ok-replies.ensures refl)
     c.in_ok-settle_behind.ensures.adds
 
 pub returns-clause-steps : goal.returns-clause-steps
