@@ -37,11 +37,10 @@ use Rattle.sky_model.specs.Made.{takes_sight, looking, runs_if}
 use Rattle.sky_model.specs.Reader.{Shown, part_by_itself, database_by_itself, within_part, shown_by}
 use Rattle.sky_model.specs.Settling.{Turn, behind_marks, ready, resumed, goes_on, settles, settling}
 use Rattle.sky_model.specs.Calls.{form, making, statement, database_turn}
-use Rattle.sky_model.proofs.Resting.{is-ready, waiting-resumed}
-use Rattle.sky_model.proofs.RowOutcomes.{settling-rows}
+use Rattle.sky_model.proofs.Resting.{is-ready, waiting-resumed, behind-append}
 use Rattle.sky_model.proofs.RowStanding.{behind-after, settling-part}
+use Rattle.sky_model.proofs.DatabaseStanding.{after_marks-append, behind-all, part-behind_all}
 use Rattle.sky_world.specs.Waiters.{WaitersWithin}
-use Rattle.sky_world.proofs.Databases.{after-row_marks, behind-all, after_marks-append}
 
 -- none of the marks begins a wait of another session
 abbrev OwnWaits : ℕ → List Mark → Type 0
@@ -294,10 +293,6 @@ pub record GoOnWithin (count : ℕ) (d : RowPart) (turn : Turn) : Type 0 where
   pub answers : All (IsKnown count) turn.answers
   pub waiting : WaitersWithin count (behind_marks part_by_itself d turn.marks).waiting
 
-behind-append : (d : RowPart) (xs ys : List Mark) → behind_marks part_by_itself d (xs ++ ys) ≡ behind_marks part_by_itself (behind_marks part_by_itself d xs) ys
-behind-append d [] ys = refl
-behind-append d (x ∷ xs) ys = behind-append (part_by_itself.behind d x) xs ys
-
 settles-within : (count n : ℕ) (d : RowPart) → WaitersWithin count d.waiting → GoOnWithin count d (settles part_by_itself n d)
 settles-within count zero d within = record { answers = λ k a at. absurd (omega arith); waiting = within }
 settles-within count (suc n) d within = of (ready d) refl (settles-within count n)
@@ -324,7 +319,7 @@ settling-within : (count : ℕ) (d : Database) → WaitersWithin count d.part.wa
 settling-within count d within = subst (TurnWithin count d) (sym (settling-part d)) (record {
   answers = gone.answers;
   waiting = subst (λ (x : RowPart). WaitersWithin count x.waiting)
-      (behind-after d.part (settling part_by_itself d.part).marks ∙ sym (ap Database.part (after-row_marks d (settling part_by_itself d.part).marks (settling-rows d.part).marks))) gone.waiting;
+      (behind-after d.part (settling part_by_itself d.part).marks ∙ sym (part-behind_all d (settling part_by_itself d.part).marks)) gone.waiting;
 })
   where
     gone : GoOnWithin count d.part (settling part_by_itself d.part)
