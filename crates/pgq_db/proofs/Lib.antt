@@ -3,3 +3,4 @@ pub mod SubLists
 pub mod Databases
 pub mod Moments
 pub mod Empty
+pub mod Waiters

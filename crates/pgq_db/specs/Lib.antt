@@ -5,3 +5,4 @@ pub mod Seen
 pub mod Batches
 pub mod Undone
 pub mod Gives
+pub mod Waiters

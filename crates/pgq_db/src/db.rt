@@ -19,6 +19,7 @@ ghost use Rattle.sky_session.specs.Gives.{Enters};
 ghost use Rattle.pgq_db.specs.Ticks.{IsTime};
 ghost use Rattle.pgq_db.specs.Seen.{seen_database, seen_queue, seen_batch};
 ghost use Rattle.pgq_db.specs.Undone.{undone_by};
+ghost use Rattle.pgq_db.specs.Waiters.{StaysWithin};
 ghost use Rattle.pgq_db.specs.Gives.{Gives};
 
 use crate::batch::Batch;
@@ -208,6 +209,7 @@ impl Db {
             (with_settling (within_part database_by_itself) d (record { answers = []; marks = marks }))) }
         ensures rests { OnOk result (ready (seen_database self.new).part ≡ None) }
         ensures moments { IfOk result HaveMoments }
+        ensures within { IfOk result (λ replies. StaysWithin (seen_database self.old) (seen_database self.new) who replies) }
     {
         self.roll_back(who)?;
         let replies = self.settle()?;

@@ -21,6 +21,7 @@ ghost use Rattle.sky_model.specs.Calls.{form, statement, database_turn};
 ghost use Rattle.sky_model.specs.DatabaseSteps.{DatabaseSteps};
 ghost use Rattle.pgq_db.specs.Ticks.{IsTime};
 ghost use Rattle.pgq_db.specs.Seen.{seen_database};
+ghost use Rattle.pgq_db.specs.Waiters.{StaysWithin};
 ghost use Rattle.pgq_db.specs.Gives.{is_row, Gives, GivesReply, Does, Ran};
 ghost use Rattle.sky_model.specs.Stops.{StopsAs};
 
@@ -53,6 +54,7 @@ impl Db {
             (database_turn database_by_itself (seen_database self.old) now who stmt.now)) }
         ensures rests { OnOk result (ready (seen_database self.new).part ≡ None) }
         ensures moments { IfOk result HaveMoments }
+        ensures within { IfOk result (λ replies. StaysWithin (seen_database self.old) (seen_database self.new) who replies) }
         ensures steps { IfOk result (λ replies. DatabaseSteps (seen_database self.old) (seen_database self.new) now who stmt.now replies) }
     {
         let replies = self.run(now, who, stmt)?;

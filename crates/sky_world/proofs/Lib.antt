@@ -1,2 +1,1 @@
-pub mod Waiters
 pub mod Worlds

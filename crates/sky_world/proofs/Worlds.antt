@@ -1,6 +1,6 @@
 -- What the world shows, after what the code changed in it.
 use Rattle.std.proofs.Common.{◌≡◌, ℕ, suc, zero, ◌+◌, ◌<◌, ◌≤◌, List, [], ◌∷◌, ◌++◌, Bool, true, false, ◌==◌, nat_le, Option, Some, None, map, length, append-nil, length-append, get_or, slice_set, get_or-set_same, get_or-set_other, ◌≢◌, refl, sym, ◌∙◌, ap, subst, arith, All, if◌then◌else◌, IfSome, ℤ, pos}
-use Rattle.std.proofs.lemmas.List.Elements.{All-cons, All-append, All-set, All-get_or, All-from_recursion, All-weaker}
+use Rattle.std.proofs.lemmas.List.Elements.{All-append, All-set, All-get_or, All-from_recursion, All-weaker}
 use Rattle.std.proofs.lemmas.Bool.Decides.{nat_tests}
 use Rattle.std.proofs.lemmas.Option.{get_or_from_slice_get, slice_get_read}
 use Rattle.sky_val.specs.Waits.{Waiting}
@@ -23,14 +23,14 @@ use Rattle.sky_model.proofs.Standing.{steps_from_exact}
 use Rattle.sky_model.proofs.RowStanding.{turn-within}
 use Rattle.pgq_db.specs.Views.{DbView}
 use Rattle.pgq_db.specs.Seen.{seen_database, no_database}
+use Rattle.pgq_db.specs.Waiters.{WaitersWithin, StaysWithin}
 use Rattle.pgq_db.specs.Gives.{Gives}
 use Rattle.pgq_db.proofs.Empty.{no_database-is}
 use Rattle.sky_world.specs.Views.{WorldView}
 use Rattle.sky_world.specs.Seen.{seen_world}
 use Rattle.sky_world.specs.Homes.{HomesWithin}
-use Rattle.sky_world.specs.Waiters.{WaitersWithin, AllWaitersWithin}
+use Rattle.sky_world.specs.Waiters.{AllWaitersWithin}
 use Rattle.sky_world.specs.GivesDeed.{GivesDeed}
-use Rattle.sky_world.proofs.Waiters.{TurnWithin, turn-known}
 
 -- marks in a database change that database alone
 pub after_facts-within : (w : World) (d : ℕ) (marks : List Mark) → after_facts w (map (within d) marks) ≡ record w { database = changed_at d (λ x. after_marks x marks) w.database }
@@ -342,13 +342,12 @@ waiters-founded count old longer new is empty all =
     (All-from_recursion (HasWaitersWithin count) (new ∷ []) (subst (λ (d : Database). WaitersWithin count d.part.waiting) (sym empty) (λ k w at. absurd (omega arith)), tt)))
 
 -- a statement of a database is answered to sessions that are there, and leaves none waiting that isn't
-pub known-within : (v now : WorldView) (d who : ℕ) (old new : DbView) (stmt : Stmt) (replies : List (ℕ × Reply)) (t : ℤ) → v ≡ now → d < length now.stores
-    → old ≡ get_or v.stores d old → who < length now.homes → AllWaitersWithin (length v.homes) v.stores
-    → Gives (seen_database old) (seen_database new) replies (database_turn database_by_itself (seen_database old) t who stmt)
+pub known-within : (v now : WorldView) (d who : ℕ) (old new : DbView) (replies : List (ℕ × Reply)) → v ≡ now → d < length now.stores
+    → old ≡ get_or v.stores d old → who < length now.homes → AllWaitersWithin (length v.homes) v.stores → StaysWithin (seen_database old) (seen_database new) who replies
     → All (λ (answer : ℕ × Reply). answer.0 < length now.homes) replies × AllWaitersWithin (length v.homes) (slice_set v.stores d new)
-known-within v now d who old new stmt replies t same lt at known all gives = (
-  subst (λ (w : WorldView). All (IsKnown (length w.homes)) replies) same (subst (All (IsKnown (length v.homes))) (sym gives.replied) within.answers),
-  All-set (HasWaitersWithin (length v.homes)) v.stores d new (subst (λ (x : Database). WaitersWithin (length v.homes) x.part.waiting) (sym gives.changed) within.waiting) all,
+known-within v now d who old new replies same lt at known all stays = (
+  subst (λ (w : WorldView). All (IsKnown (length w.homes)) replies) same (stays.answers (length v.homes) known_there within),
+  All-set (HasWaitersWithin (length v.homes)) v.stores d new (stays.waiters (length v.homes) known_there within) all,
 )
   where
     lt_there : d < length v.stores
@@ -357,9 +356,11 @@ known-within v now d who old new stmt replies t same lt at known all gives = (
     there : get_or v.stores d no_database ≡ old
     there = get_or_from_slice_get v.stores d old no_database (slice_get_read v.stores (length v.stores) d old refl lt_there at)
 
-    within : TurnWithin (length v.homes) (seen_database old) (database_turn database_by_itself (seen_database old) t who stmt)
-    within = turn-known (length v.homes) (seen_database old) t who stmt (subst (λ (w : WorldView). who < length w.homes) (sym same) known)
-        (subst (λ (x : DbView). WaitersWithin (length v.homes) (seen_database x).part.waiting) there (All-get_or (HasWaitersWithin (length v.homes)) v.stores d no_database lt_there all))
+    known_there : who < length v.homes
+    known_there = subst (λ (w : WorldView). who < length w.homes) (sym same) known
+
+    within : WaitersWithin (length v.homes) (seen_database old).part.waiting
+    within = subst (HasWaitersWithin (length v.homes)) there (All-get_or (HasWaitersWithin (length v.homes)) v.stores d no_database lt_there all)
 
 -- the database at a place is what is shown there
 pub store-at : (v now : WorldView) (d : ℕ) (store : DbView) → v ≡ now → d < length now.stores → store ≡ get_or v.stores d store → seen_database store ≡ (seen_world now).database d

@@ -1,7 +1,6 @@
 -- Only the session that makes a statement can begin to wait by it, so all that wait are sessions that there are.
 use Rattle.std.proofs.Common.{◌≡◌, ℕ, zero, suc, ℤ, ◌+◌, ◌<◌, ◌^◌, List, [], ◌∷◌, ◌++◌, Bool, true, false, not, ◌==◌, Option, Some, None, Ok, Err, option_map, length, is_some, nat_le, refl, sym, ◌∙◌, ap, subst, arith, if◌then◌else◌}
 use Rattle.std.specs.Prelude.{find, ◌||◌}
-use Rattle.std.specs.List.{All}
 use Rattle.std.proofs.lemmas.Bool.Decides.{nat_tests}
 use Rattle.std.proofs.lemmas.List.Elements.{All-cons, All-append, All-filter}
 use Rattle.sky_val.specs.declared.val.Val.{Val}
@@ -35,12 +34,14 @@ use Rattle.sky_model.specs.StepConsumer.{has_dot, opens_batch, takes_batch, fini
 use Rattle.sky_model.specs.Allowed.{where_of, allowed}
 use Rattle.sky_model.specs.Made.{takes_sight, looking, runs_if}
 use Rattle.sky_model.specs.Reader.{Shown, part_by_itself, database_by_itself, within_part, shown_by}
-use Rattle.sky_model.specs.Settling.{Turn, behind_marks, ready, resumed, goes_on, settles, settling}
+use Rattle.sky_model.specs.Settling.{Turn, turn_of, behind_marks, ready, resumed, goes_on, settles, settling, with_settling}
 use Rattle.sky_model.specs.Calls.{form, making, statement, database_turn}
 use Rattle.sky_model.proofs.Resting.{is-ready, waiting-resumed, behind-append}
 use Rattle.sky_model.proofs.RowStanding.{behind-after, settling-part}
 use Rattle.sky_model.proofs.DatabaseStanding.{after_marks-append, behind-all, part-behind_all}
-use Rattle.sky_world.specs.Waiters.{WaitersWithin}
+use Rattle.sky_session.specs.Marks.{failure}
+use Rattle.pgq_db.specs.Waiters.{WaitersWithin, AnswersWithin, StaysWithin}
+use Rattle.pgq_db.specs.Gives.{Gives}
 
 -- none of the marks begins a wait of another session
 abbrev OwnWaits : ℕ → List Mark → Type 0
@@ -138,17 +139,22 @@ own-close who txid outside = tt
 own-close who txid inside = own-left false who txid
 own-close who txid failed = own-left false who txid
 
+own-failed : (who : ℕ) (o : Option ℕ) → OwnWaits who (end_of false who o ++ block_failed who ∷ [])
+own-failed who None = tt
+own-failed who (Some t) = tt
+
+own-failure : (who : ℕ) (o : Option ℕ) (b : Block) → OwnWaits who (failure who o b)
+own-failure who o outside = tt
+own-failure who o inside = own-failed who o
+own-failure who o failed = tt
+
 own-abort : (who : ℕ) (b : Block) (o : Option ℕ) (refusal : Refusal) → OwnWaits who (abort who b o refusal)
 own-abort who outside o refusal = tt
-own-abort who inside o refusal = by (aborts refusal) o
+own-abort who inside o refusal = by (aborts refusal)
   where
-    fails : (o : Option ℕ) → OwnWaits who (end_of false who o ++ block_failed who ∷ [])
-    fails None = tt
-    fails (Some t) = tt
-
-    by : (kind : Bool) (o : Option ℕ) → OwnWaits who (if kind then end_of false who o ++ block_failed who ∷ [] else [])
-    by true o = fails o
-    by false o = tt
+    by : (kind : Bool) → OwnWaits who (if kind then end_of false who o ++ block_failed who ∷ [] else [])
+    by true = own-failed who o
+    by false = tt
 own-abort who failed o refusal = tt
 
 own-cancel : (who : ℕ) (txid : Option ℕ) (b : Block) (is : Bool) → Own who (cancel who txid b is)
@@ -289,9 +295,9 @@ waiting-within count who (w ∷ ws) within is = of (w.who == who) refl is (waiti
     of false e also ih = ih also
 
 -- those who go on waited
-pub record GoOnWithin (count : ℕ) (d : RowPart) (turn : Turn) : Type 0 where
-  pub answers : All (IsKnown count) turn.answers
-  pub waiting : WaitersWithin count (behind_marks part_by_itself d turn.marks).waiting
+record GoOnWithin (count : ℕ) (d : RowPart) (turn : Turn) : Type 0 where
+  answers : AnswersWithin count turn.answers
+  waiting : WaitersWithin count (behind_marks part_by_itself d turn.marks).waiting
 
 settles-within : (count n : ℕ) (d : RowPart) → WaitersWithin count d.waiting → GoOnWithin count d (settles part_by_itself n d)
 settles-within count zero d within = record { answers = λ k a at. absurd (omega arith); waiting = within }
@@ -311,9 +317,9 @@ settles-within count (suc n) d within = of (ready d) refl (settles-within count 
         }
 
 -- the sessions of a turn's answers are known, and so are those that wait behind it
-pub record TurnWithin (count : ℕ) (d : Database) (turn : Turn) : Type 0 where
-  pub answers : All (λ (answer : ℕ × Reply). answer.0 < count) turn.answers
-  pub waiting : WaitersWithin count (after_marks d turn.marks).part.waiting
+record TurnWithin (count : ℕ) (d : Database) (turn : Turn) : Type 0 where
+  answers : AnswersWithin count turn.answers
+  waiting : WaitersWithin count (after_marks d turn.marks).part.waiting
 
 settling-within : (count : ℕ) (d : Database) → WaitersWithin count d.part.waiting → TurnWithin count d (settling (within_part database_by_itself) d)
 settling-within count d within = subst (TurnWithin count d) (sym (settling-part d)) (record {
@@ -325,21 +331,41 @@ settling-within count d within = subst (TurnWithin count d) (sym (settling-part 
     gone : GoOnWithin count d.part (settling part_by_itself d.part)
     gone = settles-within count (length d.part.waiting) d.part within
 
-pub turn-known : (count : ℕ) (d : Database) (now : ℤ) (who : ℕ) (stmt : Stmt) → who < count → WaitersWithin count d.part.waiting
-    → TurnWithin count d (database_turn database_by_itself d now who stmt)
-turn-known count d now who stmt lt within = record {
-  answers = All-cons (IsKnown count) _ _ lt later.answers;
+-- what a session does itself, and then those that go on
+then-within : (count : ℕ) (d : Database) (who : ℕ) (turn : Turn) → who < count → AnswersWithin count turn.answers → OwnWaits who turn.marks → WaitersWithin count d.part.waiting
+    → TurnWithin count d (with_settling (within_part database_by_itself) d turn)
+then-within count d who turn lt known own within = record {
+  answers = All-append (IsKnown count) turn.answers (settling (within_part database_by_itself) place).answers known later.answers;
   waiting = subst (λ (x : Database). WaitersWithin count x.part.waiting)
-      (ap (λ x. after_marks x (settling (within_part database_by_itself) place).marks) (behind-all d own)
-      ∙ sym (after_marks-append d own (settling (within_part database_by_itself) place).marks)) later.waiting;
+      (ap (λ x. after_marks x (settling (within_part database_by_itself) place).marks) (behind-all d turn.marks)
+      ∙ sym (after_marks-append d turn.marks (settling (within_part database_by_itself) place).marks)) later.waiting;
 }
   where
-    own : List Mark
-    own = (statement database_by_itself d now who stmt).marks
-
     place : Database
-    place = behind_marks (within_part database_by_itself) d own
+    place = behind_marks (within_part database_by_itself) d turn.marks
 
     later : TurnWithin count place (settling (within_part database_by_itself) place)
     later = settling-within count place
-        (subst (λ (x : Database). WaitersWithin count x.part.waiting) (sym (behind-all d own)) (within-behind count who lt d own (own-statement d now who stmt) within))
+        (subst (λ (x : Database). WaitersWithin count x.part.waiting) (sym (behind-all d turn.marks)) (within-behind count who lt d turn.marks own within))
+
+gives-within : (d s : Database) (who : ℕ) (turn : Turn) (replies : List (ℕ × Reply)) → ((count : ℕ) → who < count → AnswersWithin count turn.answers) → OwnWaits who turn.marks
+    → Gives d s replies (with_settling (within_part database_by_itself) d turn) → StaysWithin d s who replies
+gives-within d s who turn replies known own gives = record {
+  answers = λ count lt within. subst (AnswersWithin count) (sym gives.replied) (then-within count d who turn lt (known count lt) own within).answers;
+  waiters = λ count lt within. subst (λ (x : Database). WaitersWithin count x.part.waiting) (sym gives.changed) (then-within count d who turn lt (known count lt) own within).waiting;
+}
+
+-- a statement
+pub statement-within : (d s : Database) (now : ℤ) (who : ℕ) (stmt : Stmt) (replies : List (ℕ × Reply)) → Gives d s replies (database_turn database_by_itself d now who stmt)
+    → StaysWithin d s who replies
+statement-within d s now who stmt replies =
+    gives-within d s who (turn_of who (statement database_by_itself d now who stmt)) replies
+    (λ count lt. All-cons (IsKnown count) _ [] lt (λ k a at. absurd (omega arith))) (own-statement d now who stmt)
+
+-- and a failure
+pub failure-within : (d s : Database) (who : ℕ) (replies : List (ℕ × Reply))
+    → Gives d s replies (with_settling (within_part database_by_itself) d (record { answers = []; marks = failure who (d.part.session who).txid (d.part.session who).block }))
+    → StaysWithin d s who replies
+failure-within d s who replies =
+    gives-within d s who (record { answers = []; marks = failure who (d.part.session who).txid (d.part.session who).block }) replies
+    (λ count lt k a at. absurd (omega arith)) (own-failure who (d.part.session who).txid (d.part.session who).block)
