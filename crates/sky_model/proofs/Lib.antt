@@ -33,10 +33,11 @@ pub mod RowKeys
 pub mod Holders
 pub mod KeyVersions
 pub mod RowSights
-pub mod Standing
 pub mod RowLaws
 pub mod Resting
 pub mod RowStanding
+pub mod DatabaseStanding
+pub mod Standing
 pub mod LockLaws
 pub mod RowOutcomes
 pub mod Splitting

@@ -199,7 +199,7 @@ settling-some d w e = of (length d.waiting) refl
         (enough n (length (behind_marks part_by_itself d (resumed part_by_itself d w).marks).waiting) (behind_marks part_by_itself d (resumed part_by_itself d w).marks)
         (omega (arith, fewer-wait d w e, is)) (omega arith))
 
-behind-append : (d : RowPart) (xs ys : List Mark) → behind_marks part_by_itself d (xs ++ ys) ≡ behind_marks part_by_itself (behind_marks part_by_itself d xs) ys
+pub behind-append : (d : RowPart) (xs ys : List Mark) → behind_marks part_by_itself d (xs ++ ys) ≡ behind_marks part_by_itself (behind_marks part_by_itself d xs) ys
 behind-append d [] ys = refl
 behind-append d (x ∷ xs) ys = behind-append (after_part d x) xs ys
 

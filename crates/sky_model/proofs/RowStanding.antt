@@ -48,7 +48,7 @@ as-kept = record {
   behind = λ h d mark keeps fine. record { legal = next keeps.legal fine; shows = part_of-mark h mark ∙ ap (λ x. after_part x mark) keeps.shows };
 }
 
-each-fine : (h : History) (marks : List Mark) → Chain h marks → Each part_by_history Fine h marks
+pub each-fine : (h : History) (marks : List Mark) → Chain h marks → Each part_by_history Fine h marks
 each-fine h [] done = tt
 each-fine h (mark ∷ marks) (more fine chain) = (fine, each-fine (mark ∷ h) marks chain)
 
@@ -84,7 +84,8 @@ row_steps_from_exact old new who stmt replies replied stands = record {
     at_place : (h : History) → IsPlace h → old ≡ part_of h → row_turn part_by_itself old who stmt ≡ row_turn_at h who stmt
     at_place h place is = ap (λ d. row_turn part_by_itself d who stmt) is ∙ sym (same-row_turn h (legal_place h place) who stmt)
 
-part-behind : (d : Database) (mark : Mark) → (after_mark d mark).part ≡ after_part d.part mark
+-- the row part of a database behind a mark
+pub part-behind : (d : Database) (mark : Mark) → (after_mark d mark).part ≡ after_part d.part mark
 part-behind d (began who t) = refl
 part-behind d (ended who t true) = refl
 part-behind d (ended who t false) = refl

@@ -1,83 +1,26 @@
 -- From what the world shows to what has happened.
-use Rattle.std.proofs.Common.{◌≡◌, ℕ, ℤ, List, [], ◌∷◌, nat_le, length, Option, Some, None, refl, sym, ◌∙◌, ap, subst, if◌then◌else◌}
+use Rattle.std.proofs.Common.{◌≡◌, ℕ, ℤ, List, nat_le, length, Option, Some, None, refl, sym, ◌∙◌, ap, if◌then◌else◌}
 use Rattle.sky_model.specs.declared.stmt.Stmt.{Stmt}
 use Rattle.sky_model.specs.declared.reply.Reply.{Reply}
 use Rattle.sky_model.specs.declared.reply.Refusal.TheVariants.{TooMany}
 use Rattle.sky_model.specs.declared.reply.Limit.TheVariants.{Sessions}
 use Rattle.sky_val.specs.Waits.{is_waiting}
 use Rattle.sky_names.specs.Places.{place_of}
-use Rattle.sky_model.specs.History.{Mark, looked, History, within, Past}
-use Rattle.sky_model.specs.State.{Database, database_of}
-use Rattle.sky_model.specs.ShownRows.{rows_by}
-use Rattle.sky_model.specs.Allowed.{where_of}
-use Rattle.sky_model.specs.World.{World, world_of, session_names, history_in, on_top, after_fact, after_facts}
-use Rattle.sky_model.specs.Reader.{shown_in, shown_by, within_part, within_database, by_past, by_world, Deed, refuses, appears, joined, followed}
-use Rattle.sky_model.specs.Settling.{turn_of}
-use Rattle.sky_model.specs.Calls.{form, making, statement, database_turn, is_leaving, deed_in, session_does, turn, Call, called, does, after, past_of, answers_of}
+use Rattle.sky_model.specs.History.{Past}
+use Rattle.sky_model.specs.World.{World, world_of, session_names, history_in, on_top, after_facts}
+use Rattle.sky_model.specs.Reader.{within_database, by_past, by_world, Deed, refuses, appears, joined, followed}
+use Rattle.sky_model.specs.Calls.{database_turn, is_leaving, deed_in, session_does, turn, Call, called, does, after, past_of, answers_of}
 use Rattle.sky_model.specs.Steps.{Steps, deed_at, answers_at, after_call}
-use Rattle.sky_model.proofs.Legal.{Fine, looks, Chain, done, more, Legal}
-use Rattle.sky_model.proofs.Marks.{world_of-fact, world_of-facts}
-use Rattle.sky_model.proofs.Selecting.{batch_events-selected}
-use Rattle.sky_model.proofs.RowSights.{same-rows}
-use Rattle.sky_model.proofs.MadeAt.{same-made_by}
-use Rattle.sky_model.proofs.Turns.{Each, ReadAlike, same-with_settling}
-use Rattle.sky_model.proofs.Good.{same-session as same-number}
-use Rattle.sky_model.proofs.Lawful.{AllLegal, legal_mark, good_turn-within, legal_past}
+use Rattle.sky_model.proofs.Marks.{world_of-facts}
+use Rattle.sky_model.proofs.Lawful.{AllLegal, same-turn-within, legal_past}
+use Rattle.sky_model.proofs.RowStanding.{turn-within}
+use Rattle.sky_model.proofs.DatabaseStanding.{same-turn_at}
 
--- a legal history shows a statement what it keeps
-same-shown : (h : History) → Legal h → shown_in h ≡ shown_by (database_of h)
-same-shown h l = λ i. record { events = λ b. batch_events-selected h l b i; rows = same-rows h l i }
-
--- the database behind a mark, by what has happened and by what the world shows
-same-behind : (past : Past) (d : ℕ) (mark : Mark) → database_of (history_in (within d mark ∷ past) d) ≡ (after_fact (world_of past) (within d mark)).database d
-same-behind past d mark = ap (λ (w : World). w.database d) (world_of-fact past (within d mark))
-
--- a statement reads the same by what has happened as by what the world shows
-same-statement : (past : Past) → AllLegal past → (d : ℕ) (now : ℤ) (who : ℕ) (stmt : Stmt)
-    → statement (within_database by_past d) past now who stmt ≡ statement (within_database by_world d) (world_of past) now who stmt
-same-statement past all d now who stmt =
-    same-made_by (making (within_database by_past d) now who stmt) (making (within_database by_world d) now who stmt) (where_of stmt) who past (world_of past) (record {
-      sessions = refl;
-      waiting = refl;
-      outcomes = ap (λ shown. form (database_of (history_in past d)) shown now who stmt) (same-shown (history_in past d) (all d));
-      sessions_behind = ap (λ (x : Database). x.part.session who) (same-behind past d (looked who));
-      outcomes_behind =
-          ap (λ shown. form (database_of (history_in (within d (looked who) ∷ past) d)) shown now who stmt)
-          (same-shown (history_in (within d (looked who) ∷ past) d) (legal_mark past d (looked who) (looks who) all d))
-          ∙ ap (λ x. form x (shown_by x) now who stmt) (same-behind past d (looked who));
-    })
-
--- a legal past reads as the world that it shows
-record Stands (past : Past) (w : World) : Type 0 where
-  legal : AllLegal past
-  shows : world_of past ≡ w
-
-as-world : (d : ℕ) → ReadAlike (within_part (within_database by_past d)) (within_part (within_database by_world d)) (λ past mark. Fine (history_in past d) mark) Stands
-as-world d = record {
-  parts = λ past w stands. ap (λ (x : World). (x.database d).part) stands.shows;
-  rows = λ past w stands. same-rows (history_in past d) (stands.legal d) ∙ ap (λ (x : World). rows_by (x.database d).part) stands.shows;
-  behind = λ past w mark stands fine. record {
-    legal = legal_mark past d mark fine stands.legal;
-    shows = world_of-fact past (within d mark) ∙ ap (λ x. after_fact x (within d mark)) stands.shows;
-  };
-}
-
-each-fine : (past : Past) (d : ℕ) (marks : List Mark) → Chain (history_in past d) marks
-    → Each (within_part (within_database by_past d)) (λ past mark. Fine (history_in past d) mark) past marks
-each-fine past d [] done = tt
-each-fine past d (mark ∷ marks) (more fine chain) = (
-  fine,
-  each-fine (within d mark ∷ past) d marks
-      (subst (λ b. Chain (if b then mark ∷ history_in past d else history_in past d) marks) (sym (same-number d)) chain),
-)
-
--- and so do those that it lets go on
+-- in a past a statement does, with those that it lets go on, what it does by what the world shows
 same-database_turn : (past : Past) → AllLegal past → (d : ℕ) (now : ℤ) (who : ℕ) (stmt : Stmt)
     → database_turn (within_database by_past d) past now who stmt ≡ database_turn (within_database by_world d) (world_of past) now who stmt
 same-database_turn past all d now who stmt =
-    same-with_settling (within_part (within_database by_past d)) (within_part (within_database by_world d)) (λ past mark. Fine (history_in past d) mark) Stands (as-world d)
-    past (world_of past) _ _ (record { legal = all; shows = refl }) (ap (turn_of who) (same-statement past all d now who stmt))
-    (each-fine past d _ (good_turn-within past all d now who stmt))
+    same-turn-within past d now who stmt ∙ same-turn_at (history_in past d) (all d) now who stmt ∙ sym (turn-within (world_of past) d now who stmt)
 
 -- so does a turn
 same-session : (past : Past) → AllLegal past → (who : ℕ) (stmt : Stmt) (at : Option ℕ) → session_does by_past past who stmt at ≡ session_does by_world (world_of past) who stmt at

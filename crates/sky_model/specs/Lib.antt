@@ -36,6 +36,7 @@ pub mod LawsOfBatches
 pub mod LawsOfLocks
 pub mod Steps
 pub mod RowSteps
+pub mod DatabaseSteps
 pub mod Moment
 pub mod Printed
 pub mod Lines

@@ -1,6 +1,6 @@
 -- What the world shows, after what the code changed in it.
 use Rattle.std.proofs.Common.{◌≡◌, ℕ, suc, zero, ◌+◌, ◌<◌, ◌≤◌, List, [], ◌∷◌, ◌++◌, Bool, true, false, ◌==◌, nat_le, Option, Some, None, map, length, append-nil, length-append, get_or, slice_set, get_or-set_same, get_or-set_other, ◌≢◌, refl, sym, ◌∙◌, ap, subst, arith, All, if◌then◌else◌, IfSome, ℤ, pos}
-use Rattle.std.proofs.lemmas.List.Elements.{All-cons, All-append, All-set, All-get_or, All-from_recursion, All-weaker}
+use Rattle.std.proofs.lemmas.List.Elements.{All-append, All-set, All-get_or, All-from_recursion, All-weaker}
 use Rattle.std.proofs.lemmas.Bool.Decides.{nat_tests}
 use Rattle.std.proofs.lemmas.Option.{get_or_from_slice_get, slice_get_read}
 use Rattle.sky_val.specs.Waits.{Waiting}
@@ -21,14 +21,16 @@ use Rattle.sky_model.specs.Calls.{Call, database_turn, deed_in, turn, called}
 use Rattle.sky_model.specs.Steps.{Steps, deed_at}
 use Rattle.sky_model.proofs.Standing.{steps_from_exact}
 use Rattle.sky_model.proofs.RowStanding.{turn-within}
-use Rattle.sky_session.proofs.Empty.{seen-no_rows}
-use Rattle.sky_world.specs.Views.{DatabaseView, WorldView}
-use Rattle.sky_world.specs.Seen.{seen_database, no_database, seen_world}
+use Rattle.pgq_db.specs.Views.{DbView}
+use Rattle.pgq_db.specs.Seen.{seen_database, no_database}
+use Rattle.pgq_db.specs.Waiters.{WaitersWithin, StaysWithin}
+use Rattle.pgq_db.specs.Gives.{Gives}
+use Rattle.pgq_db.proofs.Empty.{no_database-is}
+use Rattle.sky_world.specs.Views.{WorldView}
+use Rattle.sky_world.specs.Seen.{seen_world}
 use Rattle.sky_world.specs.Homes.{HomesWithin}
-use Rattle.sky_world.specs.Waiters.{WaitersWithin, AllWaitersWithin}
-use Rattle.sky_world.specs.Gives.{Gives}
+use Rattle.sky_world.specs.Waiters.{AllWaitersWithin}
 use Rattle.sky_world.specs.GivesDeed.{GivesDeed}
-use Rattle.sky_world.proofs.Waiters.{TurnWithin, turn-known}
 
 -- marks in a database change that database alone
 pub after_facts-within : (w : World) (d : ℕ) (marks : List Mark) → after_facts w (map (within d) marks) ≡ record w { database = changed_at d (λ x. after_marks x marks) w.database }
@@ -99,11 +101,7 @@ pub counted-push : {A B : Type 0} (xs : List A) (x : A) (ys : List B) (y : B) (l
 counted-push xs x ys y longer more same is and =
     ap length is ∙ length-append xs (x ∷ []) ∙ ap (λ n. n + 1) same ∙ sym (length-append ys (y ∷ [])) ∙ ap length (sym and)
 
--- a database that isn't made shows what one shows in which nothing has happened
-no_database-is : seen_database no_database ≡ database_of []
-no_database-is = λ i. record (database_of []) { part = seen-no_rows i }
-
-pub world-new : (sessions : List (List ℕ)) (homes : List (Option ℕ)) (databases : List (List ℕ)) (stores : List DatabaseView) → sessions ≡ [] → homes ≡ [] → databases ≡ [] → stores ≡ []
+pub world-new : (sessions : List (List ℕ)) (homes : List (Option ℕ)) (databases : List (List ℕ)) (stores : List DbView) → sessions ≡ [] → homes ≡ [] → databases ≡ [] → stores ≡ []
     → seen_world (record { now = pos 0; sessions = sessions; homes = homes; databases = databases; stores = stores }) ≡ world_of []
 world-new sessions homes databases stores none-appeared none-home none-made none-stored = λ i. record {
   now = pos 0;
@@ -118,7 +116,7 @@ world-new sessions homes databases stores none-appeared none-home none-made none
     nowhere [] is (suc who) = refl
     nowhere (_ ∷ all) is who = absurd (cc)
 
-    nothing : (all : List DatabaseView) → all ≡ [] → (d : ℕ) → seen_database (get_or all d no_database) ≡ database_of []
+    nothing : (all : List DbView) → all ≡ [] → (d : ℕ) → seen_database (get_or all d no_database) ≡ database_of []
     nothing [] is zero = no_database-is
     nothing [] is (suc d) = no_database-is
     nothing (_ ∷ all) is d = absurd (cc)
@@ -127,7 +125,7 @@ pub entered-within : (v now : WorldView) (who d : ℕ) → v ≡ now → HomesWi
 entered-within v now who d same all lt =
     homes-set (length v.stores) v.homes who d (subst (λ (w : WorldView). d < length w.stores) (sym same) lt) all
 
-pub stored-more : (old longer : List DatabaseView) (new : DatabaseView) (homes : List (Option ℕ)) → longer ≡ old ++ new ∷ [] → HomesWithin (length old) homes → HomesWithin (length longer) homes
+pub stored-more : (old longer : List DbView) (new : DbView) (homes : List (Option ℕ)) → longer ≡ old ++ new ∷ [] → HomesWithin (length old) homes → HomesWithin (length longer) homes
 stored-more old longer new homes is all =
     subst (λ n. HomesWithin n homes) (sym (ap length is ∙ length-append old (new ∷ []))) (homes-more (length old) (length old + 1) homes (omega arith) all)
 
@@ -174,12 +172,12 @@ appeared-as v now sessions homes name copied same more is longer =
     ∙ ap (λ w. after_fact (seen_world w) (appeared name)) same
 
 -- a database that is made shows nothing yet
-pub founded-as : (v now : WorldView) (names : List (List ℕ)) (stores : List DatabaseView) (new : DatabaseView) (name copied : List ℕ) → v ≡ now → names ≡ v.databases ++ copied ∷ [] → copied ≡ name
+pub founded-as : (v now : WorldView) (names : List (List ℕ)) (stores : List DbView) (new : DbView) (name copied : List ℕ) → v ≡ now → names ≡ v.databases ++ copied ∷ [] → copied ≡ name
     → stores ≡ v.stores ++ new ∷ [] → seen_database new ≡ database_of [] → seen_world (record v { databases = names; stores = stores }) ≡ after_fact (seen_world now) (founded name)
 founded-as v now names stores new name copied same more is longer empty =
     (λ i. record (seen_world v) {
       databases = (more ∙ ap (λ n. v.databases ++ n ∷ []) is) i;
-      database = (ap (λ (ds : List DatabaseView). λ n. seen_database (get_or ds n no_database)) longer
+      database = (ap (λ (ds : List DbView). λ n. seen_database (get_or ds n no_database)) longer
           ∙ (λ j n. seen-push seen_database v.stores new no_database n (empty ∙ sym no_database-is) j)) i;
     })
     ∙ ap (λ w. after_fact (seen_world w) (founded name)) same
@@ -196,7 +194,7 @@ after_facts-append w [] ys = refl
 after_facts-append w (x ∷ xs) ys = after_facts-append (after_fact w x) xs ys
 
 -- what a statement of a database gives in the world
-pub gives-within : (v now : WorldView) (d who : ℕ) (old new : DatabaseView) (stmt : Stmt) (replies : List (ℕ × Reply)) (t : ℤ) → v ≡ now → d < length now.stores
+pub gives-within : (v now : WorldView) (d who : ℕ) (old new : DbView) (stmt : Stmt) (replies : List (ℕ × Reply)) (t : ℤ) → v ≡ now → d < length now.stores
     → old ≡ get_or v.stores d old → t ≡ v.now
     → Gives (seen_database old) (seen_database new) replies (database_turn database_by_itself (seen_database old) t who stmt)
     → GivesDeed (seen_world now) (seen_world (record v { stores = slice_set v.stores d new })) replies
@@ -308,14 +306,6 @@ HasMoments answer = ReplyHasMoments answer.1
 pub one-moments : (who : ℕ) (replies : List (ℕ × Reply)) (reply : Reply) → replies ≡ (who, reply) ∷ [] → ReplyHasMoments reply → HaveMoments replies
 one-moments who replies reply is has = subst (All HasMoments) (sym is) (All-from_recursion HasMoments ((who, reply) ∷ []) (has, tt))
 
-pub same-moments : (replies answers : List (ℕ × Reply)) → replies ≡ answers → HaveMoments answers → HaveMoments replies
-same-moments replies answers is have = subst (All HasMoments) (sym is) have
-
--- those of an answer of its own, and of the answers of statements that go on
-pub settled-moments : (who : ℕ) (reply : Reply) (own resumed all : List (ℕ × Reply)) → own ≡ (who, reply) ∷ [] → ReplyHasMoments reply → HaveMoments resumed → all ≡ own ++ resumed → HaveMoments all
-settled-moments who reply own resumed all one has have is =
-    subst (All HasMoments) (sym (is ∙ ap (λ xs. xs ++ resumed) one)) (All-cons HasMoments (who, reply) resumed has have)
-
 -- answers of sessions that are there
 abbrev IsKnown : ℕ → ℕ × Reply → Type 0
 IsKnown count answer = answer.0 < count
@@ -331,20 +321,20 @@ known-numbered count more replies le all = All-weaker (IsKnown count) (IsWithin 
 
 -- ---- those that wait
 
-abbrev HasWaitersWithin : ℕ → DatabaseView → Type 0
-HasWaitersWithin count d = WaitersWithin count d.rows.locks.waiting
+abbrev HasWaitersWithin : ℕ → DbView → Type 0
+HasWaitersWithin count d = WaitersWithin count (seen_database d).part.waiting
 
 abbrev WaitsWithin : ℕ → Waiting → Type 0
 WaitsWithin count w = w.who < count
 
 -- with more sessions
-pub waiters-more : (count more : ℕ) (stores : List DatabaseView) → count ≤ more → AllWaitersWithin count stores → AllWaitersWithin more stores
+pub waiters-more : (count more : ℕ) (stores : List DbView) → count ≤ more → AllWaitersWithin count stores → AllWaitersWithin more stores
 waiters-more count more stores le all =
     All-weaker (HasWaitersWithin count) (HasWaitersWithin more)
-    (λ d within. All-weaker (WaitsWithin count) (WaitsWithin more) (λ w lt. omega (arith, lt, le)) d.rows.locks.waiting within) stores all
+    (λ d within. All-weaker (WaitsWithin count) (WaitsWithin more) (λ w lt. omega (arith, lt, le)) (seen_database d).part.waiting within) stores all
 
 -- with a new database
-pub waiters-founded : (count : ℕ) (old longer : List DatabaseView) (new : DatabaseView) → longer ≡ old ++ new ∷ [] → seen_database new ≡ database_of [] → AllWaitersWithin count old
+pub waiters-founded : (count : ℕ) (old longer : List DbView) (new : DbView) → longer ≡ old ++ new ∷ [] → seen_database new ≡ database_of [] → AllWaitersWithin count old
     → AllWaitersWithin count longer
 waiters-founded count old longer new is empty all =
     subst (All (HasWaitersWithin count)) (sym is)
@@ -352,13 +342,12 @@ waiters-founded count old longer new is empty all =
     (All-from_recursion (HasWaitersWithin count) (new ∷ []) (subst (λ (d : Database). WaitersWithin count d.part.waiting) (sym empty) (λ k w at. absurd (omega arith)), tt)))
 
 -- a statement of a database is answered to sessions that are there, and leaves none waiting that isn't
-pub known-within : (v now : WorldView) (d who : ℕ) (old new : DatabaseView) (stmt : Stmt) (replies : List (ℕ × Reply)) (t : ℤ) → v ≡ now → d < length now.stores
-    → old ≡ get_or v.stores d old → who < length now.homes → AllWaitersWithin (length v.homes) v.stores
-    → Gives (seen_database old) (seen_database new) replies (database_turn database_by_itself (seen_database old) t who stmt)
+pub known-within : (v now : WorldView) (d who : ℕ) (old new : DbView) (replies : List (ℕ × Reply)) → v ≡ now → d < length now.stores
+    → old ≡ get_or v.stores d old → who < length now.homes → AllWaitersWithin (length v.homes) v.stores → StaysWithin (seen_database old) (seen_database new) who replies
     → All (λ (answer : ℕ × Reply). answer.0 < length now.homes) replies × AllWaitersWithin (length v.homes) (slice_set v.stores d new)
-known-within v now d who old new stmt replies t same lt at known all gives = (
-  subst (λ (w : WorldView). All (IsKnown (length w.homes)) replies) same (subst (All (IsKnown (length v.homes))) (sym gives.replied) within.answers),
-  All-set (HasWaitersWithin (length v.homes)) v.stores d new (subst (λ (x : Database). WaitersWithin (length v.homes) x.part.waiting) (sym gives.changed) within.waiting) all,
+known-within v now d who old new replies same lt at known all stays = (
+  subst (λ (w : WorldView). All (IsKnown (length w.homes)) replies) same (stays.answers (length v.homes) known_there within),
+  All-set (HasWaitersWithin (length v.homes)) v.stores d new (stays.waiters (length v.homes) known_there within) all,
 )
   where
     lt_there : d < length v.stores
@@ -367,12 +356,14 @@ known-within v now d who old new stmt replies t same lt at known all gives = (
     there : get_or v.stores d no_database ≡ old
     there = get_or_from_slice_get v.stores d old no_database (slice_get_read v.stores (length v.stores) d old refl lt_there at)
 
-    within : TurnWithin (length v.homes) (seen_database old) (database_turn database_by_itself (seen_database old) t who stmt)
-    within = turn-known (length v.homes) (seen_database old) t who stmt (subst (λ (w : WorldView). who < length w.homes) (sym same) known)
-        (subst (λ (x : DatabaseView). WaitersWithin (length v.homes) x.rows.locks.waiting) there (All-get_or (HasWaitersWithin (length v.homes)) v.stores d no_database lt_there all))
+    known_there : who < length v.homes
+    known_there = subst (λ (w : WorldView). who < length w.homes) (sym same) known
+
+    within : WaitersWithin (length v.homes) (seen_database old).part.waiting
+    within = subst (HasWaitersWithin (length v.homes)) there (All-get_or (HasWaitersWithin (length v.homes)) v.stores d no_database lt_there all)
 
 -- the database at a place is what is shown there
-pub store-at : (v now : WorldView) (d : ℕ) (store : DatabaseView) → v ≡ now → d < length now.stores → store ≡ get_or v.stores d store → seen_database store ≡ (seen_world now).database d
+pub store-at : (v now : WorldView) (d : ℕ) (store : DbView) → v ≡ now → d < length now.stores → store ≡ get_or v.stores d store → seen_database store ≡ (seen_world now).database d
 store-at v now d store same lt at =
     let there : d < length v.stores = subst (λ (w : WorldView). d < length w.stores) (sym same) lt in
     ap seen_database (sym (get_or_from_slice_get v.stores d store no_database (slice_get_read v.stores (length v.stores) d store refl there at)))

@@ -1,10 +1,5 @@
-pub mod Ticks
-pub mod Subs
 pub mod Views
 pub mod Seen
-pub mod Batches
-pub mod Gives
 pub mod Homes
 pub mod Waiters
 pub mod GivesDeed
-pub mod Undone

@@ -1,29 +1,10 @@
--- What contracts see of a queue, a database and the world, as the code keeps them.
+-- What contracts see of the world, as the code keeps it.
 use Rattle.std.specs.Prelude.{ℕ, ℤ, List, Option}
-use Rattle.sky_val.specs.declared.event.Event.{Event}
-use Rattle.sky_session.specs.Views.{RowDbView}
-use Rattle.sky_world.specs.declared.batch.Batch.{Batch}
-use Rattle.sky_model.specs.Queues.{Tick}
-use Rattle.sky_world.specs.declared.sub.Sub.{Sub}
-
-pub record QueueView : Type 0 where
-  pub seq : ℕ
-  pub events : List Event
-  pub ticks : List Tick
-  pub subs : List Sub
-
-pub record DatabaseView : Type 0 where
-  pub rows : RowDbView
-  pub last_batch_id : ℕ
-  pub last_sub_id : ℕ
-  pub names : List (List ℕ)
-  pub queues : List QueueView
-  pub undone : List ℕ
-  pub batches : List (ℕ × Batch)
+use Rattle.pgq_db.specs.Views.{DbView}
 
 pub record WorldView : Type 0 where
   pub now : ℤ
   pub sessions : List (List ℕ)
   pub homes : List (Option ℕ)
   pub databases : List (List ℕ)
-  pub stores : List DatabaseView
+  pub stores : List DbView

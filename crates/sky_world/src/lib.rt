@@ -6,15 +6,6 @@
 //! Nothing here reads or prints a byte.
 #![tactic(auto)]
 
-mod batch;
-mod database;
-mod queue;
-mod statements;
-mod stored;
-mod sub;
-mod subs;
-mod subscription;
-mod ticks;
 mod world;
 
 pub use world::World;

@@ -7,10 +7,11 @@ ghost use Rattle.sky_model.specs.World.{world_of, after_fact};
 ghost use Rattle.sky_model.specs.Reader.{within_database, by_world};
 ghost use Rattle.sky_model.specs.Calls.{database_turn, is_leaving, deed_in, opens, unopened, session_does, turn};
 ghost use Rattle.sky_model.specs.Steps.{Steps, deed_at};
-ghost use Rattle.sky_world.specs.Seen.{seen_database, seen_world};
+ghost use Rattle.pgq_db.specs.Seen.{seen_database};
+ghost use Rattle.sky_world.specs.Seen.{seen_world};
 ghost use Rattle.sky_world.specs.GivesDeed.{GivesDeed};
 
-use crate::database::Database;
+use pgq_db::Db;
 use sky_model::{Limit, Refusal, Replies, Reply, RowStmt, Stmt};
 use sky_names::Names;
 use sky_val::{NoMemory, SessionId, Text};
@@ -31,7 +32,7 @@ pub struct World {
     sessions: Names,
     homes: Vec<Option<usize>>,
     databases: Names,
-    stores: Vec<Database>,
+    stores: Vec<Db>,
     // Whether memory was wanting in the midst of a statement of a database. Who waits there isn't known
     // then, so no statement is run in a database from then on.
     is_cut: bool,
@@ -40,7 +41,7 @@ pub struct World {
 impl Model for World {
     ghost use Rattle.std.specs.Prelude.{◌≡◌, ◌≤◌, false, length};
     ghost use Rattle.sky_world.specs.Views.{WorldView};
-    ghost use Rattle.sky_world.specs.Ticks.{IsTime};
+    ghost use Rattle.pgq_db.specs.Ticks.{IsTime};
     ghost use Rattle.sky_world.specs.Homes.{HomesWithin};
     ghost use Rattle.sky_world.specs.Waiters.{AllWaitersWithin};
 
@@ -236,7 +237,7 @@ impl World {
     }
 
     /// The database of this number.
-    fn store(&self, database: usize) -> &Database
+    fn store(&self, database: usize) -> &Db
         requires { database < length self.now.stores }
         ensures { seen_database result.now ≡ (seen_world self.now).database database }
     {
@@ -262,7 +263,7 @@ impl World {
         if self.is_cut {
             return Err(AllocError);
         }
-        match self.stores[database].run(self.clock, who, stmt) {
+        match self.stores[database].step(who, stmt, self.clock) {
             Ok(replies) => Ok(replies),
             Err(fault) => {
                 self.is_cut = true;
@@ -355,7 +356,7 @@ impl World {
         let copied = name.copy(self.alloc)?;
         self.stores.reserve(1)?;
         self.databases.add(copied)?;
-        self.stores.push_reserved(Database::new(self.alloc));
+        self.stores.push_reserved(Db::new(self.alloc));
         Ok(())
     }
 

@@ -1,12 +1,12 @@
 use Rattle.std.proofs.Common.{◌≡◌, List, ◌++◌, ◌∷◌, [], ap, ◌∙◌}
-use Rattle.sky_world.specs.Views.{DatabaseView}
+use Rattle.pgq_db.specs.Views.{DbView}
 use Rattle.sky_world.proofs.Worlds.{counted-push, stored-more, waiters-founded, founded-as}
 use Rattle.sky_world.proofs.world.World.found.Goals as goal
 
 pub invariant_of-self-2 : goal.invariant_of-self-2
 invariant_of-self-2 c =
     let longer : c.push_reserved.new.self.items ≡ c.self.inside.stores.items ++ c.new.result ∷ [] =
-    c.push_reserved.ensures.items ∙ ap (λ (stores : List DatabaseView). stores ++ c.new.result ∷ []) c.in_ok-reserve.ensures.items in (
+    c.push_reserved.ensures.items ∙ ap (λ (stores : List DbView). stores ++ c.new.result ∷ []) c.in_ok-reserve.ensures.items in (
       c.self.invariant.0,
       c.self.invariant.1,
       counted-push c.self.inside.stores.items c.new.result c.self.inside.databases _ _ _ c.self.invariant.2 longer c.in_ok-add.ensures.added,
@@ -17,5 +17,5 @@ invariant_of-self-2 c =
 pub returns-clause-fact : goal.returns-clause-fact
 returns-clause-fact c =
     let longer : c.push_reserved.new.self.items ≡ c.self.inside.stores.items ++ c.new.result ∷ [] =
-    c.push_reserved.ensures.items ∙ ap (λ (stores : List DatabaseView). stores ++ c.new.result ∷ []) c.in_ok-reserve.ensures.items in
+    c.push_reserved.ensures.items ∙ ap (λ (stores : List DbView). stores ++ c.new.result ∷ []) c.in_ok-reserve.ensures.items in
     founded-as _ _ _ _ c.new.result c.args.name.now _ c.self.view_is c.in_ok-add.ensures.added c.in_ok-copied.ensures longer c.new.ensures

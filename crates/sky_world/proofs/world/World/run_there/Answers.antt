@@ -8,18 +8,18 @@ pub invariant_of-self : goal.invariant_of-self
 invariant_of-self c = (
   c.self.invariant.0,
   c.self.invariant.1,
-  length-changed c.self.inside.stores.items c.args.database c.run.new.self ∙ c.self.invariant.2,
-  subst (λ n. HomesWithin n c.self.inside.homes.items) (sym (length-changed c.self.inside.stores.items c.args.database c.run.new.self)) c.self.invariant.3,
-  (λ whole. (known-within _ _ c.args.database c.args.who c.index_mut.result.now c.run.new.self c.args.stmt.now c.in-Ok.replies _ c.self.view_is c.requires.database c.index_mut.ensures.value
-      c.requires.who (c.self.invariant.4 whole) c.in-Ok.ensures.gives).1),
+  length-changed c.self.inside.stores.items c.args.database c.step.new.self ∙ c.self.invariant.2,
+  subst (λ n. HomesWithin n c.self.inside.homes.items) (sym (length-changed c.self.inside.stores.items c.args.database c.step.new.self)) c.self.invariant.3,
+  (λ whole. (known-within _ _ c.args.database c.args.who c.index_mut.result.now c.step.new.self c.in-Ok.replies c.self.view_is c.requires.database c.index_mut.ensures.value
+      c.requires.who (c.self.invariant.4 whole) c.in-Ok.ensures.within).1),
 )
 
 pub returns-in-Ok-clause-gives : goal.returns-in-Ok-clause-gives
 returns-in-Ok-clause-gives c =
-    gives-within _ _ c.args.database c.args.who c.index_mut.result.now c.run.new.self c.args.stmt.now c.in-Ok.replies _ c.self.view_is c.requires.database c.index_mut.ensures.value
-    (to_z-of_z w64 c.self.inside.clock (omega arith)) c.in-Ok.ensures.gives
+    gives-within _ _ c.args.database c.args.who c.index_mut.result.now c.step.new.self c.args.stmt.now c.in-Ok.replies _ c.self.view_is c.requires.database c.index_mut.ensures.value
+    (to_z-of_z w64 c.self.inside.clock (omega arith)) c.in-Ok.ensures.exact
 
 pub returns-in-Ok-clause-known : goal.returns-in-Ok-clause-known
 returns-in-Ok-clause-known c =
-    (known-within _ _ c.args.database c.args.who c.index_mut.result.now c.run.new.self c.args.stmt.now c.in-Ok.replies _ c.self.view_is c.requires.database c.index_mut.ensures.value
-    c.requires.who (c.self.invariant.4 c.if-self.false) c.in-Ok.ensures.gives).0
+    (known-within _ _ c.args.database c.args.who c.index_mut.result.now c.step.new.self c.in-Ok.replies c.self.view_is c.requires.database c.index_mut.ensures.value
+    c.requires.who (c.self.invariant.4 c.if-self.false) c.in-Ok.ensures.within).0

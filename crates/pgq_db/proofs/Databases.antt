@@ -1,0 +1,587 @@
+-- What a database shows, after what the code changed in it.
+use Rattle.std.proofs.Common.{Err, is_ok, drop, ◌≡◌, ℕ, suc, zero, ℤ, ◌+◌, ◌<◌, ◌≤◌, ◌^◌, List, [], ◌∷◌, ◌++◌, Bool, true, false, ◌||◌, ◌==◌, nat_le, Option, Some, None, Result, Ok, Vec, Global, IfOk, is_some, length, get_or, slice_set, get_or-set_same, get_or-set_other, ◌≢◌, option_map, filter, nat_cmp, cond, refl, sym, ◌∙◌, ap, subst, arith, if◌then◌else◌}
+use Rattle.std.proofs.lemmas.Bool.Decides.{nat_tests}
+use Rattle.std.proofs.lemmas.List.Elements.{All-filter}
+use Rattle.std.proofs.lemmas.Result.{IfOk-weaker}
+use Rattle.std.specs.declared.alloc.AllocError.{AllocError}
+use Rattle.std.proofs.lemmas.Option.{get_or_from_slice_get, slice_get_read}
+use Rattle.std.specs.BTreeMap.{is_at}
+use Rattle.std.specs.Map.{lookup}
+use Rattle.std.specs.List.{list_any}
+use Rattle.sky_val.specs.declared.event.Event.{Event}
+use Rattle.sky_names.specs.Places.{place_of}
+use Rattle.sky_model.specs.declared.stmt.Extra.{Extra}
+use Rattle.sky_model.specs.declared.reply.Reply.{Reply}
+use Rattle.sky_model.specs.declared.reply.Reply.TheVariants.{Number, Events, Refused}
+use Rattle.sky_model.specs.declared.reply.Limit.TheVariants.{Queues}
+use Rattle.sky_model.specs.declared.reply.Refusal.{Refusal}
+use Rattle.sky_model.specs.declared.reply.Refusal.TheVariants.{TooMany, NoBatch, EventIdsSpent}
+use Rattle.sky_model.specs.Moment.{HasMoment}
+use Rattle.sky_model.specs.Printed.{EventsHaveMoments}
+use Rattle.sky_model.specs.declared.stmt.Stmt.{Stmt}
+use Rattle.sky_model.specs.declared.stmt.Where.{Where}
+use Rattle.sky_model.specs.History.{Mark, began, ended, block_begun, repeats, looked, block_failed, block_ended, tabled, table_made, wrote, waits, waited, queued, made, raised, put, ticked, opened}
+use Rattle.sky_model.specs.Sessions.{Block, outside, inside, failed}
+use Rattle.sky_model.specs.Queues.{Tick, tick}
+use Rattle.sky_model.specs.Selection.{snapshot_at, is_selected, selected_in, selected}
+use Rattle.sky_model.specs.StepConsumer.{finish_batch, finishes, get_batch_events}
+use Rattle.sky_model.specs.State.{Queue, with_txid, RowPart, after_part_marks, Database, changed_at, changed_for, with_batch, at_position, after_mark, after_marks}
+use Rattle.sky_model.specs.ShownRows.{snapshot_now}
+use Rattle.sky_model.specs.Outcome.{Outcome, Checked, ◌>>=◌, ◌>>◌, refused_if, found_or, answers, does_marks, end_of, aborts, abort, settled}
+use Rattle.sky_model.specs.OwnTransaction.{own_or_next, txid_for, begin_of, commit_of, written}
+use Rattle.sky_model.specs.StepQueue.{create_queue, insert_event, queue_called, next_event_id, made_event}
+use Rattle.sky_model.specs.Allowed.{where_of}
+use Rattle.sky_model.specs.Made.{Making, takes_sight, runs, looking, runs_if}
+use Rattle.sky_model.specs.Reader.{database_by_itself, within_part, shown_by}
+use Rattle.sky_model.specs.Settling.{Turn, turn_of, behind_marks, settling, with_settling}
+use Rattle.sky_model.specs.Calls.{form, making, statement, database_turn}
+use Rattle.sky_model.specs.DatabaseSteps.{DatabaseSteps}
+use Rattle.sky_model.proofs.RowOutcomes.{RowMarks, TurnOfRows}
+use Rattle.sky_model.proofs.DatabaseStanding.{after_marks-append, behind-all, database_steps_from_exact}
+use Rattle.sky_session.specs.declared.answer.RowStep.{RowStep}
+use Rattle.sky_session.specs.Effects.{effects_of}
+use Rattle.sky_session.specs.declared.effect.Effect.{Effect}
+use Rattle.sky_session.specs.declared.effect.Effect.TheVariants.{Wrote, Committed, Aborted}
+use Rattle.sky_session.specs.Marks.{look_of, single_end, failure}
+use Rattle.sky_session.specs.Gives.{GivesTurn, Enters}
+use Rattle.sky_session.specs.Views.{RowDbView}
+use Rattle.sky_session.specs.Seen.{seen}
+use Rattle.pgq_db.specs.declared.batch.Batch.{Batch}
+use Rattle.pgq_db.specs.Views.{QueueView, DbView}
+use Rattle.pgq_db.specs.Seen.{seen_queue, no_queue, seen_batch, keeps, seen_database}
+use Rattle.pgq_db.specs.Undone.{undone_by}
+use Rattle.pgq_db.specs.Gives.{Gives, GivesReply, Does}
+use Rattle.sky_model.specs.Stops.{Refuses}
+
+-- the test on an entry's key is equality
+pub is_at-nat : (k n : ℕ) → is_at (nat_cmp k) n ≡ (k == n)
+is_at-nat k n = grind (arith, nat_tests)
+
+-- a batch under a new id
+pub batches-insert : (old new : List (ℕ × Batch)) (id : ℕ) (batch : Batch)
+    → ((q : ℕ) → lookup (is_at (nat_cmp q)) new ≡ cond (is_at (nat_cmp id) q) (Some batch) (lookup (is_at (nat_cmp q)) old))
+    → (λ n. option_map (seen_batch n) (lookup (is_at (nat_cmp n)) new)) ≡ changed_at id (λ _. Some (seen_batch id batch)) (λ n. option_map (seen_batch n) (lookup (is_at (nat_cmp n)) old))
+batches-insert old new id batch updates = λ i n. pointwise n i
+  where
+    by : (n : ℕ) (b : Bool) → (id == n) ≡ b → option_map (seen_batch n) (cond b (Some batch) (lookup (is_at (nat_cmp n)) old))
+        ≡ (if b then Some (seen_batch id batch) else option_map (seen_batch n) (lookup (is_at (nat_cmp n)) old))
+    by n true e = let same : id ≡ n = grind (arith, nat_tests) in ap (λ m. Some (seen_batch m batch)) (sym same)
+    by n false e = refl
+
+    pointwise : (n : ℕ) → option_map (seen_batch n) (lookup (is_at (nat_cmp n)) new)
+        ≡ (if id == n then Some (seen_batch id batch) else option_map (seen_batch n) (lookup (is_at (nat_cmp n)) old))
+    pointwise n = ap (option_map (seen_batch n)) (updates n ∙ ap (λ b. cond b (Some batch) (lookup (is_at (nat_cmp n)) old)) (is_at-nat id n)) ∙ by n (id == n) refl
+
+-- and one that is gone
+pub batches-remove : (old new : List (ℕ × Batch)) (id : ℕ)
+    → ((q : ℕ) → lookup (is_at (nat_cmp q)) new ≡ cond (is_at (nat_cmp id) q) None (lookup (is_at (nat_cmp q)) old))
+    → (λ n. option_map (seen_batch n) (lookup (is_at (nat_cmp n)) new)) ≡ changed_at id (λ _. None) (λ n. option_map (seen_batch n) (lookup (is_at (nat_cmp n)) old))
+batches-remove old new id updates = λ i n. pointwise n i
+  where
+    by : (n : ℕ) (b : Bool) → option_map (seen_batch n) (cond b None (lookup (is_at (nat_cmp n)) old))
+        ≡ (if b then None else option_map (seen_batch n) (lookup (is_at (nat_cmp n)) old))
+    by n true = refl
+    by n false = refl
+
+    pointwise : (n : ℕ) → option_map (seen_batch n) (lookup (is_at (nat_cmp n)) new)
+        ≡ (if id == n then None else option_map (seen_batch n) (lookup (is_at (nat_cmp n)) old))
+    pointwise n = ap (option_map (seen_batch n)) (updates n ∙ ap (λ b. cond b None (lookup (is_at (nat_cmp n)) old)) (is_at-nat id n)) ∙ by n (id == n)
+
+past_end : {A : Type 0} (xs : List A) (d : A) (i : ℕ) → length xs ≤ i → get_or xs i d ≡ d
+past_end [] d i le = refl
+past_end (x ∷ xs) d zero le = absurd (omega arith)
+past_end (x ∷ xs) d (suc i) le = past_end xs d i (omega arith)
+
+-- a queue that is made has its first tick alone
+pub queues-made : (queues : List QueueView) (t : Tick) (count : ℕ) → count ≡ length queues
+    → (λ n. seen_queue (get_or (queues ++ record { seq = 0; events = []; ticks = t ∷ []; subs = [] } ∷ []) n no_queue))
+    ≡ changed_at count (λ q. record q { tick_list = q.tick_list ++ t ∷ [] }) (λ n. seen_queue (get_or queues n no_queue))
+queues-made queues t count is = λ i n. pointwise queues n count is i
+  where
+    new : QueueView
+    new = record { seq = 0; events = []; ticks = t ∷ []; subs = [] }
+
+    at : (b : Bool) (n : ℕ) → (zero == suc n) ≡ b → seen_queue no_queue ≡ (if b then record (seen_queue no_queue) { tick_list = t ∷ [] } else seen_queue no_queue)
+    at true n e = absurd (grind (arith, nat_tests))
+    at false n e = refl
+
+    first : (b : Bool) (qs : List QueueView) (x : QueueView) → (suc (length qs) == zero) ≡ b → seen_queue x ≡ (if b then record (seen_queue x) { tick_list = (seen_queue x).tick_list ++ t ∷ [] } else seen_queue x)
+    first true qs x e = absurd (grind (arith, nat_tests))
+    first false qs x e = refl
+
+    shift : (m n : ℕ) → (m == n) ≡ (suc m == suc n)
+    shift m n = grind (arith, nat_tests)
+
+    pointwise : (qs : List QueueView) (n m : ℕ) → m ≡ length qs
+        → seen_queue (get_or (qs ++ record { seq = 0; events = []; ticks = t ∷ []; subs = [] } ∷ []) n no_queue)
+        ≡ (if m == n then record (seen_queue (get_or qs n no_queue)) { tick_list = (seen_queue (get_or qs n no_queue)).tick_list ++ t ∷ [] } else seen_queue (get_or qs n no_queue))
+    pointwise [] zero m e =
+        let yes_it_is : true ≡ (m == zero) = grind (arith, nat_tests) in
+        ap (λ b. if b then record (seen_queue no_queue) { tick_list = t ∷ [] } else seen_queue no_queue) yes_it_is
+    pointwise [] (suc n) m e =
+        at (zero == suc n) n refl ∙ ap (λ k. if k == suc n then record (seen_queue no_queue) { tick_list = t ∷ [] } else seen_queue no_queue) (sym e)
+    pointwise (x ∷ qs) zero m e =
+        first (suc (length qs) == zero) qs x refl
+        ∙ ap (λ k. if k == zero then record (seen_queue x) { tick_list = (seen_queue x).tick_list ++ t ∷ [] } else seen_queue x) (sym e)
+    pointwise (x ∷ qs) (suc n) m e =
+        pointwise qs n (length qs) refl
+        ∙ ap (λ b. if b then record (seen_queue (get_or qs n no_queue)) { tick_list = (seen_queue (get_or qs n no_queue)).tick_list ++ t ∷ [] } else seen_queue (get_or qs n no_queue)) (shift (length qs) n)
+        ∙ ap (λ k. if k == suc n then record (seen_queue (get_or qs n no_queue)) { tick_list = (seen_queue (get_or qs n no_queue)).tick_list ++ t ∷ [] } else seen_queue (get_or qs n no_queue)) (sym e)
+
+get_or-slice_set : (xs : List QueueView) (i n : ℕ) (x : QueueView) → i < length xs → get_or (slice_set xs i x) n no_queue ≡ (if i == n then x else get_or xs n no_queue)
+get_or-slice_set xs i n x lt = by (i == n) refl
+  where
+    by : (b : Bool) → (i == n) ≡ b → get_or (slice_set xs i x) n no_queue ≡ (if b then x else get_or xs n no_queue)
+    by true e = let same : i ≡ n = grind (arith, nat_tests) in ap (λ m. get_or (slice_set xs i x) m no_queue) (sym same) ∙ get_or-set_same xs i x no_queue lt
+    by false e = let other : n ≢ i = grind (arith, nat_tests) in get_or-set_other xs i n x no_queue other
+
+-- a queue in the place of another
+pub queues-set : (v now : DbView) (i : ℕ) (old new : QueueView) (f : Queue → Queue) → v ≡ now → i < length v.queues → old ≡ get_or v.queues i old → seen_queue new ≡ f (seen_queue old)
+    → seen_database (record v { queues = slice_set v.queues i new }) ≡ record (seen_database now) { queue = changed_at i f (seen_database now).queue }
+queues-set v now i old new f same lt at is =
+    (λ j. record (seen_database v) { queue = λ n. pointwise n j })
+    ∙ ap (λ (w : DbView). record (seen_database w) { queue = changed_at i f (seen_database w).queue }) same
+  where
+    here : get_or v.queues i no_queue ≡ old
+    here = get_or_from_slice_get v.queues i old no_queue (slice_get_read v.queues (length v.queues) i old refl lt at)
+
+    by : (n : ℕ) (b : Bool) → (i == n) ≡ b → seen_queue (if b then new else get_or v.queues n no_queue) ≡ (if b then f (seen_queue (get_or v.queues n no_queue)) else seen_queue (get_or v.queues n no_queue))
+    by n true e =
+        let one : i ≡ n = grind (arith, nat_tests) in
+        is ∙ ap (λ q. f (seen_queue q)) (sym here) ∙ ap (λ m. f (seen_queue (get_or v.queues m no_queue))) one
+    by n false e = refl
+
+    pointwise : (n : ℕ) → seen_queue (get_or (slice_set v.queues i new) n no_queue) ≡ (if i == n then f (seen_queue (get_or v.queues n no_queue)) else seen_queue (get_or v.queues n no_queue))
+    pointwise n = ap seen_queue (get_or-slice_set v.queues i n new lt) ∙ by n (i == n) refl
+
+-- the queue at a place is what is shown there
+pub queue-at : (v now : DbView) (i : ℕ) (q : QueueView) → v ≡ now → i < length now.queues → q ≡ get_or v.queues i q → seen_queue q ≡ (seen_database now).queue i
+queue-at v now i q same lt at =
+    let there : i < length v.queues = subst (λ (w : DbView). i < length w.queues) (sym same) lt in
+    ap seen_queue (sym (get_or_from_slice_get v.queues i q no_queue (slice_get_read v.queues (length v.queues) i q refl there at)))
+    ∙ ap (λ (w : DbView). (seen_database w).queue i) same
+
+-- a tick that is stored is one with the snapshot as it was
+pub ticked-as : (d s : Database) (q : ℕ) (t : Tick) → s ≡ record d { queue = changed_at q (λ x. record x { tick_list = x.tick_list ++ t ∷ [] }) d.queue }
+    → t.snapshot ≡ snapshot_now d.part → s ≡ after_mark d (queued (ticked q t.id t.time t.seq))
+ticked-as d s q t is snap =
+    is ∙ ap (λ x. record d { queue = changed_at q (λ y. record y { tick_list = y.tick_list ++ record { id = t.id; time = t.time; snapshot = x; seq = t.seq } ∷ [] }) d.queue }) snap
+
+-- a queue that is made has its first tick, with the snapshot as it was
+pub made-as : (v now : DbView) (names : List (List ℕ)) (queues : List QueueView) (q : QueueView) (name : List ℕ) (t : Tick) → v ≡ now
+    → names ≡ v.names ++ name ∷ [] → queues ≡ v.queues ++ q ∷ [] → q ≡ record { seq = 0; events = []; ticks = t ∷ []; subs = [] } → length v.queues ≡ length v.names
+    → t.id ≡ 1 → t.seq ≡ 0 → t.snapshot ≡ snapshot_now (seen_database now).part
+    → seen_database (record v { names = names; queues = queues }) ≡ after_marks (seen_database now) (queued (made name) ∷ queued (ticked (length now.names) 1 t.time 0) ∷ [])
+made-as v now names queues q name t same more one new count id seq snap =
+    (λ i. record (seen_database v) {
+      names = more i;
+      queue = ((λ j n. seen_queue (get_or (one j) n no_queue))
+          ∙ ap (λ x. λ n. seen_queue (get_or (v.queues ++ x ∷ []) n no_queue)) new
+          ∙ queues-made v.queues t (length v.names) (sym count)) i;
+    })
+    ∙ ap (λ (w : DbView). record (seen_database w) {
+      names = w.names ++ name ∷ [];
+      queue = changed_at (length w.names) (λ x. record x { tick_list = x.tick_list ++ t ∷ [] }) (seen_database w).queue;
+    }) same
+    ∙ ap (λ (x : Tick). record (seen_database now) {
+      names = now.names ++ name ∷ [];
+      queue = changed_at (length now.names) (λ y. record y { tick_list = y.tick_list ++ x ∷ [] }) (seen_database now).queue;
+    }) is
+  where
+    is : t ≡ record { id = 1; time = t.time; snapshot = snapshot_now (seen_database now).part; seq = 0 }
+    is = λ i. record { id = id i; time = t.time; snapshot = snap i; seq = seq i }
+
+pub none-from : (found : Option ℕ) (place : Option ℕ) → found ≡ place → is_some found ≡ false → place ≡ None
+none-from None place is e = sym is
+none-from (Some n) place is e = cc
+
+-- what a session writes may come behind the marks of its transaction
+event-written : (d : Database) (who t : ℕ) (o : Option ℕ) (b : Block) (q id : ℕ) (event : Event)
+    → after_mark (after_mark (after_marks d (begin_of who t o ++ commit_of who t b)) (queued (raised q id))) (queued (put q event))
+    ≡ after_marks d (begin_of who t o ++ (queued (raised q id) ∷ queued (put q event) ∷ []) ++ commit_of who t b)
+event-written d who t None outside q id event = refl
+event-written d who t None inside q id event = refl
+event-written d who t None failed q id event = refl
+event-written d who t (Some own) outside q id event = refl
+event-written d who t (Some own) inside q id event = refl
+event-written d who t (Some own) failed q id event = refl
+
+-- what an inserted event gives
+pub gives-event : (d s1 s2 s3 : Database) (now time : ℤ) (who : ℕ) (name : List ℕ) (ev_type ev_data : Option (List ℕ)) (extra : Option Extra) (q seq t : ℕ) (event : Event)
+    → queue_called name d ≡ Ok q → txid_for d.part who ≡ Ok t → seq ≡ (d.queue q).seq → seq + 1 < 2 ^ 62 → time ≡ now
+    → event ≡ made_event (seq + 1) time t ev_type ev_data extra
+    → s1 ≡ after_marks d (begin_of who t (d.part.session who).txid ++ commit_of who t (d.part.session who).block)
+    → s2 ≡ after_mark s1 (queued (raised q (seq + 1))) → s3 ≡ after_mark s2 (queued (put q event))
+    → Does d s3 (Number (seq + 1)) (insert_event d now who name ev_type ev_data extra)
+gives-event d s1 s2 s3 now time who name ev_type ev_data extra q seq t event place txid is room at made_is m1 m2 m3 =
+    subst (Does d s3 (Number (seq + 1))) (sym whole) (record {
+      accepted = refl;
+      changed = m3 ∙ ap (λ s. after_mark s (queued (put q event))) (m2 ∙ ap (λ s. after_mark s (queued (raised q (seq + 1)))) m1)
+          ∙ event-written d who t (d.part.session who).txid (d.part.session who).block q (seq + 1) event
+          ∙ ap (λ e. after_marks d (written who t (d.part.session who) (queued (raised q (seq + 1)) ∷ queued (put q e) ∷ [])))
+          (made_is ∙ ap (λ x. made_event (seq + 1) x t ev_type ev_data extra) at);
+    })
+  where
+    unspent : nat_le (2 ^ 62) ((d.queue q).seq + 1) ≡ false
+    unspent = grind (arith, nat_tests)
+
+    result : ℕ → Checked Outcome
+    result id = does_marks (Number id) (written who t (d.part.session who) (queued (raised q id) ∷ queued (put q (made_event id now t ev_type ev_data extra)) ∷ []))
+
+    whole : insert_event d now who name ev_type ev_data extra ≡ result (seq + 1)
+    whole =
+        ap (λ c. c >>= (λ n. txid_for d.part who >>= (λ x. next_event_id (d.queue n) >>= (λ id.
+        does_marks (Number id) (written who x (d.part.session who) (queued (raised n id) ∷ queued (put n (made_event id now x ev_type ev_data extra)) ∷ [])))))) place
+        ∙ ap (λ c. c >>= (λ x. next_event_id (d.queue q) >>= (λ id.
+        does_marks (Number id) (written who x (d.part.session who) (queued (raised q id) ∷ queued (put q (made_event id now x ev_type ev_data extra)) ∷ []))))) txid
+        ∙ ap (λ b. (refused_if b EventIdsSpent >> Ok ((d.queue q).seq + 1)) >>= result) unspent
+        ∙ ap (λ n. result (n + 1)) (sym is)
+
+-- a batch is open once its consumer has it and it is noted
+pub opened-as : (d s1 s2 : Database) (id : ℕ) (batch : Batch)
+    → s1 ≡ record d { queue = changed_at batch.queue (λ q. record q { sub = changed_for batch.consumer (option_map (with_batch id)) q.sub }) d.queue }
+    → s2 ≡ record s1 { last_batch_id = id; batch = changed_at id (λ _. Some (seen_batch id batch)) s1.batch }
+    → s2 ≡ after_mark d (queued (opened (seen_batch id batch)))
+opened-as d s1 s2 id batch given noted = noted ∙ ap (λ (s : Database). record s { last_batch_id = id; batch = changed_at id (λ _. Some (seen_batch id batch)) s.batch }) given
+
+-- what a finished batch gives
+pub gives-finish : (d s1 s2 : Database) (id : ℕ) (batch : Batch) → Some (seen_batch id batch) ≡ d.batch id
+    → s1 ≡ record d { batch = changed_at id (λ _. None) d.batch }
+    → s2 ≡ record s1 { queue = changed_at batch.queue (λ q. record q { sub = changed_for batch.consumer (option_map (at_position batch.cur)) q.sub }) s1.queue }
+    → Does d s2 (Number 1) (finish_batch d id)
+gives-finish d s1 s2 id batch there forgotten over =
+    subst (λ found. Does d s2 (Number 1) (finishes found)) there (record {
+      accepted = refl;
+      changed = over ∙ ap (λ (s : Database). record s { queue = changed_at batch.queue (λ q. record q { sub = changed_for batch.consumer (option_map (at_position batch.cur)) q.sub }) s.queue }) forgotten;
+    })
+
+-- what is selected between two ticks are the events of a batch
+pub selects : (undone : ℕ → Bool) (v now : QueueView) (batch : Batch) (prev cur : Option Tick) (events : List Event) (id : ℕ) (r : Result (Vec Event Global) AllocError) → v ≡ now
+    → prev ≡ tick batch.prev v.ticks → cur ≡ tick batch.cur v.ticks → events ≡ v.events
+    → IfOk r (λ selected. selected.items ≡ filter (is_selected undone (snapshot_at prev) (snapshot_at cur) batch.sub) events)
+    → IfOk r (λ selected. selected.items ≡ selected_in undone (seen_queue now) (seen_batch id batch))
+selects undone v now batch prev cur events id r same from_is to_is all is =
+    IfOk-weaker r _ _ (λ selected e. e
+    ∙ ap (λ es. filter (is_selected undone (snapshot_at prev) (snapshot_at cur) batch.sub) es) all
+    ∙ ap (λ t. filter (is_selected undone (snapshot_at t) (snapshot_at cur) batch.sub) v.events) from_is
+    ∙ ap (λ t. filter (is_selected undone (snapshot_at (tick batch.prev v.ticks)) (snapshot_at t) batch.sub) v.events) to_is
+    ∙ ap (λ (q : QueueView). selected_in undone (seen_queue q) (seen_batch id batch)) same) is
+
+-- they were made at times that are printed, as all are
+pub selects-moments : (stored events : List Event) (p : Event → Bool) (r : Result (Vec Event Global) AllocError) → EventsHaveMoments stored → events ≡ stored
+    → IfOk r (λ selected. selected.items ≡ filter p events) → IfOk r (λ selected. EventsHaveMoments selected.items)
+selects-moments stored events p r have all is =
+    IfOk-weaker r _ _ (λ selected e. subst EventsHaveMoments (sym (e ∙ ap (filter p) all)) (All-filter p (λ event. HasMoment event.ev_time) stored have)) is
+
+-- the events of a batch of a queue that is there
+pub selects-at : (d : Database) (undone : ℕ → Bool) (q : QueueView) (batch : Batch) (id : ℕ) (r : Result (Vec Event Global) AllocError) → undone ≡ d.undone → seen_queue q ≡ d.queue batch.queue
+    → IfOk r (λ events. events.items ≡ selected_in undone (seen_queue q) (seen_batch id batch)) → IfOk r (λ events. events.items ≡ selected d (seen_batch id batch))
+selects-at d undone q batch id r but same is =
+    IfOk-weaker r _ _ (λ events e. e ∙ ap (λ u. selected_in u (seen_queue q) (seen_batch id batch)) but ∙ ap (λ x. selected_in d.undone x (seen_batch id batch)) same) is
+
+-- what a query for a batch's events gives
+pub gives-events : (d : Database) (id : ℕ) (batch : Batch) (events : List Event) → Some (seen_batch id batch) ≡ d.batch id → events ≡ selected d (seen_batch id batch)
+    → Does d d (Events events) (get_batch_events d (selected d) id)
+gives-events d id batch events there is =
+    subst (λ found. Does d d (Events events) (found_or found NoBatch >>= (λ b. answers (Events (selected d b))))) there (record {
+      accepted = ap (λ es. Ok (record { reply = Events es; marks = [] })) (sym is);
+      changed = refl;
+    })
+
+queue-written : (d : Database) (who t : ℕ) (o : Option ℕ) (b : Block) (n : ℕ) (name : List ℕ) (time : ℤ)
+    → after_marks (after_marks d (begin_of who t o ++ commit_of who t b)) (queued (made name) ∷ queued (ticked n 1 time 0) ∷ [])
+    ≡ after_marks d ((begin_of who t o ++ (queued (made name) ∷ []) ++ commit_of who t b) ++ queued (ticked n 1 time 0) ∷ [])
+queue-written d who t None outside n name time = refl
+queue-written d who t None inside n name time = refl
+queue-written d who t None failed n name time = refl
+queue-written d who t (Some own) outside n name time = refl
+queue-written d who t (Some own) inside n name time = refl
+queue-written d who t (Some own) failed n name time = refl
+
+-- a queue that is made, in a transaction of its own
+pub made-queue : (d s1 s2 : Database) (now time : ℤ) (who t count : ℕ) (name copied : List ℕ) → copied ≡ name → count ≡ length d.names → time ≡ now
+    → s1 ≡ after_marks d (begin_of who t (d.part.session who).txid ++ commit_of who t (d.part.session who).block)
+    → s2 ≡ after_marks s1 (queued (made copied) ∷ queued (ticked count 1 time 0) ∷ [])
+    → s2 ≡ after_marks d (written who t (d.part.session who) (queued (made name) ∷ []) ++ queued (ticked (length d.names) 1 now 0) ∷ [])
+made-queue d s1 s2 now time who t count name copied same names at m1 m2 =
+    m2 ∙ ap (λ s. after_marks s (queued (made copied) ∷ queued (ticked count 1 time 0) ∷ [])) m1
+    ∙ queue-written d who t (d.part.session who).txid (d.part.session who).block count copied time
+    ∙ ap (λ n. after_marks d (written who t (d.part.session who) (queued (made n) ∷ []) ++ queued (ticked count 1 time 0) ∷ [])) same
+    ∙ ap (λ n. after_marks d (written who t (d.part.session who) (queued (made name) ∷ []) ++ queued (ticked n 1 time 0) ∷ [])) names
+    ∙ ap (λ x. after_marks d (written who t (d.part.session who) (queued (made name) ∷ []) ++ queued (ticked (length d.names) 1 x 0) ∷ [])) at
+
+-- what a queue that is made gives
+pub gives-queue : (d s : Database) (now : ℤ) (who t : ℕ) (name : List ℕ) → place_of name d.names ≡ None → length d.names < 64 → txid_for d.part who ≡ Ok t
+    → s ≡ after_marks d (written who t (d.part.session who) (queued (made name) ∷ []) ++ queued (ticked (length d.names) 1 now 0) ∷ [])
+    → Does d s (Number 1) (create_queue d now who name)
+gives-queue d s now who t name new room txid is = subst (Does d s (Number 1)) (sym whole) (record { accepted = refl; changed = is })
+  where
+    few : nat_le 64 (length d.names) ≡ false
+    few = grind (arith, nat_tests)
+
+    result : ℕ → Checked Outcome
+    result x = does_marks (Number 1) (written who x (d.part.session who) (queued (made name) ∷ []) ++ queued (ticked (length d.names) 1 now 0) ∷ [])
+
+    whole : create_queue d now who name ≡ result t
+    whole =
+        ap (λ found. if is_some found then answers (Number 0) else (refused_if (nat_le 64 (length d.names)) (TooMany Queues) >> (txid_for d.part who >>= result))) new
+        ∙ ap (λ b. refused_if b (TooMany Queues) >> (txid_for d.part who >>= result)) few
+        ∙ ap (λ c. c >>= result) txid
+
+-- a transaction that was noted as rolled back
+pub undone-insert : (old new : List ℕ) (t : ℕ) → ((q : ℕ) → list_any (is_at (nat_cmp q)) new ≡ cond (is_at (nat_cmp t) q) true (list_any (is_at (nat_cmp q)) old))
+    → keeps new ≡ (λ u. u == t || keeps old u)
+undone-insert old new t updates = λ i u. pointwise u i
+  where
+    by : (u : ℕ) (b : Bool) → (t == u) ≡ b → cond b true (keeps old u) ≡ (u == t || keeps old u)
+    by u true e = (let yes_it_is : true ≡ (u == t) = grind (arith, nat_tests) in ap (λ c. c || keeps old u) yes_it_is)
+    by u false e = (let it_is_not : false ≡ (u == t) = grind (arith, nat_tests) in ap (λ c. c || keeps old u) it_is_not)
+
+    pointwise : (u : ℕ) → keeps new u ≡ (u == t || keeps old u)
+    pointwise u = updates u ∙ ap (λ b. cond b true (keeps old u)) (is_at-nat t u) ∙ by u (t == u) refl
+
+pub undone-as : (v now : DbView) (more : List ℕ) (t : ℕ) → v ≡ now → ((q : ℕ) → list_any (is_at (nat_cmp q)) more ≡ cond (is_at (nat_cmp t) q) true (list_any (is_at (nat_cmp q)) v.undone))
+    → seen_database (record v { undone = more }) ≡ record (seen_database now) { undone = λ u. u == t || (seen_database now).undone u }
+undone-as v now more t same updates =
+    (λ i. record (seen_database v) { undone = undone-insert v.undone more t updates i })
+    ∙ ap (λ (w : DbView). record (seen_database w) { undone = λ u. u == t || (seen_database w).undone u }) same
+
+-- a database whose row part alone has changed
+pub part-as : (v now : DbView) (rows : RowDbView) (part : RowPart) → v ≡ now → seen rows ≡ part → seen_database (record v { rows = rows }) ≡ record (seen_database now) { part = part }
+part-as v now rows part same is = (λ i. record (seen_database v) { part = is i }) ∙ ap (λ (w : DbView). record (seen_database w) { part = part }) same
+
+-- marks of rows change the row part, and which transactions were rolled back
+pub after-row_marks : (d : Database) (marks : List Mark) → RowMarks marks
+    → after_marks d marks ≡ record d { part = after_part_marks d.part marks; undone = undone_by (effects_of marks) d.undone }
+after-row_marks d [] rows = refl
+after-row_marks d (began who t ∷ marks) rows = after-row_marks (after_mark d (began who t)) marks rows
+after-row_marks d (ended who t true ∷ marks) rows = after-row_marks (after_mark d (ended who t true)) marks rows
+after-row_marks d (ended who t false ∷ marks) rows = after-row_marks (after_mark d (ended who t false)) marks rows
+after-row_marks d (block_begun who ∷ marks) rows = after-row_marks (after_mark d (block_begun who)) marks rows
+after-row_marks d (repeats who ∷ marks) rows = after-row_marks (after_mark d (repeats who)) marks rows
+after-row_marks d (looked who ∷ marks) rows = after-row_marks (after_mark d (looked who)) marks rows
+after-row_marks d (block_failed who ∷ marks) rows = after-row_marks (after_mark d (block_failed who)) marks rows
+after-row_marks d (block_ended who ∷ marks) rows = after-row_marks (after_mark d (block_ended who)) marks rows
+after-row_marks d (tabled (table_made name columns) ∷ marks) rows = after-row_marks (after_mark d (tabled (table_made name columns))) marks rows
+after-row_marks d (tabled (wrote who t table key old new) ∷ marks) rows = after-row_marks (after_mark d (tabled (wrote who t table key old new))) marks rows
+after-row_marks d (tabled (waits who table key attempt) ∷ marks) rows = after-row_marks (after_mark d (tabled (waits who table key attempt))) marks rows
+after-row_marks d (tabled (waited who) ∷ marks) rows = after-row_marks (after_mark d (tabled (waited who))) marks rows
+after-row_marks d (queued mark ∷ marks) rows = absurd rows
+
+-- marks of rows, with those noted that were rolled back
+noted-as : (d s1 s2 : Database) (marks : List Mark) (effects : List Effect) → RowMarks marks → s1.part ≡ after_part_marks d.part marks → effects ≡ effects_of marks
+    → s1 ≡ record d { part = s1.part } → s2 ≡ record s1 { undone = undone_by effects s1.undone } → s2 ≡ after_marks d marks
+noted-as d s1 s2 marks effects rows changed told but noted =
+    noted ∙ (λ i. record (but i) { undone = undone_by (told i) (but i).undone })
+    ∙ ap (λ part. record d { part = part; undone = undone_by (effects_of marks) d.undone }) changed
+    ∙ sym (after-row_marks d marks rows)
+
+-- what a turn on rows gives
+pub gives-rows : (d s1 s2 : Database) (turn : Turn) (step : RowStep) → TurnOfRows turn → GivesTurn d.part s1.part step turn
+    → s1 ≡ record d { part = s1.part } → s2 ≡ record s1 { undone = undone_by step.effects s1.undone } → Gives d s2 step.replies turn
+gives-rows d s1 s2 turn step rows gives but noted = record {
+  replied = gives.replied;
+  changed = noted-as d s1 s2 turn.marks step.effects rows.marks gives.changed gives.told but noted;
+}
+
+-- and a block that is aborted
+failure-rows : (who : ℕ) (txid : Option ℕ) (b : Block) → RowMarks (failure who txid b)
+failure-rows who txid outside = tt
+failure-rows who None inside = tt
+failure-rows who (Some t) inside = tt
+failure-rows who txid failed = tt
+
+pub failed-as : (d s1 s2 : Database) (who : ℕ) (effects : List Effect)
+    → s1.part ≡ after_part_marks d.part (failure who (d.part.session who).txid (d.part.session who).block)
+    → effects ≡ effects_of (failure who (d.part.session who).txid (d.part.session who).block)
+    → s1 ≡ record d { part = s1.part } → s2 ≡ record s1 { undone = undone_by effects s1.undone }
+    → s2 ≡ after_marks d (failure who (d.part.session who).txid (d.part.session who).block)
+failed-as d s1 s2 who effects =
+    noted-as d s1 s2 (failure who (d.part.session who).txid (d.part.session who).block) effects (failure-rows who (d.part.session who).txid (d.part.session who).block)
+
+-- the rest of a list from a place on begins with what stands there
+drop-at : {A : Type 0} (xs : List A) (i : ℕ) (x d : A) → i < length xs → x ≡ get_or xs i d → drop i xs ≡ x ∷ drop (suc i) xs
+drop-at [] i x d lt is = absurd (omega arith)
+drop-at (y ∷ ys) zero x d lt is = ap (λ z. z ∷ ys) (sym is)
+drop-at (y ∷ ys) (suc i) x d lt is = drop-at ys i x d (omega arith) is
+
+undone-step : (d s whole : Database) (rest all : List Effect) (effect : Effect) → s ≡ record d { undone = undone_by (effect ∷ []) d.undone } → all ≡ effect ∷ rest
+    → record d { undone = undone_by all d.undone } ≡ whole → record s { undone = undone_by rest s.undone } ≡ whole
+undone-step d s whole rest all effect noted is before =
+    ap (λ (x : Database). record x { undone = undone_by rest x.undone }) noted
+    ∙ (λ i. record d { undone = one effect i })
+    ∙ ap (λ effects. record d { undone = undone_by effects d.undone }) (sym is) ∙ before
+  where
+    one : (e : Effect) → undone_by rest (undone_by (e ∷ []) d.undone) ≡ undone_by (e ∷ rest) d.undone
+    one (Wrote txid table op old new) = refl
+    one (Committed txid) = refl
+    one (Aborted txid) = refl
+
+-- what one more effect undoes
+pub undone-at : (d s whole : Database) (items effects : List Effect) (i : ℕ) (effect : Effect) → s ≡ record d { undone = undone_by (effect ∷ []) d.undone } → items ≡ effects
+    → i < length items → effect ≡ get_or items i effect → record d { undone = undone_by (drop i effects) d.undone } ≡ whole
+    → record s { undone = undone_by (drop (i + 1) effects) s.undone } ≡ whole
+undone-at d s whole items effects i effect noted same lt is before =
+    let next : suc i ≡ i + 1 = omega arith in
+    undone-step d s whole (drop (i + 1) effects) (drop i effects) effect noted
+    (ap (drop i) (sym same) ∙ drop-at items i effect effect lt is ∙ ap (λ n. effect ∷ drop n items) next ∙ ap (λ es. effect ∷ drop (i + 1) es) same) before
+
+-- a refusal that aborts leaves what a block does that is aborted
+pub abort-failure : (who : ℕ) (txid : Option ℕ) (b : Block) (refusal : Refusal) → aborts refusal ≡ true → abort who b txid refusal ≡ failure who txid b
+abort-failure who txid outside refusal is = refl
+abort-failure who txid inside refusal is = ap (λ b. if b then end_of false who txid ++ block_failed who ∷ [] else []) is
+abort-failure who txid failed refusal is = refl
+
+pub abort-nothing : (who : ℕ) (txid : Option ℕ) (b : Block) (refusal : Refusal) → aborts refusal ≡ false → abort who b txid refusal ≡ []
+abort-nothing who txid outside refusal is = refl
+abort-nothing who txid inside refusal is = ap (λ b. if b then end_of false who txid ++ block_failed who ∷ [] else []) is
+abort-nothing who txid failed refusal is = refl
+
+-- what a statement gives that came in
+pub gives-entered : (d s1 s2 : Database) (time now : ℤ) (who : ℕ) (stmt : Stmt) (place : Where) (reply : Reply) → time ≡ now → place ≡ where_of stmt
+    → Enters d.part s1.part who place None → s1 ≡ record d { part = s1.part }
+    → GivesReply s1 s2 reply (settled who (s1.part.session who) (form s1 (shown_by s1) time who stmt))
+    → GivesReply d s2 reply (statement database_by_itself d now who stmt)
+gives-entered d s1 s2 time now who stmt place reply at is enters but gives =
+    subst (GivesReply d s2 reply) (sym whole) (of (takes_sight (where_of stmt) (d.part.session who).sight) behind)
+  where
+    m : Making Database
+    m = making database_by_itself now who stmt
+
+    entered : Enters d.part s1.part who (where_of stmt) None
+    entered = subst (λ p. Enters d.part s1.part who p None) is enters
+
+    whole : statement database_by_itself d now who stmt ≡ runs_if m (where_of stmt) who d (Ok tt)
+    whole = ap (runs_if m (where_of stmt) who d) entered.0
+
+    behind : s1 ≡ record d { part = after_part_marks d.part (look_of who (takes_sight (where_of stmt) (d.part.session who).sight)) }
+    behind = but ∙ ap (λ part. record d { part = part }) entered.1
+
+    then_gives : (x : Database) → s1 ≡ x → GivesReply x s2 reply (settled who (x.part.session who) (form x (shown_by x) now who stmt))
+    then_gives x e =
+        subst (λ (y : Database). GivesReply y s2 reply (settled who (y.part.session who) (form y (shown_by y) now who stmt))) e
+        (subst (λ t. GivesReply s1 s2 reply (settled who (s1.part.session who) (form s1 (shown_by s1) t who stmt))) at gives)
+
+    of : (b : Bool) → s1 ≡ record d { part = after_part_marks d.part (look_of who b) }
+        → GivesReply d s2 reply (if b then looking who (runs m who (after_mark d (looked who))) else runs m who d)
+    of true e = (let g = then_gives (after_mark d (looked who)) e in record { replied = g.replied; changed = g.changed })
+    of false e = then_gives d e
+
+-- and one that was refused at the door
+pub gives-turned_away : (d s1 s2 : Database) (now : ℤ) (who : ℕ) (stmt : Stmt) (place : Where) (reply : Reply) (refusal : Refusal) → place ≡ where_of stmt
+    → Enters d.part s1.part who place (Some refusal) → s1 ≡ record d { part = s1.part } → reply ≡ Refused refusal
+    → s2 ≡ after_marks s1 (abort who (s1.part.session who).block (s1.part.session who).txid refusal)
+    → GivesReply d s2 reply (statement database_by_itself d now who stmt)
+gives-turned_away d s1 s2 now who stmt place reply refusal is enters but replied marks =
+    subst (GivesReply d s2 reply) (sym (ap (runs_if (making database_by_itself now who stmt) (where_of stmt) who d) turned.0)) (record {
+      replied = replied;
+      changed = marks ∙ ap (λ (s : Database). after_marks s (abort who (s.part.session who).block (s.part.session who).txid refusal))
+          (but ∙ ap (λ part. record d { part = part }) turned.1);
+    })
+  where
+    turned : Enters d.part s1.part who (where_of stmt) (Some refusal)
+    turned = subst (λ p. Enters d.part s1.part who p (Some refusal)) is enters
+
+-- what a statement gives that isn't refused, and one that is
+pub replies-done : (d s : Database) (who : ℕ) (reply : Reply) (checked : Checked Outcome) → Does d s reply checked → GivesReply d s reply (settled who (d.part.session who) checked)
+replies-done d s who reply checked does =
+    subst (λ c. GivesReply d s reply (settled who (d.part.session who) c)) (sym does.accepted) (record { replied = refl; changed = does.changed })
+
+pub replies-refused : (d s1 s2 : Database) (who : ℕ) (refusal : Refusal) (reply : Reply) (checked : Checked Outcome) → Refuses d s1 refusal checked → reply ≡ Refused refusal
+    → s2 ≡ after_marks s1 (abort who (s1.part.session who).block (s1.part.session who).txid refusal) → GivesReply d s2 reply (settled who (d.part.session who) checked)
+replies-refused d s1 s2 who refusal reply checked refuses replied is =
+    subst (λ c. GivesReply d s2 reply (settled who (d.part.session who) c)) (sym refuses.refused) (record {
+      replied = replied;
+      changed = is ∙ ap (λ (s : Database). after_marks s (abort who (s.part.session who).block (s.part.session who).txid refusal)) refuses.same;
+    })
+
+-- what was done, and then what is done by the statements that go on
+pub gives-then : (d s1 s2 : Database) (turn : Turn) (own resumed all : List (ℕ × Reply)) → own ≡ turn.answers → s1 ≡ after_marks d turn.marks
+    → Gives s1 s2 resumed (settling (within_part database_by_itself) s1) → all ≡ own ++ resumed
+    → Gives d s2 all (with_settling (within_part database_by_itself) d turn)
+gives-then d s1 s2 turn own resumed all one marks later is = record {
+  replied = is ∙ ap (λ xs. xs ++ resumed) one
+      ∙ ap (λ xs. turn.answers ++ xs) (later.replied ∙ ap (λ x. (settling (within_part database_by_itself) x).answers) there);
+  changed = later.changed
+      ∙ ap (λ x. after_marks x (settling (within_part database_by_itself) x).marks) there
+      ∙ ap (λ x. after_marks x (settling (within_part database_by_itself) place).marks) (behind-all d turn.marks)
+      ∙ sym (after_marks-append d turn.marks (settling (within_part database_by_itself) place).marks);
+}
+  where
+    place : Database
+    place = behind_marks (within_part database_by_itself) d turn.marks
+
+    there : s1 ≡ place
+    there = marks ∙ sym (behind-all d turn.marks)
+
+-- a reply of its own, and then those of the statements that go on
+pub gives-settled : (d s1 s2 : Database) (who : ℕ) (reply : Reply) (own resumed all : List (ℕ × Reply)) (outcome : Outcome) → GivesReply d s1 reply outcome
+    → own ≡ (who, reply) ∷ [] → Gives s1 s2 resumed (settling (within_part database_by_itself) s1) → all ≡ own ++ resumed
+    → Gives d s2 all (with_settling (within_part database_by_itself) d (turn_of who outcome))
+gives-settled d s1 s2 who reply own resumed all outcome gives one =
+    gives-then d s1 s2 (turn_of who outcome) own resumed all (one ∙ ap (λ r. (who, r) ∷ []) gives.replied) gives.changed
+
+-- ids that are spent keep an event from being made
+pub spent-events : (d : Database) (now : ℤ) (who : ℕ) (name : List ℕ) (ev_type ev_data : Option (List ℕ)) (extra : Option Extra) (q seq : ℕ) → queue_called name d ≡ Ok q
+    → is_ok (txid_for d.part who) ≡ true → seq ≡ (d.queue q).seq → 2 ^ 62 ≤ seq + 1 → insert_event d now who name ev_type ev_data extra ≡ Err EventIdsSpent
+spent-events d now who name ev_type ev_data extra q seq place left is over =
+    ap (λ c. c >>= (λ n. txid_for d.part who >>= (λ x. next_event_id (d.queue n) >>= (λ id.
+    does_marks (Number id) (written who x (d.part.session who) (queued (raised n id) ∷ queued (put n (made_event id now x ev_type ev_data extra)) ∷ [])))))) place
+    ∙ of (txid_for d.part who) left
+  where
+    spent : nat_le (2 ^ 62) ((d.queue q).seq + 1) ≡ true
+    spent = grind (arith, nat_tests)
+
+    of : (c : Checked ℕ) → is_ok c ≡ true → (c >>= (λ x. next_event_id (d.queue q) >>= (λ id.
+        does_marks (Number id) (written who x (d.part.session who) (queued (raised q id) ∷ queued (put q (made_event id now x ev_type ev_data extra)) ∷ []))))) ≡ Err EventIdsSpent
+    of (Ok x) e = ap (λ b. (refused_if b EventIdsSpent >> Ok ((d.queue q).seq + 1)) >>= (λ id.
+        does_marks (Number id) (written who x (d.part.session who) (queued (raised q id) ∷ queued (put q (made_event id now x ev_type ev_data extra)) ∷ [])))) spent
+    of (Err refusal) e = absurd (cc)
+
+-- a transaction that got its id, and ended where it stands in no block
+same-session : (who : ℕ) → (who == who) ≡ true
+same-session who = grind (arith, nat_tests)
+
+pub took : (d : Database) (taken left : RowPart) (who t : ℕ) → txid_for d.part who ≡ Ok t → taken ≡ after_part_marks d.part (begin_of who t (d.part.session who).txid)
+    → left ≡ after_part_marks taken (single_end who (taken.session who).txid (taken.session who).block)
+    → record d { part = left } ≡ after_marks d (begin_of who t (d.part.session who).txid ++ commit_of who t (d.part.session who).block)
+took d taken left who t id begins ends =
+    ap (λ part. record d { part = part }) (ends ∙ ap (after_part_marks taken) marks_are ∙ ap (λ (x : RowPart). after_part_marks x (commit_of who t (d.part.session who).block)) begins)
+    ∙ joined (d.part.session who).txid (d.part.session who).block
+  where
+    txid_of : (o : Option ℕ) → (d.part.session who).txid ≡ o → own_or_next d.part o ≡ Ok t → ((after_part_marks d.part (begin_of who t o)).session who).txid ≡ Some t
+    txid_of None is e = ap (λ b. (if b then with_txid (Some t) (d.part.session who) else d.part.session who).txid) (same-session who)
+    txid_of (Some u) is e = (let one : u ≡ t = cc in is ∙ ap Some one)
+
+    same_block : (b : Bool) → (if b then with_txid (Some t) (d.part.session who) else d.part.session who).block ≡ (d.part.session who).block
+    same_block true = refl
+    same_block false = refl
+
+    block_of : (o : Option ℕ) → ((after_part_marks d.part (begin_of who t o)).session who).block ≡ (d.part.session who).block
+    block_of None = same_block (who == who)
+    block_of (Some u) = refl
+
+    single : (b : Block) → single_end who (Some t) b ≡ commit_of who t b
+    single outside = refl
+    single inside = refl
+    single failed = refl
+
+    marks_are : single_end who (taken.session who).txid (taken.session who).block ≡ commit_of who t (d.part.session who).block
+    marks_are =
+        ap (λ o. single_end who o (taken.session who).block) (ap (λ (x : RowPart). (x.session who).txid) begins ∙ txid_of (d.part.session who).txid refl id)
+        ∙ ap (single_end who (Some t)) (ap (λ (x : RowPart). (x.session who).block) begins ∙ block_of (d.part.session who).txid)
+        ∙ single (d.part.session who).block
+
+    joined : (o : Option ℕ) (b : Block) → record d { part = after_part_marks (after_part_marks d.part (begin_of who t o)) (commit_of who t b) } ≡ after_marks d (begin_of who t o ++ commit_of who t b)
+    joined None outside = refl
+    joined None inside = refl
+    joined None failed = refl
+    joined (Some u) outside = refl
+    joined (Some u) inside = refl
+    joined (Some u) failed = refl
+
+-- a statement's answers are those at each place of a history at which the database was as it was
+pub steps-given : (d s : Database) (time now : ℤ) (who : ℕ) (stmt : Stmt) (replies : List (ℕ × Reply)) → time ≡ now
+    → Gives d s replies (database_turn database_by_itself d time who stmt) → DatabaseSteps d s now who stmt replies
+steps-given d s time now who stmt replies at gives =
+    subst (λ t. DatabaseSteps d s t who stmt replies) at (database_steps_from_exact d s time who stmt replies gives.replied gives.changed)

@@ -1,0 +1,371 @@
+-- Only the session that makes a statement can begin to wait by it, so all that wait are sessions that there are.
+use Rattle.std.proofs.Common.{◌≡◌, ℕ, zero, suc, ℤ, ◌+◌, ◌<◌, ◌^◌, List, [], ◌∷◌, ◌++◌, Bool, true, false, not, ◌==◌, Option, Some, None, Ok, Err, option_map, length, is_some, nat_le, refl, sym, ◌∙◌, ap, subst, arith, if◌then◌else◌}
+use Rattle.std.specs.Prelude.{find, ◌||◌}
+use Rattle.std.proofs.lemmas.Bool.Decides.{nat_tests}
+use Rattle.std.proofs.lemmas.List.Elements.{All-cons, All-append, All-filter}
+use Rattle.sky_val.specs.declared.val.Val.{Val}
+use Rattle.sky_val.specs.Schemas.{schema_fault, row_fault, key_columns, key_of}
+use Rattle.sky_val.specs.Waits.{Waiting, other_holder, is_waiting}
+use Rattle.sky_names.specs.Places.{place_of}
+use Rattle.sky_txid.specs.SnapshotText.{parse_snapshot}
+use Rattle.sky_model.specs.declared.stmt.Attempt.{Attempt}
+use Rattle.sky_model.specs.declared.stmt.Attempt.TheVariants.{Insertion, Changes, Deletion}
+use Rattle.sky_model.specs.declared.stmt.Set.{Set}
+use Rattle.sky_model.specs.declared.stmt.RowStmt.TheVariants.{OpenDb, Close, Cancel, Begin, BeginRepeatableRead, Commit, Rollback, TxidCurrent, TxidCurrentSnapshot, TxidVisibleInSnapshot, CreateTable, Insert, Update, Delete, Get, Scan}
+use Rattle.sky_model.specs.declared.stmt.Stmt.{Stmt}
+use Rattle.sky_model.specs.declared.stmt.Stmt.TheVariants.{Row, CreateQueue, InsertEvent, Ticker, ForceTick, RegisterConsumer, NextBatch, GetBatchEvents, FinishBatch}
+use Rattle.sky_model.specs.declared.reply.Reply.{Reply}
+use Rattle.sky_model.specs.declared.reply.Limit.TheVariants.{Tables, Queues, Consumers}
+use Rattle.sky_model.specs.declared.reply.Refusal.{Refusal}
+use Rattle.sky_model.specs.declared.reply.Refusal.TheVariants.{BadRow, BadSnapshot, Canceled, Deadlock, Duplicate, EventIdsSpent, IdsSpent, KeyChange, NoBatch, NoConsumer, NodeConsumer, NoQueue, NoTable, Serialize, TableExists, TooMany}
+use Rattle.sky_model.specs.History.{Batch, Mark, began, ended, block_begun, repeats, looked, block_failed, block_ended, tabled, table_made, wrote, waits, waited, queued, made, raised, put, ticked, registered, opened, closed}
+use Rattle.sky_model.specs.Consumers.{Subscription}
+use Rattle.sky_model.specs.Queues.{Tick, tick}
+use Rattle.sky_model.specs.Sessions.{Block, outside, inside, failed, Session}
+use Rattle.sky_model.specs.State.{RowPart, Database, after_mark, after_marks}
+use Rattle.sky_model.specs.ShownRows.{KeyShown}
+use Rattle.sky_model.specs.Outcome.{Outcome, Checked, ◌>>=◌, ◌>>◌, refused_if, found_or, refused_by, end_of, aborts, abort, settled}
+use Rattle.sky_model.specs.OwnTransaction.{txid_for, begin_of, commit_of}
+use Rattle.sky_model.specs.StepLocks.{ring, once_free}
+use Rattle.sky_model.specs.StepRows.{schema_refusal, bad_values, bad_sets, is_key_change, with_sets, writes_key, changes, some_row, attempts, row_or_none}
+use Rattle.sky_model.specs.StepSession.{begin, begin_repeatable_read, leaves, commit, rollback, close, cancel}
+use Rattle.sky_model.specs.StepQueue.{next_event_id, made_event, forced, newest_id, is_due}
+use Rattle.sky_model.specs.StepConsumer.{has_dot, opens_batch, takes_batch, finishes}
+use Rattle.sky_model.specs.Allowed.{where_of, allowed}
+use Rattle.sky_model.specs.Made.{takes_sight, looking, runs_if}
+use Rattle.sky_model.specs.Reader.{Shown, part_by_itself, database_by_itself, within_part, shown_by}
+use Rattle.sky_model.specs.Settling.{Turn, turn_of, behind_marks, ready, resumed, goes_on, settles, settling, with_settling}
+use Rattle.sky_model.specs.Calls.{form, making, statement, database_turn}
+use Rattle.sky_model.proofs.Resting.{is-ready, waiting-resumed, behind-append}
+use Rattle.sky_model.proofs.RowStanding.{behind-after, settling-part}
+use Rattle.sky_model.proofs.DatabaseStanding.{after_marks-append, behind-all, part-behind_all}
+use Rattle.sky_session.specs.Marks.{failure}
+use Rattle.pgq_db.specs.Waiters.{WaitersWithin, AnswersWithin, StaysWithin}
+use Rattle.pgq_db.specs.Gives.{Gives}
+
+-- none of the marks begins a wait of another session
+abbrev OwnWaits : ℕ → List Mark → Type 0
+OwnWaits who [] = Unit {0}
+OwnWaits who (tabled (waits w table key attempt) ∷ marks) = (w ≡ who) × OwnWaits who marks
+OwnWaits who (_ ∷ marks) = OwnWaits who marks
+
+abbrev Own : ℕ → Checked Outcome → Type 0
+Own who (Ok o) = OwnWaits who o.marks
+Own who (Err refusal) = Unit {0}
+
+test : (who : ℕ) (b : Bool) (refusal : Refusal) (c : Checked Outcome) → Own who c → Own who (refused_if b refusal >> c)
+test who true refusal c own = tt
+test who false refusal c own = own
+
+by_option : (who : ℕ) (o : Option Refusal) (c : Checked Outcome) → Own who c → Own who (refused_by o >> c)
+by_option who None c own = own
+by_option who (Some refusal) c own = tt
+
+found : {A : Type 0} (who : ℕ) (o : Option A) (refusal : Refusal) (c : A → Checked Outcome) → ((a : A) → Own who (c a)) → Own who (found_or o refusal >>= c)
+found who None refusal c own = tt
+found who (Some a) refusal c own = own a
+
+checked : {A : Type 0} (who : ℕ) (o : Checked A) (c : A → Checked Outcome) → ((a : A) → Own who (c a)) → Own who (o >>= c)
+checked who (Err refusal) c own = tt
+checked who (Ok a) c own = own a
+
+either : (who : ℕ) (b : Bool) (c e : Checked Outcome) → Own who c → Own who e → Own who (if b then c else e)
+either who true c e own also = own
+either who false c e own also = also
+
+-- what a session writes
+own-written : (who t : ℕ) (o : Option ℕ) (b : Block) (marks : List Mark) → OwnWaits who (marks ++ commit_of who t b) → OwnWaits who (begin_of who t o ++ marks ++ commit_of who t b)
+own-written who t None b marks own = own
+own-written who t (Some u) b marks own = own
+
+own-committed : (who t : ℕ) (b : Block) → OwnWaits who (commit_of who t b)
+own-committed who t outside = tt
+own-committed who t inside = tt
+own-committed who t failed = tt
+
+own-left : (committed : Bool) (who : ℕ) (txid : Option ℕ) → OwnWaits who (leaves committed who txid)
+own-left committed who None = tt
+own-left committed who (Some t) = tt
+
+own-writes : (d : RowPart) (who table : ℕ) (key : List Val) (old new : Option (List Val)) → Own who (writes_key d who table key old new)
+own-writes d who table key old new =
+    checked who (txid_for d who) _ (λ t. own-written who t (d.session who).txid (d.session who).block (tabled (wrote who t table key old new) ∷ [])
+    (own-committed who t (d.session who).block))
+
+own-once_free : (d : RowPart) (who table : ℕ) (key : List Val) (attempt : Attempt) (other : Option ℕ) (c : Checked Outcome) → Own who c → Own who (once_free d who table key attempt other c)
+own-once_free d who table key attempt None c own = own
+own-once_free d who table key attempt (Some v) c own = by_option who (option_map Deadlock (ring d who v)) _ (refl, tt)
+
+own-changes : (d : RowPart) (shown : KeyShown) (who table : ℕ) (key : List Val) (attempt : Attempt) (new_of : List Val → Checked (Option (List Val))) (row : Option (List Val))
+    → Own who (changes d shown who table key attempt new_of row)
+own-changes d shown who table key attempt new_of None = tt
+own-changes d shown who table key attempt new_of (Some row) =
+    own-once_free d who table key attempt (other_holder d.holder who table key) _
+    (by_option who (option_map Serialize shown.unseen) _ (checked who (new_of row) _ (λ new. own-writes d who table key (Some row) new)))
+
+own-attempts : (d : RowPart) (shown : KeyShown) (who table : ℕ) (key : List Val) (attempt : Attempt) → Own who (attempts d shown who table key attempt)
+own-attempts d shown who table key (Insertion row) =
+    own-once_free d who table key (Insertion row) (other_holder d.holder who table key) _
+    (test who (is_some shown.standing) Duplicate _ (own-writes d who table key None (Some row)))
+own-attempts d shown who table key (Changes sets) = own-changes d shown who table key (Changes sets) (λ row. some_row (with_sets (d.columns table) sets row)) shown.row
+own-attempts d shown who table key Deletion = own-changes d shown who table key Deletion (λ row. Ok None) shown.row
+
+own-row_or_none : (who : ℕ) (row : Option (List Val)) → Own who (row_or_none row)
+own-row_or_none who None = tt
+own-row_or_none who (Some row) = tt
+
+own-begin : (who : ℕ) (b : Block) → Own who (begin who b)
+own-begin who outside = tt
+own-begin who inside = tt
+own-begin who failed = tt
+
+own-repeats : (who : ℕ) (b : Block) → Own who (begin_repeatable_read who b)
+own-repeats who outside = tt
+own-repeats who inside = tt
+own-repeats who failed = tt
+
+own-commit : (who : ℕ) (txid : Option ℕ) (b : Block) → Own who (commit who txid b)
+own-commit who txid outside = tt
+own-commit who txid inside = own-left true who txid
+own-commit who txid failed = own-left false who txid
+
+own-rollback : (who : ℕ) (txid : Option ℕ) (b : Block) → Own who (rollback who txid b)
+own-rollback who txid outside = tt
+own-rollback who txid inside = own-left false who txid
+own-rollback who txid failed = own-left false who txid
+
+own-close : (who : ℕ) (txid : Option ℕ) (b : Block) → Own who (close who txid b)
+own-close who txid outside = tt
+own-close who txid inside = own-left false who txid
+own-close who txid failed = own-left false who txid
+
+own-failed : (who : ℕ) (o : Option ℕ) → OwnWaits who (end_of false who o ++ block_failed who ∷ [])
+own-failed who None = tt
+own-failed who (Some t) = tt
+
+own-failure : (who : ℕ) (o : Option ℕ) (b : Block) → OwnWaits who (failure who o b)
+own-failure who o outside = tt
+own-failure who o inside = own-failed who o
+own-failure who o failed = tt
+
+own-abort : (who : ℕ) (b : Block) (o : Option ℕ) (refusal : Refusal) → OwnWaits who (abort who b o refusal)
+own-abort who outside o refusal = tt
+own-abort who inside o refusal = by (aborts refusal)
+  where
+    by : (kind : Bool) → OwnWaits who (if kind then end_of false who o ++ block_failed who ∷ [] else [])
+    by true = own-failed who o
+    by false = tt
+own-abort who failed o refusal = tt
+
+own-cancel : (who : ℕ) (txid : Option ℕ) (b : Block) (is : Bool) → Own who (cancel who txid b is)
+own-cancel who txid b false = tt
+own-cancel who txid b true = own-abort who b txid Canceled
+
+-- what it does with queues
+own-opens : (d : Database) (who queue : ℕ) (consumer : List ℕ) (sub : Subscription) (next : Option Tick) → Own who (opens_batch d queue consumer sub next)
+own-opens d who queue consumer sub None = tt
+own-opens d who queue consumer sub (Some next) = test who (nat_le (2 ^ 64) (d.last_batch_id + 1)) IdsSpent _ tt
+
+own-takes : (d : Database) (who queue : ℕ) (consumer : List ℕ) (sub : Subscription) (active : Option ℕ) → Own who (takes_batch d queue consumer sub active)
+own-takes d who queue consumer sub (Some batch) = tt
+own-takes d who queue consumer sub None = own-opens d who queue consumer sub (tick (sub.position + 1) (d.queue queue).tick_list)
+
+own-finishes : (who : ℕ) (batch : Option Batch) → Own who (finishes batch)
+own-finishes who None = tt
+own-finishes who (Some batch) = tt
+
+own-made : (who t n : ℕ) (o : Option ℕ) (b : Block) (name : List ℕ) (now : ℤ) → OwnWaits who ((begin_of who t o ++ (queued (made name) ∷ []) ++ commit_of who t b) ++ queued (ticked n 1 now 0) ∷ [])
+own-made who t n None outside name now = tt
+own-made who t n None inside name now = tt
+own-made who t n None failed name now = tt
+own-made who t n (Some u) outside name now = tt
+own-made who t n (Some u) inside name now = tt
+own-made who t n (Some u) failed name now = tt
+
+own-form : (d : Database) (shown : Shown) (now : ℤ) (who : ℕ) (stmt : Stmt) → Own who (form d shown now who stmt)
+own-form d shown now who (Row (OpenDb name)) = tt
+own-form d shown now who (Row Close) = own-close who (d.part.session who).txid (d.part.session who).block
+own-form d shown now who (Row Cancel) = own-cancel who (d.part.session who).txid (d.part.session who).block (is_waiting who d.part.waiting)
+own-form d shown now who (Row Begin) = own-begin who (d.part.session who).block
+own-form d shown now who (Row BeginRepeatableRead) = own-repeats who (d.part.session who).block
+own-form d shown now who (Row Commit) = own-commit who (d.part.session who).txid (d.part.session who).block
+own-form d shown now who (Row Rollback) = own-rollback who (d.part.session who).txid (d.part.session who).block
+own-form d shown now who (Row TxidCurrent) =
+    checked who (txid_for d.part who) _ (λ t. own-written who t (d.part.session who).txid (d.part.session who).block [] (own-committed who t (d.part.session who).block))
+own-form d shown now who (Row TxidCurrentSnapshot) = tt
+own-form d shown now who (Row (TxidVisibleInSnapshot txid snapshot)) = found who (parse_snapshot snapshot) BadSnapshot _ (λ s. tt)
+own-form d shown now who (Row (CreateTable name columns)) =
+    test who (is_some (place_of name d.part.tables)) (TableExists name) _ (test who (nat_le 64 (length d.part.tables)) (TooMany Tables) _
+    (by_option who (option_map (schema_refusal columns) (schema_fault columns)) _ tt))
+own-form d shown now who (Row (Insert name row)) =
+    found who (place_of name d.part.tables) (NoTable name) _ (λ table. by_option who (option_map (bad_values (d.part.columns table)) (row_fault (d.part.columns table) row)) _
+    (own-attempts d.part (shown.rows.key who table (key_of (d.part.columns table) row)) who table (key_of (d.part.columns table) row) (Insertion row)))
+own-form d shown now who (Row (Update name key sets)) =
+    found who (place_of name d.part.tables) (NoTable name) _ (λ table. by_option who (option_map (bad_values (key_columns (d.part.columns table))) (row_fault (key_columns (d.part.columns table)) key)) _
+    (by_option who (option_map BadRow (bad_sets (d.part.columns table) [] sets)) _
+    (by_option who (option_map (λ (set : Set). KeyChange set.column) (find (is_key_change (d.part.columns table)) sets)) _
+    (own-attempts d.part (shown.rows.key who table key) who table key (Changes sets)))))
+own-form d shown now who (Row (Delete name key)) =
+    found who (place_of name d.part.tables) (NoTable name) _ (λ table. by_option who (option_map (bad_values (key_columns (d.part.columns table))) (row_fault (key_columns (d.part.columns table)) key)) _
+    (own-attempts d.part (shown.rows.key who table key) who table key Deletion))
+own-form d shown now who (Row (Get name key)) =
+    found who (place_of name d.part.tables) (NoTable name) _ (λ table. by_option who (option_map (bad_values (key_columns (d.part.columns table))) (row_fault (key_columns (d.part.columns table)) key)) _
+    (own-row_or_none who (shown.rows.key who table key).row))
+own-form d shown now who (Row (Scan name)) = found who (place_of name d.part.tables) (NoTable name) _ (λ table. tt)
+own-form d shown now who (CreateQueue name) =
+    either who (is_some (place_of name d.names)) _ _ tt (test who (nat_le 64 (length d.names)) (TooMany Queues) _
+    (checked who (txid_for d.part who) _ (λ t. own-made who t (length d.names) (d.part.session who).txid (d.part.session who).block name now)))
+own-form d shown now who (InsertEvent name ev_type ev_data extra) =
+    found who (place_of name d.names) (NoQueue name) _ (λ queue. checked who (txid_for d.part who) _ (λ t. checked who (next_event_id (d.queue queue)) _ (λ id.
+    own-written who t (d.part.session who).txid (d.part.session who).block
+    (queued (raised queue id) ∷ queued (put queue (made_event id now t ev_type ev_data extra)) ∷ []) (own-committed who t (d.part.session who).block))))
+own-form d shown now who (Ticker name) =
+    found who (place_of name d.names) (NoQueue name) _ (λ queue. either who (is_due now (d.queue queue)) _ _ (test who (nat_le (2 ^ 64) (newest_id (d.queue queue) + 1)) IdsSpent _ tt) tt)
+own-form d shown now who (ForceTick name) =
+    found who (place_of name d.names) (NoQueue name) _ (λ queue. test who (nat_le (2 ^ 62) ((d.queue queue).seq + forced (d.queue queue).config)) EventIdsSpent _ tt)
+own-form d shown now who (RegisterConsumer name consumer) =
+    found who (place_of name d.names) (NoQueue name) _ (λ queue. test who (has_dot consumer) NodeConsumer _ (either who (is_some ((d.queue queue).sub consumer)) _ _ tt
+    (test who (nat_le 256 (length (d.queue queue).members)) (TooMany Consumers) _ (test who (nat_le (2 ^ 64) (d.last_sub_id + 1)) IdsSpent _ tt))))
+own-form d shown now who (NextBatch name consumer) =
+    found who (place_of name d.names) (NoQueue name) _ (λ queue. test who (has_dot consumer) NodeConsumer _ (found who ((d.queue queue).sub consumer) (NoConsumer consumer) _ (λ sub.
+    own-takes d who queue consumer sub sub.active)))
+own-form d shown now who (GetBatchEvents batch) = found who (d.batch batch) NoBatch _ (λ b. tt)
+own-form d shown now who (FinishBatch batch) = own-finishes who (d.batch batch)
+
+own-settled : (who : ℕ) (s : Session) (c : Checked Outcome) → Own who c → OwnWaits who (settled who s c).marks
+own-settled who s (Ok o) own = own
+own-settled who s (Err refusal) own = own-abort who s.block s.txid refusal
+
+own-runs : (d : Database) (now : ℤ) (who : ℕ) (stmt : Stmt) (may : Checked (Unit {0})) → OwnWaits who (runs_if (making database_by_itself now who stmt) (where_of stmt) who d may).marks
+own-runs d now who stmt (Err refusal) = own-abort who (d.part.session who).block (d.part.session who).txid refusal
+own-runs d now who stmt (Ok _) = of (takes_sight (where_of stmt) (d.part.session who).sight)
+  where
+    behind : Database
+    behind = after_mark d (looked who)
+
+    of : (b : Bool) → OwnWaits who (if b then looking who (settled who (behind.part.session who) (form behind (shown_by behind) now who stmt))
+        else settled who (d.part.session who) (form d (shown_by d) now who stmt)).marks
+    of true = own-settled who (behind.part.session who) (form behind (shown_by behind) now who stmt) (own-form behind (shown_by behind) now who stmt)
+    of false = own-settled who (d.part.session who) (form d (shown_by d) now who stmt) (own-form d (shown_by d) now who stmt)
+
+own-statement : (d : Database) (now : ℤ) (who : ℕ) (stmt : Stmt) → OwnWaits who (statement database_by_itself d now who stmt).marks
+own-statement d now who stmt = own-runs d now who stmt (allowed (is_waiting who d.part.waiting) (d.part.session who).block (where_of stmt))
+
+-- ---- so they are of as many as there are sessions
+
+abbrev IsWithin : ℕ → Waiting → Type 0
+IsWithin count w = w.who < count
+
+abbrev IsKnown : ℕ → ℕ × Reply → Type 0
+IsKnown count answer = answer.0 < count
+
+within-behind : (count who : ℕ) → who < count → (d : Database) (marks : List Mark) → OwnWaits who marks → WaitersWithin count d.part.waiting → WaitersWithin count (after_marks d marks).part.waiting
+within-behind count who lt d [] own within = within
+within-behind count who lt d (began v t ∷ marks) own within = within-behind count who lt (after_mark d (began v t)) marks own within
+within-behind count who lt d (ended v t true ∷ marks) own within = within-behind count who lt (after_mark d (ended v t true)) marks own within
+within-behind count who lt d (ended v t false ∷ marks) own within = within-behind count who lt (after_mark d (ended v t false)) marks own within
+within-behind count who lt d (block_begun v ∷ marks) own within = within-behind count who lt (after_mark d (block_begun v)) marks own within
+within-behind count who lt d (repeats v ∷ marks) own within = within-behind count who lt (after_mark d (repeats v)) marks own within
+within-behind count who lt d (looked v ∷ marks) own within = within-behind count who lt (after_mark d (looked v)) marks own within
+within-behind count who lt d (block_failed v ∷ marks) own within = within-behind count who lt (after_mark d (block_failed v)) marks own within
+within-behind count who lt d (block_ended v ∷ marks) own within = within-behind count who lt (after_mark d (block_ended v)) marks own within
+within-behind count who lt d (tabled (table_made name columns) ∷ marks) own within = within-behind count who lt (after_mark d (tabled (table_made name columns))) marks own within
+within-behind count who lt d (tabled (wrote v t table key old new) ∷ marks) own within = within-behind count who lt (after_mark d (tabled (wrote v t table key old new))) marks own within
+within-behind count who lt d (tabled (waits v table key attempt) ∷ marks) own within =
+    let of_it : OwnWaits who marks = own.1 in
+    within-behind count who lt (after_mark d (tabled (waits v table key attempt))) marks of_it
+    (All-append (IsWithin count) d.part.waiting (record { who = v; table = table; key = key } ∷ []) within
+    (All-cons (IsWithin count) (record { who = v; table = table; key = key }) [] (subst (λ n. n < count) (sym own.0) lt) (λ k w at. absurd (omega arith))))
+within-behind count who lt d (tabled (waited v) ∷ marks) own within =
+    within-behind count who lt (after_mark d (tabled (waited v))) marks own (All-filter (λ w. not (w.who == v)) (IsWithin count) d.part.waiting within)
+within-behind count who lt d (queued (made name) ∷ marks) own within = within-behind count who lt (after_mark d (queued (made name))) marks own within
+within-behind count who lt d (queued (raised q value) ∷ marks) own within = within-behind count who lt (after_mark d (queued (raised q value))) marks own within
+within-behind count who lt d (queued (put q event) ∷ marks) own within = within-behind count who lt (after_mark d (queued (put q event))) marks own within
+within-behind count who lt d (queued (ticked q id time seq) ∷ marks) own within = within-behind count who lt (after_mark d (queued (ticked q id time seq))) marks own within
+within-behind count who lt d (queued (registered q name sub t) ∷ marks) own within = within-behind count who lt (after_mark d (queued (registered q name sub t))) marks own within
+within-behind count who lt d (queued (opened batch) ∷ marks) own within = within-behind count who lt (after_mark d (queued (opened batch))) marks own within
+within-behind count who lt d (queued (closed batch) ∷ marks) own within = within-behind count who lt (after_mark d (queued (closed batch))) marks own within
+
+waiting-within : (count who : ℕ) (ws : List Waiting) → WaitersWithin count ws → is_waiting who ws ≡ true → who < count
+waiting-within count who [] within is = absurd (cc)
+waiting-within count who (w ∷ ws) within is = of (w.who == who) refl is (waiting-within count who ws (λ k x at. within (suc k) x (omega arith)))
+  where
+    of : (b : Bool) → (w.who == who) ≡ b → (b || is_waiting who ws) ≡ true → (is_waiting who ws ≡ true → who < count) → who < count
+    of true e also ih = let same : w.who ≡ who = grind (arith, nat_tests) in subst (λ n. n < count) same (within zero w (omega arith))
+    of false e also ih = ih also
+
+-- those who go on waited
+record GoOnWithin (count : ℕ) (d : RowPart) (turn : Turn) : Type 0 where
+  answers : AnswersWithin count turn.answers
+  waiting : WaitersWithin count (behind_marks part_by_itself d turn.marks).waiting
+
+settles-within : (count n : ℕ) (d : RowPart) → WaitersWithin count d.waiting → GoOnWithin count d (settles part_by_itself n d)
+settles-within count zero d within = record { answers = λ k a at. absurd (omega arith); waiting = within }
+settles-within count (suc n) d within = of (ready d) refl (settles-within count n)
+  where
+    of : (o : Option Waiting) → ready d ≡ o → ((e : RowPart) → WaitersWithin count e.waiting → GoOnWithin count e (settles part_by_itself n e))
+        → GoOnWithin count d (goes_on part_by_itself d (settles part_by_itself n) o)
+    of None e ih = record { answers = λ k a at. absurd (omega arith); waiting = within }
+    of (Some w) e ih =
+        let rest : GoOnWithin count (behind_marks part_by_itself d (resumed part_by_itself d w).marks) (settles part_by_itself n (behind_marks part_by_itself d (resumed part_by_itself d w).marks)) =
+        ih (behind_marks part_by_itself d (resumed part_by_itself d w).marks)
+        (subst (WaitersWithin count) (sym (waiting-resumed d w e)) (All-filter (λ x. not (x.who == w.who)) (IsWithin count) d.waiting within)) in
+        record {
+          answers = All-cons (IsKnown count) _ _ (waiting-within count w.who d.waiting within (is-ready d w e).there) rest.answers;
+          waiting = subst (λ (x : RowPart). WaitersWithin count x.waiting)
+              (sym (behind-append d (resumed part_by_itself d w).marks (settles part_by_itself n (behind_marks part_by_itself d (resumed part_by_itself d w).marks)).marks)) rest.waiting;
+        }
+
+-- the sessions of a turn's answers are known, and so are those that wait behind it
+record TurnWithin (count : ℕ) (d : Database) (turn : Turn) : Type 0 where
+  answers : AnswersWithin count turn.answers
+  waiting : WaitersWithin count (after_marks d turn.marks).part.waiting
+
+settling-within : (count : ℕ) (d : Database) → WaitersWithin count d.part.waiting → TurnWithin count d (settling (within_part database_by_itself) d)
+settling-within count d within = subst (TurnWithin count d) (sym (settling-part d)) (record {
+  answers = gone.answers;
+  waiting = subst (λ (x : RowPart). WaitersWithin count x.waiting)
+      (behind-after d.part (settling part_by_itself d.part).marks ∙ sym (part-behind_all d (settling part_by_itself d.part).marks)) gone.waiting;
+})
+  where
+    gone : GoOnWithin count d.part (settling part_by_itself d.part)
+    gone = settles-within count (length d.part.waiting) d.part within
+
+-- what a session does itself, and then those that go on
+then-within : (count : ℕ) (d : Database) (who : ℕ) (turn : Turn) → who < count → AnswersWithin count turn.answers → OwnWaits who turn.marks → WaitersWithin count d.part.waiting
+    → TurnWithin count d (with_settling (within_part database_by_itself) d turn)
+then-within count d who turn lt known own within = record {
+  answers = All-append (IsKnown count) turn.answers (settling (within_part database_by_itself) place).answers known later.answers;
+  waiting = subst (λ (x : Database). WaitersWithin count x.part.waiting)
+      (ap (λ x. after_marks x (settling (within_part database_by_itself) place).marks) (behind-all d turn.marks)
+      ∙ sym (after_marks-append d turn.marks (settling (within_part database_by_itself) place).marks)) later.waiting;
+}
+  where
+    place : Database
+    place = behind_marks (within_part database_by_itself) d turn.marks
+
+    later : TurnWithin count place (settling (within_part database_by_itself) place)
+    later = settling-within count place
+        (subst (λ (x : Database). WaitersWithin count x.part.waiting) (sym (behind-all d turn.marks)) (within-behind count who lt d turn.marks own within))
+
+gives-within : (d s : Database) (who : ℕ) (turn : Turn) (replies : List (ℕ × Reply)) → ((count : ℕ) → who < count → AnswersWithin count turn.answers) → OwnWaits who turn.marks
+    → Gives d s replies (with_settling (within_part database_by_itself) d turn) → StaysWithin d s who replies
+gives-within d s who turn replies known own gives = record {
+  answers = λ count lt within. subst (AnswersWithin count) (sym gives.replied) (then-within count d who turn lt (known count lt) own within).answers;
+  waiters = λ count lt within. subst (λ (x : Database). WaitersWithin count x.part.waiting) (sym gives.changed) (then-within count d who turn lt (known count lt) own within).waiting;
+}
+
+-- a statement
+pub statement-within : (d s : Database) (now : ℤ) (who : ℕ) (stmt : Stmt) (replies : List (ℕ × Reply)) → Gives d s replies (database_turn database_by_itself d now who stmt)
+    → StaysWithin d s who replies
+statement-within d s now who stmt replies =
+    gives-within d s who (turn_of who (statement database_by_itself d now who stmt)) replies
+    (λ count lt. All-cons (IsKnown count) _ [] lt (λ k a at. absurd (omega arith))) (own-statement d now who stmt)
+
+-- and a failure
+pub failure-within : (d s : Database) (who : ℕ) (replies : List (ℕ × Reply))
+    → Gives d s replies (with_settling (within_part database_by_itself) d (record { answers = []; marks = failure who (d.part.session who).txid (d.part.session who).block }))
+    → StaysWithin d s who replies
+failure-within d s who replies =
+    gives-within d s who (record { answers = []; marks = failure who (d.part.session who).txid (d.part.session who).block }) replies
+    (λ count lt k a at. absurd (omega arith)) (own-failure who (d.part.session who).txid (d.part.session who).block)

@@ -1,0 +1,11 @@
+use Rattle.std.proofs.Common.{◌≡◌, ◌<◌, length, sym, subst, arith}
+use Rattle.sky_names.proofs.PlaceLemmas.{place_of_within}
+use Rattle.pgq_db.specs.Views.{DbView}
+use Rattle.pgq_db.proofs.db.Db.number.Goals as goal
+
+pub returns-clause-within : goal.returns-clause-within
+returns-clause-within c =
+    let within : c.in_ok-number.number < length c.self.inside.names = place_of_within _ _ _ (sym c.in_ok-number.ensures) in
+    let same : length c.self.inside.queues.items ≡ length c.self.inside.names = c.self.invariant.0 in
+    let inside : c.in_ok-number.number < length c.self.inside.queues.items = omega arith in
+    subst (λ (v : DbView). c.in_ok-number.number < length v.queues) c.self.view_is inside

@@ -1,0 +1,20 @@
+use Rattle.std.proofs.Common.{subst, w64, if◌then◌else◌}
+use Rattle.sky_model.specs.declared.stmt.Where.TheVariants.{WhenReading, WhenOutside}
+use Rattle.std.proofs.lemmas.Int.{to_z-of_z}
+use Rattle.sky_session.specs.Gives.{Enters}
+use Rattle.pgq_db.specs.Seen.{seen_database}
+use Rattle.pgq_db.proofs.Databases.{gives-entered, gives-turned_away}
+use Rattle.pgq_db.proofs.db.Db.run_or_refuse.Goals as goal
+
+pub returns-in_ok-reply-in-None-clause-gives : goal.returns-in_ok-reply-in-None-clause-gives
+returns-in_ok-reply-in-None-clause-gives c =
+    gives-entered (seen_database c.args.self.now) (seen_database c.enter.new.self) _ _ c.args.now c.args.who c.args.stmt.now _ _
+    (to_z-of_z w64 c.args.now c.ranges.now) c.is_outside.ensures
+    (subst (λ o. Enters (seen_database c.args.self.now).part (seen_database c.enter.new.self).part c.args.who (if c.is_outside.result then WhenOutside else WhenReading) o) c.in-None.is c.in_ok-enter.ensures.enters)
+    c.in_ok-enter.ensures.but c.in_ok-reply-in-None.ensures.gives
+
+pub returns-in_ok-reply-in-Some-clause-gives : goal.returns-in_ok-reply-in-Some-clause-gives
+returns-in_ok-reply-in-Some-clause-gives c =
+    gives-turned_away (seen_database c.args.self.now) (seen_database c.enter.new.self) _ c.args.now c.args.who c.args.stmt.now _ _ c.in-Some.refusal c.is_outside.ensures
+    (subst (λ o. Enters (seen_database c.args.self.now).part (seen_database c.enter.new.self).part c.args.who (if c.is_outside.result then WhenOutside else WhenReading) o) c.in-Some.is c.in_ok-enter.ensures.enters)
+    c.in_ok-enter.ensures.but c.in_ok-reply-in-Some.ensures.reply c.in_ok-reply-in-Some.ensures.marks

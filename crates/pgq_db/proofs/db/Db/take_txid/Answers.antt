@@ -1,0 +1,24 @@
+use Rattle.std.proofs.Common.{◌≡◌, ◌++◌, subst}
+use Rattle.sky_model.specs.State.{after_marks}
+use Rattle.sky_model.specs.OwnTransaction.{begin_of, commit_of}
+use Rattle.sky_session.specs.Seen.{seen}
+use Rattle.pgq_db.specs.Views.{DbView}
+use Rattle.pgq_db.specs.Seen.{seen_database}
+use Rattle.pgq_db.proofs.Databases.{took}
+use Rattle.pgq_db.proofs.db.Db.take_txid.Goals as goal
+
+pub returns-in-Ok-clause-marks : goal.returns-in-Ok-clause-marks
+returns-in-Ok-clause-marks c =
+    let left : DbView = record {
+      rows = c.end_single.new.self;
+      last_batch_id = c.self.inside.last_batch_id;
+      last_sub_id = c.self.inside.last_sub_id;
+      names = c.self.inside.names;
+      queues = c.self.inside.queues.items;
+      batches = c.self.inside.batches.entries;
+      undone = c.self.inside.undone.keys;
+    } in
+    let begun : DbView = record left { rows = c.self.inside.rows } in
+    subst (λ (v : DbView). seen_database left ≡ after_marks (seen_database v)
+    (begin_of c.args.who c.in-Ok.txid ((seen_database v).part.session c.args.who).txid ++ commit_of c.args.who c.in-Ok.txid ((seen_database v).part.session c.args.who).block)) c.self.view_is
+    (took (seen_database begun) (seen c.take_txid.new.self) (seen c.end_single.new.self) c.args.who c.in-Ok.txid c.in-Ok.ensures.id c.in-Ok.ensures.marks c.end_single.ensures)

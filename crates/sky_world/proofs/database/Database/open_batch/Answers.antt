@@ -1,5 +1,0 @@
-use Rattle.sky_world.proofs.Databases.{opened-as}
-use Rattle.sky_world.proofs.database.Database.open_batch.Goals as goal
-
-pub returns : goal.returns
-returns c = opened-as _ _ _ c.args.id c.args.batch c.give_batch.ensures.queue c.in_ok-note_batch.ensures

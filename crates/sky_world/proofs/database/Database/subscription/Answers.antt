@@ -1,6 +1,0 @@
-use Rattle.std.proofs.Common.{ap, ◌∙◌}
-use Rattle.sky_model.specs.State.{Queue}
-use Rattle.sky_world.proofs.database.Database.subscription.Goals as goal
-
-pub returns : goal.returns
-returns c = c.subscription.ensures ∙ ap (λ (q : Queue). q.sub c.args.consumer.now) c.queue.ensures

@@ -1,5 +1,0 @@
-use Rattle.sky_world.proofs.Databases.{undone-as}
-use Rattle.sky_world.proofs.database.Database.undo.Goals as goal
-
-pub returns : goal.returns
-returns c = undone-as _ _ c.insert.new.self.keys c.args.txid c.self.view_is c.in_ok-insert.ensures.updates.0

@@ -1,8 +1,0 @@
-use Rattle.std.proofs.Common.{arith}
-use Rattle.sky_world.proofs.Databases.{undone-at}
-use Rattle.sky_world.proofs.database.Database.undo_aborted.Goals as goal
-
-pub loop-effect-preserved : goal.loop-effect-preserved
-loop-effect-preserved c =
-    undone-at _ _ _ _ c.args.effects.now c.loop-effect.effect-index _ c.in_ok-note.ensures c.as_slice-effect-items.ensures (omega (arith, c.loop-effect-test.true)) c.effect-item.is
-    c.loop-effect.invariant

@@ -1,8 +1,0 @@
-use Rattle.std.proofs.Common.{refl}
-use Rattle.sky_world.specs.Subs.{standing}
-use Rattle.sky_model.specs.State.{at_position}
-use Rattle.sky_world.proofs.SubLists.{seen-with}
-use Rattle.sky_world.proofs.queue.Queue.close_batch.Goals as goal
-
-pub returns : goal.returns
-returns c = seen-with _ _ _ _ (standing c.args.position) (at_position c.args.position) (λ s. refl) c.self.view_is c.close_batch.ensures.consumers c.close_batch.ensures.sub
