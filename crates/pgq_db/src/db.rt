@@ -217,7 +217,11 @@ impl Db {
     }
 
     /// Runs a statement on rows, and those that it lets go on.
-    pub(crate) fn step_rows(&mut self, who: SessionId, stmt: &RowStmt) -> Result<Replies, AllocError>
+    pub(crate) fn step_rows(
+        &mut self,
+        who: SessionId,
+        stmt: &RowStmt,
+    ) -> Result<Replies, AllocError>
         ensures gives { IfOk result (λ replies. Gives (seen_database self.old) (seen_database self.new) replies (row_turn part_by_itself (seen_database self.old).part who stmt.now)) }
         ensures rests { OnOk result (ready (seen_database self.new).part ≡ None) }
         ensures moments { IfOk result HaveMoments }

@@ -90,7 +90,7 @@ impl Db {
         ensures moments { IfOk result HaveMoments }
     {
         let reply = self.run_or_refuse(now, who, stmt)?;
-        let mut replies = one_reply(self.alloc(), who, reply)?;
+        let mut replies = Replies::one(self.alloc(), who, reply)?;
         let resumed = self.settle()?;
         replies.append(resumed)?;
         Ok(replies)
@@ -419,12 +419,4 @@ fn is_outside(stmt: &Stmt) -> bool
     ensures { (if result then WhenOutside else WhenReading) ≡ where_of stmt.now }
 {
     !matches!(stmt, Stmt::InsertEvent { .. })
-}
-
-fn one_reply(alloc: Global, who: SessionId, reply: Reply) -> Result<Replies, AllocError>
-    ensures { IfOk result (λ replies. replies ≡ (who, reply) ∷ []) }
-{
-    let mut replies = Replies::new(alloc);
-    replies.push(who, reply)?;
-    Ok(replies)
 }

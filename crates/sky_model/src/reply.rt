@@ -335,9 +335,9 @@ impl Replies {
     pub fn one(alloc: Global, session: SessionId, reply: Reply) -> Result<Replies, AllocError>
         ensures { IfOk result (λ replies. replies ≡ (session, reply) ∷ []) }
     {
-        let mut replies = Replies::new(alloc);
-        replies.push(session, reply)?;
-        Ok(replies)
+        let mut items = Vec::with_capacity(alloc, 1)?;
+        items.push((session, reply))?;
+        Ok(Replies { items })
     }
 
     /// One more answer, at the end.

@@ -130,18 +130,11 @@ impl World {
     {
         let who = self.session_count();
         if who >= MAX_SESSIONS {
-            return self.one_reply(who, Reply::Refused(Refusal::TooMany(Limit::Sessions)));
+            let refused = Reply::Refused(Refusal::TooMany(Limit::Sessions));
+            return Replies::one(self.alloc, who, refused);
         }
         self.appear(name)?;
         let replies = self.run(who, stmt)?;
-        Ok(replies)
-    }
-
-    fn one_reply(&self, who: SessionId, reply: Reply) -> Result<Replies, AllocError>
-        ensures { IfOk result (λ replies. replies ≡ (who, reply) ∷ []) }
-    {
-        let mut replies = Replies::new(self.alloc);
-        replies.push(who, reply)?;
         Ok(replies)
     }
 
@@ -189,7 +182,7 @@ impl World {
             Some(database) => self.run_in(database, who, stmt),
             None => {
                 let reply = self.run_unopened(who, stmt)?;
-                self.one_reply(who, reply)
+                Replies::one(self.alloc, who, reply)
             }
         }
     }
