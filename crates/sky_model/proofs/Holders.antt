@@ -19,11 +19,11 @@ use Rattle.sky_model.proofs.Legal.{Fine, begins, ends, begins_block, fails_block
 use Rattle.sky_model.proofs.Snapshots.{sound}
 use Rattle.sky_model.proofs.RowKeys.{begun}
 
-turned : (x y : List Val) → eq_by_cmp key_cmp x y ≡ eq_by_cmp key_cmp y x
+pub turned : (x y : List Val) → eq_by_cmp key_cmp x y ≡ eq_by_cmp key_cmp y x
 turned x y = (eq_by_cmp_equiv key_cmp-IsTotalOrder).symm x y
 
 -- one write more
-has_written-push : (key : List Val) (ws : List Write) (w : Write) → has_written key (ws ++ w ∷ []) ≡ (has_written key ws || eq_by_cmp key_cmp key w.key)
+pub has_written-push : (key : List Val) (ws : List Write) (w : Write) → has_written key (ws ++ w ∷ []) ≡ (has_written key ws || eq_by_cmp key_cmp key w.key)
 has_written-push key [] w = of (eq_by_cmp key_cmp key w.key)
   where
     of : (b : Bool) → (b || false) ≡ (false || b)

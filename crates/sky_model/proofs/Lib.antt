@@ -39,6 +39,8 @@ pub mod RowStanding
 pub mod DatabaseStanding
 pub mod Standing
 pub mod LockLaws
+pub mod WriteOrder
+mod WorkedWrites
 pub mod RowOutcomes
 pub mod Splitting
 pub mod Scripts

@@ -11,14 +11,11 @@ use Rattle.sky_model.specs.Queues.{events, ticks, newest_tick, at_tick}
 use Rattle.sky_model.specs.Batches.{by_id, is_for, batch_events}
 use Rattle.sky_model.specs.StepQueue.{id_of}
 use Rattle.sky_model.specs.LawsOfBatches.{stands_in, ListingsStay}
-use Rattle.sky_model.proofs.Legal.{Fine, puts, ticks_next, Legal, next}
+use Rattle.sky_model.proofs.Legal.{Fine, puts, ticks_next, Legal}
 use Rattle.sky_model.proofs.Snapshots.{own-unended, has_committed-ended}
-use Rattle.sky_model.proofs.SnapshotLaws.{legal-below_mark, legal-below, legal_place}
+use Rattle.sky_model.proofs.SnapshotLaws.{legal-below_mark, fine_mark, legal-below, legal_place}
 use Rattle.sky_model.proofs.TickOrder.{is_made, unmade_above, committed_since}
 use Rattle.sky_model.proofs.ActiveBatches.{or-right, IsActive, active_batches}
-
-fine_mark : {h : History} {mark : Mark} → Legal (mark ∷ h) → Fine h mark
-fine_mark (next l f) = f
 
 -- a tick that is made stays
 made_since : (q id : ℕ) (later : List Mark) (p : History) → is_made q id p ≡ true → is_made q id (later ++ p) ≡ true

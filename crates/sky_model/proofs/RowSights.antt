@@ -35,7 +35,7 @@ pub legal-since : {k h : History} → Since k h → Legal h → Legal k
 legal-since here l = l
 legal-since (later since) (next l fine) = legal-since since l
 
-ended-behind : (h : History) (mark : Mark) (t : ℕ) → has_ended h t ≡ true → has_ended (mark ∷ h) t ≡ true
+pub ended-behind : (h : History) (mark : Mark) (t : ℕ) → has_ended h t ≡ true → has_ended (mark ∷ h) t ≡ true
 ended-behind h (ended who u c) t e = of (t == u) e
   where
     of : (b : Bool) → has_ended h t ≡ true → (b || has_ended h t) ≡ true

@@ -34,6 +34,7 @@ pub mod LawsOfSnapshots
 pub mod LawsOfRows
 pub mod LawsOfBatches
 pub mod LawsOfLocks
+pub mod LawsOfWrites
 pub mod Steps
 pub mod RowSteps
 pub mod DatabaseSteps

@@ -5,6 +5,7 @@ ghost use Rattle.sky_model.specs.LawsOfLines.{BadWordIsLeast};
 ghost use Rattle.sky_model.specs.LawsOfLocks.{DeadlocksAreRings, HoldersHaveWritten, NothingIsReady};
 ghost use Rattle.sky_model.specs.LawsOfRows.{RowsAreReadUnderSnapshots};
 ghost use Rattle.sky_model.specs.LawsOfSnapshots.{BatchesAreSelectedBySnapshots, SnapshotsSeeWhatHasEnded};
+ghost use Rattle.sky_model.specs.LawsOfWrites.{KeysAreWrittenInTurn, SnapshotsSeeEarlierWriters, WritesAndCommitsHaveOneOrder};
 
 /// The number of a line's bad word is the least such that no line of the grammar begins with the
 /// line's words up to it. So it does not depend on the order in which a reader tries the rows.
@@ -46,6 +47,17 @@ pub fn deadlocks_are_rings()
 /// After each call no statement waits for a key that nobody holds.
 pub fn nothing_is_ready()
     ensures { NothingIsReady }
+{}
+
+/// At each such place the writes of a key and the commits of the transactions that made them have one
+/// order: a transaction that writes a key hasn't ended, and each other one that has written it has; of one
+/// that hasn't rolled back and one that has committed, the one wrote the key before the other exactly
+/// where it committed before the other; and no snapshot sees a transaction without those that wrote a
+/// key before it.
+pub fn writes_and_commits_have_one_order()
+    ensures in_turn { KeysAreWrittenInTurn }
+    ensures order { WritesAndCommitsHaveOneOrder }
+    ensures seen { SnapshotsSeeEarlierWriters }
 {}
 
 /// At each such place the batches that a consumer has finished are of its queue and its subscription,

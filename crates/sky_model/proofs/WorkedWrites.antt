@@ -1,0 +1,81 @@
+-- Who writes a key in a worked run, by computation: the law on the order of writes speaks of something.
+use Rattle.std.proofs.Common.{◌≡◌, ℕ, pos, List, [], ◌∷◌, ◌++◌, Bool, true, false, refl, codes, map}
+use Rattle.sky_val.specs.declared.val.Val.TheVariants as value
+use Rattle.sky_val.specs.declared.column.ColKind.TheVariants as kind
+use Rattle.sky_val.specs.Waits.{is_waiting}
+use Rattle.sky_txid.specs.Snapshot.{sees}
+use Rattle.sky_model.specs.declared.stmt.Change.TheVariants.{To}
+use Rattle.sky_model.specs.declared.stmt.RowStmt.{RowStmt}
+use Rattle.sky_model.specs.declared.stmt.RowStmt.TheVariants.{OpenDb, Begin, Commit, Rollback, CreateTable, Insert, Update}
+use Rattle.sky_model.specs.declared.stmt.Stmt.TheVariants.{Row}
+use Rattle.sky_model.specs.History.{History}
+use Rattle.sky_model.specs.Transactions.{has_rolled_back, snapshot}
+use Rattle.sky_model.specs.Rows.{committed}
+use Rattle.sky_model.specs.Locks.{waiting}
+use Rattle.sky_model.specs.World.{history_in}
+use Rattle.sky_model.specs.Calls.{Call, past_of}
+use Rattle.sky_model.specs.LawsOfWrites.{writers, is_before}
+
+abbrev a : RowStmt → Call
+a stmt = record { who = codes "a"; stmt = Row stmt }
+
+abbrev b : RowStmt → Call
+b stmt = record { who = codes "b"; stmt = Row stmt }
+
+abbrev insert : ℕ → RowStmt
+insert key = Insert (codes "t") (value.Int (pos key) ∷ value.Int (pos 0) ∷ [])
+
+abbrev update : ℕ → ℕ → RowStmt
+update key n = Update (codes "t") (value.Int (pos key) ∷ []) (record { column = codes "n"; change = To (value.Int (pos n)) } ∷ [])
+
+-- transaction 3 inserts the key, 4 of `b` begins, 5 of `a` writes the key, and `b` waits for it; the last statement first
+abbrev run : List Call
+run = b (update 1 2) ∷ a (update 1 1) ∷ a Begin ∷ b (insert 2) ∷ b Begin ∷ b (OpenDb (codes "d")) ∷ a (insert 1)
+    ∷ a (CreateTable (codes "t") (record { name = codes "id"; kind = kind.Int; key = true } ∷ record { name = codes "n"; kind = kind.Int; key = false } ∷ []))
+    ∷ a (OpenDb (codes "d")) ∷ []
+
+abbrev then : List Call → History
+then calls = history_in (past_of (calls ++ run)) 0
+
+abbrev written : List Call → List ℕ
+written calls = writers 0 (value.Int (pos 1) ∷ []) (then calls)
+
+abbrev seen : List Call → List Bool
+seen calls = map (sees (snapshot (then calls))) (3 ∷ 4 ∷ 5 ∷ [])
+
+it_waits : is_waiting 1 (waiting (then [])) ≡ true
+it_waits = refl
+
+not_yet : written [] ≡ 3 ∷ 5 ∷ []
+not_yet = refl
+
+-- once `a` commits, `b` writes the key: behind 5, though its id is 4
+behind : written (a Commit ∷ []) ≡ 3 ∷ 5 ∷ 4 ∷ []
+behind = refl
+
+-- so they commit
+commits : committed (then (b Commit ∷ a Commit ∷ [])) ≡ 3 ∷ 5 ∷ 4 ∷ []
+commits = refl
+
+one_order : is_before 5 4 (written (b Commit ∷ a Commit ∷ [])) ≡ true
+one_order = refl
+
+-- and snapshots see 5 first
+first_none : seen [] ≡ true ∷ false ∷ false ∷ []
+first_none = refl
+
+then_one : seen (a Commit ∷ []) ≡ true ∷ false ∷ true ∷ []
+then_one = refl
+
+then_both : seen (b Commit ∷ a Commit ∷ []) ≡ true ∷ true ∷ true ∷ []
+then_both = refl
+
+-- had `a` rolled back, its write would stand first nevertheless
+rolled_back : written (b Commit ∷ a Rollback ∷ []) ≡ 3 ∷ 5 ∷ 4 ∷ []
+rolled_back = refl
+
+not_committed : committed (then (b Commit ∷ a Rollback ∷ [])) ≡ 3 ∷ 4 ∷ []
+not_committed = refl
+
+gone : has_rolled_back (then (b Commit ∷ a Rollback ∷ [])) 5 ≡ true
+gone = refl

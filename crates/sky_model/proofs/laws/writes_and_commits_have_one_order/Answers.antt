@@ -1,0 +1,11 @@
+use Rattle.sky_model.proofs.WriteOrder as law
+use Rattle.sky_model.proofs.laws.writes_and_commits_have_one_order.Goals as goal
+
+pub returns-clause-in_turn : goal.returns-clause-in_turn
+returns-clause-in_turn c = law.keys_are_written_in_turn
+
+pub returns-clause-order : goal.returns-clause-order
+returns-clause-order c = law.writes_and_commits_have_one_order
+
+pub returns-clause-seen : goal.returns-clause-seen
+returns-clause-seen c = law.snapshots_see_earlier_writers

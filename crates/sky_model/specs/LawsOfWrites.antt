@@ -1,0 +1,39 @@
+-- The laws on the order in which transactions write a key, at each place of each history that calls make.
+use Rattle.std.specs.Prelude.{◌≡◌, ◌≢◌, ℕ, List, [], ◌∷◌, ◌++◌, Bool, true, false, ◌&&◌, ◌||◌, ◌==◌, Option, if◌then◌else◌}
+use Rattle.sky_val.specs.declared.val.Val.{Val}
+use Rattle.sky_val.specs.Waits.{is_same_key}
+use Rattle.sky_txid.specs.Ids.{contains}
+use Rattle.sky_txid.specs.Snapshot.{sees}
+use Rattle.sky_model.specs.History.{Mark, tabled, wrote, History}
+use Rattle.sky_model.specs.Transactions.{has_ended, has_committed, has_rolled_back, snapshot}
+use Rattle.sky_model.specs.Rows.{committed, writes, has_written}
+use Rattle.sky_model.specs.HistoryPlaces.{IsPlace}
+
+-- the transactions that wrote a key, one for each write, in order
+abbrev pub writers : ℕ → List Val → History → List ℕ
+writers table key [] = []
+writers table key (tabled (wrote who t n k old new) ∷ h) = if is_same_key n k table key then writers table key h ++ t ∷ [] else writers table key h
+writers table key (_ ∷ h) = writers table key h
+
+-- whether in a list a transaction stands somewhere before another one
+abbrev pub is_before : ℕ → ℕ → List ℕ → Bool
+is_before t u [] = false
+is_before t u (v ∷ vs) = (t == v && contains u vs) || is_before t u vs
+
+-- transactions write a key in turn: the one that writes it hasn't ended, and each other one that has written it has
+abbrev pub KeysAreWrittenInTurn : Type 0
+KeysAreWrittenInTurn = (p : History) (who u table : ℕ) (key : List Val) (old new : Option (List Val)) → IsPlace (tabled (wrote who u table key old new) ∷ p)
+    → (has_ended p u ≡ false) × ((t : ℕ) → t ≢ u → has_written key (writes table t p) ≡ true → has_ended p t ≡ true)
+
+-- of two transactions that have written a key, one that hasn't rolled back and one that has committed, the one wrote the
+-- key before the other exactly where it committed before the other
+abbrev pub WritesAndCommitsHaveOneOrder : Type 0
+WritesAndCommitsHaveOneOrder = (p : History) → IsPlace p → (table : ℕ) (key : List Val) (t u : ℕ) → t ≢ u
+    → has_written key (writes table t p) ≡ true → has_rolled_back p t ≡ false → has_written key (writes table u p) ≡ true → has_committed p u ≡ true
+    → is_before t u (writers table key p) ≡ is_before t u (committed p)
+
+-- where a transaction wrote a key before another one, no snapshot, of this place or of an earlier one, sees the other
+-- one without it
+abbrev pub SnapshotsSeeEarlierWriters : Type 0
+SnapshotsSeeEarlierWriters = (later : List Mark) (p : History) → IsPlace (later ++ p) → (table : ℕ) (key : List Val) (t u : ℕ)
+    → is_before t u (writers table key (later ++ p)) ≡ true → sees (snapshot p) u ≡ true → sees (snapshot p) t ≡ true
