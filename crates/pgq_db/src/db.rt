@@ -201,7 +201,7 @@ impl Db {
     }
 
     /// Rolls back the session's block, which stays aborted, and runs what this lets go on. Where it is in none, or that
-    /// is aborted, nothing is rolled back.
+    /// is aborted, nothing is rolled back. The moment is for the events of what goes on, and none makes one yet.
     pub fn fail(&mut self, who: SessionId, now: i64) -> Result<Replies, NoMemory>
         ensures exact { let d = seen_database self.old in
             let marks = failure who (d.part.session who).txid (d.part.session who).block in
@@ -217,7 +217,11 @@ impl Db {
     }
 
     /// Runs a statement on rows, and those that it lets go on.
-    pub(crate) fn step_rows(&mut self, who: SessionId, stmt: &RowStmt) -> Result<Replies, AllocError>
+    pub(crate) fn step_rows(
+        &mut self,
+        who: SessionId,
+        stmt: &RowStmt,
+    ) -> Result<Replies, AllocError>
         ensures gives { IfOk result (λ replies. Gives (seen_database self.old) (seen_database self.new) replies (row_turn part_by_itself (seen_database self.old).part who stmt.now)) }
         ensures rests { OnOk result (ready (seen_database self.new).part ≡ None) }
         ensures moments { IfOk result HaveMoments }
