@@ -201,7 +201,7 @@ impl Db {
     }
 
     /// Rolls back the session's block, which stays aborted, and runs what this lets go on. Where it is in none, or that
-    /// is aborted, nothing is rolled back.
+    /// is aborted, nothing is rolled back. The moment is for the events of what goes on, and none makes one yet.
     pub fn fail(&mut self, who: SessionId, now: i64) -> Result<Replies, NoMemory>
         ensures exact { let d = seen_database self.old in
             let marks = failure who (d.part.session who).txid (d.part.session who).block in
