@@ -29,7 +29,7 @@ use crate::batch::Batch;
 use crate::db::Db;
 use crate::subscription::Subscription;
 use crate::ticks::{MAX_COUNT, Tick};
-use sky_model::{Events, Extra, Limit, Refusal, Replies, Reply, Stmt, Stop};
+use sky_model::{BoxedExtra, Events, Limit, Refusal, Replies, Reply, Stmt, Stop};
 use sky_val::{Event, NoMemory, SessionId, Text, copy_option};
 use std::alloc::{AllocError, Global};
 
@@ -226,7 +226,7 @@ impl Db {
         name: &Text,
         ev_type: &Option<Text>,
         ev_data: &Option<Text>,
-        extra: &Option<Extra>,
+        extra: &Option<BoxedExtra>,
     ) -> Result<Reply, Stop>
         requires time { IsTime now }
         ensures { Ran self.old self.new result (insert_event (seen_database self.old) now who name.now ev_type.now ev_data.now extra.now) }
@@ -387,7 +387,7 @@ fn made_event(
     txid: u64,
     ev_type: &Option<Text>,
     ev_data: &Option<Text>,
-    extra: &Option<Extra>,
+    extra: &Option<BoxedExtra>,
 ) -> Result<Event, AllocError>
     ensures { IfOk result (λ event. event ≡ made_event id now txid ev_type.now ev_data.now extra.now) }
 {
@@ -405,6 +405,7 @@ fn made_event(
         ev_extra4: None,
     };
     if let Some(extra) = extra {
+        let extra = extra.as_extra();
         event.ev_extra1 = copy_option(alloc, &extra.ev_extra1)?;
         event.ev_extra2 = copy_option(alloc, &extra.ev_extra2)?;
         event.ev_extra3 = copy_option(alloc, &extra.ev_extra3)?;

@@ -13,6 +13,37 @@ pub struct Extra {
     pub ev_extra4: Option<Text>,
 }
 
+/// The same in one word, so that a statement is small, since most events have none of these.
+#[derive(Debug, Drop)]
+pub struct BoxedExtra {
+    extra: Box<Extra>,
+}
+
+impl Model for BoxedExtra {
+    ghost use Rattle.sky_model.specs.declared.stmt.Extra.{Extra};
+
+    ghost Value = { Extra };
+
+    ghost view = { λ boxed. boxed.extra.value };
+}
+
+impl BoxedExtra {
+    /// The same texts.
+    pub fn new(alloc: Global, extra: Extra) -> Result<BoxedExtra, NoMemory>
+        ensures { IfOk result (λ boxed. boxed ≡ extra) }
+    {
+        let extra = Box::new(alloc, extra)?;
+        Ok(BoxedExtra { extra })
+    }
+
+    /// The texts.
+    pub fn as_extra(&self) -> &Extra
+        ensures { result.now ≡ self.now }
+    {
+        &self.extra
+    }
+}
+
 /// Where a statement may stand.
 #[derive(Clone, Copy, Debug, PartialEq, Eq)]
 pub enum Where {
@@ -246,7 +277,7 @@ pub enum Stmt {
         queue: Text,
         ev_type: Option<Text>,
         ev_data: Option<Text>,
-        extra: Option<Extra>,
+        extra: Option<BoxedExtra>,
     },
     /// `ticker NAME`
     Ticker {

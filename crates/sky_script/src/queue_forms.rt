@@ -8,7 +8,7 @@ ghost use Rattle.sky_script.specs.Reading.{Answers};
 
 use crate::cause::LineCause;
 use crate::words::Words;
-use sky_model::{Extra, Stmt};
+use sky_model::{BoxedExtra, Extra, Stmt};
 use std::alloc::Global;
 
 pub(crate) fn create_queue(alloc: Global, words: &mut Words) -> Result<Stmt, LineCause>
@@ -38,17 +38,18 @@ pub(crate) fn insert_event(alloc: Global, words: &mut Words) -> Result<Stmt, Lin
     let ev_extra3 = words.opt_text(alloc)?;
     let ev_extra4 = words.opt_text(alloc)?;
     words.end()?;
-    let extra = Some(Extra {
+    let extra = Extra {
         ev_extra1,
         ev_extra2,
         ev_extra3,
         ev_extra4,
-    });
+    };
+    let extra = BoxedExtra::new(alloc, extra)?;
     Ok(Stmt::InsertEvent {
         queue,
         ev_type,
         ev_data,
-        extra,
+        extra: Some(extra),
     })
 }
 

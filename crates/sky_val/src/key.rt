@@ -135,7 +135,7 @@ impl Ord for Key {
 
     ghost matches_eq = { key_eq-ties };
 
-    #[inline]
+    #[inline(always)]
     fn cmp(&self, other: &Key) -> Ordering {
         match (&self.values, &other.values) {
             (KeyValues::One(value), KeyValues::One(other)) => value.cmp(other),

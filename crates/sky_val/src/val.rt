@@ -91,7 +91,7 @@ impl Ord for Val {
 
     ghost matches_eq = { val_eq-ties };
 
-    #[inline]
+    #[inline(always)]
     fn cmp(&self, other: &Val) -> Ordering {
         match (self, other) {
             (Val::Null, Val::Null) => Ordering::Equal,
