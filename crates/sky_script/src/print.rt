@@ -238,7 +238,11 @@ mod tests {
             return Err(AllocError);
         };
         let column = name.copy(alloc)?;
-        let values = vec![in alloc; Val::Int(i64::MIN), Val::Null, Val::Text(BoxedText::new(alloc, text)?)]?;
+        let values = vec![in alloc;
+            Val::Int(i64::MIN),
+            Val::Null,
+            Val::Text(BoxedText::new(alloc, text)?),
+        ]?;
         let mut replies = Replies::new(alloc);
         replies.push(0, Reply::Rows(Rows::new(vec![in alloc; Row::new(values)]?)))?;
         replies.push(0, Reply::NoRow)?;

@@ -44,13 +44,15 @@ pub(crate) fn insert_event(alloc: Global, words: &mut Words) -> Result<Stmt, Lin
         ev_extra3,
         ev_extra4,
     };
-    let extra = BoxedExtra::new(alloc, extra)?;
-    Ok(Stmt::InsertEvent {
-        queue,
-        ev_type,
-        ev_data,
-        extra: Some(extra),
-    })
+    match BoxedExtra::new(alloc, extra) {
+        Ok(extra) => Ok(Stmt::InsertEvent {
+            queue,
+            ev_type,
+            ev_data,
+            extra: Some(extra),
+        }),
+        Err(_) => Err(LineCause::NoMemory),
+    }
 }
 
 pub(crate) fn ticker(alloc: Global, words: &mut Words) -> Result<Stmt, LineCause>
