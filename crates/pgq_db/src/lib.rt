@@ -16,6 +16,8 @@ mod stored;
 mod sub;
 mod subs;
 mod subscription;
+#[cfg(test)]
+mod tests;
 mod ticks;
 
 pub use db::Db;
