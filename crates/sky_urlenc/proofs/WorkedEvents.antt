@@ -4,7 +4,7 @@ use Rattle.std.specs.Fmt.{digits}
 use lib.Chars.{codes}
 use Rattle.form_urlencoded.specs.Form.{byte_serialize}
 use Rattle.sky_val.specs.declared.val.Val.{Val}
-use Rattle.sky_val.specs.declared.val.Val.TheVariants.{Int, Text}
+use Rattle.sky_val.specs.declared.val.Val.TheVariants.{Null, Int, Text}
 use Rattle.sky_val.specs.declared.column.Column.{Column}
 use Rattle.sky_val.specs.declared.column.ColKind.TheVariants as kind
 use Rattle.sky_urlenc.specs.RowEvents.{Trigger, Write, RowEvent, events_of}
@@ -21,10 +21,11 @@ row n note = Int (pos 1) ∷ Int (pos n) ∷ Text note ∷ []
 write : (old new : Option (List Val)) → Write
 write old new = record { table = codes "u"; columns = columns; old = old; new = new }
 
--- one trigger with `backup` that ignores `note`, and one with no options
+-- with no options
 plain : Trigger
 plain = record { queue = 1; backup = false; ignored = [] }
 
+-- with `backup`, and it ignores `note`
 tg : Trigger
 tg = record { queue = 0; backup = true; ignored = codes "note" ∷ [] }
 
@@ -35,7 +36,7 @@ inserted : events_of (write None (Some (row 5 (codes "x")))) (tg ∷ []) ≡ eve
 unfolding columns row write tg event byte_serialize digits
 inserted = refl
 
--- what it ignores makes no event of it
+-- `tg` ignores the change, `plain` tells of it
 ignored : events_of (write (Some (row 5 (codes "x"))) (Some (row 5 (codes "y")))) (tg ∷ plain ∷ []) ≡ event 1 (codes "U:id") (codes "id=1&n=5&note=y") None ∷ []
 unfolding columns row write tg plain event byte_serialize digits
 ignored = refl
@@ -43,6 +44,11 @@ ignored = refl
 updated : events_of (write (Some (row 5 (codes "y"))) (Some (row 6 (codes "y")))) (tg ∷ plain ∷ []) ≡ event 0 (codes "U:id") (codes "id=1&n=6&note=y") (Some (codes "id=1&n=5&note=y")) ∷ event 1 (codes "U:id") (codes "id=1&n=6&note=y") None ∷ []
 unfolding columns row write tg plain event byte_serialize digits
 updated = refl
+
+-- null again is no change, null for a text is one
+nulls : events_of (write (Some (Int (pos 1) ∷ Null ∷ Text (codes "x") ∷ [])) (Some (Int (pos 1) ∷ Null ∷ Null ∷ []))) (tg ∷ plain ∷ []) ≡ event 1 (codes "U:id") (codes "id=1&n&note") None ∷ []
+unfolding columns write tg plain event byte_serialize digits
+nulls = refl
 
 -- another column was changed too
 both : events_of (write (Some (row 5 (codes "x"))) (Some (row 6 (codes "y")))) (tg ∷ []) ≡ event 0 (codes "U:id") (codes "id=1&n=6&note=y") (Some (codes "id=1&n=5&note=x")) ∷ []

@@ -51,7 +51,7 @@ abbrev pub updated : (old new : Option (List Val)) → Option (List Val)
 updated old None = None
 updated old (Some new) = old
 
--- an event of a queue; what isn't here is null
+-- an event of a queue, but for its id, time and transaction; its owner, its retry and the last two texts are null
 pub record RowEvent : Type 0 where
   pub queue : ℕ
   pub ev_type : List ℕ
