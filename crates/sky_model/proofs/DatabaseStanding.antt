@@ -66,6 +66,7 @@ as-kept : ReadAlike part_by_history (within_part database_by_itself) Fine Keeps
 as-kept = record {
   parts = λ h d keeps. ap Database.part keeps.shows;
   rows = λ h d keeps. same-rows h keeps.legal ∙ ap (λ (x : Database). rows_by x.part) keeps.shows;
+  tells = λ h d keeps. refl;
   behind = λ h d mark keeps fine. record { legal = next keeps.legal fine; shows = database_of-mark h mark ∙ ap (λ x. after_mark x mark) keeps.shows };
 }
 

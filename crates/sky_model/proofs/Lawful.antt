@@ -282,6 +282,7 @@ in-database : (d : ℕ) → ReadAlike (within_part (within_database by_past d)) 
 in-database d = record {
   parts = λ past h is. ap part_of is;
   rows = λ past h is. ap rows_in is;
+  tells = λ past h is. refl;
   behind = λ past h mark is _. ap (λ b. if b then mark ∷ history_in past d else history_in past d) (same-session d) ∙ ap (λ g. mark ∷ g) is;
 }
 

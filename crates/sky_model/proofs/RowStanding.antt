@@ -45,6 +45,7 @@ as-kept : ReadAlike part_by_history part_by_itself Fine Keeps
 as-kept = record {
   parts = λ h d keeps. keeps.shows;
   rows = λ h d keeps. same-rows h keeps.legal ∙ ap rows_by keeps.shows;
+  tells = λ h d keeps. refl;
   behind = λ h d mark keeps fine. record { legal = next keeps.legal fine; shows = part_of-mark h mark ∙ ap (λ x. after_part x mark) keeps.shows };
 }
 
@@ -108,6 +109,7 @@ in-part : ReadAlike (within_part database_by_itself) part_by_itself Any (λ d x.
 in-part = record {
   parts = λ d x is. is;
   rows = λ d x is. ap rows_by is;
+  tells = λ d x is. refl;
   behind = λ d x mark is _. part-behind d mark ∙ ap (λ y. after_part y mark) is;
 }
 
@@ -138,6 +140,7 @@ in-world : (d : ℕ) → ReadAlike (within_part (within_database by_world d)) (w
 in-world d = record {
   parts = λ w x is. ap Database.part is;
   rows = λ w x is. ap (λ (y : Database). rows_by y.part) is;
+  tells = λ w x is. refl;
   behind = λ w x mark is _. ap (λ b. if b then after_mark (w.database d) mark else w.database d) (same-session d) ∙ ap (λ y. after_mark y mark) is;
 }
 

@@ -16,6 +16,7 @@ Each r may p (mark ∷ marks) = may p mark × Each r may (r.behind p mark) marks
 pub record ReadAlike {P Q : Type 0} (r : PartReader P) (s : PartReader Q) (may : P → Mark → Type 0) (related : P → Q → Type 0) : Type 0 where
   pub parts : (p : P) (q : Q) → related p q → r.part p ≡ s.part q
   pub rows : (p : P) (q : Q) → related p q → r.rows p ≡ s.rows q
+  pub tells : (p : P) (q : Q) → related p q → r.tells p ≡ s.tells q
   pub behind : (p : P) (q : Q) (mark : Mark) → related p q → may p mark → related (r.behind p mark) (s.behind q mark)
 
 each-split : {P : Type 0} (r : PartReader P) (may : P → Mark → Type 0) (p : P) (xs ys : List Mark) → Each r may p (xs ++ ys)
@@ -36,13 +37,16 @@ same-resumed : {P Q : Type 0} (r : PartReader P) (s : PartReader Q) (may : P →
 same-resumed r s may related alike p q w is may_come = λ i.
     joined (record { answers = []; marks = tabled (waited w.who) ∷ [] })
     (turn_of w.who (settled w.who ((parts i).session w.who)
-    (attempts (parts i) ((rows i).key w.who w.table w.key) w.who w.table w.key ((alike.parts p q is i).attempt w.who))))
+    (tells i (attempts (parts i) ((rows i).key w.who w.table w.key) w.who w.table w.key ((alike.parts p q is i).attempt w.who)))))
   where
     parts : r.part (r.behind p (tabled (waited w.who))) ≡ s.part (s.behind q (tabled (waited w.who)))
     parts = alike.parts _ _ (alike.behind p q (tabled (waited w.who)) is may_come)
 
     rows : r.rows (r.behind p (tabled (waited w.who))) ≡ s.rows (s.behind q (tabled (waited w.who)))
     rows = alike.rows _ _ (alike.behind p q (tabled (waited w.who)) is may_come)
+
+    tells : r.tells (r.behind p (tabled (waited w.who))) ≡ s.tells (s.behind q (tabled (waited w.who)))
+    tells = alike.tells _ _ (alike.behind p q (tabled (waited w.who)) is may_come)
 
 same-and_then : {P Q : Type 0} (r : PartReader P) (s : PartReader Q) (may : P → Mark → Type 0) (related : P → Q → Type 0) → ReadAlike r s may related
     → (p : P) (q : Q) (turn turn' : Turn) (rest : P → Turn) (rest' : Q → Turn) → related p q → turn ≡ turn'

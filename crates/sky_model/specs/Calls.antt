@@ -60,7 +60,7 @@ abbrev pub row_making : {P : Type 0} → PartReader P → ℕ → RowStmt → Ma
 row_making r who stmt = record {
   session = λ p. (r.part p).session who;
   waits = λ p. is_waiting who (r.part p).waiting;
-  outcome = λ p. row_form (r.part p) (r.rows p) who stmt;
+  outcome = λ p. r.tells p (row_form (r.part p) (r.rows p) who stmt);
   behind = r.behind;
 }
 

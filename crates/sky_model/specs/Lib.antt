@@ -27,6 +27,7 @@ pub mod StepSession
 pub mod Selection
 pub mod World
 pub mod Reader
+pub mod Gates
 pub mod Settling
 pub mod Calls
 pub mod HistoryPlaces

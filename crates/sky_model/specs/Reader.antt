@@ -9,6 +9,7 @@ use Rattle.sky_model.specs.Batches.{batch_events}
 use Rattle.sky_model.specs.State.{RowPart, part_of, after_part, Database, database_of, after_mark}
 use Rattle.sky_model.specs.ShownRows.{RowsShown, rows_in, rows_by}
 use Rattle.sky_model.specs.Selection.{selected}
+use Rattle.sky_model.specs.Outcome.{Outcome, Checked}
 use Rattle.sky_model.specs.World.{World, world_of, after_facts, history_in, on_top}
 
 -- what a database shows a statement beside what it keeps: the events of a batch, and the rows of its tables
@@ -24,18 +25,24 @@ shown_in h = record { events = batch_events h; rows = rows_in h }
 abbrev pub shown_by : Database → Shown
 shown_by d = record { events = selected d; rows = rows_by d.part }
 
--- how a place is read by a statement on rows: the row part there, what its tables show there, and the place behind a mark
+-- how a place is read by a statement on rows: the row part there, what its tables show there, what becomes there of what a
+-- statement would do once its writes are told of, and the place behind a mark
 pub record PartReader (P : Type 0) : Type 0 where
   pub part : P → RowPart
   pub rows : P → RowsShown
+  pub tells : P → Checked Outcome → Checked Outcome
   pub behind : P → Mark → P
+
+-- nobody is told of writes
+abbrev pub silent : {P : Type 0} → P → Checked Outcome → Checked Outcome
+silent p checked = checked
 
 -- a place is the history there, or what the row part keeps there
 abbrev pub part_by_history : PartReader History
-part_by_history = record { part = part_of; rows = rows_in; behind = λ h mark. mark ∷ h }
+part_by_history = record { part = part_of; rows = rows_in; tells = silent; behind = λ h mark. mark ∷ h }
 
 abbrev pub part_by_itself : PartReader RowPart
-part_by_itself = record { part = λ d. d; rows = rows_by; behind = after_part }
+part_by_itself = record { part = λ d. d; rows = rows_by; tells = silent; behind = after_part }
 
 -- the same of a whole database
 pub record DatabaseReader (P : Type 0) : Type 0 where
@@ -51,7 +58,7 @@ database_by_itself = record { database = λ d. d; shown = shown_by; behind = aft
 
 -- the row part of a database
 abbrev pub within_part : {P : Type 0} → DatabaseReader P → PartReader P
-within_part r = record { part = λ p. (r.database p).part; rows = λ p. (r.shown p).rows; behind = r.behind }
+within_part r = record { part = λ p. (r.database p).part; rows = λ p. (r.shown p).rows; tells = silent; behind = r.behind }
 
 -- and of the world: the world there, what each database shows there, and the place behind what happens
 pub record Reader (P : Type 0) : Type 0 where

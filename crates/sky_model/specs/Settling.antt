@@ -43,7 +43,7 @@ ready d = waits.ready d.holder d.waiting
 
 -- what a waiting statement does at a place at which it may go on
 abbrev pub attempted : {P : Type 0} → PartReader P → Waiting → Attempt → P → Outcome
-attempted r w attempt p = settled w.who ((r.part p).session w.who) (attempts (r.part p) ((r.rows p).key w.who w.table w.key) w.who w.table w.key attempt)
+attempted r w attempt p = settled w.who ((r.part p).session w.who) (r.tells p (attempts (r.part p) ((r.rows p).key w.who w.table w.key) w.who w.table w.key attempt))
 
 -- it no longer waits, and is run
 abbrev pub resumed : {P : Type 0} → PartReader P → P → Waiting → Turn

@@ -13,7 +13,7 @@ pub struct Extra {
     pub ev_extra4: Option<Text>,
 }
 
-/// The same in one word, so that a statement is small, since most events have none of these.
+/// The four further texts of an event in one word, so that a statement is small: most events have none.
 #[derive(Debug, Drop)]
 pub struct BoxedExtra {
     extra: Box<Extra>,
