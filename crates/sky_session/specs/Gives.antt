@@ -7,8 +7,10 @@ use Rattle.sky_model.specs.declared.stmt.Where.{Where}
 use Rattle.sky_model.specs.History.{Mark}
 use Rattle.sky_model.specs.State.{RowPart, after_part_marks}
 use Rattle.sky_model.specs.declared.stop.Stop.{Stop}
+use Rattle.sky_model.specs.declared.stop.Stop.TheVariants.{Refused, NoMemory}
 use Rattle.sky_model.specs.Outcome.{Outcome, Checked, marks_of}
 use Rattle.sky_model.specs.Stops.{Stops}
+use Rattle.sky_model.specs.Gates.{Gate, passed_all}
 use Rattle.sky_model.specs.Settling.{Turn}
 use Rattle.sky_model.specs.Allowed.{allowed}
 use Rattle.sky_model.specs.Made.{takes_sight}
@@ -52,6 +54,12 @@ pub record Does (old new : RowPart) (answer : Answer) (checked : Checked Outcome
 abbrev pub Ran : RowDbView → RowDbView → Result Answer Stop → Checked Outcome → Type 0
 Ran old new (Ok answer) checked = Does (seen old) (seen new) answer checked
 Ran old new (Err stop) checked = Stops stop (seen old) (seen new) checked
+
+-- a gate has passed what a statement did, and nothing where that was refused; after want of memory nothing is said of it
+abbrev pub Passes : {G : Type 0} → Gate G → G → G → Result Answer Stop → Checked Outcome → Type 0
+Passes gate old new (Ok answer) checked = new ≡ passed_all gate old (marks_of checked)
+Passes gate old new (Err (Refused refusal)) checked = new ≡ old
+Passes gate old new (Err NoMemory) checked = Unit {0}
 
 -- the marks of taking a session's sight, where a statement takes it
 abbrev pub sight_marks : RowPart → ℕ → Where → List Mark

@@ -12,6 +12,7 @@ mod answer;
 mod attempts;
 mod block;
 mod effect;
+mod gate;
 mod key_shown;
 mod locking;
 mod marks;
@@ -28,4 +29,5 @@ mod values;
 
 pub use answer::RowStep;
 pub use effect::{Effect, Effects};
+pub use gate::WriteGate;
 pub use row_db::RowDb;

@@ -4,12 +4,14 @@ ghost use Rattle.std.specs.Prelude.{◌≡◌, ◌<◌, false, None, Some, lengt
 ghost use Rattle.sky_val.specs.Waits.{other_holder, is_waiting};
 ghost use Rattle.sky_model.specs.declared.stmt.Attempt.TheVariants.{Insertion, Changes, Deletion};
 ghost use Rattle.sky_model.specs.ShownRows.{rows_by};
+ghost use Rattle.sky_model.specs.Gates.{gated};
 ghost use Rattle.sky_model.specs.StepLocks.{blocked};
 ghost use Rattle.sky_model.specs.StepRows.{attempts};
-ghost use Rattle.sky_session.specs.Gives.{Ran};
+ghost use Rattle.sky_session.specs.Gives.{Ran, Passes};
 ghost use Rattle.sky_session.specs.Seen.{seen};
 
 use crate::answer::Answer;
+use crate::gate::WriteGate;
 use crate::row_db::RowDb;
 use crate::values::with_sets;
 use sky_locks::{LockKey, Taken};
@@ -55,15 +57,17 @@ impl RowDb {
     }
 
     /// Puts the row at the key.
-    pub(crate) fn insert_key(
+    pub(crate) fn insert_key<G: WriteGate>(
         &mut self,
         who: SessionId,
         key: LockKey,
         row: &Row,
+        gate: &mut G,
     ) -> Result<Answer, Stop>
         requires within { key.table < length (seen self.old).tables }
         requires awake { is_waiting who (seen self.old).waiting ≡ false }
-        ensures { Ran self.old self.new result (attempts (seen self.old) ((rows_by (seen self.old)).key who key.table key.key) who key.table key.key (Insertion row.now)) }
+        ensures ran { Ran self.old self.new result (gated G.rule gate.old (attempts (seen self.old) ((rows_by (seen self.old)).key who key.table key.key) who key.table key.key (Insertion row.now))) }
+        ensures passes { Passes G.rule gate.old gate.new result (gated G.rule gate.old (attempts (seen self.old) ((rows_by (seen self.old)).key who key.table key.key) who key.table key.key (Insertion row.now))) }
     {
         if let Some(holder) = self.other_holder(who, &key) {
             let attempt = Attempt::Insertion(row.copy(self.alloc)?);
@@ -74,19 +78,21 @@ impl RowDb {
             return Err(Stop::Refused(Refusal::Duplicate));
         }
         let row = row.copy(self.alloc)?;
-        self.write_key(who, key, None, Some(row))
+        self.write_key(who, key, None, Some(row), gate)
     }
 
     /// Makes the changes in the row that the session is shown at the key; where there is none, it changes none.
-    pub(crate) fn change_key(
+    pub(crate) fn change_key<G: WriteGate>(
         &mut self,
         who: SessionId,
         key: LockKey,
         sets: &Sets,
+        gate: &mut G,
     ) -> Result<Answer, Stop>
         requires within { key.table < length (seen self.old).tables }
         requires awake { is_waiting who (seen self.old).waiting ≡ false }
-        ensures { Ran self.old self.new result (attempts (seen self.old) ((rows_by (seen self.old)).key who key.table key.key) who key.table key.key (Changes sets.now)) }
+        ensures ran { Ran self.old self.new result (gated G.rule gate.old (attempts (seen self.old) ((rows_by (seen self.old)).key who key.table key.key) who key.table key.key (Changes sets.now))) }
+        ensures passes { Passes G.rule gate.old gate.new result (gated G.rule gate.old (attempts (seen self.old) ((rows_by (seen self.old)).key who key.table key.key) who key.table key.key (Changes sets.now))) }
     {
         let now = self.snapshot_now()?;
         let Some(old) = self.row_shown(who, key.table, &key.key, &now) else {
@@ -100,14 +106,20 @@ impl RowDb {
         let columns = self.table_at(key.table).schema().columns();
         let new = with_sets(self.alloc, columns, sets.as_slice(), old)?;
         let old = old.copy(self.alloc)?;
-        self.write_key(who, key, Some(old), Some(new))
+        self.write_key(who, key, Some(old), Some(new), gate)
     }
 
     /// Deletes the row that the session is shown at the key; where there is none, it deletes none.
-    pub(crate) fn delete_key(&mut self, who: SessionId, key: LockKey) -> Result<Answer, Stop>
+    pub(crate) fn delete_key<G: WriteGate>(
+        &mut self,
+        who: SessionId,
+        key: LockKey,
+        gate: &mut G,
+    ) -> Result<Answer, Stop>
         requires within { key.table < length (seen self.old).tables }
         requires awake { is_waiting who (seen self.old).waiting ≡ false }
-        ensures { Ran self.old self.new result (attempts (seen self.old) ((rows_by (seen self.old)).key who key.table key.key) who key.table key.key Deletion) }
+        ensures ran { Ran self.old self.new result (gated G.rule gate.old (attempts (seen self.old) ((rows_by (seen self.old)).key who key.table key.key) who key.table key.key Deletion)) }
+        ensures passes { Passes G.rule gate.old gate.new result (gated G.rule gate.old (attempts (seen self.old) ((rows_by (seen self.old)).key who key.table key.key) who key.table key.key Deletion)) }
     {
         let now = self.snapshot_now()?;
         let Some(old) = self.row_shown(who, key.table, &key.key, &now) else {
@@ -118,24 +130,26 @@ impl RowDb {
         }
         self.check_seen(who, key.table, &key.key, &now)?;
         let old = old.copy(self.alloc)?;
-        self.write_key(who, key, Some(old), None)
+        self.write_key(who, key, Some(old), None, gate)
     }
 
     /// What the session attempts with the key.
-    pub(crate) fn attempt_key(
+    pub(crate) fn attempt_key<G: WriteGate>(
         &mut self,
         who: SessionId,
         key: LockKey,
         attempt: &Attempt,
+        gate: &mut G,
     ) -> Result<Answer, Stop>
         requires within { key.table < length (seen self.old).tables }
         requires awake { is_waiting who (seen self.old).waiting ≡ false }
-        ensures { Ran self.old self.new result (attempts (seen self.old) ((rows_by (seen self.old)).key who key.table key.key) who key.table key.key attempt.now) }
+        ensures ran { Ran self.old self.new result (gated G.rule gate.old (attempts (seen self.old) ((rows_by (seen self.old)).key who key.table key.key) who key.table key.key attempt.now)) }
+        ensures passes { Passes G.rule gate.old gate.new result (gated G.rule gate.old (attempts (seen self.old) ((rows_by (seen self.old)).key who key.table key.key) who key.table key.key attempt.now)) }
     {
         match attempt {
-            Attempt::Insertion(row) => self.insert_key(who, key, row),
-            Attempt::Changes(sets) => self.change_key(who, key, sets),
-            Attempt::Deletion => self.delete_key(who, key),
+            Attempt::Insertion(row) => self.insert_key(who, key, row, gate),
+            Attempt::Changes(sets) => self.change_key(who, key, sets, gate),
+            Attempt::Deletion => self.delete_key(who, key, gate),
         }
     }
 }

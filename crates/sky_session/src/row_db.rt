@@ -12,6 +12,7 @@ ghost use Rattle.sky_model.specs.Made.{takes_sight};
 ghost use Rattle.sky_model.specs.OwnTransaction.{txid_for, begin_of};
 ghost use Rattle.sky_session.specs.Marks.{single_end, failure};
 ghost use Rattle.sky_model.specs.Reader.{part_by_itself};
+ghost use Rattle.sky_model.specs.Gates.{by_gate, passed_all};
 ghost use Rattle.sky_model.specs.Settling.{ready, settling, with_settling};
 ghost use Rattle.sky_session.specs.Gives.{GivesTurn, Enters};
 ghost use Rattle.sky_session.specs.Seen.{seen, seen_block};
@@ -20,6 +21,7 @@ use crate::answer::RowStep;
 use crate::attempts::Attempts;
 use crate::block::Block;
 use crate::effect::{Effect, Effects};
+use crate::gate::{OpenGate, WriteGate};
 use crate::sessions::Sessions;
 use sky_locks::Locks;
 use sky_model::{Refusal, Replies, Where};
@@ -187,12 +189,31 @@ impl RowDb {
             (with_settling part_by_itself (seen self.old) (record { answers = []; marks = marks }))) }
         ensures rests { OnOk result (ready (seen self.new) ≡ None) }
     {
+        let mut gate = OpenGate;
+        let step = self.fail_with(who, &mut gate)?;
+        Ok(step)
+    }
+
+    /// The same with a gate in front of the writes of the statements that go on.
+    pub fn fail_with<G: WriteGate>(
+        &mut self,
+        who: SessionId,
+        gate: &mut G,
+    ) -> Result<RowStep, NoMemory>
+        ensures gives { let marks = failure who ((seen self.old).session who).txid ((seen self.old).session who).block in
+            IfOk result (λ step. GivesTurn (seen self.old) (seen self.new) step
+            (with_settling (by_gate G.rule part_by_itself) (seen self.old, gate.old) (record { answers = []; marks = marks }))) }
+        ensures passed { let marks = failure who ((seen self.old).session who).txid ((seen self.old).session who).block in
+            OnOk result (gate.new ≡ passed_all G.rule gate.old
+            (with_settling (by_gate G.rule part_by_itself) (seen self.old, gate.old) (record { answers = []; marks = marks })).marks) }
+        ensures rests { OnOk result (ready (seen self.new) ≡ None) }
+    {
         let effects = self.roll_back(who)?;
         let mut step = RowStep {
             replies: Replies::new(self.alloc),
             effects,
         };
-        self.settle_behind(&mut step)?;
+        self.settle_behind(gate, &mut step)?;
         Ok(step)
     }
 
@@ -202,11 +223,22 @@ impl RowDb {
         ensures gives { IfOk result (λ step. GivesTurn (seen self.old) (seen self.new) step (settling part_by_itself (seen self.old))) }
         ensures rests { OnOk result (ready (seen self.new) ≡ None) }
     {
+        let mut gate = OpenGate;
+        let step = self.settle_with(&mut gate)?;
+        Ok(step)
+    }
+
+    /// The same with a gate in front of their writes.
+    pub fn settle_with<G: WriteGate>(&mut self, gate: &mut G) -> Result<RowStep, NoMemory>
+        ensures gives { IfOk result (λ step. GivesTurn (seen self.old) (seen self.new) step (settling (by_gate G.rule part_by_itself) (seen self.old, gate.old))) }
+        ensures passed { OnOk result (gate.new ≡ passed_all G.rule gate.old (settling (by_gate G.rule part_by_itself) (seen self.old, gate.old)).marks) }
+        ensures rests { OnOk result (ready (seen self.new) ≡ None) }
+    {
         let mut step = RowStep {
             replies: Replies::new(self.alloc),
             effects: Effects::new(self.alloc),
         };
-        self.settle_behind(&mut step)?;
+        self.settle_behind(gate, &mut step)?;
         Ok(step)
     }
 

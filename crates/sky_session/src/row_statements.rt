@@ -5,12 +5,14 @@ ghost use Rattle.sky_val.specs.Waits.{other_holder, is_waiting};
 ghost use Rattle.sky_model.specs.ShownRows.{snapshot_now, rows_by};
 ghost use Rattle.sky_model.specs.StepRows.{table_called, is_seen, writes_key, create_table, insert, update, delete, get, scan};
 ghost use Rattle.sky_session.specs.Effects.{op_of};
-ghost use Rattle.sky_session.specs.Gives.{Ran};
+ghost use Rattle.sky_model.specs.Gates.{gated};
+ghost use Rattle.sky_session.specs.Gives.{Ran, Passes};
 ghost use Rattle.sky_model.specs.Stops.{StopsAs};
 ghost use Rattle.sky_session.specs.Seen.{seen};
 
 use crate::answer::Answer;
 use crate::effect::{Effect, Effects};
+use crate::gate::WriteGate;
 use crate::row_db::RowDb;
 use crate::values::{key_fits, key_stays, new_schema, row_fits, sets_fit};
 use sky_locks::LockKey;
@@ -65,26 +67,34 @@ impl RowDb {
         }
     }
 
-    /// Writes the key, which no other session holds, in the session's transaction.
-    pub(crate) fn write_key(
+    /// Writes the key, which no other session holds, in the session's transaction, where the gate has room for that.
+    pub(crate) fn write_key<G: WriteGate>(
         &mut self,
         who: SessionId,
         key: LockKey,
         old: Option<Row>,
         new: Option<Row>,
+        gate: &mut G,
     ) -> Result<Answer, Stop>
         requires within { key.table < length (seen self.old).tables }
         requires free { other_holder (seen self.old).holder who key.table key.key ≡ None }
         requires awake { is_waiting who (seen self.old).waiting ≡ false }
-        ensures { Ran self.old self.new result (writes_key (seen self.old) who key.table key.key old new) }
+        ensures ran { Ran self.old self.new result (gated G.rule gate.old (writes_key (seen self.old) who key.table key.key old new)) }
+        ensures passes { Passes G.rule gate.old gate.new result (gated G.rule gate.old (writes_key (seen self.old) who key.table key.key old new)) }
     {
         let txid = self.txid_for(who)?;
+        let table = key.table;
+        let op = op_of(&old, &new);
+        if !gate.room(table, op, old.as_ref(), new.as_ref()) {
+            return Err(Stop::Refused(Refusal::EventIdsSpent));
+        }
+        gate.wrote(txid, table, op, old.as_ref(), new.as_ref())?;
         let stored = copy_row(self.alloc, &new)?;
         let mut effects = Effects::new(self.alloc);
         effects.push(Effect::Wrote {
             txid,
-            table: key.table,
-            op: op_of(&old, &new),
+            table,
+            op,
             old,
             new,
         })?;
@@ -112,27 +122,36 @@ impl RowDb {
     }
 
     /// `insert TABLE VAL..`
-    pub(crate) fn insert(&mut self, who: SessionId, table: &Text, row: &Row) -> Result<Answer, Stop>
+    pub(crate) fn insert<G: WriteGate>(
+        &mut self,
+        who: SessionId,
+        table: &Text,
+        row: &Row,
+        gate: &mut G,
+    ) -> Result<Answer, Stop>
         requires { is_waiting who (seen self.old).waiting ≡ false }
-        ensures { Ran self.old self.new result (insert (seen self.old) (rows_by (seen self.old)) who table.now row.now) }
+        ensures ran { Ran self.old self.new result (gated G.rule gate.old (insert (seen self.old) (rows_by (seen self.old)) who table.now row.now)) }
+        ensures passes { Passes G.rule gate.old gate.new result (gated G.rule gate.old (insert (seen self.old) (rows_by (seen self.old)) who table.now row.now)) }
     {
         let table = self.table_called(table)?;
         let schema = self.table_at(table).schema();
         row_fits(self.alloc, schema.columns(), row)?;
         let key = schema.key_of(row)?;
-        self.insert_key(who, LockKey { table, key }, row)
+        self.insert_key(who, LockKey { table, key }, row, gate)
     }
 
     /// `update TABLE VAL.. set SET..`
-    pub(crate) fn update(
+    pub(crate) fn update<G: WriteGate>(
         &mut self,
         who: SessionId,
         table: &Text,
         key: &Key,
         sets: &Sets,
+        gate: &mut G,
     ) -> Result<Answer, Stop>
         requires { is_waiting who (seen self.old).waiting ≡ false }
-        ensures { Ran self.old self.new result (update (seen self.old) (rows_by (seen self.old)) who table.now key.now sets.now) }
+        ensures ran { Ran self.old self.new result (gated G.rule gate.old (update (seen self.old) (rows_by (seen self.old)) who table.now key.now sets.now)) }
+        ensures passes { Passes G.rule gate.old gate.new result (gated G.rule gate.old (update (seen self.old) (rows_by (seen self.old)) who table.now key.now sets.now)) }
     {
         let table = self.table_called(table)?;
         let columns = self.table_at(table).schema().columns();
@@ -140,18 +159,25 @@ impl RowDb {
         sets_fit(self.alloc, columns, sets.as_slice())?;
         key_stays(self.alloc, columns, sets.as_slice())?;
         let key = key.copy(self.alloc)?;
-        self.change_key(who, LockKey { table, key }, sets)
+        self.change_key(who, LockKey { table, key }, sets, gate)
     }
 
     /// `delete TABLE VAL..`
-    pub(crate) fn delete(&mut self, who: SessionId, table: &Text, key: &Key) -> Result<Answer, Stop>
+    pub(crate) fn delete<G: WriteGate>(
+        &mut self,
+        who: SessionId,
+        table: &Text,
+        key: &Key,
+        gate: &mut G,
+    ) -> Result<Answer, Stop>
         requires { is_waiting who (seen self.old).waiting ≡ false }
-        ensures { Ran self.old self.new result (delete (seen self.old) (rows_by (seen self.old)) who table.now key.now) }
+        ensures ran { Ran self.old self.new result (gated G.rule gate.old (delete (seen self.old) (rows_by (seen self.old)) who table.now key.now)) }
+        ensures passes { Passes G.rule gate.old gate.new result (gated G.rule gate.old (delete (seen self.old) (rows_by (seen self.old)) who table.now key.now)) }
     {
         let table = self.table_called(table)?;
         key_fits(self.alloc, self.table_at(table).schema().columns(), key)?;
         let key = key.copy(self.alloc)?;
-        self.delete_key(who, LockKey { table, key })
+        self.delete_key(who, LockKey { table, key }, gate)
     }
 
     /// `get TABLE VAL..`

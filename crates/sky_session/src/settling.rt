@@ -7,11 +7,13 @@ ghost use Rattle.sky_model.specs.ShownRows.{rows_by};
 ghost use Rattle.sky_model.specs.Outcome.{settled};
 ghost use Rattle.sky_model.specs.StepRows.{attempts};
 ghost use Rattle.sky_model.specs.Reader.{part_by_itself};
+ghost use Rattle.sky_model.specs.Gates.{gated, by_gate, passed_all};
 ghost use Rattle.sky_model.specs.Settling.{ready, resumed, settling};
 ghost use Rattle.sky_session.specs.Gives.{Adds, GivesOutcome};
 ghost use Rattle.sky_session.specs.Seen.{seen};
 
 use crate::answer::{Answer, RowStep};
+use crate::gate::WriteGate;
 use crate::row_db::RowDb;
 use sky_locks::LockKey;
 use sky_model::{Attempt, Stop};
@@ -31,19 +33,23 @@ impl RowDb {
     }
 
     /// The answer of what the session attempts with the key, be it a refusal.
-    fn run_attempt(
+    fn run_attempt<G: WriteGate>(
         &mut self,
         who: SessionId,
         key: LockKey,
         attempt: &Attempt,
+        gate: &mut G,
     ) -> Result<Answer, NoMemory>
         requires within { key.table < length (seen self.old).tables }
         requires awake { is_waiting who (seen self.old).waiting ≡ false }
-        ensures { let shown = (rows_by (seen self.old)).key who key.table key.key in
-            let outcome = settled who ((seen self.old).session who) (attempts (seen self.old) shown who key.table key.key attempt.now) in
+        ensures gives { let shown = (rows_by (seen self.old)).key who key.table key.key in
+            let outcome = settled who ((seen self.old).session who) (gated G.rule gate.old (attempts (seen self.old) shown who key.table key.key attempt.now)) in
             IfOk result (λ answer. GivesOutcome (seen self.old) (seen self.new) answer outcome) }
+        ensures passed { let shown = (rows_by (seen self.old)).key who key.table key.key in
+            let outcome = settled who ((seen self.old).session who) (gated G.rule gate.old (attempts (seen self.old) shown who key.table key.key attempt.now)) in
+            OnOk result (gate.new ≡ passed_all G.rule gate.old outcome.marks) }
     {
-        match self.attempt_key(who, key, attempt) {
+        match self.attempt_key(who, key, attempt, gate) {
             Ok(answer) => Ok(answer),
             Err(Stop::Refused(refusal)) => self.refuse(who, refusal),
             Err(Stop::NoMemory) => Err(AllocError),
@@ -51,28 +57,40 @@ impl RowDb {
     }
 
     /// Runs the statement of a session that may go on. The answer and the effects are added.
-    fn resume(&mut self, who: SessionId, key: LockKey, step: &mut RowStep) -> Result<(), NoMemory>
+    fn resume<G: WriteGate>(
+        &mut self,
+        who: SessionId,
+        key: LockKey,
+        gate: &mut G,
+        step: &mut RowStep,
+    ) -> Result<(), NoMemory>
         requires ready { ready (seen self.old) ≡ Some (entry who key) }
         requires within { key.table < length (seen self.old).tables }
-        ensures { OnOk result (Adds (seen self.old) (seen self.new) step.old step.new (resumed part_by_itself (seen self.old) (entry who key))) }
+        ensures adds { OnOk result (Adds (seen self.old) (seen self.new) step.old step.new (resumed (by_gate G.rule part_by_itself) (seen self.old, gate.old) (entry who key))) }
+        ensures passed { OnOk result (gate.new ≡ passed_all G.rule gate.old (resumed (by_gate G.rule part_by_itself) (seen self.old, gate.old) (entry who key)).marks) }
     {
         let attempt = self.waited(who);
-        let answer = self.run_attempt(who, key, &attempt)?;
+        let answer = self.run_attempt(who, key, &attempt, gate)?;
         step.replies.push(who, answer.reply)?;
         step.effects.append(answer.effects)?;
         Ok(())
     }
 
     /// Runs the statements that may go on. Their answers and effects are added.
-    pub(crate) fn settle_behind(&mut self, step: &mut RowStep) -> Result<(), NoMemory>
-        ensures adds { OnOk result (Adds (seen self.old) (seen self.new) step.old step.new (settling part_by_itself (seen self.old))) }
+    pub(crate) fn settle_behind<G: WriteGate>(
+        &mut self,
+        gate: &mut G,
+        step: &mut RowStep,
+    ) -> Result<(), NoMemory>
+        ensures adds { OnOk result (Adds (seen self.old) (seen self.new) step.old step.new (settling (by_gate G.rule part_by_itself) (seen self.old, gate.old))) }
+        ensures passed { OnOk result (gate.new ≡ passed_all G.rule gate.old (settling (by_gate G.rule part_by_itself) (seen self.old, gate.old)).marks) }
         ensures rests { OnOk result (ready (seen self.new) ≡ None) }
     {
         loop {
             let Some((who, key)) = self.next_ready()? else {
                 return Ok(());
             };
-            self.resume(who, key, step)?;
+            self.resume(who, key, gate, step)?;
         }
     }
 }

@@ -13,16 +13,18 @@ ghost use Rattle.sky_model.specs.Outcome.{abort, settled};
 ghost use Rattle.sky_model.specs.StepSession.{begin, begin_repeatable_read, commit, rollback, close, cancel, leaves, txid_current, txid_current_snapshot, txid_visible_in_snapshot};
 ghost use Rattle.sky_model.specs.Calls.{row_form, row_statement, row_turn};
 ghost use Rattle.sky_model.specs.Reader.{part_by_itself};
+ghost use Rattle.sky_model.specs.Gates.{gated, by_gate, passed_all};
 ghost use Rattle.sky_model.specs.Settling.{ready};
 ghost use Rattle.sky_model.specs.RowSteps.{RowSteps};
 ghost use Rattle.sky_session.specs.Effects.{effects_of};
-ghost use Rattle.sky_session.specs.Gives.{GivesTurn, GivesOutcome, Ran};
+ghost use Rattle.sky_session.specs.Gives.{GivesTurn, GivesOutcome, Ran, Passes};
 ghost use Rattle.sky_session.specs.Seen.{seen};
 
 use crate::allowed::where_of;
 use crate::answer::{Answer, RowStep};
 use crate::block::Block;
 use crate::effect::{Effect, Effects};
+use crate::gate::{OpenGate, WriteGate};
 use crate::row_db::RowDb;
 use sky_model::{Refusal, Replies, Reply, RowStmt, Stop};
 use sky_txid::{Snapshot, SnapshotFault};
@@ -36,33 +38,64 @@ impl RowDb {
         ensures rests { OnOk result (ready (seen self.new) ≡ None) }
         ensures steps { IfOk result (λ step. RowSteps (seen self.old) (seen self.new) who stmt.now step.replies) }
     {
-        let answer = self.own_answer(who, stmt)?;
+        let mut gate = OpenGate;
+        let step = self.step_with(who, stmt, &mut gate)?;
+        Ok(step)
+    }
+
+    /// The same with a gate in front of the writes: of the statement's own, and of those of statements that it lets go on.
+    /// The gate is told of them in their order, which is that of the effects. Where it has no room for a statement's write,
+    /// that is refused, if nothing else refuses it.
+    pub fn step_with<G: WriteGate>(
+        &mut self,
+        who: SessionId,
+        stmt: &RowStmt,
+        gate: &mut G,
+    ) -> Result<RowStep, NoMemory>
+        ensures exact { IfOk result (λ step. GivesTurn (seen self.old) (seen self.new) step (row_turn (by_gate G.rule part_by_itself) (seen self.old, gate.old) who stmt.now)) }
+        ensures passed { OnOk result (gate.new ≡ passed_all G.rule gate.old (row_turn (by_gate G.rule part_by_itself) (seen self.old, gate.old) who stmt.now).marks) }
+        ensures rests { OnOk result (ready (seen self.new) ≡ None) }
+    {
+        let answer = self.own_answer(who, stmt, gate)?;
         let replies = Replies::one(self.alloc, who, answer.reply)?;
         let mut step = RowStep {
             replies,
             effects: answer.effects,
         };
-        self.settle_behind(&mut step)?;
+        self.settle_behind(gate, &mut step)?;
         Ok(step)
     }
 
     /// The answer of the statement itself, be it a refusal.
-    fn own_answer(&mut self, who: SessionId, stmt: &RowStmt) -> Result<Answer, NoMemory>
-        ensures { IfOk result (λ answer. GivesOutcome (seen self.old) (seen self.new) answer (row_statement part_by_itself (seen self.old) who stmt.now)) }
+    fn own_answer<G: WriteGate>(
+        &mut self,
+        who: SessionId,
+        stmt: &RowStmt,
+        gate: &mut G,
+    ) -> Result<Answer, NoMemory>
+        ensures gives { IfOk result (λ answer. GivesOutcome (seen self.old) (seen self.new) answer (row_statement (by_gate G.rule part_by_itself) (seen self.old, gate.old) who stmt.now)) }
+        ensures passed { OnOk result (gate.new ≡ passed_all G.rule gate.old (row_statement (by_gate G.rule part_by_itself) (seen self.old, gate.old) who stmt.now).marks) }
     {
         match self.admit(who, where_of(stmt))? {
             Some(refusal) => self.refuse(who, refusal),
-            None => self.run(who, stmt),
+            None => self.run(who, stmt, gate),
         }
     }
 
     /// Runs a statement that its session may make, which has taken its sight. A refusal is an answer too.
-    fn run(&mut self, who: SessionId, stmt: &RowStmt) -> Result<Answer, NoMemory>
+    fn run<G: WriteGate>(
+        &mut self,
+        who: SessionId,
+        stmt: &RowStmt,
+        gate: &mut G,
+    ) -> Result<Answer, NoMemory>
         requires { where_of_row stmt.now ≡ WhenReading → is_waiting who (seen self.old).waiting ≡ false }
-        ensures { let outcome = settled who ((seen self.old).session who) (row_form (seen self.old) (rows_by (seen self.old)) who stmt.now) in
+        ensures gives { let outcome = settled who ((seen self.old).session who) (gated G.rule gate.old (row_form (seen self.old) (rows_by (seen self.old)) who stmt.now)) in
             IfOk result (λ answer. GivesOutcome (seen self.old) (seen self.new) answer outcome) }
+        ensures passed { let outcome = settled who ((seen self.old).session who) (gated G.rule gate.old (row_form (seen self.old) (rows_by (seen self.old)) who stmt.now)) in
+            OnOk result (gate.new ≡ passed_all G.rule gate.old outcome.marks) }
     {
-        match self.run_form(who, stmt) {
+        match self.run_form(who, stmt, gate) {
             Ok(answer) => Ok(answer),
             Err(Stop::Refused(refusal)) => self.refuse(who, refusal),
             Err(Stop::NoMemory) => Err(AllocError),
@@ -84,9 +117,15 @@ impl RowDb {
         })
     }
 
-    fn run_form(&mut self, who: SessionId, stmt: &RowStmt) -> Result<Answer, Stop>
+    fn run_form<G: WriteGate>(
+        &mut self,
+        who: SessionId,
+        stmt: &RowStmt,
+        gate: &mut G,
+    ) -> Result<Answer, Stop>
         requires { where_of_row stmt.now ≡ WhenReading → is_waiting who (seen self.old).waiting ≡ false }
-        ensures { Ran self.old self.new result (row_form (seen self.old) (rows_by (seen self.old)) who stmt.now) }
+        ensures ran { Ran self.old self.new result (gated G.rule gate.old (row_form (seen self.old) (rows_by (seen self.old)) who stmt.now)) }
+        ensures passes { Passes G.rule gate.old gate.new result (gated G.rule gate.old (row_form (seen self.old) (rows_by (seen self.old)) who stmt.now)) }
     {
         match stmt {
             RowStmt::OpenDb { name: _ } => Err(Stop::Refused(Refusal::AlreadyOpen)),
@@ -102,9 +141,9 @@ impl RowDb {
                 self.txid_visible_in_snapshot(*txid, snapshot)
             }
             RowStmt::CreateTable { table, columns } => self.create_table(table, columns),
-            RowStmt::Insert { table, row } => self.insert(who, table, row),
-            RowStmt::Update { table, key, sets } => self.update(who, table, key, sets),
-            RowStmt::Delete { table, key } => self.delete(who, table, key),
+            RowStmt::Insert { table, row } => self.insert(who, table, row, gate),
+            RowStmt::Update { table, key, sets } => self.update(who, table, key, sets, gate),
+            RowStmt::Delete { table, key } => self.delete(who, table, key, gate),
             RowStmt::Get { table, key } => self.get(who, table, key),
             RowStmt::Scan { table } => self.scan(who, table),
         }

@@ -1,0 +1,61 @@
+ghost use Rattle.std.specs.Prelude.{◌≡◌, true, OnOk, OnErr, option_copied};
+ghost use Rattle.sky_model.specs.Gates.{Gate, open_gate};
+ghost use Rattle.sky_session.specs.Effects.{op_of};
+
+use sky_val::{NoMemory, Op, Row};
+use std::marker::Model;
+
+/// Stands in front of the writes of rows: it is asked whether there is room for each, and told of it.
+pub trait WriteGate {
+    // For which writes it has room, as it is, and as what a write leaves it that it is told of.
+    ghost rule: { Gate Self };
+
+    /// Whether there is room for the write in the table of this number: `old` is the row that the key has, `new` the one
+    /// that it is to have. Where there is none, the statement is refused as `EventIdsSpent`.
+    fn room(&self, table: u32, op: Op, old: Option<&Row>, new: Option<&Row>) -> bool
+        requires { op ≡ op_of (option_copied old) (option_copied new) }
+        ensures { result ≡ rule.has_room self.now (record { table = table; old = option_copied old.entry; new = option_copied new.entry }) };
+
+    /// Tells of the write, which the transaction of this id makes.
+    fn wrote(
+        &mut self,
+        txid: u64,
+        table: u32,
+        op: Op,
+        old: Option<&Row>,
+        new: Option<&Row>,
+    ) -> Result<(), NoMemory>
+        requires op { op ≡ op_of (option_copied old) (option_copied new) }
+        requires room { rule.has_room self.old (record { table = table; old = option_copied old; new = option_copied new }) ≡ true }
+        ensures ok { OnOk result (self.new ≡ rule.after self.old txid (record { table = table; old = option_copied old.entry; new = option_copied new.entry })) }
+        ensures err { OnErr result (self.new ≡ self.old) };
+}
+
+/// The gate that always has room, and keeps nothing.
+#[derive(Debug, Drop)]
+pub struct OpenGate;
+
+impl Model for OpenGate {
+    ghost Value = { Unit {0} };
+
+    ghost view = { λ gate. tt };
+}
+
+impl WriteGate for OpenGate {
+    ghost rule = { open_gate };
+
+    fn room(&self, _table: u32, _op: Op, _old: Option<&Row>, _new: Option<&Row>) -> bool {
+        true
+    }
+
+    fn wrote(
+        &mut self,
+        _txid: u64,
+        _table: u32,
+        _op: Op,
+        _old: Option<&Row>,
+        _new: Option<&Row>,
+    ) -> Result<(), NoMemory> {
+        Ok(())
+    }
+}
