@@ -35,6 +35,7 @@ pub mod KeyVersions
 pub mod RowSights
 pub mod RowLaws
 pub mod Resting
+pub mod GatedLemmas
 pub mod RowStanding
 pub mod DatabaseStanding
 pub mod Standing
