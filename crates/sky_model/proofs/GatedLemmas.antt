@@ -21,16 +21,14 @@ use Rattle.sky_model.specs.State.{RowPart, after_part, after_part_marks}
 use Rattle.sky_model.specs.ShownRows.{RowsShown, rows_by}
 use Rattle.sky_model.specs.Outcome.{Outcome, Checked, marks_of, ◌>>=◌, ◌>>◌, refused_if, refused_by, found_or, does_marks, end_of, aborts, abort, settled}
 use Rattle.sky_model.specs.OwnTransaction.{own_or_next, begin_of, commit_of, written}
-use Rattle.sky_model.specs.Allowed.{where_of_row}
 use Rattle.sky_model.specs.StepLocks.{ring, blocked}
 use Rattle.sky_model.specs.StepSession.{begin, begin_repeatable_read, leaves, commit, rollback, close, cancel, txid_current, txid_current_snapshot, txid_visible_in_snapshot}
 use Rattle.sky_model.specs.StepRows.{schema_refusal, create_table, bad_values, row_or_none, get, scan}
 use Rattle.sky_model.specs.Reader.{part_by_itself}
 use Rattle.sky_model.specs.Gates.{Gate, takes, passed, takes_all, passed_all, gated, by_gate, open_gate}
-use Rattle.sky_model.specs.Settling.{Turn, turn_of, behind_marks, settling, with_settling}
-use Rattle.sky_model.specs.Calls.{row_form, row_making, row_statement, row_turn}
-use Rattle.sky_model.proofs.MadeAt.{same-made_by}
-use Rattle.sky_model.proofs.Turns.{ReadAlike, same-settles, same-with_settling, Any, each-any}
+use Rattle.sky_model.specs.Settling.{Turn, behind_marks, settling, with_settling}
+use Rattle.sky_model.specs.Calls.{row_form, row_statement, row_turn}
+use Rattle.sky_model.proofs.Turns.{ReadAlike, same-settles, same-with_settling, alike-statement, alike-turn, Any, each-any}
 
 -- a place behind marks is the part behind them, and the gate behind them
 pub gated-behind : {G : Type 0} (gate : Gate G) (d : RowPart) (g : G) (marks : List Mark)
@@ -336,14 +334,7 @@ as-open = record {
 
 -- a statement
 pub open-statement : (d : RowPart) (who : ℕ) (stmt : RowStmt) → row_statement (by_gate open_gate part_by_itself) (d, tt) who stmt ≡ row_statement part_by_itself d who stmt
-open-statement d who stmt =
-    same-made_by (row_making (by_gate open_gate part_by_itself) who stmt) (row_making part_by_itself who stmt) (where_of_row stmt) who (d, tt) d (record {
-      sessions = refl;
-      waiting = refl;
-      outcomes = open-tells (row_form d (rows_by d) who stmt);
-      sessions_behind = refl;
-      outcomes_behind = open-tells (row_form (after_part d (looked who)) (rows_by (after_part d (looked who))) who stmt);
-    })
+open-statement d who stmt = alike-statement (by_gate open_gate part_by_itself) part_by_itself Any (λ p x. p.0 ≡ x) as-open (d, tt) d who stmt refl tt
 
 -- those that go on
 pub open-settling : (d : RowPart) → settling (by_gate open_gate part_by_itself) (d, tt) ≡ settling part_by_itself d
@@ -359,5 +350,5 @@ open-with_settling d turn =
 
 pub open-turn : (d : RowPart) (who : ℕ) (stmt : RowStmt) → row_turn (by_gate open_gate part_by_itself) (d, tt) who stmt ≡ row_turn part_by_itself d who stmt
 open-turn d who stmt =
-    same-with_settling (by_gate open_gate part_by_itself) part_by_itself Any (λ p x. p.0 ≡ x) as-open (d, tt) d _ _ refl
-    (ap (turn_of who) (open-statement d who stmt)) (each-any (by_gate open_gate part_by_itself) (d, tt) _)
+    alike-turn (by_gate open_gate part_by_itself) part_by_itself Any (λ p x. p.0 ≡ x) as-open (d, tt) d who stmt refl tt
+    (each-any (by_gate open_gate part_by_itself) (d, tt) _)

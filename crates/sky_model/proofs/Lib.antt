@@ -37,6 +37,7 @@ pub mod RowLaws
 pub mod Resting
 pub mod GatedLemmas
 pub mod RowStanding
+pub mod GatedStanding
 pub mod DatabaseStanding
 pub mod Standing
 pub mod LockLaws

@@ -37,11 +37,11 @@ same-row_statement h l who stmt =
     })
 
 -- a legal history reads as what the part keeps of it
-record Keeps (h : History) (d : RowPart) : Type 0 where
-  legal : Legal h
-  shows : part_of h ≡ d
+pub record Keeps (h : History) (d : RowPart) : Type 0 where
+  pub legal : Legal h
+  pub shows : part_of h ≡ d
 
-as-kept : ReadAlike part_by_history part_by_itself Fine Keeps
+pub as-kept : ReadAlike part_by_history part_by_itself Fine Keeps
 as-kept = record {
   parts = λ h d keeps. keeps.shows;
   rows = λ h d keeps. same-rows h keeps.legal ∙ ap rows_by keeps.shows;
