@@ -20,10 +20,10 @@ use Rattle.sky_model.specs.Sessions.{Block, outside, inside, failed, Session}
 use Rattle.sky_model.specs.State.{RowPart, after_part, after_part_marks}
 use Rattle.sky_model.specs.ShownRows.{RowsShown, rows_by}
 use Rattle.sky_model.specs.Outcome.{Outcome, Checked, marks_of, ◌>>=◌, ◌>>◌, refused_if, refused_by, found_or, does_marks, end_of, aborts, abort, settled}
-use Rattle.sky_model.specs.OwnTransaction.{own_or_next, begin_of, commit_of, written}
-use Rattle.sky_model.specs.StepLocks.{ring, blocked}
+use Rattle.sky_model.specs.OwnTransaction.{own_or_next, txid_for, begin_of, commit_of, written}
+use Rattle.sky_model.specs.StepLocks.{ring, blocked, once_free}
 use Rattle.sky_model.specs.StepSession.{begin, begin_repeatable_read, leaves, commit, rollback, close, cancel, txid_current, txid_current_snapshot, txid_visible_in_snapshot}
-use Rattle.sky_model.specs.StepRows.{schema_refusal, create_table, bad_values, row_or_none, get, scan}
+use Rattle.sky_model.specs.StepRows.{schema_refusal, create_table, bad_values, writes_key, row_or_none, get, scan}
 use Rattle.sky_model.specs.Reader.{part_by_itself}
 use Rattle.sky_model.specs.Gates.{Gate, takes, passed, takes_all, passed_all, gated, by_gate, open_gate}
 use Rattle.sky_model.specs.Settling.{Turn, behind_marks, settling, with_settling}
@@ -127,10 +127,12 @@ pub gated-if : {G : Type 0} (gate : Gate G) (g : G) (b : Bool) (refusal : Refusa
 gated-if gate g true refusal c = refl
 gated-if gate g false refusal c = refl
 
+-- the same of one that there may be
 pub gated-by : {G : Type 0} (gate : Gate G) (g : G) (o : Option Refusal) (c : Checked Outcome) → gated gate g (refused_by o >> c) ≡ (refused_by o >> gated gate g c)
 gated-by gate g None c = refl
 gated-by gate g (Some refusal) c = refl
 
+-- and of what something else comes in front of
 pub gated-checked : {G A : Type 0} (gate : Gate G) (g : G) (o : Checked A) (c : A → Checked Outcome) → gated gate g (o >>= c) ≡ (o >>= (λ a. gated gate g (c a)))
 gated-checked gate g (Err refusal) c = refl
 gated-checked gate g (Ok a) c = refl
@@ -141,6 +143,15 @@ pub gated-written : {G : Type 0} (gate : Gate G) (g : G) (reply : Reply) (who t 
     ≡ (refused_if (not (gate.has_room g (record { table = table; old = old; new = new }))) EventIdsSpent >> does_marks reply (written who t s (tabled (wrote who t table key old new) ∷ [])))
 gated-written gate g reply who t s table key old new =
     ap (λ b. refused_if (not b) EventIdsSpent >> does_marks reply (written who t s (tabled (wrote who t table key old new) ∷ []))) (written-takes gate g who t s table key old new)
+
+-- a write of a key is refused so behind the refusal of the transaction's id
+pub gated-writes_key : {G : Type 0} (gate : Gate G) (g : G) (d : RowPart) (who table : ℕ) (key : List Val) (old new : Option (List Val))
+    → gated gate g (writes_key d who table key old new)
+    ≡ (txid_for d who >>= (λ t. refused_if (not (gate.has_room g (record { table = table; old = old; new = new }))) EventIdsSpent
+    >> does_marks (Number 1) (written who t (d.session who) (tabled (wrote who t table key old new) ∷ []))))
+gated-writes_key gate g d who table key old new =
+    gated-checked gate g (txid_for d who) (λ t. does_marks (Number 1) (written who t (d.session who) (tabled (wrote who t table key old new) ∷ [])))
+    ∙ (λ i. txid_for d who >>= (λ t. gated-written gate g (Number 1) who t (d.session who) table key old new i))
 
 -- ---- what writes nothing
 
@@ -193,36 +204,42 @@ plain-settled who s (Err refusal) plain = plain-abort who s.block s.txid refusal
 pub plain-blocked : (d : RowPart) (who table : ℕ) (key : List Val) (attempt : Attempt) (holder : ℕ) → PlainOutcome (blocked d who table key attempt holder)
 plain-blocked d who table key attempt holder = by_option (option_map Deadlock (ring d who holder)) _ tt
 
--- nor these forms
+-- `begin`
 pub plain-begin : (who : ℕ) (b : Block) → PlainOutcome (begin who b)
 plain-begin who outside = tt
 plain-begin who inside = tt
 plain-begin who failed = tt
 
+-- `begin repeatable read`
 pub plain-begin_repeatable_read : (who : ℕ) (b : Block) → PlainOutcome (begin_repeatable_read who b)
 plain-begin_repeatable_read who outside = tt
 plain-begin_repeatable_read who inside = tt
 plain-begin_repeatable_read who failed = tt
 
+-- `commit`
 pub plain-commit : (who : ℕ) (txid : Option ℕ) (b : Block) → PlainOutcome (commit who txid b)
 plain-commit who txid outside = tt
 plain-commit who txid inside = plain-leaves true who txid
 plain-commit who txid failed = plain-leaves false who txid
 
+-- `rollback`
 pub plain-rollback : (who : ℕ) (txid : Option ℕ) (b : Block) → PlainOutcome (rollback who txid b)
 plain-rollback who txid outside = tt
 plain-rollback who txid inside = plain-leaves false who txid
 plain-rollback who txid failed = plain-leaves false who txid
 
+-- `close`
 pub plain-close : (who : ℕ) (txid : Option ℕ) (b : Block) → PlainOutcome (close who txid b)
 plain-close who txid outside = tt
 plain-close who txid inside = plain-leaves false who txid
 plain-close who txid failed = plain-leaves false who txid
 
+-- `cancel`
 pub plain-cancel : (who : ℕ) (txid : Option ℕ) (b : Block) (waits : Bool) → PlainOutcome (cancel who txid b waits)
 plain-cancel who txid b false = tt
 plain-cancel who txid b true = plain-abort who b txid Canceled
 
+-- `txid_current`
 pub plain-txid_current : (d : RowPart) (who : ℕ) → PlainOutcome (txid_current d who)
 plain-txid_current d who = of (d.session who).txid
   where
@@ -230,12 +247,15 @@ plain-txid_current d who = of (d.session who).txid
     of None = test_then (nat_le (2 ^ 62) d.next) TxidsSpent d.next _ (plain-committed who d.next (d.session who).block)
     of (Some t) = plain-committed who t (d.session who).block
 
+-- `txid_current_snapshot`
 pub plain-txid_current_snapshot : (d : RowPart) (who : ℕ) → PlainOutcome (txid_current_snapshot d who)
 plain-txid_current_snapshot d who = tt
 
+-- `txid_visible_in_snapshot`
 pub plain-txid_visible_in_snapshot : (t : ℕ) (text : List ℕ) → PlainOutcome (txid_visible_in_snapshot t text)
 plain-txid_visible_in_snapshot t text = found (parse_snapshot text) BadSnapshot _ (λ s. tt)
 
+-- `create table`
 pub plain-create_table : (d : RowPart) (name : List ℕ) (columns : List Column) → PlainOutcome (create_table d name columns)
 plain-create_table d name columns =
     test (is_some (place_of name d.tables)) (TableExists name) _ (test (nat_le 64 (length d.tables)) (TooMany Tables) _
@@ -245,11 +265,13 @@ plain-row_or_none : (row : Option (List Val)) → PlainOutcome (row_or_none row)
 plain-row_or_none None = tt
 plain-row_or_none (Some row) = tt
 
+-- `get`
 pub plain-get : (d : RowPart) (shown : RowsShown) (who : ℕ) (name : List ℕ) (key : List Val) → PlainOutcome (get d shown who name key)
 plain-get d shown who name key =
     found (place_of name d.tables) (NoTable name) _ (λ table. by_option (option_map (bad_values (key_columns (d.columns table))) (row_fault (key_columns (d.columns table)) key)) _
     (plain-row_or_none (shown.key who table key).row))
 
+-- `scan`
 pub plain-scan : (d : RowPart) (shown : RowsShown) (who : ℕ) (name : List ℕ) → PlainOutcome (scan d shown who name)
 plain-scan d shown who name = found (place_of name d.tables) (NoTable name) _ (λ table. tt)
 
@@ -260,6 +282,7 @@ WritesNoRow (Update table key sets) = ⊥
 WritesNoRow (Delete table key) = ⊥
 WritesNoRow _ = Unit {0}
 
+-- all that it does is plain
 pub plain-row_form : (d : RowPart) (shown : RowsShown) (who : ℕ) (stmt : RowStmt) → WritesNoRow stmt → PlainOutcome (row_form d shown who stmt)
 plain-row_form d shown who (OpenDb name) none = tt
 plain-row_form d shown who Close none = plain-close who (d.session who).txid (d.session who).block
@@ -292,7 +315,13 @@ pub passed-blocked : {G : Type 0} (gate : Gate G) (g : G) (d : RowPart) (who tab
     → passed_all gate g (marks_of (blocked d who table key attempt holder)) ≡ g
 passed-blocked gate g d who table key attempt holder = passed-none gate g (marks_of (blocked d who table key attempt holder)) (plain-blocked d who table key attempt holder)
 
--- nor of a refusal that aborts a block
+-- so a gate stands in front of what is done once a key is free
+pub gated-once_free : {G : Type 0} (gate : Gate G) (g : G) (d : RowPart) (who table : ℕ) (key : List Val) (attempt : Attempt) (other : Option ℕ) (c : Checked Outcome)
+    → gated gate g (once_free d who table key attempt other c) ≡ once_free d who table key attempt other (gated gate g c)
+gated-once_free gate g d who table key attempt None c = refl
+gated-once_free gate g d who table key attempt (Some holder) c = gated-blocked gate g d who table key attempt holder
+
+-- a refusal that aborts a block tells it of nothing
 pub passed-abort : {G : Type 0} (gate : Gate G) (g : G) (who : ℕ) (b : Block) (txid : Option ℕ) (refusal : Refusal) → passed_all gate g (abort who b txid refusal) ≡ g
 passed-abort gate g who b txid refusal = passed-none gate g (abort who b txid refusal) (plain-abort who b txid refusal)
 
@@ -348,6 +377,7 @@ open-with_settling d turn =
     same-with_settling (by_gate open_gate part_by_itself) part_by_itself Any (λ p x. p.0 ≡ x) as-open (d, tt) d turn turn refl refl
     (each-any (by_gate open_gate part_by_itself) (d, tt) _)
 
+-- and a statement with them
 pub open-turn : (d : RowPart) (who : ℕ) (stmt : RowStmt) → row_turn (by_gate open_gate part_by_itself) (d, tt) who stmt ≡ row_turn part_by_itself d who stmt
 open-turn d who stmt =
     alike-turn (by_gate open_gate part_by_itself) part_by_itself Any (λ p x. p.0 ≡ x) as-open (d, tt) d who stmt refl tt
