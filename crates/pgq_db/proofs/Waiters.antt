@@ -36,7 +36,7 @@ use Rattle.sky_model.specs.Made.{takes_sight, looking, runs_if}
 use Rattle.sky_model.specs.Reader.{Shown, part_by_itself, database_by_itself, within_part, shown_by}
 use Rattle.sky_model.specs.Settling.{Turn, turn_of, behind_marks, ready, resumed, goes_on, settles, settling, with_settling}
 use Rattle.sky_model.specs.Calls.{form, making, statement, database_turn}
-use Rattle.sky_model.proofs.Resting.{is-ready, waiting-resumed, behind-append}
+use Rattle.sky_model.proofs.Resting.{is-ready, itself-keeps, waiting-resumed, behind-append}
 use Rattle.sky_model.proofs.RowStanding.{behind-after, settling-part}
 use Rattle.sky_model.proofs.DatabaseStanding.{after_marks-append, behind-all, part-behind_all}
 use Rattle.sky_session.specs.Marks.{failure}
@@ -309,11 +309,11 @@ settles-within count (suc n) d within = of (ready d) refl (settles-within count 
     of (Some w) e ih =
         let rest : GoOnWithin count (behind_marks part_by_itself d (resumed part_by_itself d w).marks) (settles part_by_itself n (behind_marks part_by_itself d (resumed part_by_itself d w).marks)) =
         ih (behind_marks part_by_itself d (resumed part_by_itself d w).marks)
-        (subst (WaitersWithin count) (sym (waiting-resumed d w e)) (All-filter (λ x. not (x.who == w.who)) (IsWithin count) d.waiting within)) in
+        (subst (WaitersWithin count) (sym (waiting-resumed part_by_itself itself-keeps d w e)) (All-filter (λ x. not (x.who == w.who)) (IsWithin count) d.waiting within)) in
         record {
           answers = All-cons (IsKnown count) _ _ (waiting-within count w.who d.waiting within (is-ready d w e).there) rest.answers;
           waiting = subst (λ (x : RowPart). WaitersWithin count x.waiting)
-              (sym (behind-append d (resumed part_by_itself d w).marks (settles part_by_itself n (behind_marks part_by_itself d (resumed part_by_itself d w).marks)).marks)) rest.waiting;
+              (sym (behind-append part_by_itself d (resumed part_by_itself d w).marks (settles part_by_itself n (behind_marks part_by_itself d (resumed part_by_itself d w).marks)).marks)) rest.waiting;
         }
 
 -- the sessions of a turn's answers are known, and so are those that wait behind it

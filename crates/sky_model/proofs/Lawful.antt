@@ -1,5 +1,6 @@
 -- Whatever is called, the history of each database is legal.
-use Rattle.std.proofs.Common.{◌≡◌, ℕ, suc, zero, ℤ, pos, ◌+◌, ◌<◌, List, [], ◌∷◌, ◌++◌, Bool, true, false, ◌==◌, nat_le, Option, Some, None, Ok, Err, option_map, unwrap_or, map, length, is_some, refl, sym, ◌∙◌, ap, subst, arith, if◌then◌else◌, length-append, ◌^◌}
+use Rattle.std.proofs.Common.{◌≡◌, ℕ, suc, zero, ℤ, ◌+◌, ◌<◌, List, [], ◌∷◌, ◌++◌, Bool, true, false, ◌==◌, nat_le, Option, Some, None, Ok, Err, option_map, unwrap_or, map, length, is_some, refl, sym, ◌∙◌, ap, subst, arith, if◌then◌else◌, length-append, ◌^◌}
+use Rattle.std.specs.Prelude.{not}
 use Rattle.std.proofs.lemmas.Bool.Decides.{nat_tests}
 use Rattle.sky_model.specs.declared.stmt.Stmt.{Stmt}
 use Rattle.sky_model.specs.declared.stmt.Extra.{Extra}
@@ -17,18 +18,20 @@ use Rattle.sky_model.specs.Config.{default_config}
 use Rattle.sky_model.specs.Queues.{queue_names, Tick, ticks, tick, newest_tick, sequence}
 use Rattle.sky_model.specs.Consumers.{subscription_id, Subscription, subscription, active_batch}
 use Rattle.sky_model.specs.Locks.{waiting}
-use Rattle.sky_model.specs.State.{part_of, database_of}
+use Rattle.sky_model.specs.State.{RowPart, part_of, database_of}
 use Rattle.sky_model.specs.ShownRows.{rows_in}
 use Rattle.sky_model.specs.OwnTransaction.{own_or_next, begin_of, commit_of, written}
-use Rattle.sky_model.specs.Outcome.{Checked, ◌>>=◌, ◌>>◌, refused_if, answers, does_marks, settled}
-use Rattle.sky_model.specs.Allowed.{where_of, allowed}
+use Rattle.sky_model.specs.Outcome.{Outcome, Checked, ◌>>=◌, ◌>>◌, refused_if, answers, does_marks, abort, settled}
+use Rattle.sky_model.specs.Allowed.{where_of_row, where_of, allowed}
+use Rattle.sky_model.specs.StepRows.{attempts}
 use Rattle.sky_model.specs.StepQueue.{create_queue, insert_event, ticker, force_tick, is_due, forced, newest_id, id_of, next_event_id, made_event}
 use Rattle.sky_model.specs.StepConsumer.{has_dot, register_consumer, next_batch, opens_batch, takes_batch, finishes}
 use Rattle.sky_model.specs.World.{World, world_of, history_in, on_top, session_names, home}
-use Rattle.sky_model.specs.Reader.{shown_in, part_by_history, database_by_history, within_part, within_database, by_past, Deed, appears, followed}
+use Rattle.sky_model.specs.Reader.{shown_in, PartReader, part_by_history, database_by_history, within_part, within_database, by_past, Deed, appears, followed}
+use Rattle.sky_model.specs.Gates.{Gate, takes_all, gated, by_gate}
 use Rattle.sky_model.specs.Made.{takes_sight, looking, runs_if}
-use Rattle.sky_model.specs.Settling.{Turn, turn_of, behind_marks, and_then, ready, resumed, goes_on, settles, settling, with_settling}
-use Rattle.sky_model.specs.Calls.{form, making, row_statement, row_turn, statement, database_turn, is_leaving, unopened, session_does, turn, Call, called, after, past_of}
+use Rattle.sky_model.specs.Settling.{Turn, turn_of, behind_marks, and_then, ready, attempted, resumed, goes_on, settles, settling, with_settling}
+use Rattle.sky_model.specs.Calls.{row_form, form, row_making, making, row_statement, row_turn, statement, database_turn, is_leaving, unopened, session_does, turn, Call, called, after, past_of}
 use Rattle.sky_model.proofs.Legal.{Fine, begins, ends, looks, ends_waiting, makes, raises, puts, ticks_next, registers, opens as opens_fine, closes, Chain, done, more, Legal, start, next}
 use Rattle.sky_model.proofs.Good.{Good, same-session, good_test, good_test_then, good_found, good_if, good_refused, good_commits}
 use Rattle.sky_model.proofs.LawfulRows.{good_attempts, good_row_form}
@@ -210,27 +213,115 @@ pub legal_behind : (h : History) (marks : List Mark) → Legal h → Chain h mar
 legal_behind h [] l done = l
 legal_behind h (mark ∷ marks) l (more fine chain) = legal_behind (mark ∷ h) marks (next l fine) chain
 
-good_then : (h : History) → Legal h → (turn : Turn) (rest : History → Turn) → Chain h turn.marks → ((g : History) → Legal g → Chain g (rest g).marks)
-    → Chain h (and_then part_by_history h turn rest).marks
-good_then h l turn rest chain also = good_append h turn.marks _ chain (also (behind_marks part_by_history h turn.marks) (legal_behind h turn.marks l chain))
+-- a place that reads as its past does, and where what may come there still may once its writes are told of
+pub record ReadsPast {P : Type 0} (r : PartReader P) (past : P → History) : Type 0 where
+  pub part : (p : P) → r.part p ≡ part_of (past p)
+  pub rows : (p : P) → r.rows p ≡ rows_in (past p)
+  pub behind : (p : P) (mark : Mark) → past (r.behind p mark) ≡ mark ∷ past p
+  pub tells : (p : P) → Legal (past p) → (who : ℕ) (c : Checked Outcome) → Good (past p) who c → Good (past p) who (r.tells p c)
 
-good_goes_on : (h : History) → Legal h → (rest : History → Turn) (o : Option Waiting) → ((g : History) → Legal g → Chain g (rest g).marks) → Chain h (goes_on part_by_history h rest o).marks
-good_goes_on h l rest None also = done
-good_goes_on h l rest (Some w) also =
-    good_then h l (resumed part_by_history h w) rest
-    (more (ends_waiting w.who) (good_attempts (tabled (waited w.who) ∷ h) w.who w.table w.key ((rows_in (tabled (waited w.who) ∷ h)).key w.who w.table w.key) ((part_of h).attempt w.who)))
-    also
+-- a history does so itself
+pub history-reads : ReadsPast part_by_history (λ h. h)
+history-reads = record { part = λ h. refl; rows = λ h. refl; behind = λ h mark. refl; tells = λ h l who c good. good }
 
-good_settles : (n : ℕ) (h : History) → Legal h → Chain h (settles part_by_history n h).marks
-good_settles zero h l = done
-good_settles (suc n) h l = good_goes_on h l (settles part_by_history n) (ready (part_of h)) (good_settles n)
+-- what a gate lets pass may come where it might
+pub good_gated : {G : Type 0} (gate : Gate G) (g : G) (h : History) (who : ℕ) (c : Checked Outcome) → Good h who c → Good h who (gated gate g c)
+good_gated gate g h who (Err refusal) good = good
+good_gated gate g h who (Ok o) good = good_test h who (not (takes_all gate g o.marks)) EventIdsSpent (Ok o) (λ _. good)
 
+-- so a place still does behind a gate
+pub by_gate-reads : {G P : Type 0} (gate : Gate G) (r : PartReader P) (past : P → History) → ReadsPast r past → ReadsPast (by_gate gate r) (λ p. past p.0)
+by_gate-reads gate r past reads = record {
+  part = λ p. reads.part p.0;
+  rows = λ p. reads.rows p.0;
+  behind = λ p mark. reads.behind p.0 mark;
+  tells = λ p l who c good. good_gated gate p.1 (past p.0) who (r.tells p.0 c) (reads.tells p.0 l who c good);
+}
+
+-- the past behind marks
+pub past-behind : {P : Type 0} (r : PartReader P) (past : P → History) → ReadsPast r past → (p : P) (marks : List Mark)
+    → past (behind_marks r p marks) ≡ behind_marks part_by_history (past p) marks
+past-behind r past reads p [] = refl
+past-behind r past reads p (mark ∷ marks) = past-behind r past reads (r.behind p mark) marks ∙ ap (λ h. behind_marks part_by_history h marks) (reads.behind p mark)
+
+-- what a session does there may come, once its writes are told of
+good_told : {P : Type 0} (r : PartReader P) (past : P → History) → ReadsPast r past → (p : P) → Legal (past p) → (who : ℕ) (c : Checked Outcome) → Good (past p) who c
+    → Chain (past p) (settled who ((r.part p).session who) (r.tells p c)).marks
+good_told r past reads p l who c good =
+    subst (λ (d : RowPart). Chain (past p) (settled who (d.session who) (r.tells p c)).marks) (sym (reads.part p)) (reads.tells p l who c good)
+
+good_then : {P : Type 0} (r : PartReader P) (past : P → History) → ReadsPast r past → (p : P) → Legal (past p) → (turn : Turn) (rest : P → Turn) → Chain (past p) turn.marks
+    → ((q : P) → Legal (past q) → Chain (past q) (rest q).marks) → Chain (past p) (and_then r p turn rest).marks
+good_then r past reads p l turn rest chain also =
+    good_append (past p) turn.marks _ chain
+    (subst (λ h. Chain h (rest (behind_marks r p turn.marks)).marks) (past-behind r past reads p turn.marks)
+    (also (behind_marks r p turn.marks) (subst Legal (sym (past-behind r past reads p turn.marks)) (legal_behind (past p) turn.marks l chain))))
+
+good_resumed : {P : Type 0} (r : PartReader P) (past : P → History) → ReadsPast r past → (p : P) → Legal (past p) → (w : Waiting) → Chain (past p) (resumed r p w).marks
+good_resumed {P = P} r past reads p l w =
+    more (ends_waiting w.who) (subst (λ h. Chain h (attempted r w ((r.part p).attempt w.who) behind).marks) gone (good_told r past reads behind legal w.who _ tried))
+  where
+    behind : P
+    behind = r.behind p (tabled (waited w.who))
+
+    gone : past behind ≡ tabled (waited w.who) ∷ past p
+    gone = reads.behind p (tabled (waited w.who))
+
+    legal : Legal (past behind)
+    legal = subst Legal (sym gone) (next l (ends_waiting w.who))
+
+    tried : Good (past behind) w.who (attempts (r.part behind) ((r.rows behind).key w.who w.table w.key) w.who w.table w.key ((r.part p).attempt w.who))
+    tried = subst (λ d. Good (past behind) w.who (attempts d ((r.rows behind).key w.who w.table w.key) w.who w.table w.key ((r.part p).attempt w.who))) (sym (reads.part behind))
+        (good_attempts (past behind) w.who w.table w.key ((r.rows behind).key w.who w.table w.key) ((r.part p).attempt w.who))
+
+good_goes_on : {P : Type 0} (r : PartReader P) (past : P → History) → ReadsPast r past → (p : P) → Legal (past p) → (rest : P → Turn) (o : Option Waiting)
+    → ((q : P) → Legal (past q) → Chain (past q) (rest q).marks) → Chain (past p) (goes_on r p rest o).marks
+good_goes_on r past reads p l rest None also = done
+good_goes_on r past reads p l rest (Some w) also = good_then r past reads p l (resumed r p w) rest (good_resumed r past reads p l w) also
+
+good_settles : {P : Type 0} (r : PartReader P) (past : P → History) → ReadsPast r past → (n : ℕ) (p : P) → Legal (past p) → Chain (past p) (settles r n p).marks
+good_settles r past reads zero p l = done
+good_settles r past reads (suc n) p l = good_goes_on r past reads p l (settles r n) (ready (r.part p)) (good_settles r past reads n)
+
+-- a turn with those that it lets go on, at a place that reads as its past
+pub good_with_settling-by : {P : Type 0} (r : PartReader P) (past : P → History) → ReadsPast r past → (p : P) → Legal (past p) → (turn : Turn) → Chain (past p) turn.marks
+    → Chain (past p) (with_settling r p turn).marks
+good_with_settling-by r past reads p l turn chain = good_then r past reads p l turn (settling r) chain (λ q legal. good_settles r past reads (length (r.part q).waiting) q legal)
+
+good_row_runs : {P : Type 0} (r : PartReader P) (past : P → History) → ReadsPast r past → (p : P) → Legal (past p) → (who : ℕ) (stmt : RowStmt) (may : Checked (Unit {0}))
+    → Chain (past p) (runs_if (row_making r who stmt) (where_of_row stmt) who p may).marks
+good_row_runs r past reads p l who stmt (Err refusal) =
+    subst (λ (d : RowPart). Chain (past p) (abort who (d.session who).block (d.session who).txid refusal)) (sym (reads.part p)) (good_refused (past p) who refusal)
+good_row_runs {P = P} r past reads p l who stmt (Ok _) = of (takes_sight (where_of_row stmt) ((r.part p).session who).sight)
+  where
+    behind : P
+    behind = r.behind p (looked who)
+
+    runs_at : (q : P) → Legal (past q) → Chain (past q) (settled who ((r.part q).session who) (r.tells q (row_form (r.part q) (r.rows q) who stmt))).marks
+    runs_at q legal = good_told r past reads q legal who _
+        (subst (λ d. Good (past q) who (row_form d (r.rows q) who stmt)) (sym (reads.part q))
+        (subst (λ rows. Good (past q) who (row_form (part_of (past q)) rows who stmt)) (sym (reads.rows q)) (good_row_form (past q) who stmt)))
+
+    of : (b : Bool) → Chain (past p) (if b then looking who (settled who ((r.part behind).session who) (r.tells behind (row_form (r.part behind) (r.rows behind) who stmt)))
+        else settled who ((r.part p).session who) (r.tells p (row_form (r.part p) (r.rows p) who stmt))).marks
+    of true =
+        more (looks who) (subst (λ h. Chain h (settled who ((r.part behind).session who) (r.tells behind (row_form (r.part behind) (r.rows behind) who stmt))).marks) (reads.behind p (looked who))
+        (runs_at behind (subst Legal (sym (reads.behind p (looked who))) (next l (looks who)))))
+    of false = runs_at p l
+
+-- and a statement on rows with those that it lets go on
+pub good_row_turn-by : {P : Type 0} (r : PartReader P) (past : P → History) → ReadsPast r past → (p : P) → Legal (past p) → (who : ℕ) (stmt : RowStmt)
+    → Chain (past p) (row_turn r p who stmt).marks
+good_row_turn-by r past reads p l who stmt =
+    good_with_settling-by r past reads p l (turn_of who (row_statement r p who stmt))
+    (good_row_runs r past reads p l who stmt (allowed (is_waiting who (r.part p).waiting) ((r.part p).session who).block (where_of_row stmt)))
+
+-- the same of a history
 pub good_with_settling : (h : History) → Legal h → (turn : Turn) → Chain h turn.marks → Chain h (with_settling part_by_history h turn).marks
-good_with_settling h l turn chain = good_then h l turn (settling part_by_history) chain (λ g legal. good_settles (length (waiting g)) g legal)
+good_with_settling h l turn chain = good_with_settling-by part_by_history (λ h. h) history-reads h l turn chain
 
--- a statement on rows is one of a database
 pub good_row_turn : (h : History) → Legal h → (who : ℕ) (stmt : RowStmt) → Chain h (row_turn part_by_history h who stmt).marks
-good_row_turn h l who stmt = good_with_settling h l (turn_of who (row_statement part_by_history h who stmt)) (good_statement h l (pos 0) who (Row stmt))
+good_row_turn h l who stmt = good_row_turn-by part_by_history (λ h. h) history-reads h l who stmt
 
 pub good_turn : (h : History) → Legal h → (now : ℤ) (who : ℕ) (stmt : Stmt) → Chain h (database_turn database_by_history h now who stmt).marks
 good_turn h l now who stmt = good_with_settling h l (turn_of who (statement database_by_history h now who stmt)) (good_statement h l now who stmt)

@@ -35,7 +35,9 @@ pub mod KeyVersions
 pub mod RowSights
 pub mod RowLaws
 pub mod Resting
+pub mod GatedLemmas
 pub mod RowStanding
+pub mod GatedStanding
 pub mod DatabaseStanding
 pub mod Standing
 pub mod LockLaws

@@ -24,7 +24,7 @@ use Rattle.sky_model.proofs.Legal.{Legal}
 use Rattle.sky_model.proofs.Unopened.{on_top-append, unopened-within, history-marks, history-left}
 use Rattle.sky_model.proofs.Lawful.{AllLegal, good_turn, same-turn-within, legal_past}
 use Rattle.sky_model.proofs.RowStanding.{settled-turn, part_of-marks, behind-after}
-use Rattle.sky_model.proofs.Resting.{turn-rests}
+use Rattle.sky_model.proofs.Resting.{itself-keeps, turn-rests}
 
 pub holders_have_written : HoldersHaveWritten
 holders_have_written p is table key who = (holder-written p (legal_place p is) table key who, written-holder p (legal_place p is) table key who)
@@ -62,7 +62,7 @@ history-rests : (h : History) → Legal h → (now : ℤ) (who : ℕ) (stmt : St
 history-rests h l now who stmt turn same =
     ap ready (part_of-marks h turn.marks ∙ sym (behind-after (part_of h) turn.marks))
     ∙ ap (λ (x : Turn). ready (behind_marks part_by_itself (part_of h) x.marks)) (same ∙ settled-turn h l (turn_of who (statement database_by_history h now who stmt)) (good_turn h l now who stmt))
-    ∙ turn-rests (part_of h) (turn_of who (statement database_by_history h now who stmt))
+    ∙ turn-rests part_by_itself itself-keeps (part_of h) (turn_of who (statement database_by_history h now who stmt))
 
 -- a past in each of whose databases none is ready
 abbrev AllRest : Past → Type 0

@@ -1,6 +1,6 @@
 -- When those that a statement lets go on have been run, none is ready, and no more are run than wait.
 use Rattle.std.proofs.Common.{◌≡◌, ℕ, zero, suc, ◌<◌, ◌≤◌, ◌^◌, Bool, true, false, ◌==◌, nat_le, List, [], ◌∷◌, ◌++◌, Option, Some, None, Ok, Err, option_map, length, is_some, refl, sym, ◌∙◌, ap, subst, arith, if◌then◌else◌}
-use Rattle.std.specs.Prelude.{is_none, ◌||◌}
+use Rattle.std.specs.Prelude.{is_none, not, ◌||◌}
 use Rattle.std.proofs.lemmas.Bool.Decides.{nat_tests}
 use Rattle.sky_val.specs.declared.val.Val.{Val}
 use Rattle.sky_val.specs.Waits as waits
@@ -8,28 +8,30 @@ use Rattle.sky_val.specs.Waits.{Holders, other_than, other_holder, Waiting, is_w
 use Rattle.sky_val.proofs.WaitLemmas.{without_shorter}
 use Rattle.sky_model.specs.declared.reply.Reply.TheVariants.{Number}
 use Rattle.sky_model.specs.declared.reply.Refusal.{Refusal}
-use Rattle.sky_model.specs.declared.reply.Refusal.TheVariants.{Duplicate, Serialize, TxidsSpent}
+use Rattle.sky_model.specs.declared.reply.Refusal.TheVariants.{Duplicate, EventIdsSpent, Serialize, TxidsSpent}
 use Rattle.sky_model.specs.declared.stmt.Attempt.{Attempt}
 use Rattle.sky_model.specs.declared.stmt.Attempt.TheVariants.{Insertion, Changes, Deletion}
 use Rattle.sky_model.specs.History.{Mark, began, ended, block_begun, repeats, looked, block_failed, block_ended, tabled, table_made, wrote, waits as waits_mark, waited, queued}
 use Rattle.sky_model.specs.Sessions.{Block, outside, inside, failed, Session}
 use Rattle.sky_model.specs.State.{RowPart, after_part}
-use Rattle.sky_model.specs.ShownRows.{KeyShown, rows_by}
+use Rattle.sky_model.specs.ShownRows.{KeyShown}
 use Rattle.sky_model.specs.Outcome.{Outcome, Checked, ◌>>=◌, ◌>>◌, refused_if, refused_by, does_marks, end_of, aborts, abort, settled}
 use Rattle.sky_model.specs.OwnTransaction.{own_or_next, begin_of, commit_of}
 use Rattle.sky_model.specs.StepLocks.{once_free}
 use Rattle.sky_model.specs.StepRows.{with_sets, writes_key, changes, some_row, attempts}
-use Rattle.sky_model.specs.Reader.{part_by_itself}
+use Rattle.sky_model.specs.Reader.{PartReader, part_by_itself}
+use Rattle.sky_model.specs.Gates.{Gate, takes_all, gated, by_gate}
 use Rattle.sky_model.specs.Settling.{Turn, rests, behind_marks, joined, and_then, ready, attempted, resumed, goes_on, settles, settling}
 
 -- none of the marks begins or ends a wait
-abbrev NoWaits : List Mark → Type 0
+abbrev pub NoWaits : List Mark → Type 0
 NoWaits [] = Unit {0}
 NoWaits (tabled (waits_mark who table key attempt) ∷ marks) = ⊥
 NoWaits (tabled (waited who) ∷ marks) = ⊥
 NoWaits (_ ∷ marks) = NoWaits marks
 
-abbrev Quiet : Checked Outcome → Type 0
+-- nor does what a statement does, where it isn't refused
+abbrev pub Quiet : Checked Outcome → Type 0
 Quiet (Ok o) = NoWaits o.marks
 Quiet (Err refusal) = Unit {0}
 
@@ -143,20 +145,58 @@ ready-found holder (x ∷ ws) w e = of (is_none (holder x.table x.key)) refl e (
 pub is-ready : (d : RowPart) (w : Waiting) → ready d ≡ Some w → IsReady d w
 is-ready d w e = let found : (is_waiting w.who d.waiting ≡ true) × (d.holder w.table w.key ≡ None) = ready-found d.holder d.waiting w e in record { there = found.0; free = found.1 }
 
+-- a place that keeps a row part by itself, and where no wait begins or ends by what is told of writes
+pub record KeepsPart {P : Type 0} (r : PartReader P) : Type 0 where
+  pub part : (p : P) (mark : Mark) → r.part (r.behind p mark) ≡ after_part (r.part p) mark
+  pub quiet : (p : P) (c : Checked Outcome) → Quiet c → Quiet (r.tells p c)
+
+-- a row part does so itself
+pub itself-keeps : KeepsPart part_by_itself
+itself-keeps = record { part = λ d mark. refl; quiet = λ d c quiet. quiet }
+
+gated-quiet : {G : Type 0} (gate : Gate G) (g : G) (c : Checked Outcome) → Quiet c → Quiet (gated gate g c)
+gated-quiet gate g (Err refusal) quiet = tt
+gated-quiet gate g (Ok o) quiet = test (not (takes_all gate g o.marks)) EventIdsSpent (Ok o) quiet
+
+-- and still does behind a gate
+pub by_gate-keeps : {G P : Type 0} (gate : Gate G) (r : PartReader P) → KeepsPart r → KeepsPart (by_gate gate r)
+by_gate-keeps gate r keeps = record { part = λ p mark. keeps.part p.0 mark; quiet = λ p c quiet. gated-quiet gate p.1 (r.tells p.0 c) (keeps.quiet p.0 c quiet) }
+
+pub gated-keeps : {G : Type 0} (gate : Gate G) → KeepsPart (by_gate gate part_by_itself)
+gated-keeps gate = by_gate-keeps gate part_by_itself itself-keeps
+
+-- the part behind marks
+pub part-behind_marks : {P : Type 0} (r : PartReader P) → KeepsPart r → (p : P) (marks : List Mark) → r.part (behind_marks r p marks) ≡ behind_marks part_by_itself (r.part p) marks
+part-behind_marks r keeps p [] = refl
+part-behind_marks r keeps p (mark ∷ marks) = part-behind_marks r keeps (r.behind p mark) marks ∙ ap (λ d. behind_marks part_by_itself d marks) (keeps.part p mark)
+
 -- when it has been run, it is out of the list, and nobody has come in
-pub waiting-resumed : (d : RowPart) (w : Waiting) → ready d ≡ Some w → (behind_marks part_by_itself d (resumed part_by_itself d w).marks).waiting ≡ without w.who d.waiting
-waiting-resumed d w e =
-    waiting-quiet behind (attempted part_by_itself w (d.attempt w.who) behind).marks
-    (settled-quiet w.who (behind.session w.who)
-    (attempts behind ((rows_by behind).key w.who w.table w.key) w.who w.table w.key (d.attempt w.who))
-    (attempts-quiet behind ((rows_by behind).key w.who w.table w.key) w.who w.table w.key (d.attempt w.who) (ap (other_than w.who) (is-ready d w e).free)))
+pub waiting-resumed : {P : Type 0} (r : PartReader P) → KeepsPart r → (p : P) (w : Waiting) → ready (r.part p) ≡ Some w
+    → (r.part (behind_marks r p (resumed r p w).marks)).waiting ≡ without w.who (r.part p).waiting
+waiting-resumed {P = P} r keeps p w e =
+    ap RowPart.waiting (part-behind_marks r keeps behind (attempted r w ((r.part p).attempt w.who) behind).marks)
+    ∙ waiting-quiet (r.part behind) (attempted r w ((r.part p).attempt w.who) behind).marks
+    (settled-quiet w.who ((r.part behind).session w.who) (r.tells behind tried)
+    (keeps.quiet behind tried (attempts-quiet (r.part behind) ((r.rows behind).key w.who w.table w.key) w.who w.table w.key ((r.part p).attempt w.who) free)))
+    ∙ ap RowPart.waiting gone
   where
-    behind : RowPart
-    behind = after_part d (tabled (waited w.who))
+    behind : P
+    behind = r.behind p (tabled (waited w.who))
+
+    gone : r.part behind ≡ after_part (r.part p) (tabled (waited w.who))
+    gone = keeps.part p (tabled (waited w.who))
+
+    tried : Checked Outcome
+    tried = attempts (r.part behind) ((r.rows behind).key w.who w.table w.key) w.who w.table w.key ((r.part p).attempt w.who)
+
+    free : other_holder (r.part behind).holder w.who w.table w.key ≡ None
+    free = ap (λ (d : RowPart). other_holder d.holder w.who w.table w.key) gone ∙ ap (other_than w.who) (is-ready (r.part p) w e).free
 
 -- so fewer wait
-pub fewer-wait : (d : RowPart) (w : Waiting) → ready d ≡ Some w → length (behind_marks part_by_itself d (resumed part_by_itself d w).marks).waiting < length d.waiting
-fewer-wait d w e = subst (λ ws. length ws < length d.waiting) (sym (waiting-resumed d w e)) (without_shorter w.who d.waiting (is-ready d w e).there)
+pub fewer-wait : {P : Type 0} (r : PartReader P) → KeepsPart r → (p : P) (w : Waiting) → ready (r.part p) ≡ Some w
+    → length (r.part (behind_marks r p (resumed r p w).marks)).waiting < length (r.part p).waiting
+fewer-wait r keeps p w e =
+    subst (λ ws. length ws < length (r.part p).waiting) (sym (waiting-resumed r keeps p w e)) (without_shorter w.who (r.part p).waiting (is-ready (r.part p) w e).there)
 
 nobody : (d : RowPart) → length d.waiting ≤ 0 → ready d ≡ None
 nobody d most = of d.waiting most
@@ -166,56 +206,57 @@ nobody d most = of d.waiting most
     of (w ∷ ws) most = absurd (omega arith)
 
 -- any number that is large enough does
-enough : (n m : ℕ) (d : RowPart) → length d.waiting ≤ n → length d.waiting ≤ m → settles part_by_itself n d ≡ settles part_by_itself m d
-enough zero zero d some also = refl
-enough zero (suc m) d some also = sym (ap (goes_on part_by_itself d (settles part_by_itself m)) (nobody d some))
-enough (suc n) zero d some also = ap (goes_on part_by_itself d (settles part_by_itself n)) (nobody d also)
-enough (suc n) (suc m) d some also = of (ready d) refl (enough n m)
+enough : {P : Type 0} (r : PartReader P) → KeepsPart r → (n m : ℕ) (p : P) → length (r.part p).waiting ≤ n → length (r.part p).waiting ≤ m → settles r n p ≡ settles r m p
+enough r keeps zero zero p some also = refl
+enough r keeps zero (suc m) p some also = sym (ap (goes_on r p (settles r m)) (nobody (r.part p) some))
+enough r keeps (suc n) zero p some also = ap (goes_on r p (settles r n)) (nobody (r.part p) also)
+enough {P = P} r keeps (suc n) (suc m) p some also = of (ready (r.part p)) refl (enough r keeps n m)
   where
-    of : (o : Option Waiting) → ready d ≡ o
-        → ((e : RowPart) → length e.waiting ≤ n → length e.waiting ≤ m → settles part_by_itself n e ≡ settles part_by_itself m e)
-        → goes_on part_by_itself d (settles part_by_itself n) o ≡ goes_on part_by_itself d (settles part_by_itself m) o
+    of : (o : Option Waiting) → ready (r.part p) ≡ o
+        → ((q : P) → length (r.part q).waiting ≤ n → length (r.part q).waiting ≤ m → settles r n q ≡ settles r m q)
+        → goes_on r p (settles r n) o ≡ goes_on r p (settles r m) o
     of None e ih = refl
     of (Some w) e ih =
-        ap (joined (resumed part_by_itself d w)) (ih (behind_marks part_by_itself d (resumed part_by_itself d w).marks) (omega (arith, fewer-wait d w e, some)) (omega (arith, fewer-wait d w e, also)))
+        ap (joined (resumed r p w)) (ih (behind_marks r p (resumed r p w).marks) (omega (arith, fewer-wait r keeps p w e, some)) (omega (arith, fewer-wait r keeps p w e, also)))
 
 -- those that go on: nobody, where none is ready
-pub settling-none : (d : RowPart) → ready d ≡ None → settling part_by_itself d ≡ rests
-settling-none d e = of (length d.waiting)
+pub settling-none : {P : Type 0} (r : PartReader P) → KeepsPart r → (p : P) → ready (r.part p) ≡ None → settling r p ≡ rests
+settling-none r keeps p e = of (length (r.part p).waiting)
   where
-    of : (n : ℕ) → settles part_by_itself n d ≡ rests
+    of : (n : ℕ) → settles r n p ≡ rests
     of zero = refl
-    of (suc n) = ap (goes_on part_by_itself d (settles part_by_itself n)) e
+    of (suc n) = ap (goes_on r p (settles r n)) e
 
 -- or the one that is ready, and then all that are ready behind it
-pub settling-some : (d : RowPart) (w : Waiting) → ready d ≡ Some w → settling part_by_itself d ≡ and_then part_by_itself d (resumed part_by_itself d w) (settling part_by_itself)
-settling-some d w e = of (length d.waiting) refl
+pub settling-some : {P : Type 0} (r : PartReader P) → KeepsPart r → (p : P) (w : Waiting) → ready (r.part p) ≡ Some w → settling r p ≡ and_then r p (resumed r p w) (settling r)
+settling-some r keeps p w e = of (length (r.part p).waiting) refl
   where
-    of : (n : ℕ) → length d.waiting ≡ n → settles part_by_itself n d ≡ and_then part_by_itself d (resumed part_by_itself d w) (settling part_by_itself)
-    of zero is = absurd (cc (sym (nobody d (omega (arith, is))) ∙ e))
+    of : (n : ℕ) → length (r.part p).waiting ≡ n → settles r n p ≡ and_then r p (resumed r p w) (settling r)
+    of zero is = absurd (cc (sym (nobody (r.part p) (omega (arith, is))) ∙ e))
     of (suc n) is =
-        ap (goes_on part_by_itself d (settles part_by_itself n)) e
-        ∙ ap (joined (resumed part_by_itself d w))
-        (enough n (length (behind_marks part_by_itself d (resumed part_by_itself d w).marks).waiting) (behind_marks part_by_itself d (resumed part_by_itself d w).marks)
-        (omega (arith, fewer-wait d w e, is)) (omega arith))
+        ap (goes_on r p (settles r n)) e
+        ∙ ap (joined (resumed r p w))
+        (enough r keeps n (length (r.part (behind_marks r p (resumed r p w).marks)).waiting) (behind_marks r p (resumed r p w).marks)
+        (omega (arith, fewer-wait r keeps p w e, is)) (omega arith))
 
-pub behind-append : (d : RowPart) (xs ys : List Mark) → behind_marks part_by_itself d (xs ++ ys) ≡ behind_marks part_by_itself (behind_marks part_by_itself d xs) ys
-behind-append d [] ys = refl
-behind-append d (x ∷ xs) ys = behind-append (after_part d x) xs ys
+-- the place behind marks and more of them
+pub behind-append : {P : Type 0} (r : PartReader P) (p : P) (xs ys : List Mark) → behind_marks r p (xs ++ ys) ≡ behind_marks r (behind_marks r p xs) ys
+behind-append r p [] ys = refl
+behind-append r p (x ∷ xs) ys = behind-append r (r.behind p x) xs ys
 
-settles-rest : (n : ℕ) (d : RowPart) → length d.waiting ≤ n → ready (behind_marks part_by_itself d (settles part_by_itself n d).marks) ≡ None
-settles-rest zero d most = nobody d most
-settles-rest (suc n) d most = of (ready d) refl (settles-rest n)
+settles-rest : {P : Type 0} (r : PartReader P) → KeepsPart r → (n : ℕ) (p : P) → length (r.part p).waiting ≤ n → ready (r.part (behind_marks r p (settles r n p).marks)) ≡ None
+settles-rest r keeps zero p most = nobody (r.part p) most
+settles-rest {P = P} r keeps (suc n) p most = of (ready (r.part p)) refl (settles-rest r keeps n)
   where
-    of : (o : Option Waiting) → ready d ≡ o → ((e : RowPart) → length e.waiting ≤ n → ready (behind_marks part_by_itself e (settles part_by_itself n e).marks) ≡ None)
-        → ready (behind_marks part_by_itself d (goes_on part_by_itself d (settles part_by_itself n) o).marks) ≡ None
+    of : (o : Option Waiting) → ready (r.part p) ≡ o → ((q : P) → length (r.part q).waiting ≤ n → ready (r.part (behind_marks r q (settles r n q).marks)) ≡ None)
+        → ready (r.part (behind_marks r p (goes_on r p (settles r n) o).marks)) ≡ None
     of None e ih = e
     of (Some w) e ih =
-        ap ready (behind-append d (resumed part_by_itself d w).marks (settles part_by_itself n (behind_marks part_by_itself d (resumed part_by_itself d w).marks)).marks)
-        ∙ ih (behind_marks part_by_itself d (resumed part_by_itself d w).marks) (omega (arith, fewer-wait d w e, most))
+        ap (λ q. ready (r.part q)) (behind-append r p (resumed r p w).marks (settles r n (behind_marks r p (resumed r p w).marks)).marks)
+        ∙ ih (behind_marks r p (resumed r p w).marks) (omega (arith, fewer-wait r keeps p w e, most))
 
 -- behind a turn with all that it lets go on none is ready
-pub turn-rests : (d : RowPart) (turn : Turn) → ready (behind_marks part_by_itself d (and_then part_by_itself d turn (settling part_by_itself)).marks) ≡ None
-turn-rests d turn =
-    ap ready (behind-append d turn.marks (settling part_by_itself (behind_marks part_by_itself d turn.marks)).marks)
-    ∙ settles-rest (length (behind_marks part_by_itself d turn.marks).waiting) (behind_marks part_by_itself d turn.marks) (omega arith)
+pub turn-rests : {P : Type 0} (r : PartReader P) → KeepsPart r → (p : P) (turn : Turn) → ready (r.part (behind_marks r p (and_then r p turn (settling r)).marks)) ≡ None
+turn-rests r keeps p turn =
+    ap (λ q. ready (r.part q)) (behind-append r p turn.marks (settling r (behind_marks r p turn.marks)).marks)
+    ∙ settles-rest r keeps (length (r.part (behind_marks r p turn.marks)).waiting) (behind_marks r p turn.marks) (omega arith)

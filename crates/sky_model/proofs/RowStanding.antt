@@ -11,37 +11,24 @@ use Rattle.sky_model.specs.Allowed.{where_of_row, where_of}
 use Rattle.sky_model.specs.World.{World}
 use Rattle.sky_model.specs.Reader.{part_by_history, part_by_itself, database_by_itself, within_part, within_database, by_world, shown_by}
 use Rattle.sky_model.specs.Settling.{Turn, turn_of, behind_marks, settling, with_settling}
-use Rattle.sky_model.specs.Calls.{row_form, row_making, row_statement, row_turn, form, making, statement, database_turn}
+use Rattle.sky_model.specs.Calls.{row_making, row_statement, row_turn, form, making, statement, database_turn}
 use Rattle.sky_model.specs.HistoryPlaces.{IsPlace}
 use Rattle.sky_model.specs.RowSteps.{marked, row_turn_at, RowSteps}
 use Rattle.sky_model.proofs.Legal.{Fine, looks, Chain, done, more, Legal, next}
 use Rattle.sky_model.proofs.Marks.{part_of-mark}
 use Rattle.sky_model.proofs.Good.{same-session}
 use Rattle.sky_model.proofs.MadeAt.{same-made_by}
-use Rattle.sky_model.proofs.Turns.{Each, ReadAlike, same-settles, same-with_settling, Any, each-any}
+use Rattle.sky_model.proofs.Turns.{Each, ReadAlike, same-settles, same-with_settling, alike-turn, Any, each-any}
 use Rattle.sky_model.proofs.Lawful.{good_row_turn}
 use Rattle.sky_model.proofs.RowSights.{same-rows}
 use Rattle.sky_model.proofs.SnapshotLaws.{legal_place}
 
--- by the history a statement on rows does what it does by what the part keeps
-same-row_statement : (h : History) → Legal h → (who : ℕ) (stmt : RowStmt) → row_statement part_by_history h who stmt ≡ row_statement part_by_itself (part_of h) who stmt
-same-row_statement h l who stmt =
-    same-made_by (row_making part_by_history who stmt) (row_making part_by_itself who stmt) (where_of_row stmt) who h (part_of h) (record {
-      sessions = refl;
-      waiting = refl;
-      outcomes = ap (λ rows. row_form (part_of h) rows who stmt) (same-rows h l);
-      sessions_behind = ap (λ (d : RowPart). d.session who) (part_of-mark h (looked who));
-      outcomes_behind =
-          ap (λ rows. row_form (part_of (looked who ∷ h)) rows who stmt) (same-rows (looked who ∷ h) (next l (looks who)))
-          ∙ ap (λ d. row_form d (rows_by d) who stmt) (part_of-mark h (looked who));
-    })
-
 -- a legal history reads as what the part keeps of it
-record Keeps (h : History) (d : RowPart) : Type 0 where
-  legal : Legal h
-  shows : part_of h ≡ d
+pub record Keeps (h : History) (d : RowPart) : Type 0 where
+  pub legal : Legal h
+  pub shows : part_of h ≡ d
 
-as-kept : ReadAlike part_by_history part_by_itself Fine Keeps
+pub as-kept : ReadAlike part_by_history part_by_itself Fine Keeps
 as-kept = record {
   parts = λ h d keeps. keeps.shows;
   rows = λ h d keeps. same-rows h keeps.legal ∙ ap rows_by keeps.shows;
@@ -62,10 +49,10 @@ pub behind-after : (d : RowPart) (marks : List Mark) → behind_marks part_by_it
 behind-after d [] = refl
 behind-after d (mark ∷ marks) = behind-after (after_part d mark) marks
 
+-- by the history a statement on rows does what it does by what the part keeps
 same-row_turn : (h : History) → Legal h → (who : ℕ) (stmt : RowStmt) → row_turn part_by_history h who stmt ≡ row_turn part_by_itself (part_of h) who stmt
 same-row_turn h l who stmt =
-    same-with_settling part_by_history part_by_itself Fine Keeps as-kept h (part_of h) _ _ (record { legal = l; shows = refl })
-    (ap (turn_of who) (same-row_statement h l who stmt)) (each-fine h _ (good_row_turn h l who stmt))
+    alike-turn part_by_history part_by_itself Fine Keeps as-kept h (part_of h) who stmt (record { legal = l; shows = refl }) (looks who) (each-fine h _ (good_row_turn h l who stmt))
 
 pub part_of-marks : (h : History) (marks : List Mark) → part_of (marked h marks) ≡ after_part_marks (part_of h) marks
 part_of-marks h [] = refl

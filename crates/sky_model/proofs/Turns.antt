@@ -1,11 +1,16 @@
 -- What is let go on is the same at places that read alike.
 use Rattle.std.proofs.Common.{◌≡◌, ℕ, suc, zero, List, [], ◌∷◌, ◌++◌, Option, Some, None, length, refl, ◌∙◌, ap}
-use Rattle.sky_val.specs.Waits.{Waiting}
-use Rattle.sky_model.specs.History.{Mark, tabled, waited}
+use Rattle.sky_val.specs.Waits.{Waiting, is_waiting}
+use Rattle.sky_model.specs.declared.stmt.RowStmt.{RowStmt}
+use Rattle.sky_model.specs.History.{Mark, looked, tabled, waited}
+use Rattle.sky_model.specs.State.{RowPart}
 use Rattle.sky_model.specs.Outcome.{settled}
+use Rattle.sky_model.specs.Allowed.{where_of_row}
 use Rattle.sky_model.specs.StepRows.{attempts}
 use Rattle.sky_model.specs.Reader.{PartReader}
 use Rattle.sky_model.specs.Settling.{Turn, turn_of, behind_marks, joined, and_then, ready, resumed, goes_on, settles, settling, with_settling}
+use Rattle.sky_model.specs.Calls.{row_form, row_making, row_statement, row_turn}
+use Rattle.sky_model.proofs.MadeAt.{same-made_by}
 
 -- marks come one after the other, each where it may
 abbrev pub Each : {P : Type 0} → PartReader P → (P → Mark → Type 0) → P → List Mark → Type 0
@@ -79,6 +84,28 @@ pub same-with_settling : {P Q : Type 0} (r : PartReader P) (s : PartReader Q) (m
 same-with_settling r s may related alike p q turn turn' is same each =
     same-and_then r s may related alike p q turn turn' (settling r) (settling s) is same
     (λ p' q' is' each'. same-settles r s may related alike _ p' q' is' each' ∙ ap (λ d. settles s (length d.waiting) q') (alike.parts p' q' is')) each
+
+-- and so is a statement on rows, where the sight may be taken
+pub alike-statement : {P Q : Type 0} (r : PartReader P) (s : PartReader Q) (may : P → Mark → Type 0) (related : P → Q → Type 0) → ReadAlike r s may related
+    → (p : P) (q : Q) (who : ℕ) (stmt : RowStmt) → related p q → may p (looked who) → row_statement r p who stmt ≡ row_statement s q who stmt
+alike-statement {P = P} {Q = Q} r s may related alike p q who stmt is may_look =
+    same-made_by (row_making r who stmt) (row_making s who stmt) (where_of_row stmt) who p q (record {
+      sessions = ap (λ (d : RowPart). d.session who) (alike.parts p q is);
+      waiting = ap (λ (d : RowPart). is_waiting who d.waiting) (alike.parts p q is);
+      outcomes = λ i. alike.tells p q is i (row_form (alike.parts p q is i) (alike.rows p q is i) who stmt);
+      sessions_behind = ap (λ (d : RowPart). d.session who) (alike.parts _ _ behind);
+      outcomes_behind = λ i. alike.tells _ _ behind i (row_form (alike.parts _ _ behind i) (alike.rows _ _ behind i) who stmt);
+    })
+  where
+    behind : related (r.behind p (looked who)) (s.behind q (looked who))
+    behind = alike.behind p q (looked who) is may_look
+
+-- with those that it lets go on
+pub alike-turn : {P Q : Type 0} (r : PartReader P) (s : PartReader Q) (may : P → Mark → Type 0) (related : P → Q → Type 0) → ReadAlike r s may related
+    → (p : P) (q : Q) (who : ℕ) (stmt : RowStmt) → related p q → may p (looked who) → Each r may p (row_turn r p who stmt).marks → row_turn r p who stmt ≡ row_turn s q who stmt
+alike-turn r s may related alike p q who stmt is may_look each =
+    same-with_settling r s may related alike p q (turn_of who (row_statement r p who stmt)) (turn_of who (row_statement s q who stmt)) is
+    (ap (turn_of who) (alike-statement r s may related alike p q who stmt is may_look)) each
 
 -- where every mark may come
 abbrev pub Any : {P : Type 0} → P → Mark → Type 0

@@ -38,6 +38,7 @@ pub mod LawsOfLocks
 pub mod LawsOfWrites
 pub mod Steps
 pub mod RowSteps
+pub mod GatedSteps
 pub mod DatabaseSteps
 pub mod Moment
 pub mod Printed
