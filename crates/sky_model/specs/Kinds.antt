@@ -10,12 +10,13 @@ use Rattle.sky_val.specs.declared.val.Val.TheVariants.{Null, Int, Text}
 use Rattle.sky_val.specs.declared.column.ColKind.{ColKind}
 use Rattle.sky_val.specs.declared.column.ColKind.TheVariants as kind
 use Rattle.sky_val.specs.declared.column.Column as column
+use Rattle.sky_model.specs.Words.{with_first}
 use Rattle.sky_model.specs.declared.stmt.Change.{Change}
 use Rattle.sky_model.specs.declared.stmt.Change.TheVariants.{To, Add}
 use Rattle.sky_model.specs.declared.stmt.Set as set
 
 -- a name; one, or two with a dot between; a number, with the most that it may be; `null` or a text; a word without quotes or a text;
--- a value of a row; a column of a new table; the change of a column
+-- a value of a row; a column of a new table; the change of a column; the columns that a trigger ignores
 pub data Kind : Type 0 where
   Name : Kind
   Dotted : Kind
@@ -25,6 +26,7 @@ pub data Kind : Type 0 where
   Value : Kind
   Column : Kind
   Set : Kind
+  Ignore : Kind
 
 -- what a word of a kind is worth
 abbrev pub Of : Kind → Type 0
@@ -36,6 +38,7 @@ Of Raw = List ℕ
 Of Value = Val
 Of Column = column.Column
 Of Set = set.Set
+Of Ignore = List (List ℕ)
 
 -- a lower-case letter or `_`
 abbrev pub begins_name : ℕ → Bool
@@ -153,6 +156,19 @@ set_around (Some at) w = set_by (take at w) (drop (at + 1) w)
 abbrev pub set_of : List ℕ → Option set.Set
 set_of w = set_around (first_place 61 w) w
 
+-- the pieces between the bytes of this kind
+abbrev pub pieces_between : ℕ → List ℕ → List (List ℕ)
+pieces_between byte [] = [] ∷ []
+pieces_between byte (b ∷ bs) = if b == byte then [] ∷ pieces_between byte bs else with_first b (pieces_between byte bs)
+
+-- names with commas between
+abbrev pub names_of : List ℕ → Option (List (List ℕ))
+names_of w = if list_all is_name (pieces_between 44 w) then Some (pieces_between 44 w) else None
+
+-- `ignore=` and names with commas between
+abbrev pub ignore_of : List ℕ → Option (List (List ℕ))
+ignore_of w = if bytes_eq (take 7 w) (codes "ignore=") then names_of (drop 7 w) else None
+
 -- the value of a word of a kind; no value where the word is of another
 abbrev pub value : (k : Kind) → List ℕ → Option (Of k)
 value Name w = if is_name w then Some w else None
@@ -163,3 +179,4 @@ value Raw w = raw w
 value Value w = value_of w
 value Column w = column_of w
 value Set w = set_of w
+value Ignore w = ignore_of w
