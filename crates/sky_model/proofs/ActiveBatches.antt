@@ -91,7 +91,7 @@ active_batches _ (next {h = h} l (ends_waiting who)) id b is = active_batches h 
 active_batches _ (next {h = h} l (writes who u table key old new e free)) id b is = active_batches h l id b is
 active_batches _ (next {h = h} l (makes name new)) id b is = active_batches h l id b is
 active_batches _ (next {h = h} l (raises p v i e)) id b is = active_batches h l id b is
-active_batches _ (next {h = h} l (puts who p e i s o)) id b is = active_batches h l id b is
+active_batches _ (next {h = h} l (puts who p e i s o newest)) id b is = active_batches h l id b is
 active_batches _ (next {h = h} l (traces table name trigger below queue new)) id b is = active_batches h l id b is
 active_batches _ (next {h = h} l (ticks_next p m time seq i e)) id b is =
     let a : IsActive h id b = active_batches h l id b is in

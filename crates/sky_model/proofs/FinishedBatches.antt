@@ -56,7 +56,7 @@ finished_lead _ (next {h = h} l (ends_waiting who)) queue consumer = finished_le
 finished_lead _ (next {h = h} l (writes who u table key old new e free)) queue consumer = finished_lead h l queue consumer
 finished_lead _ (next {h = h} l (makes name new)) queue consumer = finished_lead h l queue consumer
 finished_lead _ (next {h = h} l (raises p v i e)) queue consumer = finished_lead h l queue consumer
-finished_lead _ (next {h = h} l (puts who p e i s o)) queue consumer = finished_lead h l queue consumer
+finished_lead _ (next {h = h} l (puts who p e i s o newest)) queue consumer = finished_lead h l queue consumer
 finished_lead _ (next {h = h} l (ticks_next p m time seq i e)) queue consumer =
     LeadFor-more queue consumer (subscription_id queue consumer h) (λ t. is_made queue t h) (λ t. (p == queue && m == t) || is_made queue t h)
     (λ t. or-right (p == queue && m == t) (is_made queue t h)) (first_tick queue consumer h) (finished queue consumer h) (position queue consumer h)

@@ -107,7 +107,7 @@ holder-step h _ (begins_waiting v n at_key attempt) l table key who ih e = let w
 holder-step h _ (ends_waiting v) l table key who ih e = let w : HasWritten h table key who = ih e in record { txid = w.txid; runs = w.runs; wrote = w.wrote }
 holder-step h _ (makes name x) l table key who ih e = let w : HasWritten h table key who = ih e in record { txid = w.txid; runs = w.runs; wrote = w.wrote }
 holder-step h _ (raises q v i le) l table key who ih e = let w : HasWritten h table key who = ih e in record { txid = w.txid; runs = w.runs; wrote = w.wrote }
-holder-step h _ (puts v q x i n o) l table key who ih e = let w : HasWritten h table key who = ih e in record { txid = w.txid; runs = w.runs; wrote = w.wrote }
+holder-step h _ (puts v q x i n o newest) l table key who ih e = let w : HasWritten h table key who = ih e in record { txid = w.txid; runs = w.runs; wrote = w.wrote }
 holder-step h _ (ticks_next q id time seq i le) l table key who ih e = let w : HasWritten h table key who = ih e in record { txid = w.txid; runs = w.runs; wrote = w.wrote }
 holder-step h _ (registers q name sub tick i x f le) l table key who ih e = let w : HasWritten h table key who = ih e in record { txid = w.txid; runs = w.runs; wrote = w.wrote }
 holder-step h _ (opens batch x) l table key who ih e = let w : HasWritten h table key who = ih e in record { txid = w.txid; runs = w.runs; wrote = w.wrote }
@@ -173,7 +173,7 @@ held-step h _ (begins_waiting v n at_key attempt) l table key ih = ih
 held-step h _ (ends_waiting v) l table key ih = ih
 held-step h _ (makes name x) l table key ih = ih
 held-step h _ (raises q v i le) l table key ih = ih
-held-step h _ (puts v q x i n o) l table key ih = ih
+held-step h _ (puts v q x i n o newest) l table key ih = ih
 held-step h _ (ticks_next q id time seq i le) l table key ih = ih
 held-step h _ (registers q name sub tick i x f le) l table key ih = ih
 held-step h _ (opens batch x) l table key ih = ih
@@ -238,7 +238,7 @@ owner-step h _ (begins_waiting v n at_key attempt) table key ih = λ u unended w
 owner-step h _ (ends_waiting v) table key ih = λ u unended wrote_it. let o : Owner h u = ih u unended wrote_it in record { who = o.who; owns = o.owns }
 owner-step h _ (makes name x) table key ih = λ u unended wrote_it. let o : Owner h u = ih u unended wrote_it in record { who = o.who; owns = o.owns }
 owner-step h _ (raises q v i le) table key ih = λ u unended wrote_it. let o : Owner h u = ih u unended wrote_it in record { who = o.who; owns = o.owns }
-owner-step h _ (puts v q x i n o) table key ih = λ u unended wrote_it. let o : Owner h u = ih u unended wrote_it in record { who = o.who; owns = o.owns }
+owner-step h _ (puts v q x i n o newest) table key ih = λ u unended wrote_it. let o : Owner h u = ih u unended wrote_it in record { who = o.who; owns = o.owns }
 owner-step h _ (ticks_next q id time seq i le) table key ih = λ u unended wrote_it. let o : Owner h u = ih u unended wrote_it in record { who = o.who; owns = o.owns }
 owner-step h _ (registers q name sub tick i x f le) table key ih = λ u unended wrote_it. let o : Owner h u = ih u unended wrote_it in record { who = o.who; owns = o.owns }
 owner-step h _ (opens batch x) table key ih = λ u unended wrote_it. let o : Owner h u = ih u unended wrote_it in record { who = o.who; owns = o.owns }

@@ -252,7 +252,7 @@ key_step h _ (begins_waiting who n at_key attempt) l table key k = record { newe
 key_step h _ (ends_waiting who) l table key k = record { newest = k.newest; writer = k.writer; own = k.own; only = k.only }
 key_step h _ (makes name e) l table key k = record { newest = k.newest; writer = k.writer; own = k.own; only = k.only }
 key_step h _ (raises q v i le) l table key k = record { newest = k.newest; writer = k.writer; own = k.own; only = k.only }
-key_step h _ (puts who q e i n o) l table key k = record { newest = k.newest; writer = k.writer; own = k.own; only = k.only }
+key_step h _ (puts who q e i n o newest) l table key k = record { newest = k.newest; writer = k.writer; own = k.own; only = k.only }
 key_step h _ (ticks_next q id time seq i le) l table key k = record { newest = k.newest; writer = k.writer; own = k.own; only = k.only }
 key_step h _ (registers q name sub tick i e f le) l table key k = record { newest = k.newest; writer = k.writer; own = k.own; only = k.only }
 key_step h _ (opens batch e) l table key k = record { newest = k.newest; writer = k.writer; own = k.own; only = k.only }

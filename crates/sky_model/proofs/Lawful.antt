@@ -1,5 +1,5 @@
 -- Whatever is called, the history of each database is legal.
-use Rattle.std.proofs.Common.{◌≡◌, ℕ, suc, zero, ℤ, ◌+◌, ◌<◌, List, [], ◌∷◌, ◌++◌, Bool, true, false, ◌==◌, nat_le, Option, Some, None, Ok, Err, option_map, unwrap_or, map, length, is_some, refl, sym, ◌∙◌, ap, subst, arith, if◌then◌else◌, length-append, ◌^◌}
+use Rattle.std.proofs.Common.{◌≡◌, All, ℕ, suc, zero, ℤ, ◌+◌, ◌<◌, List, [], ◌∷◌, ◌++◌, Bool, true, false, ◌==◌, nat_le, Option, Some, None, Ok, Err, option_map, unwrap_or, map, length, is_some, refl, sym, ◌∙◌, ap, subst, arith, if◌then◌else◌, length-append, ◌^◌}
 use Rattle.std.specs.Prelude.{find, not}
 use Rattle.std.proofs.lemmas.Bool.Decides.{nat_tests}
 use Rattle.sky_model.specs.declared.stmt.Stmt.{Stmt}
@@ -19,7 +19,7 @@ use Rattle.sky_model.specs.Triggers.{triggers}
 use Rattle.sky_model.specs.StepTrigger.{has_trigger, may_ignore, add_trigger}
 use Rattle.sky_model.specs.Telling.{tells}
 use Rattle.sky_model.specs.Config.{default_config}
-use Rattle.sky_model.specs.Queues.{queue_names, Tick, ticks, tick, newest_tick, sequence}
+use Rattle.sky_model.specs.Queues.{queue_names, Tick, ticks, tick, newest_tick, sequence, events}
 use Rattle.sky_model.specs.Consumers.{subscription_id, Subscription, subscription, active_batch}
 use Rattle.sky_model.specs.Locks.{waiting}
 use Rattle.sky_model.specs.State.{RowPart, part_of, database_of}
@@ -44,6 +44,7 @@ use Rattle.sky_model.proofs.LawfulRows.{good_attempts, good_row_form}
 use Rattle.sky_model.proofs.MadeAt.{same-made_by}
 use Rattle.sky_model.proofs.Turns.{ReadAlike, same-with_settling, Any, each-any}
 use Rattle.sky_model.proofs.Ticks.{ticks_beyond}
+use Rattle.sky_model.proofs.Selecting.{events_below-next}
 use Rattle.sky_model.proofs.Unopened.{on_top-append, unopened-within}
 use Rattle.sky_names.proofs.PlaceLemmas.{place_of_within}
 
@@ -110,19 +111,19 @@ good_create_queue h l now who name =
     by_place (Some n) is = done
     by_place None is = good_test h who (nat_le 64 count) (TooMany Queues) _ (λ _. by_own (own_txid who h) refl is)
 
-good_insert_event : (h : History) (now : ℤ) (who : ℕ) (name : List ℕ) (ev_type ev_data : Option (List ℕ)) (extra : Option Extra)
+good_insert_event : (h : History) → Legal h → (now : ℤ) (who : ℕ) (name : List ℕ) (ev_type ev_data : Option (List ℕ)) (extra : Option Extra)
     → Good h who (insert_event (database_of h) now who name ev_type ev_data extra)
-good_insert_event h now who name ev_type ev_data extra =
+good_insert_event h l now who name ev_type ev_data extra =
     good_found h who (place_of name (queue_names h)) (NoQueue name) _ (λ q is. by_own q (place_of_within name (queue_names h) q is) (own_txid who h) refl)
   where
     same : (q : ℕ) → (q == q) ≡ true
     same q = grind (arith, nat_tests)
 
-    body : (g : History) (q n t : ℕ) (b : Block) → own_txid who g ≡ Some t → q < length (queue_names g) → sequence q g ≡ n
+    body : (g : History) → Legal g → (q n t : ℕ) (b : Block) → own_txid who g ≡ Some t → q < length (queue_names g) → sequence q g ≡ n
         → Chain g (queued (raised q (n + 1)) ∷ queued (put q (made_event (n + 1) now t ev_type ev_data extra)) ∷ commit_of who t b)
-    body g q n t b mine below is =
+    body g l q n t b mine below is =
         more (raises q (n + 1) below (omega arith))
-        (more (puts who q _ below (ap (λ b. if b then n + 1 else sequence q g) (sym (same q))) mine)
+        (more (puts who q _ below (ap (λ b. if b then n + 1 else sequence q g) (sym (same q))) mine (subst (λ m. All (λ e. e.ev_id < m + 1) (events q g)) is (events_below-next g l q)))
         (good_commits (queued (put q (made_event (n + 1) now t ev_type ev_data extra)) ∷ queued (raised q (n + 1)) ∷ g) who t b mine))
 
     by_own : (q : ℕ) → q < length (queue_names h) → (o : Option ℕ) → own_txid who h ≡ o → Good h who (own_or_next (part_of h) o >>= (λ t.
@@ -131,10 +132,10 @@ good_insert_event h now who name ev_type ev_data extra =
     by_own q below None none =
         good_test_then h who (nat_le (2 ^ 62) (next_txid h)) TxidsSpent (next_txid h) _
         (good_test_then h who (nat_le (2 ^ 62) (sequence q h + 1)) EventIdsSpent (sequence q h + 1) _
-        (more (begins who none) (body (began who (next_txid h) ∷ h) q (sequence q h) (next_txid h) (block who h) (ap (λ b. if b then Some (next_txid h) else own_txid who h) (same-session who)) below refl)))
+        (more (begins who none) (body (began who (next_txid h) ∷ h) (next l (begins who none)) q (sequence q h) (next_txid h) (block who h) (ap (λ b. if b then Some (next_txid h) else own_txid who h) (same-session who)) below refl)))
     by_own q below (Some t) mine =
         good_test_then h who (nat_le (2 ^ 62) (sequence q h + 1)) EventIdsSpent (sequence q h + 1) _
-        (body h q (sequence q h) t (block who h) mine below refl)
+        (body h l q (sequence q h) t (block who h) mine below refl)
 
 good_ticker : (h : History) (now : ℤ) (who : ℕ) (name : List ℕ) → Good h who (ticker (database_of h) now name)
 good_ticker h now who name =
@@ -202,7 +203,7 @@ good_add_trigger h who name table_name queue_name backup ignored =
 good_form : (h : History) → Legal h → (now : ℤ) (who : ℕ) (stmt : Stmt) → Good h who (form (database_of h) (shown_in h) now who stmt)
 good_form h l now who (Row stmt) = good_tells h l now who _ (form-rows (part_of h) (rows_in h) who stmt) (good_row_form h who stmt)
 good_form h l now who (CreateQueue queue) = good_create_queue h l now who queue
-good_form h l now who (InsertEvent queue ev_type ev_data extra) = good_insert_event h now who queue ev_type ev_data extra
+good_form h l now who (InsertEvent queue ev_type ev_data extra) = good_insert_event h l now who queue ev_type ev_data extra
 good_form h l now who (Ticker queue) = good_ticker h now who queue
 good_form h l now who (ForceTick queue) = good_force_tick h who queue
 good_form h l now who (RegisterConsumer queue consumer) = good_register_consumer h who queue consumer

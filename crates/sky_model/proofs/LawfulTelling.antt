@@ -18,6 +18,7 @@ use Rattle.sky_model.specs.Settling.{behind_marks}
 use Rattle.sky_model.specs.RowSteps.{marked}
 use Rattle.sky_model.proofs.Legal.{IsQueue, Fine, begins, ends, begins_block, fails_block, ends_block, repeats_block, looks, makes_table, writes, begins_waiting, ends_waiting, raises, puts, traces, Chain, done, more, Legal, next}
 use Rattle.sky_model.proofs.Marks.{part_of-mark, database_of-mark, database_of-marks}
+use Rattle.sky_model.proofs.Selecting.{events_below-next}
 use Rattle.sky_model.proofs.Good.{Good, same-session, good_refused}
 use Rattle.sky_model.proofs.RowOutcomes.{RowMarks, rows-rest, OfRows}
 
@@ -88,12 +89,12 @@ abbrev ToldWell : History → Checked (List Mark) → Type 0
 ToldWell h (Ok marks) = Chain h marks × (part_of (marked h marks) ≡ part_of h)
 ToldWell h (Err refusal) = Unit {0}
 
-told-well : (h : History) (now : ℤ) (who t : ℕ) (es : List RowEvent) → own_txid who h ≡ Some t → EventsWithin (length (queue_names h)) es
+told-well : (h : History) → Legal h → (now : ℤ) (who t : ℕ) (es : List RowEvent) → own_txid who h ≡ Some t → EventsWithin (length (queue_names h)) es
     → ToldWell h (told_by (database_of h) now t es)
-told-well h now who t [] mine within = (done, refl)
-told-well h now who t (e ∷ es) mine within =
+told-well h l now who t [] mine within = (done, refl)
+told-well h l now who t (e ∷ es) mine within =
     of (nat_le (2 ^ 62) id)
-    (subst (λ d. ToldWell behind (told_by d now t es)) (database_of-marks h (event_marks e.queue (told_event id now t e))) (told-well behind now who t es mine within.1))
+    (subst (λ d. ToldWell behind (told_by d now t es)) (database_of-marks h (event_marks e.queue (told_event id now t e))) (told-well behind (next (next l raised_fine) put_fine) now who t es mine within.1))
   where
     id : ℕ
     id = sequence e.queue h + 1
@@ -101,15 +102,15 @@ told-well h now who t (e ∷ es) mine within =
     behind : History
     behind = queued (put e.queue (told_event id now t e)) ∷ queued (raised e.queue id) ∷ h
 
-    same : (e.queue == e.queue) ≡ true
-    same = same-session e.queue
+    raised_fine : Fine h (queued (raised e.queue id))
+    raised_fine = raises e.queue id within.0 (omega arith)
+
+    put_fine : Fine (queued (raised e.queue id) ∷ h) (queued (put e.queue (told_event id now t e)))
+    put_fine = puts who e.queue (told_event id now t e) within.0 (ap (λ b. if b then id else sequence e.queue h) (sym (same-session e.queue))) mine (events_below-next h l e.queue)
 
     joined : (x : Checked (List Mark)) → ToldWell behind x → ToldWell h (x >>= (λ rest. Ok (event_marks e.queue (told_event id now t e) ++ rest)))
     joined (Err refusal) well = tt
-    joined (Ok rest) well = (
-      more (raises e.queue id within.0 (omega arith)) (more (puts who e.queue (told_event id now t e) within.0 (ap (λ b. if b then id else sequence e.queue h) (sym same)) mine) well.0),
-      well.1,
-    )
+    joined (Ok rest) well = (more raised_fine (more put_fine well.0), well.1)
 
     of : (b : Bool) → ToldWell behind (told_by (after_marks (database_of h) (event_marks e.queue (told_event id now t e))) now t es)
         → ToldWell h ((refused_if b EventIdsSpent >> Ok id) >>= (λ n. told_by (after_marks (database_of h) (event_marks e.queue (told_event n now t e))) now t es
@@ -122,7 +123,7 @@ writer-owns (writes who t table key old new mine free) = mine
 
 told_of-well : (h : History) → Legal h → (now : ℤ) (mark : Mark) → Fine h mark → ToldWell (mark ∷ h) (told_of (database_of (mark ∷ h)) now mark)
 told_of-well h l now (tabled (wrote who t table key old new)) fine =
-    told-well (tabled (wrote who t table key old new) ∷ h) now who t (events_in (database_of (tabled (wrote who t table key old new) ∷ h)) table old new) (writer-owns fine)
+    told-well (tabled (wrote who t table key old new) ∷ h) (next l fine) now who t (events_in (database_of (tabled (wrote who t table key old new) ∷ h)) table old new) (writer-owns fine)
     (events-queues (length (queue_names h)) (write_in (database_of (tabled (wrote who t table key old new) ∷ h)) table old new) (triggers table h) (trigger-queues h l table))
 told_of-well h l now _ fine = (done, refl)
 

@@ -1,6 +1,6 @@
 -- Legal histories: each mark has evidence of why it stands there, so that a law about histories has one
 -- line for each kind of mark, and none for each statement.
-use Rattle.std.proofs.Common.{◌≡◌, ℕ, ◌+◌, ◌<◌, ◌≤◌, ℤ, Bool, false, List, [], ◌∷◌, Option, Some, None, length}
+use Rattle.std.proofs.Common.{◌≡◌, ℕ, ◌+◌, ◌<◌, ◌≤◌, ℤ, Bool, false, All, List, [], ◌∷◌, Option, Some, None, length}
 use Rattle.sky_val.specs.declared.event.Event.{Event}
 use Rattle.sky_val.specs.declared.val.Val.{Val}
 use Rattle.sky_val.specs.declared.column.Column.{Column}
@@ -14,7 +14,7 @@ use Rattle.sky_model.specs.Sessions.{outside, inside, block, own_txid}
 use Rattle.sky_model.specs.Rows.{table_names}
 use Rattle.sky_model.specs.Locks.{holder}
 use Rattle.sky_model.specs.Triggers.{triggers}
-use Rattle.sky_model.specs.Queues.{queue_names, sequence, Tick, ticks, tick, newest_tick}
+use Rattle.sky_model.specs.Queues.{queue_names, sequence, events, Tick, ticks, tick, newest_tick}
 use Rattle.sky_model.specs.Consumers.{subscription_id, subscription, last_subscription, last_batch, active_batch}
 use Rattle.sky_model.specs.StepQueue.{id_of}
 use Rattle.sky_model.specs.StepTrigger.{has_trigger}
@@ -48,7 +48,8 @@ pub data Fine (h : History) : Mark → Type 0 where
   ends_waiting : (who : ℕ) → Fine h (tabled (waited who))
   makes : (name : List ℕ) → place_of name (queue_names h) ≡ None → Fine h (queued (made name))
   raises : (q value : ℕ) → IsQueue h q → sequence q h ≤ value → Fine h (queued (raised q value))
-  puts : (who q : ℕ) (event : Event) → IsQueue h q → event.ev_id ≡ sequence q h → own_txid who h ≡ Some event.ev_txid → Fine h (queued (put q event))
+  puts : (who q : ℕ) (event : Event) → IsQueue h q → event.ev_id ≡ sequence q h → own_txid who h ≡ Some event.ev_txid
+      → All (λ e. e.ev_id < event.ev_id) (events q h) → Fine h (queued (put q event))
   ticks_next : (q id : ℕ) (time : ℤ) (seq : ℕ) → IsQueue h q → id_of (newest_tick (ticks q h)) < id → Fine h (queued (ticked q id time seq))
   registers : (q : ℕ) (name : List ℕ) (sub tick : ℕ) → IsQueue h q → subscription_id q name h ≡ None → last_subscription h < sub
       → tick ≤ id_of (newest_tick (ticks q h)) → Fine h (queued (registered q name sub tick))

@@ -47,6 +47,9 @@ pub mod Inserted
 pub mod Telling
 pub mod LockLaws
 pub mod WriteOrder
+pub mod EventIds
+pub mod QueueOutcomes
+pub mod WritesTold
 mod WorkedWrites
 pub mod Splitting
 pub mod Scripts

@@ -236,7 +236,7 @@ sound_step h _ (ends_waiting who) s = record { first = s.first; runs = s.runs; e
 sound_step h _ (writes who u table key old new e free) s = record { first = s.first; runs = s.runs; ended_below = s.ended_below; rising = s.rising; below = s.below; owns = s.owns; once = s.once }
 sound_step h _ (makes name e) s = record { first = s.first; runs = s.runs; ended_below = s.ended_below; rising = s.rising; below = s.below; owns = s.owns; once = s.once }
 sound_step h _ (raises q v i l) s = record { first = s.first; runs = s.runs; ended_below = s.ended_below; rising = s.rising; below = s.below; owns = s.owns; once = s.once }
-sound_step h _ (puts who q e i n o) s = record { first = s.first; runs = s.runs; ended_below = s.ended_below; rising = s.rising; below = s.below; owns = s.owns; once = s.once }
+sound_step h _ (puts who q e i n o newest) s = record { first = s.first; runs = s.runs; ended_below = s.ended_below; rising = s.rising; below = s.below; owns = s.owns; once = s.once }
 sound_step h _ (ticks_next q id time seq i l) s = record { first = s.first; runs = s.runs; ended_below = s.ended_below; rising = s.rising; below = s.below; owns = s.owns; once = s.once }
 sound_step h _ (registers q name sub tick i e f l) s = record { first = s.first; runs = s.runs; ended_below = s.ended_below; rising = s.rising; below = s.below; owns = s.owns; once = s.once }
 sound_step h _ (opens b e) s = record { first = s.first; runs = s.runs; ended_below = s.ended_below; rising = s.rising; below = s.below; owns = s.owns; once = s.once }
@@ -340,7 +340,7 @@ has_committed-ended _ (next {h = h} l (ends_waiting who)) t = has_committed-ende
 has_committed-ended _ (next {h = h} l (writes who u table key old new e free)) t = has_committed-ended h l t
 has_committed-ended _ (next {h = h} l (makes name e)) t = has_committed-ended h l t
 has_committed-ended _ (next {h = h} l (raises q v i le)) t = has_committed-ended h l t
-has_committed-ended _ (next {h = h} l (puts who q e i n o)) t = has_committed-ended h l t
+has_committed-ended _ (next {h = h} l (puts who q e i n o newest)) t = has_committed-ended h l t
 has_committed-ended _ (next {h = h} l (ticks_next q id time seq i le)) t = has_committed-ended h l t
 has_committed-ended _ (next {h = h} l (registers q name sub tick i e f g)) t = has_committed-ended h l t
 has_committed-ended _ (next {h = h} l (opens b e)) t = has_committed-ended h l t

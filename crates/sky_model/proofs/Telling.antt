@@ -65,11 +65,11 @@ part_marks-append p (x ∷ xs) ys = part_marks-append (after_part p x) xs ys
 -- ---- what is told of a write
 
 -- marks of events, or the refusal where there are no ids for them
-abbrev EventMarks : Checked (List Mark) → Type 0
+abbrev pub EventMarks : Checked (List Mark) → Type 0
 EventMarks (Ok marks) = Inserted [] marks
 EventMarks (Err refusal) = refusal ≡ EventIdsSpent
 
-told_by-events : (d : Database) (now : ℤ) (t : ℕ) (es : List RowEvent) → EventMarks (told_by d now t es)
+pub told_by-events : (d : Database) (now : ℤ) (t : ℕ) (es : List RowEvent) → EventMarks (told_by d now t es)
 told_by-events d now t [] = none
 told_by-events d now t (e ∷ es) = of (nat_le (2 ^ 62) id) (told_by-events (after_marks d (event_marks e.queue (told_event id now t e))) now t es)
   where

@@ -112,7 +112,7 @@ committed_later _ (next {h = h} l (ends_waiting who)) q from to t less there = c
 committed_later _ (next {h = h} l (writes who u table key old new e free)) q from to t less there = committed_later h l q from to t less there
 committed_later _ (next {h = h} l (makes name new)) q from to t less there = committed_later h l q from to t less there
 committed_later _ (next {h = h} l (raises p v i e)) q from to t less there = committed_later h l q from to t less there
-committed_later _ (next {h = h} l (puts who p e i s o)) q from to t less there = committed_later h l q from to t less there
+committed_later _ (next {h = h} l (puts who p e i s o newest)) q from to t less there = committed_later h l q from to t less there
 committed_later _ (next {h = h} l (ticks_next p m time seq i above)) q from to t less there =
     of (p == q) refl (m == from) refl (m == to) refl (committed_later h l q from to t less) there
   where

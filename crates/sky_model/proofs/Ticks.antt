@@ -24,7 +24,7 @@ ticks_beyond _ (next {h = h} l (ends_waiting who)) q le = ticks_beyond h l q le
 ticks_beyond _ (next {h = h} l (writes who u table key old new e free)) q le = ticks_beyond h l q le
 ticks_beyond _ (next {h = h} l (makes name new)) q le = ticks_beyond h l q (omega (arith, length-append (queue_names h) (name ∷ []), le))
 ticks_beyond _ (next {h = h} l (raises p v i e)) q le = ticks_beyond h l q le
-ticks_beyond _ (next {h = h} l (puts who p e i s o)) q le = ticks_beyond h l q le
+ticks_beyond _ (next {h = h} l (puts who p e i s o newest)) q le = ticks_beyond h l q le
 ticks_beyond _ (next {h = h} l (ticks_next p id time seq i e)) q le = of (p == q) refl (ticks_beyond h l q le)
   where
     of : (b : Bool) → (p == q) ≡ b → ticks q h ≡ [] → (if b then ticks q h ++ record { id = id; time = time; snapshot = snapshot h; seq = seq } ∷ [] else ticks q h) ≡ []
@@ -85,7 +85,7 @@ none_above _ (next {h = h} l (ends_waiting who)) q = none_above h l q
 none_above _ (next {h = h} l (writes who u table key old new e free)) q = none_above h l q
 none_above _ (next {h = h} l (makes name new)) q = none_above h l q
 none_above _ (next {h = h} l (raises p v i e)) q = none_above h l q
-none_above _ (next {h = h} l (puts who p e i s o)) q = none_above h l q
+none_above _ (next {h = h} l (puts who p e i s o newest)) q = none_above h l q
 none_above _ (next {h = h} l (ticks_next p id time seq i e)) q = of (p == q) refl (none_above h l q)
   where
     of : (b : Bool) → (p == q) ≡ b → NoneAbove (ticks q h)
@@ -115,7 +115,7 @@ snapshot-at_tick _ (next {h = h} l (ends_waiting who)) q id = snapshot-at_tick h
 snapshot-at_tick _ (next {h = h} l (writes who u table key old new e free)) q id = snapshot-at_tick h l q id
 snapshot-at_tick _ (next {h = h} l (makes name new)) q id = snapshot-at_tick h l q id
 snapshot-at_tick _ (next {h = h} l (raises p v i e)) q id = snapshot-at_tick h l q id
-snapshot-at_tick _ (next {h = h} l (puts who p e i s o)) q id = snapshot-at_tick h l q id
+snapshot-at_tick _ (next {h = h} l (puts who p e i s o newest)) q id = snapshot-at_tick h l q id
 snapshot-at_tick _ (next {h = h} l (ticks_next p m time seq i e)) q id = of (p == q) refl (snapshot-at_tick h l q id)
   where
     both : (found : Option Tick) → tick id (ticks q h) ≡ found → (b : Bool) → (m == id) ≡ b → p ≡ q → snapshot (at_tick q id h) ≡ snapshot_at (tick id (ticks q h))
@@ -154,7 +154,7 @@ legal-at_tick _ (next {h = h} l (ends_waiting who)) q id = legal-at_tick h l q i
 legal-at_tick _ (next {h = h} l (writes who u table key old new e free)) q id = legal-at_tick h l q id
 legal-at_tick _ (next {h = h} l (makes name new)) q id = legal-at_tick h l q id
 legal-at_tick _ (next {h = h} l (raises p v i e)) q id = legal-at_tick h l q id
-legal-at_tick _ (next {h = h} l (puts who p e i s o)) q id = legal-at_tick h l q id
+legal-at_tick _ (next {h = h} l (puts who p e i s o newest)) q id = legal-at_tick h l q id
 legal-at_tick _ (next {h = h} l (ticks_next p m time seq i e)) q id = of (p == q && m == id) l (legal-at_tick h l q id)
   where
     of : (b : Bool) → Legal h → Legal (at_tick q id h) → Legal (if b then h else at_tick q id h)
