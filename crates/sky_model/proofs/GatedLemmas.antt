@@ -155,15 +155,15 @@ gated-writes_key gate g d who table key old new =
 
 -- ---- what writes nothing
 
-test : (b : Bool) (refusal : Refusal) (c : Checked Outcome) → PlainOutcome c → PlainOutcome (refused_if b refusal >> c)
+pub test : (b : Bool) (refusal : Refusal) (c : Checked Outcome) → PlainOutcome c → PlainOutcome (refused_if b refusal >> c)
 test true refusal c plain = tt
 test false refusal c plain = plain
 
-by_option : (o : Option Refusal) (c : Checked Outcome) → PlainOutcome c → PlainOutcome (refused_by o >> c)
+pub by_option : (o : Option Refusal) (c : Checked Outcome) → PlainOutcome c → PlainOutcome (refused_by o >> c)
 by_option None c plain = plain
 by_option (Some refusal) c plain = tt
 
-found : {A : Type 0} (o : Option A) (refusal : Refusal) (c : A → Checked Outcome) → ((a : A) → PlainOutcome (c a)) → PlainOutcome (found_or o refusal >>= c)
+pub found : {A : Type 0} (o : Option A) (refusal : Refusal) (c : A → Checked Outcome) → ((a : A) → PlainOutcome (c a)) → PlainOutcome (found_or o refusal >>= c)
 found None refusal c plain = tt
 found (Some a) refusal c plain = plain a
 
@@ -171,7 +171,8 @@ test_then : {A : Type 0} (b : Bool) (refusal : Refusal) (a : A) (c : A → Check
 test_then true refusal a c plain = tt
 test_then false refusal a c plain = plain
 
-plain-committed : (who t : ℕ) (b : Block) → WritesNone (commit_of who t b)
+-- a commit writes nothing
+pub plain-committed : (who t : ℕ) (b : Block) → WritesNone (commit_of who t b)
 plain-committed who t outside = tt
 plain-committed who t inside = tt
 plain-committed who t failed = tt

@@ -44,7 +44,7 @@ new_tick h l q made id new there le above false test = refl
 -- with one more mark a batch whose closing tick is made lists the same
 same_listing : (h : History) (mark : Mark) → Legal h → Fine h mark → (b : Batch) → b.prev ≤ b.cur → is_made b.queue b.cur h ≡ true
     → batch_events (mark ∷ h) b ≡ batch_events h b
-same_listing h _ l (puts who q e i s mine) b le made = of (q == b.queue)
+same_listing h _ l (puts who q e i s mine newest) b le made = of (q == b.queue)
   where
     out : stands_in h b e ≡ false
     out = ap (λ c. c && not (has_committed (at_tick b.queue b.prev h) e.ev_txid) && is_for b.sub e.ev_owner)

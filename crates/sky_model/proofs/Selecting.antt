@@ -1,15 +1,16 @@
 -- The events of a batch are those that its two ticks' snapshots select.
-use Rattle.std.proofs.Common.{◌≡◌, ℕ, ◌≤◌, List, [], ◌∷◌, ◌++◌, Bool, true, false, not, ◌&&◌, ◌||◌, ◌==◌, nat_lt, filter, refl, sym, ◌∙◌, ap, arith, subst, append-nil, append_assoc, if◌then◌else◌}
+use Rattle.std.proofs.Common.{◌≡◌, ℕ, ◌+◌, ◌<◌, ◌≤◌, All, List, [], ◌∷◌, ◌++◌, Bool, true, false, not, ◌&&◌, ◌||◌, ◌==◌, nat_lt, filter, refl, sym, ◌∙◌, ap, arith, subst, append-nil, append_assoc, if◌then◌else◌}
 use Rattle.std.proofs.lemmas.Bool.Decides.{nat_tests}
+use Rattle.std.proofs.lemmas.List.Elements.{All-nil, All-cons}
 use Rattle.sky_val.specs.declared.event.Event.{Event}
 use Rattle.sky_txid.specs.Snapshot.{sees}
-use Rattle.sky_model.specs.History.{Batch, began, ended, block_begun, block_failed, block_ended, repeats, looked, tabled, queued, made, raised, put, ticked, registered, opened, closed, History}
+use Rattle.sky_model.specs.History.{Batch, began, ended, block_begun, block_failed, block_ended, repeats, looked, tabled, queued, made, raised, put, ticked, registered, opened, closed, traced, History}
 use Rattle.sky_model.specs.Transactions.{has_ended, has_committed, has_rolled_back}
 use Rattle.sky_model.specs.Queues.{sequence, events, ticks, tick, at_tick}
 use Rattle.sky_model.specs.Batches.{with_event, by_id_onto, by_id, is_for, batch_events}
 use Rattle.sky_model.specs.Selection.{snapshot_at, selected}
 use Rattle.sky_model.specs.State.{database_of}
-use Rattle.sky_model.proofs.Legal.{begins, ends, begins_block, fails_block, ends_block, repeats_block, looks, makes_table, writes, begins_waiting, ends_waiting, makes, raises, puts, ticks_next, registers, opens, closes, Legal, start, next}
+use Rattle.sky_model.proofs.Legal.{begins, ends, begins_block, fails_block, ends_block, repeats_block, looks, makes_table, writes, begins_waiting, ends_waiting, makes, raises, puts, ticks_next, registers, opens, closes, traces, Legal, start, next}
 use Rattle.sky_model.proofs.Snapshots.{sees-snapshot, own-unended, has_committed-ended}
 use Rattle.sky_model.proofs.Ticks.{snapshot-at_tick, legal-at_tick}
 
@@ -39,6 +40,7 @@ ended-at_tick (queued (ticked p m time seq) ∷ h) q id t e = of (p == q && m ==
 ended-at_tick (queued (registered p name sub tick) ∷ h) q id t e = ended-at_tick h q id t e
 ended-at_tick (queued (opened b) ∷ h) q id t e = ended-at_tick h q id t e
 ended-at_tick (queued (closed b) ∷ h) q id t e = ended-at_tick h q id t e
+ended-at_tick (queued (traced table name trigger) ∷ h) q id t e = ended-at_tick h q id t e
 
 -- what had committed at a tick is what had ended there and hasn't rolled back
 committed-at_tick : (h : History) → Legal h → (q id t : ℕ) → has_committed (at_tick q id h) t ≡ (has_ended (at_tick q id h) t && not (has_rolled_back h t))
@@ -67,7 +69,7 @@ committed-at_tick _ (next {h = h} l (ends_waiting who)) q id t = committed-at_ti
 committed-at_tick _ (next {h = h} l (writes who u table key old new e free)) q id t = committed-at_tick h l q id t
 committed-at_tick _ (next {h = h} l (makes name new)) q id t = committed-at_tick h l q id t
 committed-at_tick _ (next {h = h} l (raises p v i e)) q id t = committed-at_tick h l q id t
-committed-at_tick _ (next {h = h} l (puts who p e i s o)) q id t = committed-at_tick h l q id t
+committed-at_tick _ (next {h = h} l (puts who p e i s o newest)) q id t = committed-at_tick h l q id t
 committed-at_tick _ (next {h = h} l (ticks_next p m time seq i e)) q id t = of (p == q && m == id) (committed-at_tick h l q id t)
   where
     of : (b : Bool) → has_committed (at_tick q id h) t ≡ (has_ended (at_tick q id h) t && not (has_rolled_back h t))
@@ -77,6 +79,7 @@ committed-at_tick _ (next {h = h} l (ticks_next p m time seq i e)) q id t = of (
 committed-at_tick _ (next {h = h} l (registers p name sub tick i e f g)) q id t = committed-at_tick h l q id t
 committed-at_tick _ (next {h = h} l (opens b e)) q id t = committed-at_tick h l q id t
 committed-at_tick _ (next {h = h} l (closes b e)) q id t = committed-at_tick h l q id t
+committed-at_tick _ (next {h = h} l (traces table name trigger below is new)) q id t = committed-at_tick h l q id t
 
 -- what had committed at a tick is what the tick's snapshot sees and hasn't rolled back
 pub committed_at_tick : (h : History) → Legal h → (q id t : ℕ) → has_committed (at_tick q id h) t ≡ (sees (snapshot_at (tick id (ticks q h))) t && not (has_rolled_back h t))
@@ -133,7 +136,7 @@ numbered _ (next {h = h} l (raises p v i le)) q = of (p == q) refl (numbered h l
         let more : sequence q h ≤ v = subst (λ x. sequence x h ≤ v) same le in
         (n.0, UpTo-more (sequence q h) v (events q h) more n.1)
     of false e n = n
-numbered _ (next {h = h} l (puts who p event i is o)) q = of (p == q) refl (numbered h l q)
+numbered _ (next {h = h} l (puts who p event i is o newest)) q = of (p == q) refl (numbered h l q)
   where
     of : (b : Bool) → (p == q) ≡ b → IsNumbered (sequence q h) (events q h)
         → IsNumbered (sequence q h) (if b then events q h ++ event ∷ [] else events q h)
@@ -148,6 +151,15 @@ numbered _ (next {h = h} l (ticks_next p id time seq i e)) q = numbered h l q
 numbered _ (next {h = h} l (registers p name sub tick i e f g)) q = numbered h l q
 numbered _ (next {h = h} l (opens b e)) q = numbered h l q
 numbered _ (next {h = h} l (closes b e)) q = numbered h l q
+numbered _ (next {h = h} l (traces table name trigger below is new)) q = numbered h l q
+
+below-next : (n : ℕ) (es : List Event) → UpTo n es → All (λ e. e.ev_id < n + 1) es
+below-next n [] u = All-nil (λ e. e.ev_id < n + 1)
+below-next n (e ∷ es) u = All-cons (λ e. e.ev_id < n + 1) e es (omega (arith, u.0)) (below-next n es u.1)
+
+-- so each has an id below the next one
+pub events_below-next : (h : History) → Legal h → (q : ℕ) → All (λ e. e.ev_id < sequence q h + 1) (events q h)
+events_below-next h l q = below-next (sequence q h) (events q h) (numbered h l q).1
 
 Ordered-less : (m n : ℕ) (es : List Event) → m ≤ n → Ordered n es → Ordered m es
 Ordered-less m n [] le o = tt

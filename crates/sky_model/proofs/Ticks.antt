@@ -6,7 +6,7 @@ use Rattle.sky_model.specs.Transactions.{snapshot}
 use Rattle.sky_model.specs.Queues.{queue_names, Tick, ticks, tick, newest_tick, at_tick}
 use Rattle.sky_model.specs.StepQueue.{id_of}
 use Rattle.sky_model.specs.Selection.{snapshot_at}
-use Rattle.sky_model.proofs.Legal.{begins, ends, begins_block, fails_block, ends_block, repeats_block, looks, makes_table, writes, begins_waiting, ends_waiting, makes, raises, puts, ticks_next, registers, opens, closes, Legal, start, next}
+use Rattle.sky_model.proofs.Legal.{begins, ends, begins_block, fails_block, ends_block, repeats_block, looks, makes_table, writes, begins_waiting, ends_waiting, makes, raises, puts, ticks_next, registers, opens, closes, traces, Legal, start, next}
 
 -- a queue that isn't made yet has no ticks
 pub ticks_beyond : (h : History) → Legal h → (q : ℕ) → length (queue_names h) ≤ q → ticks q h ≡ []
@@ -24,7 +24,7 @@ ticks_beyond _ (next {h = h} l (ends_waiting who)) q le = ticks_beyond h l q le
 ticks_beyond _ (next {h = h} l (writes who u table key old new e free)) q le = ticks_beyond h l q le
 ticks_beyond _ (next {h = h} l (makes name new)) q le = ticks_beyond h l q (omega (arith, length-append (queue_names h) (name ∷ []), le))
 ticks_beyond _ (next {h = h} l (raises p v i e)) q le = ticks_beyond h l q le
-ticks_beyond _ (next {h = h} l (puts who p e i s o)) q le = ticks_beyond h l q le
+ticks_beyond _ (next {h = h} l (puts who p e i s o newest)) q le = ticks_beyond h l q le
 ticks_beyond _ (next {h = h} l (ticks_next p id time seq i e)) q le = of (p == q) refl (ticks_beyond h l q le)
   where
     of : (b : Bool) → (p == q) ≡ b → ticks q h ≡ [] → (if b then ticks q h ++ record { id = id; time = time; snapshot = snapshot h; seq = seq } ∷ [] else ticks q h) ≡ []
@@ -33,6 +33,7 @@ ticks_beyond _ (next {h = h} l (ticks_next p id time seq i e)) q le = of (p == q
 ticks_beyond _ (next {h = h} l (registers p name sub tick i e f g)) q le = ticks_beyond h l q le
 ticks_beyond _ (next {h = h} l (opens b e)) q le = ticks_beyond h l q le
 ticks_beyond _ (next {h = h} l (closes b e)) q le = ticks_beyond h l q le
+ticks_beyond _ (next {h = h} l (traces n name trigger below is new)) q le = ticks_beyond h l q le
 
 pub newest_tick-push : (ts : List Tick) (t : Tick) → newest_tick (ts ++ t ∷ []) ≡ Some t
 newest_tick-push [] t = refl
@@ -84,7 +85,7 @@ none_above _ (next {h = h} l (ends_waiting who)) q = none_above h l q
 none_above _ (next {h = h} l (writes who u table key old new e free)) q = none_above h l q
 none_above _ (next {h = h} l (makes name new)) q = none_above h l q
 none_above _ (next {h = h} l (raises p v i e)) q = none_above h l q
-none_above _ (next {h = h} l (puts who p e i s o)) q = none_above h l q
+none_above _ (next {h = h} l (puts who p e i s o newest)) q = none_above h l q
 none_above _ (next {h = h} l (ticks_next p id time seq i e)) q = of (p == q) refl (none_above h l q)
   where
     of : (b : Bool) → (p == q) ≡ b → NoneAbove (ticks q h)
@@ -96,6 +97,7 @@ none_above _ (next {h = h} l (ticks_next p id time seq i e)) q = of (p == q) ref
 none_above _ (next {h = h} l (registers p name sub tick i e f g)) q = none_above h l q
 none_above _ (next {h = h} l (opens b e)) q = none_above h l q
 none_above _ (next {h = h} l (closes b e)) q = none_above h l q
+none_above _ (next {h = h} l (traces n name trigger below is new)) q = none_above h l q
 
 -- the snapshot of the history as it was at a tick is the one that the tick keeps
 pub snapshot-at_tick : (h : History) → Legal h → (q id : ℕ) → snapshot (at_tick q id h) ≡ snapshot_at (tick id (ticks q h))
@@ -113,7 +115,7 @@ snapshot-at_tick _ (next {h = h} l (ends_waiting who)) q id = snapshot-at_tick h
 snapshot-at_tick _ (next {h = h} l (writes who u table key old new e free)) q id = snapshot-at_tick h l q id
 snapshot-at_tick _ (next {h = h} l (makes name new)) q id = snapshot-at_tick h l q id
 snapshot-at_tick _ (next {h = h} l (raises p v i e)) q id = snapshot-at_tick h l q id
-snapshot-at_tick _ (next {h = h} l (puts who p e i s o)) q id = snapshot-at_tick h l q id
+snapshot-at_tick _ (next {h = h} l (puts who p e i s o newest)) q id = snapshot-at_tick h l q id
 snapshot-at_tick _ (next {h = h} l (ticks_next p m time seq i e)) q id = of (p == q) refl (snapshot-at_tick h l q id)
   where
     both : (found : Option Tick) → tick id (ticks q h) ≡ found → (b : Bool) → (m == id) ≡ b → p ≡ q → snapshot (at_tick q id h) ≡ snapshot_at (tick id (ticks q h))
@@ -134,6 +136,7 @@ snapshot-at_tick _ (next {h = h} l (ticks_next p m time seq i e)) q id = of (p =
 snapshot-at_tick _ (next {h = h} l (registers p name sub t i e f g)) q id = snapshot-at_tick h l q id
 snapshot-at_tick _ (next {h = h} l (opens b e)) q id = snapshot-at_tick h l q id
 snapshot-at_tick _ (next {h = h} l (closes b e)) q id = snapshot-at_tick h l q id
+snapshot-at_tick _ (next {h = h} l (traces n name trigger below is new)) q id = snapshot-at_tick h l q id
 
 -- what stands below a tick is legal
 pub legal-at_tick : (h : History) → Legal h → (q id : ℕ) → Legal (at_tick q id h)
@@ -151,7 +154,7 @@ legal-at_tick _ (next {h = h} l (ends_waiting who)) q id = legal-at_tick h l q i
 legal-at_tick _ (next {h = h} l (writes who u table key old new e free)) q id = legal-at_tick h l q id
 legal-at_tick _ (next {h = h} l (makes name new)) q id = legal-at_tick h l q id
 legal-at_tick _ (next {h = h} l (raises p v i e)) q id = legal-at_tick h l q id
-legal-at_tick _ (next {h = h} l (puts who p e i s o)) q id = legal-at_tick h l q id
+legal-at_tick _ (next {h = h} l (puts who p e i s o newest)) q id = legal-at_tick h l q id
 legal-at_tick _ (next {h = h} l (ticks_next p m time seq i e)) q id = of (p == q && m == id) l (legal-at_tick h l q id)
   where
     of : (b : Bool) → Legal h → Legal (at_tick q id h) → Legal (if b then h else at_tick q id h)
@@ -160,3 +163,4 @@ legal-at_tick _ (next {h = h} l (ticks_next p m time seq i e)) q id = of (p == q
 legal-at_tick _ (next {h = h} l (registers p name sub t i e f g)) q id = legal-at_tick h l q id
 legal-at_tick _ (next {h = h} l (opens b e)) q id = legal-at_tick h l q id
 legal-at_tick _ (next {h = h} l (closes b e)) q id = legal-at_tick h l q id
+legal-at_tick _ (next {h = h} l (traces n name trigger below is new)) q id = legal-at_tick h l q id

@@ -3,7 +3,7 @@ use Rattle.std.specs.Prelude.{Bool, true, false, Ok, Err}
 use Rattle.sky_model.specs.declared.stmt.Stmt.{Stmt}
 use Rattle.sky_model.specs.declared.stmt.RowStmt.{RowStmt}
 use Rattle.sky_model.specs.declared.stmt.RowStmt.TheVariants.{OpenDb, Close, Cancel, Begin, BeginRepeatableRead, Commit, Rollback, TxidCurrent, TxidCurrentSnapshot, TxidVisibleInSnapshot, CreateTable, Insert, Update, Delete, Get, Scan}
-use Rattle.sky_model.specs.declared.stmt.Stmt.TheVariants.{Row, CreateQueue, InsertEvent, Ticker, ForceTick, RegisterConsumer, NextBatch, GetBatchEvents, FinishBatch}
+use Rattle.sky_model.specs.declared.stmt.Stmt.TheVariants.{Row, CreateQueue, InsertEvent, Ticker, ForceTick, RegisterConsumer, NextBatch, GetBatchEvents, FinishBatch, AddTrigger}
 use Rattle.sky_model.specs.declared.stmt.Where.{Where}
 use Rattle.sky_model.specs.declared.stmt.Where.TheVariants.{Always, Anywhere, WhenOpen, WhenSound, WhenReading, WhenOutside}
 use Rattle.sky_model.specs.declared.reply.Refusal.TheVariants.{Aborted, Busy, InTransaction}
@@ -40,6 +40,7 @@ where_of (RegisterConsumer queue consumer) = WhenOutside
 where_of (NextBatch queue consumer) = WhenOutside
 where_of (GetBatchEvents batch) = WhenOutside
 where_of (FinishBatch batch) = WhenOutside
+where_of (AddTrigger name table queue backup ignored) = WhenOutside
 
 -- a statement, by where it may stand, in a session that doesn't wait
 abbrev pub allowed_in : Block → Where → Checked (Unit {0})

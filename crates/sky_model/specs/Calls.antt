@@ -3,7 +3,7 @@ use Rattle.std.specs.Prelude.{ℕ, ℤ, Bool, false, List, [], ◌∷◌, ◌++�
 use Rattle.sky_model.specs.declared.stmt.Stmt.{Stmt}
 use Rattle.sky_model.specs.declared.stmt.RowStmt.{RowStmt}
 use Rattle.sky_model.specs.declared.stmt.RowStmt.TheVariants.{OpenDb, Close, Cancel, Begin, BeginRepeatableRead, Commit, Rollback, TxidCurrent, TxidCurrentSnapshot, TxidVisibleInSnapshot, CreateTable, Insert, Update, Delete, Get, Scan}
-use Rattle.sky_model.specs.declared.stmt.Stmt.TheVariants.{Row, CreateQueue, InsertEvent, Ticker, ForceTick, RegisterConsumer, NextBatch, GetBatchEvents, FinishBatch}
+use Rattle.sky_model.specs.declared.stmt.Stmt.TheVariants.{Row, CreateQueue, InsertEvent, Ticker, ForceTick, RegisterConsumer, NextBatch, GetBatchEvents, FinishBatch, AddTrigger}
 use Rattle.sky_model.specs.declared.reply.Reply.{Reply}
 use Rattle.sky_model.specs.declared.reply.Reply.TheVariants.{Done, NotWaiting}
 use Rattle.sky_model.specs.declared.reply.Limit.TheVariants.{Sessions, Databases}
@@ -19,6 +19,8 @@ use Rattle.sky_model.specs.Made.{Making, made_by}
 use Rattle.sky_model.specs.StepQueue.{create_queue, insert_event, ticker, force_tick}
 use Rattle.sky_model.specs.StepSession.{begin, begin_repeatable_read, commit, rollback, close, cancel, txid_current, txid_current_snapshot, txid_visible_in_snapshot}
 use Rattle.sky_model.specs.StepRows.{create_table, insert, update, delete, get, scan}
+use Rattle.sky_model.specs.StepTrigger.{add_trigger}
+use Rattle.sky_model.specs.Telling.{tells}
 use Rattle.sky_model.specs.StepConsumer.{register_consumer, next_batch, get_batch_events, finish_batch}
 use Rattle.sky_model.specs.World.{World, on_top}
 use Rattle.sky_model.specs.Reader.{Shown, PartReader, DatabaseReader, Reader, within_part, within_database, by_past, Deed, answers_with, refuses, appears, followed}
@@ -45,7 +47,7 @@ row_form d shown who (Scan table) = scan d shown who table
 
 -- what a statement does that its session may make
 abbrev pub form : Database → Shown → ℤ → ℕ → Stmt → Checked Outcome
-form d shown now who (Row stmt) = row_form d.part shown.rows who stmt
+form d shown now who (Row stmt) = tells d now (row_form d.part shown.rows who stmt)
 form d shown now who (CreateQueue queue) = create_queue d now who queue
 form d shown now who (InsertEvent queue ev_type ev_data extra) = insert_event d now who queue ev_type ev_data extra
 form d shown now who (Ticker queue) = ticker d now queue
@@ -54,6 +56,7 @@ form d shown now who (RegisterConsumer queue consumer) = register_consumer d que
 form d shown now who (NextBatch queue consumer) = next_batch d queue consumer
 form d shown now who (GetBatchEvents batch) = get_batch_events d shown.events batch
 form d shown now who (FinishBatch batch) = finish_batch d batch
+form d shown now who (AddTrigger name table queue backup ignored) = add_trigger d name table queue backup ignored
 
 -- a statement on rows, at a place of its database's row part
 abbrev pub row_making : {P : Type 0} → PartReader P → ℕ → RowStmt → Making P
@@ -85,7 +88,7 @@ statement r p now who stmt = made_by (making r now who stmt) (where_of stmt) who
 
 -- with those that it lets go on
 abbrev pub database_turn : {P : Type 0} → DatabaseReader P → P → ℤ → ℕ → Stmt → Turn
-database_turn r p now who stmt = with_settling (within_part r) p (turn_of who (statement r p now who stmt))
+database_turn r p now who stmt = with_settling (within_part r now) p (turn_of who (statement r p now who stmt))
 
 -- `open NAME` of a session that has none open: the database is made where it is new
 abbrev pub opens : World → ℕ → List ℕ → Option ℕ → Deed

@@ -1,5 +1,5 @@
 -- The statement forms as a table, and what a line says by it.
-use Rattle.std.specs.Prelude.{ℕ, ◌+◌, ◌-◌, ◌^◌, ◌==◌, if◌then◌else◌, List, [], ◌∷◌, ◌++◌, length, take, drop, Option, Some, None, Result, Ok, Err, bytes_eq, codes}
+use Rattle.std.specs.Prelude.{ℕ, Bool, true, false, ◌+◌, ◌-◌, ◌^◌, ◌==◌, if◌then◌else◌, List, [], ◌∷◌, ◌++◌, length, take, drop, Option, Some, None, Result, Ok, Err, bytes_eq, codes}
 use Rattle.sky_model.specs.declared.stmt.RowStmt.TheVariants as row
 use Rattle.sky_model.specs.declared.stmt.Stmt.{Stmt}
 use Rattle.sky_model.specs.declared.stmt.Stmt.TheVariants as stmt
@@ -8,7 +8,7 @@ use Rattle.sky_model.specs.declared.line.Line.TheVariants.{Blank, Run}
 use Rattle.sky_model.specs.declared.line.Fixed.{Fixed}
 use Rattle.sky_model.specs.declared.line.Fixed.TheVariants as fixed
 use Rattle.sky_model.specs.Words.{words}
-use Rattle.sky_model.specs.Kinds.{Kind, Name, Dotted, Number, OptText, Raw, Value, Column, Set, Of, value}
+use Rattle.sky_model.specs.Kinds.{Kind, Name, Dotted, Number, OptText, Raw, Value, Column, Set, Ignore, Of, value}
 
 -- ---- what may follow in a line
 
@@ -42,6 +42,7 @@ text_of fixed.Repeatable = codes "repeatable"
 text_of fixed.Read = codes "read"
 text_of fixed.Table = codes "table"
 text_of fixed.Set = codes "set"
+text_of fixed.Backup = codes "backup"
 
 -- ---- the statement forms: of each its first word, and what follows it
 
@@ -82,11 +83,23 @@ insert_event =
     one Name (λ queue. one OptText (λ ev_type. one OptText (λ ev_data.
     either (stop (stmt.InsertEvent queue ev_type ev_data None)) (extra_row queue ev_type ev_data))))
 
+-- the columns to ignore at the end of a trigger's line, or none
+abbrev pub ignore_row : (name table queue : List ℕ) → Bool → Row
+ignore_row name table queue backup =
+    either (stop (stmt.AddTrigger name table queue backup [])) (last Ignore (λ columns. stmt.AddTrigger name table queue backup columns))
+
+-- a trigger's name, its table and its queue, and then none, one or both of `backup` and columns to ignore
+abbrev pub add_trigger : Row
+add_trigger =
+    one Name (λ name. one Dotted (λ table. one Name (λ queue.
+    either (ignore_row name table queue false) (literal fixed.Backup (ignore_row name table queue true)))))
+
 -- on queues
 abbrev pub queue_forms : List (List ℕ × Row)
 queue_forms =
     (codes "create_queue", last Name (λ queue. stmt.CreateQueue queue))
     ∷ (codes "insert_event", insert_event)
+    ∷ (codes "add_trigger", add_trigger)
     ∷ (codes "ticker", last Name (λ queue. stmt.Ticker queue))
     ∷ (codes "force_tick", last Name (λ queue. stmt.ForceTick queue))
     ∷ (codes "register_consumer", one Name (λ queue. last Dotted (λ consumer. stmt.RegisterConsumer queue consumer)))

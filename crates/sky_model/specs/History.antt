@@ -4,6 +4,7 @@ use Rattle.std.specs.Prelude.{ℕ, ℤ, Bool, List, Option}
 use Rattle.sky_val.specs.declared.event.Event.{Event}
 use Rattle.sky_val.specs.declared.val.Val.{Val}
 use Rattle.sky_val.specs.declared.column.Column.{Column}
+use Rattle.sky_urlenc.specs.RowEvents.{Trigger}
 use Rattle.sky_model.specs.declared.stmt.Attempt.{Attempt}
 
 -- a batch: a consumer's, from one tick of its queue to another
@@ -31,6 +32,8 @@ pub data QueueMark : Type 0 where
   opened : (batch : Batch) → QueueMark
   -- a batch was finished
   closed : (batch : Batch) → QueueMark
+  -- a table got a trigger: its writes are told of by events of a queue
+  traced : (table : ℕ) (name : List ℕ) (trigger : Trigger) → QueueMark
 
 -- what happened to the tables of a database; a table goes by its number in the order of making
 pub data TableMark : Type 0 where

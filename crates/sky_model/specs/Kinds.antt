@@ -1,7 +1,7 @@
 -- The kinds of words, and the value of a word of a kind.
 use Rattle.std.specs.Prelude.{ℕ, ◌+◌, ◌-◌, ◌==◌, nat_le, Bool, true, false, not, ◌&&◌, ◌||◌, if◌then◌else◌, List, [], ◌∷◌, length, take, drop, Option, Some, None, option_map, bytes_eq, codes, position}
 use Rattle.std.specs.Char.{is_ascii_digit, is_ascii_lowercase}
-use Rattle.std.specs.List.{list_all}
+use Rattle.std.specs.List.{list_all, slice_split}
 use Rattle.std.specs.Option.{option_or}
 use Rattle.std.specs.Str.{is_utf8}
 use Rattle.sky_val.specs.Numbers.{number_of, int_of}
@@ -15,7 +15,7 @@ use Rattle.sky_model.specs.declared.stmt.Change.TheVariants.{To, Add}
 use Rattle.sky_model.specs.declared.stmt.Set as set
 
 -- a name; one, or two with a dot between; a number, with the most that it may be; `null` or a text; a word without quotes or a text;
--- a value of a row; a column of a new table; the change of a column
+-- a value of a row; a column of a new table; the change of a column; the columns that a trigger ignores
 pub data Kind : Type 0 where
   Name : Kind
   Dotted : Kind
@@ -25,6 +25,7 @@ pub data Kind : Type 0 where
   Value : Kind
   Column : Kind
   Set : Kind
+  Ignore : Kind
 
 -- what a word of a kind is worth
 abbrev pub Of : Kind → Type 0
@@ -36,6 +37,7 @@ Of Raw = List ℕ
 Of Value = Val
 Of Column = column.Column
 Of Set = set.Set
+Of Ignore = List (List ℕ)
 
 -- a lower-case letter or `_`
 abbrev pub begins_name : ℕ → Bool
@@ -153,6 +155,18 @@ set_around (Some at) w = set_by (take at w) (drop (at + 1) w)
 abbrev pub set_of : List ℕ → Option set.Set
 set_of w = set_around (first_place 61 w) w
 
+-- what stands between commas
+abbrev pub between_commas : List ℕ → List (List ℕ)
+between_commas w = slice_split (λ b. b == 44) w
+
+-- names with commas between
+abbrev pub names_of : List ℕ → Option (List (List ℕ))
+names_of w = if list_all is_name (between_commas w) then Some (between_commas w) else None
+
+-- `ignore=` and names with commas between
+abbrev pub ignore_of : List ℕ → Option (List (List ℕ))
+ignore_of w = if bytes_eq (take 7 w) (codes "ignore=") then names_of (drop 7 w) else None
+
 -- the value of a word of a kind; no value where the word is of another
 abbrev pub value : (k : Kind) → List ℕ → Option (Of k)
 value Name w = if is_name w then Some w else None
@@ -163,3 +177,4 @@ value Raw w = raw w
 value Value w = value_of w
 value Column w = column_of w
 value Set w = set_of w
+value Ignore w = ignore_of w

@@ -1,12 +1,19 @@
 -- The laws on the order in which transactions write a key, at each place of each history that calls make.
-use Rattle.std.specs.Prelude.{◌≡◌, ◌≢◌, ℕ, List, [], ◌∷◌, ◌++◌, Bool, true, false, ◌&&◌, ◌||◌, ◌==◌, Option, if◌then◌else◌}
+use Rattle.std.specs.Prelude.{◌≡◌, ◌≢◌, ℕ, ◌<◌, ℤ, All, List, [], ◌∷◌, ◌++◌, Bool, true, false, ◌&&◌, ◌||◌, ◌==◌, Option, Ok, if◌then◌else◌}
+use Rattle.sky_val.specs.declared.event.Event.{Event}
 use Rattle.sky_val.specs.declared.val.Val.{Val}
 use Rattle.sky_val.specs.Waits.{is_same_key}
 use Rattle.sky_txid.specs.Ids.{contains}
 use Rattle.sky_txid.specs.Snapshot.{sees}
-use Rattle.sky_model.specs.History.{Mark, tabled, wrote, History}
+use Rattle.sky_model.specs.History.{Mark, tabled, wrote, queued, put, History}
 use Rattle.sky_model.specs.Transactions.{has_ended, has_committed, has_rolled_back, snapshot}
 use Rattle.sky_model.specs.Rows.{committed, writes, has_written}
+use Rattle.sky_model.specs.Queues.{events}
+use Rattle.sky_model.specs.State.{database_of}
+use Rattle.sky_model.specs.Telling.{told_of}
+use Rattle.sky_model.specs.World.{history_in}
+use Rattle.sky_model.specs.Calls.{Call, past_of}
+use Rattle.sky_model.specs.RowSteps.{marked}
 use Rattle.sky_model.specs.HistoryPlaces.{IsPlace}
 
 -- the transactions that wrote a key, one for each write, in order
@@ -37,3 +44,21 @@ WritesAndCommitsHaveOneOrder = (p : History) → IsPlace p → (table : ℕ) (ke
 abbrev pub SnapshotsSeeEarlierWriters : Type 0
 SnapshotsSeeEarlierWriters = (later : List Mark) (p : History) → IsPlace (later ++ p) → (table : ℕ) (key : List Val) (t u : ℕ)
     → is_before t u (writers table key (later ++ p)) ≡ true → sees (snapshot p) u ≡ true → sees (snapshot p) t ≡ true
+
+-- the ids of a queue's events rise in the order in which they are put: each is above those of all that the queue has
+abbrev pub EventIdsRise : Type 0
+EventIdsRise = (p : History) (queue : ℕ) (event : Event) → IsPlace (queued (put queue event) ∷ p) → All (λ e. e.ev_id < event.ev_id) (events queue p)
+
+-- behind a write stand the events that tell of it, each taking the next id of its queue, and then what came later
+pub record IsTold (h : History) (write : Mark) (p : History) : Type 0 where
+  pub time : ℤ
+  pub events : List Mark
+  pub told : told_of (database_of (write ∷ p)) time write ≡ Ok events
+  pub later : List Mark
+  pub stands : h ≡ later ++ marked (write ∷ p) events
+
+-- each write of each history that calls make is told of so, with nothing between the write and its events
+abbrev pub WritesAreTold : Type 0
+WritesAreTold = (calls : List Call) (database : ℕ) (later : List Mark) (p : History) (who t table : ℕ) (key : List Val) (old new : Option (List Val))
+    → history_in (past_of calls) database ≡ later ++ tabled (wrote who t table key old new) ∷ p
+    → IsTold (history_in (past_of calls) database) (tabled (wrote who t table key old new)) p

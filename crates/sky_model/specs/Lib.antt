@@ -9,6 +9,7 @@ pub mod Config
 pub mod Rows
 pub mod Versions
 pub mod Locks
+pub mod Triggers
 pub mod Queues
 pub mod Consumers
 pub mod Batches
@@ -22,7 +23,9 @@ pub mod OwnTransaction
 pub mod StepLocks
 pub mod StepRows
 pub mod StepQueue
+pub mod StepTrigger
 pub mod StepConsumer
+pub mod Telling
 pub mod StepSession
 pub mod Selection
 pub mod World

@@ -7,11 +7,11 @@ use Rattle.sky_val.specs.declared.val.Val.TheVariants as value
 use Rattle.sky_model.specs.declared.reply.Reply.{Reply}
 use Rattle.sky_model.specs.declared.reply.Reply.TheVariants.{Done, Number, Null, Bool, Begin, AlreadyInTransaction, Commit, Rollback, NoTransaction, NotWaiting, Waits, Snapshot, Events, Row, NoRow, Rows, Refused}
 use Rattle.sky_model.specs.declared.reply.Limit.{Limit}
-use Rattle.sky_model.specs.declared.reply.Limit.TheVariants.{Sessions, Databases, Queues, Consumers, Tables, Columns}
+use Rattle.sky_model.specs.declared.reply.Limit.TheVariants.{Sessions, Databases, Queues, Consumers, Tables, Columns, Triggers}
 use Rattle.sky_model.specs.declared.reply.BadRow as bad_row
 use Rattle.sky_model.specs.declared.reply.BadRow.TheVariants.{Count, «Type», NullKey, NoColumn, Twice}
 use Rattle.sky_model.specs.declared.reply.Refusal.{Refusal}
-use Rattle.sky_model.specs.declared.reply.Refusal.TheVariants.{Aborted, AlreadyOpen, BadRow, BadSnapshot, Busy, Canceled, Deadlock, Duplicate, EventIdsSpent, IdsSpent, InTransaction, KeyChange, NoBatch, NoConsumer, NodeConsumer, NoKey, NoQueue, NoTable, NotOpen, OutOfRange, ReservedColumn, Serialize, TableExists, TooMany, TwiceNamed, TxidsSpent}
+use Rattle.sky_model.specs.declared.reply.Refusal.TheVariants.{Aborted, AlreadyOpen, BadColumn, BadRow, BadSnapshot, Busy, Canceled, Deadlock, Duplicate, EventIdsSpent, IdsSpent, InTransaction, KeyChange, NoBatch, NoConsumer, NodeConsumer, NoKey, NoQueue, NoTable, NotOpen, OutOfRange, ReservedColumn, Serialize, TableBusy, TableExists, TooMany, TriggerExists, TwiceNamed, TxidsSpent}
 use Rattle.sky_txid.specs.SnapshotText.{snapshot_text}
 use Rattle.sky_model.specs.Moment.{moment, HasMoment}
 
@@ -75,6 +75,7 @@ limit_text Queues = codes "queues 64"
 limit_text Consumers = codes "consumers 256"
 limit_text Tables = codes "tables 64"
 limit_text Columns = codes "columns 32"
+limit_text Triggers = codes "triggers 8"
 
 -- what is wrong with the values of a row
 abbrev pub bad_row_text : bad_row.BadRow → List ℕ
@@ -92,6 +93,7 @@ name_at names n = unwrap_or (slice_get names n) []
 abbrev pub refusal_text : List (List ℕ) → Refusal → List ℕ
 refusal_text names Aborted = codes "Aborted"
 refusal_text names AlreadyOpen = codes "AlreadyOpen"
+refusal_text names (BadColumn column) = codes "BadColumn " ++ column
 refusal_text names (BadRow why) = codes "BadRow " ++ bad_row_text why
 refusal_text names BadSnapshot = codes "BadSnapshot"
 refusal_text names Busy = codes "Busy"
@@ -112,8 +114,10 @@ refusal_text names NotOpen = codes "NotOpen"
 refusal_text names (OutOfRange column) = codes "OutOfRange " ++ column
 refusal_text names (ReservedColumn column) = codes "ReservedColumn " ++ column
 refusal_text names (Serialize txid) = codes "Serialize " ++ decimal txid
+refusal_text names (TableBusy txid) = codes "TableBusy " ++ decimal txid
 refusal_text names (TableExists name) = codes "TableExists " ++ name
 refusal_text names (TooMany limit) = codes "TooMany " ++ limit_text limit
+refusal_text names (TriggerExists name) = codes "TriggerExists " ++ name
 refusal_text names (TwiceNamed column) = codes "TwiceNamed " ++ column
 refusal_text names TxidsSpent = codes "TxidsSpent"
 

@@ -1,5 +1,5 @@
 -- What is read at a place, and what is done there.
-use Rattle.std.specs.Prelude.{ℕ, List, [], ◌∷◌, ◌++◌}
+use Rattle.std.specs.Prelude.{ℕ, ℤ, List, [], ◌∷◌, ◌++◌}
 use Rattle.sky_val.specs.declared.event.Event.{Event}
 use Rattle.sky_model.specs.declared.reply.Reply.{Reply}
 use Rattle.sky_model.specs.declared.reply.Reply.TheVariants.{Refused}
@@ -10,6 +10,7 @@ use Rattle.sky_model.specs.State.{RowPart, part_of, after_part, Database, databa
 use Rattle.sky_model.specs.ShownRows.{RowsShown, rows_in, rows_by}
 use Rattle.sky_model.specs.Selection.{selected}
 use Rattle.sky_model.specs.Outcome.{Outcome, Checked}
+use Rattle.sky_model.specs.Telling.{tells}
 use Rattle.sky_model.specs.World.{World, world_of, after_facts, history_in, on_top}
 
 -- what a database shows a statement beside what it keeps: the events of a batch, and the rows of its tables
@@ -56,9 +57,9 @@ database_by_history = record { database = database_of; shown = shown_in; behind 
 abbrev pub database_by_itself : DatabaseReader Database
 database_by_itself = record { database = λ d. d; shown = shown_by; behind = after_mark }
 
--- the row part of a database
-abbrev pub within_part : {P : Type 0} → DatabaseReader P → PartReader P
-within_part r = record { part = λ p. (r.database p).part; rows = λ p. (r.shown p).rows; tells = silent; behind = r.behind }
+-- the row part of a database, whose writes are told of at this time
+abbrev pub within_part : {P : Type 0} → DatabaseReader P → ℤ → PartReader P
+within_part r now = record { part = λ p. (r.database p).part; rows = λ p. (r.shown p).rows; tells = λ p checked. tells (r.database p) now checked; behind = r.behind }
 
 -- and of the world: the world there, what each database shows there, and the place behind what happens
 pub record Reader (P : Type 0) : Type 0 where

@@ -10,13 +10,14 @@ use Rattle.sky_txid.specs.Snapshot.{SnapshotView, snapshot_of}
 use Rattle.sky_txid.specs.Versions.{written, forgotten}
 use Rattle.sky_model.specs.declared.stmt.Attempt.{Attempt}
 use Rattle.sky_model.specs.declared.stmt.Attempt.TheVariants.{Deletion}
-use Rattle.sky_model.specs.History.{Batch, Mark, began, ended, block_begun, repeats, looked, block_failed, block_ended, tabled, TableMark, table_made, wrote, waits, waited, queued, QueueMark, made, raised, put, ticked, registered, opened, closed, History}
+use Rattle.sky_model.specs.History.{Batch, Mark, began, ended, block_begun, repeats, looked, block_failed, block_ended, tabled, TableMark, table_made, wrote, waits, waited, queued, QueueMark, made, raised, put, ticked, registered, opened, closed, traced, History}
 use Rattle.sky_model.specs.Transactions.{next_txid, running, has_rolled_back}
 use Rattle.sky_model.specs.Sessions.{Block, inside, failed, outside, Sight, at_each, at_first, at_place, Session, session}
 use Rattle.sky_model.specs.Config.{Config, config}
 use Rattle.sky_model.specs.Rows.{table_names, columns_of}
 use Rattle.sky_model.specs.Versions.{versions}
 use Rattle.sky_model.specs.Locks.{holder, waiting, attempt}
+use Rattle.sky_model.specs.Triggers.{NamedTrigger, triggers}
 use Rattle.sky_model.specs.Queues.{queue_names, sequence, events, Tick, ticks}
 use Rattle.sky_model.specs.Consumers.{consumers, Subscription, subscription, last_subscription, last_batch, active_batch}
 
@@ -50,6 +51,7 @@ pub record Database : Type 0 where
   pub names : List (List ℕ)
   pub queue : ℕ → Queue
   pub batch : ℕ → Option Batch
+  pub triggers : ℕ → List NamedTrigger
 
 abbrev pub queue_of : History → ℕ → Queue
 queue_of h q = record {
@@ -83,6 +85,7 @@ database_of h = record {
   names = queue_names h;
   queue = queue_of h;
   batch = λ id. active_batch id h;
+  triggers = λ table. triggers table h;
 }
 
 -- the same function but at a number
@@ -130,6 +133,9 @@ after_queue_mark d (closed b) = record d {
   queue = changed_at b.queue (λ x. record x {
     sub = changed_for b.consumer (option_map (at_position b.cur)) x.sub;
   }) d.queue;
+}
+after_queue_mark d (traced table name trigger) = record d {
+  triggers = changed_at table (λ ts. ts ++ record { name = name; trigger = trigger } ∷ []) d.triggers;
 }
 
 -- a session after a mark of its own

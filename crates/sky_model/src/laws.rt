@@ -5,7 +5,7 @@ ghost use Rattle.sky_model.specs.LawsOfLines.{BadWordIsLeast};
 ghost use Rattle.sky_model.specs.LawsOfLocks.{DeadlocksAreRings, HoldersHaveWritten, NothingIsReady};
 ghost use Rattle.sky_model.specs.LawsOfRows.{RowsAreReadUnderSnapshots};
 ghost use Rattle.sky_model.specs.LawsOfSnapshots.{BatchesAreSelectedBySnapshots, SnapshotsSeeWhatHasEnded};
-ghost use Rattle.sky_model.specs.LawsOfWrites.{KeysAreWrittenInTurn, SnapshotsSeeEarlierWriters, WritesAndCommitsHaveOneOrder};
+ghost use Rattle.sky_model.specs.LawsOfWrites.{EventIdsRise, KeysAreWrittenInTurn, SnapshotsSeeEarlierWriters, WritesAndCommitsHaveOneOrder, WritesAreTold};
 
 /// The number of a line's bad word is the least such that no line of the grammar begins with the
 /// line's words up to it. So it does not depend on the order in which a reader tries the rows.
@@ -53,11 +53,15 @@ pub fn nothing_is_ready()
 /// order: a transaction that writes a key hasn't ended, and each other one that has written it has; of one
 /// that hasn't rolled back and one that has committed, the one wrote the key before the other exactly
 /// where it committed before the other; and no snapshot sees a transaction without those that wrote a
-/// key before it.
+/// key before it. So do the events that tell of the writes: they stand right behind their write, one of
+/// each trigger of its table that doesn't leave it out, each with the next id of its queue, and a queue's
+/// ids rise. So of two writes of a key the events of one trigger have ids in the order of the writes.
 pub fn writes_and_commits_have_one_order()
     ensures in_turn { KeysAreWrittenInTurn }
     ensures order { WritesAndCommitsHaveOneOrder }
     ensures seen { SnapshotsSeeEarlierWriters }
+    ensures told { WritesAreTold }
+    ensures ids { EventIdsRise }
 {}
 
 /// At each such place the batches that a consumer has finished are of its queue and its subscription,

@@ -12,6 +12,8 @@ pub enum Fixed {
     Table,
     /// `set`
     Set,
+    /// `backup`
+    Backup,
 }
 
 /// Why a line is bad.

@@ -20,6 +20,8 @@ pub enum Limit {
     Tables,
     /// 32 columns in a table
     Columns,
+    /// 8 triggers of a table
+    Triggers,
 }
 
 /// What is wrong with the values of a row, of a key, or of an update's changes.
@@ -86,6 +88,8 @@ pub enum Refusal {
     Aborted,
     /// The session has a database open already.
     AlreadyOpen,
+    /// This column to ignore is part of the table's key, or is none of its columns.
+    BadColumn(Text),
     /// Values don't fit the table.
     BadRow(BadRow),
     /// The text is no snapshot.
@@ -126,10 +130,14 @@ pub enum Refusal {
     ReservedColumn(Text),
     /// The transaction of this id wrote the key; it hadn't committed at the block's sight, and has now.
     Serialize(u64),
+    /// The transaction of this id runs, and has written the table.
+    TableBusy(u64),
     /// The database has such a table.
     TableExists(Text),
     /// There are as many as there can be.
     TooMany(Limit),
+    /// The table has such a trigger.
+    TriggerExists(Text),
     /// Two columns have this name.
     TwiceNamed(Text),
     /// The last transaction id was given.
@@ -152,6 +160,7 @@ impl Drop for Refusal {
         match self {
             Refusal::Aborted => {}
             Refusal::AlreadyOpen => {}
+            Refusal::BadColumn(_) => {}
             Refusal::BadRow(_) => {}
             Refusal::BadSnapshot => {}
             Refusal::Busy => {}
@@ -172,8 +181,10 @@ impl Drop for Refusal {
             Refusal::OutOfRange(_) => {}
             Refusal::ReservedColumn(_) => {}
             Refusal::Serialize(_) => {}
+            Refusal::TableBusy(_) => {}
             Refusal::TableExists(_) => {}
             Refusal::TooMany(_) => {}
+            Refusal::TriggerExists(_) => {}
             Refusal::TwiceNamed(_) => {}
             Refusal::TxidsSpent => {}
         }

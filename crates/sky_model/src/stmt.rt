@@ -99,6 +99,36 @@ impl Columns {
     }
 }
 
+/// Names of columns, in order.
+#[derive(Debug, Drop)]
+pub struct ColumnNames {
+    items: Vec<Text>,
+}
+
+impl Model for ColumnNames {
+    ghost use Rattle.std.specs.Prelude.{ℕ, List};
+
+    ghost Value = { List (List ℕ) };
+
+    ghost view = { λ c. c.items.items };
+}
+
+impl ColumnNames {
+    /// The names of a list. No memory is taken.
+    pub fn new(items: Vec<Text>) -> ColumnNames
+        ensures { result ≡ items.items }
+    {
+        ColumnNames { items }
+    }
+
+    /// The names, in their order.
+    pub fn as_slice(&self) -> &[Text]
+        ensures { result.now ≡ self.now }
+    {
+        self.items.as_slice()
+    }
+}
+
 /// What an update makes of a column's value.
 #[derive(Debug, Drop)]
 pub enum Change {
@@ -305,6 +335,14 @@ pub enum Stmt {
     FinishBatch {
         batch: u64,
     },
+    /// `add_trigger NAME TABLE NAME`, then `backup` or not, then `ignore=` and names or not
+    AddTrigger {
+        name: Text,
+        table: Text,
+        queue: Text,
+        backup: bool,
+        ignored: ColumnNames,
+    },
 }
 
 // By hand, as for the statements on rows.
@@ -331,6 +369,13 @@ impl Drop for Stmt {
             } => {}
             Stmt::GetBatchEvents { batch: _ } => {}
             Stmt::FinishBatch { batch: _ } => {}
+            Stmt::AddTrigger {
+                name: _,
+                table: _,
+                queue: _,
+                backup: _,
+                ignored: _,
+            } => {}
         }
     }
 }

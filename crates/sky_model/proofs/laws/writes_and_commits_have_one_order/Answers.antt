@@ -1,4 +1,6 @@
 use Rattle.sky_model.proofs.WriteOrder as law
+use Rattle.sky_model.proofs.EventIds as ids
+use Rattle.sky_model.proofs.WritesTold as told
 use Rattle.sky_model.proofs.laws.writes_and_commits_have_one_order.Goals as goal
 
 pub returns-clause-in_turn : goal.returns-clause-in_turn
@@ -9,3 +11,9 @@ returns-clause-order c = law.writes_and_commits_have_one_order
 
 pub returns-clause-seen : goal.returns-clause-seen
 returns-clause-seen c = law.snapshots_see_earlier_writers
+
+pub returns-clause-told : goal.returns-clause-told
+returns-clause-told c = told.writes_are_told
+
+pub returns-clause-ids : goal.returns-clause-ids
+returns-clause-ids c = ids.event_ids_rise
