@@ -48,21 +48,13 @@ pub until_more : (end : Fixed) (k : Kind) (vs : List (Of k)) (v : Of k) (old now
 until_more end k vs v old now new so goes goes_on = so_far_one (literal end) k vs v old now new so goes goes_on
 
 pub until_ends : (end : Fixed) (k : Kind) (vs : List (Of k)) (v : Of k) (old now at new : Unread) → SoFar (literal end) k vs old now → Goes k v now at
-    → ((r : Result Stmt LineCause) (f : List (Of k) → Row) → Answers r (literal end (f [])) at → Answers r (many k (λ ws. literal end (f ws))) at)
-    → ((r : Result Stmt LineCause) (row : Row) → Answers r row new → Answers r (literal end row) at)
+    → ((r : Result Stmt LineCause) (f : List (Of k) → Row) → Answers r (f []) new → Answers r (many k (λ ws. literal end (f ws))) at)
     → GoesUntil end k (vs ++ v ∷ []) old new
-until_ends end k vs v old now at new so goes ends reads_end = λ r f rest.
-    so.behind r f (goes.on r (λ w. many k (λ ws. literal end (f (vs ++ w ∷ ws)))) (ends r (λ ws. f (vs ++ v ∷ ws)) (reads_end r (f (vs ++ v ∷ [])) rest)))
+until_ends end k vs v old now at new so goes ends = λ r f rest.
+    so.behind r f (goes.on r (λ w. many k (λ ws. literal end (f (vs ++ w ∷ ws)))) (ends r (λ ws. f (vs ++ v ∷ ws)) rest))
 
 pub until_stops : (end : Fixed) (k : Kind) (vs : List (Of k)) (cause : LineCause) (old now : Unread) → SoFar (literal end) k vs old now → Stops k cause now → StopsUntil end k cause old
 until_stops end k vs cause old now so stops = λ f. so.behind (Err cause) f (stops.bad _)
-
-pub until_stops_at_end : (end : Fixed) (k : Kind) (vs : List (Of k)) (v : Of k) (cause : LineCause) (old now at : Unread) → SoFar (literal end) k vs old now → Goes k v now at
-    → ((r : Result Stmt LineCause) (f : List (Of k) → Row) → Answers r (literal end (f [])) at → Answers r (many k (λ ws. literal end (f ws))) at)
-    → ((row : Row) → Answers (Err cause) (literal end row) at)
-    → StopsUntil end k cause old
-until_stops_at_end end k vs v cause old now at so goes ends no_end = λ f.
-    so.behind (Err cause) f (goes.on _ (λ w. many k (λ ws. literal end (f (vs ++ w ∷ ws)))) (ends (Err cause) (λ ws. f (vs ++ v ∷ ws)) (no_end (f (vs ++ v ∷ [])))))
 
 pub until_memory : (end : Fixed) (k : Kind) (cause : LineCause) (old : Unread) → cause ≡ NoMemory → StopsUntil end k cause old
 unfolding Answers

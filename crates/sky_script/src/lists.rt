@@ -45,11 +45,16 @@ pub(crate) fn key_until_set(alloc: Global, words: &mut Words) -> Result<Key, Lin
     ensures { MatchResult result (λ key. GoesUntil fixed.Set kind.Value key words.old words.new)
         (λ cause. StopsUntil fixed.Set kind.Value cause words.old) }
 {
+    // Most keys have one value, for which no list is made.
+    let first = words.value(alloc)?;
+    if words.take_fixed(Fixed::Set) {
+        return Ok(Key::one(first));
+    }
     let mut values = Vec::new(alloc);
+    values.push(first)?;
     loop {
         values.push(words.value(alloc)?)?;
-        if words.next_is(Fixed::Set) {
-            words.fixed(Fixed::Set)?;
+        if words.take_fixed(Fixed::Set) {
             return Ok(Key::new(values));
         }
     }

@@ -27,8 +27,11 @@ fn run_line(alloc: Global, line: &[u8]) -> Result<Line, LineCause>
 {
     let mut words = Words::new(line);
     let session = words.session(alloc)?;
-    let stmt = statement(alloc, &mut words)?;
-    Ok(Line::Run(session, stmt))
+    // A statement is large, and `?` would move it once more.
+    match statement(alloc, &mut words) {
+        Ok(stmt) => Ok(Line::Run(session, stmt)),
+        Err(cause) => Err(cause),
+    }
 }
 
 /// What a line says; its line feed is not among its bytes.

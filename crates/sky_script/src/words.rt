@@ -42,6 +42,23 @@ fn split_word(bytes: &[u8]) -> (&[u8], Option<&[u8]>)
     ensures split { words bytes.now ≡ result.0.now ∷ words_in (option_copied result.1) }
     ensures shorter { IfSome result.1 (λ rest. length rest.now < length bytes.now) }
 {
+    // Most words have no quote, and then each byte is only compared.
+    for (i, byte) in bytes.iter().enumerate() {
+        if *byte == b' ' {
+            return (&bytes[..i], Some(&bytes[i + 1..]));
+        }
+        if *byte == b'\'' {
+            return split_quoted(bytes);
+        }
+    }
+    (bytes, None)
+}
+
+/// The same, where quotes may stand in the word.
+fn split_quoted(bytes: &[u8]) -> (&[u8], Option<&[u8]>)
+    ensures split { words bytes.now ≡ result.0.now ∷ words_in (option_copied result.1) }
+    ensures shorter { IfSome result.1 (λ rest. length rest.now < length bytes.now) }
+{
     let mut quoted = false;
     for (i, byte) in bytes.iter().enumerate() {
         if *byte == b' ' && !quoted {
@@ -145,19 +162,26 @@ impl<'a> Words<'a> {
         Ok(())
     }
 
-    /// Whether a fixed word comes next, behind words of a kind that it isn't of.
-    pub(crate) fn next_is(&self, fixed: Fixed) -> bool
+    /// Takes a fixed word if it comes next, behind words of a kind that it isn't of.
+    pub(crate) fn take_fixed(&mut self, fixed: Fixed) -> bool
         ensures ends { result ≡ true →
             (k : Kind) (r : Result Stmt LineCause) (f : List (Of k) → Row) → value k (text_of fixed) ≡ None →
-            Answers r (literal fixed (f [])) self.now → Answers r (many k (λ vs. literal fixed (f vs))) self.now }
+            Answers r (f []) self.new → Answers r (many k (λ vs. literal fixed (f vs))) self.old }
         ensures goes_on { result ≡ false →
             (k : Kind) (r : Result Stmt LineCause) (f : List (Of k) → Row) →
-            Answers r (some_until fixed k f) self.now → Answers r (many k (λ vs. literal fixed (f vs))) self.now }
+            Answers r (some_until fixed k f) self.old → Answers r (many k (λ vs. literal fixed (f vs))) self.old }
+        ensures same { result ≡ false → self.new ≡ self.old }
     {
-        match self.rest {
-            Some(rest) => split_word(rest).0 == fixed_text(fixed),
-            None => false,
+        let Some(rest) = self.rest else {
+            return false;
+        };
+        let (word, rest) = split_word(rest);
+        if word != fixed_text(fixed) {
+            return false;
         }
+        self.rest = rest;
+        self.taken += 1;
+        true
     }
 
     /// The session's word: its name and a colon.

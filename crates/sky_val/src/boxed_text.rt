@@ -39,6 +39,8 @@ impl BoxedText {
     }
 
     /// An equal text.
+    // Never inlined, so that the copy of a value is short where it is a number.
+    #[inline(never)]
     pub fn copy(&self, alloc: Global) -> Result<BoxedText, NoMemory>
         ensures { IfOk result (λ copy. copy ≡ self.now) }
     {

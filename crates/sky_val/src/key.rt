@@ -1,5 +1,6 @@
-ghost use Rattle.std.specs.Prelude.{◌≡◌, IfOk};
+ghost use Rattle.std.specs.Prelude.{◌≡◌, [], ◌∷◌, IfOk};
 ghost use Rattle.sky_val.specs.Kept.{key_values};
+ghost use Rattle.sky_val.specs.Order.{key_cmp};
 
 use crate::NoMemory;
 use crate::val::{Val, copy_values};
@@ -23,6 +24,17 @@ impl KeyValues {
         match self {
             KeyValues::One(value) => slice::from_ref(value),
             KeyValues::Listed(values) => values.as_slice(),
+        }
+    }
+
+    /// Their order. It stands apart from `cmp` of keys, which is to be short.
+    #[inline(never)]
+    fn order(&self, others: &KeyValues) -> Ordering
+        ensures { result ≡ key_cmp (key_values self.now) (key_values others.now) }
+    {
+        match (self, others) {
+            (KeyValues::One(value), KeyValues::One(other)) => value.cmp(other),
+            (values, others) => values.as_slice().cmp(others.as_slice()),
         }
     }
 
@@ -66,6 +78,15 @@ impl Key {
         }
         Key {
             values: KeyValues::Listed(values),
+        }
+    }
+
+    /// The key of one value. No memory is taken.
+    pub fn one(value: Val) -> Key
+        ensures { result ≡ value ∷ [] }
+    {
+        Key {
+            values: KeyValues::One(value),
         }
     }
 
@@ -135,11 +156,21 @@ impl Ord for Key {
 
     ghost matches_eq = { key_eq-ties };
 
+    // Always inlined, and with a number first, so that a search of a map among keys of one number is a short loop.
     #[inline(always)]
     fn cmp(&self, other: &Key) -> Ordering {
         match (&self.values, &other.values) {
-            (KeyValues::One(value), KeyValues::One(other)) => value.cmp(other),
-            (values, others) => values.as_slice().cmp(others.as_slice()),
+            (KeyValues::One(Val::Int(number)), KeyValues::One(Val::Int(other))) => {
+                // The search asks first whether it is greater.
+                if *number > *other {
+                    Ordering::Greater
+                } else if *number == *other {
+                    Ordering::Equal
+                } else {
+                    Ordering::Less
+                }
+            }
+            (values, others) => values.order(others),
         }
     }
 }

@@ -229,7 +229,7 @@ mod tests {
         let row = Row::new(vec![in alloc; Val::Null, Val::Int(7)]?).copy(alloc)?;
         assert_eq!(rt; schema.check(&row), Ok(()));
         let key = schema.key_of(&row)?.copy(alloc)?;
-        assert!(rt; key == Key::new(vec![in alloc; Val::Int(7)]?));
+        assert!(rt; key == Key::new(vec![in alloc; Val::Int(7)]?) && key == Key::one(Val::Int(7)));
         Ok(())
     }
 }

@@ -40,6 +40,8 @@ impl Val {
     }
 
     /// An equal value.
+    // Always inlined, so that the values of a row are copied without a call where they are numbers.
+    #[inline(always)]
     pub fn copy(&self, alloc: Global) -> Result<Val, NoMemory>
         ensures { IfOk result (λ val. val ≡ self.now) }
     {
@@ -57,7 +59,7 @@ pub(crate) fn copy_values(alloc: Global, values: &[Val]) -> Result<Vec<Val>, NoM
 {
     let mut copies = Vec::with_capacity(alloc, values.len())?;
     for value in values {
-        copies.push(value.copy(alloc)?)?;
+        copies.push_reserved(value.copy(alloc)?);
     }
     Ok(copies)
 }
@@ -91,7 +93,6 @@ impl Ord for Val {
 
     ghost matches_eq = { val_eq-ties };
 
-    #[inline(always)]
     fn cmp(&self, other: &Val) -> Ordering {
         match (self, other) {
             (Val::Null, Val::Null) => Ordering::Equal,

@@ -6,7 +6,7 @@ use Rattle.sky_script.proofs.ListLemmas.{SoFar}
 use Rattle.sky_script.proofs.lists.key_until_set.Given as goal
 
 abbrev pub invariant-loop-values : goal.invariant-loop-values
-invariant-loop-values l = SoFar (literal Set) Value l.values.items l.initial.words l.words
+invariant-loop-values l = SoFar (literal Set) Value l.values.items l.fn.words l.words
 
 abbrev pub decreases-loop-values : goal.decreases-loop-values
 decreases-loop-values l = length l.words.left
