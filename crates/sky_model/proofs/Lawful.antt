@@ -333,12 +333,10 @@ good_row_turn-by r past reads p l who stmt =
     (good_row_runs r past reads p l who stmt (allowed (is_waiting who (r.part p).waiting) ((r.part p).session who).block (where_of_row stmt)))
 
 -- the same of a history
-pub good_with_settling : (h : History) → Legal h → (turn : Turn) → Chain h turn.marks → Chain h (with_settling part_by_history h turn).marks
-good_with_settling h l turn chain = good_with_settling-by part_by_history (λ h. h) history-reads h l turn chain
-
 pub good_row_turn : (h : History) → Legal h → (who : ℕ) (stmt : RowStmt) → Chain h (row_turn part_by_history h who stmt).marks
 good_row_turn h l who stmt = good_row_turn-by part_by_history (λ h. h) history-reads h l who stmt
 
+-- and of a whole database by its history
 pub good_turn : (h : History) → Legal h → (now : ℤ) (who : ℕ) (stmt : Stmt) → Chain h (database_turn database_by_history h now who stmt).marks
 good_turn h l now who stmt =
     good_with_settling-by (within_part database_by_history now) (λ g. g) (database-reads now) h l (turn_of who (statement database_by_history h now who stmt)) (good_statement h l now who stmt)

@@ -34,7 +34,7 @@ legal_behind h (mark ∷ marks) l (more fine chain) = legal_behind (mark ∷ h) 
 -- ---- the events of triggers go to queues
 
 -- the queues of triggers are among so many
-abbrev TriggersWithin : ℕ → List NamedTrigger → Type 0
+abbrev pub TriggersWithin : ℕ → List NamedTrigger → Type 0
 TriggersWithin count [] = Unit {0}
 TriggersWithin count (t ∷ ts) = t.trigger.queue < count × TriggersWithin count ts
 

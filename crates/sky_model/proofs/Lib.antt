@@ -51,6 +51,7 @@ pub mod EventIds
 pub mod QueueOutcomes
 pub mod WritesTold
 mod WorkedWrites
+mod WorkedTriggers
 pub mod Splitting
 pub mod Scripts
 pub mod Naming
