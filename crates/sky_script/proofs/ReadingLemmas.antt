@@ -34,6 +34,11 @@ pub stops_memory : (k : Kind) (old : Unread) → Stops k NoMemory old
 unfolding Answers
 stops_memory k old = record { bad = λ f. tt }
 
+-- where memory was wanting, that answers any row
+pub answers_memory : (cause : LineCause) (row : Row) (at : Unread) → cause ≡ NoMemory → Answers (Err cause) row at
+unfolding Answers
+answers_memory cause row at is = rw is tt
+
 pub ruleset one_word = (goes_word, stops_word, stops_end, stops_memory)
 
 pub some_left : (ws : List (List ℕ)) → HasFirst ws → ws ≢ []

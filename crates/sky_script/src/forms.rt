@@ -11,6 +11,7 @@ use crate::queue_forms::{
 };
 use crate::row_forms::{create_table, delete, get, insert, scan, update};
 use crate::session_forms::{alone, begin, open_db, txid_visible_in_snapshot};
+use crate::trigger_forms::add_trigger;
 use crate::words::Words;
 use sky_model::{RowStmt, Stmt};
 use std::alloc::Global;
@@ -86,6 +87,9 @@ fn read_queue_form(alloc: Global, first: &[u8], words: &mut Words) -> Result<Stm
     }
     if first == b"insert_event".as_slice() {
         return insert_event(alloc, words);
+    }
+    if first == b"add_trigger".as_slice() {
+        return add_trigger(alloc, words);
     }
     if first == b"ticker".as_slice() {
         return ticker(alloc, words);

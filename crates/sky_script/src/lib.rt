@@ -23,6 +23,7 @@ mod row;
 mod row_forms;
 mod row_words;
 mod session_forms;
+mod trigger_forms;
 mod words;
 
 pub use cause::LineCause;

@@ -76,6 +76,12 @@ mod tests {
                 "a: get_batch_events 0",
                 "Ok(Run(\"a\", GetBatchEvents { batch: 0 }))",
             ),
+            (
+                "a: add_trigger tr p.t q backup ignore=n,s",
+                "Ok(Run(\"a\", AddTrigger { name: \"tr\", table: \"p.t\", queue: \"q\", backup: true, ignored: ColumnNames { items: [\"n\", \"s\"] } }))",
+            ),
+            ("a: add_trigger tr t q ignore=n backup", "Err(BadWord(7))"),
+            ("a: add_trigger tr t q ignore=n,", "Err(BadWord(6))"),
             ("a:  ticker q", "Err(BadWord(2))"),
             ("a: ticker q ", "Err(BadWord(4))"),
             ("A: ticker q", "Err(BadWord(1))"),

@@ -19,6 +19,7 @@ pub(crate) fn create_queue(alloc: Global, words: &mut Words) -> Result<Stmt, Lin
     Ok(Stmt::CreateQueue { queue })
 }
 
+#[tactic(auto, using(crate::proofs::ReadingLemmas::answers_memory))]
 pub(crate) fn insert_event(alloc: Global, words: &mut Words) -> Result<Stmt, LineCause>
     ensures { Answers result grammar.insert_event words.old }
 {
@@ -44,15 +45,13 @@ pub(crate) fn insert_event(alloc: Global, words: &mut Words) -> Result<Stmt, Lin
         ev_extra3,
         ev_extra4,
     };
-    match BoxedExtra::new(alloc, extra) {
-        Ok(extra) => Ok(Stmt::InsertEvent {
-            queue,
-            ev_type,
-            ev_data,
-            extra: Some(extra),
-        }),
-        Err(_) => Err(LineCause::NoMemory),
-    }
+    let extra = BoxedExtra::new(alloc, extra)?;
+    Ok(Stmt::InsertEvent {
+        queue,
+        ev_type,
+        ev_data,
+        extra: Some(extra),
+    })
 }
 
 pub(crate) fn ticker(alloc: Global, words: &mut Words) -> Result<Stmt, LineCause>

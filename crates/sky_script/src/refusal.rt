@@ -20,6 +20,7 @@ pub(crate) fn append_refusal(
     match refusal {
         Refusal::Aborted => into.extend_from_slice(b"Aborted"),
         Refusal::AlreadyOpen => into.extend_from_slice(b"AlreadyOpen"),
+        Refusal::BadColumn(column) => append_named(b"BadColumn ", column.bytes(), into),
         Refusal::BadRow(why) => append_bad_row(why, into),
         Refusal::BadSnapshot => into.extend_from_slice(b"BadSnapshot"),
         Refusal::Busy => into.extend_from_slice(b"Busy"),
@@ -40,8 +41,10 @@ pub(crate) fn append_refusal(
         Refusal::OutOfRange(column) => append_named(b"OutOfRange ", column.bytes(), into),
         Refusal::ReservedColumn(column) => append_named(b"ReservedColumn ", column.bytes(), into),
         Refusal::Serialize(txid) => append_numbered(b"Serialize ", *txid, into),
+        Refusal::TableBusy(txid) => append_numbered(b"TableBusy ", *txid, into),
         Refusal::TableExists(name) => append_named(b"TableExists ", name.bytes(), into),
         Refusal::TooMany(limit) => append_named(b"TooMany ", limit_text(*limit), into),
+        Refusal::TriggerExists(name) => append_named(b"TriggerExists ", name.bytes(), into),
         Refusal::TwiceNamed(column) => append_named(b"TwiceNamed ", column.bytes(), into),
         Refusal::TxidsSpent => into.extend_from_slice(b"TxidsSpent"),
     }
@@ -115,5 +118,6 @@ fn limit_text(limit: Limit) -> &'static [u8]
         Limit::Consumers => b"consumers 256",
         Limit::Tables => b"tables 64",
         Limit::Columns => b"columns 32",
+        Limit::Triggers => b"triggers 8",
     }
 }

@@ -5,7 +5,7 @@ ghost use Rattle.sky_model.specs.Kinds as kinds;
 
 use crate::cause::LineCause;
 use crate::kinds::{first_place, is_name, plain_text, quoted_text};
-use sky_model::{Change, Set};
+use sky_model::{Change, ColumnNames, Set};
 use sky_val::{BoxedText, ColKind, Column, Val, int_of};
 use std::alloc::Global;
 
@@ -102,4 +102,28 @@ fn set_as(alloc: Global, name: &[u8], change: Option<Change>) -> Result<Option<S
         }
         _ => Ok(None),
     }
+}
+
+/// The columns that a word names behind `ignore=`.
+pub(crate) fn ignore_of(alloc: Global, word: &[u8]) -> Result<Option<ColumnNames>, LineCause>
+    ensures { MatchResult result (λ names. names ≡ kinds.ignore_of word.now) (λ cause. cause ≡ LineCause.NoMemory) }
+{
+    match word.strip_prefix(b"ignore=") {
+        Some(names) => names_of(alloc, names),
+        None => Ok(None),
+    }
+}
+
+/// Names with commas between.
+fn names_of(alloc: Global, word: &[u8]) -> Result<Option<ColumnNames>, LineCause>
+    ensures { MatchResult result (λ names. names ≡ kinds.names_of word.now) (λ cause. cause ≡ LineCause.NoMemory) }
+{
+    let mut names = Vec::new(alloc);
+    for name in word.split(|byte| *byte == b',') {
+        if !is_name(name) {
+            return Ok(None);
+        }
+        names.push(plain_text(alloc, name)?)?;
+    }
+    Ok(Some(ColumnNames::new(names)))
 }

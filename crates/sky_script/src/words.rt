@@ -1,18 +1,18 @@
 //! The words of a line, read one after another.
 
-ghost use Rattle.std.specs.Prelude.{◌≡◌, ◌≢◌, ◌+◌, ◌-◌, ◌<◌, List, [], ◌∷◌, true, false, IfOk, IfErr, IfNone, IfSome, OnOk, MatchOption, Result, Ok, Err, None, length, option_copied};
+ghost use Rattle.std.specs.Prelude.{◌≡◌, ◌≢◌, ◌+◌, ◌-◌, ◌<◌, List, [], ◌∷◌, Bool, true, false, IfOk, IfErr, IfNone, IfSome, OnOk, MatchOption, Result, Ok, Err, None, length, option_copied};
 ghost use Rattle.sky_model.specs.declared.stmt.Stmt.{Stmt};
 ghost use Rattle.sky_model.specs.Words.{words};
 ghost use Rattle.sky_model.specs.Kinds.{Kind, Name, Dotted, Number, OptText, Raw, Of, value};
 ghost use Rattle.sky_model.specs.Kinds as kind;
-ghost use Rattle.sky_model.specs.Grammar.{Row, stop, literal, either, many, text_of, some_until, line_of_words, run_of, statement_of};
+ghost use Rattle.sky_model.specs.Grammar.{Row, stop, literal, either, many, next, optional, text_of, some_until, line_of_words, run_of, statement_of};
 ghost use Rattle.sky_script.specs.Unread.{words_in};
 ghost use Rattle.sky_script.specs.Reading.{Answers, IsAnswer, Reads};
 
 use crate::cause::LineCause;
 use crate::kinds::{is_bare_word, is_dotted, is_name, plain_text, quoted_text};
-use crate::row_words::{column_of, set_of, value_of};
-use sky_model::{Fixed, Set};
+use crate::row_words::{column_of, ignore_of, set_of, value_of};
+use sky_model::{ColumnNames, Fixed, Set};
 use sky_val::{Column, Text, Val, number_of};
 use std::alloc::Global;
 use std::marker::Model;
@@ -79,6 +79,7 @@ fn fixed_text(fixed: Fixed) -> &'static [u8]
         Fixed::Read => b"read",
         Fixed::Table => b"table",
         Fixed::Set => b"set",
+        Fixed::Backup => b"backup",
     }
 }
 
@@ -182,6 +183,17 @@ impl<'a> Words<'a> {
         self.rest = rest;
         self.taken += 1;
         true
+    }
+
+    /// Takes a fixed word, if it comes next: where a row goes on without it, it goes on with another word.
+    pub(crate) fn skip(&mut self, fixed: Fixed) -> bool
+        ensures { (f : Bool → Row) → next (f false) (text_of fixed) ≡ [] →
+            (r : Result Stmt LineCause) → Answers r (f result) self.new → Answers r (optional fixed f) self.old }
+    {
+        match self.rest {
+            Some(rest) if split_word(rest).0 == fixed_text(fixed) => self.next().is_some(),
+            _ => false,
+        }
     }
 
     /// The session's word: its name and a colon.
@@ -298,6 +310,18 @@ impl<'a> Words<'a> {
         };
         match set_of(alloc, word)? {
             Some(set) => Ok(set),
+            None => Err(self.refused()),
+        }
+    }
+
+    pub(crate) fn ignore(&mut self, alloc: Global) -> Result<ColumnNames, LineCause>
+        ensures { Reads kind.Ignore result self.old self.new }
+    {
+        let Some(word) = self.next() else {
+            return Err(self.missing());
+        };
+        match ignore_of(alloc, word)? {
+            Some(columns) => Ok(columns),
             None => Err(self.refused()),
         }
     }
