@@ -36,6 +36,10 @@ some_last k make = some k (λ vs. stop (make vs))
 abbrev pub some_until : Fixed → (k : Kind) → (List (Of k) → Row) → Row
 some_until end k f = some k (λ vs. literal end (f vs))
 
+-- a fixed word or none, and on by whether it stands there
+abbrev pub optional : Fixed → (Bool → Row) → Row
+optional fixed f = either (f false) (literal fixed (f true))
+
 -- the fixed words
 abbrev pub text_of : Fixed → List ℕ
 text_of fixed.Repeatable = codes "repeatable"
@@ -91,8 +95,7 @@ ignore_row name table queue backup =
 -- a trigger's name, its table and its queue, and then none, one or both of `backup` and columns to ignore
 abbrev pub add_trigger : Row
 add_trigger =
-    one Name (λ name. one Dotted (λ table. one Name (λ queue.
-    either (ignore_row name table queue false) (literal fixed.Backup (ignore_row name table queue true)))))
+    one Name (λ name. one Dotted (λ table. one Name (λ queue. optional fixed.Backup (λ backup. ignore_row name table queue backup))))
 
 -- on queues
 abbrev pub queue_forms : List (List ℕ × Row)
