@@ -147,7 +147,7 @@ pub(crate) fn plain_text(alloc: Global, word: &[u8]) -> Result<Text, LineCause>
     requires { IsUtf8 word.now }
     ensures { MatchResult result (λ text. text ≡ word.now) (λ cause. cause ≡ LineCause.NoMemory) }
 {
-    match Text::from_utf8(alloc, word) {
+    match Text::from_bytes(alloc, word) {
         Ok(text) => Ok(text),
         Err(_) => Err(LineCause::NoMemory),
     }

@@ -60,7 +60,7 @@ mod tests {
             ev_data: Some(Text::from_bytes(alloc, b"longer than what is kept in place")?),
             ev_extra1: Some(Text::from_bytes(alloc, b"1")?),
             ev_extra2: None,
-            ev_extra3: Some(Text::from_utf8(alloc, b"3")?),
+            ev_extra3: Some(Text::from_bytes(alloc, b"3")?),
             ev_extra4: Some(Text::from_bytes(alloc, b"")?),
         };
         let copy = event.copy(alloc)?;

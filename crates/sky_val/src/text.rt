@@ -95,15 +95,6 @@ impl Text {
         }
     }
 
-    /// The text that bytes are which are known to be UTF-8. They are not looked at again.
-    pub fn from_utf8(alloc: Global, bytes: &[u8]) -> Result<Text, AllocError>
-        requires { IsUtf8 bytes.now }
-        ensures { IfOk result (λ text. text ≡ bytes.now) }
-    {
-        let kept = Kept::new(alloc, unsafe { str::from_utf8_unchecked(bytes) })?;
-        Ok(Text { kept })
-    }
-
     /// The text that a string holds. No memory is taken.
     pub fn from_string(string: String) -> Text
         ensures { result ≡ string_bytes string }
