@@ -218,17 +218,7 @@ impl RowDb {
     }
 
     /// Runs the statements that may go on. Behind `step` and `fail` there is none; behind `roll_back` and `end_single`, by
-    /// which a statement on queues ends a transaction, there may be some.
-    pub fn settle(&mut self) -> Result<RowStep, NoMemory>
-        ensures gives { IfOk result (λ step. GivesTurn (seen self.old) (seen self.new) step (settling part_by_itself (seen self.old))) }
-        ensures rests { OnOk result (ready (seen self.new) ≡ None) }
-    {
-        let mut gate = OpenGate;
-        let step = self.settle_with(&mut gate)?;
-        Ok(step)
-    }
-
-    /// The same with a gate in front of their writes.
+    /// which a statement on queues ends a transaction, there may be some. A gate stands in front of their writes.
     pub fn settle_with<G: WriteGate>(&mut self, gate: &mut G) -> Result<RowStep, NoMemory>
         ensures gives { IfOk result (λ step. GivesTurn (seen self.old) (seen self.new) step (settling (by_gate G.rule part_by_itself) (seen self.old, gate.old))) }
         ensures passed { OnOk result (gate.new ≡ passed_all G.rule gate.old (settling (by_gate G.rule part_by_itself) (seen self.old, gate.old)).marks) }

@@ -62,6 +62,16 @@ fn run_with(
     Ok(step)
 }
 
+fn fail_with(db: &mut RowDb, who: SessionId, gate: &mut Few) -> Result<RowStep, Fail> {
+    let step = db.fail_with(who, gate)?;
+    Ok(step)
+}
+
+fn settle_with(db: &mut RowDb, gate: &mut Few) -> Result<RowStep, Fail> {
+    let step = db.settle_with(gate)?;
+    Ok(step)
+}
+
 fn waits(db: &RowDb, who: SessionId) -> bool {
     db.waits(who)
 }
@@ -105,6 +115,23 @@ fn refuses_where_the_gate_has_no_room(rt: HostRuntime) -> Result<(), Fail> {
     assert!(rt; is_spent(second.replies.as_slice().first()));
     let shown = run(&mut db, 0, &get(alloc, 2)?)?;
     assert!(rt; !is_row(shown.replies.as_slice().first(), 0));
+    Ok(())
+}
+
+// A gate has no room for what goes on: it is refused. Then nobody waits.
+#[test]
+fn refuses_what_goes_on(rt: HostRuntime) -> Result<(), Fail> {
+    let alloc = rt.alloc();
+    let mut db = RowDb::new(alloc);
+    let mut gate = Few { left: 0 };
+    run(&mut db, 0, &create(alloc)?)?;
+    run(&mut db, 0, &RowStmt::Begin)?;
+    run(&mut db, 0, &insert(alloc, 1)?)?;
+    run(&mut db, 1, &insert(alloc, 1)?)?;
+    let step = fail_with(&mut db, 0, &mut gate)?;
+    assert!(rt; is_spent(step.replies.as_slice().first()));
+    let rest = settle_with(&mut db, &mut gate)?;
+    assert_eq!(rt; rest.replies.as_slice().len(), 0);
     Ok(())
 }
 

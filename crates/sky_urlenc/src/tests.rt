@@ -1,4 +1,4 @@
-use crate::{DecodeFault, decode_row, encode_row, event_type};
+use crate::{DecodeFault, RowEvent, Trigger, decode_row, encode_row, event_type};
 use sky_val::{BoxedText, ColKind, Column, Op, Row, Schema, Text, TextFault, Val};
 use std::alloc::Global;
 use std::test::Fail;
@@ -60,5 +60,56 @@ fn refuses_at_the_first_fault(rt: HostRuntime) -> Result<(), Fail> {
     }
     let row = Row::new(vec![in alloc; Val::Int(-7), text(alloc, "=%")?]?);
     assert!(rt; decode_row(alloc, &schema, b"&&n=%3d%&id=-7&")? == row);
+    Ok(())
+}
+
+fn numbers(alloc: Global) -> Result<Schema, Fail> {
+    Ok(Schema::new(vec![in alloc;
+        column(alloc, "id", ColKind::Int, true)?,
+        column(alloc, "n", ColKind::Int, false)?,
+    ]?)?)
+}
+
+fn row(alloc: Global, id: i64, n: i64) -> Result<Row, Fail> {
+    Ok(Row::new(vec![in alloc; Val::Int(id), Val::Int(n)]?))
+}
+
+fn told(
+    alloc: Global,
+    trigger: &Trigger,
+    old: Option<&Row>,
+    new: Option<&Row>,
+) -> Result<RowEvent, Fail> {
+    let table = Text::from_bytes(alloc, b"t")?;
+    let event = trigger.event(alloc, &table, &numbers(alloc)?, old, new)?;
+    Ok(event)
+}
+
+fn is_text(text: &Option<Text>, wanted: Option<&str>) -> bool {
+    match (text, wanted) {
+        (Some(text), Some(wanted)) => text.as_str() == wanted,
+        (None, None) => true,
+        _ => false,
+    }
+}
+
+#[test]
+fn tells_of_each_kind_of_write(rt: HostRuntime) -> Result<(), Fail> {
+    let alloc = rt.alloc();
+    let trigger = Trigger::new(3, true, Vec::new(alloc));
+    let (was, is) = (row(alloc, 1, 10)?, row(alloc, 1, 11)?);
+    let writes = [
+        (None, Some(&is), "I:id", "id=1&n=11", None),
+        (Some(&was), Some(&is), "U:id", "id=1&n=11", Some("id=1&n=10")),
+        (Some(&was), None, "D:id", "id=1&n=10", None),
+    ];
+    for (old, new, ev_type, data, backup) in writes {
+        let event = told(alloc, &trigger, old, new)?;
+        assert_eq!(rt; event.queue, 3);
+        assert_eq!(rt; event.ev_type.as_str(), ev_type);
+        assert!(rt; is_text(&event.ev_data, Some(data)));
+        assert_eq!(rt; event.ev_extra1.as_str(), "t");
+        assert!(rt; is_text(&event.ev_extra2, backup));
+    }
     Ok(())
 }
