@@ -50,6 +50,7 @@ pub mod WriteOrder
 pub mod EventIds
 pub mod QueueOutcomes
 pub mod WritesTold
+pub mod IdsFollowWrites
 mod WorkedWrites
 mod WorkedTriggers
 pub mod Splitting

@@ -32,11 +32,11 @@ use Rattle.sky_model.proofs.Inserted.{Inserted, none, with_raised, with_put}
 use Rattle.sky_model.proofs.Telling.{EventMarks, told_by-events}
 
 -- the first of a list, and the rest
-abbrev first : Mark → List Mark → Mark
+abbrev pub first : Mark → List Mark → Mark
 first mark [] = mark
 first mark (x ∷ xs) = x
 
-abbrev rest : List Mark → List Mark
+abbrev pub rest : List Mark → List Mark
 rest [] = []
 rest (x ∷ xs) = xs
 

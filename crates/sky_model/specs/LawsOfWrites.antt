@@ -1,5 +1,5 @@
 -- The laws on the order in which transactions write a key, at each place of each history that calls make.
-use Rattle.std.specs.Prelude.{◌≡◌, ◌≢◌, ℕ, ◌<◌, ℤ, All, List, [], ◌∷◌, ◌++◌, Bool, true, false, ◌&&◌, ◌||◌, ◌==◌, Option, Ok, if◌then◌else◌}
+use Rattle.std.specs.Prelude.{◌≡◌, ◌≢◌, ℕ, ◌<◌, ℤ, All, Contains, List, [], ◌∷◌, ◌++◌, Bool, true, false, ◌&&◌, ◌||◌, ◌==◌, Option, Ok, if◌then◌else◌}
 use Rattle.sky_val.specs.declared.event.Event.{Event}
 use Rattle.sky_val.specs.declared.val.Val.{Val}
 use Rattle.sky_val.specs.Waits.{is_same_key}
@@ -62,3 +62,15 @@ abbrev pub WritesAreTold : Type 0
 WritesAreTold = (calls : List Call) (database : ℕ) (later : List Mark) (p : History) (who t table : ℕ) (key : List Val) (old new : Option (List Val))
     → history_in (past_of calls) database ≡ later ++ tabled (wrote who t table key old new) ∷ p
     → IsTold (history_in (past_of calls) database) (tabled (wrote who t table key old new)) p
+
+-- this event tells of the write: the marks that tell of the write put it in this queue
+pub record IsToldBy (h : History) (write : Mark) (p : History) (queue : ℕ) (event : Event) : Type 0 where
+  pub is_told : IsTold h write p
+  pub is_put : Contains is_told.events (queued (put queue event))
+
+-- of two writes, of whatever keys and transactions, each event that tells of the first one has a smaller id than each of
+-- the same queue that tells of the second one (of other marks than writes nothing is told)
+abbrev pub EventIdsFollowWrites : Type 0
+EventIdsFollowWrites = (h : History) → IsPlace h → (later middle : List Mark) (p : History) (first second : Mark) (queue : ℕ) (e f : Event)
+    → h ≡ later ++ second ∷ middle ++ first ∷ p
+    → IsToldBy h first p queue e → IsToldBy h second (middle ++ first ∷ p) queue f → e.ev_id < f.ev_id

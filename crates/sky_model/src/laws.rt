@@ -5,7 +5,7 @@ ghost use Rattle.sky_model.specs.LawsOfLines.{BadWordIsLeast};
 ghost use Rattle.sky_model.specs.LawsOfLocks.{DeadlocksAreRings, HoldersHaveWritten, NothingIsReady};
 ghost use Rattle.sky_model.specs.LawsOfRows.{RowsAreReadUnderSnapshots};
 ghost use Rattle.sky_model.specs.LawsOfSnapshots.{BatchesAreSelectedBySnapshots, SnapshotsSeeWhatHasEnded};
-ghost use Rattle.sky_model.specs.LawsOfWrites.{EventIdsRise, KeysAreWrittenInTurn, SnapshotsSeeEarlierWriters, WritesAndCommitsHaveOneOrder, WritesAreTold};
+ghost use Rattle.sky_model.specs.LawsOfWrites.{EventIdsFollowWrites, EventIdsRise, KeysAreWrittenInTurn, SnapshotsSeeEarlierWriters, WritesAndCommitsHaveOneOrder, WritesAreTold};
 
 /// The number of a line's bad word is the least such that no line of the grammar begins with the
 /// line's words up to it. So it does not depend on the order in which a reader tries the rows.
@@ -55,13 +55,15 @@ pub fn nothing_is_ready()
 /// where it committed before the other; and no snapshot sees a transaction without those that wrote a
 /// key before it. So do the events that tell of the writes: they stand right behind their write, one of
 /// each trigger of its table that doesn't leave it out, each with the next id of its queue, and a queue's
-/// ids rise. So of two writes of a key the events of one trigger have ids in the order of the writes.
+/// ids rise. And of two writes each event that tells of the first one has a smaller id than each event of
+/// the same queue that tells of the second one: ids come in the order of the writes.
 pub fn writes_and_commits_have_one_order()
     ensures in_turn { KeysAreWrittenInTurn }
     ensures order { WritesAndCommitsHaveOneOrder }
     ensures seen { SnapshotsSeeEarlierWriters }
     ensures told { WritesAreTold }
     ensures ids { EventIdsRise }
+    ensures order_of_ids { EventIdsFollowWrites }
 {}
 
 /// At each such place the batches that a consumer has finished are of its queue and its subscription,

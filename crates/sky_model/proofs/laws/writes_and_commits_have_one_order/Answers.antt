@@ -1,6 +1,7 @@
 use Rattle.sky_model.proofs.WriteOrder as law
 use Rattle.sky_model.proofs.EventIds as ids
 use Rattle.sky_model.proofs.WritesTold as told
+use Rattle.sky_model.proofs.IdsFollowWrites as follow
 use Rattle.sky_model.proofs.laws.writes_and_commits_have_one_order.Goals as goal
 
 pub returns-clause-in_turn : goal.returns-clause-in_turn
@@ -17,3 +18,6 @@ returns-clause-told c = told.writes_are_told
 
 pub returns-clause-ids : goal.returns-clause-ids
 returns-clause-ids c = ids.event_ids_rise
+
+pub returns-clause-order_of_ids : goal.returns-clause-order_of_ids
+returns-clause-order_of_ids c = follow.event_ids_follow_writes

@@ -1,0 +1,186 @@
+-- The events that tell of a write have smaller ids than those of the same queue that tell of a later write.
+use Rattle.std.proofs.Common.{◌≡◌, ℕ, zero, suc, ℤ, ◌<◌, All, Contains, List, [], ◌∷◌, ◌++◌, Bool, true, false, ◌==◌, Some, Ok, Err, length, refl, sym, ◌∙◌, ap, subst, arith, if◌then◌else◌, ◌⊎◌, inl, inr, append_assoc, length-append, slice_index_or}
+use Rattle.std.proofs.lemmas.Bool.Decides.{nat_tests}
+use Rattle.std.proofs.lemmas.List.Elements.{All-pop}
+use Rattle.sky_val.specs.declared.event.Event.{Event}
+use Rattle.sky_model.specs.History.{Mark, tabled, wrote, queued, put, History}
+use Rattle.sky_model.specs.Queues.{events}
+use Rattle.sky_model.specs.State.{Database, database_of}
+use Rattle.sky_model.specs.Outcome.{Checked}
+use Rattle.sky_model.specs.Telling.{events_in, told_of}
+use Rattle.sky_model.specs.RowSteps.{marked}
+use Rattle.sky_model.specs.HistoryPlaces.{IsPlace}
+use Rattle.sky_model.specs.LawsOfWrites.{IsToldBy, EventIdsFollowWrites}
+use Rattle.sky_model.proofs.Inserted.{Inserted, none, with_raised, with_put}
+use Rattle.sky_model.proofs.Telling.{EventMarks, told_by-events}
+use Rattle.sky_model.proofs.WritesTold.{first, rest}
+use Rattle.sky_model.proofs.EventIds.{event_ids_rise}
+
+-- ---- what is told of a mark
+
+abbrev IsWrite : Mark → Type 0
+IsWrite (tabled (wrote who t table key old new)) = Unit {0}
+IsWrite _ = ⊥
+
+abbrev HasNoWrite : List Mark → Type 0
+HasNoWrite [] = Unit {0}
+HasNoWrite (mark ∷ marks) = (IsWrite mark → ⊥) × HasNoWrite marks
+
+no_write-push : (marks : List Mark) (mark : Mark) → HasNoWrite marks → (IsWrite mark → ⊥) → HasNoWrite (marks ++ mark ∷ [])
+no_write-push [] mark plain isnt = (isnt, tt)
+no_write-push (x ∷ marks) mark plain isnt = (plain.0, no_write-push marks mark plain.1 isnt)
+
+no_write-events : (marks : List Mark) → Inserted [] marks → HasNoWrite marks
+no_write-events _ none = tt
+no_write-events _ (with_raised {ys = ys} queue value more) = (λ is. is, no_write-events ys more)
+no_write-events _ (with_put {ys = ys} queue event more) = (λ is. is, no_write-events ys more)
+
+told_of-events : (d : Database) (now : ℤ) (mark : Mark) → EventMarks (told_of d now mark)
+told_of-events d now (tabled (wrote who t table key old new)) = told_by-events d now t (events_in d table old new)
+told_of-events d now _ = none
+
+-- of anything but a write nothing is
+write-or-none : (d : Database) (now : ℤ) (mark : Mark) → IsWrite mark ⊎ (told_of d now mark ≡ Ok [])
+write-or-none d now (tabled (wrote who t table key old new)) = inl tt
+write-or-none d now _ = inr refl
+
+abbrev Have : Checked (List Mark) → Mark → Type 0
+Have (Ok marks) mark = Contains marks mark
+Have (Err refusal) mark = ⊥
+
+none-has : (mark : Mark) → Contains [] mark → ⊥
+none-has mark (k, less, is) = absurd (omega (arith, less))
+
+-- ---- marks on top of a history
+
+-- on top of it stand marks of which none is a write
+record IsOnTop (h q : History) : Type 0 where
+  marks : List Mark
+  plain : HasNoWrite marks
+  is : h ≡ marks ++ q
+
+on_top : (q : History) (marks : List Mark) → HasNoWrite marks → IsOnTop (marked q marks) q
+on_top q [] plain = record { marks = []; plain = tt; is = refl }
+on_top q (mark ∷ marks) plain =
+    let top : IsOnTop (marked (mark ∷ q) marks) (mark ∷ q) = on_top (mark ∷ q) marks plain.1 in
+    record { marks = top.marks ++ mark ∷ []; plain = no_write-push top.marks mark top.plain plain.0; is = top.is ∙ sym (append_assoc top.marks (mark ∷ []) q) }
+
+-- on top of it stands this mark, among others
+record StandsOnTop (mark : Mark) (h q : History) : Type 0 where
+  above : List Mark
+  below : List Mark
+  is : h ≡ above ++ mark ∷ (below ++ q)
+
+all_above : (q : History) (marks : List Mark) → (above : List Mark) × (marked q marks ≡ above ++ q)
+all_above q [] = ([], refl)
+all_above q (mark ∷ marks) =
+    let more : (above : List Mark) × (marked (mark ∷ q) marks ≡ above ++ mark ∷ q) = all_above (mark ∷ q) marks in
+    (more.0 ++ mark ∷ [], more.1 ∙ sym (append_assoc more.0 (mark ∷ []) q))
+
+stands_on_top : (q : History) (marks : List Mark) (mark : Mark) (k : ℕ) → k < length marks → slice_index_or marks k mark ≡ mark → StandsOnTop mark (marked q marks) q
+stands_on_top q [] mark k less is = absurd (omega (arith, less))
+stands_on_top q (x ∷ marks) mark zero less is =
+    let more : (above : List Mark) × (marked (x ∷ q) marks ≡ above ++ x ∷ q) = all_above (x ∷ q) marks in
+    record { above = more.0; below = []; is = more.1 ∙ ap (λ m. more.0 ++ m ∷ q) is }
+stands_on_top q (x ∷ marks) mark (suc k) less is =
+    let more : StandsOnTop mark (marked (x ∷ q) marks) (x ∷ q) = stands_on_top (x ∷ q) marks mark k (omega (arith, less)) is in
+    record { above = more.above; below = more.below ++ x ∷ []; is = more.is ∙ ap (λ h. more.above ++ mark ∷ h) (sym (append_assoc more.below (x ∷ []) q)) }
+
+-- ---- two places of a history
+
+-- of two places of a history one of which begins with this mark, the other is this one or above it, or below the mark
+above-or-below : (xs : List Mark) (a : History) (ys : List Mark) (s : Mark) (b : History) → xs ++ a ≡ ys ++ s ∷ b
+    → ((z : List Mark) × (a ≡ z ++ s ∷ b)) ⊎ ((z : List Mark) × (b ≡ z ++ a))
+above-or-below [] a ys s b e = inl (ys, e)
+above-or-below (x ∷ xs) a [] s b e = inr (xs, sym (ap rest e))
+above-or-below (x ∷ xs) a (y ∷ ys) s b e = above-or-below xs a ys s b (ap rest e)
+
+-- where none of the marks on top of a history is a write, no write stands on top of it
+no-write-among : (marks : List Mark) → HasNoWrite marks → (q : History) (z : List Mark) (s : Mark) (middle : List Mark) → IsWrite s → marks ++ q ≡ z ++ s ∷ (middle ++ q) → ⊥
+no-write-among [] plain q z s middle is e = absurd (omega (arith, ap length e, length-append z (s ∷ (middle ++ q)), length-append middle q))
+no-write-among (x ∷ marks) plain q [] s middle is e = plain.0 (subst IsWrite (sym (ap (first x) e)) is)
+no-write-among (x ∷ marks) plain q (y ∷ z) s middle is e = no-write-among marks plain.1 q z s middle is (ap rest e)
+
+-- so what is told of a write stands below a later one
+below-later : (h : History) (later : List Mark) (s : Mark) (middle : List Mark) (q : History) → IsWrite s → h ≡ later ++ s ∷ (middle ++ q)
+    → (above told : List Mark) → HasNoWrite told → h ≡ above ++ marked q told → (z : List Mark) × (middle ++ q ≡ z ++ marked q told)
+below-later h later s middle q write e above told plain stands = of (above-or-below above (marked q told) later s (middle ++ q) (sym stands ∙ e))
+  where
+    top : IsOnTop (marked q told) q
+    top = on_top q told plain
+
+    of : ((z : List Mark) × (marked q told ≡ z ++ s ∷ (middle ++ q))) ⊎ ((z : List Mark) × (middle ++ q ≡ z ++ marked q told)) → (z : List Mark) × (middle ++ q ≡ z ++ marked q told)
+    of (inl (z, is)) = absurd (no-write-among top.marks top.plain q z s middle write (sym top.is ∙ is))
+    of (inr found) = found
+
+-- ---- the events of a queue
+
+below_mark : (queue : ℕ) (P : Event → Type 0) (mark : Mark) (h : History) → All P (events queue (mark ∷ h)) → All P (events queue h)
+below_mark queue P (queued (put q event)) h = of (q == queue)
+  where
+    of : (b : Bool) → All P (if b then events queue h ++ event ∷ [] else events queue h) → All P (events queue h)
+    of true all = (All-pop P (events queue h ++ event ∷ []) (events queue h) (Some event) refl all).0
+    of false all = all
+below_mark queue P _ h = λ all. all
+
+below : (queue : ℕ) (P : Event → Type 0) (marks : List Mark) (h : History) → All P (events queue (marks ++ h)) → All P (events queue h)
+below queue P [] h all = all
+below queue P (mark ∷ marks) h all = below queue P marks h (below_mark queue P mark (marks ++ h) all)
+
+newest : (queue : ℕ) (P : Event → Type 0) (event : Event) (h : History) → All P (events queue (queued (put queue event) ∷ h)) → P event
+newest queue P event h = of (queue == queue) refl
+  where
+    of : (b : Bool) → (queue == queue) ≡ b → All P (if b then events queue h ++ event ∷ [] else events queue h) → P event
+    of true e all = (All-pop P (events queue h ++ event ∷ []) (events queue h) (Some event) refl all).1
+    of false e all = absurd (grind (arith, nat_tests))
+
+-- ---- two writes
+
+follow : (h : History) → IsPlace h → (later middle : List Mark) (p : History) (first second : Mark) (queue : ℕ) (e f : Event) → h ≡ later ++ second ∷ (middle ++ first ∷ p)
+    → IsToldBy h first p queue e → IsToldBy h second (middle ++ first ∷ p) queue f → IsWrite second → e.ev_id < f.ev_id
+follow h place later middle p first second queue e f same one other write =
+    newest queue (λ x. x.ev_id < f.ev_id) e (at_e.below ++ q)
+    (below queue (λ x. x.ev_id < f.ev_id) at_e.above (queued (put queue e) ∷ (at_e.below ++ q))
+    (subst (λ g. All (λ x. x.ev_id < f.ev_id) (events queue g)) at_e.is
+    (below queue (λ x. x.ev_id < f.ev_id) lower.0 (marked q one.is_told.events)
+    (subst (λ g. All (λ x. x.ev_id < f.ev_id) (events queue g)) lower.1
+    (below_mark queue (λ x. x.ev_id < f.ev_id) second k
+    (below queue (λ x. x.ev_id < f.ev_id) at_f.below (second ∷ k) risen))))))
+  where
+    q : History
+    q = first ∷ p
+
+    k : History
+    k = middle ++ q
+
+    at_f : StandsOnTop (queued (put queue f)) (marked (second ∷ k) other.is_told.events) (second ∷ k)
+    at_f = stands_on_top (second ∷ k) other.is_told.events (queued (put queue f)) other.is_put.0 other.is_put.1 other.is_put.2
+
+    at_e : StandsOnTop (queued (put queue e)) (marked q one.is_told.events) q
+    at_e = stands_on_top q one.is_told.events (queued (put queue e)) one.is_put.0 one.is_put.1 one.is_put.2
+
+    lower : (z : List Mark) × (k ≡ z ++ marked q one.is_told.events)
+    lower =
+        below-later h later second middle q write same one.is_told.later one.is_told.events
+        (no_write-events one.is_told.events (subst EventMarks one.is_told.told (told_of-events (database_of q) one.is_told.time first))) one.is_told.stands
+
+    at_place : IsPlace (queued (put queue f) ∷ (at_f.below ++ second ∷ k))
+    at_place = record {
+      calls = place.calls;
+      database = place.database;
+      later = place.later ++ (other.is_told.later ++ at_f.above);
+      below = place.below ∙ ap (λ g. place.later ++ g) (other.is_told.stands ∙ ap (λ g. other.is_told.later ++ g) at_f.is
+          ∙ sym (append_assoc other.is_told.later at_f.above (queued (put queue f) ∷ (at_f.below ++ second ∷ k))))
+          ∙ sym (append_assoc place.later (other.is_told.later ++ at_f.above) (queued (put queue f) ∷ (at_f.below ++ second ∷ k)));
+    }
+
+    risen : All (λ x. x.ev_id < f.ev_id) (events queue (at_f.below ++ second ∷ k))
+    risen = event_ids_rise (at_f.below ++ second ∷ k) queue f at_place
+
+pub event_ids_follow_writes : EventIdsFollowWrites
+event_ids_follow_writes h place later middle p first second queue e f same one other =
+    of (write-or-none (database_of (second ∷ middle ++ first ∷ p)) other.is_told.time second)
+  where
+    of : IsWrite second ⊎ (told_of (database_of (second ∷ middle ++ first ∷ p)) other.is_told.time second ≡ Ok []) → e.ev_id < f.ev_id
+    of (inl write) = follow h place later middle p first second queue e f (same ∙ append_assoc later (second ∷ middle) (first ∷ p)) one other write
+    of (inr nothing) = absurd (none-has (queued (put queue f)) (subst (λ x. Have x (queued (put queue f))) (sym other.is_told.told ∙ nothing) other.is_put))
