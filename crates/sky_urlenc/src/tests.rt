@@ -100,7 +100,13 @@ fn tells_of_each_kind_of_write(rt: HostRuntime) -> Result<(), Fail> {
     let (was, is) = (row(alloc, 1, 10)?, row(alloc, 1, 11)?);
     let writes = [
         (None, Some(&is), "I:id", "id=1&n=11", None),
-        (Some(&was), Some(&is), "U:id", "id=1&n=11", Some("id=1&n=10")),
+        (
+            Some(&was),
+            Some(&is),
+            "U:id",
+            "id=1&n=11",
+            Some("id=1&n=10"),
+        ),
         (Some(&was), None, "D:id", "id=1&n=10", None),
     ];
     for (old, new, ev_type, data, backup) in writes {
