@@ -1,4 +1,5 @@
 pub mod RowTexts
+pub mod Ignored
 pub mod Cutting
 pub mod Fitting
 pub mod NumberBack

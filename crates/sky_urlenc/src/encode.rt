@@ -19,11 +19,10 @@ const USUAL_BYTES: usize = 16;
 
 /// The text of a row of the table.
 pub fn encode_row(alloc: Global, schema: &Schema, row: &Row) -> Result<Text, NoMemory>
-    requires { row_fault schema.now row.now ≡ None }
     ensures text { IfOk result (λ text. text ≡ row_text schema.now row.now) }
 
-    // A column with no name and no value would leave no trace.
-    ensures back { IfOk result (λ text. AreNamed schema.now → read_row schema.now text ≡ Ok row.now) }
+    // What is written of a row that the table may have is read back. A column with no name and no value would leave no trace.
+    ensures back { IfOk result (λ text. row_fault schema.now row.now ≡ None → AreNamed schema.now → read_row schema.now text ≡ Ok row.now) }
 {
     let columns = schema.columns();
     let mut text = String::with_capacity(alloc, columns.len() * USUAL_BYTES)?;

@@ -3,9 +3,9 @@
 //! A row is written as `name=value` for each column, joined by `&`, escaped as web forms are. The model is
 //! the text as the list of its bytes, and two definitions: `row_text`, what is written for a row, and
 //! `read_row`, what a text is read as, or why it is refused, and at which byte. What is written is read
-//! back where each column has a name of one byte or more. Two more definitions, on which no code stands yet:
-//! `events_of`, which events tell of a write, and `put`, what events do to a copy's rows. Nothing here keeps
-//! a row, an event or a trigger, or mends a text that is wrong.
+//! back where each column has a name of one byte or more. A `Trigger` makes of a write the `RowEvent` that tells of it:
+//! `events_of` says which events a write makes. One more definition, on which no code stands yet: `put`, what events do
+//! to a copy's rows. Nothing here keeps a row, an event or a table's triggers, or mends a text that is wrong.
 #![tactic(auto)]
 
 mod cut;
@@ -14,11 +14,15 @@ mod encode;
 mod event_kind;
 mod fault;
 mod pieces;
+mod row_event;
 mod sides;
 #[cfg(test)]
 mod tests;
+mod trigger;
 
 pub use decode::decode_row;
 pub use encode::encode_row;
 pub use event_kind::event_type;
 pub use fault::DecodeFault;
+pub use row_event::RowEvent;
+pub use trigger::Trigger;
