@@ -5,7 +5,7 @@ use Rattle.sky_names.proofs.PlaceLemmas.{bytes_eq_refl, same_name}
 use Rattle.sky_model.specs.History.{Batch, History}
 use Rattle.sky_model.specs.Queues.{Tick, tick, ticks}
 use Rattle.sky_model.specs.Consumers.{subscription_id, position, active, Subscription, active_batch}
-use Rattle.sky_model.proofs.Legal.{Opens, begins, ends, begins_block, fails_block, ends_block, repeats_block, looks, makes_table, writes, begins_waiting, ends_waiting, makes, raises, puts, ticks_next, registers, opens, closes, Legal, start, next}
+use Rattle.sky_model.proofs.Legal.{Opens, begins, ends, begins_block, fails_block, ends_block, repeats_block, looks, makes_table, writes, begins_waiting, ends_waiting, makes, raises, puts, ticks_next, registers, opens, closes, traces, Legal, start, next}
 use Rattle.sky_model.proofs.TickOrder.{is_made, is_made-tick}
 
 and-true : (a b : Bool) → (a && b) ≡ true → (a ≡ true) × (b ≡ true)
@@ -92,6 +92,7 @@ active_batches _ (next {h = h} l (writes who u table key old new e free)) id b i
 active_batches _ (next {h = h} l (makes name new)) id b is = active_batches h l id b is
 active_batches _ (next {h = h} l (raises p v i e)) id b is = active_batches h l id b is
 active_batches _ (next {h = h} l (puts who p e i s o)) id b is = active_batches h l id b is
+active_batches _ (next {h = h} l (traces table name trigger below queue new)) id b is = active_batches h l id b is
 active_batches _ (next {h = h} l (ticks_next p m time seq i e)) id b is =
     let a : IsActive h id b = active_batches h l id b is in
     record { named = a.named; owned = a.owned; alone = a.alone; begins = a.begins; ends = a.ends; closing = or-right (p == b.queue && m == b.cur) (is_made b.queue b.cur h) a.closing }

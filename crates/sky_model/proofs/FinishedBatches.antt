@@ -3,7 +3,7 @@ use Rattle.std.proofs.Common.{◌≡◌, ℕ, ◌+◌, List, [], ◌∷◌, ◌+
 use Rattle.sky_model.specs.History.{Batch, History}
 use Rattle.sky_model.specs.Consumers.{subscription_id, position}
 use Rattle.sky_model.specs.LawsOfBatches.{first_tick, finished, Lead, BatchesAreConsecutive}
-use Rattle.sky_model.proofs.Legal.{begins, ends, begins_block, fails_block, ends_block, repeats_block, looks, makes_table, writes, begins_waiting, ends_waiting, makes, raises, puts, ticks_next, registers, opens, closes, Legal, start, next}
+use Rattle.sky_model.proofs.Legal.{begins, ends, begins_block, fails_block, ends_block, repeats_block, looks, makes_table, writes, begins_waiting, ends_waiting, makes, raises, puts, ticks_next, registers, opens, closes, traces, Legal, start, next}
 use Rattle.sky_model.proofs.SnapshotLaws.{legal_place}
 use Rattle.sky_model.proofs.TickOrder.{is_made, is_made-tick}
 use Rattle.sky_model.proofs.ActiveBatches.{or-right, same_consumer, IsActive, active_batches}
@@ -69,6 +69,7 @@ finished_lead _ (next {h = h} l (registers p name sub t i none f g)) queue consu
     of true ih = refl
     of false ih = ih
 finished_lead _ (next {h = h} l (opens b o)) queue consumer = finished_lead h l queue consumer
+finished_lead _ (next {h = h} l (traces table name trigger below is new)) queue consumer = finished_lead h l queue consumer
 finished_lead _ (next {h = h} l (closes b e)) queue consumer =
     of (b.queue == queue && bytes_eq consumer b.consumer) refl (finished_lead h l queue consumer)
   where

@@ -15,7 +15,7 @@ use Rattle.sky_model.specs.Sessions.{own_txid}
 use Rattle.sky_model.specs.Rows.{Write, writes as writes_of, has_written}
 use Rattle.sky_model.specs.Locks.{holder}
 use Rattle.sky_model.specs.LawsOfLocks.{HasWritten}
-use Rattle.sky_model.proofs.Legal.{Fine, begins, ends, begins_block, fails_block, ends_block, repeats_block, looks, makes_table, writes, begins_waiting, ends_waiting, makes, raises, puts, ticks_next, registers, opens, closes, Legal, start, next}
+use Rattle.sky_model.proofs.Legal.{Fine, begins, ends, begins_block, fails_block, ends_block, repeats_block, looks, makes_table, writes, begins_waiting, ends_waiting, makes, raises, puts, ticks_next, registers, opens, closes, traces, Legal, start, next}
 use Rattle.sky_model.proofs.Snapshots.{sound}
 use Rattle.sky_model.proofs.RowKeys.{begun}
 
@@ -112,6 +112,7 @@ holder-step h _ (ticks_next q id time seq i le) l table key who ih e = let w : H
 holder-step h _ (registers q name sub tick i x f le) l table key who ih e = let w : HasWritten h table key who = ih e in record { txid = w.txid; runs = w.runs; wrote = w.wrote }
 holder-step h _ (opens batch x) l table key who ih e = let w : HasWritten h table key who = ih e in record { txid = w.txid; runs = w.runs; wrote = w.wrote }
 holder-step h _ (closes batch x) l table key who ih e = let w : HasWritten h table key who = ih e in record { txid = w.txid; runs = w.runs; wrote = w.wrote }
+holder-step h _ (traces n name trigger below is new) l table key who ih e = let w : HasWritten h table key who = ih e in record { txid = w.txid; runs = w.runs; wrote = w.wrote }
 
 pub holder-written : (h : History) → Legal h → (table : ℕ) (key : List Val) (who : ℕ) → holder table key h ≡ Some who → HasWritten h table key who
 holder-written _ start table key who e = absurd (cc)
@@ -177,6 +178,7 @@ held-step h _ (ticks_next q id time seq i le) l table key ih = ih
 held-step h _ (registers q name sub tick i x f le) l table key ih = ih
 held-step h _ (opens batch x) l table key ih = ih
 held-step h _ (closes batch x) l table key ih = ih
+held-step h _ (traces n name trigger below is new) l table key ih = ih
 
 held : (h : History) → Legal h → (table : ℕ) (key : List Val) → Held h table key
 held _ start table key = λ who u runs wrote_it. absurd (cc)
@@ -241,6 +243,7 @@ owner-step h _ (ticks_next q id time seq i le) table key ih = λ u unended wrote
 owner-step h _ (registers q name sub tick i x f le) table key ih = λ u unended wrote_it. let o : Owner h u = ih u unended wrote_it in record { who = o.who; owns = o.owns }
 owner-step h _ (opens batch x) table key ih = λ u unended wrote_it. let o : Owner h u = ih u unended wrote_it in record { who = o.who; owns = o.owns }
 owner-step h _ (closes batch x) table key ih = λ u unended wrote_it. let o : Owner h u = ih u unended wrote_it in record { who = o.who; owns = o.owns }
+owner-step h _ (traces n name trigger below is new) table key ih = λ u unended wrote_it. let o : Owner h u = ih u unended wrote_it in record { who = o.who; owns = o.owns }
 
 owners : (h : History) → Legal h → (table : ℕ) (key : List Val) → Owners h table key
 owners _ start table key = λ u unended wrote_it. absurd (cc)

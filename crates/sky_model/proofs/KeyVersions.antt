@@ -19,7 +19,7 @@ use Rattle.sky_model.specs.Sessions.{own_txid}
 use Rattle.sky_model.specs.Rows.{committed, writes as writes_of, rows, last_writer}
 use Rattle.sky_model.specs.Versions.{versions}
 use Rattle.sky_model.specs.Locks.{holder}
-use Rattle.sky_model.proofs.Legal.{Fine, begins, ends, begins_block, fails_block, ends_block, repeats_block, looks, makes_table, writes, begins_waiting, ends_waiting, makes, raises, puts, ticks_next, registers, opens, closes, Legal, start, next}
+use Rattle.sky_model.proofs.Legal.{Fine, begins, ends, begins_block, fails_block, ends_block, repeats_block, looks, makes_table, writes, begins_waiting, ends_waiting, makes, raises, puts, ticks_next, registers, opens, closes, traces, Legal, start, next}
 use Rattle.sky_model.proofs.Snapshots.{own-unended}
 use Rattle.sky_model.proofs.RowWrites.{over, last_of, at-put_all, last_of-push, has_written-last_of, in_turn-push, in_turn-same, last_writer-push, last_writer-same}
 use Rattle.sky_model.proofs.RowKeys.{is_in_order-versions, committed-ended}
@@ -257,6 +257,7 @@ key_step h _ (ticks_next q id time seq i le) l table key k = record { newest = k
 key_step h _ (registers q name sub tick i e f le) l table key k = record { newest = k.newest; writer = k.writer; own = k.own; only = k.only }
 key_step h _ (opens batch e) l table key k = record { newest = k.newest; writer = k.writer; own = k.own; only = k.only }
 key_step h _ (closes batch e) l table key k = record { newest = k.newest; writer = k.writer; own = k.own; only = k.only }
+key_step h _ (traces n name trigger below is new) l table key k = record { newest = k.newest; writer = k.writer; own = k.own; only = k.only }
 
 pub key_holds : (h : History) → Legal h → (table : ℕ) (key : List Val) → KeyHolds h table key
 key_holds _ start table key = record { newest = refl; writer = refl; own = λ t e. refl; only = tt }

@@ -1,25 +1,29 @@
 -- Whatever is called, the history of each database is legal.
 use Rattle.std.proofs.Common.{◌≡◌, ℕ, suc, zero, ℤ, ◌+◌, ◌<◌, List, [], ◌∷◌, ◌++◌, Bool, true, false, ◌==◌, nat_le, Option, Some, None, Ok, Err, option_map, unwrap_or, map, length, is_some, refl, sym, ◌∙◌, ap, subst, arith, if◌then◌else◌, length-append, ◌^◌}
-use Rattle.std.specs.Prelude.{not}
+use Rattle.std.specs.Prelude.{find, not}
 use Rattle.std.proofs.lemmas.Bool.Decides.{nat_tests}
 use Rattle.sky_model.specs.declared.stmt.Stmt.{Stmt}
 use Rattle.sky_model.specs.declared.stmt.Extra.{Extra}
 use Rattle.sky_model.specs.declared.stmt.RowStmt.{RowStmt}
-use Rattle.sky_model.specs.declared.stmt.Stmt.TheVariants.{Row, CreateQueue, InsertEvent, Ticker, ForceTick, RegisterConsumer, NextBatch, GetBatchEvents, FinishBatch}
+use Rattle.sky_model.specs.declared.stmt.Stmt.TheVariants.{Row, CreateQueue, InsertEvent, Ticker, ForceTick, RegisterConsumer, NextBatch, GetBatchEvents, FinishBatch, AddTrigger}
 use Rattle.sky_model.specs.declared.reply.Reply.TheVariants.{Number}
-use Rattle.sky_model.specs.declared.reply.Limit.TheVariants.{Queues}
-use Rattle.sky_model.specs.declared.reply.Refusal.TheVariants.{NoQueue, TooMany, TxidsSpent, EventIdsSpent, NoConsumer}
+use Rattle.sky_model.specs.declared.reply.Limit.TheVariants.{Queues, Triggers}
+use Rattle.sky_model.specs.declared.reply.Refusal.TheVariants.{BadColumn, NoQueue, NoTable, TableBusy, TooMany, TriggerExists, TxidsSpent, EventIdsSpent, NoConsumer}
 use Rattle.sky_val.specs.Waits.{Waiting, is_waiting}
 use Rattle.sky_names.specs.Places.{place_of}
-use Rattle.sky_model.specs.History.{Batch, Mark, began, ended, block_begun, block_failed, block_ended, repeats, looked, tabled, waited, queued, made, raised, put, ticked, registered, opened, closed, History, Fact, left, within, Past}
+use Rattle.sky_model.specs.History.{Batch, Mark, began, ended, block_begun, block_failed, block_ended, repeats, looked, tabled, waited, queued, made, raised, put, ticked, registered, opened, closed, traced, History, Fact, left, within, Past}
 use Rattle.sky_model.specs.Transactions.{next_txid}
 use Rattle.sky_model.specs.Sessions.{Block, outside, inside, failed, block, own_txid, session}
+use Rattle.sky_model.specs.Rows.{table_names, columns_of}
+use Rattle.sky_model.specs.Triggers.{triggers}
+use Rattle.sky_model.specs.StepTrigger.{has_trigger, may_ignore, add_trigger}
+use Rattle.sky_model.specs.Telling.{tells}
 use Rattle.sky_model.specs.Config.{default_config}
 use Rattle.sky_model.specs.Queues.{queue_names, Tick, ticks, tick, newest_tick, sequence}
 use Rattle.sky_model.specs.Consumers.{subscription_id, Subscription, subscription, active_batch}
 use Rattle.sky_model.specs.Locks.{waiting}
 use Rattle.sky_model.specs.State.{RowPart, part_of, database_of}
-use Rattle.sky_model.specs.ShownRows.{rows_in}
+use Rattle.sky_model.specs.ShownRows.{rows_in, least_writer}
 use Rattle.sky_model.specs.OwnTransaction.{own_or_next, begin_of, commit_of, written}
 use Rattle.sky_model.specs.Outcome.{Outcome, Checked, ◌>>=◌, ◌>>◌, refused_if, answers, does_marks, abort, settled}
 use Rattle.sky_model.specs.Allowed.{where_of_row, where_of, allowed}
@@ -32,8 +36,10 @@ use Rattle.sky_model.specs.Gates.{Gate, takes_all, gated, by_gate}
 use Rattle.sky_model.specs.Made.{takes_sight, looking, runs_if}
 use Rattle.sky_model.specs.Settling.{Turn, turn_of, behind_marks, and_then, ready, attempted, resumed, goes_on, settles, settling, with_settling}
 use Rattle.sky_model.specs.Calls.{row_form, form, row_making, making, row_statement, row_turn, statement, database_turn, is_leaving, unopened, session_does, turn, Call, called, after, past_of}
-use Rattle.sky_model.proofs.Legal.{Fine, begins, ends, looks, ends_waiting, makes, raises, puts, ticks_next, registers, opens as opens_fine, closes, Chain, done, more, Legal, start, next}
-use Rattle.sky_model.proofs.Good.{Good, same-session, good_test, good_test_then, good_found, good_if, good_refused, good_commits}
+use Rattle.sky_model.proofs.Legal.{Fine, begins, ends, looks, ends_waiting, makes, raises, puts, ticks_next, registers, opens as opens_fine, closes, traces, Chain, done, more, Legal, start, next}
+use Rattle.sky_model.proofs.Good.{Good, same-session, good_test, good_test_then, good_found, good_if, good_refused, good_refused_by, good_commits}
+use Rattle.sky_model.proofs.RowOutcomes.{OfRows, attempts-rows, form-rows}
+use Rattle.sky_model.proofs.LawfulTelling.{good_append, legal_behind, good_tells}
 use Rattle.sky_model.proofs.LawfulRows.{good_attempts, good_row_form}
 use Rattle.sky_model.proofs.MadeAt.{same-made_by}
 use Rattle.sky_model.proofs.Turns.{ReadAlike, same-with_settling, Any, each-any}
@@ -67,6 +73,7 @@ active_batch-id (queued (raised q value) ∷ h) id batch is = active_batch-id h 
 active_batch-id (queued (put q event) ∷ h) id batch is = active_batch-id h id batch is
 active_batch-id (queued (ticked q n time seq) ∷ h) id batch is = active_batch-id h id batch is
 active_batch-id (queued (registered q name sub tick) ∷ h) id batch is = active_batch-id h id batch is
+active_batch-id (queued (traced table name trigger) ∷ h) id batch is = active_batch-id h id batch is
 
 good_create_queue : (h : History) → Legal h → (now : ℤ) (who : ℕ) (name : List ℕ) → Good h who (create_queue (database_of h) now who name)
 good_create_queue h l now who name =
@@ -181,8 +188,19 @@ good_finishes : (h : History) (who id : ℕ) (batch : Option Batch) → active_b
 good_finishes h who id None is = done
 good_finishes h who id (Some batch) is = more (closes batch (ap (λ n. active_batch n h) (active_batch-id h id batch is) ∙ is)) done
 
+good_add_trigger : (h : History) (who : ℕ) (name table_name queue_name : List ℕ) (backup : Bool) (ignored : List (List ℕ))
+    → Good h who (add_trigger (database_of h) name table_name queue_name backup ignored)
+good_add_trigger h who name table_name queue_name backup ignored =
+    good_found h who (place_of table_name (table_names h)) (NoTable table_name) _ (λ table there.
+    good_found h who (place_of queue_name (queue_names h)) (NoQueue queue_name) _ (λ queue is.
+    good_test h who (has_trigger name (triggers table h)) (TriggerExists name) _ (λ new.
+    good_test h who (nat_le 8 (length (triggers table h))) (TooMany Triggers) _ (λ _.
+    good_refused_by h who (option_map BadColumn (find (λ column. not (may_ignore (columns_of table h) column)) ignored)) _ (λ _.
+    good_refused_by h who (option_map TableBusy (least_writer (part_of h) table)) _ (λ _.
+    more (traces table name _ (place_of_within table_name (table_names h) table there) (place_of_within queue_name (queue_names h) queue is) new) done))))))
+
 good_form : (h : History) → Legal h → (now : ℤ) (who : ℕ) (stmt : Stmt) → Good h who (form (database_of h) (shown_in h) now who stmt)
-good_form h l now who (Row stmt) = good_row_form h who stmt
+good_form h l now who (Row stmt) = good_tells h l now who _ (form-rows (part_of h) (rows_in h) who stmt) (good_row_form h who stmt)
 good_form h l now who (CreateQueue queue) = good_create_queue h l now who queue
 good_form h l now who (InsertEvent queue ev_type ev_data extra) = good_insert_event h now who queue ev_type ev_data extra
 good_form h l now who (Ticker queue) = good_ticker h now who queue
@@ -191,6 +209,7 @@ good_form h l now who (RegisterConsumer queue consumer) = good_register_consumer
 good_form h l now who (NextBatch queue consumer) = good_next_batch h who queue consumer
 good_form h l now who (GetBatchEvents batch) = good_found h who ((database_of h).batch batch) _ _ (λ b _. done)
 good_form h l now who (FinishBatch batch) = good_finishes h who batch (active_batch batch h) refl
+good_form h l now who (AddTrigger name table queue backup ignored) = good_add_trigger h who name table queue backup ignored
 
 good_runs_if : (h : History) → Legal h → (now : ℤ) (who : ℕ) (stmt : Stmt) (may : Checked (Unit {0})) → Chain h (runs_if (making database_by_history now who stmt) (where_of stmt) who h may).marks
 good_runs_if h l now who stmt (Err refusal) = good_refused h who refusal
@@ -204,25 +223,21 @@ good_runs_if h l now who stmt (Ok _) = of (takes_sight (where_of stmt) (session 
 good_statement : (h : History) → Legal h → (now : ℤ) (who : ℕ) (stmt : Stmt) → Chain h (statement database_by_history h now who stmt).marks
 good_statement h l now who stmt = good_runs_if h l now who stmt (allowed (is_waiting who (waiting h)) (block who h) (where_of stmt))
 
--- so are the marks of those that are let go on
-good_append : (h : History) (xs ys : List Mark) → Chain h xs → Chain (behind_marks part_by_history h xs) ys → Chain h (xs ++ ys)
-good_append h [] ys done also = also
-good_append h (x ∷ xs) ys (more fine chain) also = more fine (good_append (x ∷ h) xs ys chain also)
-
-pub legal_behind : (h : History) (marks : List Mark) → Legal h → Chain h marks → Legal (behind_marks part_by_history h marks)
-legal_behind h [] l done = l
-legal_behind h (mark ∷ marks) l (more fine chain) = legal_behind (mark ∷ h) marks (next l fine) chain
-
--- a place that reads as its past does, and where what may come there still may once its writes are told of
+-- a place that reads as its past does, and where what a statement on rows does that may come there still may once its
+-- writes are told of
 pub record ReadsPast {P : Type 0} (r : PartReader P) (past : P → History) : Type 0 where
   pub part : (p : P) → r.part p ≡ part_of (past p)
   pub rows : (p : P) → r.rows p ≡ rows_in (past p)
   pub behind : (p : P) (mark : Mark) → past (r.behind p mark) ≡ mark ∷ past p
-  pub tells : (p : P) → Legal (past p) → (who : ℕ) (c : Checked Outcome) → Good (past p) who c → Good (past p) who (r.tells p c)
+  pub tells : (p : P) → Legal (past p) → (who : ℕ) (c : Checked Outcome) → OfRows c → Good (past p) who c → Good (past p) who (r.tells p c)
 
 -- a history does so itself
 pub history-reads : ReadsPast part_by_history (λ h. h)
-history-reads = record { part = λ h. refl; rows = λ h. refl; behind = λ h mark. refl; tells = λ h l who c good. good }
+history-reads = record { part = λ h. refl; rows = λ h. refl; behind = λ h mark. refl; tells = λ h l who c rows good. good }
+
+-- and so does one of a whole database
+pub database-reads : (now : ℤ) → ReadsPast (within_part database_by_history now) (λ h. h)
+database-reads now = record { part = λ h. refl; rows = λ h. refl; behind = λ h mark. refl; tells = λ h l who c rows good. good_tells h l now who c rows good }
 
 -- what a gate lets pass may come where it might
 pub good_gated : {G : Type 0} (gate : Gate G) (g : G) (h : History) (who : ℕ) (c : Checked Outcome) → Good h who c → Good h who (gated gate g c)
@@ -235,7 +250,7 @@ by_gate-reads gate r past reads = record {
   part = λ p. reads.part p.0;
   rows = λ p. reads.rows p.0;
   behind = λ p mark. reads.behind p.0 mark;
-  tells = λ p l who c good. good_gated gate p.1 (past p.0) who (r.tells p.0 c) (reads.tells p.0 l who c good);
+  tells = λ p l who c rows good. good_gated gate p.1 (past p.0) who (r.tells p.0 c) (reads.tells p.0 l who c rows good);
 }
 
 -- the past behind marks
@@ -245,10 +260,10 @@ past-behind r past reads p [] = refl
 past-behind r past reads p (mark ∷ marks) = past-behind r past reads (r.behind p mark) marks ∙ ap (λ h. behind_marks part_by_history h marks) (reads.behind p mark)
 
 -- what a session does there may come, once its writes are told of
-good_told : {P : Type 0} (r : PartReader P) (past : P → History) → ReadsPast r past → (p : P) → Legal (past p) → (who : ℕ) (c : Checked Outcome) → Good (past p) who c
+good_told : {P : Type 0} (r : PartReader P) (past : P → History) → ReadsPast r past → (p : P) → Legal (past p) → (who : ℕ) (c : Checked Outcome) → OfRows c → Good (past p) who c
     → Chain (past p) (settled who ((r.part p).session who) (r.tells p c)).marks
-good_told r past reads p l who c good =
-    subst (λ (d : RowPart). Chain (past p) (settled who (d.session who) (r.tells p c)).marks) (sym (reads.part p)) (reads.tells p l who c good)
+good_told r past reads p l who c rows good =
+    subst (λ (d : RowPart). Chain (past p) (settled who (d.session who) (r.tells p c)).marks) (sym (reads.part p)) (reads.tells p l who c rows good)
 
 good_then : {P : Type 0} (r : PartReader P) (past : P → History) → ReadsPast r past → (p : P) → Legal (past p) → (turn : Turn) (rest : P → Turn) → Chain (past p) turn.marks
     → ((q : P) → Legal (past q) → Chain (past q) (rest q).marks) → Chain (past p) (and_then r p turn rest).marks
@@ -259,7 +274,7 @@ good_then r past reads p l turn rest chain also =
 
 good_resumed : {P : Type 0} (r : PartReader P) (past : P → History) → ReadsPast r past → (p : P) → Legal (past p) → (w : Waiting) → Chain (past p) (resumed r p w).marks
 good_resumed {P = P} r past reads p l w =
-    more (ends_waiting w.who) (subst (λ h. Chain h (attempted r w ((r.part p).attempt w.who) behind).marks) gone (good_told r past reads behind legal w.who _ tried))
+    more (ends_waiting w.who) (subst (λ h. Chain h (attempted r w ((r.part p).attempt w.who) behind).marks) gone (good_told r past reads behind legal w.who _ (attempts-rows (r.part behind) ((r.rows behind).key w.who w.table w.key) w.who w.table w.key ((r.part p).attempt w.who)) tried))
   where
     behind : P
     behind = r.behind p (tabled (waited w.who))
@@ -298,7 +313,7 @@ good_row_runs {P = P} r past reads p l who stmt (Ok _) = of (takes_sight (where_
     behind = r.behind p (looked who)
 
     runs_at : (q : P) → Legal (past q) → Chain (past q) (settled who ((r.part q).session who) (r.tells q (row_form (r.part q) (r.rows q) who stmt))).marks
-    runs_at q legal = good_told r past reads q legal who _
+    runs_at q legal = good_told r past reads q legal who _ (form-rows (r.part q) (r.rows q) who stmt)
         (subst (λ d. Good (past q) who (row_form d (r.rows q) who stmt)) (sym (reads.part q))
         (subst (λ rows. Good (past q) who (row_form (part_of (past q)) rows who stmt)) (sym (reads.rows q)) (good_row_form (past q) who stmt)))
 
@@ -324,7 +339,8 @@ pub good_row_turn : (h : History) → Legal h → (who : ℕ) (stmt : RowStmt) �
 good_row_turn h l who stmt = good_row_turn-by part_by_history (λ h. h) history-reads h l who stmt
 
 pub good_turn : (h : History) → Legal h → (now : ℤ) (who : ℕ) (stmt : Stmt) → Chain h (database_turn database_by_history h now who stmt).marks
-good_turn h l now who stmt = good_with_settling h l (turn_of who (statement database_by_history h now who stmt)) (good_statement h l now who stmt)
+good_turn h l now who stmt =
+    good_with_settling-by (within_part database_by_history now) (λ g. g) (database-reads now) h l (turn_of who (statement database_by_history h now who stmt)) (good_statement h l now who stmt)
 
 -- the history of each database is legal
 abbrev pub AllLegal : Past → Type 0
@@ -369,19 +385,19 @@ same-within past d now who stmt =
       outcomes_behind = ap (λ b. form (database_of (if b then looked who ∷ history_in past d else history_in past d)) (shown_in (if b then looked who ∷ history_in past d else history_in past d)) now who stmt) (same-session d);
     })
 
-in-database : (d : ℕ) → ReadAlike (within_part (within_database by_past d)) part_by_history Any (λ past h. history_in past d ≡ h)
-in-database d = record {
+in-database : (d : ℕ) (now : ℤ) → ReadAlike (within_part (within_database by_past d) now) (within_part database_by_history now) Any (λ past h. history_in past d ≡ h)
+in-database d now = record {
   parts = λ past h is. ap part_of is;
   rows = λ past h is. ap rows_in is;
-  tells = λ past h is. refl;
+  tells = λ past h is. λ i checked. tells (database_of (is i)) now checked;
   behind = λ past h mark is _. ap (λ b. if b then mark ∷ history_in past d else history_in past d) (same-session d) ∙ ap (λ g. mark ∷ g) is;
 }
 
 -- and what it lets go on does
 pub same-turn-within : (past : Past) (d : ℕ) (now : ℤ) (who : ℕ) (stmt : Stmt) → database_turn (within_database by_past d) past now who stmt ≡ database_turn database_by_history (history_in past d) now who stmt
 same-turn-within past d now who stmt =
-    same-with_settling (within_part (within_database by_past d)) part_by_history Any (λ p h. history_in p d ≡ h) (in-database d) past (history_in past d) _ _ refl
-    (ap (turn_of who) (same-within past d now who stmt)) (each-any (within_part (within_database by_past d)) past _)
+    same-with_settling (within_part (within_database by_past d) now) (within_part database_by_history now) Any (λ p h. history_in p d ≡ h) (in-database d now) past (history_in past d) _ _ refl
+    (ap (turn_of who) (same-within past d now who stmt)) (each-any (within_part (within_database by_past d) now) past _)
 
 pub good_turn-within : (past : Past) → AllLegal past → (d : ℕ) (now : ℤ) (who : ℕ) (stmt : Stmt) → Chain (history_in past d) (database_turn (within_database by_past d) past now who stmt).marks
 good_turn-within past all d now who stmt =

@@ -1,20 +1,23 @@
 -- Legal histories: each mark has evidence of why it stands there, so that a law about histories has one
 -- line for each kind of mark, and none for each statement.
-use Rattle.std.proofs.Common.{◌≡◌, ℕ, ◌+◌, ◌<◌, ◌≤◌, ℤ, Bool, List, [], ◌∷◌, Option, Some, None, length}
+use Rattle.std.proofs.Common.{◌≡◌, ℕ, ◌+◌, ◌<◌, ◌≤◌, ℤ, Bool, false, List, [], ◌∷◌, Option, Some, None, length}
 use Rattle.sky_val.specs.declared.event.Event.{Event}
 use Rattle.sky_val.specs.declared.val.Val.{Val}
 use Rattle.sky_val.specs.declared.column.Column.{Column}
 use Rattle.sky_val.specs.Waits.{other_than}
+use Rattle.sky_urlenc.specs.RowEvents.{Trigger}
 use Rattle.sky_names.specs.Places.{place_of}
 use Rattle.sky_model.specs.declared.stmt.Attempt.{Attempt}
-use Rattle.sky_model.specs.History.{Batch, Mark, began, ended, block_begun, repeats, looked, block_failed, block_ended, tabled, table_made, wrote, waits, waited, queued, made, raised, put, ticked, registered, opened, closed, History}
+use Rattle.sky_model.specs.History.{Batch, Mark, began, ended, block_begun, repeats, looked, block_failed, block_ended, tabled, table_made, wrote, waits, waited, queued, made, raised, put, ticked, registered, opened, closed, traced, History}
 use Rattle.sky_model.specs.Transactions.{next_txid}
 use Rattle.sky_model.specs.Sessions.{outside, inside, block, own_txid}
 use Rattle.sky_model.specs.Rows.{table_names}
 use Rattle.sky_model.specs.Locks.{holder}
+use Rattle.sky_model.specs.Triggers.{triggers}
 use Rattle.sky_model.specs.Queues.{queue_names, sequence, Tick, ticks, tick, newest_tick}
 use Rattle.sky_model.specs.Consumers.{subscription_id, subscription, last_subscription, last_batch, active_batch}
 use Rattle.sky_model.specs.StepQueue.{id_of}
+use Rattle.sky_model.specs.StepTrigger.{has_trigger}
 
 -- a queue of the database
 abbrev pub IsQueue : History → ℕ → Type 0
@@ -51,6 +54,8 @@ pub data Fine (h : History) : Mark → Type 0 where
       → tick ≤ id_of (newest_tick (ticks q h)) → Fine h (queued (registered q name sub tick))
   opens : (batch : Batch) → Opens h batch → Fine h (queued (opened batch))
   closes : (batch : Batch) → active_batch batch.id h ≡ Some batch → Fine h (queued (closed batch))
+  traces : (table : ℕ) (name : List ℕ) (trigger : Trigger) → table < length (table_names h) → IsQueue h trigger.queue → has_trigger name (triggers table h) ≡ false
+      → Fine h (queued (traced table name trigger))
 
 -- these marks may come next, one after the other
 pub data Chain : History → List Mark → Type 0 where

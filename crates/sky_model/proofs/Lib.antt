@@ -17,6 +17,8 @@ pub mod Selecting
 pub mod OrderById
 pub mod Good
 pub mod LawfulRows
+pub mod RowOutcomes
+pub mod LawfulTelling
 pub mod MadeAt
 pub mod Turns
 pub mod Unopened
@@ -40,10 +42,10 @@ pub mod RowStanding
 pub mod GatedStanding
 pub mod DatabaseStanding
 pub mod Standing
+pub mod DatabaseResting
 pub mod LockLaws
 pub mod WriteOrder
 mod WorkedWrites
-pub mod RowOutcomes
 pub mod Splitting
 pub mod Scripts
 pub mod Naming

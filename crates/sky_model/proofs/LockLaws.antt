@@ -14,7 +14,7 @@ use Rattle.sky_model.specs.Outcome.{◌>>◌, refused_by, does_marks}
 use Rattle.sky_model.specs.StepLocks.{ring, blocked}
 use Rattle.sky_model.specs.State.{RowPart, part_of}
 use Rattle.sky_model.specs.World.{world_of, session_names, history_in, on_top, home}
-use Rattle.sky_model.specs.Reader.{part_by_history, part_by_itself, database_by_history, within_database, by_past, Deed, appears}
+use Rattle.sky_model.specs.Reader.{part_by_history, database_by_history, within_part, within_database, by_past, Deed, appears}
 use Rattle.sky_model.specs.Settling.{Turn, turn_of, behind_marks, ready}
 use Rattle.sky_model.specs.Calls.{statement, database_turn, is_leaving, session_does, turn, Call, called, past_of}
 use Rattle.sky_model.specs.LawsOfLocks.{HoldersHaveWritten, DeadlocksAreRings, NothingIsReady}
@@ -22,9 +22,9 @@ use Rattle.sky_model.proofs.SnapshotLaws.{legal_place}
 use Rattle.sky_model.proofs.Holders.{holder-written, written-holder}
 use Rattle.sky_model.proofs.Legal.{Legal}
 use Rattle.sky_model.proofs.Unopened.{on_top-append, unopened-within, history-marks, history-left}
-use Rattle.sky_model.proofs.Lawful.{AllLegal, good_turn, same-turn-within, legal_past}
-use Rattle.sky_model.proofs.RowStanding.{settled-turn, part_of-marks, behind-after}
-use Rattle.sky_model.proofs.Resting.{itself-keeps, turn-rests}
+use Rattle.sky_model.proofs.Lawful.{AllLegal, database-reads, past-behind, same-turn-within, legal_past}
+use Rattle.sky_model.proofs.Resting.{turn-rests}
+use Rattle.sky_model.proofs.DatabaseResting.{history-keeps}
 
 pub holders_have_written : HoldersHaveWritten
 holders_have_written p is table key who = (holder-written p (legal_place p is) table key who, written-holder p (legal_place p is) table key who)
@@ -60,9 +60,9 @@ deadlocks_are_rings p is who table key attempt other way = (
 history-rests : (h : History) → Legal h → (now : ℤ) (who : ℕ) (stmt : Stmt) (turn : Turn) → turn ≡ database_turn database_by_history h now who stmt
     → ready (part_of (behind_marks part_by_history h turn.marks)) ≡ None
 history-rests h l now who stmt turn same =
-    ap ready (part_of-marks h turn.marks ∙ sym (behind-after (part_of h) turn.marks))
-    ∙ ap (λ (x : Turn). ready (behind_marks part_by_itself (part_of h) x.marks)) (same ∙ settled-turn h l (turn_of who (statement database_by_history h now who stmt)) (good_turn h l now who stmt))
-    ∙ turn-rests part_by_itself itself-keeps (part_of h) (turn_of who (statement database_by_history h now who stmt))
+    ap (λ (x : Turn). ready (part_of (behind_marks part_by_history h x.marks))) same
+    ∙ ap (λ g. ready (part_of g)) (sym (past-behind (within_part database_by_history now) (λ g. g) (database-reads now) h (database_turn database_by_history h now who stmt).marks))
+    ∙ turn-rests (within_part database_by_history now) (history-keeps now) h (turn_of who (statement database_by_history h now who stmt))
 
 -- a past in each of whose databases none is ready
 abbrev AllRest : Past → Type 0

@@ -3,13 +3,14 @@ use Rattle.std.proofs.Common.{◌≡◌, ℕ, ◌+◌, List, [], ◌∷◌, ◌+
 use Rattle.sky_val.specs.declared.event.Event.{Event}
 use Rattle.sky_val.specs.Waits.{released}
 use Rattle.sky_txid.specs.Versions.{forgotten}
-use Rattle.sky_model.specs.History.{Mark, began, ended, block_begun, repeats, looked, block_failed, block_ended, tabled, table_made, wrote, waits, waited, queued, QueueMark, made, raised, put, ticked, registered, opened, closed, History, Fact, appeared, founded, entered, left, within, Past}
+use Rattle.sky_model.specs.History.{Mark, began, ended, block_begun, repeats, looked, block_failed, block_ended, tabled, table_made, wrote, waits, waited, queued, QueueMark, made, raised, put, ticked, registered, opened, closed, traced, History, Fact, appeared, founded, entered, left, within, Past}
 use Rattle.sky_model.specs.Consumers.{Subscription, subscription_id, position, active}
 use Rattle.sky_model.specs.Transactions.{next_txid, running, has_rolled_back, snapshot}
 use Rattle.sky_model.specs.Sessions.{Block, outside, inside, failed, Sight, at_each, at_first, at_place, sight, sight_by, Session, session}
 use Rattle.sky_model.specs.Queues.{Tick}
 use Rattle.sky_model.specs.Versions.{versions}
-use Rattle.sky_model.specs.State.{Queue, queue_of, part_of, database_of, changed_at, changed_for, with_batch, at_position, after_queue_mark, with_txid, with_sight, with_block, without_sight, after_part, after_mark}
+use Rattle.sky_model.specs.State.{Queue, queue_of, part_of, database_of, changed_at, changed_for, with_batch, at_position, after_queue_mark, with_txid, with_sight, with_block, without_sight, after_part, after_mark, after_marks}
+use Rattle.sky_model.specs.RowSteps.{marked}
 use Rattle.sky_model.specs.World.{world_of, history_in, after_fact, after_facts, on_top}
 
 raised_at : (b : Bool) (x : Queue) (v : ℕ) → record x { seq = if b then v else x.seq } ≡ (if b then record x { seq = v } else x)
@@ -102,6 +103,7 @@ database_of-queue_mark h (closed b) = λ i. record (database_of h) {
   batch = changed_at b.id (λ _. None) (database_of h).batch;
   queue = λ n. closed_at (b.queue == n) (queue_of h n) b.consumer (λ c. subscription_id n c h) (λ c. position n c h) (λ c. active n c h) b.cur refl i;
 }
+database_of-queue_mark h (traced table name trigger) = refl
 
 txid_at : (b : Bool) (s : Session) (own : Option ℕ) → record s { txid = if b then own else s.txid } ≡ (if b then with_txid own s else s)
 txid_at true s own = refl
@@ -162,6 +164,11 @@ database_of-mark h (block_failed who) = λ i. record (database_of h) { part = pa
 database_of-mark h (block_ended who) = λ i. record (database_of h) { part = part_of-mark h (block_ended who) i }
 database_of-mark h (tabled mark) = λ i. record (database_of h) { part = part_of-mark h (tabled mark) i }
 database_of-mark h (queued mark) = database_of-queue_mark h mark
+
+-- marks one after the other do so too
+pub database_of-marks : (h : History) (marks : List Mark) → database_of (marked h marks) ≡ after_marks (database_of h) marks
+database_of-marks h [] = refl
+database_of-marks h (mark ∷ marks) = database_of-marks (mark ∷ h) marks ∙ ap (λ d. after_marks d marks) (database_of-mark h mark)
 
 within_at : (b : Bool) (h : History) (mark : Mark) → database_of (if b then mark ∷ h else h) ≡ (if b then after_mark (database_of h) mark else database_of h)
 within_at true h mark = database_of-mark h mark

@@ -10,7 +10,7 @@ use Rattle.sky_model.specs.History.{Mark, began, ended, block_begun, repeats, lo
 use Rattle.sky_model.specs.Transactions.{next_txid, running, has_ended}
 use Rattle.sky_model.specs.Rows.{committed, writes as writes_of}
 use Rattle.sky_model.specs.Versions.{versions}
-use Rattle.sky_model.proofs.Legal.{Fine, begins, ends, begins_block, fails_block, ends_block, repeats_block, looks, makes_table, writes, begins_waiting, ends_waiting, makes, raises, puts, ticks_next, registers, opens, closes, Legal, start, next}
+use Rattle.sky_model.proofs.Legal.{Fine, begins, ends, begins_block, fails_block, ends_block, repeats_block, looks, makes_table, writes, begins_waiting, ends_waiting, makes, raises, puts, ticks_next, registers, opens, closes, traces, Legal, start, next}
 use Rattle.sky_model.proofs.Snapshots.{sound}
 
 -- the versions of a table stand in the order of their keys
@@ -104,6 +104,7 @@ begun_step h _ (ticks_next q id time seq i le) l b = b
 begun_step h _ (registers q name sub tick i e f le) l b = b
 begun_step h _ (opens batch e) l b = b
 begun_step h _ (closes batch e) l b = b
+begun_step h _ (traces n name trigger below is new) l b = b
 
 pub begun : (h : History) → Legal h → Begun h
 begun _ start = λ table t le. refl

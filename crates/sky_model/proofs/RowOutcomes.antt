@@ -44,7 +44,8 @@ pub record IsOfRows (o : Outcome) : Type 0 where
   pub moments : ReplyHasMoments o.reply
   pub marks : RowMarks o.marks
 
-abbrev OfRows : Checked Outcome → Type 0
+-- the same of what a statement does, where it isn't refused
+abbrev pub OfRows : Checked Outcome → Type 0
 OfRows (Ok o) = IsOfRows o
 OfRows (Err refusal) = Unit {0}
 
@@ -99,7 +100,8 @@ changes-rows d shown who table key attempt new_of (Some row) =
     once_free-rows d who table key attempt (other_holder d.holder who table key) _
     (by_option (option_map Serialize shown.unseen) _ (checked (new_of row) _ (λ new. writes-rows d who table key (Some row) new)))
 
-attempts-rows : (d : RowPart) (shown : KeyShown) (who table : ℕ) (key : List Val) (attempt : Attempt) → OfRows (attempts d shown who table key attempt)
+-- an attempt with a key
+pub attempts-rows : (d : RowPart) (shown : KeyShown) (who table : ℕ) (key : List Val) (attempt : Attempt) → OfRows (attempts d shown who table key attempt)
 attempts-rows d shown who table key (Insertion row) =
     once_free-rows d who table key (Insertion row) (other_holder d.holder who table key) _
     (test (is_some shown.standing) Duplicate _ (writes-rows d who table key None (Some row)))
@@ -152,7 +154,8 @@ cancel-rows : (who : ℕ) (txid : Option ℕ) (b : Block) (waits : Bool) → OfR
 cancel-rows who txid b false = record { moments = tt; marks = tt }
 cancel-rows who txid b true = record { moments = tt; marks = abort-rows who b txid Canceled }
 
-form-rows : (d : RowPart) (shown : RowsShown) (who : ℕ) (stmt : RowStmt) → OfRows (row_form d shown who stmt)
+-- any statement on rows
+pub form-rows : (d : RowPart) (shown : RowsShown) (who : ℕ) (stmt : RowStmt) → OfRows (row_form d shown who stmt)
 form-rows d shown who (OpenDb name) = tt
 form-rows d shown who Close = close-rows who (d.session who).txid (d.session who).block
 form-rows d shown who Cancel = cancel-rows who (d.session who).txid (d.session who).block (is_waiting who d.waiting)

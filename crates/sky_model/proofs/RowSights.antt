@@ -20,7 +20,7 @@ use Rattle.sky_model.specs.Rows.{committed, writes as writes_of, rows, own_write
 use Rattle.sky_model.specs.Versions.{versions}
 use Rattle.sky_model.specs.State.{part_of}
 use Rattle.sky_model.specs.ShownRows.{rows_in, rows_by, unseen_in}
-use Rattle.sky_model.proofs.Legal.{Fine, begins, ends, begins_block, fails_block, ends_block, repeats_block, looks, makes_table, writes, begins_waiting, ends_waiting, makes, raises, puts, ticks_next, registers, opens, closes, Legal, next}
+use Rattle.sky_model.proofs.Legal.{Fine, begins, ends, begins_block, fails_block, ends_block, repeats_block, looks, makes_table, writes, begins_waiting, ends_waiting, makes, raises, puts, ticks_next, registers, opens, closes, traces, Legal, next}
 use Rattle.sky_model.proofs.Snapshots.{sees-snapshot, own-unended, has_committed-ended}
 use Rattle.sky_model.proofs.RowWrites.{over, last_of, at-put_all, is_in_order-put_all, is_in_order-in_turn, has_written-last_of, last_writer-has}
 use Rattle.sky_model.proofs.RowKeys.{is_in_order-versions, contains-last-of}
@@ -159,6 +159,7 @@ newest-behind k h since l _ (ticks_next q id time seq i le) table key = refl
 newest-behind k h since l _ (registers q name sub tick i e f le) table key = refl
 newest-behind k h since l _ (opens batch e) table key = refl
 newest-behind k h since l _ (closes batch e) table key = refl
+newest-behind k h since l _ (traces n name trigger below is new) table key = refl
 
 -- the newest version that has ended at a place is the row there
 pub row-at : {k h : History} → Since k h → Legal h → (table : ℕ) (key : List Val) → row_of (newest_by (has_ended k) (kept h table key)) ≡ at key (rows table k)

@@ -1,24 +1,24 @@
 -- A statement on rows, in its part of a database: from what the part keeps to the history, and to the whole database.
-use Rattle.std.proofs.Common.{◌≡◌, ℕ, ℤ, List, [], ◌∷◌, true, false, length, refl, sym, ◌∙◌, ap, if◌then◌else◌}
+use Rattle.std.proofs.Common.{◌≡◌, ℕ, ℤ, List, [], ◌∷◌, true, false, refl, sym, ◌∙◌, ap, if◌then◌else◌}
 use Rattle.sky_model.specs.declared.stmt.RowStmt.{RowStmt}
 use Rattle.sky_model.specs.declared.stmt.Stmt.{Stmt}
-use Rattle.sky_model.specs.declared.stmt.Stmt.TheVariants.{Row}
 use Rattle.sky_model.specs.declared.reply.Reply.{Reply}
-use Rattle.sky_model.specs.History.{Mark, began, ended, block_begun, repeats, looked, block_failed, block_ended, tabled, queued, made, raised, put, ticked, registered, opened, closed, History}
+use Rattle.sky_model.specs.History.{Mark, began, ended, block_begun, repeats, looked, block_failed, block_ended, tabled, queued, made, raised, put, ticked, registered, opened, closed, traced, History}
 use Rattle.sky_model.specs.State.{RowPart, part_of, after_part, after_part_marks, Database, after_mark}
 use Rattle.sky_model.specs.ShownRows.{rows_by}
-use Rattle.sky_model.specs.Allowed.{where_of_row, where_of}
+use Rattle.sky_model.specs.Allowed.{where_of}
 use Rattle.sky_model.specs.World.{World}
+use Rattle.sky_model.specs.Telling.{tells}
 use Rattle.sky_model.specs.Reader.{part_by_history, part_by_itself, database_by_itself, within_part, within_database, by_world, shown_by}
-use Rattle.sky_model.specs.Settling.{Turn, turn_of, behind_marks, settling, with_settling}
-use Rattle.sky_model.specs.Calls.{row_making, row_statement, row_turn, form, making, statement, database_turn}
+use Rattle.sky_model.specs.Settling.{Turn, turn_of, behind_marks}
+use Rattle.sky_model.specs.Calls.{row_turn, form, making, statement, database_turn}
 use Rattle.sky_model.specs.HistoryPlaces.{IsPlace}
 use Rattle.sky_model.specs.RowSteps.{marked, row_turn_at, RowSteps}
 use Rattle.sky_model.proofs.Legal.{Fine, looks, Chain, done, more, Legal, next}
 use Rattle.sky_model.proofs.Marks.{part_of-mark}
 use Rattle.sky_model.proofs.Good.{same-session}
 use Rattle.sky_model.proofs.MadeAt.{same-made_by}
-use Rattle.sky_model.proofs.Turns.{Each, ReadAlike, same-settles, same-with_settling, alike-turn, Any, each-any}
+use Rattle.sky_model.proofs.Turns.{Each, ReadAlike, same-with_settling, alike-turn, Any, each-any}
 use Rattle.sky_model.proofs.Lawful.{good_row_turn}
 use Rattle.sky_model.proofs.RowSights.{same-rows}
 use Rattle.sky_model.proofs.SnapshotLaws.{legal_place}
@@ -39,11 +39,6 @@ as-kept = record {
 pub each-fine : (h : History) (marks : List Mark) → Chain h marks → Each part_by_history Fine h marks
 each-fine h [] done = tt
 each-fine h (mark ∷ marks) (more fine chain) = (fine, each-fine (mark ∷ h) marks chain)
-
--- what a turn lets go on is the same by the history as by the part
-pub settled-turn : (h : History) → Legal h → (turn : Turn) → Chain h (with_settling part_by_history h turn).marks → with_settling part_by_history h turn ≡ with_settling part_by_itself (part_of h) turn
-settled-turn h l turn chain =
-    same-with_settling part_by_history part_by_itself Fine Keeps as-kept h (part_of h) turn turn (record { legal = l; shows = refl }) refl (each-fine h _ chain)
 
 pub behind-after : (d : RowPart) (marks : List Mark) → behind_marks part_by_itself d marks ≡ after_part_marks d marks
 behind-after d [] = refl
@@ -90,23 +85,9 @@ part-behind d (queued (ticked q id time seq)) = refl
 part-behind d (queued (registered q name sub tick)) = refl
 part-behind d (queued (opened batch)) = refl
 part-behind d (queued (closed batch)) = refl
+part-behind d (queued (traced table name trigger)) = refl
 
--- in a whole database what statements let go on is what they let go on in its part
-in-part : ReadAlike (within_part database_by_itself) part_by_itself Any (λ d x. d.part ≡ x)
-in-part = record {
-  parts = λ d x is. is;
-  rows = λ d x is. ap rows_by is;
-  tells = λ d x is. refl;
-  behind = λ d x mark is _. part-behind d mark ∙ ap (λ y. after_part y mark) is;
-}
-
--- a statement on rows of a whole database is one of its part
-pub statement-row : (d : Database) (now : ℤ) (who : ℕ) (stmt : RowStmt) → statement database_by_itself d now who (Row stmt) ≡ row_statement part_by_itself d.part who stmt
-statement-row d now who stmt =
-    same-made_by (making database_by_itself now who (Row stmt)) (row_making part_by_itself who stmt) (where_of_row stmt) who d d.part
-    (record { sessions = refl; waiting = refl; outcomes = refl; sessions_behind = refl; outcomes_behind = refl })
-
--- within the world it is one of the database
+-- within the world a statement is one of the database
 pub statement-within : (w : World) (d : ℕ) (now : ℤ) (who : ℕ) (stmt : Stmt) → statement (within_database by_world d) w now who stmt ≡ statement database_by_itself (w.database d) now who stmt
 statement-within w d now who stmt =
     same-made_by (making (within_database by_world d) now who stmt) (making database_by_itself now who stmt) (where_of stmt) who w (w.database d) (record {
@@ -117,27 +98,16 @@ statement-within w d now who stmt =
       outcomes_behind = ap (λ b. form (if b then after_mark (w.database d) (looked who) else w.database d) (shown_by (if b then after_mark (w.database d) (looked who) else w.database d)) now who stmt) (same-session d);
     })
 
--- the same with those that it lets go on
-pub turn-row : (d : Database) (now : ℤ) (who : ℕ) (stmt : RowStmt) → database_turn database_by_itself d now who (Row stmt) ≡ row_turn part_by_itself d.part who stmt
-turn-row d now who stmt =
-    same-with_settling (within_part database_by_itself) part_by_itself Any (λ d x. d.part ≡ x) in-part d d.part _ _ refl
-    (ap (turn_of who) (statement-row d now who stmt)) (each-any (within_part database_by_itself) d _)
-
-in-world : (d : ℕ) → ReadAlike (within_part (within_database by_world d)) (within_part database_by_itself) Any (λ w x. w.database d ≡ x)
-in-world d = record {
+in-world : (d : ℕ) (now : ℤ) → ReadAlike (within_part (within_database by_world d) now) (within_part database_by_itself now) Any (λ w x. w.database d ≡ x)
+in-world d now = record {
   parts = λ w x is. ap Database.part is;
   rows = λ w x is. ap (λ (y : Database). rows_by y.part) is;
-  tells = λ w x is. refl;
+  tells = λ w x is. λ i checked. tells (is i) now checked;
   behind = λ w x mark is _. ap (λ b. if b then after_mark (w.database d) mark else w.database d) (same-session d) ∙ ap (λ y. after_mark y mark) is;
 }
 
+-- the same with those that it lets go on
 pub turn-within : (w : World) (d : ℕ) (now : ℤ) (who : ℕ) (stmt : Stmt) → database_turn (within_database by_world d) w now who stmt ≡ database_turn database_by_itself (w.database d) now who stmt
 turn-within w d now who stmt =
-    same-with_settling (within_part (within_database by_world d)) (within_part database_by_itself) Any (λ v x. v.database d ≡ x) (in-world d) w (w.database d) _ _ refl
-    (ap (turn_of who) (statement-within w d now who stmt)) (each-any (within_part (within_database by_world d)) w _)
-
--- those that go on in a database, of its part alone
-pub settling-part : (d : Database) → settling (within_part database_by_itself) d ≡ settling part_by_itself d.part
-settling-part d =
-    same-settles (within_part database_by_itself) part_by_itself Any (λ d x. d.part ≡ x) in-part (length d.part.waiting) d d.part refl
-    (each-any (within_part database_by_itself) d _)
+    same-with_settling (within_part (within_database by_world d) now) (within_part database_by_itself now) Any (λ v x. v.database d ≡ x) (in-world d now) w (w.database d) _ _ refl
+    (ap (turn_of who) (statement-within w d now who stmt)) (each-any (within_part (within_database by_world d) now) w _)

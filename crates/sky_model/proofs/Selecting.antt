@@ -3,13 +3,13 @@ use Rattle.std.proofs.Common.{◌≡◌, ℕ, ◌≤◌, List, [], ◌∷◌, �
 use Rattle.std.proofs.lemmas.Bool.Decides.{nat_tests}
 use Rattle.sky_val.specs.declared.event.Event.{Event}
 use Rattle.sky_txid.specs.Snapshot.{sees}
-use Rattle.sky_model.specs.History.{Batch, began, ended, block_begun, block_failed, block_ended, repeats, looked, tabled, queued, made, raised, put, ticked, registered, opened, closed, History}
+use Rattle.sky_model.specs.History.{Batch, began, ended, block_begun, block_failed, block_ended, repeats, looked, tabled, queued, made, raised, put, ticked, registered, opened, closed, traced, History}
 use Rattle.sky_model.specs.Transactions.{has_ended, has_committed, has_rolled_back}
 use Rattle.sky_model.specs.Queues.{sequence, events, ticks, tick, at_tick}
 use Rattle.sky_model.specs.Batches.{with_event, by_id_onto, by_id, is_for, batch_events}
 use Rattle.sky_model.specs.Selection.{snapshot_at, selected}
 use Rattle.sky_model.specs.State.{database_of}
-use Rattle.sky_model.proofs.Legal.{begins, ends, begins_block, fails_block, ends_block, repeats_block, looks, makes_table, writes, begins_waiting, ends_waiting, makes, raises, puts, ticks_next, registers, opens, closes, Legal, start, next}
+use Rattle.sky_model.proofs.Legal.{begins, ends, begins_block, fails_block, ends_block, repeats_block, looks, makes_table, writes, begins_waiting, ends_waiting, makes, raises, puts, ticks_next, registers, opens, closes, traces, Legal, start, next}
 use Rattle.sky_model.proofs.Snapshots.{sees-snapshot, own-unended, has_committed-ended}
 use Rattle.sky_model.proofs.Ticks.{snapshot-at_tick, legal-at_tick}
 
@@ -39,6 +39,7 @@ ended-at_tick (queued (ticked p m time seq) ∷ h) q id t e = of (p == q && m ==
 ended-at_tick (queued (registered p name sub tick) ∷ h) q id t e = ended-at_tick h q id t e
 ended-at_tick (queued (opened b) ∷ h) q id t e = ended-at_tick h q id t e
 ended-at_tick (queued (closed b) ∷ h) q id t e = ended-at_tick h q id t e
+ended-at_tick (queued (traced table name trigger) ∷ h) q id t e = ended-at_tick h q id t e
 
 -- what had committed at a tick is what had ended there and hasn't rolled back
 committed-at_tick : (h : History) → Legal h → (q id t : ℕ) → has_committed (at_tick q id h) t ≡ (has_ended (at_tick q id h) t && not (has_rolled_back h t))
@@ -77,6 +78,7 @@ committed-at_tick _ (next {h = h} l (ticks_next p m time seq i e)) q id t = of (
 committed-at_tick _ (next {h = h} l (registers p name sub tick i e f g)) q id t = committed-at_tick h l q id t
 committed-at_tick _ (next {h = h} l (opens b e)) q id t = committed-at_tick h l q id t
 committed-at_tick _ (next {h = h} l (closes b e)) q id t = committed-at_tick h l q id t
+committed-at_tick _ (next {h = h} l (traces table name trigger below is new)) q id t = committed-at_tick h l q id t
 
 -- what had committed at a tick is what the tick's snapshot sees and hasn't rolled back
 pub committed_at_tick : (h : History) → Legal h → (q id t : ℕ) → has_committed (at_tick q id h) t ≡ (sees (snapshot_at (tick id (ticks q h))) t && not (has_rolled_back h t))
@@ -148,6 +150,7 @@ numbered _ (next {h = h} l (ticks_next p id time seq i e)) q = numbered h l q
 numbered _ (next {h = h} l (registers p name sub tick i e f g)) q = numbered h l q
 numbered _ (next {h = h} l (opens b e)) q = numbered h l q
 numbered _ (next {h = h} l (closes b e)) q = numbered h l q
+numbered _ (next {h = h} l (traces table name trigger below is new)) q = numbered h l q
 
 Ordered-less : (m n : ℕ) (es : List Event) → m ≤ n → Ordered n es → Ordered m es
 Ordered-less m n [] le o = tt

@@ -6,7 +6,7 @@ use Rattle.sky_txid.specs.Snapshot.{sees}
 use Rattle.sky_model.specs.History.{Mark, began, ended, block_begun, block_failed, block_ended, repeats, looked, tabled, queued, History}
 use Rattle.sky_model.specs.Transactions.{next_txid, running, has_ended, has_committed, has_rolled_back, snapshot}
 use Rattle.sky_model.specs.Sessions.{own_txid}
-use Rattle.sky_model.proofs.Legal.{Fine, begins, ends, begins_block, fails_block, ends_block, repeats_block, looks, makes_table, writes, begins_waiting, ends_waiting, makes, raises, puts, ticks_next, registers, opens, closes, Legal, start, next}
+use Rattle.sky_model.proofs.Legal.{Fine, begins, ends, begins_block, fails_block, ends_block, repeats_block, looks, makes_table, writes, begins_waiting, ends_waiting, makes, raises, puts, ticks_next, registers, opens, closes, traces, Legal, start, next}
 
 abbrev pub IsRising : List ℕ → Type 0
 IsRising [] = Unit {0}
@@ -241,6 +241,7 @@ sound_step h _ (ticks_next q id time seq i l) s = record { first = s.first; runs
 sound_step h _ (registers q name sub tick i e f l) s = record { first = s.first; runs = s.runs; ended_below = s.ended_below; rising = s.rising; below = s.below; owns = s.owns; once = s.once }
 sound_step h _ (opens b e) s = record { first = s.first; runs = s.runs; ended_below = s.ended_below; rising = s.rising; below = s.below; owns = s.owns; once = s.once }
 sound_step h _ (closes b e) s = record { first = s.first; runs = s.runs; ended_below = s.ended_below; rising = s.rising; below = s.below; owns = s.owns; once = s.once }
+sound_step h _ (traces n name trigger below is new) s = record { first = s.first; runs = s.runs; ended_below = s.ended_below; rising = s.rising; below = s.below; owns = s.owns; once = s.once }
 
 pub sound : (h : History) → Legal h → Sound h
 sound [] start = record {
@@ -344,3 +345,4 @@ has_committed-ended _ (next {h = h} l (ticks_next q id time seq i le)) t = has_c
 has_committed-ended _ (next {h = h} l (registers q name sub tick i e f g)) t = has_committed-ended h l t
 has_committed-ended _ (next {h = h} l (opens b e)) t = has_committed-ended h l t
 has_committed-ended _ (next {h = h} l (closes b e)) t = has_committed-ended h l t
+has_committed-ended _ (next {h = h} l (traces n name trigger below is new)) t = has_committed-ended h l t

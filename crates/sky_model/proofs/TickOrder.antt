@@ -1,11 +1,11 @@
 -- Ticks are in order: what had committed at one had committed at each later one.
 use Rattle.std.proofs.Common.{◌≡◌, ℕ, ◌<◌, List, [], ◌∷◌, ◌++◌, Bool, true, false, ◌&&◌, ◌||◌, ◌==◌, Some, None, is_some, refl, sym, ◌∙◌, ap, subst, arith, if◌then◌else◌}
 use Rattle.std.proofs.lemmas.Bool.Decides.{nat_tests}
-use Rattle.sky_model.specs.History.{began, ended, block_begun, block_failed, block_ended, repeats, looked, tabled, queued, made, raised, put, ticked, registered, opened, closed, History}
+use Rattle.sky_model.specs.History.{began, ended, block_begun, block_failed, block_ended, repeats, looked, tabled, queued, made, raised, put, ticked, registered, opened, closed, traced, History}
 use Rattle.sky_model.specs.Transactions.{has_committed, snapshot}
 use Rattle.sky_model.specs.Queues.{Tick, ticks, tick, newest_tick, at_tick}
 use Rattle.sky_model.specs.StepQueue.{id_of}
-use Rattle.sky_model.proofs.Legal.{begins, ends, begins_block, fails_block, ends_block, repeats_block, looks, makes_table, writes, begins_waiting, ends_waiting, makes, raises, puts, ticks_next, registers, opens, closes, Legal, start, next}
+use Rattle.sky_model.proofs.Legal.{begins, ends, begins_block, fails_block, ends_block, repeats_block, looks, makes_table, writes, begins_waiting, ends_waiting, makes, raises, puts, ticks_next, registers, opens, closes, traces, Legal, start, next}
 use Rattle.sky_model.proofs.Ticks.{none_above}
 
 -- a queue's tick is made
@@ -57,6 +57,7 @@ is_made-tick (queued (ticked p m time seq) ∷ h) q id = of (p == q) (is_made-ti
 is_made-tick (queued (registered p name sub t) ∷ h) q id = is_made-tick h q id
 is_made-tick (queued (opened b) ∷ h) q id = is_made-tick h q id
 is_made-tick (queued (closed b) ∷ h) q id = is_made-tick h q id
+is_made-tick (queued (traced table name trigger) ∷ h) q id = is_made-tick h q id
 
 -- a tick with an id above the newest one's isn't made
 pub unmade_above : (h : History) → Legal h → (q id : ℕ) → id_of (newest_tick (ticks q h)) < id → is_made q id h ≡ false
@@ -89,6 +90,7 @@ committed_since (queued (ticked p m time seq) ∷ h) q id t e = of (p == q && m 
 committed_since (queued (registered p name sub tick) ∷ h) q id t e = committed_since h q id t e
 committed_since (queued (opened b) ∷ h) q id t e = committed_since h q id t e
 committed_since (queued (closed b) ∷ h) q id t e = committed_since h q id t e
+committed_since (queued (traced table name trigger) ∷ h) q id t e = committed_since h q id t e
 
 -- a transaction that had committed at one tick had committed at another
 abbrev pub Grows : History → ℕ → ℕ → ℕ → ℕ → Type 0
@@ -130,3 +132,4 @@ committed_later _ (next {h = h} l (ticks_next p m time seq i above)) q from to t
 committed_later _ (next {h = h} l (registers p name sub tick i e f g)) q from to t less there = committed_later h l q from to t less there
 committed_later _ (next {h = h} l (opens b e)) q from to t less there = committed_later h l q from to t less there
 committed_later _ (next {h = h} l (closes b e)) q from to t less there = committed_later h l q from to t less there
+committed_later _ (next {h = h} l (traces n name trigger below is new)) q from to t less there = committed_later h l q from to t less there

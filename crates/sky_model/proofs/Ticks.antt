@@ -6,7 +6,7 @@ use Rattle.sky_model.specs.Transactions.{snapshot}
 use Rattle.sky_model.specs.Queues.{queue_names, Tick, ticks, tick, newest_tick, at_tick}
 use Rattle.sky_model.specs.StepQueue.{id_of}
 use Rattle.sky_model.specs.Selection.{snapshot_at}
-use Rattle.sky_model.proofs.Legal.{begins, ends, begins_block, fails_block, ends_block, repeats_block, looks, makes_table, writes, begins_waiting, ends_waiting, makes, raises, puts, ticks_next, registers, opens, closes, Legal, start, next}
+use Rattle.sky_model.proofs.Legal.{begins, ends, begins_block, fails_block, ends_block, repeats_block, looks, makes_table, writes, begins_waiting, ends_waiting, makes, raises, puts, ticks_next, registers, opens, closes, traces, Legal, start, next}
 
 -- a queue that isn't made yet has no ticks
 pub ticks_beyond : (h : History) → Legal h → (q : ℕ) → length (queue_names h) ≤ q → ticks q h ≡ []
@@ -33,6 +33,7 @@ ticks_beyond _ (next {h = h} l (ticks_next p id time seq i e)) q le = of (p == q
 ticks_beyond _ (next {h = h} l (registers p name sub tick i e f g)) q le = ticks_beyond h l q le
 ticks_beyond _ (next {h = h} l (opens b e)) q le = ticks_beyond h l q le
 ticks_beyond _ (next {h = h} l (closes b e)) q le = ticks_beyond h l q le
+ticks_beyond _ (next {h = h} l (traces n name trigger below is new)) q le = ticks_beyond h l q le
 
 pub newest_tick-push : (ts : List Tick) (t : Tick) → newest_tick (ts ++ t ∷ []) ≡ Some t
 newest_tick-push [] t = refl
@@ -96,6 +97,7 @@ none_above _ (next {h = h} l (ticks_next p id time seq i e)) q = of (p == q) ref
 none_above _ (next {h = h} l (registers p name sub tick i e f g)) q = none_above h l q
 none_above _ (next {h = h} l (opens b e)) q = none_above h l q
 none_above _ (next {h = h} l (closes b e)) q = none_above h l q
+none_above _ (next {h = h} l (traces n name trigger below is new)) q = none_above h l q
 
 -- the snapshot of the history as it was at a tick is the one that the tick keeps
 pub snapshot-at_tick : (h : History) → Legal h → (q id : ℕ) → snapshot (at_tick q id h) ≡ snapshot_at (tick id (ticks q h))
@@ -134,6 +136,7 @@ snapshot-at_tick _ (next {h = h} l (ticks_next p m time seq i e)) q id = of (p =
 snapshot-at_tick _ (next {h = h} l (registers p name sub t i e f g)) q id = snapshot-at_tick h l q id
 snapshot-at_tick _ (next {h = h} l (opens b e)) q id = snapshot-at_tick h l q id
 snapshot-at_tick _ (next {h = h} l (closes b e)) q id = snapshot-at_tick h l q id
+snapshot-at_tick _ (next {h = h} l (traces n name trigger below is new)) q id = snapshot-at_tick h l q id
 
 -- what stands below a tick is legal
 pub legal-at_tick : (h : History) → Legal h → (q id : ℕ) → Legal (at_tick q id h)
@@ -160,3 +163,4 @@ legal-at_tick _ (next {h = h} l (ticks_next p m time seq i e)) q id = of (p == q
 legal-at_tick _ (next {h = h} l (registers p name sub t i e f g)) q id = legal-at_tick h l q id
 legal-at_tick _ (next {h = h} l (opens b e)) q id = legal-at_tick h l q id
 legal-at_tick _ (next {h = h} l (closes b e)) q id = legal-at_tick h l q id
+legal-at_tick _ (next {h = h} l (traces n name trigger below is new)) q id = legal-at_tick h l q id

@@ -2,7 +2,7 @@
 use Rattle.std.proofs.Common.{◌≡◌, ℕ, List, [], ◌∷◌, ◌++◌, Bool, true, false, nat_le, Option, Some, None, length, map, refl, ◌∙◌, if◌then◌else◌, ◌==◌}
 use Rattle.sky_model.specs.declared.stmt.Stmt.{Stmt}
 use Rattle.sky_model.specs.declared.stmt.RowStmt.TheVariants.{OpenDb, Close, Cancel, Begin, BeginRepeatableRead, Commit, Rollback, TxidCurrent, TxidCurrentSnapshot, TxidVisibleInSnapshot, CreateTable, Insert, Update, Delete, Get, Scan}
-use Rattle.sky_model.specs.declared.stmt.Stmt.TheVariants.{Row, CreateQueue, InsertEvent, Ticker, ForceTick, RegisterConsumer, NextBatch, GetBatchEvents, FinishBatch}
+use Rattle.sky_model.specs.declared.stmt.Stmt.TheVariants.{Row, CreateQueue, InsertEvent, Ticker, ForceTick, RegisterConsumer, NextBatch, GetBatchEvents, FinishBatch, AddTrigger}
 use Rattle.sky_names.specs.Places.{place_of}
 use Rattle.sky_model.specs.History.{Mark, Fact, left, within, Past}
 use Rattle.sky_model.specs.World.{World, history_in, on_top}
@@ -49,6 +49,7 @@ unopened-within past w who (RegisterConsumer queue consumer) d = refl
 unopened-within past w who (NextBatch queue consumer) d = refl
 unopened-within past w who (GetBatchEvents batch) d = refl
 unopened-within past w who (FinishBatch batch) d = refl
+unopened-within past w who (AddTrigger name table queue backup ignored) d = refl
 
 -- marks within a database are marks in its history
 pub history-marks : (past : Past) (d : ℕ) (marks : List Mark) (n : ℕ)

@@ -15,5 +15,7 @@ mod stop;
 
 pub use line::{Cause, Fixed, Line};
 pub use reply::{BadRow, Events, Limit, Refusal, Replies, Reply, Rows, Waiters};
-pub use stmt::{Attempt, BoxedExtra, Change, ColumnNames, Columns, Extra, RowStmt, Set, Sets, Stmt, Where};
+pub use stmt::{
+    Attempt, BoxedExtra, Change, ColumnNames, Columns, Extra, RowStmt, Set, Sets, Stmt, Where,
+};
 pub use stop::Stop;

@@ -1,0 +1,195 @@
+-- A statement on rows leaves a legal history legal once its writes are told of.
+use Rattle.std.proofs.Common.{◌≡◌, ℕ, ℤ, ◌+◌, ◌<◌, ◌≤◌, ◌^◌, List, [], ◌∷◌, ◌++◌, Bool, true, false, ◌==◌, nat_le, Option, Some, Ok, Err, map, length, refl, sym, ◌∙◌, ap, subst, arith, if◌then◌else◌, length-append}
+use Rattle.std.specs.Prelude.{filter, not}
+use Rattle.sky_val.specs.declared.val.Val.{Val}
+use Rattle.sky_val.specs.Waits.{other_than}
+use Rattle.sky_names.specs.Places.{place_of}
+use Rattle.sky_urlenc.specs.RowEvents.{Trigger, Write, leaves_out, event_of, RowEvent, events_of}
+use Rattle.sky_model.specs.declared.reply.Refusal.TheVariants.{EventIdsSpent}
+use Rattle.sky_model.specs.History.{Mark, began, tabled, wrote, queued, made, raised, put, traced, History}
+use Rattle.sky_model.specs.Sessions.{Block, block, own_txid}
+use Rattle.sky_model.specs.Triggers.{NamedTrigger, triggers}
+use Rattle.sky_model.specs.Queues.{queue_names, sequence}
+use Rattle.sky_model.specs.State.{RowPart, part_of, after_part, database_of, after_mark, after_marks}
+use Rattle.sky_model.specs.Outcome.{Outcome, Checked, ◌>>=◌, ◌>>◌, refused_if, does_marks}
+use Rattle.sky_model.specs.Telling.{write_in, events_in, told_event, event_marks, told_by, told_of, with_told, tells}
+use Rattle.sky_model.specs.Reader.{part_by_history}
+use Rattle.sky_model.specs.Settling.{behind_marks}
+use Rattle.sky_model.specs.RowSteps.{marked}
+use Rattle.sky_model.proofs.Legal.{IsQueue, Fine, begins, ends, begins_block, fails_block, ends_block, repeats_block, looks, makes_table, writes, begins_waiting, ends_waiting, raises, puts, traces, Chain, done, more, Legal, next}
+use Rattle.sky_model.proofs.Marks.{part_of-mark, database_of-mark, database_of-marks}
+use Rattle.sky_model.proofs.Good.{Good, same-session, good_refused}
+use Rattle.sky_model.proofs.RowOutcomes.{RowMarks, OfRows}
+
+-- marks that may come next, and behind them more that may
+pub good_append : (h : History) (xs ys : List Mark) → Chain h xs → Chain (behind_marks part_by_history h xs) ys → Chain h (xs ++ ys)
+good_append h [] ys done also = also
+good_append h (x ∷ xs) ys (more fine chain) also = more fine (good_append (x ∷ h) xs ys chain also)
+
+pub legal_behind : (h : History) (marks : List Mark) → Legal h → Chain h marks → Legal (behind_marks part_by_history h marks)
+legal_behind h [] l done = l
+legal_behind h (mark ∷ marks) l (more fine chain) = legal_behind (mark ∷ h) marks (next l fine) chain
+
+-- ---- the events of triggers go to queues
+
+-- the queues of triggers are among so many
+abbrev TriggersWithin : ℕ → List NamedTrigger → Type 0
+TriggersWithin count [] = Unit {0}
+TriggersWithin count (t ∷ ts) = t.trigger.queue < count × TriggersWithin count ts
+
+-- and those of events
+abbrev EventsWithin : ℕ → List RowEvent → Type 0
+EventsWithin count [] = Unit {0}
+EventsWithin count (e ∷ es) = e.queue < count × EventsWithin count es
+
+within-more : (count later : ℕ) (ts : List NamedTrigger) → count ≤ later → TriggersWithin count ts → TriggersWithin later ts
+within-more count later [] le within = tt
+within-more count later (t ∷ ts) le within = (omega (arith, within.0, le), within-more count later ts le within.1)
+
+within-push : (count : ℕ) (ts : List NamedTrigger) (t : NamedTrigger) → TriggersWithin count ts → t.trigger.queue < count → TriggersWithin count (ts ++ t ∷ [])
+within-push count [] t within below = (below, tt)
+within-push count (x ∷ xs) t within below = (within.0, within-push count xs t within.1 below)
+
+below-mark : {h : History} {mark : Mark} → Legal (mark ∷ h) → Legal h
+below-mark (next l fine) = l
+
+traced-queue : {h : History} {table : ℕ} {name : List ℕ} {trigger : Trigger} → Legal (queued (traced table name trigger) ∷ h) → IsQueue h trigger.queue
+traced-queue (next l (traces table name trigger below is new)) = is
+
+-- a table's triggers are of queues that are there
+pub trigger-queues : (h : History) → Legal h → (table : ℕ) → TriggersWithin (length (queue_names h)) (triggers table h)
+trigger-queues [] l table = tt
+trigger-queues (queued (made name) ∷ h) l table =
+    within-more (length (queue_names h)) (length (queue_names h ++ name ∷ [])) (triggers table h) (omega (arith, length-append (queue_names h) (name ∷ []))) (trigger-queues h (below-mark l) table)
+trigger-queues (queued (traced n name trigger) ∷ h) l table = of (n == table) (trigger-queues h (below-mark l) table) (traced-queue l)
+  where
+    of : (b : Bool) → TriggersWithin (length (queue_names h)) (triggers table h) → IsQueue h trigger.queue
+        → TriggersWithin (length (queue_names h)) (if b then triggers table h ++ record { name = name; trigger = trigger } ∷ [] else triggers table h)
+    of true ih is = within-push (length (queue_names h)) (triggers table h) (record { name = name; trigger = trigger }) ih is
+    of false ih is = ih
+trigger-queues (_ ∷ h) l table = trigger-queues h (below-mark l) table
+
+-- so are the events of a write
+events-queues : (count : ℕ) (w : Write) (ts : List NamedTrigger) → TriggersWithin count ts → EventsWithin count (events_of w (map NamedTrigger.trigger ts))
+events-queues count w [] within = tt
+events-queues count w (t ∷ ts) within = of (not (leaves_out t.trigger w.columns w.old w.new)) within.0 (events-queues count w ts within.1)
+  where
+    rest : List Trigger
+    rest = filter (λ trigger. not (leaves_out trigger w.columns w.old w.new)) (map NamedTrigger.trigger ts)
+
+    of : (b : Bool) → t.trigger.queue < count → EventsWithin count (map (event_of w) rest) → EventsWithin count (map (event_of w) (if b then t.trigger ∷ rest else rest))
+    of true below ih = (below, ih)
+    of false below ih = ih
+
+-- ---- what is told of a mark may come behind it
+
+-- marks that may come next, and leave the row part as it was; or a refusal
+abbrev ToldWell : History → Checked (List Mark) → Type 0
+ToldWell h (Ok marks) = Chain h marks × (part_of (marked h marks) ≡ part_of h)
+ToldWell h (Err refusal) = Unit {0}
+
+told-well : (h : History) (now : ℤ) (who t : ℕ) (es : List RowEvent) → own_txid who h ≡ Some t → EventsWithin (length (queue_names h)) es
+    → ToldWell h (told_by (database_of h) now t es)
+told-well h now who t [] mine within = (done, refl)
+told-well h now who t (e ∷ es) mine within =
+    of (nat_le (2 ^ 62) id)
+    (subst (λ d. ToldWell behind (told_by d now t es)) (database_of-marks h (event_marks e.queue (told_event id now t e))) (told-well behind now who t es mine within.1))
+  where
+    id : ℕ
+    id = sequence e.queue h + 1
+
+    behind : History
+    behind = queued (put e.queue (told_event id now t e)) ∷ queued (raised e.queue id) ∷ h
+
+    same : (e.queue == e.queue) ≡ true
+    same = same-session e.queue
+
+    joined : (x : Checked (List Mark)) → ToldWell behind x → ToldWell h (x >>= (λ rest. Ok (event_marks e.queue (told_event id now t e) ++ rest)))
+    joined (Err refusal) well = tt
+    joined (Ok rest) well = (
+      more (raises e.queue id within.0 (omega arith)) (more (puts who e.queue (told_event id now t e) within.0 (ap (λ b. if b then id else sequence e.queue h) (sym same)) mine) well.0),
+      well.1,
+    )
+
+    of : (b : Bool) → ToldWell behind (told_by (after_marks (database_of h) (event_marks e.queue (told_event id now t e))) now t es)
+        → ToldWell h ((refused_if b EventIdsSpent >> Ok id) >>= (λ n. told_by (after_marks (database_of h) (event_marks e.queue (told_event n now t e))) now t es
+        >>= (λ rest. Ok (event_marks e.queue (told_event n now t e) ++ rest))))
+    of true well = tt
+    of false well = joined (told_by (after_marks (database_of h) (event_marks e.queue (told_event id now t e))) now t es) well
+
+writer-owns : {h : History} {who t table : ℕ} {key : List Val} {old new : Option (List Val)} → Fine h (tabled (wrote who t table key old new)) → own_txid who h ≡ Some t
+writer-owns (writes who t table key old new mine free) = mine
+
+told_of-well : (h : History) → Legal h → (now : ℤ) (mark : Mark) → Fine h mark → ToldWell (mark ∷ h) (told_of (database_of (mark ∷ h)) now mark)
+told_of-well h l now (tabled (wrote who t table key old new)) fine =
+    told-well (tabled (wrote who t table key old new) ∷ h) now who t (events_in (database_of (tabled (wrote who t table key old new) ∷ h)) table old new) (writer-owns fine)
+    (events-queues (length (queue_names h)) (write_in (database_of (tabled (wrote who t table key old new) ∷ h)) table old new) (triggers table h) (trigger-queues h l table))
+told_of-well h l now _ fine = (done, refl)
+
+-- ---- marks of rows may come wherever the row part is the same
+
+own-alike : (h g : History) → part_of h ≡ part_of g → (who : ℕ) (o : Option ℕ) → own_txid who h ≡ o → own_txid who g ≡ o
+own-alike h g same who o is = sym (ap (λ (d : RowPart). (d.session who).txid) same) ∙ is
+
+block-alike : (h g : History) → part_of h ≡ part_of g → (who : ℕ) (b : Block) → block who h ≡ b → block who g ≡ b
+block-alike h g same who b is = sym (ap (λ (d : RowPart). (d.session who).block) same) ∙ is
+
+fine-alike : (h g : History) → part_of h ≡ part_of g → (mark : Mark) (marks : List Mark) → RowMarks (mark ∷ marks) → Fine h mark → Fine g mark
+fine-alike h g same (queued mark) marks rows fine = absurd rows
+fine-alike h g same _ marks rows (begins who none) = subst (λ n. Fine g (began who n)) (sym (ap RowPart.next same)) (begins who (own-alike h g same who _ none))
+fine-alike h g same _ marks rows (ends who t committed mine) = ends who t committed (own-alike h g same who _ mine)
+fine-alike h g same _ marks rows (begins_block who is) = begins_block who (block-alike h g same who _ is)
+fine-alike h g same _ marks rows (fails_block who is none) = fails_block who (block-alike h g same who _ is) (own-alike h g same who _ none)
+fine-alike h g same _ marks rows (ends_block who none) = ends_block who (own-alike h g same who _ none)
+fine-alike h g same _ marks rows (repeats_block who) = repeats_block who
+fine-alike h g same _ marks rows (looks who) = looks who
+fine-alike h g same _ marks rows (makes_table name columns new) = makes_table name columns (sym (ap (λ (d : RowPart). place_of name d.tables) same) ∙ new)
+fine-alike h g same _ marks rows (writes who t table key old new mine free) =
+    writes who t table key old new (own-alike h g same who _ mine) (sym (ap (λ (d : RowPart). other_than who (d.holder table key)) same) ∙ free)
+fine-alike h g same _ marks rows (begins_waiting who table key attempt) = begins_waiting who table key attempt
+fine-alike h g same _ marks rows (ends_waiting who) = ends_waiting who
+
+rows-rest : (mark : Mark) (marks : List Mark) → RowMarks (mark ∷ marks) → RowMarks marks
+rows-rest (queued mark) marks rows = absurd rows
+rows-rest _ marks rows = rows
+
+chain-alike : (h g : History) → part_of h ≡ part_of g → (marks : List Mark) → RowMarks marks → Chain h marks → Chain g marks
+chain-alike h g same [] rows done = done
+chain-alike h g same (mark ∷ marks) rows (more fine chain) =
+    more (fine-alike h g same mark marks rows fine)
+    (chain-alike (mark ∷ h) (mark ∷ g) (part_of-mark h mark ∙ ap (λ d. after_part d mark) same ∙ sym (part_of-mark g mark)) marks (rows-rest mark marks rows) chain)
+
+-- ---- what a statement does
+
+abbrev ChainOf : History → Checked (List Mark) → Type 0
+ChainOf h (Ok marks) = Chain h marks
+ChainOf h (Err refusal) = Unit {0}
+
+-- marks may come with what is told of them
+with_told-well : (h : History) → Legal h → (now : ℤ) (marks : List Mark) → RowMarks marks → Chain h marks → ChainOf h (with_told (database_of h) now marks)
+with_told-well h l now [] rows chain = done
+with_told-well h l now (mark ∷ marks) rows (more fine chain) =
+    of (told_of (after_mark (database_of h) mark) now mark)
+    (subst (λ d. ToldWell (mark ∷ h) (told_of d now mark)) (database_of-mark h mark) (told_of-well h l now mark fine))
+    (λ g legal. with_told-well g legal now marks (rows-rest mark marks rows))
+  where
+    joined : (told : List Mark) → Chain (mark ∷ h) told → (x : Checked (List Mark)) → ChainOf (marked (mark ∷ h) told) x → ChainOf h (x >>= (λ rest. Ok (mark ∷ told ++ rest)))
+    joined told well (Err refusal) also = tt
+    joined told well (Ok rest) also = more fine (good_append (mark ∷ h) told rest well also)
+
+    of : (x : Checked (List Mark)) → ToldWell (mark ∷ h) x → ((g : History) → Legal g → Chain g marks → ChainOf g (with_told (database_of g) now marks))
+        → ChainOf h (x >>= (λ told. with_told (after_marks (database_of h) (mark ∷ told)) now marks >>= (λ rest. Ok (mark ∷ told ++ rest))))
+    of (Err refusal) well ih = tt
+    of (Ok told) well ih =
+        joined told well.0 (with_told (after_marks (database_of h) (mark ∷ told)) now marks)
+        (subst (λ d. ChainOf (marked (mark ∷ h) told) (with_told d now marks)) (database_of-marks h (mark ∷ told))
+        (ih (marked (mark ∷ h) told) (legal_behind (mark ∷ h) told (next l fine) well.0) (chain-alike (mark ∷ h) (marked (mark ∷ h) told) (sym well.1) marks (rows-rest mark marks rows) chain)))
+
+-- so what a statement on rows does may come where it might, once its writes are told of
+pub good_tells : (h : History) → Legal h → (now : ℤ) (who : ℕ) (c : Checked Outcome) → OfRows c → Good h who c → Good h who (tells (database_of h) now c)
+good_tells h l now who (Err refusal) rows good = good
+good_tells h l now who (Ok o) rows good = of (with_told (database_of h) now o.marks) (with_told-well h l now o.marks rows.marks good)
+  where
+    of : (x : Checked (List Mark)) → ChainOf h x → Good h who (x >>= (λ marks. does_marks o.reply marks))
+    of (Err refusal) chain = good_refused h who refusal
+    of (Ok marks) chain = chain
