@@ -19,7 +19,7 @@ use Rattle.sky_model.specs.RowSteps.{marked}
 use Rattle.sky_model.proofs.Legal.{IsQueue, Fine, begins, ends, begins_block, fails_block, ends_block, repeats_block, looks, makes_table, writes, begins_waiting, ends_waiting, raises, puts, traces, Chain, done, more, Legal, next}
 use Rattle.sky_model.proofs.Marks.{part_of-mark, database_of-mark, database_of-marks}
 use Rattle.sky_model.proofs.Good.{Good, same-session, good_refused}
-use Rattle.sky_model.proofs.RowOutcomes.{RowMarks, OfRows}
+use Rattle.sky_model.proofs.RowOutcomes.{RowMarks, rows-rest, OfRows}
 
 -- marks that may come next, and behind them more that may
 pub good_append : (h : History) (xs ys : List Mark) → Chain h xs → Chain (behind_marks part_by_history h xs) ys → Chain h (xs ++ ys)
@@ -148,10 +148,6 @@ fine-alike h g same _ marks rows (writes who t table key old new mine free) =
     writes who t table key old new (own-alike h g same who _ mine) (sym (ap (λ (d : RowPart). other_than who (d.holder table key)) same) ∙ free)
 fine-alike h g same _ marks rows (begins_waiting who table key attempt) = begins_waiting who table key attempt
 fine-alike h g same _ marks rows (ends_waiting who) = ends_waiting who
-
-rows-rest : (mark : Mark) (marks : List Mark) → RowMarks (mark ∷ marks) → RowMarks marks
-rows-rest (queued mark) marks rows = absurd rows
-rows-rest _ marks rows = rows
 
 chain-alike : (h g : History) → part_of h ≡ part_of g → (marks : List Mark) → RowMarks marks → Chain h marks → Chain g marks
 chain-alike h g same [] rows done = done

@@ -7,7 +7,7 @@ use Rattle.sky_model.specs.declared.stmt.Change.TheVariants.{To}
 use Rattle.sky_model.specs.declared.stmt.Stmt.{Stmt}
 use Rattle.sky_model.specs.declared.line.Fixed.{Fixed}
 use Rattle.sky_model.specs.declared.line.Fixed.TheVariants as fixed
-use Rattle.sky_model.specs.Kinds.{Kind, Name, Dotted, Number, OptText, Raw, Value, Column, Set, Of, value}
+use Rattle.sky_model.specs.Kinds.{Kind, Name, Dotted, Number, OptText, Raw, Value, Column, Set, Ignore, Of, value}
 use Rattle.sky_model.specs.Grammar.{Row, stop, literal, one, either, many, text_of, next, all_next, ended, all_ended, or_else, or_bad, goes_on, reads}
 
 -- some line that the rows read begins with these words
@@ -64,12 +64,14 @@ sample Raw = record { word = codes "x"; worth = codes "x"; is = refl }
 sample Value = record { word = codes "null"; worth = Null; is = refl }
 sample Column = record { word = codes "a:int"; worth = record { name = codes "a"; kind = kind.Int; key = false }; is = refl }
 sample Set = record { word = codes "a=null"; worth = record { column = codes "a"; change = To Null }; is = refl }
+sample Ignore = record { word = codes "ignore=a"; worth = codes "a" ∷ []; is = refl }
 
 same_text : (f : Fixed) → bytes_eq (text_of f) (text_of f) ≡ true
 same_text fixed.Repeatable = refl
 same_text fixed.Read = refl
 same_text fixed.Table = refl
 same_text fixed.Set = refl
+same_text fixed.Backup = refl
 
 or_else_assoc : (a b c : Option Stmt) → or_else (or_else a b) c ≡ or_else a (or_else b c)
 or_else_assoc None b c = refl

@@ -43,6 +43,8 @@ pub mod GatedStanding
 pub mod DatabaseStanding
 pub mod Standing
 pub mod DatabaseResting
+pub mod Inserted
+pub mod Telling
 pub mod LockLaws
 pub mod WriteOrder
 mod WorkedWrites

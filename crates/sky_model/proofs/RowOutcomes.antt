@@ -1,6 +1,6 @@
 -- What the statements on sessions, transactions, tables and rows can do: they list no event, and touch no queue.
 use Rattle.std.proofs.Common.{ℕ, zero, suc, List, [], ◌∷◌, ◌++◌, Bool, true, false, Option, Some, None, Ok, Err, option_map, length, is_some, nat_le, ◌^◌, arith, if◌then◌else◌}
-use Rattle.std.specs.Prelude.{find}
+use Rattle.std.specs.Prelude.{find, not}
 use Rattle.std.proofs.lemmas.List.Elements.{All-cons}
 use Rattle.sky_val.specs.declared.val.Val.{Val}
 use Rattle.sky_val.specs.Schemas.{schema_fault, row_fault, key_columns, key_of}
@@ -14,13 +14,13 @@ use Rattle.sky_model.specs.declared.reply.Reply.{Reply}
 use Rattle.sky_model.specs.declared.reply.Reply.TheVariants.{Number}
 use Rattle.sky_model.specs.declared.reply.Limit.TheVariants.{Tables}
 use Rattle.sky_model.specs.declared.reply.Refusal.{Refusal}
-use Rattle.sky_model.specs.declared.reply.Refusal.TheVariants.{BadRow, BadSnapshot, Canceled, Deadlock, Duplicate, KeyChange, NoTable, Serialize, TableExists, TooMany, TxidsSpent}
+use Rattle.sky_model.specs.declared.reply.Refusal.TheVariants.{BadRow, BadSnapshot, Canceled, Deadlock, Duplicate, EventIdsSpent, KeyChange, NoTable, Serialize, TableExists, TooMany, TxidsSpent}
 use Rattle.sky_model.specs.declared.stmt.Attempt.{Attempt}
 use Rattle.sky_model.specs.declared.stmt.Attempt.TheVariants.{Insertion, Changes, Deletion}
 use Rattle.sky_model.specs.History.{Mark, began, ended, block_begun, repeats, block_ended, looked, block_failed, tabled, wrote, waited, queued}
 use Rattle.sky_model.specs.Sessions.{Block, outside, inside, failed, Session}
-use Rattle.sky_model.specs.State.{RowPart, after_part}
-use Rattle.sky_model.specs.ShownRows.{KeyShown, RowsShown, rows_by}
+use Rattle.sky_model.specs.State.{RowPart}
+use Rattle.sky_model.specs.ShownRows.{KeyShown, RowsShown}
 use Rattle.sky_model.specs.Outcome.{Outcome, Checked, ◌>>=◌, ◌>>◌, refused_if, found_or, does_marks, refused_by, end_of, aborts, abort, settled}
 use Rattle.sky_model.specs.OwnTransaction.{own_or_next, begin_of, commit_of}
 use Rattle.sky_model.specs.StepRows.{schema_refusal, bad_values, bad_sets, is_key_change, with_sets, writes_key, changes, some_row, attempts, row_or_none}
@@ -29,7 +29,8 @@ use Rattle.sky_model.specs.StepSession.{begin, begin_repeatable_read, leaves, co
 use Rattle.sky_model.specs.Printed.{ReplyHasMoments, HaveMoments}
 use Rattle.sky_model.specs.Allowed.{where_of_row, allowed}
 use Rattle.sky_model.specs.Made.{takes_sight, looking, runs_if}
-use Rattle.sky_model.specs.Reader.{part_by_itself}
+use Rattle.sky_model.specs.Reader.{PartReader, part_by_itself}
+use Rattle.sky_model.specs.Gates.{Gate, takes_all, gated, by_gate}
 use Rattle.sky_model.specs.Settling.{Turn, turn_of, behind_marks, and_then, ready, attempted, resumed, goes_on, settles, settling}
 use Rattle.sky_model.specs.Calls.{row_form, row_making, row_statement, row_turn}
 
@@ -38,6 +39,11 @@ abbrev pub RowMarks : List Mark → Type 0
 RowMarks [] = Unit {0}
 RowMarks (queued mark ∷ marks) = ⊥
 RowMarks (_ ∷ marks) = RowMarks marks
+
+-- so none of the rest is
+pub rows-rest : (mark : Mark) (marks : List Mark) → RowMarks (mark ∷ marks) → RowMarks marks
+rows-rest (queued mark) marks rows = absurd rows
+rows-rest _ marks rows = rows
 
 -- an outcome without events, and without marks of queues
 pub record IsOfRows (o : Outcome) : Type 0 where
@@ -137,7 +143,8 @@ close-rows who txid outside = record { moments = tt; marks = tt }
 close-rows who txid inside = record { moments = tt; marks = marks-left false who txid }
 close-rows who txid failed = record { moments = tt; marks = marks-left false who txid }
 
-abort-rows : (who : ℕ) (b : Block) (o : Option ℕ) (refusal : Refusal) → RowMarks (abort who b o refusal)
+-- a refusal that aborts a block
+pub abort-rows : (who : ℕ) (b : Block) (o : Option ℕ) (refusal : Refusal) → RowMarks (abort who b o refusal)
 abort-rows who outside o refusal = tt
 abort-rows who inside o refusal = by (aborts refusal) o
   where
@@ -189,22 +196,46 @@ settled-rows : (who : ℕ) (s : Session) (c : Checked Outcome) → OfRows c → 
 settled-rows who s (Ok o) rows = rows
 settled-rows who s (Err refusal) rows = record { moments = tt; marks = abort-rows who s.block s.txid refusal }
 
-runs-rows : (d : RowPart) (who : ℕ) (stmt : RowStmt) (may : Checked (Unit {0})) → IsOfRows (runs_if (row_making part_by_itself who stmt) (where_of_row stmt) who d may)
-runs-rows d who stmt (Err refusal) = settled-rows who (d.session who) (Err refusal) tt
-runs-rows d who stmt (Ok _) = of (takes_sight (where_of_row stmt) (d.session who).sight)
-  where
-    behind : RowPart
-    behind = after_part d (looked who)
+-- a place whose statements on rows do so still once their writes are refused where there is no room for them
+pub record KeepsRows {P : Type 0} (r : PartReader P) : Type 0 where
+  pub tells : (p : P) (c : Checked Outcome) → OfRows c → OfRows (r.tells p c)
 
-    of : (b : Bool) → IsOfRows (if b then looking who (settled who (behind.session who) (row_form behind (rows_by behind) who stmt)) else settled who (d.session who) (row_form d (rows_by d) who stmt))
+-- a row part is one by itself
+pub itself-rows : KeepsRows part_by_itself
+itself-rows = record { tells = λ d c rows. rows }
+
+gated-rows : {G : Type 0} (gate : Gate G) (g : G) (c : Checked Outcome) → OfRows c → OfRows (gated gate g c)
+gated-rows gate g (Err refusal) rows = tt
+gated-rows gate g (Ok o) rows = test (not (takes_all gate g o.marks)) EventIdsSpent (Ok o) rows
+
+-- and behind a gate
+pub by_gate-rows : {G P : Type 0} (gate : Gate G) (r : PartReader P) → KeepsRows r → KeepsRows (by_gate gate r)
+by_gate-rows gate r keeps = record { tells = λ p c rows. gated-rows gate p.1 (r.tells p.0 c) (keeps.tells p.0 c rows) }
+
+runs-rows : {P : Type 0} (r : PartReader P) → KeepsRows r → (p : P) (who : ℕ) (stmt : RowStmt) (may : Checked (Unit {0}))
+    → IsOfRows (runs_if (row_making r who stmt) (where_of_row stmt) who p may)
+runs-rows r keeps p who stmt (Err refusal) = settled-rows who ((r.part p).session who) (Err refusal) tt
+runs-rows {P = P} r keeps p who stmt (Ok _) = of (takes_sight (where_of_row stmt) ((r.part p).session who).sight)
+  where
+    behind : P
+    behind = r.behind p (looked who)
+
+    at : (q : P) → IsOfRows (settled who ((r.part q).session who) (r.tells q (row_form (r.part q) (r.rows q) who stmt)))
+    at q = settled-rows who ((r.part q).session who) _ (keeps.tells q _ (form-rows (r.part q) (r.rows q) who stmt))
+
+    of : (b : Bool) → IsOfRows (if b then looking who (settled who ((r.part behind).session who) (r.tells behind (row_form (r.part behind) (r.rows behind) who stmt)))
+        else settled who ((r.part p).session who) (r.tells p (row_form (r.part p) (r.rows p) who stmt)))
     of true =
-        let rows : IsOfRows (settled who (behind.session who) (row_form behind (rows_by behind) who stmt)) = settled-rows who (behind.session who) _ (form-rows behind (rows_by behind) who stmt) in
+        let rows : IsOfRows (settled who ((r.part behind).session who) (r.tells behind (row_form (r.part behind) (r.rows behind) who stmt))) = at behind in
         record { moments = rows.moments; marks = rows.marks }
-    of false = settled-rows who (d.session who) _ (form-rows d (rows_by d) who stmt)
+    of false = at p
+
+statement-rows : {P : Type 0} (r : PartReader P) → KeepsRows r → (p : P) (who : ℕ) (stmt : RowStmt) → IsOfRows (row_statement r p who stmt)
+statement-rows r keeps p who stmt = runs-rows r keeps p who stmt (allowed (is_waiting who (r.part p).waiting) ((r.part p).session who).block (where_of_row stmt))
 
 -- a statement on rows lists no event and touches no queue
 pub row_statement-rows : (d : RowPart) (who : ℕ) (stmt : RowStmt) → IsOfRows (row_statement part_by_itself d who stmt)
-row_statement-rows d who stmt = runs-rows d who stmt (allowed (is_waiting who d.waiting) (d.session who).block (where_of_row stmt))
+row_statement-rows d who stmt = statement-rows part_by_itself itself-rows d who stmt
 
 -- the same of a turn
 pub record TurnOfRows (turn : Turn) : Type 0 where
@@ -227,35 +258,50 @@ moments-append : (xs ys : List (ℕ × Reply)) → HaveMoments xs → HaveMoment
 moments-append [] ys have also = also
 moments-append (x ∷ xs) ys have also = All-cons (λ answer. ReplyHasMoments answer.1) x (xs ++ ys) (have zero x (omega arith)) (moments-append xs ys (λ k a within. have (suc k) a (omega arith)) also)
 
-and_then-rows : (d : RowPart) (turn : Turn) (rest : RowPart → Turn) → TurnOfRows turn → ((e : RowPart) → TurnOfRows (rest e)) → TurnOfRows (and_then part_by_itself d turn rest)
-and_then-rows d turn rest rows also =
-    let later : TurnOfRows (rest (behind_marks part_by_itself d turn.marks)) = also (behind_marks part_by_itself d turn.marks) in
+and_then-rows : {P : Type 0} (r : PartReader P) (p : P) (turn : Turn) (rest : P → Turn) → TurnOfRows turn → ((q : P) → TurnOfRows (rest q)) → TurnOfRows (and_then r p turn rest)
+and_then-rows r p turn rest rows also =
+    let later : TurnOfRows (rest (behind_marks r p turn.marks)) = also (behind_marks r p turn.marks) in
     record {
-      moments = moments-append turn.answers (rest (behind_marks part_by_itself d turn.marks)).answers rows.moments later.moments;
-      marks = rows-append turn.marks (rest (behind_marks part_by_itself d turn.marks)).marks rows.marks later.marks;
+      moments = moments-append turn.answers (rest (behind_marks r p turn.marks)).answers rows.moments later.moments;
+      marks = rows-append turn.marks (rest (behind_marks r p turn.marks)).marks rows.marks later.marks;
     }
 
 turn_of-rows : (who : ℕ) (o : Outcome) → IsOfRows o → TurnOfRows (turn_of who o)
 turn_of-rows who o rows = record { moments = All-cons (λ answer. ReplyHasMoments answer.1) (who, o.reply) [] rows.moments (λ k a within. absurd (omega arith)); marks = rows.marks }
 
-goes_on-rows : (d : RowPart) (rest : RowPart → Turn) (o : Option Waiting) → ((e : RowPart) → TurnOfRows (rest e)) → TurnOfRows (goes_on part_by_itself d rest o)
-goes_on-rows d rest None also = record { moments = λ k a within. absurd (omega arith); marks = tt }
-goes_on-rows d rest (Some w) also = and_then-rows d (resumed part_by_itself d w) rest (record { moments = run.moments; marks = run.marks }) also
+goes_on-rows : {P : Type 0} (r : PartReader P) → KeepsRows r → (p : P) (rest : P → Turn) (o : Option Waiting) → ((q : P) → TurnOfRows (rest q)) → TurnOfRows (goes_on r p rest o)
+goes_on-rows r keeps p rest None also = record { moments = λ k a within. absurd (omega arith); marks = tt }
+goes_on-rows {P = P} r keeps p rest (Some w) also = and_then-rows r p (resumed r p w) rest (record { moments = run.moments; marks = run.marks }) also
   where
-    behind : RowPart
-    behind = after_part d (tabled (waited w.who))
+    behind : P
+    behind = r.behind p (tabled (waited w.who))
 
-    run : TurnOfRows (turn_of w.who (attempted part_by_itself w (d.attempt w.who) behind))
-    run = turn_of-rows w.who _ (settled-rows w.who (behind.session w.who) _ (attempts-rows behind ((rows_by behind).key w.who w.table w.key) w.who w.table w.key (d.attempt w.who)))
+    run : TurnOfRows (turn_of w.who (attempted r w ((r.part p).attempt w.who) behind))
+    run = turn_of-rows w.who _ (settled-rows w.who ((r.part behind).session w.who) _
+        (keeps.tells behind _ (attempts-rows (r.part behind) ((r.rows behind).key w.who w.table w.key) w.who w.table w.key ((r.part p).attempt w.who))))
 
-settles-rows : (n : ℕ) (d : RowPart) → TurnOfRows (settles part_by_itself n d)
-settles-rows zero d = record { moments = λ k a within. absurd (omega arith); marks = tt }
-settles-rows (suc n) d = goes_on-rows d (settles part_by_itself n) (ready d) (settles-rows n)
+settles-rows : {P : Type 0} (r : PartReader P) → KeepsRows r → (n : ℕ) (p : P) → TurnOfRows (settles r n p)
+settles-rows r keeps zero p = record { moments = λ k a within. absurd (omega arith); marks = tt }
+settles-rows r keeps (suc n) p = goes_on-rows r keeps p (settles r n) (ready (r.part p)) (settles-rows r keeps n)
 
 -- those that go on list no event, and touch no queue
-pub settling-rows : (d : RowPart) → TurnOfRows (settling part_by_itself d)
-settling-rows d = settles-rows (length d.waiting) d
+pub settling-rows-by : {P : Type 0} (r : PartReader P) → KeepsRows r → (p : P) → TurnOfRows (settling r p)
+settling-rows-by r keeps p = settles-rows r keeps (length (r.part p).waiting) p
 
 -- nor does a statement on rows with those that it lets go on
+pub row_turn-rows-by : {P : Type 0} (r : PartReader P) → KeepsRows r → (p : P) (who : ℕ) (stmt : RowStmt) → TurnOfRows (row_turn r p who stmt)
+row_turn-rows-by r keeps p who stmt = and_then-rows r p (turn_of who (row_statement r p who stmt)) (settling r) (turn_of-rows who _ (statement-rows r keeps p who stmt)) (settling-rows-by r keeps)
+
+-- in a row part by itself
+pub settling-rows : (d : RowPart) → TurnOfRows (settling part_by_itself d)
+settling-rows d = settling-rows-by part_by_itself itself-rows d
+
 pub row_turn-rows : (d : RowPart) (who : ℕ) (stmt : RowStmt) → TurnOfRows (row_turn part_by_itself d who stmt)
-row_turn-rows d who stmt = and_then-rows d (turn_of who (row_statement part_by_itself d who stmt)) (settling part_by_itself) (turn_of-rows who _ (row_statement-rows d who stmt)) settling-rows
+row_turn-rows d who stmt = row_turn-rows-by part_by_itself itself-rows d who stmt
+
+-- and behind a gate
+pub gated_settling-rows : {G : Type 0} (gate : Gate G) (d : RowPart) (g : G) → TurnOfRows (settling (by_gate gate part_by_itself) (d, g))
+gated_settling-rows gate d g = settling-rows-by (by_gate gate part_by_itself) (by_gate-rows gate part_by_itself itself-rows) (d, g)
+
+pub gated_row_turn-rows : {G : Type 0} (gate : Gate G) (d : RowPart) (g : G) (who : ℕ) (stmt : RowStmt) → TurnOfRows (row_turn (by_gate gate part_by_itself) (d, g) who stmt)
+gated_row_turn-rows gate d g who stmt = row_turn-rows-by (by_gate gate part_by_itself) (by_gate-rows gate part_by_itself itself-rows) (d, g) who stmt

@@ -1,11 +1,11 @@
 -- The words that the grammar takes are whole: joined by spaces they make a line of just these words.
 use Rattle.std.proofs.Common.{◌≡◌, ℕ, ◌+◌, ◌-◌, ◌^◌, ◌==◌, ℤ, pos, Bool, true, false, not, ◌&&◌, cond, List, [], ◌∷◌, ◌++◌, length, take, drop, Option, Some, None, option_map, Result, Ok, Err, refl, sym, ap, ◌∙◌, arith, codes, bytes_eq, nat_le}
-use Rattle.std.proofs.lemmas.Bool.{and_parts, eqb-true}
+use Rattle.std.proofs.lemmas.Bool.{and_parts, and_from, eqb-true}
 use Rattle.std.proofs.lemmas.Bool.Decides.{nat_tests}
 use Rattle.std.proofs.lemmas.List.{take-append-drop}
 use Rattle.std.proofs.lemmas.Slice.Eq.{bytes_eq-Decides}
 use Rattle.std.specs.Char.{is_ascii_digit}
-use Rattle.std.specs.List.{list_all}
+use Rattle.std.specs.List.{list_all, onto_first}
 use Rattle.std.specs.Option.{option_or, option_and_then}
 use Rattle.sky_val.specs.declared.val.Val.{Val}
 use Rattle.sky_val.specs.declared.val.Val.TheVariants as value
@@ -19,7 +19,7 @@ use Rattle.sky_model.specs.declared.line.Fixed.{Fixed}
 use Rattle.sky_model.specs.declared.line.Fixed.TheVariants as fixed
 use Rattle.sky_model.specs.Words.{is_parting, quoted_after, with_first, pieces, words}
 use Rattle.sky_val.specs.Numbers.{is_number, number_from, number_of, int_of, below_zero}
-use Rattle.sky_model.specs.Kinds.{Kind, Name, Dotted, Number, OptText, Raw, Value, Column, Set, Of, value, is_bare, is_bare_word, raw, continues_name, is_identifier, is_name, names_around, first_place, is_dotted, value_of, column_kind, column_around, set_as, set_by, set_around, is_text_byte, text_from, in_characters, quoted_text, opt_text}
+use Rattle.sky_model.specs.Kinds.{Kind, Name, Dotted, Number, OptText, Raw, Value, Column, Set, Ignore, Of, value, is_bare, is_bare_word, raw, continues_name, is_identifier, is_name, names_around, first_place, is_dotted, value_of, column_kind, column_around, set_as, set_by, set_around, between_commas, names_of, ignore_of, is_text_byte, text_from, in_characters, quoted_text, opt_text}
 use Rattle.sky_model.specs.Grammar.{Row, stop, literal, one, either, many, next, all_next, goes_on, when, reads, text_of, all_forms, named_form, statement_of, session_of, session_line, run_of, line_of_words}
 use Rattle.sky_model.proofs.NameLemmas.{list_all-is_identifier, around_first}
 
@@ -266,6 +266,46 @@ whole-set_around w (Some at) s is so =
     let parts = whole-set_by (take at w) (drop (at + 1) w) s so in
     whole-around 61 w at (refl, refl) is parts.0 parts.1
 
+-- every byte of these may stand in a name
+abbrev continues_all : List (List ℕ) → Bool
+continues_all ws = list_all (λ w. list_all continues_name w) ws
+
+continues_all-is_name : (ws : List (List ℕ)) → list_all is_name ws ≡ true → continues_all ws ≡ true
+continues_all-is_name [] so = refl
+continues_all-is_name (w ∷ ws) so =
+    let parts = and_parts (is_name w) (list_all is_name ws) so in
+    let here = list_all-is_identifier w (and_parts (nat_le (length w) 63) (is_identifier w) parts.0).1 in
+    and_from (list_all continues_name w) (continues_all ws) here (continues_all-is_name ws parts.1)
+
+continues_all-onto_first : (b : ℕ) (ws : List (List ℕ)) → continues_all (onto_first b ws) ≡ true → (continues_name b ≡ true) × (continues_all ws ≡ true)
+continues_all-onto_first b [] so = ((and_parts (continues_name b) true (and_parts (list_all continues_name (b ∷ [])) true so).0).0, refl)
+continues_all-onto_first b (w ∷ ws) so =
+    let parts = and_parts (list_all continues_name (b ∷ w)) (continues_all ws) so in
+    let here = and_parts (continues_name b) (list_all continues_name w) parts.0 in
+    (here.0, and_from (list_all continues_name w) (continues_all ws) here.1 parts.1)
+
+-- a word is whole where only such bytes stand between its commas
+whole-between_commas : (w : List ℕ) → continues_all (between_commas w) ≡ true → whole false w ≡ true
+whole-between_commas [] so = refl
+whole-between_commas (b ∷ bs) so =
+    elim (b == 44) as (λ v. (b == 44) ≡ v → continues_all (cond v ([] ∷ between_commas bs) (onto_first b (between_commas bs))) ≡ true → whole false (b ∷ bs) ≡ true) [
+      | true ↦ λ is e. let comma : b ≡ 44 = eqb-true b 44 is in rw comma (whole-between_commas bs e)
+      | false ↦ λ is e.
+          let parts = continues_all-onto_first b (between_commas bs) e in
+          let here = continues_name-plain b parts.0 in
+          rw (here.0, here.1) (whole-between_commas bs parts.1)
+    ] refl so
+
+whole-ignore_of : (w : List ℕ) (names : List (List ℕ)) → ignore_of w ≡ Some names → whole false w ≡ true
+whole-ignore_of w names so =
+    let front : List ℕ = take 7 w in
+    let back : List ℕ = drop 7 w in
+    let parts = cond-passed (bytes_eq front (codes "ignore=")) (names_of back) names so in
+    let are = cond-Some (list_all is_name (between_commas back)) (between_commas back) names parts.1 in
+    let front_so : whole false front ≡ true = ap (whole false) ((bytes_eq-Decides front (codes "ignore=")).0 parts.0) in
+    let back_so = whole-between_commas back (continues_all-is_name (between_commas back) are) in
+    ap (whole false) (sym (take-append-drop 7 w)) ∙ whole-append false front back front_so back_so
+
 -- a word of a kind is whole
 whole-value : (k : Kind) (w : List ℕ) (v : Of k) → value k w ≡ Some v → whole false w ≡ true
 whole-value Name w v so = whole-is_name w (cond-Some (is_name w) w v so)
@@ -276,12 +316,14 @@ whole-value Raw w v so = whole-raw w v so
 whole-value Value w v so = whole-value_of w v so
 whole-value Column w v so = whole-column_around w (first_place 58 w) v refl so
 whole-value Set w v so = whole-set_around w (first_place 61 w) v refl so
+whole-value Ignore w v so = whole-ignore_of w v so
 
 whole-text_of : (f : Fixed) → whole false (text_of f) ≡ true
 whole-text_of fixed.Repeatable = refl
 whole-text_of fixed.Read = refl
 whole-text_of fixed.Table = refl
 whole-text_of fixed.Set = refl
+whole-text_of fixed.Backup = refl
 
 -- a word behind which a row goes on is whole
 whole-when : (k : Kind) (w : List ℕ) (v : Option (Of k)) (f : Of k → Row) (row : Row) (rows : List Row) → value k w ≡ v → when v f ≡ row ∷ rows → whole false w ≡ true

@@ -1,5 +1,5 @@
 -- Lines and what they say, by computation: each form, and what comes close to one.
-use Rattle.std.specs.Prelude.{◌≡◌, ℕ, ◌-◌, ◌^◌, [], ◌∷◌, ◌++◌, Some, None, Result, Ok, Err, codes, refl}
+use Rattle.std.specs.Prelude.{◌≡◌, ℕ, ◌-◌, ◌^◌, true, false, [], ◌∷◌, ◌++◌, Some, None, Result, Ok, Err, codes, refl}
 use Rattle.std.specs.Str.{is_utf8, chars}
 use Rattle.std.specs.Char.{encode_utf8}
 use Rattle.sky_model.specs.declared.stmt.RowStmt.{RowStmt}
@@ -63,6 +63,18 @@ insert_event = refl
 insert_event_extra : line_of (codes "a: insert_event q 'it''s a b' '' null 'x' null ''''") ≡ runs (Stmt.InsertEvent (codes "q") (Some (codes "it's a b")) (Some []) (Some (record { ev_extra1 = None; ev_extra2 = Some (codes "x"); ev_extra3 = None; ev_extra4 = Some (codes "'") })))
 unfolding is_utf8 chars encode_utf8
 insert_event_extra = refl
+
+add_trigger : line_of (codes "a: add_trigger tr app.t q") ≡ runs (Stmt.AddTrigger (codes "tr") (codes "app.t") (codes "q") false [])
+add_trigger = refl
+
+add_trigger_backup : line_of (codes "a: add_trigger tr t q backup") ≡ runs (Stmt.AddTrigger (codes "tr") (codes "t") (codes "q") true [])
+add_trigger_backup = refl
+
+add_trigger_ignore : line_of (codes "a: add_trigger tr t q ignore=s,n,s") ≡ runs (Stmt.AddTrigger (codes "tr") (codes "t") (codes "q") false (codes "s" ∷ codes "n" ∷ codes "s" ∷ []))
+add_trigger_ignore = refl
+
+add_trigger_both : line_of (codes "a: add_trigger tr t q backup ignore=n") ≡ runs (Stmt.AddTrigger (codes "tr") (codes "t") (codes "q") true (codes "n" ∷ []))
+add_trigger_both = refl
 
 ticker : line_of (codes "a: ticker q") ≡ runs (Stmt.Ticker (codes "q"))
 ticker = refl
@@ -195,3 +207,42 @@ letter_beyond_ascii = refl
 
 two_snapshots : line_of (codes "a: txid_visible_in_snapshot 9 10:20: 10:20:") ≡ Err 5
 two_snapshots = refl
+
+dotted_trigger : line_of (codes "a: add_trigger a.tr t q") ≡ Err 3
+dotted_trigger = refl
+
+no_trigger_queue : line_of (codes "a: add_trigger tr t") ≡ Err 5
+no_trigger_queue = refl
+
+longer_backup : line_of (codes "a: add_trigger tr t q backups") ≡ Err 6
+longer_backup = refl
+
+two_backups : line_of (codes "a: add_trigger tr t q backup backup") ≡ Err 7
+two_backups = refl
+
+backup_behind_ignore : line_of (codes "a: add_trigger tr t q ignore=n backup") ≡ Err 7
+backup_behind_ignore = refl
+
+two_ignores : line_of (codes "a: add_trigger tr t q ignore=n ignore=s") ≡ Err 7
+two_ignores = refl
+
+ignore_alone : line_of (codes "a: add_trigger tr t q ignore") ≡ Err 6
+ignore_alone = refl
+
+no_ignored : line_of (codes "a: add_trigger tr t q ignore=") ≡ Err 6
+no_ignored = refl
+
+comma_first : line_of (codes "a: add_trigger tr t q ignore=,n") ≡ Err 6
+comma_first = refl
+
+comma_last : line_of (codes "a: add_trigger tr t q ignore=n,") ≡ Err 6
+comma_last = refl
+
+two_commas : line_of (codes "a: add_trigger tr t q backup ignore=n,,s") ≡ Err 7
+two_commas = refl
+
+space_behind_comma : line_of (codes "a: add_trigger tr t q ignore=n, s") ≡ Err 6
+space_behind_comma = refl
+
+dotted_ignored : line_of (codes "a: add_trigger tr t q ignore=t.n") ≡ Err 6
+dotted_ignored = refl

@@ -1,7 +1,7 @@
 -- The kinds of words, and the value of a word of a kind.
 use Rattle.std.specs.Prelude.{ℕ, ◌+◌, ◌-◌, ◌==◌, nat_le, Bool, true, false, not, ◌&&◌, ◌||◌, if◌then◌else◌, List, [], ◌∷◌, length, take, drop, Option, Some, None, option_map, bytes_eq, codes, position}
 use Rattle.std.specs.Char.{is_ascii_digit, is_ascii_lowercase}
-use Rattle.std.specs.List.{list_all}
+use Rattle.std.specs.List.{list_all, slice_split}
 use Rattle.std.specs.Option.{option_or}
 use Rattle.std.specs.Str.{is_utf8}
 use Rattle.sky_val.specs.Numbers.{number_of, int_of}
@@ -10,7 +10,6 @@ use Rattle.sky_val.specs.declared.val.Val.TheVariants.{Null, Int, Text}
 use Rattle.sky_val.specs.declared.column.ColKind.{ColKind}
 use Rattle.sky_val.specs.declared.column.ColKind.TheVariants as kind
 use Rattle.sky_val.specs.declared.column.Column as column
-use Rattle.sky_model.specs.Words.{with_first}
 use Rattle.sky_model.specs.declared.stmt.Change.{Change}
 use Rattle.sky_model.specs.declared.stmt.Change.TheVariants.{To, Add}
 use Rattle.sky_model.specs.declared.stmt.Set as set
@@ -156,14 +155,13 @@ set_around (Some at) w = set_by (take at w) (drop (at + 1) w)
 abbrev pub set_of : List ℕ → Option set.Set
 set_of w = set_around (first_place 61 w) w
 
--- the pieces between the bytes of this kind
-abbrev pub pieces_between : ℕ → List ℕ → List (List ℕ)
-pieces_between byte [] = [] ∷ []
-pieces_between byte (b ∷ bs) = if b == byte then [] ∷ pieces_between byte bs else with_first b (pieces_between byte bs)
+-- what stands between commas
+abbrev pub between_commas : List ℕ → List (List ℕ)
+between_commas w = slice_split (λ b. b == 44) w
 
 -- names with commas between
 abbrev pub names_of : List ℕ → Option (List (List ℕ))
-names_of w = if list_all is_name (pieces_between 44 w) then Some (pieces_between 44 w) else None
+names_of w = if list_all is_name (between_commas w) then Some (between_commas w) else None
 
 -- `ignore=` and names with commas between
 abbrev pub ignore_of : List ℕ → Option (List (List ℕ))

@@ -1,0 +1,78 @@
+-- Marks with marks of events among them: what they leave of a database beside its queues.
+use Rattle.std.proofs.Common.{◌≡◌, ℕ, Bool, true, false, List, [], ◌∷◌, ◌++◌, Option, Some, None, refl, ◌∙◌, ap}
+use Rattle.std.specs.Prelude.{◌||◌, ◌==◌}
+use Rattle.sky_val.specs.declared.event.Event.{Event}
+use Rattle.sky_model.specs.History.{Batch, Mark, began, ended, block_begun, repeats, looked, block_failed, block_ended, tabled, queued, made, raised, put, ticked, registered, opened, closed, traced}
+use Rattle.sky_model.specs.Triggers.{NamedTrigger}
+use Rattle.sky_model.specs.State.{RowPart, after_part, after_part_marks, Database, changed_at, after_mark, after_marks}
+use Rattle.sky_model.proofs.RowStanding.{part-behind}
+
+-- the second marks are the first ones with ids taken and events stored in between
+pub data Inserted : List Mark → List Mark → Type 0 where
+  none : Inserted [] []
+  kept : {xs ys : List Mark} (mark : Mark) → Inserted xs ys → Inserted (mark ∷ xs) (mark ∷ ys)
+  with_raised : {xs ys : List Mark} (queue value : ℕ) → Inserted xs ys → Inserted xs (queued (raised queue value) ∷ ys)
+  with_put : {xs ys : List Mark} (queue : ℕ) (event : Event) → Inserted xs ys → Inserted xs (queued (put queue event) ∷ ys)
+
+-- or nothing is put in between
+pub inserted-same : (marks : List Mark) → Inserted marks marks
+inserted-same [] = none
+inserted-same (mark ∷ marks) = kept mark (inserted-same marks)
+
+pub inserted-append : {xs ys zs ws : List Mark} → Inserted xs ys → Inserted zs ws → Inserted (xs ++ zs) (ys ++ ws)
+inserted-append none also = also
+inserted-append (kept mark more) also = kept mark (inserted-append more also)
+inserted-append (with_raised queue value more) also = with_raised queue value (inserted-append more also)
+inserted-append (with_put queue event more) also = with_put queue event (inserted-append more also)
+
+-- the row part is the same behind both
+pub inserted-part : (d : Database) {xs ys : List Mark} → Inserted xs ys → (after_marks d ys).part ≡ after_part_marks d.part xs
+inserted-part d none = refl
+inserted-part d (kept {xs = xs} mark more) = inserted-part (after_mark d mark) more ∙ ap (λ part. after_part_marks part xs) (part-behind d mark)
+inserted-part d (with_raised queue value more) = inserted-part (after_mark d (queued (raised queue value))) more
+inserted-part d (with_put queue event more) = inserted-part (after_mark d (queued (put queue event))) more
+
+-- what a database keeps beside its queues
+pub record BesideQueues : Type 0 where
+  pub part : RowPart
+  pub undone : ℕ → Bool
+  pub last_batch_id : ℕ
+  pub last_sub_id : ℕ
+  pub names : List (List ℕ)
+  pub batch : ℕ → Option Batch
+  pub triggers : ℕ → List NamedTrigger
+
+abbrev pub beside : Database → BesideQueues
+beside d = record { part = d.part; undone = d.undone; last_batch_id = d.last_batch_id; last_sub_id = d.last_sub_id; names = d.names; batch = d.batch; triggers = d.triggers }
+
+-- a mark changes it alike
+beside-mark : (d e : Database) (mark : Mark) → beside d ≡ beside e → beside (after_mark d mark) ≡ beside (after_mark e mark)
+beside-mark d e (began who t) same = λ i. record (same i) { part = after_part (same i).part (began who t) }
+beside-mark d e (ended who t true) same = λ i. record (same i) { part = after_part (same i).part (ended who t true) }
+beside-mark d e (ended who t false) same = λ i. record (same i) { part = after_part (same i).part (ended who t false); undone = λ u. u == t || (same i).undone u }
+beside-mark d e (block_begun who) same = λ i. record (same i) { part = after_part (same i).part (block_begun who) }
+beside-mark d e (repeats who) same = λ i. record (same i) { part = after_part (same i).part (repeats who) }
+beside-mark d e (looked who) same = λ i. record (same i) { part = after_part (same i).part (looked who) }
+beside-mark d e (block_failed who) same = λ i. record (same i) { part = after_part (same i).part (block_failed who) }
+beside-mark d e (block_ended who) same = λ i. record (same i) { part = after_part (same i).part (block_ended who) }
+beside-mark d e (tabled mark) same = λ i. record (same i) { part = after_part (same i).part (tabled mark) }
+beside-mark d e (queued (made name)) same = λ i. record (same i) { names = (same i).names ++ name ∷ [] }
+beside-mark d e (queued (raised queue value)) same = same
+beside-mark d e (queued (put queue event)) same = same
+beside-mark d e (queued (ticked queue id time seq)) same = same
+beside-mark d e (queued (registered queue name id tick)) same = λ i. record (same i) { last_sub_id = id }
+beside-mark d e (queued (opened b)) same = λ i. record (same i) { last_batch_id = b.id; batch = changed_at b.id (λ _. Some b) (same i).batch }
+beside-mark d e (queued (closed b)) same = λ i. record (same i) { batch = changed_at b.id (λ _. None) (same i).batch }
+beside-mark d e (queued (traced table name trigger)) same = λ i. record (same i) {
+  triggers = changed_at table (λ ts. ts ++ record { name = name; trigger = trigger } ∷ []) (same i).triggers;
+}
+
+beside-alike : (d e : Database) {xs ys : List Mark} → Inserted xs ys → beside d ≡ beside e → beside (after_marks d ys) ≡ beside (after_marks e xs)
+beside-alike d e none same = same
+beside-alike d e (kept mark more) same = beside-alike (after_mark d mark) (after_mark e mark) more (beside-mark d e mark same)
+beside-alike d e (with_raised queue value more) same = beside-alike (after_mark d (queued (raised queue value))) e more same
+beside-alike d e (with_put queue event more) same = beside-alike (after_mark d (queued (put queue event))) e more same
+
+-- and all that a database keeps beside its queues is the same behind both
+pub inserted-beside : (d : Database) {xs ys : List Mark} → Inserted xs ys → beside (after_marks d ys) ≡ beside (after_marks d xs)
+inserted-beside d inserted = beside-alike d d inserted refl

@@ -1,0 +1,346 @@
+-- A gate in front of the writes of a row part, and a whole database that is told of them, do the same.
+use Rattle.std.proofs.Common.{◌≡◌, ℕ, zero, suc, ℤ, ◌+◌, ◌^◌, Bool, true, false, nat_le, List, [], ◌∷◌, ◌++◌, Option, Some, None, Ok, Err, length, refl, sym, ap, subst, if◌then◌else◌}
+use Rattle.std.specs.Prelude.{not, ◌&&◌, is_ok}
+use Rattle.sky_val.specs.declared.val.Val.{Val}
+use Rattle.sky_val.specs.Waits.{Waiting, is_waiting}
+use Rattle.sky_urlenc.specs.RowEvents.{RowEvent}
+use Rattle.sky_model.specs.declared.stmt.RowStmt.{RowStmt}
+use Rattle.sky_model.specs.declared.stmt.Attempt.{Attempt}
+use Rattle.sky_model.specs.declared.stmt.Stmt.TheVariants.{Row}
+use Rattle.sky_model.specs.declared.reply.Reply.TheVariants.{Refused}
+use Rattle.sky_model.specs.declared.reply.Refusal.{Refusal}
+use Rattle.sky_model.specs.declared.reply.Refusal.TheVariants.{EventIdsSpent}
+use Rattle.sky_model.specs.History.{Mark, looked, tabled, wrote, waited, queued}
+use Rattle.sky_model.specs.Sessions.{Session}
+use Rattle.sky_model.specs.State.{RowPart, after_part, after_part_marks, Database, after_mark, after_marks}
+use Rattle.sky_model.specs.ShownRows.{rows_by}
+use Rattle.sky_model.specs.Outcome.{Outcome, Checked, ◌>>=◌, ◌>>◌, refused_if, does_marks, abort, settled}
+use Rattle.sky_model.specs.Allowed.{where_of_row, allowed}
+use Rattle.sky_model.specs.Made.{takes_sight, looking, runs_if}
+use Rattle.sky_model.specs.StepRows.{attempts}
+use Rattle.sky_model.specs.Telling.{events_in, told_event, event_marks, told_by, told_of, with_told, tells}
+use Rattle.sky_model.specs.Reader.{part_by_itself, database_by_itself, within_part}
+use Rattle.sky_model.specs.Gates.{Gate, takes, passed, takes_all, passed_all, gated, by_gate}
+use Rattle.sky_model.specs.Settling.{Turn, turn_of, behind_marks, and_then, ready, attempted, resumed, goes_on, settles, settling, with_settling}
+use Rattle.sky_model.specs.Calls.{row_form, row_making, making, row_statement, row_turn, statement, database_turn}
+use Rattle.sky_model.proofs.RowOutcomes.{RowMarks, rows-rest, OfRows, abort-rows, attempts-rows, form-rows}
+use Rattle.sky_model.proofs.GatedLemmas.{gated-behind, passed-append, WritesNone, plain-abort}
+use Rattle.sky_model.proofs.DatabaseStanding.{after_marks-append, behind-all}
+use Rattle.sky_model.proofs.Inserted.{Inserted, none, kept, with_raised, with_put, inserted-same, inserted-append}
+
+-- a mark that is neither a write nor a queue's
+abbrev pub IsOther : Mark → Type 0
+IsOther (tabled (wrote who t table key old new)) = ⊥
+IsOther (queued mark) = ⊥
+IsOther _ = Unit {0}
+
+-- a gate keeps what tells of writes at this time: whether there are ids for their events, and what they leave
+pub record TellsAlike {G : Type 0} (gate : Gate G) (now : ℤ) (related : Database → RowPart → G → Type 0) : Type 0 where
+  pub part : (d : Database) (p : RowPart) (g : G) → related d p g → d.part ≡ p
+  pub other : (d : Database) (p : RowPart) (g : G) (mark : Mark) → IsOther mark → related d p g → related (after_mark d mark) (after_part p mark) g
+  pub room : (d : Database) (p : RowPart) (g : G) (who t table : ℕ) (key : List Val) (old new : Option (List Val)) → related d p g
+      → takes gate g (tabled (wrote who t table key old new))
+      ≡ is_ok (told_of (after_mark d (tabled (wrote who t table key old new))) now (tabled (wrote who t table key old new)))
+  pub wrote : (d : Database) (p : RowPart) (g : G) (who t table : ℕ) (key : List Val) (old new : Option (List Val)) (told : List Mark) → related d p g
+      → told_of (after_mark d (tabled (wrote who t table key old new))) now (tabled (wrote who t table key old new)) ≡ Ok told
+      → related (after_marks d (tabled (wrote who t table key old new) ∷ told)) (after_part p (tabled (wrote who t table key old new)))
+      (passed gate g (tabled (wrote who t table key old new)))
+
+-- the answer is the same, the database has the marks of events among those of the row part, and all stands alike behind them
+record SameOutcome {G : Type 0} (gate : Gate G) (related : Database → RowPart → G → Type 0) (d : Database) (p : RowPart) (g : G) (behind_gate told : Outcome) : Type 0 where
+  reply : told.reply ≡ behind_gate.reply
+  inserted : Inserted behind_gate.marks told.marks
+  stands : related (after_marks d told.marks) (after_part_marks p behind_gate.marks) (passed_all gate g behind_gate.marks)
+
+-- the same of a turn behind a gate and one that is told of
+pub record SameTold {G : Type 0} (gate : Gate G) (related : Database → RowPart → G → Type 0) (d : Database) (p : RowPart) (g : G) (behind_gate told : Turn) : Type 0 where
+  pub answers : told.answers ≡ behind_gate.answers
+  pub inserted : Inserted behind_gate.marks told.marks
+  pub stands : related (after_marks d told.marks) (after_part_marks p behind_gate.marks) (passed_all gate g behind_gate.marks)
+
+part_marks-append : (p : RowPart) (xs ys : List Mark) → after_part_marks p (xs ++ ys) ≡ after_part_marks (after_part_marks p xs) ys
+part_marks-append p [] ys = refl
+part_marks-append p (x ∷ xs) ys = part_marks-append (after_part p x) xs ys
+
+-- ---- what is told of a write
+
+-- marks of events, or the refusal where there are no ids for them
+abbrev EventMarks : Checked (List Mark) → Type 0
+EventMarks (Ok marks) = Inserted [] marks
+EventMarks (Err refusal) = refusal ≡ EventIdsSpent
+
+told_by-events : (d : Database) (now : ℤ) (t : ℕ) (es : List RowEvent) → EventMarks (told_by d now t es)
+told_by-events d now t [] = none
+told_by-events d now t (e ∷ es) = of (nat_le (2 ^ 62) id) (told_by-events (after_marks d (event_marks e.queue (told_event id now t e))) now t es)
+  where
+    id : ℕ
+    id = (d.queue e.queue).seq + 1
+
+    joined : (x : Checked (List Mark)) → EventMarks x → EventMarks (x >>= (λ rest. Ok (event_marks e.queue (told_event id now t e) ++ rest)))
+    joined (Err refusal) only = only
+    joined (Ok rest) only = with_raised e.queue id (with_put e.queue (told_event id now t e) only)
+
+    of : (b : Bool) → EventMarks (told_by (after_marks d (event_marks e.queue (told_event id now t e))) now t es)
+        → EventMarks ((refused_if b EventIdsSpent >> Ok id) >>= (λ n. told_by (after_marks d (event_marks e.queue (told_event n now t e))) now t es
+        >>= (λ rest. Ok (event_marks e.queue (told_event n now t e) ++ rest))))
+    of true only = refl
+    of false only = joined (told_by (after_marks d (event_marks e.queue (told_event id now t e))) now t es) only
+
+module _ {G : Type 0} (gate : Gate G) (now : ℤ) (related : Database → RowPart → G → Type 0) (alike : TellsAlike gate now related) where
+  abbrev Outcomes : Database → RowPart → G → Outcome → Outcome → Type 0
+  Outcomes d p g behind_gate told = SameOutcome gate related d p g behind_gate told
+
+  abbrev Turns : Database → RowPart → G → Turn → Turn → Type 0
+  Turns d p g behind_gate told = SameTold gate related d p g behind_gate told
+
+  -- marks among which there is no write
+  others : (marks : List Mark) → RowMarks marks → WritesNone marks → (d : Database) (p : RowPart) (g : G) → related d p g
+      → related (after_marks d marks) (after_part_marks p marks) (passed_all gate g marks)
+  others [] rows plain d p g is = is
+  others (queued mark ∷ marks) rows plain d p g is = absurd rows
+  others (tabled (wrote who t table key old new) ∷ marks) rows plain d p g is = absurd plain
+  others (mark ∷ marks) rows plain d p g is = others marks rows plain (after_mark d mark) (after_part p mark) g (alike.other d p g mark tt is)
+
+  -- a gate takes a mark, and it is told of; or neither
+  abbrev ToldMark : Database → RowPart → G → Mark → Bool → Checked (List Mark) → Type 0
+  ToldMark d p g mark true (Ok told) = Inserted [] told × related (after_marks d (mark ∷ told)) (after_part p mark) (passed gate g mark)
+  ToldMark d p g mark true (Err refusal) = ⊥
+  ToldMark d p g mark false (Ok told) = ⊥
+  ToldMark d p g mark false (Err refusal) = refusal ≡ EventIdsSpent
+
+  told-mark : (mark : Mark) (marks : List Mark) → RowMarks (mark ∷ marks) → (d : Database) (p : RowPart) (g : G) → related d p g
+      → ToldMark d p g mark (takes gate g mark) (told_of (after_mark d mark) now mark)
+  told-mark (queued mark) marks rows d p g is = absurd rows
+  told-mark (tabled (wrote who t table key old new)) marks rows d p g is =
+      of (takes gate g write) (told_of (after_mark d write) now write) refl (alike.room d p g who t table key old new is)
+      (told_by-events (after_mark d write) now t (events_in (after_mark d write) table old new))
+    where
+      write : Mark
+      write = tabled (wrote who t table key old new)
+
+      of : (b : Bool) (x : Checked (List Mark)) → told_of (after_mark d write) now write ≡ x → b ≡ is_ok x → EventMarks x → ToldMark d p g write b x
+      of b (Ok told) same room only = subst (λ c. ToldMark d p g write c (Ok told)) (sym room) (only, alike.wrote d p g who t table key old new told is same)
+      of b (Err refusal) same room only = subst (λ c. ToldMark d p g write c (Err refusal)) (sym room) only
+  told-mark mark marks rows d p g is = (none, alike.other d p g mark tt is)
+
+  -- the same of marks
+  abbrev ToldMarks : Database → RowPart → G → List Mark → Bool → Checked (List Mark) → Type 0
+  ToldMarks d p g marks true (Ok told) = Inserted marks told × related (after_marks d told) (after_part_marks p marks) (passed_all gate g marks)
+  ToldMarks d p g marks true (Err refusal) = ⊥
+  ToldMarks d p g marks false (Ok told) = ⊥
+  ToldMarks d p g marks false (Err refusal) = refusal ≡ EventIdsSpent
+
+  told-marks : (marks : List Mark) → RowMarks marks → (d : Database) (p : RowPart) (g : G) → related d p g → ToldMarks d p g marks (takes_all gate g marks) (with_told d now marks)
+  told-marks [] rows d p g is = (none, is)
+  told-marks (mark ∷ marks) rows d p g is =
+      of (takes gate g mark) (told_of (after_mark d mark) now mark) (told-mark mark marks rows d p g is) (told-marks marks (rows-rest mark marks rows))
+    where
+      joined : (told : List Mark) → Inserted [] told → (b : Bool) (x : Checked (List Mark)) → ToldMarks (after_marks d (mark ∷ told)) (after_part p mark) (passed gate g mark) marks b x
+          → ToldMarks d p g (mark ∷ marks) b (x >>= (λ rest. Ok (mark ∷ told ++ rest)))
+      joined told only true (Ok rest) same = (
+        kept mark (inserted-append only same.0),
+        subst (λ e. related e (after_part_marks p (mark ∷ marks)) (passed_all gate g (mark ∷ marks))) (sym (after_marks-append (after_mark d mark) told rest)) same.1,
+      )
+      joined told only true (Err refusal) same = absurd same
+      joined told only false (Ok rest) same = absurd same
+      joined told only false (Err refusal) same = same
+
+      of : (b : Bool) (x : Checked (List Mark)) → ToldMark d p g mark b x
+          → ((e : Database) (q : RowPart) (k : G) → related e q k → ToldMarks e q k marks (takes_all gate k marks) (with_told e now marks))
+          → ToldMarks d p g (mark ∷ marks) (b && takes_all gate (passed gate g mark) marks) (x >>= (λ told. with_told (after_marks d (mark ∷ told)) now marks >>= (λ rest. Ok (mark ∷ told ++ rest))))
+      of true (Ok told) same ih =
+          joined told same.0 (takes_all gate (passed gate g mark) marks) (with_told (after_marks d (mark ∷ told)) now marks)
+          (ih (after_marks d (mark ∷ told)) (after_part p mark) (passed gate g mark) same.1)
+      of true (Err refusal) same ih = absurd same
+      of false (Ok told) same ih = absurd same
+      of false (Err refusal) same ih = same
+
+  -- ---- what a statement does
+
+  abbrev SameChecked : Database → RowPart → G → Checked Outcome → Checked Outcome → Type 0
+  SameChecked d p g (Ok behind_gate) (Ok told) = Outcomes d p g behind_gate told
+  SameChecked d p g (Ok behind_gate) (Err refusal) = ⊥
+  SameChecked d p g (Err refusal) (Ok told) = ⊥
+  SameChecked d p g (Err refusal) (Err also) = also ≡ refusal
+
+  told-checked : (c : Checked Outcome) → OfRows c → (d : Database) (p : RowPart) (g : G) → related d p g → SameChecked d p g (gated gate g c) (tells d now c)
+  told-checked (Err refusal) rows d p g is = refl
+  told-checked (Ok o) rows d p g is = of (takes_all gate g o.marks) (with_told d now o.marks) (told-marks o.marks rows.marks d p g is)
+    where
+      of : (b : Bool) (x : Checked (List Mark)) → ToldMarks d p g o.marks b x → SameChecked d p g (refused_if (not b) EventIdsSpent >> Ok o) (x >>= (λ marks. does_marks o.reply marks))
+      of true (Ok told) same = record { reply = refl; inserted = same.0; stands = same.1 }
+      of true (Err refusal) same = absurd same
+      of false (Ok told) same = absurd same
+      of false (Err refusal) same = same
+
+  told-settled : (who : ℕ) (s : Session) (c c' : Checked Outcome) (d : Database) (p : RowPart) (g : G) → related d p g → SameChecked d p g c c'
+      → Outcomes d p g (settled who s c) (settled who s c')
+  told-settled who s (Ok behind_gate) (Ok told) d p g is same = same
+  told-settled who s (Ok behind_gate) (Err refusal) d p g is same = absurd same
+  told-settled who s (Err refusal) (Ok told) d p g is same = absurd same
+  told-settled who s (Err refusal) (Err also) d p g is same = record {
+    reply = ap Refused same;
+    inserted = subst (λ x. Inserted (marks refusal) (marks x)) (sym same) (inserted-same (marks refusal));
+    stands = subst (λ x. related (after_marks d (marks x)) (after_part_marks p (marks refusal)) (passed_all gate g (marks refusal))) (sym same)
+        (others (marks refusal) (abort-rows who s.block s.txid refusal) (plain-abort who s.block s.txid refusal) d p g is);
+  }
+    where
+      marks : Refusal → List Mark
+      marks x = abort who s.block s.txid x
+
+  -- an attempt, and any statement on rows
+  told-attempts : (who table : ℕ) (key : List Val) (attempt : Attempt) (d : Database) (p : RowPart) (g : G) → related d p g
+      → Outcomes d p g (settled who (p.session who) (gated gate g (attempts p ((rows_by p).key who table key) who table key attempt)))
+      (settled who (d.part.session who) (tells d now (attempts d.part ((rows_by d.part).key who table key) who table key attempt)))
+  told-attempts who table key attempt d p g is =
+      subst (λ (e : RowPart). Outcomes d p g (settled who (p.session who) (gated gate g (attempts p ((rows_by p).key who table key) who table key attempt)))
+      (settled who (e.session who) (tells d now (attempts e ((rows_by e).key who table key) who table key attempt)))) (sym (alike.part d p g is))
+      (told-settled who (p.session who) (gated gate g tried) (tells d now tried) d p g is
+      (told-checked tried (attempts-rows p ((rows_by p).key who table key) who table key attempt) d p g is))
+    where
+      tried : Checked Outcome
+      tried = attempts p ((rows_by p).key who table key) who table key attempt
+
+  told-form : (who : ℕ) (stmt : RowStmt) (d : Database) (p : RowPart) (g : G) → related d p g
+      → Outcomes d p g (settled who (p.session who) (gated gate g (row_form p (rows_by p) who stmt)))
+      (settled who (d.part.session who) (tells d now (row_form d.part (rows_by d.part) who stmt)))
+  told-form who stmt d p g is =
+      subst (λ (e : RowPart). Outcomes d p g (settled who (p.session who) (gated gate g (row_form p (rows_by p) who stmt)))
+      (settled who (e.session who) (tells d now (row_form e (rows_by e) who stmt)))) (sym (alike.part d p g is))
+      (told-settled who (p.session who) (gated gate g (row_form p (rows_by p) who stmt)) (tells d now (row_form p (rows_by p) who stmt)) d p g is
+      (told-checked (row_form p (rows_by p) who stmt) (form-rows p (rows_by p) who stmt) d p g is))
+
+  told-runs : (who : ℕ) (stmt : RowStmt) (may : Checked (Unit {0})) (d : Database) (p : RowPart) (g : G) → related d p g
+      → Outcomes d p g (runs_if (row_making (by_gate gate part_by_itself) who stmt) (where_of_row stmt) who (p, g) may)
+      (runs_if (making database_by_itself now who (Row stmt)) (where_of_row stmt) who d may)
+  told-runs who stmt (Err refusal) d p g is =
+      subst (λ (e : RowPart). Outcomes d p g (settled who (p.session who) (Err refusal)) (settled who (e.session who) (Err refusal))) (sym (alike.part d p g is))
+      (told-settled who (p.session who) (Err refusal) (Err refusal) d p g is refl)
+  told-runs who stmt (Ok _) d p g is =
+      subst (λ (e : RowPart). Outcomes d p g (here (looks p)) (there (looks e))) (sym (alike.part d p g is)) (of (looks p))
+    where
+      looks : RowPart → Bool
+      looks e = takes_sight (where_of_row stmt) (e.session who).sight
+
+      seen : RowPart
+      seen = after_part p (looked who)
+
+      shown : Database
+      shown = after_mark d (looked who)
+
+      here : Bool → Outcome
+      here b = if b then looking who (settled who (seen.session who) (gated gate g (row_form seen (rows_by seen) who stmt)))
+          else settled who (p.session who) (gated gate g (row_form p (rows_by p) who stmt))
+
+      there : Bool → Outcome
+      there b = if b then looking who (settled who (shown.part.session who) (tells shown now (row_form shown.part (rows_by shown.part) who stmt)))
+          else settled who (d.part.session who) (tells d now (row_form d.part (rows_by d.part) who stmt))
+
+      of : (b : Bool) → Outcomes d p g (here b) (there b)
+      of true =
+          let same = told-form who stmt shown seen g (alike.other d p g (looked who) tt is) in
+          record { reply = same.reply; inserted = kept (looked who) same.inserted; stands = same.stands }
+      of false = told-form who stmt d p g is
+
+  told-statement : (who : ℕ) (stmt : RowStmt) (d : Database) (p : RowPart) (g : G) → related d p g
+      → Outcomes d p g (row_statement (by_gate gate part_by_itself) (p, g) who stmt) (statement database_by_itself d now who (Row stmt))
+  told-statement who stmt d p g is =
+      subst (λ (e : RowPart). Outcomes d p g (row_statement (by_gate gate part_by_itself) (p, g) who stmt)
+      (runs_if (making database_by_itself now who (Row stmt)) (where_of_row stmt) who d (allowed (is_waiting who e.waiting) (e.session who).block (where_of_row stmt)))) (sym (alike.part d p g is))
+      (told-runs who stmt (allowed (is_waiting who p.waiting) (p.session who).block (where_of_row stmt)) d p g is)
+
+  -- ---- what it lets go on
+
+  told-then : (d : Database) (p : RowPart) (g : G) (turn turn' : Turn) (rest : RowPart × G → Turn) (rest' : Database → Turn) → Turns d p g turn turn'
+      → ((e : Database) (q : RowPart) (k : G) → related e q k → Turns e q k (rest (q, k)) (rest' e))
+      → Turns d p g (and_then (by_gate gate part_by_itself) (p, g) turn rest) (and_then (within_part database_by_itself now) d turn' rest')
+  told-then d p g turn turn' rest rest' same also = record {
+    answers = λ i. same.answers i ++ later.answers i;
+    inserted = inserted-append same.inserted later.inserted;
+    stands =
+        subst (λ x. related x (after_part_marks p (turn.marks ++ behind.marks)) (passed_all gate g (turn.marks ++ behind.marks))) (sym (after_marks-append d turn'.marks behind'.marks))
+        (subst (λ x. related (after_marks e behind'.marks) x (passed_all gate g (turn.marks ++ behind.marks))) (sym (part_marks-append p turn.marks behind.marks))
+        (subst (λ x. related (after_marks e behind'.marks) (after_part_marks q behind.marks) x) (sym (passed-append gate g turn.marks behind.marks)) later.stands));
+  }
+    where
+      e : Database
+      e = after_marks d turn'.marks
+
+      q : RowPart
+      q = after_part_marks p turn.marks
+
+      k : G
+      k = passed_all gate g turn.marks
+
+      behind : Turn
+      behind = rest (behind_marks (by_gate gate part_by_itself) (p, g) turn.marks)
+
+      behind' : Turn
+      behind' = rest' (behind_marks (within_part database_by_itself now) d turn'.marks)
+
+      later : Turns e q k behind behind'
+      later =
+          subst (λ x. Turns e q k (rest x) behind') (sym (gated-behind gate p g turn.marks))
+          (subst (λ x. Turns e q k (rest (q, k)) (rest' x)) (sym (behind-all now d turn'.marks)) (also e q k same.stands))
+
+  told-resumed : (w : Waiting) (d : Database) (p : RowPart) (g : G) → related d p g
+      → Turns d p g (resumed (by_gate gate part_by_itself) (p, g) w) (resumed (within_part database_by_itself now) d w)
+  told-resumed w d p g is = record { answers = ap (λ reply. (w.who, reply) ∷ []) tried.reply; inserted = kept (tabled (waited w.who)) tried.inserted; stands = tried.stands }
+    where
+      behind : RowPart
+      behind = after_part p (tabled (waited w.who))
+
+      tried : Outcomes (after_mark d (tabled (waited w.who))) behind g (attempted (by_gate gate part_by_itself) w (p.attempt w.who) (behind, g))
+          (attempted (within_part database_by_itself now) w (d.part.attempt w.who) (after_mark d (tabled (waited w.who))))
+      tried =
+          subst (λ (e : RowPart). Outcomes (after_mark d (tabled (waited w.who))) behind g (attempted (by_gate gate part_by_itself) w (p.attempt w.who) (behind, g))
+          (attempted (within_part database_by_itself now) w (e.attempt w.who) (after_mark d (tabled (waited w.who))))) (sym (alike.part d p g is))
+          (told-attempts w.who w.table w.key (p.attempt w.who) (after_mark d (tabled (waited w.who))) behind g (alike.other d p g (tabled (waited w.who)) tt is))
+
+  told-goes_on : (rest : RowPart × G → Turn) (rest' : Database → Turn) (o : Option Waiting) (d : Database) (p : RowPart) (g : G) → related d p g
+      → ((e : Database) (q : RowPart) (k : G) → related e q k → Turns e q k (rest (q, k)) (rest' e))
+      → Turns d p g (goes_on (by_gate gate part_by_itself) (p, g) rest o) (goes_on (within_part database_by_itself now) d rest' o)
+  told-goes_on rest rest' None d p g is also = record { answers = refl; inserted = none; stands = is }
+  told-goes_on rest rest' (Some w) d p g is also = told-then d p g _ _ rest rest' (told-resumed w d p g is) also
+
+  told-settles : (n : ℕ) (d : Database) (p : RowPart) (g : G) → related d p g
+      → Turns d p g (settles (by_gate gate part_by_itself) n (p, g)) (settles (within_part database_by_itself now) n d)
+  told-settles zero d p g is = record { answers = refl; inserted = none; stands = is }
+  told-settles (suc n) d p g is =
+      subst (λ (e : RowPart). Turns d p g (goes_on (by_gate gate part_by_itself) (p, g) (settles (by_gate gate part_by_itself) n) (ready p))
+      (goes_on (within_part database_by_itself now) d (settles (within_part database_by_itself now) n) (ready e))) (sym (alike.part d p g is))
+      (told-goes_on (settles (by_gate gate part_by_itself) n) (settles (within_part database_by_itself now) n) (ready p) d p g is (told-settles n))
+
+  -- those that go on do the same
+  pub settling-told : (d : Database) (p : RowPart) (g : G) → related d p g
+      → SameTold gate related d p g (settling (by_gate gate part_by_itself) (p, g)) (settling (within_part database_by_itself now) d)
+  settling-told d p g is =
+      subst (λ (e : RowPart). Turns d p g (settling (by_gate gate part_by_itself) (p, g)) (settles (within_part database_by_itself now) (length e.waiting) d)) (sym (alike.part d p g is))
+      (told-settles (length p.waiting) d p g is)
+
+  -- also behind a turn that needs no gate, where all stands alike behind it
+  pub settling-behind : (d : Database) (turn : Turn) (p : RowPart) (g : G) → related (after_marks d turn.marks) p g
+      → SameTold gate related (after_marks d turn.marks) p g (settling (by_gate gate part_by_itself) (p, g))
+      (settling (within_part database_by_itself now) (behind_marks (within_part database_by_itself now) d turn.marks))
+  settling-behind d turn p g is =
+      subst (λ e. SameTold gate related (after_marks d turn.marks) p g (settling (by_gate gate part_by_itself) (p, g)) (settling (within_part database_by_itself now) e))
+      (sym (behind-all now d turn.marks)) (settling-told (after_marks d turn.marks) p g is)
+
+  -- so does a turn with those that it lets go on
+  pub with_settling-told : (d : Database) (p : RowPart) (g : G) (turn turn' : Turn) → SameTold gate related d p g turn turn'
+      → SameTold gate related d p g (with_settling (by_gate gate part_by_itself) (p, g) turn) (with_settling (within_part database_by_itself now) d turn')
+  with_settling-told d p g turn turn' same =
+      told-then d p g turn turn' (settling (by_gate gate part_by_itself)) (settling (within_part database_by_itself now)) same settling-told
+
+  -- and the same turn on both sides
+  pub same_turn-told : (d : Database) (p : RowPart) (g : G) (turn : Turn) → related (after_marks d turn.marks) (after_part_marks p turn.marks) (passed_all gate g turn.marks)
+      → SameTold gate related d p g (with_settling (by_gate gate part_by_itself) (p, g) turn) (with_settling (within_part database_by_itself now) d turn)
+  same_turn-told d p g turn is = with_settling-told d p g turn turn (record { answers = refl; inserted = inserted-same turn.marks; stands = is })
+
+  -- and a statement on rows
+  pub row_turn-told : (d : Database) (p : RowPart) (g : G) (who : ℕ) (stmt : RowStmt) → related d p g
+      → SameTold gate related d p g (row_turn (by_gate gate part_by_itself) (p, g) who stmt) (database_turn database_by_itself d now who (Row stmt))
+  row_turn-told d p g who stmt is =
+      let same = told-statement who stmt d p g is in
+      with_settling-told d p g (turn_of who (row_statement (by_gate gate part_by_itself) (p, g) who stmt)) (turn_of who (statement database_by_itself d now who (Row stmt)))
+      (record { answers = ap (λ reply. (who, reply) ∷ []) same.reply; inserted = same.inserted; stands = same.stands })
