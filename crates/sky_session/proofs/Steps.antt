@@ -1,5 +1,5 @@
 -- What a step gives, part by part.
-use Rattle.std.proofs.Common.{◌≡◌, ℕ, List, [], ◌∷◌, ◌++◌, Bool, true, false, Option, Some, None, Ok, Err, refl, sym, ◌∙◌, ap, subst, eq-eqb, if◌then◌else◌}
+use Rattle.std.proofs.Common.{◌≡◌, ℕ, List, [], ◌∷◌, ◌++◌, Bool, true, false, Option, Some, None, Result, Ok, Err, OnOk, refl, sym, ◌∙◌, ap, subst, eq-eqb, if◌then◌else◌}
 use Rattle.sky_model.specs.declared.reply.Reply.TheVariants.{Number, Refused}
 use Rattle.sky_model.specs.declared.reply.Refusal.{Refusal}
 use Rattle.sky_model.specs.declared.stmt.RowStmt.{RowStmt}
@@ -15,17 +15,24 @@ use Rattle.sky_model.specs.Made.{Making, takes_sight, runs, looking, runs_if}
 use Rattle.sky_model.specs.OwnTransaction.{own_or_next, txid_for, begin_of, commit_of, written}
 use Rattle.sky_model.specs.StepSession.{txid_current}
 use Rattle.sky_model.specs.Reader.{part_by_itself}
+use Rattle.sky_model.specs.Gates.{Gate, passed_all, gated, by_gate, open_gate}
 use Rattle.sky_model.specs.Calls.{row_form, row_making, row_statement, row_turn}
 use Rattle.sky_model.specs.Settling.{Turn, turn_of, behind_marks, settling, with_settling}
 use Rattle.sky_model.specs.RowSteps.{RowSteps}
-use Rattle.sky_model.proofs.RowStanding.{behind-after, row_steps_from_exact}
+use Rattle.sky_model.proofs.RowStanding.{row_steps_from_exact}
+use Rattle.sky_model.proofs.GatedLemmas.{gated-behind, passed-append, passed-abort, passed-none, gated-none, PlainOutcome, open-turn}
+use Rattle.sky_model.proofs.GatedStanding.{gated_steps_from_exact}
+use Rattle.sky_model.specs.GatedSteps.{GatedSteps}
 use Rattle.sky_session.specs.declared.answer.Answer.{Answer}
 use Rattle.sky_session.specs.declared.answer.RowStep.{RowStep}
 use Rattle.sky_session.specs.declared.effect.Effect.{Effect}
 use Rattle.sky_session.specs.declared.effect.Effect.TheVariants.{Wrote, Committed, Aborted}
 use Rattle.sky_session.specs.Effects.{op_of, effects_of}
+use Rattle.sky_session.specs.Views.{RowDbView}
+use Rattle.sky_model.specs.declared.stop.Stop.{Stop}
+use Rattle.sky_model.specs.declared.stop.Stop.TheVariants as stop
 use Rattle.sky_session.specs.Marks.{look_of}
-use Rattle.sky_session.specs.Gives.{GivesTurn, GivesOutcome, Adds, Does, Enters, sight_marks}
+use Rattle.sky_session.specs.Gives.{GivesTurn, GivesOutcome, Adds, Does, Ran, Passes, Enters, sight_marks}
 use Rattle.sky_model.specs.Stops.{Refuses}
 use Rattle.sky_model.specs.Outcome.{marks_of}
 
@@ -74,16 +81,25 @@ does-take d begun new who t effects is begin end told =
     blocks : (begun.session who).block ≡ (d.session who).block
     blocks = ap (λ (p : RowPart). (p.session who).block) begin ∙ begun-block d who t (d.session who).txid
 
+-- what holds holds where nothing fails, and so does what follows from that
+pub on-ok : {A E P : Type 0} (r : Result A E) → P → OnOk r P
+on-ok (Ok a) p = p
+on-ok (Err e) p = tt
+
+pub on-ok-weaker : {A E P Q : Type 0} (r : Result A E) → (P → Q) → OnOk r P → OnOk r Q
+on-ok-weaker (Ok a) f p = f p
+on-ok-weaker (Err e) f p = tt
+
 -- a statement may be made as far as its place in a block says, or not
 pub entered : (d mid : RowPart) (who : ℕ) (place there : Where) (found r : Option Refusal) → place ≡ there → found ≡ r → Enters d mid who place found → Enters d mid who there r
 entered d mid who place there found r same is enters = subst (λ p. Enters d mid who p r) same (subst (λ o. Enters d mid who place o) is enters)
 
 -- a statement that its session may not make is refused
-pub gives-barred : (d mid new : RowPart) (answer : Answer) (who : ℕ) (stmt : RowStmt) (refusal : Refusal) → allowed (is_waiting who d.waiting) (d.session who).block (where_of_row stmt) ≡ Err refusal
+pub gives-barred : {G : Type 0} (gate : Gate G) (g : G) (d mid new : RowPart) (answer : Answer) (who : ℕ) (stmt : RowStmt) (refusal : Refusal) → allowed (is_waiting who d.waiting) (d.session who).block (where_of_row stmt) ≡ Err refusal
     → mid ≡ d → GivesOutcome mid new answer (record { reply = Refused refusal; marks = abort who (mid.session who).block (mid.session who).txid refusal })
-    → GivesOutcome d new answer (row_statement part_by_itself d who stmt)
-gives-barred d mid new answer who stmt refusal is same gives =
-    subst (λ checked. GivesOutcome d new answer (runs_if (row_making part_by_itself who stmt) (where_of_row stmt) who d checked)) (sym is)
+    → GivesOutcome d new answer (row_statement (by_gate gate part_by_itself) (d, g) who stmt)
+gives-barred gate g d mid new answer who stmt refusal is same gives =
+    subst (λ checked. GivesOutcome d new answer (runs_if (row_making (by_gate gate part_by_itself) who stmt) (where_of_row stmt) who (d, g) checked)) (sym is)
     (subst (λ (p : RowPart). GivesOutcome p new answer (record { reply = Refused refusal; marks = abort who (p.session who).block (p.session who).txid refusal })) same gives)
 
 -- one that is refused where it is run aborts its session's block
@@ -93,6 +109,19 @@ pub gives-refused : (d mid new : RowPart) (answer : Answer) (who : ℕ) (refusal
 gives-refused d mid new answer who refusal checked refuses gives =
     subst (λ o. GivesOutcome d new answer (settled who (d.session who) o)) (sym refuses.refused)
     (subst (λ (p : RowPart). GivesOutcome p new answer (record { reply = Refused refusal; marks = abort who (p.session who).block (p.session who).txid refusal })) refuses.same gives)
+
+-- its gate is told of nothing
+pub passed-refused : {G : Type 0} (gate : Gate G) (g g' : G) (d mid : RowPart) (who : ℕ) (refusal : Refusal) (checked : Checked Outcome) → Refuses d mid refusal checked → g' ≡ g
+    → g' ≡ passed_all gate g (settled who (d.session who) checked).marks
+passed-refused gate g g' d mid who refusal checked refuses same =
+    same ∙ sym (ap (λ o. passed_all gate g (settled who (d.session who) o).marks) refuses.refused ∙ passed-abort gate g who (d.session who).block (d.session who).txid refusal)
+
+-- nor where its session may not make it
+pub passed-barred : {G : Type 0} (gate : Gate G) (g : G) (d : RowPart) (who : ℕ) (stmt : RowStmt) (refusal : Refusal) → allowed (is_waiting who d.waiting) (d.session who).block (where_of_row stmt) ≡ Err refusal
+    → g ≡ passed_all gate g (row_statement (by_gate gate part_by_itself) (d, g) who stmt).marks
+passed-barred gate g d who stmt refusal is =
+    sym (ap (λ checked. passed_all gate g (runs_if (row_making (by_gate gate part_by_itself) who stmt) (where_of_row stmt) who (d, g) checked).marks) is
+    ∙ passed-abort gate g who (d.session who).block (d.session who).txid refusal)
 
 -- and one that isn't refused does what its outcome says
 pub gives-done : (d new : RowPart) (who : ℕ) (answer : Answer) (checked : Checked Outcome) → Does d new answer checked → GivesOutcome d new answer (settled who (d.session who) checked)
@@ -106,23 +135,55 @@ gives-done d new who answer checked does = record {
     marks = ap (λ o. (settled who (d.session who) o).marks) (sym does.accepted)
 
 -- a statement that is made where its sight was taken in front
-pub gives-made : (d mid new : RowPart) (answer : Answer) (who : ℕ) (stmt : RowStmt) → allowed (is_waiting who d.waiting) (d.session who).block (where_of_row stmt) ≡ Ok tt
-    → mid ≡ after_part_marks d (sight_marks d who (where_of_row stmt)) → GivesOutcome mid new answer (settled who (mid.session who) (row_form mid (rows_by mid) who stmt))
-    → GivesOutcome d new answer (row_statement part_by_itself d who stmt)
-gives-made d mid new answer who stmt is look gives =
-    subst (λ checked. GivesOutcome d new answer (runs_if making (where_of_row stmt) who d checked)) (sym is)
+pub gives-made : {G : Type 0} (gate : Gate G) (g : G) (d mid new : RowPart) (answer : Answer) (who : ℕ) (stmt : RowStmt) → allowed (is_waiting who d.waiting) (d.session who).block (where_of_row stmt) ≡ Ok tt
+    → mid ≡ after_part_marks d (sight_marks d who (where_of_row stmt)) → GivesOutcome mid new answer (settled who (mid.session who) (gated gate g (row_form mid (rows_by mid) who stmt)))
+    → GivesOutcome d new answer (row_statement (by_gate gate part_by_itself) (d, g) who stmt)
+gives-made {G} gate g d mid new answer who stmt is look gives =
+    subst (λ checked. GivesOutcome d new answer (runs_if making (where_of_row stmt) who (d, g) checked)) (sym is)
     (by (takes_sight (where_of_row stmt) (d.session who).sight) look)
   where
-    making : Making RowPart
-    making = row_making part_by_itself who stmt
+    making : Making (RowPart × G)
+    making = row_making (by_gate gate part_by_itself) who stmt
 
     there : RowPart → Type 0
-    there p = GivesOutcome p new answer (runs making who p)
+    there p = GivesOutcome p new answer (runs making who (p, g))
 
     by : (b : Bool) → mid ≡ after_part_marks d (look_of who b)
-        → GivesOutcome d new answer (if b then looking who (runs making who (after_part d (looked who))) else runs making who d)
+        → GivesOutcome d new answer (if b then looking who (runs making who (after_part d (looked who), g)) else runs making who (d, g))
     by true e = let behind : there (after_part d (looked who)) = subst there e gives in record { replied = behind.replied; told = behind.told; changed = behind.changed }
     by false e = subst there e gives
+
+-- and its gate is told of what is done
+pub passed-made : {G : Type 0} (gate : Gate G) (g g' : G) (d mid : RowPart) (who : ℕ) (stmt : RowStmt) → allowed (is_waiting who d.waiting) (d.session who).block (where_of_row stmt) ≡ Ok tt
+    → mid ≡ after_part_marks d (sight_marks d who (where_of_row stmt)) → g' ≡ passed_all gate g (settled who (mid.session who) (gated gate g (row_form mid (rows_by mid) who stmt))).marks
+    → g' ≡ passed_all gate g (row_statement (by_gate gate part_by_itself) (d, g) who stmt).marks
+passed-made {G} gate g g' d mid who stmt is look told =
+    subst (λ checked. g' ≡ passed_all gate g (runs_if making (where_of_row stmt) who (d, g) checked).marks) (sym is)
+    (by (takes_sight (where_of_row stmt) (d.session who).sight) look)
+  where
+    making : Making (RowPart × G)
+    making = row_making (by_gate gate part_by_itself) who stmt
+
+    there : RowPart → Type 0
+    there p = g' ≡ passed_all gate g (runs making who (p, g)).marks
+
+    by : (b : Bool) → mid ≡ after_part_marks d (look_of who b)
+        → g' ≡ passed_all gate g (if b then looking who (runs making who (after_part d (looked who), g)) else runs making who (d, g)).marks
+    by true e = subst there e told
+    by false e = subst there e told
+
+-- what writes nothing is done as without the gate
+pub ran-plain : {G : Type 0} (gate : Gate G) (g : G) (old new : RowDbView) (result : Result Answer Stop) (checked : Checked Outcome) → PlainOutcome checked → Ran old new result checked → Ran old new result (gated gate g checked)
+ran-plain gate g old new result checked plain ran = subst (Ran old new result) (sym (gated-none gate g checked plain)) ran
+
+-- which is told of nothing
+pub passes-plain : {G : Type 0} (gate : Gate G) (g : G) (result : Result Answer Stop) (checked : Checked Outcome) → PlainOutcome checked → Passes gate g g result (gated gate g checked)
+passes-plain gate g result checked plain = subst (Passes gate g g result) (sym (gated-none gate g checked plain)) (of result)
+  where
+    of : (r : Result Answer Stop) → Passes gate g g r checked
+    of (Ok answer) = sym (passed-none gate g (marks_of checked) plain)
+    of (Err (stop.Refused refusal)) = refl
+    of (Err stop.NoMemory) = tt
 
 -- a statement that reads is made by a session that doesn't wait
 pub awake-made : (d mid : RowPart) (who : ℕ) (place : Where) → allowed (is_waiting who d.waiting) (d.session who).block place ≡ Ok tt → mid ≡ after_part_marks d (sight_marks d who place)
@@ -156,19 +217,28 @@ effects-append (tabled (waited who) ∷ xs) ys = effects-append xs ys
 effects-append (queued mark ∷ xs) ys = effects-append xs ys
 
 -- a turn, and those that it lets go on
-pub gives-settled : (d mid new : RowPart) (before after : RowStep) (turn : Turn) → GivesTurn d mid before turn → Adds mid new before after (settling part_by_itself mid)
-    → GivesTurn d new after (with_settling part_by_itself d turn)
-gives-settled d mid new before after turn gives adds = record {
-  replied = adds.replied ∙ ap (λ rs. rs ++ (settling part_by_itself mid).answers) gives.replied ∙ ap (λ p. turn.answers ++ (settling part_by_itself p).answers) behind;
-  told = adds.told ∙ ap (λ es. es ++ effects_of (settling part_by_itself mid).marks) gives.told ∙ ap (λ p. effects_of turn.marks ++ effects_of (settling part_by_itself p).marks) behind
-      ∙ sym (effects-append turn.marks (settling part_by_itself (behind_marks part_by_itself d turn.marks)).marks);
-  changed = adds.changed ∙ ap (λ p. after_part_marks mid (settling part_by_itself p).marks) behind
-      ∙ ap (λ p. after_part_marks p (settling part_by_itself (behind_marks part_by_itself d turn.marks)).marks) gives.changed
-      ∙ sym (after-append d turn.marks (settling part_by_itself (behind_marks part_by_itself d turn.marks)).marks);
+pub gives-settled : {G : Type 0} (gate : Gate G) (g g' : G) (d mid new : RowPart) (before after : RowStep) (turn : Turn) → GivesTurn d mid before turn → g' ≡ passed_all gate g turn.marks
+    → Adds mid new before after (settling (by_gate gate part_by_itself) (mid, g')) → GivesTurn d new after (with_settling (by_gate gate part_by_itself) (d, g) turn)
+gives-settled gate g g' d mid new before after turn gives told adds = record {
+  replied = adds.replied ∙ ap (λ rs. rs ++ (settling (by_gate gate part_by_itself) (mid, g')).answers) gives.replied ∙ ap (λ p. turn.answers ++ (settling (by_gate gate part_by_itself) p).answers) behind;
+  told = adds.told ∙ ap (λ es. es ++ effects_of (settling (by_gate gate part_by_itself) (mid, g')).marks) gives.told
+      ∙ ap (λ p. effects_of turn.marks ++ effects_of (settling (by_gate gate part_by_itself) p).marks) behind ∙ sym (effects-append turn.marks rest);
+  changed = adds.changed ∙ ap (λ p. after_part_marks mid (settling (by_gate gate part_by_itself) p).marks) behind ∙ ap (λ p. after_part_marks p rest) gives.changed ∙ sym (after-append d turn.marks rest);
 }
   where
-    behind : mid ≡ behind_marks part_by_itself d turn.marks
-    behind = gives.changed ∙ sym (behind-after d turn.marks)
+    behind : (mid, g') ≡ behind_marks (by_gate gate part_by_itself) (d, g) turn.marks
+    behind = (λ i. (gives.changed i, told i)) ∙ sym (gated-behind gate d g turn.marks)
+
+    rest : List Mark
+    rest = (settling (by_gate gate part_by_itself) (behind_marks (by_gate gate part_by_itself) (d, g) turn.marks)).marks
+
+-- and the gate has been told of both
+pub passed-settled : {G : Type 0} (gate : Gate G) (g g' last : G) (d mid : RowPart) (turn : Turn) → mid ≡ after_part_marks d turn.marks → g' ≡ passed_all gate g turn.marks
+    → last ≡ passed_all gate g' (settling (by_gate gate part_by_itself) (mid, g')).marks → last ≡ passed_all gate g (with_settling (by_gate gate part_by_itself) (d, g) turn).marks
+passed-settled gate g g' last d mid turn is told rest =
+    rest ∙ ap (λ p. passed_all gate g' (settling (by_gate gate part_by_itself) p).marks) ((λ i. (is i, told i)) ∙ sym (gated-behind gate d g turn.marks))
+    ∙ ap (λ x. passed_all gate x (settling (by_gate gate part_by_itself) (behind_marks (by_gate gate part_by_itself) (d, g) turn.marks)).marks) told
+    ∙ sym (passed-append gate g turn.marks (settling (by_gate gate part_by_itself) (behind_marks (by_gate gate part_by_itself) (d, g) turn.marks)).marks)
 
 -- an answer alone is a turn
 pub gives-turn : (d new : RowPart) (answer : Answer) (step : RowStep) (who : ℕ) (outcome : Outcome) → GivesOutcome d new answer outcome → step.replies ≡ (who, answer.reply) ∷ []
@@ -182,3 +252,14 @@ gives-turn d new answer step who outcome gives replied told = record {
 -- an exact step is a step at each place of a history that leaves the part as it was
 pub steps-exact : (d new : RowPart) (step : RowStep) (who : ℕ) (stmt : RowStmt) → GivesTurn d new step (row_turn part_by_itself d who stmt) → RowSteps d new who stmt step.replies
 steps-exact d new step who stmt gives = row_steps_from_exact d new who stmt step.replies gives.replied gives.changed
+
+-- behind a gate too
+pub gated-steps-exact : {G : Type 0} (gate : Gate G) (g g' : G) (d new : RowPart) (step : RowStep) (who : ℕ) (stmt : RowStmt) → GivesTurn d new step (row_turn (by_gate gate part_by_itself) (d, g) who stmt)
+    → g' ≡ passed_all gate g (row_turn (by_gate gate part_by_itself) (d, g) who stmt).marks → GatedSteps gate (d, g) (new, g') who stmt step.replies
+gated-steps-exact gate g g' d new step who stmt gives told =
+    gated_steps_from_exact gate (d, g) (new, g') who stmt step.replies gives.replied
+    ((λ i. (gives.changed i, told i)) ∙ sym (gated-behind gate d g (row_turn (by_gate gate part_by_itself) (d, g) who stmt).marks))
+
+-- one whose gate always has room is given without a gate
+pub gives-open : (d new : RowPart) (step : RowStep) (who : ℕ) (stmt : RowStmt) → GivesTurn d new step (row_turn (by_gate open_gate part_by_itself) (d, tt) who stmt) → GivesTurn d new step (row_turn part_by_itself d who stmt)
+gives-open d new step who stmt gives = subst (GivesTurn d new step) (open-turn d who stmt) gives

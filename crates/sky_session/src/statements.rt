@@ -16,6 +16,7 @@ ghost use Rattle.sky_model.specs.Reader.{part_by_itself};
 ghost use Rattle.sky_model.specs.Gates.{gated, by_gate, passed_all};
 ghost use Rattle.sky_model.specs.Settling.{ready};
 ghost use Rattle.sky_model.specs.RowSteps.{RowSteps};
+ghost use Rattle.sky_model.specs.GatedSteps.{GatedSteps};
 ghost use Rattle.sky_session.specs.Effects.{effects_of};
 ghost use Rattle.sky_session.specs.Gives.{GivesTurn, GivesOutcome, Ran, Passes};
 ghost use Rattle.sky_session.specs.Seen.{seen};
@@ -55,6 +56,7 @@ impl RowDb {
         ensures exact { IfOk result (λ step. GivesTurn (seen self.old) (seen self.new) step (row_turn (by_gate G.rule part_by_itself) (seen self.old, gate.old) who stmt.now)) }
         ensures passed { OnOk result (gate.new ≡ passed_all G.rule gate.old (row_turn (by_gate G.rule part_by_itself) (seen self.old, gate.old) who stmt.now).marks) }
         ensures rests { OnOk result (ready (seen self.new) ≡ None) }
+        ensures steps { IfOk result (λ step. GatedSteps G.rule (seen self.old, gate.old) (seen self.new, gate.new) who stmt.now step.replies) }
     {
         let answer = self.own_answer(who, stmt, gate)?;
         let replies = Replies::one(self.alloc, who, answer.reply)?;

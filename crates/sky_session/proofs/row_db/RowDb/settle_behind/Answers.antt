@@ -6,11 +6,11 @@ use Rattle.sky_session.proofs.LockLemmas.{remains-resumed, fewer-left}
 use Rattle.sky_session.proofs.row_db.RowDb.settle_behind.Goals as goal
 
 pub loop-who-smaller : goal.loop-who-smaller
-loop-who-smaller c =
-    fewer-left (seen c.loop-who.self) (seen c.resume.new.self) c.loop-who.step c.resume.new.step (entry c.in-Some.who c.in-Some.key)
-    (sym c.in_ok-who.ensures.found ∙ ap (option_map (λ f. entry f.0 f.1)) c.in-Some.is) c.in_ok-resume.ensures
+loop-who-smaller g c =
+    fewer-left g.G.WriteGate.rule c.loop-who.gate (seen c.loop-who.self) (seen c.resume.new.self) c.loop-who.step c.resume.new.step (entry c.in-Some.who c.in-Some.key)
+    (sym c.in_ok-who.ensures.found ∙ ap (option_map (λ f. entry f.0 f.1)) c.in-Some.is) c.in_ok-resume.ensures.adds
 
 pub loop-who-preserved : goal.loop-who-preserved
-loop-who-preserved c =
-    remains-resumed (seen c.args.self.now) (seen c.loop-who.self) (seen c.resume.new.self) c.args.step.now c.loop-who.step c.resume.new.step (entry c.in-Some.who c.in-Some.key)
-    (sym c.in_ok-who.ensures.found ∙ ap (option_map (λ f. entry f.0 f.1)) c.in-Some.is) c.in_ok-resume.ensures c.loop-who.invariant
+loop-who-preserved g c =
+    remains-resumed g.G.WriteGate.rule c.args.gate.now c.loop-who.gate c.resume.new.gate (seen c.args.self.now) (seen c.loop-who.self) (seen c.resume.new.self) c.args.step.now c.loop-who.step c.resume.new.step (entry c.in-Some.who c.in-Some.key)
+    (sym c.in_ok-who.ensures.found ∙ ap (option_map (λ f. entry f.0 f.1)) c.in-Some.is) c.in_ok-resume.ensures.adds c.in_ok-resume.ensures.passed c.loop-who.invariant

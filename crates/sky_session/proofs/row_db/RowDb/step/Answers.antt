@@ -1,22 +1,10 @@
--- The statement's own turn, and then those that it lets go on.
-use Rattle.std.proofs.Common.{refl}
-use Rattle.sky_model.specs.Settling.{turn_of}
-use Rattle.sky_model.specs.Reader.{part_by_itself}
-use Rattle.sky_model.specs.Calls.{row_statement}
-use Rattle.sky_session.specs.declared.answer.RowStep.{RowStep}
+-- The same as with a gate that always has room.
 use Rattle.sky_session.specs.Seen.{seen}
-use Rattle.sky_session.proofs.Steps.{gives-turn, gives-settled, steps-exact}
+use Rattle.sky_session.proofs.Steps.{gives-open, steps-exact}
 use Rattle.sky_session.proofs.row_db.RowDb.step.Goals as goal
 
 pub returns-clause-exact : goal.returns-clause-exact
-returns-clause-exact c =
-    let d = seen c.args.self.now in
-    let before : RowStep = record { replies = c.in_ok-replies.replies; effects = c.in_ok-answer.answer.effects } in
-    let outcome = row_statement part_by_itself d c.args.who c.args.stmt.now in
-    gives-settled d (seen c.own_answer.new.self) (seen c.settle_behind.new.self) before c.settle_behind.new.step (turn_of c.args.who outcome)
-    (gives-turn d (seen c.own_answer.new.self) c.in_ok-answer.answer before c.args.who outcome c.in_ok-answer.ensures
-    c.in_ok-replies.ensures refl)
-    c.in_ok-settle_behind.ensures.adds
+returns-clause-exact c = gives-open (seen c.args.self.now) (seen c.step_with.new.self) c.in_ok-step.step c.args.who c.args.stmt.now c.in_ok-step.ensures.exact
 
 pub returns-clause-steps : goal.returns-clause-steps
-returns-clause-steps c = steps-exact (seen c.args.self.now) (seen c.settle_behind.new.self) c.settle_behind.new.step c.args.who c.args.stmt.now (returns-clause-exact c)
+returns-clause-steps c = steps-exact (seen c.args.self.now) (seen c.step_with.new.self) c.in_ok-step.step c.args.who c.args.stmt.now (returns-clause-exact c)

@@ -1,0 +1,25 @@
+-- A read writes nothing, so no gate is asked.
+use Rattle.std.proofs.Common.{sym, subst}
+use Rattle.sky_model.specs.ShownRows.{rows_by}
+use Rattle.sky_model.specs.Gates.{gated}
+use Rattle.sky_model.specs.StepRows.{get}
+use Rattle.sky_model.specs.Calls.{row_form}
+use Rattle.sky_model.proofs.GatedLemmas.{plain-get}
+use Rattle.sky_session.specs.Gives.{Ran, Passes}
+use Rattle.sky_session.specs.Seen.{seen}
+use Rattle.sky_session.proofs.Steps.{ran-plain, passes-plain}
+use Rattle.sky_session.proofs.row_db.RowDb.run_form.Goals as goal
+
+pub returns-in-Get-clause-ran : goal.returns-in-Get-clause-ran
+returns-in-Get-clause-ran g c =
+    let d = seen c.args.self.now in
+    subst (λ stmt. Ran c.args.self.now c.args.self.now c.get.result (gated g.G.WriteGate.rule c.args.gate.now (row_form d (rows_by d) c.args.who stmt))) (sym c.in-Get.is)
+    (ran-plain g.G.WriteGate.rule c.args.gate.now c.args.self.now c.args.self.now c.get.result (get d (rows_by d) c.args.who c.in-Get.table c.in-Get.key)
+    (plain-get d (rows_by d) c.args.who c.in-Get.table c.in-Get.key) c.get.ensures)
+
+pub returns-in-Get-clause-passes : goal.returns-in-Get-clause-passes
+returns-in-Get-clause-passes g c =
+    let d = seen c.args.self.now in
+    subst (λ stmt. Passes g.G.WriteGate.rule c.args.gate.now c.args.gate.now c.get.result (gated g.G.WriteGate.rule c.args.gate.now (row_form d (rows_by d) c.args.who stmt))) (sym c.in-Get.is)
+    (passes-plain g.G.WriteGate.rule c.args.gate.now c.get.result (get d (rows_by d) c.args.who c.in-Get.table c.in-Get.key)
+    (plain-get d (rows_by d) c.args.who c.in-Get.table c.in-Get.key))
