@@ -216,6 +216,7 @@ own-row d shown who (Get name key) =
     found who (place_of name d.tables) (NoTable name) _ (λ table. by_option who (option_map (bad_values (key_columns (d.columns table))) (row_fault (key_columns (d.columns table)) key)) _
     (own-row_or_none who (shown.key who table key).row))
 own-row d shown who (Scan name) = found who (place_of name d.tables) (NoTable name) _ (λ table. tt)
+
 -- what is told of writes begins no wait
 abbrev OwnMarks : ℕ → Checked (List Mark) → Type 0
 OwnMarks who (Ok marks) = OwnWaits who marks

@@ -10,9 +10,17 @@ use Rattle.pgq_db.proofs.db.Db.roll_back.Goals as goal
 
 pub invariant_of-self : goal.invariant_of-self
 invariant_of-self c =
-    let old = seen c.self.inside.rows in
-    (c.self.invariant.0, (c.self.invariant.1.0, (c.self.invariant.1.1.0, λ e.
-    tables-then old (seen c.roll_back.new.self) (failure c.args.who (old.session c.args.who).txid (old.session c.args.who).block) c.self.inside.traced.entries c.in-Ok.ensures.marks (c.self.invariant.1.1.1 e))))
+    let old = seen c.self.inside.rows in (
+      c.self.invariant.0,
+      (
+        c.self.invariant.1.0,
+        (
+          c.self.invariant.1.1.0,
+          λ e.
+              tables-then old (seen c.roll_back.new.self) (failure c.args.who (old.session c.args.who).txid (old.session c.args.who).block) c.self.inside.traced.entries c.in-Ok.ensures.marks (c.self.invariant.1.1.1 e),
+        ),
+      ),
+    )
 
 pub returns-in_ok-undo_aborted-in-Ok : goal.returns-in_ok-undo_aborted-in-Ok
 returns-in_ok-undo_aborted-in-Ok c =

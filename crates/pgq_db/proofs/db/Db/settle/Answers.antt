@@ -18,9 +18,17 @@ use Rattle.pgq_db.proofs.db.Db.settle.Goals as goal
 
 pub invariant_of-self : goal.invariant_of-self
 invariant_of-self c =
-    let turn : Turn = settling (by_gate event_rule part_by_itself) (seen c.self.inside.rows, c.new-gate.result) in
-    (c.self.invariant.0, (c.self.invariant.1.0, (c.self.invariant.1.1.0, λ e.
-    tables-then (seen c.self.inside.rows) (seen c.settle_with.new.self) turn.marks c.self.inside.traced.entries c.in-Ok.ensures.gives.changed (c.self.invariant.1.1.1 e))))
+    let turn : Turn = settling (by_gate event_rule part_by_itself) (seen c.self.inside.rows, c.new-gate.result) in (
+      c.self.invariant.0,
+      (
+        c.self.invariant.1.0,
+        (
+          c.self.invariant.1.1.0,
+          λ e.
+              tables-then (seen c.self.inside.rows) (seen c.settle_with.new.self) turn.marks c.self.inside.traced.entries c.in-Ok.ensures.gives.changed (c.self.invariant.1.1.1 e),
+        ),
+      ),
+    )
 
 pub note_all-requires : goal.note_all-requires
 note_all-requires c =
@@ -45,9 +53,9 @@ returns-in_ok-note_all-in-Ok-clause-gives c =
     c.new-gate.ensures ∙ (λ i. record { now = to_z-of_z w64 c.args.now c.ranges.now i; traced = c.self.inside.traced.entries; queues = c.as_slice.ensures.value i; told = [] }) in
     subst (λ (v : DbView). Gives (seen_database v) (seen_database c.note_all.new.self) c.in-Ok.step.replies (settling (within_part database_by_itself c.args.now) (seen_database v))) c.self.view_is
     (gives-settle c.args.now c.self.inside.traced.entries c.self.inside.queues.items (seen_database was) (seen_database (record was { rows = c.settle_with.new.self })) (seen_database c.note_all.new.self)
-    c.new-gate.result c.settle_with.new.gate  c.in-Ok.step c.into_told-told.result.items
+    c.new-gate.result c.settle_with.new.gate c.in-Ok.step c.into_told-told.result.items
     (alike-new c.args.now c.self.inside.traced.entries c.self.inside.queues.items (seen_database was) c.new-gate.result set_up refl refl (c.self.invariant.1.1.1 c.if-self.false))
     c.in-Ok.ensures.gives refl c.in-Ok.ensures.passed c.into_told-told.ensures.told refl c.in_ok-note_all-in-Ok.ensures.stored)
 
 pub returns-in_ok-note_all-in-Ok-clause-moments : goal.returns-in_ok-note_all-in-Ok-clause-moments
-returns-in_ok-note_all-in-Ok-clause-moments c = same-moments _ _ c.in-Ok.ensures.gives.replied (settle-moments (seen c.self.inside.rows) c.new-gate.result )
+returns-in_ok-note_all-in-Ok-clause-moments c = same-moments _ _ c.in-Ok.ensures.gives.replied (settle-moments (seen c.self.inside.rows) c.new-gate.result)

@@ -18,9 +18,17 @@ use Rattle.pgq_db.proofs.db.Db.step_rows.Goals as goal
 
 pub invariant_of-self : goal.invariant_of-self
 invariant_of-self c =
-    let turn : Turn = row_turn (by_gate event_rule part_by_itself) (seen c.self.inside.rows, c.new-gate.result) c.args.who c.args.stmt.now in
-    (c.self.invariant.0, (c.self.invariant.1.0, (c.self.invariant.1.1.0, λ e.
-    tables-then (seen c.self.inside.rows) (seen c.step_with.new.self) turn.marks c.self.inside.traced.entries c.in-Ok.ensures.exact.changed (c.self.invariant.1.1.1 e))))
+    let turn : Turn = row_turn (by_gate event_rule part_by_itself) (seen c.self.inside.rows, c.new-gate.result) c.args.who c.args.stmt.now in (
+      c.self.invariant.0,
+      (
+        c.self.invariant.1.0,
+        (
+          c.self.invariant.1.1.0,
+          λ e.
+              tables-then (seen c.self.inside.rows) (seen c.step_with.new.self) turn.marks c.self.inside.traced.entries c.in-Ok.ensures.exact.changed (c.self.invariant.1.1.1 e),
+        ),
+      ),
+    )
 
 pub note_all-requires : goal.note_all-requires
 note_all-requires c =

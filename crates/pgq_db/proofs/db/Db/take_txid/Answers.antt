@@ -29,7 +29,15 @@ returns-in-Ok-clause-marks c =
 pub invariant_of-self : goal.invariant_of-self
 invariant_of-self c =
     let old = seen c.self.inside.rows in
-    let taken = seen c.take_txid.new.self in
-    (c.self.invariant.0, (c.self.invariant.1.0, (c.self.invariant.1.1.0, λ e.
-    tables-then taken (seen c.end_single.new.self) (single_end c.args.who (taken.session c.args.who).txid (taken.session c.args.who).block) c.self.inside.traced.entries c.end_single.ensures
-    (tables-then old taken (begin_of c.args.who c.in-Ok.txid (old.session c.args.who).txid) c.self.inside.traced.entries c.in-Ok.ensures.marks (c.self.invariant.1.1.1 e)))))
+    let taken = seen c.take_txid.new.self in (
+      c.self.invariant.0,
+      (
+        c.self.invariant.1.0,
+        (
+          c.self.invariant.1.1.0,
+          λ e.
+              tables-then taken (seen c.end_single.new.self) (single_end c.args.who (taken.session c.args.who).txid (taken.session c.args.who).block) c.self.inside.traced.entries c.end_single.ensures
+              (tables-then old taken (begin_of c.args.who c.in-Ok.txid (old.session c.args.who).txid) c.self.inside.traced.entries c.in-Ok.ensures.marks (c.self.invariant.1.1.1 e)),
+        ),
+      ),
+    )
