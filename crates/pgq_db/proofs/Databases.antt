@@ -12,22 +12,25 @@ use Rattle.sky_val.specs.declared.event.Event.{Event}
 use Rattle.sky_names.specs.Places.{place_of}
 use Rattle.sky_model.specs.declared.stmt.Extra.{Extra}
 use Rattle.sky_model.specs.declared.reply.Reply.{Reply}
-use Rattle.sky_model.specs.declared.reply.Reply.TheVariants.{Number, Events, Refused}
-use Rattle.sky_model.specs.declared.reply.Limit.TheVariants.{Queues}
+use Rattle.std.specs.Prelude.{find, not}
+use Rattle.sky_model.specs.ShownRows.{least_writer}
+use Rattle.sky_model.specs.StepTrigger.{has_trigger, may_ignore, add_trigger}
+use Rattle.sky_model.specs.declared.reply.Reply.TheVariants.{Done, Number, Events, Refused}
+use Rattle.sky_model.specs.declared.reply.Limit.TheVariants.{Queues, Triggers}
 use Rattle.sky_model.specs.declared.reply.Refusal.{Refusal}
-use Rattle.sky_model.specs.declared.reply.Refusal.TheVariants.{TooMany, NoBatch, EventIdsSpent}
+use Rattle.sky_model.specs.declared.reply.Refusal.TheVariants.{BadColumn, NoTable, TableBusy, TooMany, TriggerExists, NoBatch, EventIdsSpent}
 use Rattle.sky_model.specs.Moment.{HasMoment}
 use Rattle.sky_model.specs.Printed.{EventsHaveMoments}
 use Rattle.sky_model.specs.declared.stmt.Stmt.{Stmt}
 use Rattle.sky_model.specs.declared.stmt.Where.{Where}
-use Rattle.sky_model.specs.History.{Mark, began, ended, block_begun, repeats, looked, block_failed, block_ended, tabled, table_made, wrote, waits, waited, queued, made, raised, put, ticked, opened}
+use Rattle.sky_model.specs.History.{Mark, began, ended, block_begun, repeats, looked, block_failed, block_ended, tabled, table_made, wrote, waits, waited, queued, made, raised, put, ticked, opened, traced}
 use Rattle.sky_model.specs.Sessions.{Block, outside, inside, failed}
 use Rattle.sky_model.specs.Queues.{Tick, tick}
 use Rattle.sky_model.specs.Selection.{snapshot_at, is_selected, selected_in, selected}
 use Rattle.sky_model.specs.StepConsumer.{finish_batch, finishes, get_batch_events}
 use Rattle.sky_model.specs.State.{Queue, with_txid, RowPart, after_part_marks, Database, changed_at, changed_for, with_batch, at_position, after_mark, after_marks}
 use Rattle.sky_model.specs.ShownRows.{snapshot_now}
-use Rattle.sky_model.specs.Outcome.{Outcome, Checked, ◌>>=◌, ◌>>◌, refused_if, found_or, answers, does_marks, end_of, aborts, abort, settled}
+use Rattle.sky_model.specs.Outcome.{Outcome, Checked, ◌>>=◌, ◌>>◌, refused_if, refused_by, found_or, answers, does_marks, end_of, aborts, abort, settled}
 use Rattle.sky_model.specs.OwnTransaction.{own_or_next, txid_for, begin_of, commit_of, written}
 use Rattle.sky_model.specs.StepQueue.{create_queue, insert_event, queue_called, next_event_id, made_event}
 use Rattle.sky_model.specs.Allowed.{where_of}
@@ -36,14 +39,13 @@ use Rattle.sky_model.specs.Reader.{database_by_itself, within_part, shown_by}
 use Rattle.sky_model.specs.Settling.{Turn, turn_of, behind_marks, settling, with_settling}
 use Rattle.sky_model.specs.Calls.{form, making, statement, database_turn}
 use Rattle.sky_model.specs.DatabaseSteps.{DatabaseSteps}
-use Rattle.sky_model.proofs.RowOutcomes.{RowMarks, TurnOfRows}
+use Rattle.sky_model.proofs.RowOutcomes.{RowMarks}
 use Rattle.sky_model.proofs.DatabaseStanding.{after_marks-append, behind-all, database_steps_from_exact}
-use Rattle.sky_session.specs.declared.answer.RowStep.{RowStep}
 use Rattle.sky_session.specs.Effects.{effects_of}
 use Rattle.sky_session.specs.declared.effect.Effect.{Effect}
 use Rattle.sky_session.specs.declared.effect.Effect.TheVariants.{Wrote, Committed, Aborted}
 use Rattle.sky_session.specs.Marks.{look_of, single_end, failure}
-use Rattle.sky_session.specs.Gives.{GivesTurn, Enters}
+use Rattle.sky_session.specs.Gives.{Enters}
 use Rattle.sky_session.specs.Views.{RowDbView}
 use Rattle.sky_session.specs.Seen.{seen}
 use Rattle.pgq_db.specs.declared.batch.Batch.{Batch}
@@ -86,6 +88,14 @@ batches-remove old new id updates = λ i n. pointwise n i
     pointwise : (n : ℕ) → option_map (seen_batch n) (lookup (is_at (nat_cmp n)) new)
         ≡ (if id == n then None else option_map (seen_batch n) (lookup (is_at (nat_cmp n)) old))
     pointwise n = ap (option_map (seen_batch n)) (updates n ∙ ap (λ b. cond b None (lookup (is_at (nat_cmp n)) old)) (is_at-nat id n)) ∙ by n (id == n)
+
+-- a batch that is noted as the last
+pub batch-noted : (v now : DbView) (more : List (ℕ × Batch)) (id : ℕ) (batch : Batch) → v ≡ now
+    → ((q : ℕ) → lookup (is_at (nat_cmp q)) more ≡ cond (is_at (nat_cmp id) q) (Some batch) (lookup (is_at (nat_cmp q)) v.batches))
+    → seen_database (record v { last_batch_id = id; batches = more }) ≡ record (seen_database now) { last_batch_id = id; batch = changed_at id (λ _. Some (seen_batch id batch)) (seen_database now).batch }
+batch-noted v now more id batch same updates =
+    (λ i. record (seen_database v) { last_batch_id = id; batch = batches-insert v.batches more id batch updates i })
+    ∙ ap (λ (w : DbView). record (seen_database w) { last_batch_id = id; batch = changed_at id (λ _. Some (seen_batch id batch)) (seen_database w).batch }) same
 
 past_end : {A : Type 0} (xs : List A) (d : A) (i : ℕ) → length xs ≤ i → get_or xs i d ≡ d
 past_end [] d i le = refl
@@ -369,20 +379,12 @@ after-row_marks d (tabled (waited who) ∷ marks) rows = after-row_marks (after_
 after-row_marks d (queued mark ∷ marks) rows = absurd rows
 
 -- marks of rows, with those noted that were rolled back
-noted-as : (d s1 s2 : Database) (marks : List Mark) (effects : List Effect) → RowMarks marks → s1.part ≡ after_part_marks d.part marks → effects ≡ effects_of marks
+pub noted-as : (d s1 s2 : Database) (marks : List Mark) (effects : List Effect) → RowMarks marks → s1.part ≡ after_part_marks d.part marks → effects ≡ effects_of marks
     → s1 ≡ record d { part = s1.part } → s2 ≡ record s1 { undone = undone_by effects s1.undone } → s2 ≡ after_marks d marks
 noted-as d s1 s2 marks effects rows changed told but noted =
     noted ∙ (λ i. record (but i) { undone = undone_by (told i) (but i).undone })
     ∙ ap (λ part. record d { part = part; undone = undone_by (effects_of marks) d.undone }) changed
     ∙ sym (after-row_marks d marks rows)
-
--- what a turn on rows gives
-pub gives-rows : (d s1 s2 : Database) (turn : Turn) (step : RowStep) → TurnOfRows turn → GivesTurn d.part s1.part step turn
-    → s1 ≡ record d { part = s1.part } → s2 ≡ record s1 { undone = undone_by step.effects s1.undone } → Gives d s2 step.replies turn
-gives-rows d s1 s2 turn step rows gives but noted = record {
-  replied = gives.replied;
-  changed = noted-as d s1 s2 turn.marks step.effects rows.marks gives.changed gives.told but noted;
-}
 
 -- and a block that is aborted
 failure-rows : (who : ℕ) (txid : Option ℕ) (b : Block) → RowMarks (failure who txid b)
@@ -400,7 +402,7 @@ failed-as d s1 s2 who effects =
     noted-as d s1 s2 (failure who (d.part.session who).txid (d.part.session who).block) effects (failure-rows who (d.part.session who).txid (d.part.session who).block)
 
 -- the rest of a list from a place on begins with what stands there
-drop-at : {A : Type 0} (xs : List A) (i : ℕ) (x d : A) → i < length xs → x ≡ get_or xs i d → drop i xs ≡ x ∷ drop (suc i) xs
+pub drop-at : {A : Type 0} (xs : List A) (i : ℕ) (x d : A) → i < length xs → x ≡ get_or xs i d → drop i xs ≡ x ∷ drop (suc i) xs
 drop-at [] i x d lt is = absurd (omega arith)
 drop-at (y ∷ ys) zero x d lt is = ap (λ z. z ∷ ys) (sym is)
 drop-at (y ∷ ys) (suc i) x d lt is = drop-at ys i x d (omega arith) is
@@ -496,30 +498,30 @@ replies-refused d s1 s2 who refusal reply checked refuses replied is =
     })
 
 -- what was done, and then what is done by the statements that go on
-pub gives-then : (d s1 s2 : Database) (turn : Turn) (own resumed all : List (ℕ × Reply)) → own ≡ turn.answers → s1 ≡ after_marks d turn.marks
-    → Gives s1 s2 resumed (settling (within_part database_by_itself) s1) → all ≡ own ++ resumed
-    → Gives d s2 all (with_settling (within_part database_by_itself) d turn)
-gives-then d s1 s2 turn own resumed all one marks later is = record {
+pub gives-then : (now : ℤ) (d s1 s2 : Database) (turn : Turn) (own resumed all : List (ℕ × Reply)) → own ≡ turn.answers → s1 ≡ after_marks d turn.marks
+    → Gives s1 s2 resumed (settling (within_part database_by_itself now) s1) → all ≡ own ++ resumed
+    → Gives d s2 all (with_settling (within_part database_by_itself now) d turn)
+gives-then now d s1 s2 turn own resumed all one marks later is = record {
   replied = is ∙ ap (λ xs. xs ++ resumed) one
-      ∙ ap (λ xs. turn.answers ++ xs) (later.replied ∙ ap (λ x. (settling (within_part database_by_itself) x).answers) there);
+      ∙ ap (λ xs. turn.answers ++ xs) (later.replied ∙ ap (λ x. (settling (within_part database_by_itself now) x).answers) there);
   changed = later.changed
-      ∙ ap (λ x. after_marks x (settling (within_part database_by_itself) x).marks) there
-      ∙ ap (λ x. after_marks x (settling (within_part database_by_itself) place).marks) (behind-all d turn.marks)
-      ∙ sym (after_marks-append d turn.marks (settling (within_part database_by_itself) place).marks);
+      ∙ ap (λ x. after_marks x (settling (within_part database_by_itself now) x).marks) there
+      ∙ ap (λ x. after_marks x (settling (within_part database_by_itself now) place).marks) (behind-all now d turn.marks)
+      ∙ sym (after_marks-append d turn.marks (settling (within_part database_by_itself now) place).marks);
 }
   where
     place : Database
-    place = behind_marks (within_part database_by_itself) d turn.marks
+    place = behind_marks (within_part database_by_itself now) d turn.marks
 
     there : s1 ≡ place
-    there = marks ∙ sym (behind-all d turn.marks)
+    there = marks ∙ sym (behind-all now d turn.marks)
 
 -- a reply of its own, and then those of the statements that go on
-pub gives-settled : (d s1 s2 : Database) (who : ℕ) (reply : Reply) (own resumed all : List (ℕ × Reply)) (outcome : Outcome) → GivesReply d s1 reply outcome
-    → own ≡ (who, reply) ∷ [] → Gives s1 s2 resumed (settling (within_part database_by_itself) s1) → all ≡ own ++ resumed
-    → Gives d s2 all (with_settling (within_part database_by_itself) d (turn_of who outcome))
-gives-settled d s1 s2 who reply own resumed all outcome gives one =
-    gives-then d s1 s2 (turn_of who outcome) own resumed all (one ∙ ap (λ r. (who, r) ∷ []) gives.replied) gives.changed
+pub gives-settled : (now : ℤ) (d s1 s2 : Database) (who : ℕ) (reply : Reply) (own resumed all : List (ℕ × Reply)) (outcome : Outcome) → GivesReply d s1 reply outcome
+    → own ≡ (who, reply) ∷ [] → Gives s1 s2 resumed (settling (within_part database_by_itself now) s1) → all ≡ own ++ resumed
+    → Gives d s2 all (with_settling (within_part database_by_itself now) d (turn_of who outcome))
+gives-settled now d s1 s2 who reply own resumed all outcome gives one =
+    gives-then now d s1 s2 (turn_of who outcome) own resumed all (one ∙ ap (λ r. (who, r) ∷ []) gives.replied) gives.changed
 
 -- ids that are spent keep an event from being made
 pub spent-events : (d : Database) (now : ℤ) (who : ℕ) (name : List ℕ) (ev_type ev_data : Option (List ℕ)) (extra : Option Extra) (q seq : ℕ) → queue_called name d ≡ Ok q
@@ -585,3 +587,19 @@ pub steps-given : (d s : Database) (time now : ℤ) (who : ℕ) (stmt : Stmt) (r
     → Gives d s replies (database_turn database_by_itself d time who stmt) → DatabaseSteps d s now who stmt replies
 steps-given d s time now who stmt replies at gives =
     subst (λ t. DatabaseSteps d s t who stmt replies) at (database_steps_from_exact d s time who stmt replies gives.replied gives.changed)
+
+-- a trigger that is to ignore a column that it may not
+pub bad-column : (d : Database) (name table queue : List ℕ) (backup : Bool) (ignored : List (List ℕ)) (n q : ℕ) (column : List ℕ) → place_of table d.part.tables ≡ Some n → queue_called queue d ≡ Ok q
+    → has_trigger name (d.triggers n) ≡ false → length (d.triggers n) < 8 → find (λ x. not (may_ignore (d.part.columns n) x)) ignored ≡ Some column
+    → add_trigger d name table queue backup ignored ≡ Err (BadColumn column)
+bad-column d name table queue backup ignored n q column there known new few bad =
+    ap (λ o. found_or o (NoTable table) >>= (λ t. queue_called queue d >>= (λ x. rest t x (has_trigger name (d.triggers t)) (nat_le 8 (length (d.triggers t))) (find (λ y. not (may_ignore (d.part.columns t) y)) ignored)))) there
+    ∙ ap (λ c. c >>= (λ x. rest n x (has_trigger name (d.triggers n)) (nat_le 8 (length (d.triggers n))) (find (λ y. not (may_ignore (d.part.columns n) y)) ignored))) known
+    ∙ (λ i. rest n q (new i) (free i) (bad i))
+  where
+    rest : ℕ → ℕ → Bool → Bool → Option (List ℕ) → Checked Outcome
+    rest t x has full found = refused_if has (TriggerExists name) >> (refused_if full (TooMany Triggers) >> (refused_by (option_map BadColumn found) >> (refused_by (option_map TableBusy (least_writer d.part t))
+        >> does_marks Done (queued (traced t name (record { queue = x; backup = backup; ignored = ignored })) ∷ []))))
+
+    free : nat_le 8 (length (d.triggers n)) ≡ false
+    free = grind (arith, nat_tests)

@@ -4,3 +4,6 @@ pub mod Databases
 pub mod Moments
 pub mod Empty
 pub mod Waiters
+pub mod Telling
+pub mod EventsAlike
+pub mod TracedLists

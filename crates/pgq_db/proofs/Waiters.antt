@@ -11,20 +11,24 @@ use Rattle.sky_txid.specs.SnapshotText.{parse_snapshot}
 use Rattle.sky_model.specs.declared.stmt.Attempt.{Attempt}
 use Rattle.sky_model.specs.declared.stmt.Attempt.TheVariants.{Insertion, Changes, Deletion}
 use Rattle.sky_model.specs.declared.stmt.Set.{Set}
+use Rattle.sky_model.specs.declared.stmt.RowStmt.{RowStmt}
 use Rattle.sky_model.specs.declared.stmt.RowStmt.TheVariants.{OpenDb, Close, Cancel, Begin, BeginRepeatableRead, Commit, Rollback, TxidCurrent, TxidCurrentSnapshot, TxidVisibleInSnapshot, CreateTable, Insert, Update, Delete, Get, Scan}
 use Rattle.sky_model.specs.declared.stmt.Stmt.{Stmt}
-use Rattle.sky_model.specs.declared.stmt.Stmt.TheVariants.{Row, CreateQueue, InsertEvent, Ticker, ForceTick, RegisterConsumer, NextBatch, GetBatchEvents, FinishBatch}
+use Rattle.sky_model.specs.declared.stmt.Stmt.TheVariants.{Row, CreateQueue, InsertEvent, Ticker, ForceTick, RegisterConsumer, NextBatch, GetBatchEvents, FinishBatch, AddTrigger}
 use Rattle.sky_model.specs.declared.reply.Reply.{Reply}
-use Rattle.sky_model.specs.declared.reply.Limit.TheVariants.{Tables, Queues, Consumers}
+use Rattle.sky_model.specs.declared.reply.Limit.TheVariants.{Tables, Queues, Consumers, Triggers}
 use Rattle.sky_model.specs.declared.reply.Refusal.{Refusal}
-use Rattle.sky_model.specs.declared.reply.Refusal.TheVariants.{BadRow, BadSnapshot, Canceled, Deadlock, Duplicate, EventIdsSpent, IdsSpent, KeyChange, NoBatch, NoConsumer, NodeConsumer, NoQueue, NoTable, Serialize, TableExists, TooMany}
-use Rattle.sky_model.specs.History.{Batch, Mark, began, ended, block_begun, repeats, looked, block_failed, block_ended, tabled, table_made, wrote, waits, waited, queued, made, raised, put, ticked, registered, opened, closed}
+use Rattle.sky_model.specs.declared.reply.Refusal.TheVariants.{BadColumn, BadRow, BadSnapshot, Canceled, Deadlock, Duplicate, EventIdsSpent, IdsSpent, KeyChange, NoBatch, NoConsumer, NodeConsumer, NoQueue, NoTable, Serialize, TableBusy, TableExists, TooMany, TriggerExists}
+use Rattle.sky_model.specs.History.{Batch, Mark, began, ended, block_begun, repeats, looked, block_failed, block_ended, tabled, table_made, wrote, waits, waited, queued, made, raised, put, ticked, registered, opened, closed, traced}
 use Rattle.sky_model.specs.Consumers.{Subscription}
 use Rattle.sky_model.specs.Queues.{Tick, tick}
 use Rattle.sky_model.specs.Sessions.{Block, outside, inside, failed, Session}
 use Rattle.sky_model.specs.State.{RowPart, Database, after_mark, after_marks}
-use Rattle.sky_model.specs.ShownRows.{KeyShown}
-use Rattle.sky_model.specs.Outcome.{Outcome, Checked, ◌>>=◌, ◌>>◌, refused_if, found_or, refused_by, end_of, aborts, abort, settled}
+use Rattle.sky_model.specs.ShownRows.{KeyShown, RowsShown, least_writer}
+use Rattle.sky_model.specs.StepTrigger.{has_trigger, may_ignore}
+use Rattle.sky_model.specs.Telling.{events_in, told_event, event_marks, told_by, told_of, with_told, tells}
+use Rattle.sky_urlenc.specs.RowEvents.{RowEvent}
+use Rattle.sky_model.specs.Outcome.{Outcome, Checked, ◌>>=◌, ◌>>◌, refused_if, found_or, refused_by, does_marks, end_of, aborts, abort, settled}
 use Rattle.sky_model.specs.OwnTransaction.{txid_for, begin_of, commit_of}
 use Rattle.sky_model.specs.StepLocks.{ring, once_free}
 use Rattle.sky_model.specs.StepRows.{schema_refusal, bad_values, bad_sets, is_key_change, with_sets, writes_key, changes, some_row, attempts, row_or_none}
@@ -33,12 +37,12 @@ use Rattle.sky_model.specs.StepQueue.{next_event_id, made_event, forced, newest_
 use Rattle.sky_model.specs.StepConsumer.{has_dot, opens_batch, takes_batch, finishes}
 use Rattle.sky_model.specs.Allowed.{where_of, allowed}
 use Rattle.sky_model.specs.Made.{takes_sight, looking, runs_if}
-use Rattle.sky_model.specs.Reader.{Shown, part_by_itself, database_by_itself, within_part, shown_by}
+use Rattle.sky_model.specs.Reader.{Shown, PartReader, database_by_itself, within_part, shown_by}
 use Rattle.sky_model.specs.Settling.{Turn, turn_of, behind_marks, ready, resumed, goes_on, settles, settling, with_settling}
-use Rattle.sky_model.specs.Calls.{form, making, statement, database_turn}
-use Rattle.sky_model.proofs.Resting.{is-ready, itself-keeps, waiting-resumed, behind-append}
-use Rattle.sky_model.proofs.RowStanding.{behind-after, settling-part}
-use Rattle.sky_model.proofs.DatabaseStanding.{after_marks-append, behind-all, part-behind_all}
+use Rattle.sky_model.specs.Calls.{row_form, form, making, statement, database_turn}
+use Rattle.sky_model.proofs.Resting.{is-ready, KeepsPart, waiting-resumed, behind-append}
+use Rattle.sky_model.proofs.DatabaseResting.{database-keeps}
+use Rattle.sky_model.proofs.DatabaseStanding.{after_marks-append, behind-all}
 use Rattle.sky_session.specs.Marks.{failure}
 use Rattle.pgq_db.specs.Waiters.{WaitersWithin, AnswersWithin, StaysWithin}
 use Rattle.pgq_db.specs.Gives.{Gives}
@@ -182,36 +186,101 @@ own-made who t n (Some u) outside name now = tt
 own-made who t n (Some u) inside name now = tt
 own-made who t n (Some u) failed name now = tt
 
-own-form : (d : Database) (shown : Shown) (now : ℤ) (who : ℕ) (stmt : Stmt) → Own who (form d shown now who stmt)
-own-form d shown now who (Row (OpenDb name)) = tt
-own-form d shown now who (Row Close) = own-close who (d.part.session who).txid (d.part.session who).block
-own-form d shown now who (Row Cancel) = own-cancel who (d.part.session who).txid (d.part.session who).block (is_waiting who d.part.waiting)
-own-form d shown now who (Row Begin) = own-begin who (d.part.session who).block
-own-form d shown now who (Row BeginRepeatableRead) = own-repeats who (d.part.session who).block
-own-form d shown now who (Row Commit) = own-commit who (d.part.session who).txid (d.part.session who).block
-own-form d shown now who (Row Rollback) = own-rollback who (d.part.session who).txid (d.part.session who).block
-own-form d shown now who (Row TxidCurrent) =
-    checked who (txid_for d.part who) _ (λ t. own-written who t (d.part.session who).txid (d.part.session who).block [] (own-committed who t (d.part.session who).block))
-own-form d shown now who (Row TxidCurrentSnapshot) = tt
-own-form d shown now who (Row (TxidVisibleInSnapshot txid snapshot)) = found who (parse_snapshot snapshot) BadSnapshot _ (λ s. tt)
-own-form d shown now who (Row (CreateTable name columns)) =
-    test who (is_some (place_of name d.part.tables)) (TableExists name) _ (test who (nat_le 64 (length d.part.tables)) (TooMany Tables) _
+own-row : (d : RowPart) (shown : RowsShown) (who : ℕ) (stmt : RowStmt) → Own who (row_form d shown who stmt)
+own-row d shown who (OpenDb name) = tt
+own-row d shown who Close = own-close who (d.session who).txid (d.session who).block
+own-row d shown who Cancel = own-cancel who (d.session who).txid (d.session who).block (is_waiting who d.waiting)
+own-row d shown who Begin = own-begin who (d.session who).block
+own-row d shown who BeginRepeatableRead = own-repeats who (d.session who).block
+own-row d shown who Commit = own-commit who (d.session who).txid (d.session who).block
+own-row d shown who Rollback = own-rollback who (d.session who).txid (d.session who).block
+own-row d shown who TxidCurrent =
+    checked who (txid_for d who) _ (λ t. own-written who t (d.session who).txid (d.session who).block [] (own-committed who t (d.session who).block))
+own-row d shown who TxidCurrentSnapshot = tt
+own-row d shown who (TxidVisibleInSnapshot txid snapshot) = found who (parse_snapshot snapshot) BadSnapshot _ (λ s. tt)
+own-row d shown who (CreateTable name columns) =
+    test who (is_some (place_of name d.tables)) (TableExists name) _ (test who (nat_le 64 (length d.tables)) (TooMany Tables) _
     (by_option who (option_map (schema_refusal columns) (schema_fault columns)) _ tt))
-own-form d shown now who (Row (Insert name row)) =
-    found who (place_of name d.part.tables) (NoTable name) _ (λ table. by_option who (option_map (bad_values (d.part.columns table)) (row_fault (d.part.columns table) row)) _
-    (own-attempts d.part (shown.rows.key who table (key_of (d.part.columns table) row)) who table (key_of (d.part.columns table) row) (Insertion row)))
-own-form d shown now who (Row (Update name key sets)) =
-    found who (place_of name d.part.tables) (NoTable name) _ (λ table. by_option who (option_map (bad_values (key_columns (d.part.columns table))) (row_fault (key_columns (d.part.columns table)) key)) _
-    (by_option who (option_map BadRow (bad_sets (d.part.columns table) [] sets)) _
-    (by_option who (option_map (λ (set : Set). KeyChange set.column) (find (is_key_change (d.part.columns table)) sets)) _
-    (own-attempts d.part (shown.rows.key who table key) who table key (Changes sets)))))
-own-form d shown now who (Row (Delete name key)) =
-    found who (place_of name d.part.tables) (NoTable name) _ (λ table. by_option who (option_map (bad_values (key_columns (d.part.columns table))) (row_fault (key_columns (d.part.columns table)) key)) _
-    (own-attempts d.part (shown.rows.key who table key) who table key Deletion))
-own-form d shown now who (Row (Get name key)) =
-    found who (place_of name d.part.tables) (NoTable name) _ (λ table. by_option who (option_map (bad_values (key_columns (d.part.columns table))) (row_fault (key_columns (d.part.columns table)) key)) _
-    (own-row_or_none who (shown.rows.key who table key).row))
-own-form d shown now who (Row (Scan name)) = found who (place_of name d.part.tables) (NoTable name) _ (λ table. tt)
+own-row d shown who (Insert name row) =
+    found who (place_of name d.tables) (NoTable name) _ (λ table. by_option who (option_map (bad_values (d.columns table)) (row_fault (d.columns table) row)) _
+    (own-attempts d (shown.key who table (key_of (d.columns table) row)) who table (key_of (d.columns table) row) (Insertion row)))
+own-row d shown who (Update name key sets) =
+    found who (place_of name d.tables) (NoTable name) _ (λ table. by_option who (option_map (bad_values (key_columns (d.columns table))) (row_fault (key_columns (d.columns table)) key)) _
+    (by_option who (option_map BadRow (bad_sets (d.columns table) [] sets)) _
+    (by_option who (option_map (λ (set : Set). KeyChange set.column) (find (is_key_change (d.columns table)) sets)) _
+    (own-attempts d (shown.key who table key) who table key (Changes sets)))))
+own-row d shown who (Delete name key) =
+    found who (place_of name d.tables) (NoTable name) _ (λ table. by_option who (option_map (bad_values (key_columns (d.columns table))) (row_fault (key_columns (d.columns table)) key)) _
+    (own-attempts d (shown.key who table key) who table key Deletion))
+own-row d shown who (Get name key) =
+    found who (place_of name d.tables) (NoTable name) _ (λ table. by_option who (option_map (bad_values (key_columns (d.columns table))) (row_fault (key_columns (d.columns table)) key)) _
+    (own-row_or_none who (shown.key who table key).row))
+own-row d shown who (Scan name) = found who (place_of name d.tables) (NoTable name) _ (λ table. tt)
+
+-- what is told of writes begins no wait
+abbrev OwnMarks : ℕ → Checked (List Mark) → Type 0
+OwnMarks who (Ok marks) = OwnWaits who marks
+OwnMarks who (Err refusal) = Unit {0}
+
+own-append : (who : ℕ) (xs ys : List Mark) → OwnWaits who xs → OwnWaits who ys → OwnWaits who (xs ++ ys)
+own-append who [] ys own also = also
+own-append who (tabled (waits w table key attempt) ∷ xs) ys own also = (own.0, own-append who xs ys own.1 also)
+own-append who (_ ∷ xs) ys own also = own-append who xs ys own also
+
+-- with other marks behind it
+own-first : (who : ℕ) (mark : Mark) (marks later : List Mark) → OwnWaits who (mark ∷ marks) → OwnWaits who later → OwnWaits who (mark ∷ later)
+own-first who (tabled (waits w table key attempt)) marks later own also = (own.0, also)
+own-first who _ marks later own also = also
+
+-- and without it
+own-rest : (who : ℕ) (mark : Mark) (marks : List Mark) → OwnWaits who (mark ∷ marks) → OwnWaits who marks
+own-rest who (tabled (waits w table key attempt)) marks own = own.1
+own-rest who _ marks own = own
+
+own-told_by : (who : ℕ) (d : Database) (now : ℤ) (t : ℕ) (es : List RowEvent) → OwnMarks who (told_by d now t es)
+own-told_by who d now t [] = tt
+own-told_by who d now t (e ∷ es) = of (nat_le (2 ^ 62) id) (own-told_by who (after_marks d (event_marks e.queue (told_event id now t e))) now t es)
+  where
+    id : ℕ
+    id = (d.queue e.queue).seq + 1
+
+    joined : (x : Checked (List Mark)) → OwnMarks who x → OwnMarks who (x >>= (λ rest. Ok (event_marks e.queue (told_event id now t e) ++ rest)))
+    joined (Err refusal) own = tt
+    joined (Ok rest) own = own
+
+    of : (b : Bool) → OwnMarks who (told_by (after_marks d (event_marks e.queue (told_event id now t e))) now t es)
+        → OwnMarks who ((refused_if b EventIdsSpent >> Ok id) >>= (λ n. told_by (after_marks d (event_marks e.queue (told_event n now t e))) now t es
+        >>= (λ rest. Ok (event_marks e.queue (told_event n now t e) ++ rest))))
+    of true own = tt
+    of false own = joined (told_by (after_marks d (event_marks e.queue (told_event id now t e))) now t es) own
+
+own-told_of : (who : ℕ) (d : Database) (now : ℤ) (mark : Mark) → OwnMarks who (told_of d now mark)
+own-told_of who d now (tabled (wrote w t table key old new)) = own-told_by who d now t (events_in d table old new)
+own-told_of who d now _ = tt
+
+own-with_told : (who : ℕ) (d : Database) (now : ℤ) (marks : List Mark) → OwnWaits who marks → OwnMarks who (with_told d now marks)
+own-with_told who d now [] own = tt
+own-with_told who d now (mark ∷ marks) own = of (told_of (after_mark d mark) now mark) (own-told_of who (after_mark d mark) now mark) (λ x. own-with_told who x now marks (own-rest who mark marks own))
+  where
+    joined : (told : List Mark) → OwnWaits who told → (x : Checked (List Mark)) → OwnMarks who x → OwnMarks who (x >>= (λ rest. Ok (mark ∷ told ++ rest)))
+    joined told silent (Err refusal) also = tt
+    joined told silent (Ok rest) also = own-first who mark marks (told ++ rest) own (own-append who told rest silent also)
+
+    of : (x : Checked (List Mark)) → OwnMarks who x → ((e : Database) → OwnMarks who (with_told e now marks))
+        → OwnMarks who (x >>= (λ told. with_told (after_marks d (mark ∷ told)) now marks >>= (λ rest. Ok (mark ∷ told ++ rest))))
+    of (Err refusal) silent ih = tt
+    of (Ok told) silent ih = joined told silent (with_told (after_marks d (mark ∷ told)) now marks) (ih (after_marks d (mark ∷ told)))
+
+own-tells : (who : ℕ) (d : Database) (now : ℤ) (c : Checked Outcome) → Own who c → Own who (tells d now c)
+own-tells who d now (Err refusal) own = tt
+own-tells who d now (Ok o) own = of (with_told d now o.marks) (own-with_told who d now o.marks own)
+  where
+    of : (x : Checked (List Mark)) → OwnMarks who x → Own who (x >>= (λ marks. does_marks o.reply marks))
+    of (Err refusal) silent = tt
+    of (Ok marks) silent = silent
+
+own-form : (d : Database) (shown : Shown) (now : ℤ) (who : ℕ) (stmt : Stmt) → Own who (form d shown now who stmt)
+own-form d shown now who (Row stmt) = own-tells who d now (row_form d.part shown.rows who stmt) (own-row d.part shown.rows who stmt)
 own-form d shown now who (CreateQueue name) =
     either who (is_some (place_of name d.names)) _ _ tt (test who (nat_le 64 (length d.names)) (TooMany Queues) _
     (checked who (txid_for d.part who) _ (λ t. own-made who t (length d.names) (d.part.session who).txid (d.part.session who).block name now)))
@@ -231,6 +300,11 @@ own-form d shown now who (NextBatch name consumer) =
     own-takes d who queue consumer sub sub.active)))
 own-form d shown now who (GetBatchEvents batch) = found who (d.batch batch) NoBatch _ (λ b. tt)
 own-form d shown now who (FinishBatch batch) = own-finishes who (d.batch batch)
+own-form d shown now who (AddTrigger name table queue backup ignored) =
+    found who (place_of table d.part.tables) (NoTable table) _ (λ number. found who (place_of queue d.names) (NoQueue queue) _ (λ place.
+    test who (has_trigger name (d.triggers number)) (TriggerExists name) _ (test who (nat_le 8 (length (d.triggers number))) (TooMany Triggers) _
+    (by_option who (option_map BadColumn (find (λ column. not (may_ignore (d.part.columns number) column)) ignored)) _
+    (by_option who (option_map TableBusy (least_writer d.part number)) _ tt)))))
 
 own-settled : (who : ℕ) (s : Session) (c : Checked Outcome) → Own who c → OwnWaits who (settled who s c).marks
 own-settled who s (Ok o) own = own
@@ -285,6 +359,7 @@ within-behind count who lt d (queued (ticked q id time seq) ∷ marks) own withi
 within-behind count who lt d (queued (registered q name sub t) ∷ marks) own within = within-behind count who lt (after_mark d (queued (registered q name sub t))) marks own within
 within-behind count who lt d (queued (opened batch) ∷ marks) own within = within-behind count who lt (after_mark d (queued (opened batch))) marks own within
 within-behind count who lt d (queued (closed batch) ∷ marks) own within = within-behind count who lt (after_mark d (queued (closed batch))) marks own within
+within-behind count who lt d (queued (traced table name trigger) ∷ marks) own within = within-behind count who lt (after_mark d (queued (traced table name trigger))) marks own within
 
 waiting-within : (count who : ℕ) (ws : List Waiting) → WaitersWithin count ws → is_waiting who ws ≡ true → who < count
 waiting-within count who [] within is = absurd (cc)
@@ -295,25 +370,25 @@ waiting-within count who (w ∷ ws) within is = of (w.who == who) refl is (waiti
     of false e also ih = ih also
 
 -- those who go on waited
-record GoOnWithin (count : ℕ) (d : RowPart) (turn : Turn) : Type 0 where
+record GoOnWithin {P : Type 0} (r : PartReader P) (count : ℕ) (p : P) (turn : Turn) : Type 0 where
   answers : AnswersWithin count turn.answers
-  waiting : WaitersWithin count (behind_marks part_by_itself d turn.marks).waiting
+  waiting : WaitersWithin count (r.part (behind_marks r p turn.marks)).waiting
 
-settles-within : (count n : ℕ) (d : RowPart) → WaitersWithin count d.waiting → GoOnWithin count d (settles part_by_itself n d)
-settles-within count zero d within = record { answers = λ k a at. absurd (omega arith); waiting = within }
-settles-within count (suc n) d within = of (ready d) refl (settles-within count n)
+settles-within : {P : Type 0} (r : PartReader P) → KeepsPart r → (count n : ℕ) (p : P) → WaitersWithin count (r.part p).waiting → GoOnWithin r count p (settles r n p)
+settles-within r keeps count zero p within = record { answers = λ k a at. absurd (omega arith); waiting = within }
+settles-within {P = P} r keeps count (suc n) p within = of (ready (r.part p)) refl (settles-within r keeps count n)
   where
-    of : (o : Option Waiting) → ready d ≡ o → ((e : RowPart) → WaitersWithin count e.waiting → GoOnWithin count e (settles part_by_itself n e))
-        → GoOnWithin count d (goes_on part_by_itself d (settles part_by_itself n) o)
+    of : (o : Option Waiting) → ready (r.part p) ≡ o → ((q : P) → WaitersWithin count (r.part q).waiting → GoOnWithin r count q (settles r n q))
+        → GoOnWithin r count p (goes_on r p (settles r n) o)
     of None e ih = record { answers = λ k a at. absurd (omega arith); waiting = within }
     of (Some w) e ih =
-        let rest : GoOnWithin count (behind_marks part_by_itself d (resumed part_by_itself d w).marks) (settles part_by_itself n (behind_marks part_by_itself d (resumed part_by_itself d w).marks)) =
-        ih (behind_marks part_by_itself d (resumed part_by_itself d w).marks)
-        (subst (WaitersWithin count) (sym (waiting-resumed part_by_itself itself-keeps d w e)) (All-filter (λ x. not (x.who == w.who)) (IsWithin count) d.waiting within)) in
+        let rest : GoOnWithin r count (behind_marks r p (resumed r p w).marks) (settles r n (behind_marks r p (resumed r p w).marks)) =
+        ih (behind_marks r p (resumed r p w).marks)
+        (subst (WaitersWithin count) (sym (waiting-resumed r keeps p w e)) (All-filter (λ x. not (x.who == w.who)) (IsWithin count) (r.part p).waiting within)) in
         record {
-          answers = All-cons (IsKnown count) _ _ (waiting-within count w.who d.waiting within (is-ready d w e).there) rest.answers;
-          waiting = subst (λ (x : RowPart). WaitersWithin count x.waiting)
-              (sym (behind-append part_by_itself d (resumed part_by_itself d w).marks (settles part_by_itself n (behind_marks part_by_itself d (resumed part_by_itself d w).marks)).marks)) rest.waiting;
+          answers = All-cons (IsKnown count) _ _ (waiting-within count w.who (r.part p).waiting within (is-ready (r.part p) w e).there) rest.answers;
+          waiting = subst (λ (q : P). WaitersWithin count (r.part q).waiting)
+              (sym (behind-append r p (resumed r p w).marks (settles r n (behind_marks r p (resumed r p w).marks)).marks)) rest.waiting;
         }
 
 -- the sessions of a turn's answers are known, and so are those that wait behind it
@@ -321,51 +396,50 @@ record TurnWithin (count : ℕ) (d : Database) (turn : Turn) : Type 0 where
   answers : AnswersWithin count turn.answers
   waiting : WaitersWithin count (after_marks d turn.marks).part.waiting
 
-settling-within : (count : ℕ) (d : Database) → WaitersWithin count d.part.waiting → TurnWithin count d (settling (within_part database_by_itself) d)
-settling-within count d within = subst (TurnWithin count d) (sym (settling-part d)) (record {
+settling-within : (count : ℕ) (now : ℤ) (d : Database) → WaitersWithin count d.part.waiting → TurnWithin count d (settling (within_part database_by_itself now) d)
+settling-within count now d within = record {
   answers = gone.answers;
-  waiting = subst (λ (x : RowPart). WaitersWithin count x.waiting)
-      (behind-after d.part (settling part_by_itself d.part).marks ∙ sym (part-behind_all d (settling part_by_itself d.part).marks)) gone.waiting;
-})
+  waiting = subst (λ (x : Database). WaitersWithin count x.part.waiting) (behind-all now d (settling (within_part database_by_itself now) d).marks) gone.waiting;
+}
   where
-    gone : GoOnWithin count d.part (settling part_by_itself d.part)
-    gone = settles-within count (length d.part.waiting) d.part within
+    gone : GoOnWithin (within_part database_by_itself now) count d (settling (within_part database_by_itself now) d)
+    gone = settles-within (within_part database_by_itself now) (database-keeps now) count (length d.part.waiting) d within
 
 -- what a session does itself, and then those that go on
-then-within : (count : ℕ) (d : Database) (who : ℕ) (turn : Turn) → who < count → AnswersWithin count turn.answers → OwnWaits who turn.marks → WaitersWithin count d.part.waiting
-    → TurnWithin count d (with_settling (within_part database_by_itself) d turn)
-then-within count d who turn lt known own within = record {
-  answers = All-append (IsKnown count) turn.answers (settling (within_part database_by_itself) place).answers known later.answers;
+then-within : (count : ℕ) (now : ℤ) (d : Database) (who : ℕ) (turn : Turn) → who < count → AnswersWithin count turn.answers → OwnWaits who turn.marks → WaitersWithin count d.part.waiting
+    → TurnWithin count d (with_settling (within_part database_by_itself now) d turn)
+then-within count now d who turn lt known own within = record {
+  answers = All-append (IsKnown count) turn.answers (settling (within_part database_by_itself now) place).answers known later.answers;
   waiting = subst (λ (x : Database). WaitersWithin count x.part.waiting)
-      (ap (λ x. after_marks x (settling (within_part database_by_itself) place).marks) (behind-all d turn.marks)
-      ∙ sym (after_marks-append d turn.marks (settling (within_part database_by_itself) place).marks)) later.waiting;
+      (ap (λ x. after_marks x (settling (within_part database_by_itself now) place).marks) (behind-all now d turn.marks)
+      ∙ sym (after_marks-append d turn.marks (settling (within_part database_by_itself now) place).marks)) later.waiting;
 }
   where
     place : Database
-    place = behind_marks (within_part database_by_itself) d turn.marks
+    place = behind_marks (within_part database_by_itself now) d turn.marks
 
-    later : TurnWithin count place (settling (within_part database_by_itself) place)
-    later = settling-within count place
-        (subst (λ (x : Database). WaitersWithin count x.part.waiting) (sym (behind-all d turn.marks)) (within-behind count who lt d turn.marks own within))
+    later : TurnWithin count place (settling (within_part database_by_itself now) place)
+    later = settling-within count now place
+        (subst (λ (x : Database). WaitersWithin count x.part.waiting) (sym (behind-all now d turn.marks)) (within-behind count who lt d turn.marks own within))
 
-gives-within : (d s : Database) (who : ℕ) (turn : Turn) (replies : List (ℕ × Reply)) → ((count : ℕ) → who < count → AnswersWithin count turn.answers) → OwnWaits who turn.marks
-    → Gives d s replies (with_settling (within_part database_by_itself) d turn) → StaysWithin d s who replies
-gives-within d s who turn replies known own gives = record {
-  answers = λ count lt within. subst (AnswersWithin count) (sym gives.replied) (then-within count d who turn lt (known count lt) own within).answers;
-  waiters = λ count lt within. subst (λ (x : Database). WaitersWithin count x.part.waiting) (sym gives.changed) (then-within count d who turn lt (known count lt) own within).waiting;
+gives-within : (now : ℤ) (d s : Database) (who : ℕ) (turn : Turn) (replies : List (ℕ × Reply)) → ((count : ℕ) → who < count → AnswersWithin count turn.answers) → OwnWaits who turn.marks
+    → Gives d s replies (with_settling (within_part database_by_itself now) d turn) → StaysWithin d s who replies
+gives-within now d s who turn replies known own gives = record {
+  answers = λ count lt within. subst (AnswersWithin count) (sym gives.replied) (then-within count now d who turn lt (known count lt) own within).answers;
+  waiters = λ count lt within. subst (λ (x : Database). WaitersWithin count x.part.waiting) (sym gives.changed) (then-within count now d who turn lt (known count lt) own within).waiting;
 }
 
 -- a statement
 pub statement-within : (d s : Database) (now : ℤ) (who : ℕ) (stmt : Stmt) (replies : List (ℕ × Reply)) → Gives d s replies (database_turn database_by_itself d now who stmt)
     → StaysWithin d s who replies
 statement-within d s now who stmt replies =
-    gives-within d s who (turn_of who (statement database_by_itself d now who stmt)) replies
+    gives-within now d s who (turn_of who (statement database_by_itself d now who stmt)) replies
     (λ count lt. All-cons (IsKnown count) _ [] lt (λ k a at. absurd (omega arith))) (own-statement d now who stmt)
 
 -- and a failure
-pub failure-within : (d s : Database) (who : ℕ) (replies : List (ℕ × Reply))
-    → Gives d s replies (with_settling (within_part database_by_itself) d (record { answers = []; marks = failure who (d.part.session who).txid (d.part.session who).block }))
+pub failure-within : (now : ℤ) (d s : Database) (who : ℕ) (replies : List (ℕ × Reply))
+    → Gives d s replies (with_settling (within_part database_by_itself now) d (record { answers = []; marks = failure who (d.part.session who).txid (d.part.session who).block }))
     → StaysWithin d s who replies
-failure-within d s who replies =
-    gives-within d s who (record { answers = []; marks = failure who (d.part.session who).txid (d.part.session who).block }) replies
+failure-within now d s who replies =
+    gives-within now d s who (record { answers = []; marks = failure who (d.part.session who).txid (d.part.session who).block }) replies
     (λ count lt k a at. absurd (omega arith)) (own-failure who (d.part.session who).txid (d.part.session who).block)

@@ -3,6 +3,8 @@ pub mod Subs
 pub mod Views
 pub mod Seen
 pub mod Batches
+pub mod Traced
+pub mod EventGates
 pub mod Undone
 pub mod Gives
 pub mod Waiters

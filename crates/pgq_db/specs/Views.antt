@@ -1,9 +1,11 @@
 -- What contracts see of a queue and of a database, as the code keeps them.
 use Rattle.std.specs.Prelude.{ℕ, List}
+use Rattle.sky_val.specs.declared.column.Column.{Column}
 use Rattle.sky_val.specs.declared.event.Event.{Event}
 use Rattle.sky_session.specs.Views.{RowDbView}
 use Rattle.pgq_db.specs.declared.batch.Batch.{Batch}
 use Rattle.sky_model.specs.Queues.{Tick}
+use Rattle.sky_model.specs.Triggers.{NamedTrigger}
 use Rattle.pgq_db.specs.declared.sub.Sub.{Sub}
 
 pub record QueueView : Type 0 where
@@ -11,6 +13,12 @@ pub record QueueView : Type 0 where
   pub events : List Event
   pub ticks : List Tick
   pub subs : List Sub
+
+-- a table with triggers: its name, its columns, and its triggers in the order of making
+pub record TracedView : Type 0 where
+  pub name : List ℕ
+  pub columns : List Column
+  pub triggers : List NamedTrigger
 
 pub record DbView : Type 0 where
   pub rows : RowDbView
@@ -20,3 +28,5 @@ pub record DbView : Type 0 where
   pub queues : List QueueView
   pub undone : List ℕ
   pub batches : List (ℕ × Batch)
+  -- the tables with triggers, each under its number
+  pub traced : List (ℕ × TracedView)

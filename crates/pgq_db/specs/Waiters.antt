@@ -8,7 +8,7 @@ use Rattle.sky_model.specs.State.{Database}
 abbrev pub WaitersWithin : ℕ → List Waiting → Type 0
 WaitersWithin count waiting = All (λ w. w.who < count) waiting
 
--- those that are answered are
+-- those that are answered are of so many
 abbrev pub AnswersWithin : ℕ → List (ℕ × Reply) → Type 0
 AnswersWithin count replies = All (λ answer. answer.0 < count) replies
 

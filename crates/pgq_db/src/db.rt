@@ -1,37 +1,45 @@
-ghost use Rattle.std.specs.Prelude.{◌≡◌, ◌↔◌, ◌≢◌, ℕ, ◌+◌, ◌<◌, ◌^◌, [], ◌∷◌, ◌++◌, ◌||◌, ◌==◌, true, if◌then◌else◌, Some, None, Ok, Err, IfOk, IfErr, OnOk, OnErr, IsTrue, IfSome, IfNone, OnSome, Option, option_copied, option_map, length, is_ok};
+ghost use Rattle.std.specs.Prelude.{◌≡◌, ◌↔◌, ◌≢◌, ℕ, ◌+◌, ◌<◌, ◌^◌, [], ◌∷◌, ◌++◌, ◌||◌, ◌==◌, true, if◌then◌else◌, Some, None, Ok, Err, IfOk, IfErr, OnOk, OnErr, IsTrue, IfSome, IfNone, OnSome, Option, option_copied, option_map, length, is_ok, find, not};
 ghost use Rattle.sky_val.specs.Waits.{is_waiting};
 ghost use Rattle.sky_names.specs.Places.{place_of};
 ghost use Rattle.sky_model.specs.declared.stmt.Where.TheVariants.{WhenReading, WhenOutside};
-ghost use Rattle.sky_model.specs.History.{queued, made, raised, put, ticked, registered, opened, closed};
+ghost use Rattle.sky_model.specs.History.{queued, made, raised, put, ticked, registered, opened, traced};
 ghost use Rattle.sky_model.specs.State.{database_of, after_mark, after_marks, changed_at, changed_for, with_batch, at_position};
-ghost use Rattle.sky_model.specs.ShownRows.{snapshot_now};
+ghost use Rattle.sky_model.specs.ShownRows.{snapshot_now, least_writer};
+ghost use Rattle.sky_model.specs.StepTrigger.{has_trigger, may_ignore};
 ghost use Rattle.sky_model.specs.Moment.{HasMoment};
 ghost use Rattle.sky_model.specs.Printed.{EventsHaveMoments, HaveMoments};
 ghost use Rattle.sky_model.specs.OwnTransaction.{txid_for, begin_of, commit_of};
 ghost use Rattle.sky_model.specs.StepQueue.{newest_id};
 ghost use Rattle.sky_model.specs.Selection.{selected};
-ghost use Rattle.sky_model.specs.Reader.{part_by_itself, database_by_itself, within_part};
+ghost use Rattle.sky_model.specs.Reader.{database_by_itself, within_part};
+ghost use Rattle.sky_model.specs.declared.stmt.Stmt.TheVariants.{Row};
 ghost use Rattle.sky_model.specs.Sessions.{outside};
 ghost use Rattle.sky_model.specs.Settling.{ready, settling, with_settling};
-ghost use Rattle.sky_model.specs.Calls.{row_turn};
+ghost use Rattle.sky_model.specs.Calls.{database_turn};
 ghost use Rattle.sky_session.specs.Marks.{failure};
 ghost use Rattle.sky_session.specs.Gives.{Enters};
 ghost use Rattle.pgq_db.specs.Ticks.{IsTime};
 ghost use Rattle.pgq_db.specs.Seen.{seen_database, seen_queue, seen_batch};
+ghost use Rattle.pgq_db.specs.Traced.{traced_or};
+ghost use Rattle.sky_session.specs.Seen.{seen};
+ghost use Rattle.pgq_db.specs.EventGates.{queues_behind, AreStorable};
 ghost use Rattle.pgq_db.specs.Undone.{undone_by};
 ghost use Rattle.pgq_db.specs.Waiters.{StaysWithin};
 ghost use Rattle.pgq_db.specs.Gives.{Gives};
 
 use crate::batch::Batch;
+use crate::gate::EventGate;
 use crate::queue::Queue;
 use crate::subscription::Subscription;
 use crate::ticks::Tick;
+use crate::told::Told;
+use crate::traced::{NamedTrigger, Traced};
 use sky_model::{Refusal, Replies, RowStmt};
 use sky_names::Names;
 use sky_session::{Effect, Effects, RowDb};
 use sky_trans::TransFault;
 use sky_txid::Snapshot;
-use sky_val::{Event, NoMemory, SessionId, Text};
+use sky_val::{Event, NoMemory, Schema, SessionId, Text};
 use std::alloc::{AllocError, Global};
 use std::collections::{BTreeMap, BTreeSet};
 use std::marker::Model;
@@ -49,12 +57,19 @@ pub struct Db {
     batches: BTreeMap<u64, Batch>,
     // The transactions that were rolled back.
     undone: BTreeSet<u64>,
+    // The tables with triggers, each under its number.
+    traced: BTreeMap<u32, Traced>,
+    // Whether memory was wanting in the midst of a statement on rows. What its tables are isn't known then, so no statement
+    // on rows is run from then on.
+    is_cut: bool,
 }
 
 impl Model for Db {
-    ghost use Rattle.std.specs.Prelude.{◌≡◌, length};
+    ghost use Rattle.std.specs.Prelude.{◌≡◌, false, length};
+    ghost use Rattle.sky_session.specs.Seen.{seen};
     ghost use Rattle.pgq_db.specs.Views.{DbView};
     ghost use Rattle.pgq_db.specs.Batches.{BatchesWithin};
+    ghost use Rattle.pgq_db.specs.Traced.{TracedWithin, AreTables};
 
     ghost Value = { DbView };
 
@@ -66,9 +81,11 @@ impl Model for Db {
       queues = d.queues.items;
       batches = d.batches.entries;
       undone = d.undone.keys;
+      traced = d.traced.entries;
     } };
 
-    ghost invariant = { λ d. (length d.queues.items ≡ length d.names) × BatchesWithin (length d.queues.items) d.batches.entries };
+    ghost invariant = { λ d. (length d.queues.items ≡ length d.names) × (BatchesWithin (length d.queues.items) d.batches.entries
+        × (TracedWithin (length d.queues.items) d.traced.entries × (d.is_cut ≡ false → AreTables (seen d.rows) d.traced.entries))) };
 }
 
 impl Db {
@@ -85,6 +102,8 @@ impl Db {
             queues: Vec::new(alloc),
             batches: BTreeMap::new(alloc),
             undone: BTreeSet::new(alloc),
+            traced: BTreeMap::new(alloc),
+            is_cut: false,
         }
     }
 
@@ -201,45 +220,99 @@ impl Db {
     }
 
     /// Rolls back the session's block, which stays aborted, and runs what this lets go on. Where it is in none, or that
-    /// is aborted, nothing is rolled back. The moment is for the events of what goes on, and none makes one yet.
+    /// is aborted, nothing is rolled back. The moment is for the events that tell of what goes on.
     pub fn fail(&mut self, who: SessionId, now: i64) -> Result<Replies, NoMemory>
+        requires { IsTime now }
         ensures exact { let d = seen_database self.old in
             let marks = failure who (d.part.session who).txid (d.part.session who).block in
             IfOk result (λ replies. Gives d (seen_database self.new) replies
-            (with_settling (within_part database_by_itself) d (record { answers = []; marks = marks }))) }
+            (with_settling (within_part database_by_itself now) d (record { answers = []; marks = marks }))) }
         ensures rests { OnOk result (ready (seen_database self.new).part ≡ None) }
         ensures moments { IfOk result HaveMoments }
         ensures within { IfOk result (λ replies. StaysWithin (seen_database self.old) (seen_database self.new) who replies) }
     {
         self.roll_back(who)?;
-        let replies = self.settle()?;
+        let replies = self.settle(now)?;
         Ok(replies)
     }
 
-    /// Runs a statement on rows, and those that it lets go on.
+    /// Runs a statement on rows, and those that it lets go on. Events tell of their writes.
     pub(crate) fn step_rows(
         &mut self,
+        now: i64,
         who: SessionId,
         stmt: &RowStmt,
     ) -> Result<Replies, AllocError>
-        ensures gives { IfOk result (λ replies. Gives (seen_database self.old) (seen_database self.new) replies (row_turn part_by_itself (seen_database self.old).part who stmt.now)) }
+        requires { IsTime now }
+        ensures gives { IfOk result (λ replies. Gives (seen_database self.old) (seen_database self.new) replies
+            (database_turn database_by_itself (seen_database self.old) now who (Row stmt.now))) }
         ensures rests { OnOk result (ready (seen_database self.new).part ≡ None) }
         ensures moments { IfOk result HaveMoments }
     {
-        let step = self.rows.step(who, stmt)?;
-        self.undo_aborted(&step.effects)?;
-        Ok(step.replies)
+        if self.is_cut {
+            return Err(AllocError);
+        }
+        let mut gate = EventGate::new(self.alloc, now, &self.traced, self.queues.as_slice());
+        match self.rows.step_with(who, stmt, &mut gate) {
+            Ok(step) => {
+                let told = gate.into_told();
+                self.note_all(&step.effects, told)?;
+                Ok(step.replies)
+            }
+            Err(no_memory) => {
+                self.is_cut = true;
+                Err(no_memory)
+            }
+        }
     }
 
-    /// Runs the statements that may go on.
-    pub(crate) fn settle(&mut self) -> Result<Replies, AllocError>
-        ensures gives { IfOk result (λ replies. Gives (seen_database self.old) (seen_database self.new) replies (settling (within_part database_by_itself) (seen_database self.old))) }
+    /// Runs the statements that may go on. Events tell of their writes.
+    pub(crate) fn settle(&mut self, now: i64) -> Result<Replies, AllocError>
+        requires { IsTime now }
+        ensures gives { IfOk result (λ replies. Gives (seen_database self.old) (seen_database self.new) replies (settling (within_part database_by_itself now) (seen_database self.old))) }
         ensures rests { OnOk result (ready (seen_database self.new).part ≡ None) }
         ensures moments { IfOk result HaveMoments }
     {
-        let step = self.rows.settle()?;
-        self.undo_aborted(&step.effects)?;
-        Ok(step.replies)
+        if self.is_cut {
+            return Err(AllocError);
+        }
+        let mut gate = EventGate::new(self.alloc, now, &self.traced, self.queues.as_slice());
+        match self.rows.settle_with(&mut gate) {
+            Ok(step) => {
+                let told = gate.into_told();
+                self.note_all(&step.effects, told)?;
+                Ok(step.replies)
+            }
+            Err(no_memory) => {
+                self.is_cut = true;
+                Err(no_memory)
+            }
+        }
+    }
+
+    /// Notes the transactions that were rolled back, and stores the events.
+    fn note_all(&mut self, effects: &Effects, told: Vec<Told>) -> Result<(), AllocError>
+        requires { AreStorable (length self.old.queues) told.items }
+        ensures stored { OnOk result (seen_database self.new ≡ record (seen_database self.old) {
+          undone = undone_by effects.now (seen_database self.old).undone;
+          queue = queues_behind (seen_database self.old).queue told.items;
+        }) }
+    {
+        self.undo_aborted(effects)?;
+        self.store(told)?;
+        Ok(())
+    }
+
+    /// Stores the events, each in its queue.
+    fn store(&mut self, told: Vec<Told>) -> Result<(), AllocError>
+        requires { AreStorable (length self.old.queues) told.items }
+        ensures { OnOk result (seen_database self.new ≡ record (seen_database self.old) { queue = queues_behind (seen_database self.old).queue told.items }) }
+    {
+        for told in told {
+            self.raise(told.queue, told.event.ev_id);
+            self.put(told.queue, told.event)?;
+        }
+        Ok(())
     }
 
     /// Rolls back the block that the session is in, which stays aborted. What this lets go on isn't run yet.
@@ -247,14 +320,22 @@ impl Db {
         ensures { OnOk result (seen_database self.new ≡ after_marks (seen_database self.old)
             (failure who ((seen_database self.old).part.session who).txid ((seen_database self.old).part.session who).block)) }
     {
-        let effects = self.rows.roll_back(who)?;
-        self.undo_aborted(&effects)?;
-        Ok(())
+        match self.rows.roll_back(who) {
+            Ok(effects) => {
+                self.undo_aborted(&effects)?;
+                Ok(())
+            }
+            Err(no_memory) => {
+                self.is_cut = true;
+                Err(no_memory)
+            }
+        }
     }
 
     /// Notes the transactions that were rolled back.
     fn undo_aborted(&mut self, effects: &Effects) -> Result<(), AllocError>
-        ensures { OnOk result (seen_database self.new ≡ record (seen_database self.old) { undone = undone_by effects.now (seen_database self.old).undone }) }
+        ensures noted { OnOk result (seen_database self.new ≡ record (seen_database self.old) { undone = undone_by effects.now (seen_database self.old).undone }) }
+        ensures queues { length self.new.queues ≡ length self.old.queues }
     {
         for effect in effects.as_slice() {
             self.note(effect)?;
@@ -264,7 +345,8 @@ impl Db {
 
     /// Notes the effect where it is that a transaction was rolled back.
     fn note(&mut self, effect: &Effect) -> Result<(), AllocError>
-        ensures { OnOk result (seen_database self.new ≡ record (seen_database self.old) { undone = undone_by (effect.now ∷ []) (seen_database self.old).undone }) }
+        ensures noted { OnOk result (seen_database self.new ≡ record (seen_database self.old) { undone = undone_by (effect.now ∷ []) (seen_database self.old).undone }) }
+        ensures queues { length self.new.queues ≡ length self.old.queues }
     {
         match effect {
             Effect::Aborted(txid) => self.undo(*txid),
@@ -274,7 +356,8 @@ impl Db {
 
     /// Notes that a transaction was rolled back.
     fn undo(&mut self, txid: u64) -> Result<(), AllocError>
-        ensures { OnOk result (seen_database self.new ≡ record (seen_database self.old) { undone = λ u. u == txid || (seen_database self.old).undone u }) }
+        ensures noted { OnOk result (seen_database self.new ≡ record (seen_database self.old) { undone = λ u. u == txid || (seen_database self.old).undone u }) }
+        ensures queues { length self.new.queues ≡ length self.old.queues }
     {
         self.undone.insert(txid)?;
         Ok(())
@@ -294,6 +377,7 @@ impl Db {
         requires queue { queue < length self.old.queues }
         requires time { HasMoment event.ev_time }
         ensures mark { OnOk result (seen_database self.new ≡ after_mark (seen_database self.old) (queued (put queue event))) }
+        ensures queues { length self.new.queues ≡ length self.old.queues }
     {
         self.queues[queue].put(event)
     }
@@ -418,6 +502,76 @@ impl Db {
         self.batches.get(&id)
     }
 
+    /// The number of the table of this name, if there is one.
+    pub(crate) fn table(&self, name: &Text) -> Option<u32>
+        ensures { result ≡ place_of name.now (seen_database self.now).part.tables }
+    {
+        let (number, _) = self.rows.table(name)?;
+        Some(number)
+    }
+
+    /// The first of the names that no trigger of the table may ignore: it is none of the table's columns, or is part of the
+    /// key.
+    pub(crate) fn bad_column<'a>(
+        &self,
+        table: &Text,
+        number: u32,
+        names: &'a [Text],
+    ) -> Option<&'a Text>
+        requires { place_of table.now (seen_database self.now).part.tables ≡ Some number }
+        ensures { option_copied result ≡ find (λ name. not (may_ignore ((seen_database self.now).part.columns number) name)) names.now }
+    {
+        match self.rows.table(table) {
+            Some((_, schema)) => first_bad(schema, names),
+            None => unreachable!(),
+        }
+    }
+
+    /// The least running transaction that has written a row of the table.
+    pub(crate) fn least_writer(&self, table: u32) -> Option<u64>
+        ensures { result ≡ least_writer (seen_database self.now).part table }
+    {
+        self.rows.least_writer(table)
+    }
+
+    /// Whether the table has a trigger of this name.
+    pub(crate) fn has_trigger(&self, table: u32, name: &Text) -> bool
+        ensures { result ≡ has_trigger name.now ((seen_database self.now).triggers table) }
+    {
+        match self.traced.get(&table) {
+            Some(traced) => traced.has(name),
+            None => false,
+        }
+    }
+
+    /// How many triggers the table has.
+    pub(crate) fn trigger_count(&self, table: u32) -> usize
+        ensures { result ≡ length ((seen_database self.now).triggers table) }
+    {
+        match self.traced.get(&table) {
+            Some(traced) => traced.triggers().len(),
+            None => 0,
+        }
+    }
+
+    /// One more trigger of the table of this name and number.
+    pub(crate) fn trace(
+        &mut self,
+        name: &Text,
+        number: u32,
+        trigger: NamedTrigger,
+    ) -> Result<(), AllocError>
+        requires table { place_of name.now (seen_database self.old).part.tables ≡ Some number }
+        requires queue { trigger.trigger.queue < length self.old.queues }
+        ensures { OnOk result (seen_database self.new ≡ after_mark (seen_database self.old) (queued (traced number trigger.name trigger.trigger))) }
+    {
+        let taken = self.traced.remove(&number);
+        let mut traced = traced_or_new(self.alloc, &self.rows, taken, name, number)?;
+        traced.add(trigger)?;
+        self.traced.insert(number, traced)?;
+        Ok(())
+    }
+
     /// The events of a batch.
     pub(crate) fn batch_events(&self, batch: &Batch) -> Result<Vec<Event>, AllocError>
         requires { batch.now.queue < length self.now.queues }
@@ -427,4 +581,41 @@ impl Db {
         self.queue(batch.queue)
             .select(self.alloc, &self.undone, batch)
     }
+}
+
+/// What is kept of the table of this name and number, if anything is, or that it has no trigger yet.
+fn traced_or_new(
+    alloc: Global,
+    rows: &RowDb,
+    taken: Option<Traced>,
+    name: &Text,
+    number: u32,
+) -> Result<Traced, AllocError>
+    requires { place_of name.now (seen rows.now).tables ≡ Some number }
+    ensures { IfOk result (λ traced. traced ≡ traced_or taken name.now ((seen rows.now).columns number)) }
+{
+    if let Some(traced) = taken {
+        return Ok(traced);
+    }
+    match rows.table(name) {
+        Some((_, schema)) => Ok(Traced::new(alloc, name.copy(alloc)?, schema.copy(alloc)?)),
+        None => unreachable!(),
+    }
+}
+
+/// The first of the names that a trigger may not ignore.
+fn first_bad<'a>(schema: &Schema, names: &'a [Text]) -> Option<&'a Text>
+    ensures { option_copied result ≡ find (λ name. not (may_ignore schema.now name)) names.now }
+{
+    names.iter().find(|name| !may_ignore(schema, name))
+}
+
+/// Whether a trigger may ignore the column of this name.
+fn may_ignore(schema: &Schema, name: &Text) -> bool
+    ensures { result ≡ may_ignore schema.now name.now }
+{
+    schema
+        .columns()
+        .iter()
+        .any(|column| column.name == *name && !column.key)
 }

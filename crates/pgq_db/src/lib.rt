@@ -10,6 +10,7 @@
 
 mod batch;
 mod db;
+mod gate;
 mod queue;
 mod statements;
 mod stored;
@@ -19,5 +20,7 @@ mod subscription;
 #[cfg(test)]
 mod tests;
 mod ticks;
+mod told;
+mod traced;
 
 pub use db::Db;

@@ -1,7 +1,7 @@
 //! The statements, each in the database that its session has open. A refusal changes nothing there but
-//! that it aborts the session's block.
+//! that it may abort the session's block.
 
-ghost use Rattle.std.specs.Prelude.{◌≡◌, ◌+◌, ◌<◌, [], ◌∷◌, ◌++◌, true, false, if◌then◌else◌, None, Ok, IfOk, IfErr, OnOk, length, is_ok};
+ghost use Rattle.std.specs.Prelude.{◌≡◌, ◌+◌, ◌<◌, [], ◌∷◌, ◌++◌, true, false, if◌then◌else◌, None, Some, Ok, IfOk, IfErr, OnOk, length, is_ok};
 ghost use Rattle.sky_names.specs.Places.{place_of};
 ghost use Rattle.sky_model.specs.declared.stmt.Where.TheVariants.{WhenReading, WhenOutside};
 ghost use Rattle.sky_model.specs.declared.reply.Reply.TheVariants.{Refused};
@@ -12,6 +12,8 @@ ghost use Rattle.sky_model.specs.Outcome.{abort, settled};
 ghost use Rattle.sky_model.specs.Printed.{HaveMoments, ReplyHasMoments};
 ghost use Rattle.sky_model.specs.OwnTransaction.{txid_for, written};
 ghost use Rattle.sky_model.specs.StepQueue.{queue_called, create_queue, insert_event, ticker, force_tick, made_event};
+ghost use Rattle.sky_model.specs.StepRows.{table_called};
+ghost use Rattle.sky_model.specs.StepTrigger.{add_trigger};
 ghost use Rattle.sky_model.specs.StepConsumer.{has_dot, opens_batch, register_consumer, next_batch, get_batch_events, finish_batch};
 ghost use Rattle.sky_model.specs.Selection.{selected};
 ghost use Rattle.sky_model.specs.Allowed.{where_of};
@@ -27,20 +29,23 @@ ghost use Rattle.sky_model.specs.Stops.{StopsAs};
 
 use crate::batch::Batch;
 use crate::db::Db;
+use crate::gate::EVENT_ID_END;
 use crate::subscription::Subscription;
 use crate::ticks::{MAX_COUNT, Tick};
-use sky_model::{BoxedExtra, Events, Limit, Refusal, Replies, Reply, Stmt, Stop};
+use crate::traced::NamedTrigger;
+use sky_model::{BoxedExtra, ColumnNames, Events, Limit, Refusal, Replies, Reply, Stmt, Stop};
+use sky_urlenc::Trigger;
 use sky_val::{Event, NoMemory, SessionId, Text, copy_option};
 use std::alloc::{AllocError, Global};
-
-/// The number at which event ids are spent.
-const EVENT_ID_END: u64 = 1 << 62;
 
 /// How many queues a database may have.
 const MAX_QUEUES: usize = 64;
 
 /// How many consumers a queue may have.
 const MAX_CONSUMERS: usize = 256;
+
+/// How many triggers a table may have.
+const MAX_TRIGGERS: usize = 8;
 
 /// How far `force_tick` raises the sequence, so that a tick is due.
 const FORCED: u64 = 2 * MAX_COUNT + 1000;
@@ -70,7 +75,7 @@ impl Db {
         ensures moments { IfOk result HaveMoments }
     {
         match stmt {
-            Stmt::Row(stmt) => self.step_rows(who, stmt),
+            Stmt::Row(stmt) => self.step_rows(now, who, stmt),
             _ => self.run_on_queues(now, who, stmt),
         }
     }
@@ -91,7 +96,7 @@ impl Db {
     {
         let reply = self.run_or_refuse(now, who, stmt)?;
         let mut replies = Replies::one(self.alloc(), who, reply)?;
-        let resumed = self.settle()?;
+        let resumed = self.settle(now)?;
         replies.append(resumed)?;
         Ok(replies)
     }
@@ -166,6 +171,13 @@ impl Db {
             Stmt::NextBatch { queue, consumer } => self.next_batch(queue, consumer),
             Stmt::GetBatchEvents { batch } => self.get_batch_events(*batch),
             Stmt::FinishBatch { batch } => Ok(self.finish_batch(*batch)),
+            Stmt::AddTrigger {
+                name,
+                table,
+                queue,
+                backup,
+                ignored,
+            } => self.add_trigger(name, table, queue, *backup, ignored),
         }
     }
 
@@ -371,6 +383,69 @@ impl Db {
         self.end_batch(batch.queue, &batch.consumer, batch.cur);
         Reply::Number(1)
     }
+
+    /// The number of the table of this name.
+    fn table_called(&self, table: &Text) -> Result<u32, Stop>
+        ensures ok { IfOk result (λ number. place_of table.now (seen_database self.now).part.tables ≡ Some number) }
+        ensures err { IfErr result (λ stop. StopsAs stop (table_called table.now (seen_database self.now).part)) }
+    {
+        match self.table(table) {
+            Some(number) => Ok(number),
+            None => Err(Stop::Refused(Refusal::NoTable(table.copy(self.alloc())?))),
+        }
+    }
+
+    /// `add_trigger NAME TABLE NAME`: from now on events of the queue tell of the table's writes.
+    fn add_trigger(
+        &mut self,
+        name: &Text,
+        table: &Text,
+        queue: &Text,
+        backup: bool,
+        ignored: &ColumnNames,
+    ) -> Result<Reply, Stop>
+        ensures { Ran self.old self.new result (add_trigger (seen_database self.old) name.now table.now queue.now backup ignored.now) }
+    {
+        let number = self.table_called(table)?;
+        let queue = self.queue_called(queue)?;
+        if self.has_trigger(number, name) {
+            let name = name.copy(self.alloc())?;
+            return Err(Stop::Refused(Refusal::TriggerExists(name)));
+        }
+        if self.trigger_count(number) >= MAX_TRIGGERS {
+            return Err(Stop::Refused(Refusal::TooMany(Limit::Triggers)));
+        }
+        if let Some(column) = self.bad_column(table, number, ignored.as_slice()) {
+            let column = column.copy(self.alloc())?;
+            return Err(Stop::Refused(Refusal::BadColumn(column)));
+        }
+        if let Some(txid) = self.least_writer(number) {
+            return Err(Stop::Refused(Refusal::TableBusy(txid)));
+        }
+        let trigger = new_trigger(self.alloc(), name, queue, backup, ignored.as_slice())?;
+        self.trace(table, number, trigger)?;
+        Ok(Reply::Done)
+    }
+}
+
+/// A trigger of this name, whose events go to the queue of this number.
+fn new_trigger(
+    alloc: Global,
+    name: &Text,
+    queue: usize,
+    backup: bool,
+    ignored: &[Text],
+) -> Result<NamedTrigger, AllocError>
+    ensures { IfOk result (λ trigger. trigger ≡ record { name = name.now; trigger = record { queue = queue; backup = backup; ignored = ignored.now } }) }
+{
+    let mut names = Vec::with_capacity(alloc, ignored.len())?;
+    for column in ignored {
+        names.push(column.copy(alloc)?)?;
+    }
+    Ok(NamedTrigger {
+        name: name.copy(alloc)?,
+        trigger: Trigger::new(queue, backup, names),
+    })
 }
 
 fn has_dot(name: &Text) -> bool

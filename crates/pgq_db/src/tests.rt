@@ -7,7 +7,7 @@ fn run(db: &mut Db, who: SessionId, stmt: &Stmt) -> Result<Replies, Fail> {
     Ok(db.step(who, stmt, 0)?)
 }
 
-fn is_done(reply: Option<&(SessionId, Reply)>, who: SessionId) -> bool {
+fn is_one(reply: Option<&(SessionId, Reply)>, who: SessionId) -> bool {
     match reply {
         Some((whose, Reply::Number(1))) => *whose == who,
         _ => false,
@@ -23,13 +23,13 @@ fn makes_a_queue(rt: HostRuntime) -> Result<(), Fail> {
     assert!(rt; refusal.is_none());
     let queue = Text::from_bytes(alloc, b"q")?;
     let replies = run(&mut db, 0, &Stmt::CreateQueue { queue })?;
-    assert!(rt; is_done(replies.as_slice().first(), 0));
+    assert!(rt; is_one(replies.as_slice().first(), 0));
     Ok(())
 }
 
 // A block that is rolled back from outside stays, aborted. Nobody waited for it.
 #[test]
-fn fails(rt: HostRuntime) -> Result<(), Fail> {
+fn fail_aborts_the_block(rt: HostRuntime) -> Result<(), Fail> {
     let mut db = Db::new(rt.alloc());
     run(&mut db, 0, &Stmt::Row(RowStmt::Begin))?;
     let replies = db.fail(0, 0)?;
