@@ -1,23 +1,55 @@
-ghost use Rattle.std.specs.Prelude.{◌≡◌, IfOk};
+ghost use Rattle.std.specs.Prelude.{◌≡◌, ◌<◌, IfOk, length, slice_set};
+ghost use Rattle.sky_val.specs.Kept.{row_values};
 
 use crate::NoMemory;
 use crate::val::{Val, copy_values};
 use std::alloc::Global;
 use std::marker::Model;
 
+/// Where the values of a row are: two, such as a key and what it stands for, are kept in place and take no memory of
+/// their own.
+#[derive(Debug, Drop)]
+enum RowValues {
+    Pair([Val; 2]),
+    Listed(Vec<Val>),
+}
+
+impl RowValues {
+    fn as_slice(&self) -> &[Val]
+        ensures { result.now ≡ row_values self.now }
+    {
+        match self {
+            RowValues::Pair(pair) => pair.as_slice(),
+            RowValues::Listed(values) => values.as_slice(),
+        }
+    }
+
+    fn copy(&self, alloc: Global) -> Result<RowValues, NoMemory>
+        ensures { IfOk result (λ values. row_values values ≡ row_values self.now) }
+    {
+        match self {
+            RowValues::Pair([first, second]) => {
+                Ok(RowValues::Pair([first.copy(alloc)?, second.copy(alloc)?]))
+            }
+            RowValues::Listed(values) => Ok(RowValues::Listed(copy_values(alloc, values)?)),
+        }
+    }
+}
+
 /// A row of a table: its values, in the order of the columns.
 #[derive(Debug, Drop)]
 pub struct Row {
-    values: Vec<Val>,
+    values: RowValues,
 }
 
 impl Model for Row {
     ghost use Rattle.std.specs.Prelude.{List};
     ghost use Rattle.sky_val.specs.declared.val.Val.{Val};
+    ghost use Rattle.sky_val.specs.Kept.{row_values};
 
     ghost Value = { List Val };
 
-    ghost view = { λ row. row.values.items };
+    ghost view = { λ row. row_values row.values };
 }
 
 impl Row {
@@ -25,6 +57,10 @@ impl Row {
     pub fn new(values: Vec<Val>) -> Row
         ensures { result ≡ values.items }
     {
+        let values = match <[Val; 2]>::try_from(values) {
+            Ok(pair) => RowValues::Pair(pair),
+            Err(values) => RowValues::Listed(values),
+        };
         Row { values }
     }
 
@@ -35,18 +71,22 @@ impl Row {
         self.values.as_slice()
     }
 
-    /// The list of its values.
-    pub fn into_values(self) -> Vec<Val>
-        ensures { result.items ≡ self }
+    /// Puts a value at a place, for the one that stands there.
+    pub fn set(&mut self, place: usize, value: Val)
+        requires { place < length self.old }
+        ensures { self.new ≡ slice_set self.old place value }
     {
-        self.values
+        match &mut self.values {
+            RowValues::Pair(pair) => pair.as_mut_slice()[place] = value,
+            RowValues::Listed(values) => values[place] = value,
+        }
     }
 
     /// An equal row.
     pub fn copy(&self, alloc: Global) -> Result<Row, NoMemory>
         ensures { IfOk result (λ row. row ≡ self.now) }
     {
-        let values = copy_values(alloc, &self.values)?;
+        let values = self.values.copy(alloc)?;
         Ok(Row { values })
     }
 }
