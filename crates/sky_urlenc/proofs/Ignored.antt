@@ -1,5 +1,5 @@
 -- Which updates a trigger ignores, column by column.
-use Rattle.std.proofs.Common.{◌≡◌, ℕ, Bool, true, false, ◌⊎◌, inl, inr, List, [], ◌∷◌, length, map, filter, bytes_eq, refl, ◌∙◌, ap, nat_lt, arith, if◌then◌else◌}
+use Rattle.std.proofs.Common.{◌≡◌, ℕ, Bool, true, false, ◌⊎◌, inl, inr, List, [], ◌∷◌, length, map, filter, bytes_eq, refl, ◌∙◌, sym, ap, nat_lt, arith, if◌then◌else◌}
 use Rattle.std.proofs.lemmas.Bool.Decides.{nat_tests}
 use Rattle.std.specs.Prelude.{◌&&◌, ◌||◌, not, zip}
 use Rattle.std.specs.List.{list_any, list_all}
@@ -7,7 +7,7 @@ use Rattle.std.specs.Ordering.{eq_by_cmp}
 use Rattle.sky_val.specs.declared.val.Val.{Val}
 use Rattle.sky_val.specs.declared.column.Column.{Column}
 use Rattle.sky_val.specs.Order.{val_cmp}
-use Rattle.sky_urlenc.specs.RowEvents.{Trigger, changed_columns}
+use Rattle.sky_urlenc.specs.RowEvents.{Trigger, changed_columns, are_ignored}
 
 -- whether columns were changed so far, or these are, and all of these are such as it ignores
 abbrev pub ignored_more : Trigger → Bool → List (List ℕ) → Bool
@@ -65,3 +65,18 @@ told_left trigger changed c cs o n os ns e told =
     none : (b : Bool) → ((b || true) && false) ≡ false
     none true = refl
     none false = refl
+
+-- a trigger that ignores no column leaves no change out
+pub none_ignored : (trigger : Trigger) (changed : List (List ℕ)) → length trigger.ignored ≡ 0 → false ≡ are_ignored trigger changed
+none_ignored trigger [] none = refl
+none_ignored trigger (name ∷ names) none =
+    sym (neither (nat_lt 0 (length (name ∷ names))))
+    ∙ ap (λ ignored. nat_lt 0 (length (name ∷ names)) && (list_any (bytes_eq name) ignored && list_all (λ n. list_any (bytes_eq n) trigger.ignored) names)) (empty trigger.ignored none)
+  where
+    neither : (b : Bool) → (b && false) ≡ false
+    neither true = refl
+    neither false = refl
+
+    empty : (xs : List (List ℕ)) → length xs ≡ 0 → [] ≡ xs
+    empty [] e = refl
+    empty (x ∷ xs) e = absurd (omega arith)

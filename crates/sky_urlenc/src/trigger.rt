@@ -65,6 +65,10 @@ impl Trigger {
     fn ignores_change(&self, columns: &[Column], old: &[Val], new: &[Val]) -> bool
         ensures { result ≡ are_ignored self.now (changed_columns columns.now old.now new.now) }
     {
+        // Most triggers ignore no column.
+        if self.ignored.is_empty() {
+            return false;
+        }
         let mut changed = false;
         for (column, (was, is)) in columns.iter().zip(old.iter().zip(new)) {
             if was == is {

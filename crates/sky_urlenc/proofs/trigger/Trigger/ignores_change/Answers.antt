@@ -1,7 +1,7 @@
-use Rattle.std.proofs.Common.{◌≡◌, sym, ◌∙◌, ◌⊎◌, inl, inr, length}
+use Rattle.std.proofs.Common.{rules, ◌≡◌, sym, ◌∙◌, ◌⊎◌, inl, inr, length}
 use Rattle.sky_val.specs.OrderLaws.{val_eq-ties}
 use Rattle.sky_urlenc.specs.RowEvents.{changed_columns}
-use Rattle.sky_urlenc.proofs.Ignored.{ignored_more, none_left, same_left, ignored_left, told_left}
+use Rattle.sky_urlenc.proofs.Ignored.{ignored_more, none_ignored, none_left, same_left, ignored_left, told_left}
 use Rattle.sky_urlenc.proofs.trigger.Trigger.ignores_change.Goals as goal
 
 pub loop-column-preserved-then-eq : goal.loop-column-preserved-then-eq
@@ -33,3 +33,6 @@ returns c =
     let ended : (length c.loop-column.column-iterator.a.rest.now ≡ 0) ⊎ ((length c.loop-column.column-iterator.b.a.rest.now ≡ 0) ⊎ (length c.loop-column.column-iterator.b.b.rest.now ≡ 0)) =
     elim c.in-None.ensures.steps [ inl w ↦ inl w.1.0 | inr w ↦ elim w.1 [ inl v ↦ inr (inl v.1.0) | inr v ↦ inr (inr v.1.0) ] ] in
     sym (none_left c.args.self.now c.loop-column.changed c.loop-column.column-iterator.a.rest.now c.loop-column.column-iterator.b.a.rest.now c.loop-column.column-iterator.b.b.rest.now ended) ∙ c.loop-column.invariant
+
+pub returns-then-is_empty : goal.returns-then-is_empty
+returns-then-is_empty c = none_ignored c.args.self.now (changed_columns c.args.columns.now c.args.old.now c.args.new.now) (search rules)
