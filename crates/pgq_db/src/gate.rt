@@ -99,6 +99,10 @@ impl<'a> WriteGate for EventGate<'a> {
             return Ok(());
         };
         let before = self.told.len();
+        if before == 0 {
+            // Room for what this write makes: most statements make one write.
+            self.told = Vec::with_capacity(self.alloc, traced.triggers().len())?;
+        }
         match tell(
             self.queues,
             traced,

@@ -1,10 +1,64 @@
 use crate::db::Db;
-use sky_model::{Replies, Reply, RowStmt, Stmt};
-use sky_val::{SessionId, Text};
+use crate::gate::EVENT_ID_END;
+use sky_model::{ColumnNames, Columns, Refusal, Replies, Reply, RowStmt, Stmt};
+use sky_val::{ColKind, Column, Row, SessionId, Text, Val};
+use std::alloc::Global;
 use std::test::Fail;
 
 fn run(db: &mut Db, who: SessionId, stmt: &Stmt) -> Result<Replies, Fail> {
     Ok(db.step(who, stmt, 0)?)
+}
+
+fn text(alloc: Global, bytes: &[u8]) -> Result<Text, Fail> {
+    Ok(Text::from_bytes(alloc, bytes)?)
+}
+
+fn create_queue(alloc: Global) -> Result<Stmt, Fail> {
+    let queue = text(alloc, b"q")?;
+    Ok(Stmt::CreateQueue { queue })
+}
+
+fn create_table(alloc: Global, table: &[u8]) -> Result<Stmt, Fail> {
+    let mut columns = Vec::new(alloc);
+    columns.push(Column {
+        name: text(alloc, b"id")?,
+        kind: ColKind::Int,
+        key: true,
+    })?;
+    Ok(Stmt::Row(RowStmt::CreateTable {
+        table: text(alloc, table)?,
+        columns: Columns::new(columns),
+    }))
+}
+
+fn add_trigger(alloc: Global, name: &[u8], table: &[u8]) -> Result<Stmt, Fail> {
+    Ok(Stmt::AddTrigger {
+        name: text(alloc, name)?,
+        table: text(alloc, table)?,
+        queue: text(alloc, b"q")?,
+        backup: false,
+        ignored: ColumnNames::new(Vec::new(alloc)),
+    })
+}
+
+fn insert(alloc: Global, table: &[u8], id: i64) -> Result<Stmt, Fail> {
+    let mut values = Vec::new(alloc);
+    values.push(Val::Int(id))?;
+    Ok(Stmt::Row(RowStmt::Insert {
+        table: text(alloc, table)?,
+        row: Row::new(values),
+    }))
+}
+
+// The first queue has given all ids but this many.
+fn leave_ids(db: &mut Db, ids: u64) {
+    if db.queue_count() > 0 && ids < EVENT_ID_END {
+        db.raise(0, EVENT_ID_END - 1 - ids);
+    }
+}
+
+fn is_spent(reply: Option<&(SessionId, Reply)>) -> bool {
+    matches!(reply, Some((_, Reply::Refused(Refusal::EventIdsSpent))))
 }
 
 fn is_one(reply: Option<&(SessionId, Reply)>, who: SessionId) -> bool {
@@ -21,8 +75,7 @@ fn makes_a_queue(rt: HostRuntime) -> Result<(), Fail> {
     let mut db = Db::new(alloc);
     let refusal = db.enter(0, true)?;
     assert!(rt; refusal.is_none());
-    let queue = Text::from_bytes(alloc, b"q")?;
-    let replies = run(&mut db, 0, &Stmt::CreateQueue { queue })?;
+    let replies = run(&mut db, 0, &create_queue(alloc)?)?;
     assert!(rt; is_one(replies.as_slice().first(), 0));
     Ok(())
 }
@@ -36,5 +89,27 @@ fn fail_aborts_the_block(rt: HostRuntime) -> Result<(), Fail> {
     assert_eq!(rt; replies.as_slice().len(), 0);
     assert!(rt; db.in_transaction(0));
     assert!(rt; !db.waits(0));
+    Ok(())
+}
+
+// One id is left. A write of which two triggers tell is refused, and takes none; one of which a single trigger tells is
+// made, and takes it.
+#[test]
+fn writes_want_an_id_for_each_trigger(rt: HostRuntime) -> Result<(), Fail> {
+    let alloc = rt.alloc();
+    let mut db = Db::new(alloc);
+    run(&mut db, 0, &create_queue(alloc)?)?;
+    run(&mut db, 0, &create_table(alloc, b"t")?)?;
+    run(&mut db, 0, &create_table(alloc, b"u")?)?;
+    run(&mut db, 0, &add_trigger(alloc, b"first", b"t")?)?;
+    run(&mut db, 0, &add_trigger(alloc, b"second", b"t")?)?;
+    run(&mut db, 0, &add_trigger(alloc, b"only", b"u")?)?;
+    leave_ids(&mut db, 1);
+    let twice_told = run(&mut db, 0, &insert(alloc, b"t", 1)?)?;
+    assert!(rt; is_spent(twice_told.as_slice().first()));
+    let told = run(&mut db, 0, &insert(alloc, b"u", 1)?)?;
+    assert!(rt; is_one(told.as_slice().first(), 0));
+    let last = run(&mut db, 0, &insert(alloc, b"u", 2)?)?;
+    assert!(rt; is_spent(last.as_slice().first()));
     Ok(())
 }

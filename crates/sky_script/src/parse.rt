@@ -119,7 +119,7 @@ mod tests {
             ),
             (
                 "a: insert p.t -9223372036854775808 null 'it''s'",
-                "Ok(Run(\"a\", Row(Insert { table: \"p.t\", row: Row { values: [Int(-9223372036854775808), Null, Text(\"it's\")] } })))",
+                "Ok(Run(\"a\", Row(Insert { table: \"p.t\", row: Row { values: Listed([Int(-9223372036854775808), Null, Text(\"it's\")]) } })))",
             ),
             (
                 "a: update t 1 set s='x y' n+=-2",

@@ -167,25 +167,20 @@ fn place_of(columns: &[Column], name: &Text) -> Option<usize>
     columns.iter().position(|column| column.name == *name)
 }
 
-/// Makes the change in the values of a row.
-fn change_value(
-    alloc: Global,
-    columns: &[Column],
-    set: &Set,
-    values: &mut Vec<Val>,
-) -> Result<(), Stop>
-    ensures ok { OnOk result (spec.with_set columns.now set.now values.old.items ≡ Some values.new.items) }
-    ensures err { IfErr result (λ stop. StopsAs stop (found_or (spec.with_set columns.now set.now values.old.items) (Refusal.OutOfRange set.now.column))) }
+/// Makes the change in a row.
+fn change_value(alloc: Global, columns: &[Column], set: &Set, row: &mut Row) -> Result<(), Stop>
+    ensures ok { OnOk result (spec.with_set columns.now set.now row.old ≡ Some row.new) }
+    ensures err { IfErr result (λ stop. StopsAs stop (found_or (spec.with_set columns.now set.now row.old) (Refusal.OutOfRange set.now.column))) }
 {
     let Some(place) = place_of(columns, &set.column) else {
         return Ok(());
     };
-    let Some(old) = values.get(place) else {
+    let Some(old) = row.values().get(place) else {
         return Ok(());
     };
     match changed(alloc, &set.change, old)? {
         Some(new) => {
-            values[place] = new;
+            row.set(place, new);
             Ok(())
         }
         None => {
@@ -205,11 +200,11 @@ pub(crate) fn with_sets(
     ensures ok { IfOk result (λ new. spec.with_sets columns.now sets.now row.now ≡ Ok new) }
     ensures err { IfErr result (λ stop. StopsAs stop (spec.with_sets columns.now sets.now row.now)) }
 {
-    let mut values = row.copy(alloc)?.into_values();
+    let mut new = row.copy(alloc)?;
     for set in sets {
-        change_value(alloc, columns, set, &mut values)?;
+        change_value(alloc, columns, set, &mut new)?;
     }
-    Ok(Row::new(values))
+    Ok(new)
 }
 
 /// The name of the column at a place.

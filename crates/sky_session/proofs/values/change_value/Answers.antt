@@ -15,26 +15,26 @@ there items row place v same within is =
     ap (λ r. slice_get r place) (sym same) ∙ slice_get-get_or items place v (ltb-true place (length items) (sym within)) ∙ ap Some (sym is)
 
 pub returns-in_default-clause-ok : goal.returns-in_default-clause-ok
-returns-in_default-clause-ok c = with_set-nowhere c.args.columns.now c.args.set.now c.args.values.now.items (sym c.place_of.ensures ∙ c.in_default.is)
+returns-in_default-clause-ok c = with_set-nowhere c.args.columns.now c.args.set.now c.args.row.now (sym c.place_of.ensures ∙ c.in_default.is)
 
 pub returns-in_default-get-clause-ok : goal.returns-in_default-get-clause-ok
 returns-in_default-get-clause-ok c =
-    with_set-place c.args.columns.now c.args.set.now c.args.values.now.items c.in-Some.place (sym c.in-Some.ensures)
-    ∙ ap (changed_in c.args.set.now.change c.args.values.now.items c.in-Some.place)
-    (ap (λ row. slice_get row c.in-Some.place) (sym c.deref.ensures.value) ∙ slice_get_past c.deref.result.now c.in-Some.place (ltb-false c.in-Some.place (length c.deref.result.now) (sym c.in_default-get.ensures.lookup.0)))
+    with_set-place c.args.columns.now c.args.set.now c.args.row.now c.in-Some.place (sym c.in-Some.ensures)
+    ∙ ap (changed_in c.args.set.now.change c.args.row.now c.in-Some.place)
+    (ap (λ row. slice_get row c.in-Some.place) (sym c.values.ensures) ∙ slice_get_past c.values.result.now c.in-Some.place (ltb-false c.in-Some.place (length c.values.result.now) (sym c.in_default-get.ensures.lookup.0)))
 
 pub returns-in-Some-2-clause-ok : goal.returns-in-Some-2-clause-ok
 returns-in-Some-2-clause-ok c =
-    with_set-place c.args.columns.now c.args.set.now c.args.values.now.items c.in-Some.place (sym c.in-Some.ensures)
-    ∙ ap (changed_in c.args.set.now.change c.args.values.now.items c.in-Some.place)
-    (there c.deref.result.now c.args.values.now.items c.in-Some.place c.in-Some-get.old.now c.deref.ensures.value c.in-Some-get.ensures.lookup.0 c.in-Some-get.ensures.lookup.1)
-    ∙ ap (option_map (λ w. slice_set c.args.values.now.items c.in-Some.place w)) (sym c.in_ok-new.ensures ∙ c.in-Some-2.is)
+    with_set-place c.args.columns.now c.args.set.now c.args.row.now c.in-Some.place (sym c.in-Some.ensures)
+    ∙ ap (changed_in c.args.set.now.change c.args.row.now c.in-Some.place)
+    (there c.values.result.now c.args.row.now c.in-Some.place c.in-Some-get.old.now c.values.ensures c.in-Some-get.ensures.lookup.0 c.in-Some-get.ensures.lookup.1)
+    ∙ ap (option_map (λ w. slice_set c.args.row.now c.in-Some.place w)) (sym c.in_ok-new.ensures ∙ c.in-Some-2.is)
 
 pub returns-in_ok-column-in-None-clause-err : goal.returns-in_ok-column-in-None-clause-err
 returns-in_ok-column-in-None-clause-err c =
     let unchanged =
-    with_set-place c.args.columns.now c.args.set.now c.args.values.now.items c.in-Some.place (sym c.in-Some.ensures)
-    ∙ ap (changed_in c.args.set.now.change c.args.values.now.items c.in-Some.place)
-    (there c.deref.result.now c.args.values.now.items c.in-Some.place c.in-Some-get.old.now c.deref.ensures.value c.in-Some-get.ensures.lookup.0 c.in-Some-get.ensures.lookup.1)
-    ∙ ap (option_map (λ w. slice_set c.args.values.now.items c.in-Some.place w)) (sym c.in_ok-new.ensures ∙ c.in-None.is) in
+    with_set-place c.args.columns.now c.args.set.now c.args.row.now c.in-Some.place (sym c.in-Some.ensures)
+    ∙ ap (changed_in c.args.set.now.change c.args.row.now c.in-Some.place)
+    (there c.values.result.now c.args.row.now c.in-Some.place c.in-Some-get.old.now c.values.ensures c.in-Some-get.ensures.lookup.0 c.in-Some-get.ensures.lookup.1)
+    ∙ ap (option_map (λ w. slice_set c.args.row.now c.in-Some.place w)) (sym c.in_ok-new.ensures ∙ c.in-None.is) in
     ap (λ row. found_or row (OutOfRange c.args.set.now.column)) unchanged ∙ ap (λ column. Err (OutOfRange column)) (sym c.in_ok-column-in-None.ensures)

@@ -9,6 +9,9 @@ invariant_of-self c = one_left c.args.txid c.self.inside.items.items c.args.self
 pub invariant_of-self-in-Some-2 : goal.invariant_of-self-in-Some-2
 invariant_of-self-in-Some-2 c = one_left c.args.txid c.self.inside.items.items c.args.self.now _ c.in-Some.place c.self.view_is c.self.invariant c.in-Some.ensures c.remove.ensures.items
 
+pub invariant_of-self-in-Some-3 : goal.invariant_of-self-in-Some-3
+invariant_of-self-in-Some-3 c = one_left c.args.txid c.self.inside.items.items c.args.self.now _ c.in-Some.place c.self.view_is c.self.invariant c.in-Some.ensures c.remove.ensures.items
+
 pub returns-in-Some : goal.returns-in-Some
 returns-in-Some c =
     let new = forget_at c.args.txid c.self.inside.items.items c.args.self.now c.remove.new.self.items c.in-Some.place c.self.view_is c.self.invariant c.in-Some.ensures c.remove.ensures.items in
