@@ -29,6 +29,7 @@ returns-in-Some-2-clause-ok c =
     ∙ ap (changed_in c.args.set.now.change c.args.row.now c.in-Some.place)
     (there c.values.result.now c.args.row.now c.in-Some.place c.in-Some-get.old.now c.values.ensures c.in-Some-get.ensures.lookup.0 c.in-Some-get.ensures.lookup.1)
     ∙ ap (option_map (λ w. slice_set c.args.row.now c.in-Some.place w)) (sym c.in_ok-new.ensures ∙ c.in-Some-2.is)
+    ∙ ap Some (sym c.set.ensures)
 
 pub returns-in_ok-column-in-None-clause-err : goal.returns-in_ok-column-in-None-clause-err
 returns-in_ok-column-in-None-clause-err c =

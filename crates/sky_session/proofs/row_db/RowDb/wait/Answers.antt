@@ -6,7 +6,7 @@ use Rattle.sky_session.specs.Views.{RowDbView}
 use Rattle.sky_session.specs.Seen.{seen}
 use Rattle.sky_session.proofs.Owning.{within-kept, within-push}
 use Rattle.sky_session.proofs.LockLemmas.{kept-as, wait-as, does-wait, refuses-ring}
-use Rattle.sky_session.proofs.row_db.RowDb.wait.Goals.{in-Insertion-2, in-Changes-2, in-Deletion-2}
+use Rattle.sky_session.proofs.row_db.RowDb.wait.Goals.{in-Insertion+in-Pair-2, in-Insertion+in-Listed-2, in-Changes-2, in-Deletion-2}
 use Rattle.sky_session.proofs.row_db.RowDb.wait.Goals as goal
 
 pub invariant_of-self-in_err-set-in-Waits : goal.invariant_of-self-in_err-set-in-Waits
@@ -47,8 +47,9 @@ returns-in-Cycle c =
     = subst (λ (v : RowDbView). LeadsBack (waits_for_in v.locks) c.args.who c.args.holder r.way) c.self.view_is (subst (λ h. LeadsBack (waits_for_in c.self.inside.locks) c.args.who h r.way) same r.leads) in
     let waiters : c.new-waiters.result ≡ c.args.who ∷ r.way = c.new-waiters.ensures ∙ c.into_sessions.ensures ∙ r.closed in
     refuses-ring (seen c.args.self.now) _ c.args.who c.args.key.now.table c.args.key.now.key c.args.attempt c.args.holder c.new-waiters.result r.way leads waiters
-    (elim c.match-attempt-2.branch [
-      | in-Insertion-2 w ↦ ap seen w.self-is ∙ kept-as _ _ c.try_key.new.self c.self.view_is r.same
+    (elim c.match-attempt-3.branch [
+      | in-Insertion+in-Pair-2 w ↦ ap seen w.self-is ∙ kept-as _ _ c.try_key.new.self c.self.view_is r.same
+      | in-Insertion+in-Listed-2 w ↦ ap seen w.self-is ∙ kept-as _ _ c.try_key.new.self c.self.view_is r.same
       | in-Changes-2 w ↦ ap seen w.self-is ∙ kept-as _ _ c.try_key.new.self c.self.view_is r.same
       | in-Deletion-2 w ↦ ap seen w.self-is ∙ kept-as _ _ c.try_key.new.self c.self.view_is r.same
     ])
