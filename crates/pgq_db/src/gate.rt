@@ -101,7 +101,7 @@ impl<'a> WriteGate for EventGate<'a> {
         let before = self.told.len();
         if before == 0 {
             // Room for what this write makes: most statements make one write.
-            self.told = Vec::with_capacity(self.alloc, traced.triggers().len())?;
+            self.told.reserve_exact(traced.triggers().len())?;
         }
         match tell(
             self.queues,

@@ -132,6 +132,7 @@ impl Versions {
             self.items.remove(place);
         }
     }
+
     /// Takes the transaction's version out, and tells whether others are left.
     pub(crate) fn outlives(&mut self, txid: u64) -> bool
         ensures value { self.new ≡ without txid self.old }

@@ -168,7 +168,7 @@ fn place_of(columns: &[Column], name: &Text) -> Option<usize>
 }
 
 /// Makes the change in a row.
-fn change_value(alloc: Global, columns: &[Column], set: &Set, row: &mut Row) -> Result<(), Stop>
+fn change_row(alloc: Global, columns: &[Column], set: &Set, row: &mut Row) -> Result<(), Stop>
     ensures ok { OnOk result (spec.with_set columns.now set.now row.old ≡ Some row.new) }
     ensures err { IfErr result (λ stop. StopsAs stop (found_or (spec.with_set columns.now set.now row.old) (Refusal.OutOfRange set.now.column))) }
 {
@@ -202,7 +202,7 @@ pub(crate) fn with_sets(
 {
     let mut new = row.copy(alloc)?;
     for set in sets {
-        change_value(alloc, columns, set, &mut new)?;
+        change_row(alloc, columns, set, &mut new)?;
     }
     Ok(new)
 }

@@ -119,3 +119,45 @@ fn tells_of_each_kind_of_write(rt: HostRuntime) -> Result<(), Fail> {
     }
     Ok(())
 }
+
+// Names and texts of every class of bytes, empty texts, null, and the numbers at both ends, there and back.
+#[test]
+fn reads_back_every_class_of_bytes(rt: HostRuntime) -> Result<(), Fail> {
+    let alloc = rt.alloc();
+    let schema = Schema::new(vec![in alloc;
+        column(alloc, "Az 09*-._", ColKind::Int, true)?,
+        column(alloc, "&=+%", ColKind::Int, false)?,
+        column(alloc, "\u{0}\t~", ColKind::Text, false)?,
+        column(alloc, "é€", ColKind::Text, false)?,
+        column(alloc, "n", ColKind::Text, false)?,
+    ]?)?;
+    let row = Row::new(vec![in alloc;
+        Val::Int(i64::MIN),
+        Val::Int(i64::MAX),
+        text(alloc, "")?,
+        text(alloc, "Az 09*-._&=+%\u{0}\t~'é€")?,
+        Val::Null,
+    ]?);
+    let written = encode_row(alloc, &schema, &row)?;
+    assert_eq!(rt;
+        written.as_str(),
+        "Az+09*-._=-9223372036854775808&%26%3D%2B%25=9223372036854775807&%00%09%7E=&%C3%A9%E2%82%AC=Az+09*-._%26%3D%2B%25%00%09%7E%27%C3%A9%E2%82%AC&n"
+    );
+    assert!(rt; decode_row(alloc, &schema, written.bytes())? == row);
+    for number in [
+        "9223372036854775808",
+        "-9223372036854775809",
+        "-0",
+        "%2B1",
+        "",
+    ] {
+        let mut text = String::from_str(alloc, "id=")?;
+        text.push_str(number)?;
+        text.push_str("&n=1")?;
+        assert_eq!(rt;
+            decode_row(alloc, &numbers(alloc)?, text.as_bytes()),
+            Err(DecodeFault::BadInt(0))
+        );
+    }
+    Ok(())
+}
