@@ -32,38 +32,68 @@ fn create(alloc: Global) -> Result<RowStmt, Fail> {
     })
 }
 
-fn insert(alloc: Global, id: i64) -> Result<RowStmt, Fail> {
+// The statements of a test are made and run in functions of their own, where nothing is known of what was before: so
+// each is proved by itself.
+fn run(db: &mut RowDb, who: SessionId, stmt: &RowStmt) -> Result<RowStep, Fail> {
+    let step = db.step(who, stmt)?;
+    Ok(step)
+}
+
+fn row(alloc: Global, id: i64) -> Result<RowStmt, Fail> {
     Ok(RowStmt::Insert {
         table: table(alloc)?,
         row: Row::new(number(alloc, id)?),
     })
 }
 
-fn get(alloc: Global, id: i64) -> Result<RowStmt, Fail> {
-    Ok(RowStmt::Get {
+fn insert(alloc: Global, db: &mut RowDb, who: SessionId, id: i64) -> Result<(), Fail> {
+    let stmt = row(alloc, id)?;
+    run(db, who, &stmt)?;
+    Ok(())
+}
+
+fn insert_with(alloc: Global, db: &mut RowDb, id: i64, gate: &mut Few) -> Result<RowStep, Fail> {
+    let stmt = row(alloc, id)?;
+    let step = db.step_with(0, &stmt, gate)?;
+    Ok(step)
+}
+
+fn has_row(alloc: Global, db: &mut RowDb, id: i64) -> Result<bool, Fail> {
+    let stmt = RowStmt::Get {
         table: table(alloc)?,
         key: Key::new(number(alloc, id)?),
-    })
+    };
+    let step = run(db, 2, &stmt)?;
+    Ok(matches!(step.replies.as_slice().first(), Some((2, Reply::Row(_)))))
 }
 
-// The steps of a test are made here, where nothing is known of what was before, so that each is proved by itself.
-fn run(db: &mut RowDb, who: SessionId, stmt: &RowStmt) -> Result<RowStep, Fail> {
-    let step = db.step(who, stmt)?;
+fn with_table(alloc: Global) -> Result<RowDb, Fail> {
+    let mut db = RowDb::new(alloc);
+    let stmt = create(alloc)?;
+    run(&mut db, 0, &stmt)?;
+    Ok(db)
+}
+
+// Session 0 holds a key for which session 1 waits.
+fn with_waiter(alloc: Global) -> Result<RowDb, Fail> {
+    let mut db = with_table(alloc)?;
+    run(&mut db, 0, &RowStmt::Begin)?;
+    insert(alloc, &mut db, 0, 1)?;
+    insert(alloc, &mut db, 1, 1)?;
+    Ok(db)
+}
+
+fn waits(db: &RowDb, who: SessionId) -> bool {
+    db.waits(who)
+}
+
+fn fail(db: &mut RowDb) -> Result<RowStep, Fail> {
+    let step = db.fail(0)?;
     Ok(step)
 }
 
-fn run_with(
-    db: &mut RowDb,
-    who: SessionId,
-    stmt: &RowStmt,
-    gate: &mut Few,
-) -> Result<RowStep, Fail> {
-    let step = db.step_with(who, stmt, gate)?;
-    Ok(step)
-}
-
-fn fail_with(db: &mut RowDb, who: SessionId, gate: &mut Few) -> Result<RowStep, Fail> {
-    let step = db.fail_with(who, gate)?;
+fn fail_with(db: &mut RowDb, gate: &mut Few) -> Result<RowStep, Fail> {
+    let step = db.fail_with(0, gate)?;
     Ok(step)
 }
 
@@ -72,33 +102,44 @@ fn settle_with(db: &mut RowDb, gate: &mut Few) -> Result<RowStep, Fail> {
     Ok(step)
 }
 
-fn waits(db: &RowDb, who: SessionId) -> bool {
-    db.waits(who)
+fn is_silent(step: &RowStep) -> bool {
+    step.replies.as_slice().is_empty() && step.effects.as_slice().is_empty()
 }
 
-fn fail(db: &mut RowDb, who: SessionId) -> Result<RowStep, Fail> {
-    let step = db.fail(who)?;
-    Ok(step)
+fn is_spent(step: &RowStep) -> bool {
+    matches!(
+        step.replies.as_slice().first(),
+        Some((_, Reply::Refused(Refusal::EventIdsSpent)))
+    )
 }
 
-// Session 0 holds a key for which session 1 waits. When the block of 0 is rolled back from outside, 1 goes on.
+// Whether the one answer is that the session has written a row.
+fn is_done(step: &RowStep, who: SessionId) -> bool {
+    let replies = step.replies.as_slice();
+    match replies.first() {
+        Some((whose, Reply::Number(1))) => *whose == who && replies.len() == 1,
+        _ => false,
+    }
+}
+
+// Whether the transaction of this id was rolled back, and another one wrote and committed then.
+fn is_handed_on(step: &RowStep, txid: u64) -> bool {
+    let effects = step.effects.as_slice();
+    match effects.first() {
+        Some(Effect::Aborted(aborted)) => *aborted == txid && effects.len() == 3,
+        _ => false,
+    }
+}
+
+// When the block of a holder is rolled back from outside, the session that waits goes on.
 #[test]
 fn fails_and_lets_go_on(rt: HostRuntime) -> Result<(), Fail> {
-    let alloc = rt.alloc();
-    let mut db = RowDb::new(alloc);
-    run(&mut db, 0, &create(alloc)?)?;
-    run(&mut db, 0, &RowStmt::Begin)?;
-    run(&mut db, 0, &insert(alloc, 1)?)?;
-    run(&mut db, 1, &insert(alloc, 1)?)?;
+    let mut db = with_waiter(rt.alloc())?;
     assert!(rt; waits(&db, 1));
-
-    let step = fail(&mut db, 0)?;
-    assert_eq!(rt; step.replies.as_slice().len(), 1);
-    assert!(rt; is_done(step.replies.as_slice().first(), 1));
-    assert_eq!(rt; step.effects.as_slice().len(), 3);
-    assert!(rt; is_aborted(step.effects.as_slice().first(), 3));
-    let shown = run(&mut db, 2, &get(alloc, 1)?)?;
-    assert!(rt; is_row(shown.replies.as_slice().first(), 2));
+    let step = fail(&mut db)?;
+    assert!(rt; is_done(&step, 1));
+    assert!(rt; is_handed_on(&step, 3));
+    assert!(rt; has_row(rt.alloc(), &mut db, 1)?);
     Ok(())
 }
 
@@ -106,32 +147,25 @@ fn fails_and_lets_go_on(rt: HostRuntime) -> Result<(), Fail> {
 #[test]
 fn refuses_where_the_gate_has_no_room(rt: HostRuntime) -> Result<(), Fail> {
     let alloc = rt.alloc();
-    let mut db = RowDb::new(alloc);
+    let mut db = with_table(alloc)?;
     let mut gate = Few { left: 1 };
-    run(&mut db, 0, &create(alloc)?)?;
-    let first = run_with(&mut db, 0, &insert(alloc, 1)?, &mut gate)?;
-    assert!(rt; is_done(first.replies.as_slice().first(), 0));
-    let second = run_with(&mut db, 0, &insert(alloc, 2)?, &mut gate)?;
-    assert!(rt; is_spent(second.replies.as_slice().first()));
-    let shown = run(&mut db, 0, &get(alloc, 2)?)?;
-    assert!(rt; !is_row(shown.replies.as_slice().first(), 0));
+    let first = insert_with(alloc, &mut db, 1, &mut gate)?;
+    assert!(rt; is_done(&first, 0));
+    let second = insert_with(alloc, &mut db, 2, &mut gate)?;
+    assert!(rt; is_spent(&second));
+    assert!(rt; !has_row(alloc, &mut db, 2)?);
     Ok(())
 }
 
 // A gate has no room for what goes on: it is refused. Then nobody waits.
 #[test]
 fn refuses_what_goes_on(rt: HostRuntime) -> Result<(), Fail> {
-    let alloc = rt.alloc();
-    let mut db = RowDb::new(alloc);
+    let mut db = with_waiter(rt.alloc())?;
     let mut gate = Few { left: 0 };
-    run(&mut db, 0, &create(alloc)?)?;
-    run(&mut db, 0, &RowStmt::Begin)?;
-    run(&mut db, 0, &insert(alloc, 1)?)?;
-    run(&mut db, 1, &insert(alloc, 1)?)?;
-    let step = fail_with(&mut db, 0, &mut gate)?;
-    assert!(rt; is_spent(step.replies.as_slice().first()));
+    let step = fail_with(&mut db, &mut gate)?;
+    assert!(rt; is_spent(&step));
     let rest = settle_with(&mut db, &mut gate)?;
-    assert_eq!(rt; rest.replies.as_slice().len(), 0);
+    assert!(rt; is_silent(&rest));
     Ok(())
 }
 
@@ -158,30 +192,5 @@ impl WriteGate for Few {
     ) -> Result<(), NoMemory> {
         self.left -= 1;
         Ok(())
-    }
-}
-
-fn is_spent(reply: Option<&(SessionId, Reply)>) -> bool {
-    matches!(reply, Some((_, Reply::Refused(Refusal::EventIdsSpent))))
-}
-
-fn is_done(reply: Option<&(SessionId, Reply)>, who: SessionId) -> bool {
-    match reply {
-        Some((whose, Reply::Number(1))) => *whose == who,
-        _ => false,
-    }
-}
-
-fn is_row(reply: Option<&(SessionId, Reply)>, who: SessionId) -> bool {
-    match reply {
-        Some((whose, Reply::Row(_))) => *whose == who,
-        _ => false,
-    }
-}
-
-fn is_aborted(effect: Option<&Effect>, txid: u64) -> bool {
-    match effect {
-        Some(Effect::Aborted(aborted)) => *aborted == txid,
-        _ => false,
     }
 }
