@@ -18,7 +18,7 @@ fn create_queue(alloc: Global) -> Result<Stmt, Fail> {
     Ok(Stmt::CreateQueue { queue })
 }
 
-fn create_table(alloc: Global, table: &[u8]) -> Result<Stmt, Fail> {
+fn create_table(alloc: Global) -> Result<Stmt, Fail> {
     let mut columns = Vec::new(alloc);
     columns.push(Column {
         name: text(alloc, b"id")?,
@@ -26,34 +26,36 @@ fn create_table(alloc: Global, table: &[u8]) -> Result<Stmt, Fail> {
         key: true,
     })?;
     Ok(Stmt::Row(RowStmt::CreateTable {
-        table: text(alloc, table)?,
+        table: text(alloc, b"t")?,
         columns: Columns::new(columns),
     }))
 }
 
-fn add_trigger(alloc: Global, name: &[u8], table: &[u8]) -> Result<Stmt, Fail> {
+fn add_trigger(alloc: Global, name: &[u8]) -> Result<Stmt, Fail> {
     Ok(Stmt::AddTrigger {
         name: text(alloc, name)?,
-        table: text(alloc, table)?,
+        table: text(alloc, b"t")?,
         queue: text(alloc, b"q")?,
         backup: false,
         ignored: ColumnNames::new(Vec::new(alloc)),
     })
 }
 
-fn insert(alloc: Global, table: &[u8], id: i64) -> Result<Stmt, Fail> {
+fn insert(alloc: Global) -> Result<Stmt, Fail> {
     let mut values = Vec::new(alloc);
-    values.push(Val::Int(id))?;
+    values.push(Val::Int(1))?;
     Ok(Stmt::Row(RowStmt::Insert {
-        table: text(alloc, table)?,
+        table: text(alloc, b"t")?,
         row: Row::new(values),
     }))
 }
 
-// The first queue has given all ids but this many.
-fn leave_ids(db: &mut Db, ids: u64) {
-    if db.queue_count() > 0 && ids < EVENT_ID_END {
-        db.raise(0, EVENT_ID_END - 1 - ids);
+// The queue has given all ids but this many.
+fn leave_ids(db: &mut Db, queue: &Text, ids: u64) {
+    if let Some(number) = db.number(queue) {
+        if ids < EVENT_ID_END {
+            db.raise(number, EVENT_ID_END - 1 - ids);
+        }
     }
 }
 
@@ -92,24 +94,27 @@ fn fail_aborts_the_block(rt: HostRuntime) -> Result<(), Fail> {
     Ok(())
 }
 
-// One id is left. A write of which two triggers tell is refused, and takes none; one of which a single trigger tells is
-// made, and takes it.
+// A table with two triggers, and a queue that both put events into.
+fn with_triggers(alloc: Global) -> Result<Db, Fail> {
+    let mut db = Db::new(alloc);
+    run(&mut db, 0, &create_queue(alloc)?)?;
+    run(&mut db, 0, &create_table(alloc)?)?;
+    run(&mut db, 0, &add_trigger(alloc, b"first")?)?;
+    run(&mut db, 0, &add_trigger(alloc, b"second")?)?;
+    Ok(db)
+}
+
+// A write of which two triggers tell is refused where one id is left, and made where two are.
 #[test]
 fn writes_want_an_id_for_each_trigger(rt: HostRuntime) -> Result<(), Fail> {
     let alloc = rt.alloc();
-    let mut db = Db::new(alloc);
-    run(&mut db, 0, &create_queue(alloc)?)?;
-    run(&mut db, 0, &create_table(alloc, b"t")?)?;
-    run(&mut db, 0, &create_table(alloc, b"u")?)?;
-    run(&mut db, 0, &add_trigger(alloc, b"first", b"t")?)?;
-    run(&mut db, 0, &add_trigger(alloc, b"second", b"t")?)?;
-    run(&mut db, 0, &add_trigger(alloc, b"only", b"u")?)?;
-    leave_ids(&mut db, 1);
-    let twice_told = run(&mut db, 0, &insert(alloc, b"t", 1)?)?;
-    assert!(rt; is_spent(twice_told.as_slice().first()));
-    let told = run(&mut db, 0, &insert(alloc, b"u", 1)?)?;
-    assert!(rt; is_one(told.as_slice().first(), 0));
-    let last = run(&mut db, 0, &insert(alloc, b"u", 2)?)?;
-    assert!(rt; is_spent(last.as_slice().first()));
+    let mut db = with_triggers(alloc)?;
+    let (queue, stmt) = (text(alloc, b"q")?, insert(alloc)?);
+    leave_ids(&mut db, &queue, 1);
+    let refused = run(&mut db, 0, &stmt)?;
+    assert!(rt; is_spent(refused.as_slice().first()));
+    leave_ids(&mut db, &queue, 2);
+    let made = run(&mut db, 0, &stmt)?;
+    assert!(rt; is_one(made.as_slice().first(), 0));
     Ok(())
 }
