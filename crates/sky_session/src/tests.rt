@@ -122,13 +122,13 @@ fn is_done(step: &RowStep, who: SessionId) -> bool {
     }
 }
 
-// Whether the transaction of this id was rolled back, and another one wrote and committed then.
+// Whether the effects are that the transaction of this id was rolled back, and that another one wrote and committed.
 fn is_handed_on(step: &RowStep, txid: u64) -> bool {
     let effects = step.effects.as_slice();
-    match effects.first() {
-        Some(Effect::Aborted(aborted)) => *aborted == txid && effects.len() == 3,
-        _ => false,
-    }
+    effects.len() == 3
+        && matches!(effects.first(), Some(Effect::Aborted(aborted)) if *aborted == txid)
+        && matches!(effects.get(1), Some(Effect::Wrote { .. }))
+        && matches!(effects.get(2), Some(Effect::Committed(_)))
 }
 
 // When the block of a holder is rolled back from outside, the session that waits goes on.
