@@ -1,22 +1,19 @@
 -- The gate of events keeps what tells a database of writes: so a statement behind it does what it does in the database.
-use Rattle.std.proofs.Common.{◌≡◌, ℕ, ℤ, zero, suc, ◌+◌, ◌<◌, ◌≤◌, ◌^◌, ◌≢◌, Bool, true, false, nat_le, ◌==◌, List, [], ◌∷◌, ◌++◌, Option, Some, None, Result, Ok, Err, is_ok, IfSome, map, length, refl, sym, ◌∙◌, ap, subst, arith, if◌then◌else◌}
+use Rattle.std.proofs.Common.{◌≡◌, ℕ, ℤ, zero, suc, ◌+◌, ◌<◌, ◌^◌, Bool, true, false, nat_le, ◌==◌, List, [], ◌∷◌, ◌++◌, Option, Some, None, Ok, Err, is_ok, IfSome, map, length, refl, sym, ◌∙◌, ap, subst, arith, if◌then◌else◌}
 use Rattle.std.specs.Prelude.{not, ◌&&◌, slice_get, slice_index_or, unwrap_or}
 use Rattle.std.proofs.lemmas.Bool.Decides.{nat_tests}
 use Rattle.sky_val.specs.declared.val.Val.{Val}
 use Rattle.sky_val.specs.declared.column.Column.{Column}
 use Rattle.sky_val.specs.declared.event.Event.{Event}
 use Rattle.sky_urlenc.specs.RowEvents.{RowEvent, events_of}
-use Rattle.sky_model.specs.declared.reply.Reply.{Reply}
-use Rattle.sky_model.specs.declared.reply.Refusal.{Refusal}
 use Rattle.sky_model.specs.declared.reply.Refusal.TheVariants.{EventIdsSpent}
-use Rattle.sky_model.specs.History.{Batch, Mark, began, ended, block_begun, repeats, looked, block_failed, block_ended, tabled, table_made, wrote, waits, waited, queued, raised, put}
+use Rattle.sky_model.specs.History.{Mark, began, ended, block_begun, repeats, looked, block_failed, block_ended, tabled, table_made, wrote, waits, waited, queued, raised, put}
 use Rattle.sky_model.specs.Triggers.{NamedTrigger}
 use Rattle.sky_model.specs.State.{Queue, RowPart, after_part, after_part_marks, Database, changed_at, after_mark, after_marks}
 use Rattle.sky_model.specs.Outcome.{Checked, ◌>>=◌, ◌>>◌, refused_if}
-use Rattle.sky_model.specs.StepQueue.{next_event_id}
-use Rattle.sky_model.specs.Telling.{write_in, events_in, told_event, event_marks, told_by, told_of}
+use Rattle.sky_model.specs.Telling.{events_in, told_event, event_marks, told_by, told_of}
 use Rattle.sky_model.specs.Reader.{part_by_itself, database_by_itself, within_part}
-use Rattle.sky_model.specs.Gates.{Gate, RowWrite, takes, passed, passed_all, by_gate}
+use Rattle.sky_model.specs.Gates.{takes, passed, passed_all, by_gate}
 use Rattle.sky_model.specs.Settling.{Turn, settling}
 use Rattle.sky_model.specs.Calls.{row_turn, database_turn}
 use Rattle.sky_model.specs.Printed.{HaveMoments}
@@ -33,7 +30,7 @@ use Rattle.pgq_db.specs.Views.{QueueView, TracedView}
 use Rattle.pgq_db.specs.Seen.{seen_queue, no_queue, kept, triggers_of}
 use Rattle.pgq_db.specs.Traced.{IsTable, AreTables}
 use Rattle.pgq_db.specs.Undone.{undone_by}
-use Rattle.pgq_db.specs.EventGates.{EventGateView, table_events, events_at, ids_left, told_from, seq_behind, seqs_behind, seqs, event_rule, queues_behind, AreStorable}
+use Rattle.pgq_db.specs.EventGates.{EventGateView, events_at, ids_left, told_from, seq_behind, seqs, event_rule, queues_behind, AreStorable}
 use Rattle.pgq_db.specs.Gives.{Gives}
 use Rattle.pgq_db.proofs.Databases.{noted-as}
 

@@ -1,13 +1,14 @@
 -- The events of triggers as the gate makes them, one after the other.
-use Rattle.std.proofs.Common.{◌≡◌, ℕ, ℤ, zero, suc, ◌+◌, ◌-◌, ◌<◌, ◌≤◌, ◌^◌, Bool, true, false, nat_le, ◌==◌, List, [], ◌∷◌, ◌++◌, Option, Some, None, map, filter, length, take, drop, get_or, refl, sym, ◌∙◌, ap, subst, arith, if◌then◌else◌}
-use Rattle.std.specs.Prelude.{not, ◌&&◌}
+use Rattle.std.proofs.Common.{◌≡◌, ℕ, ℤ, zero, suc, ◌+◌, ◌-◌, ◌<◌, ◌≤◌, ◌^◌, Bool, true, false, nat_le, ◌==◌, List, [], ◌∷◌, ◌++◌, Option, map, filter, length, take, drop, get_or, refl, sym, ◌∙◌, ap, arith, if◌then◌else◌}
+use Rattle.std.specs.Prelude.{◌≢◌, not, ◌&&◌}
+use Rattle.std.specs.List.{push}
 use Rattle.std.proofs.lemmas.Bool.Decides.{nat_tests}
 use Rattle.std.proofs.lemmas.List.Elements.{All-cons, All-append}
 use Rattle.sky_model.specs.Moment.{HasMoment}
 use Rattle.sky_val.specs.declared.val.Val.{Val}
 use Rattle.sky_val.specs.declared.column.Column.{Column}
 use Rattle.sky_val.specs.declared.event.Event.{Event}
-use Rattle.sky_urlenc.specs.RowEvents.{Write, Trigger, RowEvent, leaves_out, event_of, events_of}
+use Rattle.sky_urlenc.specs.RowEvents.{Write, Trigger, RowEvent, leaves_out, event_of}
 use Rattle.sky_model.specs.Triggers.{NamedTrigger}
 use Rattle.sky_model.specs.State.{changed_at}
 use Rattle.sky_model.specs.Telling.{told_event}
@@ -81,6 +82,30 @@ drop-item {A = A} items xs i x d same lt is =
 seq-more : (queue seq : ℕ) (told : List Told) (x : Told) → seq_behind queue seq (told ++ x ∷ []) ≡ (if x.queue == queue then x.event.ev_id else seq_behind queue seq told)
 seq-more queue seq [] x = refl
 seq-more queue seq (y ∷ ys) x = seq-more queue (if y.queue == queue then y.event.ev_id else seq) ys x
+
+-- of events that are looked through from the newest on, those that are left leave a queue's sequence as all do
+abbrev pub LeftBehind : List QueueView → ℕ → List Told → List Told → Type 0
+LeftBehind queues queue all left = seqs_behind queues left queue ≡ seqs_behind queues all queue
+
+-- the last of those that are left is of the queue, and has its newest id
+last_of_left : (queues : List QueueView) (queue : ℕ) (all left rest : List Told) (x : Told) → LeftBehind queues queue all left → left ≡ push rest x
+    → (if x.queue == queue then x.event.ev_id else seqs_behind queues rest queue) ≡ seqs_behind queues all queue
+last_of_left queues queue all left rest x same is = sym (seq-more queue _ rest x) ∙ ap (λ told. seqs_behind queues told queue) (sym is) ∙ same
+
+pub newest_id : (queues : List QueueView) (queue : ℕ) (all left rest : List Told) (x : Told) → LeftBehind queues queue all left → left ≡ push rest x → x.queue ≡ queue
+    → x.event.ev_id ≡ seqs_behind queues all queue
+newest_id queues queue all left rest x same is of = ap (λ b. if b then x.event.ev_id else seqs_behind queues rest queue) (sym yes) ∙ last_of_left queues queue all left rest x same is
+  where
+    yes : (x.queue == queue) ≡ true
+    yes = grind (arith, nat_tests)
+
+-- or it isn't, and that one is before it
+pub id_before : (queues : List QueueView) (queue : ℕ) (all left rest : List Told) (x : Told) → LeftBehind queues queue all left → left ≡ push rest x → x.queue ≢ queue
+    → LeftBehind queues queue all rest
+id_before queues queue all left rest x same is other = ap (λ b. if b then x.event.ev_id else seqs_behind queues rest queue) (sym no) ∙ last_of_left queues queue all left rest x same is
+  where
+    no : (x.queue == queue) ≡ false
+    no = grind (arith, nat_tests)
 
 -- behind one more event, which has the next id
 pub seqs-more : (queues : List QueueView) (told : List Told) (x : Told) → x.event.ev_id ≡ seqs_behind queues told x.queue + 1

@@ -7,7 +7,7 @@ use Rattle.std.specs.BTreeMap.{is_at}
 use Rattle.std.specs.Map.{lookup}
 use Rattle.sky_model.specs.History.{queued, traced}
 use Rattle.sky_model.specs.Triggers.{NamedTrigger}
-use Rattle.sky_model.specs.State.{RowPart, changed_at, after_part_marks, after_mark}
+use Rattle.sky_model.specs.State.{RowPart, after_part_marks, after_mark}
 use Rattle.sky_model.specs.History.{Mark}
 use Rattle.pgq_db.specs.Views.{QueueView, TracedView, DbView}
 use Rattle.pgq_db.specs.Seen.{kept, triggers_of, seen_database}

@@ -99,10 +99,6 @@ impl<'a> WriteGate for EventGate<'a> {
             return Ok(());
         };
         let before = self.told.len();
-        if before == 0 {
-            // Room for what this write makes: most statements make one write.
-            self.told.reserve_exact(traced.triggers().len())?;
-        }
         match tell(
             self.queues,
             traced,
@@ -126,13 +122,12 @@ fn seq_behind(queues: &[Queue], told: &[Told], queue: usize) -> u64
     requires { queue < length queues.now }
     ensures { result ≡ seqs_behind queues.now told.now queue }
 {
-    let mut seq = queues[queue].seq();
-    for made in told {
+    for made in told.iter().rev() {
         if made.queue == queue {
-            seq = made.event.ev_id;
+            return made.event.ev_id;
         }
     }
-    seq
+    queues[queue].seq()
 }
 
 /// How many of the first triggers tell of the write by an event of the queue.
@@ -209,11 +204,22 @@ fn tell(
         }
         let queue = trigger.queue();
         let id = seq_behind(queues, told.as_slice(), queue) + 1;
+        reserve_first(told, traced.triggers().len())?;
         let event = trigger.event(alloc, traced.name(), traced.schema(), old, new)?;
         told.push(Told {
             queue,
             event: event_of(id, now, txid, event),
         })?;
+    }
+    Ok(())
+}
+
+/// Makes room for the events of one write where none is made yet, since most statements make one write.
+fn reserve_first(told: &mut Vec<Told>, count: usize) -> Result<(), NoMemory>
+    ensures { told.new.items ≡ told.old.items }
+{
+    if told.is_empty() {
+        told.reserve_exact(count)?;
     }
     Ok(())
 }

@@ -1,4 +1,4 @@
-use Rattle.std.proofs.Common.{◌≡◌, ◌+◌, ◌∷◌, List, false, drop, take, sym, ◌∙◌, ap, arith, option_copied, ℕ}
+use Rattle.std.proofs.Common.{◌≡◌, ◌+◌, ◌∷◌, List, false, drop, take, sym, ◌∙◌, ap, arith, option_copied}
 use Rattle.sky_urlenc.specs.RowEvents.{leaves_out}
 use Rattle.sky_model.specs.Triggers.{NamedTrigger}
 use Rattle.pgq_db.specs.EventGates.{seqs_behind, events_by, count_of}

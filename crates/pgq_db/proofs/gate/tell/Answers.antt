@@ -1,4 +1,4 @@
-use Rattle.std.proofs.Common.{◌≡◌, ◌<◌, ◌+◌, ◌++◌, ◌∷◌, [], ℤ, List, true, false, drop, suc, length, get_or, sym, ◌∙◌, ap, subst, refl, arith, option_copied, ℕ, to_z, of_z, w64}
+use Rattle.std.proofs.Common.{◌≡◌, ◌<◌, ◌+◌, ◌++◌, ◌∷◌, [], ℤ, List, false, drop, length, get_or, sym, ◌∙◌, ap, subst, refl, arith, option_copied, to_z, of_z, w64}
 use Rattle.std.proofs.lemmas.Int.{to_z-of_z}
 use Rattle.sky_val.specs.declared.event.Event.{Event}
 use Rattle.sky_urlenc.specs.RowEvents.{Trigger, leaves_out}
@@ -33,15 +33,16 @@ loop-named-preserved c =
     c.in_ok-event.event c.event_of.result same c.name.ensures c.schema-in-loop-named.ensures c.queue-queue.ensures (c.seq_behind-id.ensures ∙ ap (λ ts. seqs_behind queues ts c.queue-queue.result) c.as_slice.ensures.value)
     refl c.in_ok-event.ensures c.event_of.ensures in
     let id : y.event.ev_id ≡ seqs_behind queues told y.queue + 1 = ap (λ (z : Told). z.event.ev_id) is ∙ ap (λ (z : Told). seqs_behind queues told z.queue + 1) (sym is) in
+    let pushed = c.in_ok-push.ensures.items ∙ ap (λ (ts : List Told). ts ++ y ∷ []) c.reserve_first.ensures in
     record {
-      all = ap (λ ts. all_told queues t old new now c.args.txid ts rest) c.in_ok-push.ensures.items
+      all = ap (λ ts. all_told queues t old new now c.args.txid ts rest) pushed
           ∙ told-next queues t old new now c.args.txid told x rest y out is
           ∙ ap (all_told queues t old new now c.args.txid told) (sym at)
           ∙ c.loop-named.invariant.all;
-      ids = ap (λ ts. ids_left (seqs_behind queues ts) (events_by t old new rest)) c.in_ok-push.ensures.items
+      ids = ap (λ ts. ids_left (seqs_behind queues ts) (events_by t old new rest)) pushed
           ∙ ids-rest queues t old new told x rest y out (ap Told.queue is) id (ap (λ xs. ids_left (seqs_behind queues told) (events_by t old new xs)) (sym at) ∙ c.loop-named.invariant.ids);
-      begins = subst (Begins c.args.told.now.items) (sym c.in_ok-push.ensures.items) (begins-more c.args.told.now.items told y c.loop-named.invariant.begins);
-      storable = subst (AreStorable (length queues)) (sym c.in_ok-push.ensures.items)
+      begins = subst (Begins c.args.told.now.items) (sym pushed) (begins-more c.args.told.now.items told y c.loop-named.invariant.begins);
+      storable = subst (AreStorable (length queues)) (sym pushed)
           (storable-more (length queues) told y c.loop-named.invariant.storable (subst (λ q. q < length queues) queue low)
           (subst HasMoment (sym (ap Event.ev_time c.event_of.ensures ∙ to_z-of_z w64 c.args.now c.ranges.now)) c.requires.time));
     }

@@ -1,4 +1,4 @@
-use Rattle.std.proofs.Common.{◌<◌, length, Some, refl, sym, ◌∙◌, ap, subst}
+use Rattle.std.proofs.Common.{◌<◌, Some, refl, sym, ◌∙◌, ap, subst}
 use Rattle.std.specs.Prelude.{find, not}
 use Rattle.sky_model.specs.StepTrigger.{may_ignore}
 use Rattle.pgq_db.specs.Seen.{seen_database}

@@ -1,4 +1,4 @@
-use Rattle.std.proofs.Common.{◌≡◌, ℤ, [], refl, subst, w64, to_z, of_z}
+use Rattle.std.proofs.Common.{ℤ, [], refl, subst, w64, to_z, of_z}
 use Rattle.std.proofs.lemmas.Int.{to_z-of_z}
 use Rattle.sky_model.specs.Reader.{database_by_itself, within_part}
 use Rattle.sky_model.specs.Settling.{with_settling}

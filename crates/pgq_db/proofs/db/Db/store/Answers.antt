@@ -1,6 +1,5 @@
-use Rattle.std.proofs.Common.{◌≡◌, ◌∷◌, List, zero, suc, length, sym, ◌∙◌, ap, subst, arith}
+use Rattle.std.proofs.Common.{length, ◌∙◌}
 use Rattle.std.specs.Vec.Iter.{into_iter_items}
-use Rattle.pgq_db.specs.declared.told.Told.{Told}
 use Rattle.pgq_db.specs.Seen.{seen_database}
 use Rattle.pgq_db.proofs.EventsAlike.{store-next, storable-rest}
 use Rattle.pgq_db.proofs.db.Db.store.Goals as goal

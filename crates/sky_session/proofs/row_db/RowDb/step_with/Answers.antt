@@ -1,5 +1,5 @@
 -- The statement's own turn, and then those that it lets go on.
-use Rattle.std.proofs.Common.{refl, ap}
+use Rattle.std.proofs.Common.{refl}
 use Rattle.sky_model.specs.Settling.{turn_of}
 use Rattle.sky_model.specs.Reader.{part_by_itself}
 use Rattle.sky_model.specs.Gates.{by_gate}
