@@ -6,7 +6,6 @@ use Rattle.sky_model.specs.Calls.{row_form}
 use Rattle.sky_session.specs.Seen.{seen}
 use Rattle.sky_session.specs.Gives.{Passes}
 use Rattle.sky_model.specs.Stops.{Stops}
-use Rattle.sky_model.specs.declared.stop.Stop.TheVariants as stop
 use Rattle.sky_session.proofs.Steps.{on-ok, gives-refused, passed-refused}
 use Rattle.sky_session.proofs.row_db.RowDb.run.Goals as goal
 
