@@ -39,7 +39,7 @@ fn run(db: &mut RowDb, who: SessionId, stmt: &RowStmt) -> Result<RowStep, Fail> 
     Ok(step)
 }
 
-fn row(alloc: Global, id: i64) -> Result<RowStmt, Fail> {
+fn insertion(alloc: Global, id: i64) -> Result<RowStmt, Fail> {
     Ok(RowStmt::Insert {
         table: table(alloc)?,
         row: Row::new(number(alloc, id)?),
@@ -47,13 +47,13 @@ fn row(alloc: Global, id: i64) -> Result<RowStmt, Fail> {
 }
 
 fn insert(alloc: Global, db: &mut RowDb, who: SessionId, id: i64) -> Result<(), Fail> {
-    let stmt = row(alloc, id)?;
+    let stmt = insertion(alloc, id)?;
     run(db, who, &stmt)?;
     Ok(())
 }
 
 fn insert_with(alloc: Global, db: &mut RowDb, id: i64, gate: &mut Few) -> Result<RowStep, Fail> {
-    let stmt = row(alloc, id)?;
+    let stmt = insertion(alloc, id)?;
     let step = db.step_with(0, &stmt, gate)?;
     Ok(step)
 }
