@@ -87,19 +87,19 @@ seq-more queue seq (y ∷ ys) x = seq-more queue (if y.queue == queue then y.eve
 abbrev pub LeftBehind : List QueueView → ℕ → List Told → List Told → Type 0
 LeftBehind queues queue all left = seqs_behind queues left queue ≡ seqs_behind queues all queue
 
--- the last of those that are left is of the queue, and has its newest id
 last_of_left : (queues : List QueueView) (queue : ℕ) (all left rest : List Told) (x : Told) → LeftBehind queues queue all left → left ≡ push rest x
     → (if x.queue == queue then x.event.ev_id else seqs_behind queues rest queue) ≡ seqs_behind queues all queue
 last_of_left queues queue all left rest x same is = sym (seq-more queue _ rest x) ∙ ap (λ told. seqs_behind queues told queue) (sym is) ∙ same
 
+-- the last of those that are left is of the queue, so it has the queue's newest id
 pub newest_id : (queues : List QueueView) (queue : ℕ) (all left rest : List Told) (x : Told) → LeftBehind queues queue all left → left ≡ push rest x → x.queue ≡ queue
     → x.event.ev_id ≡ seqs_behind queues all queue
-newest_id queues queue all left rest x same is of = ap (λ b. if b then x.event.ev_id else seqs_behind queues rest queue) (sym yes) ∙ last_of_left queues queue all left rest x same is
+newest_id queues queue all left rest x same is its = ap (λ b. if b then x.event.ev_id else seqs_behind queues rest queue) (sym yes) ∙ last_of_left queues queue all left rest x same is
   where
     yes : (x.queue == queue) ≡ true
     yes = grind (arith, nat_tests)
 
--- or it isn't, and that one is before it
+-- or it isn't of the queue, so that id is before it
 pub id_before : (queues : List QueueView) (queue : ℕ) (all left rest : List Told) (x : Told) → LeftBehind queues queue all left → left ≡ push rest x → x.queue ≢ queue
     → LeftBehind queues queue all rest
 id_before queues queue all left rest x same is other = ap (λ b. if b then x.event.ev_id else seqs_behind queues rest queue) (sym no) ∙ last_of_left queues queue all left rest x same is
