@@ -17,8 +17,6 @@ mod stored;
 mod sub;
 mod subs;
 mod subscription;
-#[cfg(test)]
-mod tests;
 mod ticks;
 mod told;
 mod traced;

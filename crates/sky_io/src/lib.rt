@@ -20,6 +20,3 @@ pub use sink::{Sink, SinkFault, write_all};
 pub use source::{Failed, Source};
 pub use std_sink::StdSink;
 pub use std_source::StdSource;
-
-#[cfg(test)]
-mod tests;

@@ -215,6 +215,3 @@ fn note(freed: &mut Vec<LockKey>, waiters: &Waiters, key: LockKey)
         freed.push_reserved(key);
     }
 }
-
-#[cfg(test)]
-mod tests;

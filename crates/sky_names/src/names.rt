@@ -76,27 +76,3 @@ impl Names {
         self.texts.as_slice()
     }
 }
-
-#[cfg(test)]
-mod tests {
-    use super::*;
-    use std::test::Fail;
-
-    #[test]
-    fn adds_and_finds(rt: HostRuntime) -> Result<(), Fail> {
-        let mut names = Names::new(rt.alloc());
-        let alpha = Text::from_bytes(rt.alloc(), b"alpha")?;
-        let beta = Text::from_bytes(rt.alloc(), b"beta")?;
-
-        assert!(rt; names.number(&alpha).is_none());
-        let first = names.add(alpha.copy(rt.alloc())?)?;
-        assert!(rt; names.number(&beta).is_none());
-        let second = names.add(beta.copy(rt.alloc())?)?;
-
-        assert_eq!(rt; (first, second), (0, 1));
-        assert_eq!(rt; names.number(&beta), Some(1));
-        assert!(rt; names.as_slice() == [alpha, beta].as_slice());
-        assert_eq!(rt; (names.len(), names.is_empty()), (2, false));
-        Ok(())
-    }
-}

@@ -11,6 +11,3 @@ mod program;
 mod run;
 
 pub use program::run_main;
-
-#[cfg(test)]
-mod tests;

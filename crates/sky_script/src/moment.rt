@@ -40,32 +40,3 @@ fn civil_at(now: i64) -> DateTime
         Err(_) => unreachable!(),
     }
 }
-
-#[cfg(test)]
-mod tests {
-    use super::*;
-    use std::alloc::Global;
-    use std::test::Fail;
-
-    fn printed(alloc: Global, now: i64) -> Result<Vec<u8>, NoMemory>
-        requires { HasMoment now }
-    {
-        let mut text = Vec::new(alloc);
-        print_moment(now, &mut text)?;
-        Ok(text)
-    }
-
-    #[test]
-    fn prints_moments(rt: HostRuntime) -> Result<(), Fail> {
-        let start = printed(rt.alloc(), 0)?;
-        assert_eq!(rt; start.as_slice(), b"2012-01-01 00:00:00.000000".as_slice());
-        let leap_day = printed(rt.alloc(), 5_183_999_999_999)?;
-        assert_eq!(rt;
-            leap_day.as_slice(),
-            b"2012-02-29 23:59:59.999999".as_slice()
-        );
-        let far = printed(rt.alloc(), 1_000_000_000_000_000)?;
-        assert_eq!(rt; far.as_slice(), b"2043-09-09 01:46:40.000000".as_slice());
-        Ok(())
-    }
-}

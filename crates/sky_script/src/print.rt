@@ -220,38 +220,3 @@ pub(crate) fn append_number(number: u64, into: &mut Vec<u8>) -> Result<(), NoMem
 {
     into.extend_from_slice(Buffer::new().format(number).as_bytes())
 }
-
-#[cfg(test)]
-mod tests {
-    use super::*;
-    use sky_model::{BadRow, Rows};
-    use sky_val::BoxedText;
-    use std::alloc::AllocError;
-
-    #[test]
-    fn prints_rows(rt: HostRuntime) -> Result<(), AllocError> {
-        let alloc = rt.alloc();
-        let Ok(name) = Text::from_bytes(alloc, b"a") else {
-            return Err(AllocError);
-        };
-        let Ok(text) = Text::from_bytes(alloc, b"it's") else {
-            return Err(AllocError);
-        };
-        let column = name.copy(alloc)?;
-        let values = vec![in alloc;
-            Val::Int(i64::MIN),
-            Val::Null,
-            Val::Text(BoxedText::new(alloc, text)?),
-        ]?;
-        let mut replies = Replies::new(alloc);
-        replies.push(0, Reply::Rows(Rows::new(vec![in alloc; Row::new(values)]?)))?;
-        replies.push(0, Reply::NoRow)?;
-        replies.push(0, Reply::Refused(Refusal::BadRow(BadRow::Type(column))))?;
-        let mut printed = Vec::new(alloc);
-        print_replies(&[name], &replies, &mut printed)?;
-        let want =
-            b"a: row -9223372036854775808 null 'it''s'\na: rows 1\na: none\na: error BadRow type a\n";
-        assert_eq!(rt; printed.as_slice(), want.as_slice());
-        Ok(())
-    }
-}

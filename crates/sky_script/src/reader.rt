@@ -162,26 +162,3 @@ impl LineReader {
         fault
     }
 }
-
-#[cfg(test)]
-mod tests {
-    use super::*;
-    use sky_io::MemSource;
-    use std::test::Fail;
-
-    #[test]
-    fn lines_come_a_byte_at_a_time(rt: HostRuntime) -> Result<(), Fail> {
-        let bytes = Vec::from_slice(rt.alloc(), b"one\n\nrest")?;
-        let mut source = MemSource::new(bytes, 1, Vec::new(rt.alloc()));
-        let mut reader = LineReader::new(rt.alloc())?;
-        for line in [b"one".as_slice(), b"".as_slice()] {
-            let answer = reader.next_line(&mut source)?;
-            assert_eq!(rt; answer.as_deref(), Some(line));
-        }
-        for _ in 0..2 {
-            let answer = reader.next_line(&mut source);
-            assert!(rt; matches!(answer, Err(LineFault::Truncated)));
-        }
-        Ok(())
-    }
-}

@@ -24,8 +24,6 @@ mod session;
 mod sessions;
 mod settling;
 mod statements;
-#[cfg(test)]
-mod tests;
 mod values;
 
 pub use answer::RowStep;

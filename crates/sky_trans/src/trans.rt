@@ -157,26 +157,3 @@ impl Trans {
         Snapshot::of(self.alloc, self.next, &self.running)
     }
 }
-
-#[cfg(test)]
-mod tests {
-    use super::*;
-    use std::test::Fail;
-
-    #[test]
-    fn commits_out_of_order(rt: HostRuntime) -> Result<(), Fail> {
-        let mut trans = Trans::new(rt.alloc());
-        let first = trans.assign()?;
-        trans.commit(first);
-        let held = trans.assign()?;
-        let other = trans.assign()?;
-        trans.commit(other);
-        let mut printed = Vec::new(rt.alloc());
-        trans.snapshot()?.print(&mut printed)?;
-        assert_eq!(rt; (trans.least(), trans.running(other)), (Some(held), false));
-        trans.abort(held);
-        trans.snapshot()?.print(&mut printed)?;
-        assert!(rt; printed.as_slice() == b"4:6:46:6:".as_slice());
-        Ok(())
-    }
-}

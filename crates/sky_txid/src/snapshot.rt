@@ -197,29 +197,3 @@ fn rises_within(ids: &[u64], mut low: u64, high: u64) -> bool
     }
     true
 }
-
-#[cfg(test)]
-mod tests {
-    use super::*;
-    use std::test::Fail;
-
-    #[test]
-    fn reads_prints_and_sees(rt: HostRuntime) -> Result<(), Fail> {
-        let snapshot = Snapshot::parse(rt.alloc(), b"10:20:10,10,14,15")?;
-        for (id, seen) in [(9, true), (11, true), (14, false), (20, false)] {
-            assert_eq!(rt; snapshot.sees(id), seen, "at {id}");
-        }
-        for refused in ["10:9:", "10:20:20", "0:5:"] {
-            assert_eq!(rt;
-                Snapshot::parse(rt.alloc(), refused.as_bytes()).err(),
-                Some(SnapshotFault::BadSnapshot),
-                "at {refused}"
-            );
-        }
-        let mut printed = Vec::new(rt.alloc());
-        snapshot.copy(rt.alloc())?.print(&mut printed)?;
-        Snapshot::of(rt.alloc(), 6, &[4])?.print(&mut printed)?;
-        assert!(rt; printed.as_slice() == b"10:20:10,14,154:6:4".as_slice());
-        Ok(())
-    }
-}

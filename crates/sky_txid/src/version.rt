@@ -23,22 +23,3 @@ impl Version {
         })
     }
 }
-
-#[cfg(test)]
-mod tests {
-    use super::*;
-    use sky_val::Val;
-    use std::test::Fail;
-
-    #[test]
-    fn copies_rows_and_deletions(rt: HostRuntime) -> Result<(), Fail> {
-        let mut values = Vec::new(rt.alloc());
-        values.push(Val::Int(10))?;
-        let row = Some(Row::new(values));
-        for version in [Version { txid: 3, row }, Version { txid: 4, row: None }] {
-            let copy = version.copy(rt.alloc())?;
-            assert!(rt; copy.txid == version.txid && copy.row == version.row);
-        }
-        Ok(())
-    }
-}

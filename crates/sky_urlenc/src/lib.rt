@@ -16,8 +16,6 @@ mod fault;
 mod pieces;
 mod row_event;
 mod sides;
-#[cfg(test)]
-mod tests;
 mod trigger;
 
 pub use decode::decode_row;

@@ -41,34 +41,3 @@ impl Event {
         })
     }
 }
-
-#[cfg(test)]
-mod tests {
-    use super::*;
-    use std::test::Fail;
-
-    #[test]
-    fn copies_each_field(rt: HostRuntime) -> Result<(), Fail> {
-        let alloc = rt.alloc();
-        let event = Event {
-            ev_id: 1,
-            ev_time: 2,
-            ev_txid: 3,
-            ev_owner: Some(4),
-            ev_retry: Some(5),
-            ev_type: Some(Text::from_bytes(alloc, b"I:id")?),
-            ev_data: Some(Text::from_bytes(alloc, b"longer than what is kept in place")?),
-            ev_extra1: Some(Text::from_bytes(alloc, b"1")?),
-            ev_extra2: None,
-            ev_extra3: Some(Text::from_bytes(alloc, b"3")?),
-            ev_extra4: Some(Text::from_bytes(alloc, b"")?),
-        };
-        let copy = event.copy(alloc)?;
-        assert!(rt; copy.ev_id == 1 && copy.ev_time == 2 && copy.ev_txid == 3);
-        assert!(rt; copy.ev_owner == Some(4) && copy.ev_retry == Some(5));
-        assert!(rt; copy.ev_type == event.ev_type && copy.ev_data == event.ev_data);
-        assert!(rt; copy.ev_extra1 == event.ev_extra1 && copy.ev_extra2.is_none());
-        assert!(rt; copy.ev_extra3 == event.ev_extra3 && copy.ev_extra4 == event.ev_extra4);
-        Ok(())
-    }
-}

@@ -204,32 +204,3 @@ fn has_key(columns: &[Column]) -> bool
 {
     columns.iter().any(|column| column.key)
 }
-
-#[cfg(test)]
-mod tests {
-    use super::*;
-    use crate::column::ColKind;
-    use crate::val::Val;
-    use std::test::Fail;
-
-    #[test]
-    fn takes_a_row_and_tells_its_key(rt: HostRuntime) -> Result<(), Fail> {
-        let alloc = rt.alloc();
-        let name = Column {
-            name: Text::from_bytes(alloc, b"name")?,
-            kind: ColKind::Text,
-            key: false,
-        };
-        let id = Column {
-            name: Text::from_bytes(alloc, b"id")?,
-            kind: ColKind::Int,
-            key: true,
-        };
-        let schema = Schema::new(vec![in alloc; name, id]?)?.copy(alloc)?;
-        let row = Row::new(vec![in alloc; Val::Null, Val::Int(7)]?).copy(alloc)?;
-        assert_eq!(rt; schema.check(&row), Ok(()));
-        let key = schema.key_of(&row)?.copy(alloc)?;
-        assert!(rt; key == Key::new(vec![in alloc; Val::Int(7)]?) && key == Key::one(Val::Int(7)));
-        Ok(())
-    }
-}
