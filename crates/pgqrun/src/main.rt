@@ -23,11 +23,11 @@ fn main(rt: HostRuntime) -> ExitCode {
     ExitCode::from(run_main(rt.alloc(), &words, &mut src, &mut out, &mut err))
 }
 
-// A word that isn't UTF-8 is none that the program knows, so that no words at all are as good.
+// A word that can't be read, as one that isn't UTF-8, is none that the program knows, so no words at all are as good.
 fn words_behind_name<R: Env + AllocGlobal>(rt: &R) -> Result<Vec<String>, AllocError> {
     match env::args(rt) {
         Ok(args) => args.skip(1).collect(rt.alloc()),
-        Err(error) if error.kind() == ErrorKind::InvalidData => Ok(Vec::new(rt.alloc())),
-        Err(_) => Err(AllocError),
+        Err(error) if error.kind() == ErrorKind::OutOfMemory => Err(AllocError),
+        Err(_) => Ok(Vec::new(rt.alloc())),
     }
 }
