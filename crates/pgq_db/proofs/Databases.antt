@@ -1,5 +1,5 @@
 -- What a database shows, after what the code changed in it.
-use Rattle.std.proofs.Common.{Err, is_ok, drop, ◌≡◌, ℕ, suc, zero, ℤ, ◌+◌, ◌<◌, ◌≤◌, ◌^◌, List, [], ◌∷◌, ◌++◌, Bool, true, false, ◌||◌, ◌==◌, nat_le, Option, Some, None, Result, Ok, Vec, Global, IfOk, is_some, length, get_or, slice_set, get_or-set_same, get_or-set_other, ◌≢◌, option_map, filter, nat_cmp, cond, refl, sym, ◌∙◌, ap, subst, arith, if◌then◌else◌}
+use Rattle.std.proofs.Common.{Err, is_ok, drop, ◌≡◌, ℕ, suc, zero, ℤ, ◌+◌, ◌<◌, ◌≤◌, ◌^◌, List, [], ◌∷◌, ◌++◌, Bool, true, false, ◌||◌, ◌==◌, nat_le, Option, Some, None, Result, Ok, Vec, Global, IfOk, OnOk, is_some, length, get_or, slice_set, get_or-set_same, get_or-set_other, ◌≢◌, option_map, filter, nat_cmp, cond, length-append, refl, sym, ◌∙◌, ap, subst, arith, if◌then◌else◌}
 use Rattle.std.proofs.lemmas.Bool.Decides.{nat_tests}
 use Rattle.std.proofs.lemmas.List.Elements.{All-filter}
 use Rattle.std.proofs.lemmas.Result.{IfOk-weaker}
@@ -25,7 +25,8 @@ use Rattle.sky_model.specs.declared.stmt.Stmt.{Stmt}
 use Rattle.sky_model.specs.declared.stmt.Where.{Where}
 use Rattle.sky_model.specs.History.{Mark, began, ended, block_begun, repeats, looked, block_failed, block_ended, tabled, table_made, wrote, waits, waited, queued, made, raised, put, ticked, opened, traced}
 use Rattle.sky_model.specs.Sessions.{Block, outside, inside, failed}
-use Rattle.sky_model.specs.Queues.{Tick, tick}
+use Rattle.sky_model.specs.Queues.{queue_number, Tick, tick}
+use Rattle.sky_model.specs.Triggers.{triggers_of}
 use Rattle.sky_model.specs.Selection.{snapshot_at, is_selected, selected_in, selected}
 use Rattle.sky_model.specs.StepConsumer.{finish_batch, finishes, get_batch_events}
 use Rattle.sky_model.specs.State.{Queue, with_txid, RowPart, after_part_marks, Database, changed_at, changed_for, with_batch, at_position, after_mark, after_marks}
@@ -38,22 +39,24 @@ use Rattle.sky_model.specs.Made.{Making, takes_sight, runs, looking, runs_if}
 use Rattle.sky_model.specs.Reader.{database_by_itself, within_part, shown_by}
 use Rattle.sky_model.specs.Settling.{Turn, turn_of, behind_marks, settling, with_settling}
 use Rattle.sky_model.specs.Calls.{form, making, statement, database_turn}
+use Rattle.sky_model.specs.DatabaseCalls as call
+use Rattle.sky_model.specs.DatabaseCalls.{stepped}
 use Rattle.sky_model.specs.DatabaseSteps.{DatabaseSteps}
 use Rattle.sky_model.proofs.RowOutcomes.{RowMarks}
-use Rattle.sky_model.proofs.DatabaseStanding.{after_marks-append, behind-all, database_steps_from_exact}
+use Rattle.sky_model.proofs.DatabaseStanding.{after_marks-append, behind-all, database_steps_from_exact, database_enter_from_exact}
 use Rattle.sky_session.specs.Effects.{effects_of}
 use Rattle.sky_session.specs.declared.effect.Effect.{Effect}
 use Rattle.sky_session.specs.declared.effect.Effect.TheVariants.{Wrote, Committed, Aborted}
-use Rattle.sky_session.specs.Marks.{look_of, single_end, failure}
-use Rattle.sky_session.specs.Gives.{Enters}
+use Rattle.sky_model.specs.SessionMarks.{look_of, single_end, failure, Enters, entry, entry_place}
 use Rattle.sky_session.specs.Views.{RowDbView}
 use Rattle.sky_session.specs.Seen.{seen}
 use Rattle.pgq_db.specs.declared.batch.Batch.{Batch}
 use Rattle.pgq_db.specs.Views.{QueueView, DbView}
-use Rattle.pgq_db.specs.Seen.{seen_queue, no_queue, seen_batch, keeps, seen_database}
+use Rattle.pgq_db.specs.Seen.{seen_queue, no_queue, seen_batch, keeps, numbered, seen_database}
 use Rattle.pgq_db.specs.Undone.{undone_by}
 use Rattle.pgq_db.specs.Gives.{Gives, GivesReply, Does}
 use Rattle.sky_model.specs.Stops.{Refuses}
+use Rattle.pgq_db.proofs.NumberedQueues.{numbered-more}
 
 -- the test on an entry's key is equality
 pub is_at-nat : (k n : ℕ) → is_at (nat_cmp k) n ≡ (k == n)
@@ -184,17 +187,20 @@ pub made-as : (v now : DbView) (names : List (List ℕ)) (queues : List QueueVie
     → seen_database (record v { names = names; queues = queues }) ≡ after_marks (seen_database now) (queued (made name) ∷ queued (ticked (length now.names) 1 t.time 0) ∷ [])
 made-as v now names queues q name t same more one new count id seq snap =
     (λ i. record (seen_database v) {
-      names = more i;
+      queues_made = (ap length more ∙ length-append v.names (name ∷ [])) i;
+      queues = (ap (numbered 0) more ∙ numbered-more v.names name) i;
       queue = ((λ j n. seen_queue (get_or (one j) n no_queue))
           ∙ ap (λ x. λ n. seen_queue (get_or (v.queues ++ x ∷ []) n no_queue)) new
           ∙ queues-made v.queues t (length v.names) (sym count)) i;
     })
     ∙ ap (λ (w : DbView). record (seen_database w) {
-      names = w.names ++ name ∷ [];
+      queues_made = length w.names + 1;
+      queues = numbered 0 w.names ++ record { number = length w.names; name = name } ∷ [];
       queue = changed_at (length w.names) (λ x. record x { tick_list = x.tick_list ++ t ∷ [] }) (seen_database w).queue;
     }) same
     ∙ ap (λ (x : Tick). record (seen_database now) {
-      names = now.names ++ name ∷ [];
+      queues_made = length now.names + 1;
+      queues = numbered 0 now.names ++ record { number = length now.names; name = name } ∷ [];
       queue = changed_at (length now.names) (λ y. record y { tick_list = y.tick_list ++ x ∷ [] }) (seen_database now).queue;
     }) is
   where
@@ -309,32 +315,32 @@ queue-written d who t (Some own) inside n name time = refl
 queue-written d who t (Some own) failed n name time = refl
 
 -- a queue that is made, in a transaction of its own
-pub made-queue : (d s1 s2 : Database) (now time : ℤ) (who t count : ℕ) (name copied : List ℕ) → copied ≡ name → count ≡ length d.names → time ≡ now
+pub made-queue : (d s1 s2 : Database) (now time : ℤ) (who t count : ℕ) (name copied : List ℕ) → copied ≡ name → count ≡ d.queues_made → time ≡ now
     → s1 ≡ after_marks d (begin_of who t (d.part.session who).txid ++ commit_of who t (d.part.session who).block)
     → s2 ≡ after_marks s1 (queued (made copied) ∷ queued (ticked count 1 time 0) ∷ [])
-    → s2 ≡ after_marks d (written who t (d.part.session who) (queued (made name) ∷ []) ++ queued (ticked (length d.names) 1 now 0) ∷ [])
+    → s2 ≡ after_marks d (written who t (d.part.session who) (queued (made name) ∷ []) ++ queued (ticked d.queues_made 1 now 0) ∷ [])
 made-queue d s1 s2 now time who t count name copied same names at m1 m2 =
     m2 ∙ ap (λ s. after_marks s (queued (made copied) ∷ queued (ticked count 1 time 0) ∷ [])) m1
     ∙ queue-written d who t (d.part.session who).txid (d.part.session who).block count copied time
     ∙ ap (λ n. after_marks d (written who t (d.part.session who) (queued (made n) ∷ []) ++ queued (ticked count 1 time 0) ∷ [])) same
     ∙ ap (λ n. after_marks d (written who t (d.part.session who) (queued (made name) ∷ []) ++ queued (ticked n 1 time 0) ∷ [])) names
-    ∙ ap (λ x. after_marks d (written who t (d.part.session who) (queued (made name) ∷ []) ++ queued (ticked (length d.names) 1 x 0) ∷ [])) at
+    ∙ ap (λ x. after_marks d (written who t (d.part.session who) (queued (made name) ∷ []) ++ queued (ticked d.queues_made 1 x 0) ∷ [])) at
 
 -- what a queue that is made gives
-pub gives-queue : (d s : Database) (now : ℤ) (who t : ℕ) (name : List ℕ) → place_of name d.names ≡ None → length d.names < 64 → txid_for d.part who ≡ Ok t
-    → s ≡ after_marks d (written who t (d.part.session who) (queued (made name) ∷ []) ++ queued (ticked (length d.names) 1 now 0) ∷ [])
+pub gives-queue : (d s : Database) (now : ℤ) (who t : ℕ) (name : List ℕ) → queue_number name d.queues ≡ None → length d.queues < 64 → txid_for d.part who ≡ Ok t
+    → s ≡ after_marks d (written who t (d.part.session who) (queued (made name) ∷ []) ++ queued (ticked d.queues_made 1 now 0) ∷ [])
     → Does d s (Number 1) (create_queue d now who name)
 gives-queue d s now who t name new room txid is = subst (Does d s (Number 1)) (sym whole) (record { accepted = refl; changed = is })
   where
-    few : nat_le 64 (length d.names) ≡ false
+    few : nat_le 64 (length d.queues) ≡ false
     few = grind (arith, nat_tests)
 
     result : ℕ → Checked Outcome
-    result x = does_marks (Number 1) (written who x (d.part.session who) (queued (made name) ∷ []) ++ queued (ticked (length d.names) 1 now 0) ∷ [])
+    result x = does_marks (Number 1) (written who x (d.part.session who) (queued (made name) ∷ []) ++ queued (ticked d.queues_made 1 now 0) ∷ [])
 
     whole : create_queue d now who name ≡ result t
     whole =
-        ap (λ found. if is_some found then answers (Number 0) else (refused_if (nat_le 64 (length d.names)) (TooMany Queues) >> (txid_for d.part who >>= result))) new
+        ap (λ found. if is_some found then answers (Number 0) else (refused_if (nat_le 64 (length d.queues)) (TooMany Queues) >> (txid_for d.part who >>= result))) new
         ∙ ap (λ b. refused_if b (TooMany Queues) >> (txid_for d.part who >>= result)) few
         ∙ ap (λ c. c >>= result) txid
 
@@ -582,24 +588,30 @@ took d taken left who t id begins ends =
     joined (Some u) inside = refl
     joined (Some u) failed = refl
 
--- a statement's answers are those at each place of a history at which the database was as it was
+-- a statement keeps its promise
 pub steps-given : (d s : Database) (time now : ℤ) (who : ℕ) (stmt : Stmt) (replies : List (ℕ × Reply)) → time ≡ now
-    → Gives d s replies (database_turn database_by_itself d time who stmt) → DatabaseSteps d s now who stmt replies
+    → Gives d s replies (database_turn database_by_itself d time who stmt) → DatabaseSteps d s (stepped who stmt now) (database_turn database_by_itself d now who stmt)
 steps-given d s time now who stmt replies at gives =
-    subst (λ t. DatabaseSteps d s t who stmt replies) at (database_steps_from_exact d s time who stmt replies gives.replied gives.changed)
+    subst (λ t. DatabaseSteps d s (stepped who stmt t) (database_turn database_by_itself d t who stmt)) at (database_steps_from_exact d s (stepped who stmt time) gives.changed)
+
+-- a session that entered, or was refused, keeps its promise
+pub entered-steps : {E : Type 0} (d s : Database) (who : ℕ) (alone : Bool) (r : Result (Option Refusal) E) → IfOk r (λ refusal. Enters d.part s.part who (entry_place alone) refusal)
+    → s ≡ record d { part = s.part } → OnOk r (DatabaseSteps d s (call.entered who alone) (entry d.part who (entry_place alone)))
+entered-steps d s who alone (Ok refusal) enters but = database_enter_from_exact d s who alone refusal enters but
+entered-steps d s who alone (Err e) enters but = tt
 
 -- a trigger that is to ignore a column that it may not
 pub bad-column : (d : Database) (name table queue : List ℕ) (backup : Bool) (ignored : List (List ℕ)) (n q : ℕ) (column : List ℕ) → place_of table d.part.tables ≡ Some n → queue_called queue d ≡ Ok q
-    → has_trigger name (d.triggers n) ≡ false → length (d.triggers n) < 8 → find (λ x. not (may_ignore (d.part.columns n) x)) ignored ≡ Some column
+    → has_trigger name (triggers_of n d.triggers) ≡ false → length (triggers_of n d.triggers) < 8 → find (λ x. not (may_ignore (d.part.columns n) x)) ignored ≡ Some column
     → add_trigger d name table queue backup ignored ≡ Err (BadColumn column)
 bad-column d name table queue backup ignored n q column there known new few bad =
-    ap (λ o. found_or o (NoTable table) >>= (λ t. queue_called queue d >>= (λ x. rest t x (has_trigger name (d.triggers t)) (nat_le 8 (length (d.triggers t))) (find (λ y. not (may_ignore (d.part.columns t) y)) ignored)))) there
-    ∙ ap (λ c. c >>= (λ x. rest n x (has_trigger name (d.triggers n)) (nat_le 8 (length (d.triggers n))) (find (λ y. not (may_ignore (d.part.columns n) y)) ignored))) known
+    ap (λ o. found_or o (NoTable table) >>= (λ t. queue_called queue d >>= (λ x. rest t x (has_trigger name (triggers_of t d.triggers)) (nat_le 8 (length (triggers_of t d.triggers))) (find (λ y. not (may_ignore (d.part.columns t) y)) ignored)))) there
+    ∙ ap (λ c. c >>= (λ x. rest n x (has_trigger name (triggers_of n d.triggers)) (nat_le 8 (length (triggers_of n d.triggers))) (find (λ y. not (may_ignore (d.part.columns n) y)) ignored))) known
     ∙ (λ i. rest n q (new i) (free i) (bad i))
   where
     rest : ℕ → ℕ → Bool → Bool → Option (List ℕ) → Checked Outcome
     rest t x has full found = refused_if has (TriggerExists name) >> (refused_if full (TooMany Triggers) >> (refused_by (option_map BadColumn found) >> (refused_by (option_map TableBusy (least_writer d.part t))
-        >> does_marks Done (queued (traced t name (record { queue = x; backup = backup; ignored = ignored })) ∷ []))))
+        >> does_marks Done (queued (traced t (Some name) (record { queue = x; backup = backup; ignored = ignored })) ∷ []))))
 
-    free : nat_le 8 (length (d.triggers n)) ≡ false
+    free : nat_le 8 (length (triggers_of n d.triggers)) ≡ false
     free = grind (arith, nat_tests)

@@ -7,8 +7,8 @@ use Rattle.sky_val.specs.declared.column.Column.{Column}
 use Rattle.sky_val.specs.declared.event.Event.{Event}
 use Rattle.sky_urlenc.specs.RowEvents.{RowEvent, events_of}
 use Rattle.sky_model.specs.declared.reply.Refusal.TheVariants.{EventIdsSpent}
-use Rattle.sky_model.specs.History.{Mark, began, ended, block_begun, repeats, looked, block_failed, block_ended, tabled, table_made, wrote, waits, waited, queued, raised, put}
-use Rattle.sky_model.specs.Triggers.{NamedTrigger}
+use Rattle.sky_model.specs.History.{Mark, of_session, of_worker, began, ended, block_begun, repeats, looked, block_failed, block_ended, tabled, table_made, wrote, waits, waited, queued, raised, put}
+use Rattle.sky_model.specs.Triggers.{TableTrigger, triggers_of}
 use Rattle.sky_model.specs.State.{Queue, RowPart, after_part, after_part_marks, Database, changed_at, after_mark, after_marks}
 use Rattle.sky_model.specs.Outcome.{Checked, ◌>>=◌, ◌>>◌, refused_if}
 use Rattle.sky_model.specs.Telling.{events_in, told_event, event_marks, told_by, told_of}
@@ -26,9 +26,9 @@ use Rattle.sky_model.proofs.Telling.{IsOther, TellsAlike, SameTold, settling-tol
 use Rattle.sky_session.specs.declared.answer.RowStep.{RowStep}
 use Rattle.sky_session.specs.Gives.{GivesTurn}
 use Rattle.pgq_db.specs.declared.told.Told.{Told}
-use Rattle.pgq_db.specs.Views.{QueueView, TracedView}
-use Rattle.pgq_db.specs.Seen.{seen_queue, no_queue, kept, triggers_of}
-use Rattle.pgq_db.specs.Traced.{IsTable, AreTables}
+use Rattle.pgq_db.specs.Views.{QueueView, TracedTableView}
+use Rattle.pgq_db.specs.Seen.{seen_queue, no_queue, kept}
+use Rattle.pgq_db.specs.Traced.{triggers_at, places_of, ArePlaced, IsTable, AreTables}
 use Rattle.pgq_db.specs.Undone.{undone_by}
 use Rattle.pgq_db.specs.EventGates.{EventGateView, events_at, ids_left, told_from, seq_behind, seqs, event_rule, queues_behind, AreStorable}
 use Rattle.pgq_db.specs.Gives.{Gives}
@@ -57,7 +57,7 @@ other-columns m n columns f lt = by (m == n) refl
     by true e = let same : m ≡ n = grind (arith, nat_tests) in absurd (omega arith)
     by false e = refl
 
-pub table-kept : (p : RowPart) (mark : Mark) (n : ℕ) (t : TracedView) → IsTable p n t → IsTable (after_part p mark) n t
+pub table-kept : (p : RowPart) (mark : Mark) (n : ℕ) (t : TracedTableView) → IsTable p n t → IsTable (after_part p mark) n t
 table-kept p (began who t') n t is = is
 table-kept p (ended who t' true) n t is = is
 table-kept p (ended who t' false) n t is = is
@@ -73,10 +73,10 @@ table-kept p (tabled (waits who table key attempt)) n t is = is
 table-kept p (tabled (waited who)) n t is = is
 table-kept p (queued mark) n t is = is
 
-pub tables-kept : (p : RowPart) (mark : Mark) (traced : List (ℕ × TracedView)) → AreTables p traced → AreTables (after_part p mark) traced
+pub tables-kept : (p : RowPart) (mark : Mark) (traced : List (ℕ × TracedTableView)) → AreTables p traced → AreTables (after_part p mark) traced
 tables-kept p mark traced are n = if-some (kept traced n) (IsTable p n) (IsTable (after_part p mark) n) (table-kept p mark n) (are n)
 
-pub tables-behind : (p : RowPart) (marks : List Mark) (traced : List (ℕ × TracedView)) → AreTables p traced → AreTables (after_part_marks p marks) traced
+pub tables-behind : (p : RowPart) (marks : List Mark) (traced : List (ℕ × TracedTableView)) → AreTables p traced → AreTables (after_part_marks p marks) traced
 tables-behind p [] traced are = are
 tables-behind p (mark ∷ marks) traced are = tables-behind (after_part p mark) marks traced (tables-kept p mark traced are)
 
@@ -175,16 +175,17 @@ behind-append (x ∷ xs) f ys = behind-append xs (changed_at x.queue (λ q. reco
 abbrev queues_of : List QueueView → ℕ → Queue
 queues_of queues n = seen_queue (slice_index_or queues n no_queue)
 
-pub record Alike (now : ℤ) (traced : List (ℕ × TracedView)) (queues : List QueueView) (d : Database) (p : RowPart) (g : EventGateView) : Type 0 where
+pub record Alike (now : ℤ) (triggers : List TableTrigger) (traced : List (ℕ × TracedTableView)) (queues : List QueueView) (d : Database) (p : RowPart) (g : EventGateView) : Type 0 where
   pub part : d.part ≡ p
-  pub gate : g ≡ record { now = now; traced = traced; queues = queues; told = g.told }
+  pub gate : g ≡ record { now = now; triggers = triggers; traced = traced; queues = queues; told = g.told }
   pub queue : d.queue ≡ queues_behind (queues_of queues) g.told
-  pub triggers : d.triggers ≡ (λ n. triggers_of (kept traced n))
+  pub all : d.triggers ≡ triggers
+  pub placed : (n : ℕ) → ArePlaced triggers n (places_of (kept traced n))
   pub tables : AreTables p traced
 
-module _ (now : ℤ) (traced : List (ℕ × TracedView)) (queues : List QueueView) where
+module _ (now : ℤ) (triggers : List TableTrigger) (traced : List (ℕ × TracedTableView)) (queues : List QueueView) where
   abbrev Here : Database → RowPart → EventGateView → Type 0
-  Here d p g = Alike now traced queues d p g
+  Here d p g = Alike now triggers traced queues d p g
 
   beside-other : (d : Database) (mark : Mark) → IsOther mark → ((after_mark d mark).queue ≡ d.queue) × ((after_mark d mark).triggers ≡ d.triggers)
   beside-other d (began who t) other = (refl, refl)
@@ -203,23 +204,26 @@ module _ (now : ℤ) (traced : List (ℕ × TracedView)) (queues : List QueueVie
     part = part-behind d mark ∙ ap (λ x. after_part x mark) is.part;
     gate = is.gate;
     queue = (beside-other d mark other).0 ∙ is.queue;
-    triggers = (beside-other d mark other).1 ∙ is.triggers;
+    all = (beside-other d mark other).1 ∙ is.all;
+    placed = is.placed;
     tables = tables-kept p mark traced is.tables;
   }
 
   -- the events of a write are those that the gate makes
   same-events : (d : Database) (p : RowPart) (g : EventGateView) (table : ℕ) (old new : Option (List Val)) → Here d p g
-      → events_in d table old new ≡ events_at (kept g.traced table) (record { table = table; old = old; new = new })
+      → events_in d table old new ≡ events_at g.triggers (kept g.traced table) (record { table = table; old = old; new = new })
   same-events d p g table old new is =
-      ap (λ (x : RowPart). events_of (record { table = unwrap_or (slice_get x.tables table) []; columns = x.columns table; old = old; new = new }) (map NamedTrigger.trigger (d.triggers table))) is.part
-      ∙ ap (λ (f : ℕ → List NamedTrigger). events_of (record { table = unwrap_or (slice_get p.tables table) []; columns = p.columns table; old = old; new = new }) (map NamedTrigger.trigger (f table))) is.triggers
+      ap (λ (x : RowPart). events_of (record { table = unwrap_or (slice_get x.tables table) []; columns = x.columns table; old = old; new = new }) (map TableTrigger.trigger (triggers_of table d.triggers))) is.part
+      ∙ ap (told_by_them p) (ap (triggers_of table) is.all ∙ sym (is.placed table).own)
       ∙ by (kept traced table) (is.tables table)
-      ∙ ap (λ (x : EventGateView). events_at (kept x.traced table) (record { table = table; old = old; new = new })) (sym is.gate)
+      ∙ ap (λ (x : EventGateView). events_at x.triggers (kept x.traced table) (record { table = table; old = old; new = new })) (sym is.gate)
     where
-      by : (o : Option TracedView) → IfSome o (IsTable p table)
-          → events_of (record { table = unwrap_or (slice_get p.tables table) []; columns = p.columns table; old = old; new = new }) (map NamedTrigger.trigger (triggers_of o)) ≡ events_at o (record { table = table; old = old; new = new })
+      told_by_them : RowPart → List TableTrigger → List RowEvent
+      told_by_them x ts = events_of (record { table = unwrap_or (slice_get x.tables table) []; columns = x.columns table; old = old; new = new }) (map TableTrigger.trigger ts)
+
+      by : (o : Option TracedTableView) → IfSome o (IsTable p table) → told_by_them p (triggers_at triggers (places_of o)) ≡ events_at triggers o (record { table = table; old = old; new = new })
       by None there = refl
-      by (Some t) there = λ i. events_of (record { table = unwrap_or (there.0 i) []; columns = there.1 i; old = old; new = new }) (map NamedTrigger.trigger t.triggers)
+      by (Some t) there = λ i. events_of (record { table = unwrap_or (there.0 i) []; columns = there.1 i; old = old; new = new }) (map TableTrigger.trigger (triggers_at triggers t.places))
 
   same-seqs : (d : Database) (p : RowPart) (g : EventGateView) → Here d p g → (λ n. (d.queue n).seq) ≡ seqs g
   same-seqs d p g is =
@@ -228,33 +232,34 @@ module _ (now : ℤ) (traced : List (ℕ × TracedView)) (queues : List QueueVie
       ∙ ap seqs (sym is.gate)
 
   room-alike : (d : Database) (p : RowPart) (g : EventGateView) (who t table : ℕ) (key : List Val) (old new : Option (List Val)) → Here d p g
-      → takes event_rule g (tabled (wrote who t table key old new))
-      ≡ is_ok (told_of (after_mark d (tabled (wrote who t table key old new))) now (tabled (wrote who t table key old new)))
+      → takes event_rule g (tabled (wrote (of_session who) t table key old new))
+      ≡ is_ok (told_of (after_mark d (tabled (wrote (of_session who) t table key old new))) now (tabled (wrote (of_session who) t table key old new)))
   room-alike d p g who t table key old new is =
       ap (λ es. ids_left (seqs g) es) (sym (same-events d p g table old new is))
       ∙ ap (λ f. ids_left f (events_in d table old new)) (sym (same-seqs d p g is))
-      ∙ sym (told-ids (events_in d table old new) (after_mark d (tabled (wrote who t table key old new))) now t)
+      ∙ sym (told-ids (events_in d table old new) (after_mark d (tabled (wrote (of_session who) t table key old new))) now t)
 
   wrote-alike : (d : Database) (p : RowPart) (g : EventGateView) (who t table : ℕ) (key : List Val) (old new : Option (List Val)) (told : List Mark) → Here d p g
-      → told_of (after_mark d (tabled (wrote who t table key old new))) now (tabled (wrote who t table key old new)) ≡ Ok told
-      → Here (after_marks d (tabled (wrote who t table key old new) ∷ told)) (after_part p (tabled (wrote who t table key old new))) (passed event_rule g (tabled (wrote who t table key old new)))
+      → told_of (after_mark d (tabled (wrote (of_session who) t table key old new))) now (tabled (wrote (of_session who) t table key old new)) ≡ Ok told
+      → Here (after_marks d (tabled (wrote (of_session who) t table key old new) ∷ told)) (after_part p (tabled (wrote (of_session who) t table key old new))) (passed event_rule g (tabled (wrote (of_session who) t table key old new)))
   wrote-alike d p g who t table key old new told is ok =
       subst (λ (s : Database). Here s (after_part p write) (passed event_rule g write)) (sym behind) (record {
         part = ap (λ x. after_part x write) is.part;
-        gate = (λ i. record (is.gate i) { told = g.told ++ told_from (seqs g) g.now t (events_at (kept g.traced table) (record { table = table; old = old; new = new })) });
+        gate = (λ i. record (is.gate i) { told = g.told ++ told_from (seqs g) g.now t (events_at g.triggers (kept g.traced table) (record { table = table; old = old; new = new })) });
         queue = ap (λ (f : ℕ → Queue). queues_behind f made) is.queue ∙ sym (behind-append g.told (queues_of queues) made)
             ∙ ap (λ xs. queues_behind (queues_of queues) (g.told ++ xs)) same;
-        triggers = is.triggers;
+        all = is.all;
+        placed = is.placed;
         tables = tables-kept p write traced is.tables;
       })
     where
       write : Mark
-      write = tabled (wrote who t table key old new)
+      write = tabled (wrote (of_session who) t table key old new)
 
       made : List Told
       made = told_from (λ n. (d.queue n).seq) now t (events_in d table old new)
 
-      same : made ≡ told_from (seqs g) g.now t (events_at (kept g.traced table) (record { table = table; old = old; new = new }))
+      same : made ≡ told_from (seqs g) g.now t (events_at g.triggers (kept g.traced table) (record { table = table; old = old; new = new }))
       same =
           ap (λ f. told_from f now t (events_in d table old new)) (same-seqs d p g is)
           ∙ ap (λ (x : EventGateView). told_from (seqs g) x.now t (events_in d table old new)) (sym is.gate)
@@ -271,15 +276,15 @@ module _ (now : ℤ) (traced : List (ℕ × TracedView)) (queues : List QueueVie
 -- ---- what a database gives whose events are stored behind a turn
 
 rebuilt : BesideQueues → (ℕ → Queue) → Database
-rebuilt b queue = record { part = b.part; undone = b.undone; last_batch_id = b.last_batch_id; last_sub_id = b.last_sub_id; names = b.names; queue = queue; batch = b.batch; triggers = b.triggers }
+rebuilt b queue = record { part = b.part; undone = b.undone; last_batch_id = b.last_batch_id; last_sub_id = b.last_sub_id; queues_made = b.queues_made; queues = b.queues; queue = queue; batch = b.batch; triggers = b.triggers }
 
-gives-told : (now : ℤ) (traced : List (ℕ × TracedView)) (queues : List QueueView) (d s1 s3 : Database) (g g' : EventGateView) (gated told : Turn) (step : RowStep) (events : List Told)
-    → SameTold event_rule (Alike now traced queues) d d.part g gated told → TurnOfRows gated → GivesTurn d.part s1.part step gated
+gives-told : (now : ℤ) (triggers : List TableTrigger) (traced : List (ℕ × TracedTableView)) (queues : List QueueView) (d s1 s3 : Database) (g g' : EventGateView) (gated told : Turn) (step : RowStep) (events : List Told)
+    → SameTold event_rule (Alike now triggers traced queues) d d.part g gated told → TurnOfRows gated → GivesTurn d.part s1.part step gated
     → d.queue ≡ queues_of queues → g' ≡ passed_all event_rule g gated.marks → events ≡ g'.told
     → s1 ≡ record d { part = s1.part } → s3 ≡ record s1 { undone = undone_by step.effects s1.undone; queue = queues_behind s1.queue events }
     → Gives d s3 step.replies told
 unfolding rebuilt
-gives-told now traced queues d s1 s3 g g' gated told step events same rows gives base passed_is events_are but stored = record {
+gives-told now triggers traced queues d s1 s3 g g' gated told step events same rows gives base passed_is events_are but stored = record {
   replied = gives.replied ∙ sym same.answers;
   changed = stored
       ∙ (λ i. rebuilt (beside (row_marks i)) (queue i))
@@ -300,36 +305,37 @@ gives-told now traced queues d s1 s3 g g' gated told step events same rows gives
         ∙ sym same.stands.queue
 
 -- a gate that has made no event yet
-pub alike-new : (now : ℤ) (traced : List (ℕ × TracedView)) (queues : List QueueView) (d : Database) (g : EventGateView) → g ≡ record { now = now; traced = traced; queues = queues; told = [] }
-    → d.queue ≡ queues_of queues → d.triggers ≡ (λ n. triggers_of (kept traced n)) → AreTables d.part traced → Alike now traced queues d d.part g
-alike-new now traced queues d g is base triggers tables = record {
+pub alike-new : (now : ℤ) (triggers : List TableTrigger) (traced : List (ℕ × TracedTableView)) (queues : List QueueView) (d : Database) (g : EventGateView) → g ≡ record { now = now; triggers = triggers; traced = traced; queues = queues; told = [] }
+    → d.queue ≡ queues_of queues → d.triggers ≡ triggers → ((n : ℕ) → ArePlaced triggers n (places_of (kept traced n))) → AreTables d.part traced → Alike now triggers traced queues d d.part g
+alike-new now triggers traced queues d g is base all placed tables = record {
   part = refl;
-  gate = is ∙ ap (λ ts. let x : EventGateView = record { now = now; traced = traced; queues = queues; told = ts } in x) (sym (ap EventGateView.told is));
+  gate = is ∙ ap (λ ts. let x : EventGateView = record { now = now; triggers = triggers; traced = traced; queues = queues; told = ts } in x) (sym (ap EventGateView.told is));
   queue = base ∙ ap (queues_behind (queues_of queues)) (sym (ap EventGateView.told is));
-  triggers = triggers;
+  all = all;
+  placed = placed;
   tables = tables;
 }
 
 -- what is given by a statement on rows
-pub gives-step : (now : ℤ) (traced : List (ℕ × TracedView)) (queues : List QueueView) (d s1 s3 : Database) (g g' : EventGateView) (who : ℕ) (stmt : RowStmt) (step : RowStep) (events : List Told)
-    → Alike now traced queues d d.part g → GivesTurn d.part s1.part step (row_turn (by_gate event_rule part_by_itself) (d.part, g) who stmt)
+pub gives-step : (now : ℤ) (triggers : List TableTrigger) (traced : List (ℕ × TracedTableView)) (queues : List QueueView) (d s1 s3 : Database) (g g' : EventGateView) (who : ℕ) (stmt : RowStmt) (step : RowStep) (events : List Told)
+    → Alike now triggers traced queues d d.part g → GivesTurn d.part s1.part step (row_turn (by_gate event_rule part_by_itself) (d.part, g) who stmt)
     → d.queue ≡ queues_of queues → g' ≡ passed_all event_rule g (row_turn (by_gate event_rule part_by_itself) (d.part, g) who stmt).marks → events ≡ g'.told
     → s1 ≡ record d { part = s1.part } → s3 ≡ record s1 { undone = undone_by step.effects s1.undone; queue = queues_behind s1.queue events }
     → Gives d s3 step.replies (database_turn database_by_itself d now who (Row stmt))
-gives-step now traced queues d s1 s3 g g' who stmt step events is gives =
-    gives-told now traced queues d s1 s3 g g' _ _ step events
-    (row_turn-told event_rule now (Alike now traced queues) (events-alike now traced queues) d d.part g who stmt is)
+gives-step now triggers traced queues d s1 s3 g g' who stmt step events is gives =
+    gives-told now triggers traced queues d s1 s3 g g' _ _ step events
+    (row_turn-told event_rule now (Alike now triggers traced queues) (events-alike now triggers traced queues) d d.part g who stmt is)
     (row_turn-rows-by (by_gate event_rule part_by_itself) (by_gate-rows event_rule part_by_itself itself-rows) (d.part, g) who stmt) gives
 
 -- and by those that may go on
-pub gives-settle : (now : ℤ) (traced : List (ℕ × TracedView)) (queues : List QueueView) (d s1 s3 : Database) (g g' : EventGateView) (step : RowStep) (events : List Told)
-    → Alike now traced queues d d.part g → GivesTurn d.part s1.part step (settling (by_gate event_rule part_by_itself) (d.part, g))
+pub gives-settle : (now : ℤ) (triggers : List TableTrigger) (traced : List (ℕ × TracedTableView)) (queues : List QueueView) (d s1 s3 : Database) (g g' : EventGateView) (step : RowStep) (events : List Told)
+    → Alike now triggers traced queues d d.part g → GivesTurn d.part s1.part step (settling (by_gate event_rule part_by_itself) (d.part, g))
     → d.queue ≡ queues_of queues → g' ≡ passed_all event_rule g (settling (by_gate event_rule part_by_itself) (d.part, g)).marks → events ≡ g'.told
     → s1 ≡ record d { part = s1.part } → s3 ≡ record s1 { undone = undone_by step.effects s1.undone; queue = queues_behind s1.queue events }
     → Gives d s3 step.replies (settling (within_part database_by_itself now) d)
-gives-settle now traced queues d s1 s3 g g' step events is gives =
-    gives-told now traced queues d s1 s3 g g' _ _ step events
-    (settling-told event_rule now (Alike now traced queues) (events-alike now traced queues) d d.part g is)
+gives-settle now triggers traced queues d s1 s3 g g' step events is gives =
+    gives-told now triggers traced queues d s1 s3 g g' _ _ step events
+    (settling-told event_rule now (Alike now triggers traced queues) (events-alike now triggers traced queues) d d.part g is)
     (settling-rows-by (by_gate event_rule part_by_itself) (by_gate-rows event_rule part_by_itself itself-rows) (d.part, g)) gives
 
 -- a gate keeps the queues that it was set up with
@@ -342,7 +348,8 @@ passed-one g (looked who) = refl
 passed-one g (block_failed who) = refl
 passed-one g (block_ended who) = refl
 passed-one g (tabled (table_made name columns)) = refl
-passed-one g (tabled (wrote who t table key old new)) = refl
+passed-one g (tabled (wrote (of_session who) t table key old new)) = refl
+passed-one g (tabled (wrote of_worker t table key old new)) = refl
 passed-one g (tabled (waits who table key attempt)) = refl
 passed-one g (tabled (waited who)) = refl
 passed-one g (queued mark) = refl

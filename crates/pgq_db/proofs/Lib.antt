@@ -1,5 +1,6 @@
 pub mod TickLists
 pub mod SubLists
+pub mod NumberedQueues
 pub mod Databases
 pub mod Moments
 pub mod Empty

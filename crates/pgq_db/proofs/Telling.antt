@@ -9,11 +9,12 @@ use Rattle.sky_val.specs.declared.val.Val.{Val}
 use Rattle.sky_val.specs.declared.column.Column.{Column}
 use Rattle.sky_val.specs.declared.event.Event.{Event}
 use Rattle.sky_urlenc.specs.RowEvents.{Write, Trigger, RowEvent, leaves_out, event_of}
-use Rattle.sky_model.specs.Triggers.{NamedTrigger}
+use Rattle.sky_model.specs.Triggers.{TableTrigger}
 use Rattle.sky_model.specs.State.{changed_at}
 use Rattle.sky_model.specs.Telling.{told_event}
 use Rattle.pgq_db.specs.declared.told.Told.{Told}
 use Rattle.pgq_db.specs.Views.{QueueView, TracedView}
+use Rattle.pgq_db.specs.Traced.{no_trigger}
 use Rattle.pgq_db.specs.EventGates.{events_by, table_events, ids_left, told_from, seq_behind, seqs_behind, count_of, Begins, AreStorable}
 
 -- ---- the triggers of a write
@@ -21,24 +22,24 @@ use Rattle.pgq_db.specs.EventGates.{events_by, table_events, ids_left, told_from
 abbrev write_of : TracedView → (old new : Option (List Val)) → Write
 write_of t old new = record { table = t.name; columns = t.columns; old = old; new = new }
 
-one_more : (t : TracedView) (old new : Option (List Val)) (x : NamedTrigger) (xs : List NamedTrigger) (out : Bool) → leaves_out x.trigger t.columns old new ≡ out
+one_more : (t : TracedView) (old new : Option (List Val)) (x : TableTrigger) (xs : List TableTrigger) (out : Bool) → leaves_out x.trigger t.columns old new ≡ out
     → events_by t old new (x ∷ xs) ≡ (if not out then event_of (write_of t old new) x.trigger ∷ events_by t old new xs else events_by t old new xs)
 one_more t old new x xs true e =
-    ap (λ b. map (event_of (write_of t old new)) (if not b then x.trigger ∷ filter (λ y. not (leaves_out y t.columns old new)) (map NamedTrigger.trigger xs) else filter (λ y. not (leaves_out y t.columns old new)) (map NamedTrigger.trigger xs))) e
+    ap (λ b. map (event_of (write_of t old new)) (if not b then x.trigger ∷ filter (λ y. not (leaves_out y t.columns old new)) (map TableTrigger.trigger xs) else filter (λ y. not (leaves_out y t.columns old new)) (map TableTrigger.trigger xs))) e
 one_more t old new x xs false e =
-    ap (λ b. map (event_of (write_of t old new)) (if not b then x.trigger ∷ filter (λ y. not (leaves_out y t.columns old new)) (map NamedTrigger.trigger xs) else filter (λ y. not (leaves_out y t.columns old new)) (map NamedTrigger.trigger xs))) e
+    ap (λ b. map (event_of (write_of t old new)) (if not b then x.trigger ∷ filter (λ y. not (leaves_out y t.columns old new)) (map TableTrigger.trigger xs) else filter (λ y. not (leaves_out y t.columns old new)) (map TableTrigger.trigger xs))) e
 
 -- one that leaves the write out
-pub left_out : (t : TracedView) (old new : Option (List Val)) (x : NamedTrigger) (xs : List NamedTrigger) → leaves_out x.trigger t.columns old new ≡ true
+pub left_out : (t : TracedView) (old new : Option (List Val)) (x : TableTrigger) (xs : List TableTrigger) → leaves_out x.trigger t.columns old new ≡ true
     → events_by t old new (x ∷ xs) ≡ events_by t old new xs
 left_out t old new x xs e = one_more t old new x xs true e
 
 -- and one that tells of it
-pub told_of_it : (t : TracedView) (old new : Option (List Val)) (x : NamedTrigger) (xs : List NamedTrigger) → leaves_out x.trigger t.columns old new ≡ false
+pub told_of_it : (t : TracedView) (old new : Option (List Val)) (x : TableTrigger) (xs : List TableTrigger) → leaves_out x.trigger t.columns old new ≡ false
     → events_by t old new (x ∷ xs) ≡ event_of (write_of t old new) x.trigger ∷ events_by t old new xs
 told_of_it t old new x xs e = one_more t old new x xs false e
 
-events-append : (t : TracedView) (old new : Option (List Val)) (xs ys : List NamedTrigger) → events_by t old new (xs ++ ys) ≡ events_by t old new xs ++ events_by t old new ys
+events-append : (t : TracedView) (old new : Option (List Val)) (xs ys : List TableTrigger) → events_by t old new (xs ++ ys) ≡ events_by t old new xs ++ events_by t old new ys
 events-append t old new [] ys = refl
 events-append t old new (x ∷ xs) ys = by (leaves_out x.trigger t.columns old new) refl (events-append t old new xs ys)
   where
@@ -147,8 +148,61 @@ raised-more seq es e = λ i n. pointwise n i
     pointwise : (n : ℕ) → (if e.queue == n then (seq n + count_of n es) + 1 else seq n + count_of n es) ≡ seq n + count_of n (es ++ e ∷ [])
     pointwise n = by n (e.queue == n) ∙ ap (λ m. seq n + m) (sym (count-more n es e))
 
+-- ---- how many events of the first triggers are of a queue
+
+counted-next : (t : TracedView) (old new : Option (List Val)) (queue i : ℕ) → i < length t.triggers → count_of queue (events_by t old new (take (i + 1) t.triggers))
+    ≡ count_of queue (events_by t old new (take i t.triggers) ++ events_by t old new (get_or t.triggers i no_trigger ∷ []))
+counted-next t old new queue i lt =
+    ap (λ ts. count_of queue (events_by t old new ts)) (take-next t.triggers (drop (i + 1) t.triggers) i (get_or t.triggers i no_trigger) (drop-item t.triggers t.triggers i (get_or t.triggers i no_trigger) no_trigger refl lt refl))
+    ∙ ap (count_of queue) (events-append t old new (take i t.triggers) (get_or t.triggers i no_trigger ∷ []))
+
+nothing-more : (es : List RowEvent) → es ++ [] ≡ es
+nothing-more [] = refl
+nothing-more (e ∷ es) = ap (λ ws. e ∷ ws) (nothing-more es)
+
+-- one more, which leaves the write out
+pub count-left_out : (t : TracedView) (old new : Option (List Val)) (queue i count : ℕ) → i < length t.triggers → leaves_out (get_or t.triggers i no_trigger).trigger t.columns old new ≡ true
+    → count ≡ count_of queue (events_by t old new (take i t.triggers)) → count ≡ count_of queue (events_by t old new (take (i + 1) t.triggers))
+count-left_out t old new queue i count lt out is =
+    is ∙ sym (counted-next t old new queue i lt
+    ∙ ap (λ es. count_of queue (events_by t old new (take i t.triggers) ++ es)) (left_out t old new (get_or t.triggers i no_trigger) [] out)
+    ∙ ap (count_of queue) (nothing-more (events_by t old new (take i t.triggers))))
+
+counted-told : (t : TracedView) (old new : Option (List Val)) (queue i : ℕ) → i < length t.triggers → leaves_out (get_or t.triggers i no_trigger).trigger t.columns old new ≡ false
+    → count_of queue (events_by t old new (take (i + 1) t.triggers))
+    ≡ (if (get_or t.triggers i no_trigger).trigger.queue == queue then count_of queue (events_by t old new (take i t.triggers)) + 1 else count_of queue (events_by t old new (take i t.triggers)))
+counted-told t old new queue i lt out =
+    counted-next t old new queue i lt
+    ∙ ap (λ es. count_of queue (events_by t old new (take i t.triggers) ++ es)) (told_of_it t old new (get_or t.triggers i no_trigger) [] out)
+    ∙ count-more queue (events_by t old new (take i t.triggers)) (event_of (write_of t old new) (get_or t.triggers i no_trigger).trigger)
+
+-- one that tells of it by an event of the queue
+pub count-told : (t : TracedView) (old new : Option (List Val)) (queue i count : ℕ) → i < length t.triggers → leaves_out (get_or t.triggers i no_trigger).trigger t.columns old new ≡ false
+    → (get_or t.triggers i no_trigger).trigger.queue ≡ queue
+    → count ≡ count_of queue (events_by t old new (take i t.triggers)) → count + 1 ≡ count_of queue (events_by t old new (take (i + 1) t.triggers))
+count-told t old new queue i count lt out its is =
+    let yes : ((get_or t.triggers i no_trigger).trigger.queue == queue) ≡ true = grind (arith, nat_tests) in
+    ap (λ n. n + 1) is
+    ∙ ap (λ b. if b then count_of queue (events_by t old new (take i t.triggers)) + 1 else count_of queue (events_by t old new (take i t.triggers))) (sym yes)
+    ∙ sym (counted-told t old new queue i lt out)
+
+-- and one whose event would be of another one
+pub count-other : (t : TracedView) (old new : Option (List Val)) (queue i count : ℕ) → i < length t.triggers → (get_or t.triggers i no_trigger).trigger.queue ≢ queue
+    → count ≡ count_of queue (events_by t old new (take i t.triggers)) → count ≡ count_of queue (events_by t old new (take (i + 1) t.triggers))
+count-other t old new queue i count lt other is = by (leaves_out (get_or t.triggers i no_trigger).trigger t.columns old new) refl
+  where
+    no : ((get_or t.triggers i no_trigger).trigger.queue == queue) ≡ false
+    no = grind (arith, nat_tests)
+
+    by : (out : Bool) → leaves_out (get_or t.triggers i no_trigger).trigger t.columns old new ≡ out → count ≡ count_of queue (events_by t old new (take (i + 1) t.triggers))
+    by true out = count-left_out t old new queue i count lt out is
+    by false out =
+        is
+        ∙ ap (λ b. if b then count_of queue (events_by t old new (take i t.triggers)) + 1 else count_of queue (events_by t old new (take i t.triggers))) (sym no)
+        ∙ sym (counted-told t old new queue i lt out)
+
 -- behind the events of the first triggers there are ids for those of the rest, where there are for all
-abbrev pub ids_from : (ℕ → ℕ) → TracedView → (old new : Option (List Val)) → ℕ → List NamedTrigger → Bool
+abbrev pub ids_from : (ℕ → ℕ) → TracedView → (old new : Option (List Val)) → ℕ → List TableTrigger → Bool
 ids_from seq t old new place rest = ids_left (λ n. seq n + count_of n (events_by t old new (take place t.triggers))) (events_by t old new rest)
 
 pub ids-first : (seq : ℕ → ℕ) (t : TracedView) (old new : Option (List Val)) → ids_from seq t old new 0 t.triggers ≡ ids_left seq (table_events t old new)
@@ -157,11 +211,11 @@ ids-first seq t old new = ap (λ f. ids_left f (table_events t old new)) (λ i n
     same : (n : ℕ) → seq n + 0 ≡ seq n
     same n = omega arith
 
-pub ids-none : (seq : ℕ → ℕ) (t : TracedView) (old new : Option (List Val)) (place : ℕ) (rest : List NamedTrigger) → length rest ≡ 0 → ids_from seq t old new place rest ≡ true
+pub ids-none : (seq : ℕ → ℕ) (t : TracedView) (old new : Option (List Val)) (place : ℕ) (rest : List TableTrigger) → length rest ≡ 0 → ids_from seq t old new place rest ≡ true
 ids-none seq t old new place [] e = refl
 ids-none seq t old new place (x ∷ xs) e = absurd (omega arith)
 
-pub ids-left_out : (seq : ℕ → ℕ) (t : TracedView) (old new : Option (List Val)) (place : ℕ) (x : NamedTrigger) (rest : List NamedTrigger) → drop place t.triggers ≡ x ∷ rest
+pub ids-left_out : (seq : ℕ → ℕ) (t : TracedView) (old new : Option (List Val)) (place : ℕ) (x : TableTrigger) (rest : List TableTrigger) → drop place t.triggers ≡ x ∷ rest
     → leaves_out x.trigger t.columns old new ≡ true → ids_from seq t old new place (x ∷ rest) ≡ ids_from seq t old new (place + 1) rest
 ids-left_out seq t old new place x rest at out =
     ap (ids_left (λ n. seq n + count_of n (events_by t old new (take place t.triggers)))) (left_out t old new x rest out)
@@ -175,14 +229,14 @@ ids-left_out seq t old new place x rest at out =
     same = ap (events_by t old new) (take-next t.triggers rest place x at) ∙ events-append t old new (take place t.triggers) (x ∷ [])
         ∙ ap (λ es. events_by t old new (take place t.triggers) ++ es) (left_out t old new x [] out) ∙ nil _
 
-told_of_it-take : (t : TracedView) (old new : Option (List Val)) (place : ℕ) (x : NamedTrigger) (rest : List NamedTrigger) → drop place t.triggers ≡ x ∷ rest
+told_of_it-take : (t : TracedView) (old new : Option (List Val)) (place : ℕ) (x : TableTrigger) (rest : List TableTrigger) → drop place t.triggers ≡ x ∷ rest
     → leaves_out x.trigger t.columns old new ≡ false → events_by t old new (take (place + 1) t.triggers) ≡ events_by t old new (take place t.triggers) ++ event_of (write_of t old new) x.trigger ∷ []
 told_of_it-take t old new place x rest at out =
     ap (events_by t old new) (take-next t.triggers rest place x at) ∙ events-append t old new (take place t.triggers) (x ∷ [])
     ∙ ap (λ es. events_by t old new (take place t.triggers) ++ es) (told_of_it t old new x [] out)
 
 -- one that tells of the write, with an id and with none
-pub ids-told : (seq : ℕ → ℕ) (t : TracedView) (old new : Option (List Val)) (place : ℕ) (x : NamedTrigger) (rest : List NamedTrigger) → drop place t.triggers ≡ x ∷ rest
+pub ids-told : (seq : ℕ → ℕ) (t : TracedView) (old new : Option (List Val)) (place : ℕ) (x : TableTrigger) (rest : List TableTrigger) → drop place t.triggers ≡ x ∷ rest
     → leaves_out x.trigger t.columns old new ≡ false → seq x.trigger.queue + count_of x.trigger.queue (events_by t old new (take place t.triggers)) + 1 < 2 ^ 62
     → ids_from seq t old new place (x ∷ rest) ≡ ids_from seq t old new (place + 1) rest
 ids-told seq t old new place x rest at out room =
@@ -195,7 +249,7 @@ ids-told seq t old new place x rest at out room =
 pub room-for : (seq before s b : ℕ) → seq ≡ s → before ≡ b → (2 ^ 62 - 1 ≤ seq → ⊥) → (2 ^ 62 - 1 - seq ≤ before → ⊥) → s + b + 1 < 2 ^ 62
 room-for seq before s b one other low also = omega (arith, one, other, low, also)
 
-pub ids-spent : (seq : ℕ → ℕ) (t : TracedView) (old new : Option (List Val)) (place : ℕ) (x : NamedTrigger) (rest : List NamedTrigger)
+pub ids-spent : (seq : ℕ → ℕ) (t : TracedView) (old new : Option (List Val)) (place : ℕ) (x : TableTrigger) (rest : List TableTrigger)
     → leaves_out x.trigger t.columns old new ≡ false → 2 ^ 62 ≤ seq x.trigger.queue + count_of x.trigger.queue (events_by t old new (take place t.triggers)) + 1
     → ids_from seq t old new place (x ∷ rest) ≡ false
 ids-spent seq t old new place x rest out over =
@@ -206,7 +260,7 @@ ids-spent seq t old new place x rest out over =
 -- ---- events made
 
 -- what is made so far, and what is to be made, is all
-abbrev pub all_told : List QueueView → TracedView → (old new : Option (List Val)) → ℤ → ℕ → List Told → List NamedTrigger → List Told
+abbrev pub all_told : List QueueView → TracedView → (old new : Option (List Val)) → ℤ → ℕ → List Told → List TableTrigger → List Told
 all_told queues t old new now txid told rest = told ++ told_from (seqs_behind queues told) now txid (events_by t old new rest)
 
 -- where there are ids for the rest, the next one has one
@@ -218,7 +272,7 @@ and-second : (b c : Bool) → (not b && c) ≡ true → c ≡ true
 and-second true c e = absurd (cc)
 and-second false c e = e
 
-pub has-id : (queues : List QueueView) (t : TracedView) (old new : Option (List Val)) (told : List Told) (x : NamedTrigger) (rest : List NamedTrigger)
+pub has-id : (queues : List QueueView) (t : TracedView) (old new : Option (List Val)) (told : List Told) (x : TableTrigger) (rest : List TableTrigger)
     → leaves_out x.trigger t.columns old new ≡ false → ids_left (seqs_behind queues told) (events_by t old new (x ∷ rest)) ≡ true
     → seqs_behind queues told x.trigger.queue + 1 < 2 ^ 62
 has-id queues t old new told x rest out ids =
@@ -226,7 +280,7 @@ has-id queues t old new told x rest out ids =
     and-first _ _ (sym (ap (ids_left (seqs_behind queues told)) (told_of_it t old new x rest out)) ∙ ids) in
     grind (arith, nat_tests)
 
-pub ids-rest : (queues : List QueueView) (t : TracedView) (old new : Option (List Val)) (told : List Told) (x : NamedTrigger) (rest : List NamedTrigger) (y : Told)
+pub ids-rest : (queues : List QueueView) (t : TracedView) (old new : Option (List Val)) (told : List Told) (x : TableTrigger) (rest : List TableTrigger) (y : Told)
     → leaves_out x.trigger t.columns old new ≡ false → y.queue ≡ x.trigger.queue → y.event.ev_id ≡ seqs_behind queues told y.queue + 1
     → ids_left (seqs_behind queues told) (events_by t old new (x ∷ rest)) ≡ true
     → ids_left (seqs_behind queues (told ++ y ∷ [])) (events_by t old new rest) ≡ true
@@ -238,7 +292,7 @@ append-cons : (xs ys : List Told) (x : Told) → (xs ++ x ∷ []) ++ ys ≡ xs +
 append-cons [] ys x = refl
 append-cons (z ∷ zs) ys x = ap (λ ws. z ∷ ws) (append-cons zs ys x)
 
-pub told-next : (queues : List QueueView) (t : TracedView) (old new : Option (List Val)) (now : ℤ) (txid : ℕ) (told : List Told) (x : NamedTrigger) (rest : List NamedTrigger) (y : Told)
+pub told-next : (queues : List QueueView) (t : TracedView) (old new : Option (List Val)) (now : ℤ) (txid : ℕ) (told : List Told) (x : TableTrigger) (rest : List TableTrigger) (y : Told)
     → leaves_out x.trigger t.columns old new ≡ false
     → y ≡ record { queue = x.trigger.queue; event = told_event (seqs_behind queues told x.trigger.queue + 1) now txid (event_of (write_of t old new) x.trigger) }
     → all_told queues t old new now txid (told ++ y ∷ []) rest ≡ all_told queues t old new now txid told (x ∷ rest)
@@ -250,7 +304,7 @@ told-next queues t old new now txid told x rest y out is =
     ∙ ap (λ es. told ++ told_from (seqs_behind queues told) now txid es) (sym (told_of_it t old new x rest out))
 
 -- the event that is made
-pub made-is : (queues : List QueueView) (t : TracedView) (old new : Option (List Val)) (now : ℤ) (txid : ℕ) (told : List Told) (x : NamedTrigger) (trigger : Trigger) (name : List ℕ) (columns : List Column)
+pub made-is : (queues : List QueueView) (t : TracedView) (old new : Option (List Val)) (now : ℤ) (txid : ℕ) (told : List Told) (x : TableTrigger) (trigger : Trigger) (name : List ℕ) (columns : List Column)
     (q id seq : ℕ) (e : RowEvent) (event : Event) → trigger ≡ x.trigger → name ≡ t.name → columns ≡ t.columns → q ≡ trigger.queue → seq ≡ seqs_behind queues told q → id ≡ seq + 1
     → e ≡ event_of (record { table = name; columns = columns; old = old; new = new }) trigger → event ≡ told_event id now txid e
     → (let y : Told = record { queue = q; event = event } in y)

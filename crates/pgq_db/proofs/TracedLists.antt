@@ -1,37 +1,37 @@
 -- The tables with triggers that a database keeps, after one of them changed.
-use Rattle.std.proofs.Common.{◌≡◌, ℕ, ◌+◌, ◌<◌, ◌≤◌, length-append, Bool, true, false, ◌==◌, List, [], ◌∷◌, ◌++◌, Option, Some, None, IfSome, Result, Ok, Err, IfOk, OnErr, length, nat_cmp, cond, refl, sym, ◌∙◌, ap, subst, arith, if◌then◌else◌}
+use Rattle.std.proofs.lemmas.List.{map-append, append-nil}
+use Rattle.std.proofs.Common.{◌≡◌, ℕ, zero, suc, ◌+◌, ◌<◌, ◌≤◌, length-append, Bool, true, false, ◌==◌, List, [], ◌∷◌, ◌++◌, Option, Some, None, option_copied, Bor, IfSome, is_some, Result, Ok, Err, IfOk, OnErr, length, get_or, nat_cmp, cond, refl, sym, ◌∙◌, ap, subst, arith, if◌then◌else◌}
 use Rattle.std.proofs.lemmas.Bool.Decides.{nat_tests}
-use Rattle.std.proofs.lemmas.List.Elements.{All-cons, All-append}
+use Rattle.std.proofs.lemmas.List.Elements.{All-cons, All-append, filter-append}
 use Rattle.std.specs.List.{All}
 use Rattle.std.specs.BTreeMap.{is_at}
 use Rattle.std.specs.Map.{lookup}
 use Rattle.sky_model.specs.History.{queued, traced}
-use Rattle.sky_model.specs.Triggers.{NamedTrigger}
+use Rattle.sky_model.specs.Triggers.{TableTrigger, triggers_of}
 use Rattle.sky_model.specs.State.{RowPart, after_part_marks, after_mark}
 use Rattle.sky_model.specs.History.{Mark}
-use Rattle.pgq_db.specs.Views.{QueueView, TracedView, DbView}
-use Rattle.pgq_db.specs.Seen.{kept, triggers_of, seen_database}
-use Rattle.pgq_db.specs.Traced.{traced_or, TracedWithin, IsTable, AreTables}
-use Rattle.sky_val.specs.declared.column.Column.{Column}
+use Rattle.pgq_db.specs.Views.{QueueView, TracedTableView, DbView}
+use Rattle.pgq_db.specs.Seen.{kept, seen_database}
+use Rattle.pgq_db.specs.Traced.{no_trigger, triggers_at, places_of, ArePlaced, TracedWithin, IsTable, AreTables}
 use Rattle.std.specs.Prelude.{slice_get}
 use Rattle.pgq_db.specs.declared.batch.Batch.{Batch}
 use Rattle.pgq_db.specs.Batches.{BatchesWithin}
 use Rattle.std.specs.declared.alloc.AllocError.{AllocError}
 use Rattle.sky_model.specs.declared.reply.Refusal.{Refusal}
 use Rattle.sky_model.specs.declared.stmt.Where.{Where}
-use Rattle.sky_session.specs.Gives.{sight_marks, Enters}
+use Rattle.sky_model.specs.SessionMarks.{sight_marks, Enters}
 use Rattle.pgq_db.proofs.Databases.{is_at-nat}
 use Rattle.pgq_db.proofs.EventsAlike.{tables-behind}
 
 -- what is under one number has changed
-abbrev pub Updated : List (ℕ × TracedView) → List (ℕ × TracedView) → ℕ → Option TracedView → Type 0
+abbrev pub Updated : List (ℕ × TracedTableView) → List (ℕ × TracedTableView) → ℕ → Option TracedTableView → Type 0
 Updated old new n o = (q : ℕ) → lookup (is_at (nat_cmp q)) new ≡ cond (is_at (nat_cmp n) q) o (lookup (is_at (nat_cmp q)) old)
 
-kept-updated : (old new : List (ℕ × TracedView)) (n : ℕ) (o : Option TracedView) → Updated old new n o → (m : ℕ) → kept new m ≡ (if n == m then o else kept old m)
+kept-updated : (old new : List (ℕ × TracedTableView)) (n : ℕ) (o : Option TracedTableView) → Updated old new n o → (m : ℕ) → kept new m ≡ (if n == m then o else kept old m)
 kept-updated old new n o updates m = updates m ∙ ap (λ b. cond b o (kept old m)) (is_at-nat n m)
 
 -- what held of each holds of each, where it holds of that one
-pub each-updated : (P : ℕ → TracedView → Type 0) (old new : List (ℕ × TracedView)) (n : ℕ) (o : Option TracedView) → Updated old new n o → IfSome o (P n)
+pub each-updated : (P : ℕ → TracedTableView → Type 0) (old new : List (ℕ × TracedTableView)) (n : ℕ) (o : Option TracedTableView) → Updated old new n o → IfSome o (P n)
     → ((m : ℕ) → IfSome (kept old m) (P m)) → (m : ℕ) → IfSome (kept new m) (P m)
 each-updated P old new n o updates here each m = subst (λ x. IfSome x (P m)) (sym (kept-updated old new n o updates m)) (by (n == m) refl)
   where
@@ -44,72 +44,135 @@ if-some None P Q f is = tt
 if-some (Some a) P Q f is = f a is
 
 -- more queues
-pub within-more : (count later : ℕ) (all : List (ℕ × TracedView)) → count ≤ later → TracedWithin count all → TracedWithin later all
-within-more count later all le within n =
-    if-some (kept all n) (λ t. All (λ (x : NamedTrigger). x.trigger.queue < count) t.triggers) (λ t. All (λ (x : NamedTrigger). x.trigger.queue < later) t.triggers)
-    (λ t each k d lt. let low = each k d lt in omega (arith, low, le)) (within n)
+pub within-more : (count later : ℕ) (triggers : List TableTrigger) (all : List (ℕ × TracedTableView)) → count ≤ later → TracedWithin count triggers all → TracedWithin later triggers all
+within-more count later triggers all le within = record { queues = λ k d lt. let low = within.queues k d lt in omega (arith, low, le); places = within.places }
 
 pub batches-more : (count later : ℕ) (batches : List (ℕ × Batch)) → count ≤ later → BatchesWithin count batches → BatchesWithin later batches
 batches-more count later batches le within id =
     if-some (kept batches id) (λ (b : Batch). b.queue < count) (λ (b : Batch). b.queue < later) (λ b low. omega (arith, low, le)) (within id)
 
+-- a batch that is found, and batches of which one has changed
+pub batch-within : (count : ℕ) (r : Option (Bor Batch)) (found : Option Batch) → option_copied r ≡ found → IfSome found (λ (b : Batch). b.queue < count) → IfSome r (λ b. b.now.queue < count)
+batch-within count None found is within = tt
+batch-within count (Some b) found is within = subst (λ o. IfSome o (λ (x : Batch). x.queue < count)) (sym is) within
+
+pub batches-updated : (count : ℕ) (old new : List (ℕ × Batch)) (n : ℕ) (o : Option Batch) → ((q : ℕ) → lookup (is_at (nat_cmp q)) new ≡ cond (is_at (nat_cmp n) q) o (lookup (is_at (nat_cmp q)) old))
+    → IfSome o (λ (b : Batch). b.queue < count) → BatchesWithin count old → BatchesWithin count new
+batches-updated count old new n o updates here within m = subst (λ x. IfSome x (λ (b : Batch). b.queue < count)) (sym (updates m)) (by (is_at (nat_cmp n) m))
+  where
+    by : (b : Bool) → IfSome (cond b o (lookup (is_at (nat_cmp m)) old)) (λ (x : Batch). x.queue < count)
+    by true = here
+    by false = within m
+
 -- a row part after marks
-pub tables-then : (old new : RowPart) (marks : List Mark) (all : List (ℕ × TracedView)) → new ≡ after_part_marks old marks → AreTables old all → AreTables new all
+pub tables-then : (old new : RowPart) (marks : List Mark) (all : List (ℕ × TracedTableView)) → new ≡ after_part_marks old marks → AreTables old all → AreTables new all
 tables-then old new marks all is are = subst (λ part. AreTables part all) (sym is) (tables-behind old marks all are)
 
-pub tables-same : (old new : RowPart) (all : List (ℕ × TracedView)) → new ≡ old → AreTables old all → AreTables new all
+pub tables-same : (old new : RowPart) (all : List (ℕ × TracedTableView)) → new ≡ old → AreTables old all → AreTables new all
 tables-same old new all is are = subst (λ part. AreTables part all) (sym is) are
 
 -- and after a statement came in, or not
-pub tables-entered : (old new : RowPart) (who : ℕ) (place : Where) (r : Result (Option Refusal) AllocError) (all : List (ℕ × TracedView))
+pub tables-entered : (old new : RowPart) (who : ℕ) (place : Where) (r : Result (Option Refusal) AllocError) (all : List (ℕ × TracedTableView))
     → IfOk r (λ refusal. Enters old new who place refusal) → OnErr r (new ≡ old) → AreTables old all → AreTables new all
 tables-entered old new who place (Ok None) all enters err are = tables-then old new (sight_marks old who place) all enters.1 are
 tables-entered old new who place (Ok (Some refusal)) all enters err are = tables-same old new all enters.1 are
 tables-entered old new who place (Err no_memory) all enters err are = tables-same old new all err are
 
--- one more trigger of a table
-pub trigger-more : (count : ℕ) (xs : List NamedTrigger) (x : NamedTrigger) → All (λ (y : NamedTrigger). y.trigger.queue < count) xs → x.trigger.queue < count
-    → All (λ (y : NamedTrigger). y.trigger.queue < count) (xs ++ x ∷ [])
-trigger-more count xs x all lt =
-    All-append (λ (y : NamedTrigger). y.trigger.queue < count) xs (x ∷ []) all (All-cons (λ (y : NamedTrigger). y.trigger.queue < count) x [] lt (λ k d low. absurd (omega arith)))
+-- ---- the places of a table's triggers
 
--- the queues of triggers are there, and what is kept of tables is true, once a table has one more trigger
-pub trace-within : (count : ℕ) (old mid new : List (ℕ × TracedView)) (n : ℕ) (taken : Option TracedView) (name : List ℕ) (columns : List Column) (t : TracedView) (x : NamedTrigger)
-    → taken ≡ kept old n → Updated old mid n None → Updated mid new n (Some t)
-    → t ≡ record (traced_or taken name columns) { triggers = (traced_or taken name columns).triggers ++ x ∷ [] } → x.trigger.queue < count → TracedWithin count old → TracedWithin count new
-trace-within count old mid new n taken name columns t x at gone there is lt within =
-    each-updated P mid new n (Some t) there (subst (P n) (sym is) (trigger-more count (traced_or taken name columns).triggers x (first taken (subst (λ o. IfSome o (P n)) (sym at) (within n))) lt))
-    (each-updated P old mid n None gone tt within)
+-- places that are there show what they showed, once there is one more trigger
+at-more : (ts : List TableTrigger) (x : TableTrigger) (places : List ℕ) → All (λ place. place < length ts) places → triggers_at (ts ++ x ∷ []) places ≡ triggers_at ts places
+at-more ts x [] within = refl
+at-more ts x (p ∷ ps) within =
+    let low : p < length ts = within 0 0 (omega arith) in
+    λ i. get_or-before ts x p low i ∷ at-more ts x ps (λ k d lt. within (suc k) d (omega (arith, lt))) i
   where
-    P : ℕ → TracedView → Type 0
-    P m v = All (λ (y : NamedTrigger). y.trigger.queue < count) v.triggers
+    get_or-before : (ts : List TableTrigger) (x : TableTrigger) (p : ℕ) → p < length ts → get_or (ts ++ x ∷ []) p no_trigger ≡ get_or ts p no_trigger
+    get_or-before [] x p low = absurd (omega arith)
+    get_or-before (t ∷ ts) x zero low = refl
+    get_or-before (t ∷ ts) x (suc p) low = get_or-before ts x p (omega (arith, low))
 
-    first : (o : Option TracedView) → IfSome o (P n) → All (λ (y : NamedTrigger). y.trigger.queue < count) (traced_or o name columns).triggers
-    first None here = λ k d low. absurd (omega arith)
-    first (Some v) here = here
+-- and the next place shows it
+get_or-last : (ts : List TableTrigger) (x : TableTrigger) → get_or (ts ++ x ∷ []) (length ts) no_trigger ≡ x
+get_or-last [] x = refl
+get_or-last (t ∷ ts) x = get_or-last ts x
 
-pub trace-tables : (part : RowPart) (old mid new : List (ℕ × TracedView)) (n : ℕ) (taken : Option TracedView) (name : List ℕ) (columns : List Column) (t : TracedView) (x : NamedTrigger)
-    → taken ≡ kept old n → Updated old mid n None → Updated mid new n (Some t)
-    → t ≡ record (traced_or taken name columns) { triggers = (traced_or taken name columns).triggers ++ x ∷ [] }
-    → slice_get part.tables n ≡ Some name → part.columns n ≡ columns → AreTables part old → AreTables part new
-trace-tables part old mid new n taken name columns t x at gone there is named of_columns are =
-    each-updated (IsTable part) mid new n (Some t) there (subst (IsTable part n) (sym is) (first taken (subst (λ o. IfSome o (IsTable part n)) (sym at) (are n))))
-    (each-updated (IsTable part) old mid n None gone tt are)
+within-next : (ts : List TableTrigger) (x : TableTrigger) (places : List ℕ) → All (λ place. place < length ts) places → All (λ place. place < length (ts ++ x ∷ [])) places
+within-next ts x places within k d lt = let low = within k d lt in omega (arith, low, length-append ts (x ∷ []))
+
+triggers_of-more : (n : ℕ) (ts : List TableTrigger) (x : TableTrigger) → triggers_of n (ts ++ x ∷ []) ≡ triggers_of n ts ++ (if x.table == n then x ∷ [] else [])
+triggers_of-more n ts x = filter-append (λ (t : TableTrigger). t.table == n) ts (x ∷ [])
+
+-- one more trigger of the table
+placed-own : (n : ℕ) (ts : List TableTrigger) (x : TableTrigger) (places : List ℕ) → (x.table == n) ≡ true → ArePlaced ts n places → ArePlaced (ts ++ x ∷ []) n (places ++ length ts ∷ [])
+placed-own n ts x places own are = record {
+  within = All-append (λ place. place < length (ts ++ x ∷ [])) places (length ts ∷ []) (within-next ts x places are.within)
+      (All-cons (λ place. place < length (ts ++ x ∷ [])) (length ts) [] (omega (arith, length-append ts (x ∷ []))) (λ k d low. absurd (omega arith)));
+  own = map-append (λ place. get_or (ts ++ x ∷ []) place no_trigger) places (length ts ∷ [])
+      ∙ (λ i. (at-more ts x places are.within ∙ are.own) i ++ get_or-last ts x i ∷ [])
+      ∙ ap (λ b. triggers_of n ts ++ (if b then x ∷ [] else [])) (sym own)
+      ∙ sym (triggers_of-more n ts x);
+}
+
+-- and one of another
+placed-other : (n : ℕ) (ts : List TableTrigger) (x : TableTrigger) (places : List ℕ) → (x.table == n) ≡ false → ArePlaced ts n places → ArePlaced (ts ++ x ∷ []) n places
+placed-other n ts x places other are = record {
+  within = within-next ts x places are.within;
+  own = at-more ts x places are.within ∙ are.own
+      ∙ sym (append-nil (triggers_of n ts))
+      ∙ ap (λ b. triggers_of n ts ++ (if b then x ∷ [] else [])) (sym other)
+      ∙ sym (triggers_of-more n ts x);
+}
+
+-- what is kept of a table may change but for its places
+pub places-kept : (triggers : List TableTrigger) (old new : List (ℕ × TracedTableView)) (n : ℕ) (t : TracedTableView) → Updated old new n (Some t) → t.places ≡ places_of (kept old n)
+    → ((m : ℕ) → ArePlaced triggers m (places_of (kept old m))) → (m : ℕ) → ArePlaced triggers m (places_of (kept new m))
+places-kept triggers old new n t updates same placed m = subst (ArePlaced triggers m) (sym (ap places_of (kept-updated old new n (Some t) updates m) ∙ by (n == m) refl)) (placed m)
   where
-    first : (o : Option TracedView) → IfSome o (IsTable part n) → IsTable part n (record (traced_or o name columns) { triggers = (traced_or o name columns).triggers ++ x ∷ [] })
-    first None here = (named, of_columns)
-    first (Some v) here = here
+    by : (b : Bool) → (n == m) ≡ b → places_of (if b then Some t else kept old m) ≡ places_of (kept old m)
+    by true e = let one : n ≡ m = grind (arith, nat_tests) in same ∙ ap (λ k. places_of (kept old k)) one
+    by false e = refl
 
-pub added-to : (t more from : TracedView) (x : NamedTrigger) → more ≡ record t { triggers = t.triggers ++ x ∷ [] } → t ≡ from → more ≡ record from { triggers = from.triggers ++ x ∷ [] }
-added-to t more from x is same = is ∙ ap (λ (v : TracedView). record v { triggers = v.triggers ++ x ∷ [] }) same
-
-pub trace-triggers : (old : List (ℕ × TracedView)) (n : ℕ) (taken : Option TracedView) (name : List ℕ) (columns : List Column) (t : TracedView) (x : NamedTrigger) → taken ≡ kept old n
-    → t ≡ record (traced_or taken name columns) { triggers = (traced_or taken name columns).triggers ++ x ∷ [] } → t.triggers ≡ triggers_of (kept old n) ++ x ∷ []
-trace-triggers old n taken name columns t x at is = ap TracedView.triggers is ∙ by taken ∙ ap (λ o. triggers_of o ++ x ∷ []) at
+-- or have the place of one more trigger
+pub places-more : (ts : List TableTrigger) (x : TableTrigger) (old new : List (ℕ × TracedTableView)) (n : ℕ) (t : TracedTableView) → Updated old new n (Some t) → x.table ≡ n
+    → t.places ≡ places_of (kept old n) ++ length ts ∷ []
+    → ((m : ℕ) → ArePlaced ts m (places_of (kept old m))) → (m : ℕ) → ArePlaced (ts ++ x ∷ []) m (places_of (kept new m))
+places-more ts x old new n t updates its more placed m = subst (λ o. ArePlaced (ts ++ x ∷ []) m (places_of o)) (sym (kept-updated old new n (Some t) updates m)) (by (n == m) refl)
   where
-    by : (o : Option TracedView) → (traced_or o name columns).triggers ++ x ∷ [] ≡ triggers_of o ++ x ∷ []
-    by None = refl
-    by (Some v) = refl
+    by : (b : Bool) → (n == m) ≡ b → ArePlaced (ts ++ x ∷ []) m (places_of (if b then Some t else kept old m))
+    by true e =
+        let one : n ≡ m = grind (arith, nat_tests) in
+        subst (ArePlaced (ts ++ x ∷ []) m) (sym (more ∙ ap (λ k. places_of (kept old k) ++ length ts ∷ []) one))
+        (placed-own m ts x (places_of (kept old m)) (grind (arith, nat_tests)) (placed m))
+    by false e = placed-other m ts x (places_of (kept old m)) (grind (arith, nat_tests)) (placed m)
+
+-- what stands at the nth of places
+pub at-length : (ts : List TableTrigger) (places : List ℕ) → length (triggers_at ts places) ≡ length places
+at-length ts [] = refl
+at-length ts (p ∷ ps) = ap suc (at-length ts ps)
+
+pub at-nth : (ts : List TableTrigger) (places : List ℕ) (n d : ℕ) → n < length places → get_or (triggers_at ts places) n no_trigger ≡ get_or ts (get_or places n d) no_trigger
+at-nth ts [] n d lt = absurd (omega arith)
+at-nth ts (p ∷ ps) zero d lt = refl
+at-nth ts (p ∷ ps) (suc n) d lt = at-nth ts ps n d (omega arith)
+
+-- the places that are kept of a table are its own
+pub placed-at : (ts : List TableTrigger) (all : List (ℕ × TracedTableView)) (n : ℕ) (o : Option TracedTableView) → o ≡ kept all n → ((m : ℕ) → ArePlaced ts m (places_of (kept all m)))
+    → ArePlaced ts n (places_of o)
+placed-at ts all n o is placed = subst (λ x. ArePlaced ts n (places_of x)) (sym is) (placed n)
+
+-- the queues of triggers are there, and so are those of a table's
+pub at-queues : (count : ℕ) (ts : List TableTrigger) (places : List ℕ) → All (λ (t : TableTrigger). t.trigger.queue < count) ts → All (λ place. place < length ts) places
+    → All (λ (t : TableTrigger). t.trigger.queue < count) (triggers_at ts places)
+at-queues count ts [] all within = λ k d lt. absurd (omega arith)
+at-queues count ts (p ∷ ps) all within =
+    All-cons (λ (t : TableTrigger). t.trigger.queue < count) (get_or ts p no_trigger) (triggers_at ts ps) (all p no_trigger (within 0 0 (omega arith)))
+    (at-queues count ts ps all (λ k d lt. within (suc k) d (omega (arith, lt))))
+
+pub queues-more : (count : ℕ) (xs : List TableTrigger) (x : TableTrigger) → All (λ (y : TableTrigger). y.trigger.queue < count) xs → x.trigger.queue < count
+    → All (λ (y : TableTrigger). y.trigger.queue < count) (xs ++ x ∷ [])
+queues-more count xs x all lt =
+    All-append (λ (y : TableTrigger). y.trigger.queue < count) xs (x ∷ []) all (All-cons (λ (y : TableTrigger). y.trigger.queue < count) x [] lt (λ k d low. absurd (omega arith)))
 
 pub lengths : (xs ys zs : List QueueView) (q : QueueView) (ns ms : List (List ℕ)) (n : List ℕ) → ys ≡ zs ++ q ∷ [] → zs ≡ xs → ms ≡ ns ++ n ∷ [] → length xs ≡ length ns
     → (length ys ≡ length ms) × (length xs ≤ length ys)
@@ -119,18 +182,52 @@ lengths xs ys zs q ns ms n one two three same =
     let z : length zs ≡ length xs = ap length two in
     (omega (arith, l, m, z, same), omega (arith, l, z))
 
-pub traced-as : (v now : DbView) (mid more : List (ℕ × TracedView)) (n : ℕ) (t : TracedView) (x : NamedTrigger) → v ≡ now → Updated v.traced mid n None → Updated mid more n (Some t)
-    → t.triggers ≡ triggers_of (kept v.traced n) ++ x ∷ []
-    → seen_database (record v { traced = more }) ≡ after_mark (seen_database now) (queued (traced n x.name x.trigger))
-traced-as v now mid more n t x same gone there is =
-    (λ i. record (seen_database v) { triggers = λ m. pointwise m i })
-    ∙ ap (λ (w : DbView). after_mark (seen_database w) (queued (traced n x.name x.trigger))) same
-  where
-    by : (m : ℕ) (b : Bool) → (n == m) ≡ b → triggers_of (if b then Some t else (if b then None else kept v.traced m)) ≡ (if b then triggers_of (kept v.traced m) ++ x ∷ [] else triggers_of (kept v.traced m))
-    by m true e = let one : n ≡ m = grind (arith, nat_tests) in is ∙ ap (λ k. triggers_of (kept v.traced k) ++ x ∷ []) one
-    by m false e = refl
+-- what is kept of the triggers and their tables, where nothing has come to them
+pub traced-kept : (count : ℕ) (ts triggers : List TableTrigger) (old new : List (ℕ × TracedTableView)) (n : ℕ) (t was : TracedTableView) → ts ≡ triggers → Updated old new n (Some t)
+    → Some was ≡ kept old n → t ≡ was → TracedWithin count triggers old → TracedWithin count ts new
+traced-kept count ts triggers old new n t was same updates at is within =
+    subst (λ xs. TracedWithin count xs new) (sym same) (record {
+      queues = within.queues;
+      places = places-kept triggers old new n t updates (ap TracedTableView.places is ∙ ap places_of at) within.places;
+    })
 
-    pointwise : (m : ℕ) → triggers_of (kept more m) ≡ (if n == m then triggers_of (kept v.traced m) ++ x ∷ [] else triggers_of (kept v.traced m))
-    pointwise m =
-        ap triggers_of (kept-updated mid more n (Some t) there m ∙ ap (λ o. if n == m then Some t else o) (kept-updated v.traced mid n None gone m))
-        ∙ by m (n == m) refl
+-- where a table has come that has no trigger
+nothing-kept : (o : Option TracedTableView) → is_some o ≡ false → [] ≡ places_of o
+nothing-kept None e = refl
+nothing-kept (Some t) e = absurd (cc)
+
+pub traced-new : (count : ℕ) (triggers : List TableTrigger) (old new : List (ℕ × TracedTableView)) (n : ℕ) (t : TracedTableView) → Updated old new n (Some t) → is_some (kept old n) ≡ false
+    → t.places ≡ [] → TracedWithin count triggers old → TracedWithin count triggers new
+traced-new count triggers old new n t updates absent none within = record {
+  queues = within.queues;
+  places = places-kept triggers old new n t updates (none ∙ nothing-kept (kept old n) absent) within.places;
+}
+
+-- and where a trigger has come
+pub traced-more : (count : ℕ) (triggers ts more : List TableTrigger) (x : TableTrigger) (old new : List (ℕ × TracedTableView)) (n place : ℕ) (t was : TracedTableView)
+    → ts ≡ triggers → more ≡ ts ++ x ∷ [] → Updated old new n (Some t) → x.table ≡ n → Some was ≡ kept old n → t ≡ record was { places = was.places ++ place ∷ [] } → place ≡ length ts
+    → x.trigger.queue < count → TracedWithin count triggers old → TracedWithin count more new
+traced-more count triggers ts more x old new n place t was same is updates its at with at_end low within =
+    subst (λ xs. TracedWithin count xs new) (sym (is ∙ ap (λ xs. xs ++ x ∷ []) same)) (record {
+      queues = queues-more count triggers x within.queues low;
+      places = places-more triggers x old new n t updates its (ap TracedTableView.places with ∙ (λ i. places_of (at i) ++ (at_end ∙ ap length same) i ∷ [])) within.places;
+    })
+
+-- a table's name and columns stay
+pub tables-at : (part : RowPart) (old new : List (ℕ × TracedTableView)) (n : ℕ) (t was : TracedTableView) → Updated old new n (Some t) → Some was ≡ kept old n → t.name ≡ was.name → t.columns ≡ was.columns
+    → AreTables part old → AreTables part new
+tables-at part old new n t was updates at name columns are =
+    let there : IsTable part n was = subst (λ o. IfSome o (IsTable part n)) (sym at) (are n) in
+    each-updated (IsTable part) old new n (Some t) updates (there.0 ∙ ap Some (sym name), there.1 ∙ sym columns) are
+
+pub tables-new : (part : RowPart) (old new : List (ℕ × TracedTableView)) (n : ℕ) (t : TracedTableView) (name : List ℕ) → Updated old new n (Some t)
+    → t ≡ record { name = name; columns = part.columns n; places = [] } → slice_get part.tables n ≡ Some name → AreTables part old → AreTables part new
+tables-new part old new n t name updates is named are =
+    each-updated (IsTable part) old new n (Some t) updates (named ∙ ap Some (sym (ap TracedTableView.name is)), sym (ap TracedTableView.columns is)) are
+
+-- a database with one more trigger
+pub traced-as : (v now : DbView) (more : List TableTrigger) (tables : List (ℕ × TracedTableView)) (x : TableTrigger) → v ≡ now → more ≡ v.triggers ++ x ∷ []
+    → seen_database (record v { triggers = more; traced = tables }) ≡ after_mark (seen_database now) (queued (traced x.table x.name x.trigger))
+traced-as v now more tables x same is =
+    (λ i. record (seen_database v) { triggers = is i })
+    ∙ ap (λ (w : DbView). after_mark (seen_database w) (queued (traced x.table x.name x.trigger))) same

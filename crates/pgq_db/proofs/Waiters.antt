@@ -19,9 +19,10 @@ use Rattle.sky_model.specs.declared.reply.Reply.{Reply}
 use Rattle.sky_model.specs.declared.reply.Limit.TheVariants.{Tables, Queues, Consumers, Triggers}
 use Rattle.sky_model.specs.declared.reply.Refusal.{Refusal}
 use Rattle.sky_model.specs.declared.reply.Refusal.TheVariants.{BadColumn, BadRow, BadSnapshot, Canceled, Deadlock, Duplicate, EventIdsSpent, IdsSpent, KeyChange, NoBatch, NoConsumer, NodeConsumer, NoQueue, NoTable, Serialize, TableBusy, TableExists, TooMany, TriggerExists}
-use Rattle.sky_model.specs.History.{Batch, Mark, began, ended, block_begun, repeats, looked, block_failed, block_ended, tabled, table_made, wrote, waits, waited, queued, made, raised, put, ticked, registered, opened, closed, traced}
+use Rattle.sky_model.specs.History.{Batch, Mark, of_session, began, ended, block_begun, repeats, looked, block_failed, block_ended, tabled, table_made, wrote, waits, waited, queued, made, raised, put, ticked, registered, opened, closed, traced}
 use Rattle.sky_model.specs.Consumers.{Subscription}
-use Rattle.sky_model.specs.Queues.{Tick, tick}
+use Rattle.sky_model.specs.Queues.{queue_number, Tick, tick}
+use Rattle.sky_model.specs.Triggers.{triggers_of}
 use Rattle.sky_model.specs.Sessions.{Block, outside, inside, failed, Session}
 use Rattle.sky_model.specs.State.{RowPart, Database, after_mark, after_marks}
 use Rattle.sky_model.specs.ShownRows.{KeyShown, RowsShown, least_writer}
@@ -43,7 +44,7 @@ use Rattle.sky_model.specs.Calls.{row_form, form, making, statement, database_tu
 use Rattle.sky_model.proofs.Resting.{is-ready, KeepsPart, waiting-resumed, behind-append}
 use Rattle.sky_model.proofs.DatabaseResting.{database-keeps}
 use Rattle.sky_model.proofs.DatabaseStanding.{after_marks-append, behind-all}
-use Rattle.sky_session.specs.Marks.{failure}
+use Rattle.sky_model.specs.SessionMarks.{failure}
 use Rattle.pgq_db.specs.Waiters.{WaitersWithin, AnswersWithin, StaysWithin}
 use Rattle.pgq_db.specs.Gives.{Gives}
 
@@ -93,7 +94,7 @@ own-left committed who (Some t) = tt
 
 own-writes : (d : RowPart) (who table : ℕ) (key : List Val) (old new : Option (List Val)) → Own who (writes_key d who table key old new)
 own-writes d who table key old new =
-    checked who (txid_for d who) _ (λ t. own-written who t (d.session who).txid (d.session who).block (tabled (wrote who t table key old new) ∷ [])
+    checked who (txid_for d who) _ (λ t. own-written who t (d.session who).txid (d.session who).block (tabled (wrote (of_session who) t table key old new) ∷ [])
     (own-committed who t (d.session who).block))
 
 own-once_free : (d : RowPart) (who table : ℕ) (key : List Val) (attempt : Attempt) (other : Option ℕ) (c : Checked Outcome) → Own who c → Own who (once_free d who table key attempt other c)
@@ -255,7 +256,7 @@ own-told_by who d now t (e ∷ es) = of (nat_le (2 ^ 62) id) (own-told_by who (a
     of false own = joined (told_by (after_marks d (event_marks e.queue (told_event id now t e))) now t es) own
 
 own-told_of : (who : ℕ) (d : Database) (now : ℤ) (mark : Mark) → OwnMarks who (told_of d now mark)
-own-told_of who d now (tabled (wrote w t table key old new)) = own-told_by who d now t (events_in d table old new)
+own-told_of who d now (tabled (wrote (of_session w) t table key old new)) = own-told_by who d now t (events_in d table old new)
 own-told_of who d now _ = tt
 
 own-with_told : (who : ℕ) (d : Database) (now : ℤ) (marks : List Mark) → OwnWaits who marks → OwnMarks who (with_told d now marks)
@@ -282,27 +283,27 @@ own-tells who d now (Ok o) own = of (with_told d now o.marks) (own-with_told who
 own-form : (d : Database) (shown : Shown) (now : ℤ) (who : ℕ) (stmt : Stmt) → Own who (form d shown now who stmt)
 own-form d shown now who (Row stmt) = own-tells who d now (row_form d.part shown.rows who stmt) (own-row d.part shown.rows who stmt)
 own-form d shown now who (CreateQueue name) =
-    either who (is_some (place_of name d.names)) _ _ tt (test who (nat_le 64 (length d.names)) (TooMany Queues) _
-    (checked who (txid_for d.part who) _ (λ t. own-made who t (length d.names) (d.part.session who).txid (d.part.session who).block name now)))
+    either who (is_some (queue_number name d.queues)) _ _ tt (test who (nat_le 64 (length d.queues)) (TooMany Queues) _
+    (checked who (txid_for d.part who) _ (λ t. own-made who t d.queues_made (d.part.session who).txid (d.part.session who).block name now)))
 own-form d shown now who (InsertEvent name ev_type ev_data extra) =
-    found who (place_of name d.names) (NoQueue name) _ (λ queue. checked who (txid_for d.part who) _ (λ t. checked who (next_event_id (d.queue queue)) _ (λ id.
+    found who (queue_number name d.queues) (NoQueue name) _ (λ queue. checked who (txid_for d.part who) _ (λ t. checked who (next_event_id (d.queue queue)) _ (λ id.
     own-written who t (d.part.session who).txid (d.part.session who).block
     (queued (raised queue id) ∷ queued (put queue (made_event id now t ev_type ev_data extra)) ∷ []) (own-committed who t (d.part.session who).block))))
 own-form d shown now who (Ticker name) =
-    found who (place_of name d.names) (NoQueue name) _ (λ queue. either who (is_due now (d.queue queue)) _ _ (test who (nat_le (2 ^ 64) (newest_id (d.queue queue) + 1)) IdsSpent _ tt) tt)
+    found who (queue_number name d.queues) (NoQueue name) _ (λ queue. either who (is_due now (d.queue queue)) _ _ (test who (nat_le (2 ^ 64) (newest_id (d.queue queue) + 1)) IdsSpent _ tt) tt)
 own-form d shown now who (ForceTick name) =
-    found who (place_of name d.names) (NoQueue name) _ (λ queue. test who (nat_le (2 ^ 62) ((d.queue queue).seq + forced (d.queue queue).config)) EventIdsSpent _ tt)
+    found who (queue_number name d.queues) (NoQueue name) _ (λ queue. test who (nat_le (2 ^ 62) ((d.queue queue).seq + forced (d.queue queue).config)) EventIdsSpent _ tt)
 own-form d shown now who (RegisterConsumer name consumer) =
-    found who (place_of name d.names) (NoQueue name) _ (λ queue. test who (has_dot consumer) NodeConsumer _ (either who (is_some ((d.queue queue).sub consumer)) _ _ tt
+    found who (queue_number name d.queues) (NoQueue name) _ (λ queue. test who (has_dot consumer) NodeConsumer _ (either who (is_some ((d.queue queue).sub consumer)) _ _ tt
     (test who (nat_le 256 (length (d.queue queue).members)) (TooMany Consumers) _ (test who (nat_le (2 ^ 64) (d.last_sub_id + 1)) IdsSpent _ tt))))
 own-form d shown now who (NextBatch name consumer) =
-    found who (place_of name d.names) (NoQueue name) _ (λ queue. test who (has_dot consumer) NodeConsumer _ (found who ((d.queue queue).sub consumer) (NoConsumer consumer) _ (λ sub.
+    found who (queue_number name d.queues) (NoQueue name) _ (λ queue. test who (has_dot consumer) NodeConsumer _ (found who ((d.queue queue).sub consumer) (NoConsumer consumer) _ (λ sub.
     own-takes d who queue consumer sub sub.active)))
 own-form d shown now who (GetBatchEvents batch) = found who (d.batch batch) NoBatch _ (λ b. tt)
 own-form d shown now who (FinishBatch batch) = own-finishes who (d.batch batch)
 own-form d shown now who (AddTrigger name table queue backup ignored) =
-    found who (place_of table d.part.tables) (NoTable table) _ (λ number. found who (place_of queue d.names) (NoQueue queue) _ (λ place.
-    test who (has_trigger name (d.triggers number)) (TriggerExists name) _ (test who (nat_le 8 (length (d.triggers number))) (TooMany Triggers) _
+    found who (place_of table d.part.tables) (NoTable table) _ (λ number. found who (queue_number queue d.queues) (NoQueue queue) _ (λ place.
+    test who (has_trigger name (triggers_of number d.triggers)) (TriggerExists name) _ (test who (nat_le 8 (length (triggers_of number d.triggers))) (TooMany Triggers) _
     (by_option who (option_map BadColumn (find (λ column. not (may_ignore (d.part.columns number) column)) ignored)) _
     (by_option who (option_map TableBusy (least_writer d.part number)) _ tt)))))
 

@@ -3,35 +3,37 @@ use Rattle.std.specs.Prelude.{◌≡◌, ℕ, ℤ, ◌+◌, ◌^◌, ◌<◌, Bo
 use Rattle.std.specs.List.{All}
 use Rattle.sky_val.specs.declared.val.Val.{Val}
 use Rattle.sky_urlenc.specs.RowEvents.{RowEvent, events_of}
-use Rattle.sky_model.specs.Triggers.{NamedTrigger}
+use Rattle.sky_model.specs.Triggers.{TableTrigger}
 use Rattle.sky_model.specs.State.{Queue, changed_at}
 use Rattle.sky_model.specs.Moment.{HasMoment}
 use Rattle.sky_model.specs.Telling.{told_event}
 use Rattle.sky_model.specs.Gates.{Gate, RowWrite}
 use Rattle.pgq_db.specs.declared.told.Told.{Told}
-use Rattle.pgq_db.specs.Views.{QueueView, TracedView}
+use Rattle.pgq_db.specs.Views.{QueueView, TracedTableView, TracedView}
 use Rattle.pgq_db.specs.Seen.{kept, no_queue}
+use Rattle.pgq_db.specs.Traced.{traced_by}
 
--- a gate at a time: the tables with triggers, the queues as they were when it was set up, and the events that it has made
+-- a gate at a time: the triggers, the tables with triggers, the queues as they were when it was set up, and the events that it has made
 -- since, in their order
 pub record EventGateView : Type 0 where
   pub now : ℤ
-  pub traced : List (ℕ × TracedView)
+  pub triggers : List TableTrigger
+  pub traced : List (ℕ × TracedTableView)
   pub queues : List QueueView
   pub told : List Told
 
 -- the events of triggers that tell of a write in a table, and those of all its triggers
-abbrev pub events_by : TracedView → (old new : Option (List Val)) → List NamedTrigger → List RowEvent
+abbrev pub events_by : TracedView → (old new : Option (List Val)) → List TableTrigger → List RowEvent
 events_by t old new triggers =
-    events_of (record { table = t.name; columns = t.columns; old = old; new = new }) (map NamedTrigger.trigger triggers)
+    events_of (record { table = t.name; columns = t.columns; old = old; new = new }) (map TableTrigger.trigger triggers)
 
 abbrev pub table_events : TracedView → (old new : Option (List Val)) → List RowEvent
 table_events t old new = events_by t old new t.triggers
 
--- the events that tell of a write, if its table has triggers
-abbrev pub events_at : Option TracedView → RowWrite → List RowEvent
-events_at None write = []
-events_at (Some t) write = table_events t write.old write.new
+-- the events of these triggers that tell of a write, if its table has any of them
+abbrev pub events_at : List TableTrigger → Option TracedTableView → RowWrite → List RowEvent
+events_at triggers None write = []
+events_at triggers (Some t) write = table_events (traced_by triggers t) write.old write.new
 
 -- whether there are ids for events, each of which takes the next one of its queue's sequence
 abbrev pub ids_left : (ℕ → ℕ) → List RowEvent → Bool
@@ -60,8 +62,8 @@ seqs g = seqs_behind g.queues g.told
 -- there is room for a write where there are ids for all its events; then these are made
 abbrev pub event_rule : Gate EventGateView
 event_rule = record {
-  has_room = λ g write. ids_left (seqs g) (events_at (kept g.traced write.table) write);
-  after = λ g t write. record g { told = g.told ++ told_from (seqs g) g.now t (events_at (kept g.traced write.table) write) };
+  has_room = λ g write. ids_left (seqs g) (events_at g.triggers (kept g.traced write.table) write);
+  after = λ g t write. record g { told = g.told ++ told_from (seqs g) g.now t (events_at g.triggers (kept g.traced write.table) write) };
 }
 
 -- queues behind events: each has raised its queue's sequence, and is stored there

@@ -1,21 +1,21 @@
 -- The readings of the definitions, in what the code keeps of a database.
-use Rattle.std.specs.Prelude.{ℕ, Bool, List, [], Option, Some, None, option_map, map, slice_index_or}
+use Rattle.std.specs.Prelude.{ℕ, ◌+◌, Bool, List, [], ◌∷◌, length, Option, option_map, map, slice_index_or}
 use Rattle.std.specs.List.{list_any}
 use Rattle.std.specs.Ordering.{nat_cmp}
 use Rattle.std.specs.BTreeMap.{is_at}
 use Rattle.std.specs.Map.{lookup}
 use Rattle.sky_names.specs.Places.{named}
 use Rattle.sky_model.specs.History as model
+use Rattle.sky_model.specs.Queues.{NamedQueue}
 use Rattle.sky_model.specs.Consumers.{Subscription}
 use Rattle.sky_model.specs.Config.{default_config}
-use Rattle.sky_model.specs.Triggers.{NamedTrigger}
 use Rattle.sky_model.specs.State.{Queue, Database}
 use Rattle.pgq_db.specs.declared.sub.Sub.{Sub}
 use Rattle.pgq_db.specs.declared.batch.Batch.{Batch}
 use Rattle.sky_session.specs.Views.{no_rows}
 use Rattle.sky_session.specs.Seen.{seen}
 use Rattle.pgq_db.specs.Subs.{consumer_of}
-use Rattle.pgq_db.specs.Views.{QueueView, TracedView, DbView}
+use Rattle.pgq_db.specs.Views.{QueueView, DbView}
 
 abbrev pub seen_sub : Sub → Subscription
 seen_sub s = record { id = s.id; position = s.position; active = s.active }
@@ -46,10 +46,10 @@ kept entries n = lookup (is_at (nat_cmp n)) entries
 abbrev pub keeps : List ℕ → ℕ → Bool
 keeps numbers n = list_any (is_at (nat_cmp n)) numbers
 
--- the triggers of a table, if it has any
-abbrev pub triggers_of : Option TracedView → List NamedTrigger
-triggers_of None = []
-triggers_of (Some t) = t.triggers
+-- the queues of names, numbered in their order from a number on
+abbrev pub numbered : ℕ → List (List ℕ) → List NamedQueue
+numbered n [] = []
+numbered n (name ∷ names) = record { number = n; name = name } ∷ numbered (n + 1) names
 
 abbrev pub seen_database : DbView → Database
 seen_database d = record {
@@ -57,10 +57,11 @@ seen_database d = record {
   undone = keeps d.undone;
   last_batch_id = d.last_batch_id;
   last_sub_id = d.last_sub_id;
-  names = d.names;
+  queues_made = length d.names;
+  queues = numbered 0 d.names;
   queue = λ n. seen_queue (slice_index_or d.queues n no_queue);
   batch = λ id. option_map (seen_batch id) (kept d.batches id);
-  triggers = λ table. triggers_of (kept d.traced table);
+  triggers = d.triggers;
 }
 
 -- a database that isn't made
@@ -73,5 +74,6 @@ no_database = record {
   queues = [];
   batches = [];
   undone = [];
+  triggers = [];
   traced = [];
 }

@@ -1,24 +1,42 @@
--- What a database keeps of its tables with triggers.
-use Rattle.std.specs.Prelude.{◌≡◌, ℕ, ◌<◌, List, [], Option, Some, None, IfSome, slice_get}
+-- What a database keeps of its triggers, and of its tables with triggers.
+use Rattle.std.specs.Prelude.{◌≡◌, ℕ, ◌<◌, false, List, [], Option, Some, None, IfSome, length, map, slice_get, slice_index_or}
 use Rattle.std.specs.List.{All}
-use Rattle.sky_val.specs.declared.column.Column.{Column}
+use Rattle.sky_model.specs.Triggers.{TableTrigger, triggers_of}
 use Rattle.sky_model.specs.State.{RowPart}
-use Rattle.pgq_db.specs.Views.{TracedView}
+use Rattle.pgq_db.specs.Views.{TracedTableView, TracedView}
 use Rattle.pgq_db.specs.Seen.{kept}
 
--- each trigger's events go to one of so many queues
-abbrev pub TracedWithin : ℕ → List (ℕ × TracedView) → Type 0
-TracedWithin count traced = (n : ℕ) → IfSome (kept traced n) (λ t. All (λ x. x.trigger.queue < count) t.triggers)
+-- a trigger that isn't made
+abbrev pub no_trigger : TableTrigger
+no_trigger = record { table = 0; name = None; trigger = record { queue = 0; backup = false; ignored = [] } }
+
+-- the triggers at places
+abbrev pub triggers_at : List TableTrigger → List ℕ → List TableTrigger
+triggers_at triggers places = map (λ place. slice_index_or triggers place no_trigger) places
+
+-- a table with the triggers at its places
+abbrev pub traced_by : List TableTrigger → TracedTableView → TracedView
+traced_by triggers t = record { name = t.name; columns = t.columns; triggers = triggers_at triggers t.places }
+
+-- the places of a table, which has none where nothing is kept of it
+abbrev pub places_of : Option TracedTableView → List ℕ
+places_of None = []
+places_of (Some t) = t.places
+
+-- there are these places, and at them stand a table's triggers
+pub record ArePlaced (triggers : List TableTrigger) (table : ℕ) (places : List ℕ) : Type 0 where
+  pub within : All (λ place. place < length triggers) places
+  pub own : triggers_at triggers places ≡ triggers_of table triggers
+
+-- each trigger's events go to one of so many queues, and what is kept of a table are the places of its own
+pub record TracedWithin (count : ℕ) (triggers : List TableTrigger) (traced : List (ℕ × TracedTableView)) : Type 0 where
+  pub queues : All (λ t. t.trigger.queue < count) triggers
+  pub places : (n : ℕ) → ArePlaced triggers n (places_of (kept traced n))
 
 -- what is kept of a table is its name and its columns
-abbrev pub IsTable : RowPart → ℕ → TracedView → Type 0
+abbrev pub IsTable : RowPart → ℕ → TracedTableView → Type 0
 IsTable part n t = (slice_get part.tables n ≡ Some t.name) × (part.columns n ≡ t.columns)
 
 -- so is what is kept of each
-abbrev pub AreTables : RowPart → List (ℕ × TracedView) → Type 0
+abbrev pub AreTables : RowPart → List (ℕ × TracedTableView) → Type 0
 AreTables part traced = (n : ℕ) → IfSome (kept traced n) (IsTable part n)
-
--- what is kept of a table, or that it has no trigger yet
-abbrev pub traced_or : Option TracedView → List ℕ → List Column → TracedView
-traced_or None name columns = record { name = name; columns = columns; triggers = [] }
-traced_or (Some t) name columns = t

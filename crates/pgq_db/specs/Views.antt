@@ -5,7 +5,7 @@ use Rattle.sky_val.specs.declared.event.Event.{Event}
 use Rattle.sky_session.specs.Views.{RowDbView}
 use Rattle.pgq_db.specs.declared.batch.Batch.{Batch}
 use Rattle.sky_model.specs.Queues.{Tick}
-use Rattle.sky_model.specs.Triggers.{NamedTrigger}
+use Rattle.sky_model.specs.Triggers.{TableTrigger}
 use Rattle.pgq_db.specs.declared.sub.Sub.{Sub}
 
 pub record QueueView : Type 0 where
@@ -14,11 +14,17 @@ pub record QueueView : Type 0 where
   pub ticks : List Tick
   pub subs : List Sub
 
--- a table with triggers: its name, its columns, and its triggers in the order of making
+-- a table with triggers: its name, its columns, and the places of its own among the triggers of all tables
+pub record TracedTableView : Type 0 where
+  pub name : List ℕ
+  pub columns : List Column
+  pub places : List ℕ
+
+-- the same with the triggers that stand there
 pub record TracedView : Type 0 where
   pub name : List ℕ
   pub columns : List Column
-  pub triggers : List NamedTrigger
+  pub triggers : List TableTrigger
 
 pub record DbView : Type 0 where
   pub rows : RowDbView
@@ -28,5 +34,7 @@ pub record DbView : Type 0 where
   pub queues : List QueueView
   pub undone : List ℕ
   pub batches : List (ℕ × Batch)
+  -- the triggers, in the order of making
+  pub triggers : List TableTrigger
   -- the tables with triggers, each under its number
-  pub traced : List (ℕ × TracedView)
+  pub traced : List (ℕ × TracedTableView)

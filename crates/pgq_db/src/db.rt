@@ -1,10 +1,12 @@
-ghost use Rattle.std.specs.Prelude.{◌≡◌, ◌↔◌, ◌≢◌, ℕ, ◌+◌, ◌<◌, ◌^◌, [], ◌∷◌, ◌++◌, ◌||◌, ◌==◌, true, if◌then◌else◌, Some, None, Ok, Err, IfOk, IfErr, OnOk, OnErr, IsTrue, IfSome, IfNone, OnSome, Option, option_copied, option_map, length, is_ok, find, not};
+ghost use Rattle.std.specs.Prelude.{◌≡◌, ◌↔◌, ◌≢◌, ℕ, ◌+◌, ◌<◌, ◌^◌, [], ◌∷◌, ◌++◌, ◌||◌, ◌==◌, true, Some, None, Ok, Err, IfOk, IfErr, OnOk, OnErr, IsTrue, IfSome, IfNone, OnSome, Option, option_copied, option_map, length, is_ok, is_some, find, not};
 ghost use Rattle.sky_val.specs.Waits.{is_waiting};
 ghost use Rattle.sky_names.specs.Places.{place_of};
-ghost use Rattle.sky_model.specs.declared.stmt.Where.TheVariants.{WhenReading, WhenOutside};
+ghost use Rattle.sky_model.specs.InForm.{IsRowInForm};
 ghost use Rattle.sky_model.specs.History.{queued, made, raised, put, ticked, registered, opened, traced};
 ghost use Rattle.sky_model.specs.State.{database_of, after_mark, after_marks, changed_at, changed_for, with_batch, at_position};
 ghost use Rattle.sky_model.specs.ShownRows.{snapshot_now, least_writer};
+ghost use Rattle.sky_model.specs.Triggers.{triggers_of};
+ghost use Rattle.sky_model.specs.Queues.{queue_number};
 ghost use Rattle.sky_model.specs.StepTrigger.{has_trigger, may_ignore};
 ghost use Rattle.sky_model.specs.Moment.{HasMoment};
 ghost use Rattle.sky_model.specs.Printed.{EventsHaveMoments, HaveMoments};
@@ -16,11 +18,11 @@ ghost use Rattle.sky_model.specs.declared.stmt.Stmt.TheVariants.{Row};
 ghost use Rattle.sky_model.specs.Sessions.{outside};
 ghost use Rattle.sky_model.specs.Settling.{ready, settling, with_settling};
 ghost use Rattle.sky_model.specs.Calls.{database_turn};
-ghost use Rattle.sky_session.specs.Marks.{failure};
-ghost use Rattle.sky_session.specs.Gives.{Enters};
+ghost use Rattle.sky_model.specs.SessionMarks.{Enters, entry, entry_place, failing};
+ghost use Rattle.sky_model.specs.DatabaseCalls.{entered, failed};
+ghost use Rattle.sky_model.specs.DatabaseSteps.{DatabaseSteps};
 ghost use Rattle.pgq_db.specs.Ticks.{IsTime};
-ghost use Rattle.pgq_db.specs.Seen.{seen_database, seen_queue, seen_batch};
-ghost use Rattle.pgq_db.specs.Traced.{traced_or};
+ghost use Rattle.pgq_db.specs.Seen.{kept, seen_database, seen_queue, seen_batch};
 ghost use Rattle.sky_session.specs.Seen.{seen};
 ghost use Rattle.pgq_db.specs.EventGates.{queues_behind, AreStorable};
 ghost use Rattle.pgq_db.specs.Undone.{undone_by};
@@ -33,7 +35,7 @@ use crate::queue::Queue;
 use crate::subscription::Subscription;
 use crate::ticks::Tick;
 use crate::told::Told;
-use crate::traced::{NamedTrigger, Traced};
+use crate::traced::{TableTrigger, Traced, TracedTable};
 use sky_model::{Refusal, Replies, RowStmt};
 use sky_names::Names;
 use sky_session::{Effect, Effects, RowDb};
@@ -57,8 +59,10 @@ pub struct Db {
     batches: BTreeMap<u64, Batch>,
     // The transactions that were rolled back.
     undone: BTreeSet<u64>,
+    // The triggers, in the order of making.
+    triggers: Vec<TableTrigger>,
     // The tables with triggers, each under its number.
-    traced: BTreeMap<u32, Traced>,
+    traced: BTreeMap<u32, TracedTable>,
     // Whether memory was wanting in the midst of a statement on rows. What its tables are isn't known then, so no statement
     // on rows is run from then on.
     is_cut: bool,
@@ -81,11 +85,12 @@ impl Model for Db {
       queues = d.queues.items;
       batches = d.batches.entries;
       undone = d.undone.keys;
+      triggers = d.triggers.items;
       traced = d.traced.entries;
     } };
 
     ghost invariant = { λ d. (length d.queues.items ≡ length d.names) × (BatchesWithin (length d.queues.items) d.batches.entries
-        × (TracedWithin (length d.queues.items) d.traced.entries × (d.is_cut ≡ false → AreTables (seen d.rows) d.traced.entries))) };
+        × (TracedWithin (length d.queues.items) d.triggers.items d.traced.entries × (d.is_cut ≡ false → AreTables (seen d.rows) d.traced.entries))) };
 }
 
 impl Db {
@@ -102,6 +107,7 @@ impl Db {
             queues: Vec::new(alloc),
             batches: BTreeMap::new(alloc),
             undone: BTreeSet::new(alloc),
+            triggers: Vec::new(alloc),
             traced: BTreeMap::new(alloc),
             is_cut: false,
         }
@@ -109,7 +115,7 @@ impl Db {
 
     /// The number of a queue, if there is one of this name.
     pub(crate) fn number(&self, queue: &Text) -> Option<usize>
-        ensures number { result ≡ place_of queue.now self.now.names }
+        ensures number { result ≡ queue_number queue.now (seen_database self.now).queues }
         ensures within { IfSome result (λ n. n < length self.now.queues) }
     {
         let number = self.names.number(queue)?;
@@ -158,9 +164,9 @@ impl Db {
         self.last_batch_id
     }
 
-    /// How many queues were made; none goes.
+    /// How many queues stand; none goes.
     pub(crate) fn queue_count(&self) -> usize
-        ensures { result ≡ length self.now.names }
+        ensures { result ≡ length (seen_database self.now).queues }
     {
         self.names.len()
     }
@@ -198,9 +204,11 @@ impl Db {
     /// Lets the session make a statement that isn't on rows, or refuses it. One that may stand `outside` of blocks alone
     /// reads nothing; any other takes the sight of a repeatable read block, if that is still to come.
     pub fn enter(&mut self, who: SessionId, outside: bool) -> Result<Option<Refusal>, NoMemory>
-        ensures enters { IfOk result (λ refusal. Enters (seen_database self.old).part (seen_database self.new).part who (if outside then WhenOutside else WhenReading) refusal) }
+        ensures enters { IfOk result (λ refusal. Enters (seen_database self.old).part (seen_database self.new).part who (entry_place outside) refusal) }
         ensures but { seen_database self.new ≡ record (seen_database self.old) { part = (seen_database self.new).part } }
         ensures err { OnErr result (seen_database self.new ≡ seen_database self.old) }
+        ensures steps { OnOk result (DatabaseSteps (seen_database self.old) (seen_database self.new) (entered who outside)
+            (entry (seen_database self.old).part who (entry_place outside))) }
     {
         self.rows.enter(who, outside)
     }
@@ -224,12 +232,12 @@ impl Db {
     pub fn fail(&mut self, who: SessionId, now: i64) -> Result<Replies, NoMemory>
         requires { IsTime now }
         ensures exact { let d = seen_database self.old in
-            let marks = failure who (d.part.session who).txid (d.part.session who).block in
-            IfOk result (λ replies. Gives d (seen_database self.new) replies
-            (with_settling (within_part database_by_itself now) d (record { answers = []; marks = marks }))) }
+            IfOk result (λ replies. Gives d (seen_database self.new) replies (with_settling (within_part database_by_itself now) d (failing d.part who))) }
         ensures rests { OnOk result (ready (seen_database self.new).part ≡ None) }
         ensures moments { IfOk result HaveMoments }
         ensures within { IfOk result (λ replies. StaysWithin (seen_database self.old) (seen_database self.new) who replies) }
+        ensures steps { let d = seen_database self.old in
+            OnOk result (DatabaseSteps d (seen_database self.new) (failed who now) (with_settling (within_part database_by_itself now) d (failing d.part who))) }
     {
         self.roll_back(who)?;
         let replies = self.settle(now)?;
@@ -243,7 +251,8 @@ impl Db {
         who: SessionId,
         stmt: &RowStmt,
     ) -> Result<Replies, AllocError>
-        requires { IsTime now }
+        requires time { IsTime now }
+        requires form { IsRowInForm stmt.now }
         ensures gives { IfOk result (λ replies. Gives (seen_database self.old) (seen_database self.new) replies
             (database_turn database_by_itself (seen_database self.old) now who (Row stmt.now))) }
         ensures rests { OnOk result (ready (seen_database self.new).part ≡ None) }
@@ -252,7 +261,9 @@ impl Db {
         if self.is_cut {
             return Err(AllocError);
         }
-        let mut gate = EventGate::new(self.alloc, now, &self.traced, self.queues.as_slice());
+        let triggers = self.triggers.as_slice();
+        let queues = self.queues.as_slice();
+        let mut gate = EventGate::new(self.alloc, now, triggers, &self.traced, queues);
         match self.rows.step_with(who, stmt, &mut gate) {
             Ok(step) => {
                 let told = gate.into_told();
@@ -276,7 +287,9 @@ impl Db {
         if self.is_cut {
             return Err(AllocError);
         }
-        let mut gate = EventGate::new(self.alloc, now, &self.traced, self.queues.as_slice());
+        let triggers = self.triggers.as_slice();
+        let queues = self.queues.as_slice();
+        let mut gate = EventGate::new(self.alloc, now, triggers, &self.traced, queues);
         match self.rows.settle_with(&mut gate) {
             Ok(step) => {
                 let told = gate.into_told();
@@ -317,8 +330,7 @@ impl Db {
 
     /// Rolls back the block that the session is in, which stays aborted. What this lets go on isn't run yet.
     pub(crate) fn roll_back(&mut self, who: SessionId) -> Result<(), AllocError>
-        ensures { OnOk result (seen_database self.new ≡ after_marks (seen_database self.old)
-            (failure who ((seen_database self.old).part.session who).txid ((seen_database self.old).part.session who).block)) }
+        ensures { OnOk result (seen_database self.new ≡ after_marks (seen_database self.old) (failing (seen_database self.old).part who).marks) }
     {
         match self.rows.roll_back(who) {
             Ok(effects) => {
@@ -409,14 +421,14 @@ impl Db {
 
     /// A queue of a new name, with its first tick.
     pub(crate) fn make(&mut self, name: Text, first: Tick) -> Result<(), AllocError>
-        requires new { place_of name self.old.names ≡ None }
-        requires room { length self.old.names < 64 }
+        requires new { queue_number name (seen_database self.old).queues ≡ None }
+        requires room { length (seen_database self.old).queues < 64 }
         requires first { first.id ≡ 1 }
         requires time { IsTime first.time }
         requires seq { first.seq ≡ 0 }
         requires snapshot { first.snapshot ≡ snapshot_now (seen_database self.old).part }
         ensures { OnOk result (seen_database self.new ≡ after_marks (seen_database self.old)
-            (queued (made name) ∷ queued (ticked (length self.old.names) 1 first.time 0) ∷ [])) }
+            (queued (made name) ∷ queued (ticked (seen_database self.old).queues_made 1 first.time 0) ∷ [])) }
     {
         let queue = Queue::new(self.alloc, first)?;
         self.queues.reserve(1)?;
@@ -536,39 +548,65 @@ impl Db {
 
     /// Whether the table has a trigger of this name.
     pub(crate) fn has_trigger(&self, table: u32, name: &Text) -> bool
-        ensures { result ≡ has_trigger name.now ((seen_database self.now).triggers table) }
+        ensures { result ≡ has_trigger name.now (triggers_of table (seen_database self.now).triggers) }
     {
         match self.traced.get(&table) {
-            Some(traced) => traced.has(name),
+            Some(traced) => Traced::new(self.triggers.as_slice(), traced).has(name),
             None => false,
         }
     }
 
     /// How many triggers the table has.
     pub(crate) fn trigger_count(&self, table: u32) -> usize
-        ensures { result ≡ length ((seen_database self.now).triggers table) }
+        ensures { result ≡ length (triggers_of table (seen_database self.now).triggers) }
     {
         match self.traced.get(&table) {
-            Some(traced) => traced.triggers().len(),
+            Some(traced) => traced.count(),
             None => 0,
         }
     }
 
-    /// One more trigger of the table of this name and number.
-    pub(crate) fn trace(
-        &mut self,
-        name: &Text,
-        number: u32,
-        trigger: NamedTrigger,
-    ) -> Result<(), AllocError>
-        requires table { place_of name.now (seen_database self.old).part.tables ≡ Some number }
+    /// One more trigger of the table of this name.
+    pub(crate) fn trace(&mut self, name: &Text, trigger: TableTrigger) -> Result<(), AllocError>
+        requires table { place_of name.now (seen_database self.old).part.tables ≡ Some trigger.table }
         requires queue { trigger.trigger.queue < length self.old.queues }
-        ensures { OnOk result (seen_database self.new ≡ after_mark (seen_database self.old) (queued (traced number trigger.name trigger.trigger))) }
+        ensures ok { OnOk result (seen_database self.new ≡ after_mark (seen_database self.old) (queued (traced trigger.table trigger.name trigger.trigger))) }
+        ensures err { OnErr result (seen_database self.new ≡ seen_database self.old) }
     {
-        let taken = self.traced.remove(&number);
-        let mut traced = traced_or_new(self.alloc, &self.rows, taken, name, number)?;
-        traced.add(trigger)?;
-        self.traced.insert(number, traced)?;
+        self.keep_table(name, trigger.table)?;
+        self.store_trigger(trigger)?;
+        Ok(())
+    }
+
+    /// Keeps what events say of the table of this name and number, where that isn't kept yet.
+    fn keep_table(&mut self, name: &Text, number: u32) -> Result<(), AllocError>
+        requires { place_of name.now (seen_database self.old).part.tables ≡ Some number }
+        ensures same { seen_database self.new ≡ seen_database self.old }
+        ensures queues { self.new.queues ≡ self.old.queues }
+        ensures kept { OnOk result (is_some (kept self.new.traced number) ≡ true) }
+    {
+        if self.traced.contains_key(&number) {
+            return Ok(());
+        }
+        let table = new_table(self.alloc, &self.rows, name, number)?;
+        self.traced.insert(number, table)?;
+        Ok(())
+    }
+
+    /// One more trigger of a table of which is kept what events say of it.
+    fn store_trigger(&mut self, trigger: TableTrigger) -> Result<(), AllocError>
+        requires table { is_some (kept self.old.traced trigger.table) ≡ true }
+        requires queue { trigger.trigger.queue < length self.old.queues }
+        ensures ok { OnOk result (seen_database self.new ≡ after_mark (seen_database self.old) (queued (traced trigger.table trigger.name trigger.trigger))) }
+        ensures err { OnErr result (seen_database self.new ≡ seen_database self.old) }
+    {
+        self.triggers.reserve(1)?;
+        let place = self.triggers.len();
+        match self.traced.get_mut(&trigger.table) {
+            Some(table) => table.add(place)?,
+            None => unreachable!(),
+        }
+        self.triggers.push_reserved(trigger);
         Ok(())
     }
 
@@ -583,22 +621,18 @@ impl Db {
     }
 }
 
-/// What is kept of the table of this name and number, if anything is, or that it has no trigger yet.
-fn traced_or_new(
+/// What events say of the table of this name and number, which has no trigger yet.
+fn new_table(
     alloc: Global,
     rows: &RowDb,
-    taken: Option<Traced>,
     name: &Text,
     number: u32,
-) -> Result<Traced, AllocError>
+) -> Result<TracedTable, AllocError>
     requires { place_of name.now (seen rows.now).tables ≡ Some number }
-    ensures { IfOk result (λ traced. traced ≡ traced_or taken name.now ((seen rows.now).columns number)) }
+    ensures { IfOk result (λ table. table ≡ record { name = name.now; columns = (seen rows.now).columns number; places = [] }) }
 {
-    if let Some(traced) = taken {
-        return Ok(traced);
-    }
     match rows.table(name) {
-        Some((_, schema)) => Ok(Traced::new(alloc, name.copy(alloc)?, schema.copy(alloc)?)),
+        Some((_, schema)) => Ok(TracedTable::new(alloc, name.copy(alloc)?, schema.copy(alloc)?)),
         None => unreachable!(),
     }
 }

@@ -9,7 +9,7 @@ ghost use Rattle.pgq_db.specs.EventGates.{events_by, table_events, ids_left, tol
 
 use crate::queue::Queue;
 use crate::told::Told;
-use crate::traced::Traced;
+use crate::traced::{TableTrigger, Traced, TracedTable};
 use sky_session::WriteGate;
 use sky_urlenc::RowEvent;
 use sky_val::{Event, NoMemory, Op, Row};
@@ -26,7 +26,8 @@ pub(crate) const EVENT_ID_END: u64 = 1 << 62;
 pub struct EventGate<'a> {
     alloc: Global,
     now: i64,
-    traced: &'a BTreeMap<u32, Traced>,
+    triggers: &'a [TableTrigger],
+    traced: &'a BTreeMap<u32, TracedTable>,
     queues: &'a [Queue],
     told: Vec<Told>,
 }
@@ -41,9 +42,9 @@ impl<'a> Model for EventGate<'a> {
     ghost use Rattle.pgq_db.specs.Traced.{TracedWithin};
     ghost use Rattle.pgq_db.specs.EventGates.{AreStorable};
 
-    ghost view = { λ g. record { now = g.now; traced = g.traced.now.entries; queues = g.queues.now; told = g.told.items } };
+    ghost view = { λ g. record { now = g.now; triggers = g.triggers.now; traced = g.traced.now.entries; queues = g.queues.now; told = g.told.items } };
 
-    ghost invariant = { λ g. TracedWithin (length g.queues.now) g.traced.now.entries × (HasMoment g.now × AreStorable (length g.queues.now) g.told.items) };
+    ghost invariant = { λ g. TracedWithin (length g.queues.now) g.triggers.now g.traced.now.entries × (HasMoment g.now × AreStorable (length g.queues.now) g.told.items) };
 }
 
 impl<'a> EventGate<'a> {
@@ -51,16 +52,18 @@ impl<'a> EventGate<'a> {
     pub fn new(
         alloc: Global,
         now: i64,
-        traced: &'a BTreeMap<u32, Traced>,
+        triggers: &'a [TableTrigger],
+        traced: &'a BTreeMap<u32, TracedTable>,
         queues: &'a [Queue],
     ) -> EventGate<'a>
-        requires within { TracedWithin (length queues.now) traced.now.entries }
+        requires within { TracedWithin (length queues.now) triggers.now traced.now.entries }
         requires time { HasMoment now }
-        ensures { result ≡ record { now = now; traced = traced.now.entries; queues = queues.now; told = [] } }
+        ensures { result ≡ record { now = now; triggers = triggers.now; traced = traced.now.entries; queues = queues.now; told = [] } }
     {
         EventGate {
             alloc,
             now,
+            triggers,
             traced,
             queues,
             told: Vec::new(alloc),
@@ -81,7 +84,10 @@ impl<'a> WriteGate for EventGate<'a> {
 
     fn room(&self, table: u32, _op: Op, old: Option<&Row>, new: Option<&Row>) -> bool {
         match self.traced.get(&table) {
-            Some(traced) => has_ids(self.queues, &self.told, traced, old, new),
+            Some(table) => {
+                let traced = Traced::new(self.triggers, table);
+                has_ids(self.queues, &self.told, &traced, old, new)
+            }
             None => true,
         }
     }
@@ -95,13 +101,14 @@ impl<'a> WriteGate for EventGate<'a> {
         new: Option<&Row>,
     ) -> Result<(), NoMemory> {
         let tables = self.traced;
-        let Some(traced) = tables.get(&table) else {
+        let Some(table) = tables.get(&table) else {
             return Ok(());
         };
+        let traced = Traced::new(self.triggers, table);
         let before = self.told.len();
         match tell(
             self.queues,
-            traced,
+            &traced,
             self.now,
             txid,
             old,
@@ -132,7 +139,7 @@ fn seq_behind(queues: &[Queue], told: &[Told], queue: usize) -> u64
 
 /// How many of the first triggers tell of the write by an event of the queue.
 fn told_before(
-    traced: &Traced,
+    traced: &Traced<'_>,
     place: usize,
     queue: usize,
     old: Option<&Row>,
@@ -142,8 +149,8 @@ fn told_before(
     ensures { result ≡ count_of queue (events_by traced.now (option_copied old.entry) (option_copied new.entry) (take place traced.now.triggers)) }
 {
     let mut count = 0;
-    for named in &traced.triggers()[..place] {
-        let trigger = &named.trigger;
+    for earlier in 0..place {
+        let trigger = traced.trigger(earlier);
         if trigger.queue() == queue && !trigger.leaves_out(traced.schema(), old, new) {
             count += 1;
         }
@@ -155,15 +162,15 @@ fn told_before(
 fn has_ids(
     queues: &[Queue],
     told: &[Told],
-    traced: &Traced,
+    traced: &Traced<'_>,
     old: Option<&Row>,
     new: Option<&Row>,
 ) -> bool
     requires { All (λ x. x.trigger.queue < length queues.now) traced.now.triggers }
     ensures { result ≡ ids_left (seqs_behind queues.now told.now) (table_events traced.now (option_copied old.entry) (option_copied new.entry)) }
 {
-    for (place, named) in traced.triggers().iter().enumerate() {
-        let trigger = &named.trigger;
+    for place in 0..traced.count() {
+        let trigger = traced.trigger(place);
         if trigger.leaves_out(traced.schema(), old, new) {
             continue;
         }
@@ -180,7 +187,7 @@ fn has_ids(
 /// Makes the events of the write, each with the next id of its queue.
 fn tell(
     queues: &[Queue],
-    traced: &Traced,
+    traced: &Traced<'_>,
     now: i64,
     txid: u64,
     old: Option<&Row>,
@@ -197,14 +204,14 @@ fn tell(
     ensures storable { AreStorable (length queues.now) told.new.items }
 {
     let alloc = *told.allocator();
-    for named in traced.triggers() {
-        let trigger = &named.trigger;
+    for place in 0..traced.count() {
+        let trigger = traced.trigger(place);
         if trigger.leaves_out(traced.schema(), old, new) {
             continue;
         }
         let queue = trigger.queue();
         let id = seq_behind(queues, told.as_slice(), queue) + 1;
-        reserve_first(told, traced.triggers().len())?;
+        reserve_first(told, traced.count())?;
         let event = trigger.event(alloc, traced.name(), traced.schema(), old, new)?;
         told.push(Told {
             queue,

@@ -5,7 +5,7 @@ ghost use Rattle.std.specs.Prelude.{◌≡◌, ◌+◌, ◌<◌, [], ◌∷◌, 
 ghost use Rattle.sky_names.specs.Places.{place_of};
 ghost use Rattle.sky_model.specs.declared.stmt.Where.TheVariants.{WhenReading, WhenOutside};
 ghost use Rattle.sky_model.specs.declared.reply.Reply.TheVariants.{Refused};
-ghost use Rattle.sky_model.specs.Queues.{tick};
+ghost use Rattle.sky_model.specs.Queues.{queue_number, tick};
 ghost use Rattle.sky_model.specs.History.{queued, made, ticked};
 ghost use Rattle.sky_model.specs.State.{after_marks};
 ghost use Rattle.sky_model.specs.Outcome.{abort, settled};
@@ -16,10 +16,12 @@ ghost use Rattle.sky_model.specs.StepRows.{table_called};
 ghost use Rattle.sky_model.specs.StepTrigger.{add_trigger};
 ghost use Rattle.sky_model.specs.StepConsumer.{has_dot, opens_batch, register_consumer, next_batch, get_batch_events, finish_batch};
 ghost use Rattle.sky_model.specs.Selection.{selected};
+ghost use Rattle.sky_model.specs.InForm.{IsInForm};
 ghost use Rattle.sky_model.specs.Allowed.{where_of};
 ghost use Rattle.sky_model.specs.Reader.{shown_by, database_by_itself};
 ghost use Rattle.sky_model.specs.Settling.{ready};
 ghost use Rattle.sky_model.specs.Calls.{form, statement, database_turn};
+ghost use Rattle.sky_model.specs.DatabaseCalls.{stepped};
 ghost use Rattle.sky_model.specs.DatabaseSteps.{DatabaseSteps};
 ghost use Rattle.pgq_db.specs.Ticks.{IsTime};
 ghost use Rattle.pgq_db.specs.Seen.{seen_database};
@@ -32,7 +34,7 @@ use crate::db::Db;
 use crate::gate::EVENT_ID_END;
 use crate::subscription::Subscription;
 use crate::ticks::{MAX_COUNT, Tick};
-use crate::traced::NamedTrigger;
+use crate::traced::TableTrigger;
 use sky_model::{BoxedExtra, ColumnNames, Events, Limit, Refusal, Replies, Reply, Stmt, Stop};
 use sky_urlenc::Trigger;
 use sky_val::{Event, NoMemory, SessionId, Text, copy_option};
@@ -54,13 +56,15 @@ impl Db {
     /// Runs a statement of a session that has this database open, and those that it lets go on. After want of memory
     /// nothing is said of the database.
     pub fn step(&mut self, who: SessionId, stmt: &Stmt, now: i64) -> Result<Replies, NoMemory>
-        requires { IsTime now }
+        requires time { IsTime now }
+        requires form { IsInForm stmt.now }
         ensures exact { IfOk result (λ replies. Gives (seen_database self.old) (seen_database self.new) replies
             (database_turn database_by_itself (seen_database self.old) now who stmt.now)) }
         ensures rests { OnOk result (ready (seen_database self.new).part ≡ None) }
         ensures moments { IfOk result HaveMoments }
         ensures within { IfOk result (λ replies. StaysWithin (seen_database self.old) (seen_database self.new) who replies) }
-        ensures steps { IfOk result (λ replies. DatabaseSteps (seen_database self.old) (seen_database self.new) now who stmt.now replies) }
+        ensures steps { OnOk result (DatabaseSteps (seen_database self.old) (seen_database self.new) (stepped who stmt.now now)
+            (database_turn database_by_itself (seen_database self.old) now who stmt.now)) }
     {
         let replies = self.run(now, who, stmt)?;
         Ok(replies)
@@ -68,7 +72,8 @@ impl Db {
 
     /// Runs a statement, be it on rows or on queues, and those that it lets go on.
     fn run(&mut self, now: i64, who: SessionId, stmt: &Stmt) -> Result<Replies, AllocError>
-        requires { IsTime now }
+        requires time { IsTime now }
+        requires form { IsInForm stmt.now }
         ensures gives { IfOk result (λ replies. Gives (seen_database self.old) (seen_database self.new) replies
             (database_turn database_by_itself (seen_database self.old) now who stmt.now)) }
         ensures rests { OnOk result (ready (seen_database self.new).part ≡ None) }
@@ -211,12 +216,12 @@ impl Db {
 
     fn new_queue(&mut self, now: i64, who: SessionId, name: &Text) -> Result<u64, AllocError>
         requires time { IsTime now }
-        requires new { place_of name.now self.old.names ≡ None }
-        requires room { length self.old.names < 64 }
+        requires new { queue_number name.now (seen_database self.old).queues ≡ None }
+        requires room { length (seen_database self.old).queues < 64 }
         requires id { is_ok (txid_for (seen_database self.old).part who) ≡ true }
         ensures id { IfOk result (λ txid. txid_for (seen_database self.old).part who ≡ Ok txid) }
         ensures marks { IfOk result (λ txid. seen_database self.new ≡ after_marks (seen_database self.old)
-            (written who txid ((seen_database self.old).part.session who) (queued (made name.now) ∷ []) ++ queued (ticked (length self.old.names) 1 now 0) ∷ [])) }
+            (written who txid ((seen_database self.old).part.session who) (queued (made name.now) ∷ []) ++ queued (ticked (seen_database self.old).queues_made 1 now 0) ∷ [])) }
     {
         let name = name.copy(self.alloc())?;
         let txid = self.take_txid(who)?;
@@ -422,28 +427,37 @@ impl Db {
         if let Some(txid) = self.least_writer(number) {
             return Err(Stop::Refused(Refusal::TableBusy(txid)));
         }
-        let trigger = new_trigger(self.alloc(), name, queue, backup, ignored.as_slice())?;
-        self.trace(table, number, trigger)?;
+        let trigger = new_trigger(
+            self.alloc(),
+            number,
+            name,
+            queue,
+            backup,
+            ignored.as_slice(),
+        )?;
+        self.trace(table, trigger)?;
         Ok(Reply::Done)
     }
 }
 
-/// A trigger of this name, whose events go to the queue of this number.
+/// A trigger of this name of a table, whose events go to the queue of this number.
 fn new_trigger(
     alloc: Global,
+    table: u32,
     name: &Text,
     queue: usize,
     backup: bool,
     ignored: &[Text],
-) -> Result<NamedTrigger, AllocError>
-    ensures { IfOk result (λ trigger. trigger ≡ record { name = name.now; trigger = record { queue = queue; backup = backup; ignored = ignored.now } }) }
+) -> Result<TableTrigger, AllocError>
+    ensures { IfOk result (λ trigger. trigger ≡ record { table = table; name = Some name.now; trigger = record { queue = queue; backup = backup; ignored = ignored.now } }) }
 {
     let mut names = Vec::with_capacity(alloc, ignored.len())?;
     for column in ignored {
         names.push(column.copy(alloc)?)?;
     }
-    Ok(NamedTrigger {
-        name: name.copy(alloc)?,
+    Ok(TableTrigger {
+        table,
+        name: Some(name.copy(alloc)?),
         trigger: Trigger::new(queue, backup, names),
     })
 }

@@ -86,9 +86,9 @@ active_batches _ (next {h = h} l (ends_block who e)) id b is = active_batches h 
 active_batches _ (next {h = h} l (repeats_block who)) id b is = active_batches h l id b is
 active_batches _ (next {h = h} l (looks who)) id b is = active_batches h l id b is
 active_batches _ (next {h = h} l (makes_table name columns e)) id b is = active_batches h l id b is
-active_batches _ (next {h = h} l (begins_waiting who n at_key attempt)) id b is = active_batches h l id b is
+active_batches _ (next {h = h} l (begins_waiting who n at_key attempt fits)) id b is = active_batches h l id b is
 active_batches _ (next {h = h} l (ends_waiting who)) id b is = active_batches h l id b is
-active_batches _ (next {h = h} l (writes who u table key old new e free)) id b is = active_batches h l id b is
+active_batches _ (next {h = h} l (writes who u table key old new e free stands)) id b is = active_batches h l id b is
 active_batches _ (next {h = h} l (makes name new)) id b is = active_batches h l id b is
 active_batches _ (next {h = h} l (raises p v i e)) id b is = active_batches h l id b is
 active_batches _ (next {h = h} l (puts who p e i s o newest)) id b is = active_batches h l id b is

@@ -2,7 +2,7 @@
 use Rattle.std.proofs.Common.{ℕ, ℤ, ◌+◌, ◌^◌, List, [], ◌∷◌, ◌++◌, Bool, true, false, nat_le, Ok, Err}
 use Rattle.sky_urlenc.specs.RowEvents.{RowEvent}
 use Rattle.sky_model.specs.declared.reply.Refusal.TheVariants.{EventIdsSpent}
-use Rattle.sky_model.specs.History.{Mark, tabled, wrote, waits, waited}
+use Rattle.sky_model.specs.History.{Mark, of_session, tabled, wrote, waits, waited}
 use Rattle.sky_model.specs.State.{Database, database_of, after_mark, after_marks}
 use Rattle.sky_model.specs.Outcome.{Outcome, Checked, ◌>>=◌, ◌>>◌, refused_if, does_marks}
 use Rattle.sky_model.specs.Telling.{events_in, told_event, event_marks, told_by, told_of, with_told, tells}
@@ -52,7 +52,7 @@ told_by-quiet d now t (e ∷ es) = of (nat_le (2 ^ 62) id) (told_by-quiet (after
     of false quiet = joined (told_by (after_marks d (event_marks e.queue (told_event id now t e))) now t es) quiet
 
 told_of-quiet : (d : Database) (now : ℤ) (mark : Mark) → QuietMarks (told_of d now mark)
-told_of-quiet d now (tabled (wrote who t table key old new)) = told_by-quiet d now t (events_in d table old new)
+told_of-quiet d now (tabled (wrote (of_session who) t table key old new)) = told_by-quiet d now t (events_in d table old new)
 told_of-quiet d now _ = tt
 
 with_told-quiet : (d : Database) (now : ℤ) (marks : List Mark) → NoWaits marks → QuietMarks (with_told d now marks)

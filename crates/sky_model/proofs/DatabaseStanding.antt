@@ -1,18 +1,23 @@
 -- A statement of a database: from what the database keeps to its history.
-use Rattle.std.proofs.Common.{◌≡◌, ℕ, ℤ, List, [], ◌∷◌, ◌++◌, refl, sym, ◌∙◌, ap}
+use Rattle.std.proofs.Common.{◌≡◌, ℕ, ℤ, Bool, true, false, List, [], ◌∷◌, ◌++◌, Option, Ok, Err, refl, sym, ◌∙◌, ap}
 use Rattle.sky_model.specs.declared.stmt.Stmt.{Stmt}
-use Rattle.sky_model.specs.declared.reply.Reply.{Reply}
+use Rattle.sky_model.specs.declared.reply.Refusal.{Refusal}
+use Rattle.sky_val.specs.Waits.{is_waiting}
 use Rattle.sky_model.specs.History.{Mark, looked, History}
-use Rattle.sky_model.specs.State.{after_part_marks, Database, database_of, after_mark, after_marks}
+use Rattle.sky_model.specs.State.{part_of, after_part_marks, Database, database_of, after_mark, after_marks}
 use Rattle.sky_model.specs.ShownRows.{rows_by}
-use Rattle.sky_model.specs.Allowed.{where_of}
+use Rattle.sky_model.specs.Allowed.{where_of, allowed}
+use Rattle.sky_model.specs.Outcome.{Checked}
+use Rattle.sky_model.specs.Made.{takes_sight}
 use Rattle.sky_model.specs.Telling.{tells}
 use Rattle.sky_model.specs.Reader.{shown_in, shown_by, database_by_history, database_by_itself, within_part}
-use Rattle.sky_model.specs.Settling.{Turn, turn_of, behind_marks}
+use Rattle.sky_model.specs.Settling.{Turn, turn_of, behind_marks, with_settling}
 use Rattle.sky_model.specs.Calls.{form, making, statement, database_turn}
-use Rattle.sky_model.specs.HistoryPlaces.{IsPlace}
-use Rattle.sky_model.specs.DatabaseSteps.{database_turn_at, DatabaseSteps}
-use Rattle.sky_model.proofs.Legal.{Fine, looks, Legal, next}
+use Rattle.sky_model.specs.SessionMarks.{look_of, Enters, entry_place, enters, entry, failing}
+use Rattle.sky_model.specs.Promises.{after_all}
+use Rattle.sky_model.specs.DatabaseCalls.{DatabaseCall, stepped, entered, failed, IsDatabaseCallInForm, database_does, database_part}
+use Rattle.sky_model.specs.DatabaseSteps.{DatabaseSteps}
+use Rattle.sky_model.proofs.Legal.{Fine, looks, Chain, Legal, next}
 use Rattle.sky_model.proofs.Marks.{database_of-mark}
 pub use Rattle.sky_model.proofs.Marks.{database_of-marks}
 use Rattle.sky_model.proofs.Selecting.{batch_events-selected}
@@ -20,7 +25,9 @@ use Rattle.sky_model.proofs.RowSights.{same-rows}
 use Rattle.sky_model.proofs.MadeAt.{same-made_by}
 use Rattle.sky_model.proofs.Turns.{ReadAlike, same-with_settling}
 use Rattle.sky_model.proofs.Lawful.{database-reads, good_turn}
-use Rattle.sky_model.proofs.SnapshotLaws.{legal_place}
+use Rattle.sky_model.proofs.Histories.{good_does, legal_calls}
+use Rattle.sky_model.proofs.Promised.{promised}
+use Rattle.sky_model.proofs.Entering.{entered-part}
 use Rattle.sky_model.proofs.RowStanding.{part-behind}
 use Rattle.sky_model.proofs.GatedStanding.{each-past}
 
@@ -69,21 +76,49 @@ as-kept now = record {
 }
 
 -- and so do those that it lets go on
-pub same-turn_at : (h : History) → Legal h → (now : ℤ) (who : ℕ) (stmt : Stmt) → database_turn_at h now who stmt ≡ database_turn database_by_itself (database_of h) now who stmt
-same-turn_at h l now who stmt =
-    same-with_settling (within_part database_by_history now) (within_part database_by_itself now) Fine Keeps (as-kept now) h (database_of h) _ _ (record { legal = l; shows = refl })
-    (ap (turn_of who) (same-statement h l now who stmt)) (each-past (within_part database_by_history now) (λ g. g) (database-reads now) h _ (good_turn h l now who stmt))
+settling-kept : (h : History) → Legal h → (now : ℤ) (turn turn' : Turn) → turn ≡ turn' → Chain h (with_settling (within_part database_by_history now) h turn).marks
+    → with_settling (within_part database_by_history now) h turn ≡ with_settling (within_part database_by_itself now) (database_of h) turn'
+settling-kept h l now turn turn' same chain =
+    same-with_settling (within_part database_by_history now) (within_part database_by_itself now) Fine Keeps (as-kept now) h (database_of h) turn turn' (record { legal = l; shows = refl }) same
+    (each-past (within_part database_by_history now) (λ g. g) (database-reads now) h _ chain)
 
--- an exact step of a database is a step at each place of a history that leaves the database as it was
-pub database_steps_from_exact : (old new : Database) (now : ℤ) (who : ℕ) (stmt : Stmt) (replies : List (ℕ × Reply))
-    → replies ≡ (database_turn database_by_itself old now who stmt).answers
-    → new ≡ after_marks old (database_turn database_by_itself old now who stmt).marks → DatabaseSteps old new now who stmt replies
-database_steps_from_exact old new now who stmt replies replied stands = record {
-  same = at_place;
-  replied = λ h place is. replied ∙ ap Turn.answers (at_place h place is);
-  stands = λ h place is. stands ∙ ap (λ (d : Database). after_marks d (database_turn database_by_itself old now who stmt).marks) is
-      ∙ ap (λ (turn : Turn). after_marks (database_of h) turn.marks) (at_place h place is) ∙ sym (database_of-marks h (database_turn_at h now who stmt).marks);
-}
-  where
-    at_place : (h : History) → IsPlace h → old ≡ database_of h → database_turn database_by_itself old now who stmt ≡ database_turn_at h now who stmt
-    at_place h place is = ap (λ d. database_turn database_by_itself d now who stmt) is ∙ sym (same-turn_at h (legal_place h place) now who stmt)
+pub same-turn_at : (h : History) → Legal h → (now : ℤ) (who : ℕ) (stmt : Stmt) → database_turn database_by_history h now who stmt ≡ database_turn database_by_itself (database_of h) now who stmt
+same-turn_at h l now who stmt =
+    settling-kept h l now (turn_of who (statement database_by_history h now who stmt)) (turn_of who (statement database_by_itself (database_of h) now who stmt))
+    (ap (turn_of who) (same-statement h l now who stmt)) (good_turn h l now who stmt)
+
+-- so does a call
+pub same-database_does : (h : History) → Legal h → (call : DatabaseCall) → database_does database_by_itself (database_of h) call ≡ database_does database_by_history h call
+same-database_does h l (stepped who stmt now) = sym (same-turn_at h l now who stmt)
+same-database_does h l (entered who outside) = refl
+same-database_does h l (failed who now) = sym (settling-kept h l now (failing (part_of h) who) (failing (part_of h) who) refl (good_does h l (failed who now)))
+
+-- the database behind a call
+behind-does : (h : History) → Legal h → (call : DatabaseCall)
+    → after_marks (database_of h) (database_does database_by_itself (database_of h) call).marks ≡ database_of (database_part.after h call)
+behind-does h l call =
+    ap (λ (turn : Turn). after_marks (database_of h) turn.marks) (same-database_does h l call) ∙ sym (database_of-marks h (database_does database_by_history h call).marks)
+
+-- a call that changes a database as the database itself tells keeps its promise
+pub database_steps_from_exact : (old new : Database) (call : DatabaseCall) → new ≡ after_marks old (database_does database_by_itself old call).marks
+    → DatabaseSteps old new call (database_does database_by_itself old call)
+database_steps_from_exact old new call changed =
+    promised database_part IsDatabaseCallInForm call (λ d. database_does database_by_itself d call) (λ d. after_marks d (database_does database_by_itself d call).marks)
+    (λ calls in_form. same-database_does (after_all database_part calls) (legal_calls calls) call)
+    (λ calls in_form. behind-does (after_all database_part calls) (legal_calls calls) call)
+    old new (database_does database_by_itself old call) refl changed
+
+-- what a session that enters changes is in the row part
+enters-within : (d : Database) (who : ℕ) (sight : Bool) (may : Checked (Unit {0}))
+    → record d { part = after_part_marks d.part (enters who (look_of who sight) may).marks } ≡ after_marks d (enters who (look_of who sight) may).marks
+enters-within d who true (Ok _) = refl
+enters-within d who false (Ok _) = refl
+enters-within d who sight (Err refusal) = refl
+
+-- a session that enters keeps it
+pub database_enter_from_exact : (old new : Database) (who : ℕ) (outside : Bool) (refusal : Option Refusal) → Enters old.part new.part who (entry_place outside) refusal
+    → new ≡ record old { part = new.part } → DatabaseSteps old new (entered who outside) (entry old.part who (entry_place outside))
+database_enter_from_exact old new who outside refusal enters but =
+    database_steps_from_exact old new (entered who outside)
+    (but ∙ ap (λ part. record old { part = part }) (entered-part old.part new.part who (entry_place outside) refusal enters)
+    ∙ enters-within old who (takes_sight (entry_place outside) (old.part.session who).sight) (allowed (is_waiting who old.part.waiting) (old.part.session who).block (entry_place outside)))

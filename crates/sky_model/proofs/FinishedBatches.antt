@@ -51,9 +51,9 @@ finished_lead _ (next {h = h} l (ends_block who e)) queue consumer = finished_le
 finished_lead _ (next {h = h} l (repeats_block who)) queue consumer = finished_lead h l queue consumer
 finished_lead _ (next {h = h} l (looks who)) queue consumer = finished_lead h l queue consumer
 finished_lead _ (next {h = h} l (makes_table name columns e)) queue consumer = finished_lead h l queue consumer
-finished_lead _ (next {h = h} l (begins_waiting who n at_key attempt)) queue consumer = finished_lead h l queue consumer
+finished_lead _ (next {h = h} l (begins_waiting who n at_key attempt fits)) queue consumer = finished_lead h l queue consumer
 finished_lead _ (next {h = h} l (ends_waiting who)) queue consumer = finished_lead h l queue consumer
-finished_lead _ (next {h = h} l (writes who u table key old new e free)) queue consumer = finished_lead h l queue consumer
+finished_lead _ (next {h = h} l (writes who u table key old new e free stands)) queue consumer = finished_lead h l queue consumer
 finished_lead _ (next {h = h} l (makes name new)) queue consumer = finished_lead h l queue consumer
 finished_lead _ (next {h = h} l (raises p v i e)) queue consumer = finished_lead h l queue consumer
 finished_lead _ (next {h = h} l (puts who p e i s o newest)) queue consumer = finished_lead h l queue consumer

@@ -15,7 +15,7 @@ use Rattle.sky_model.specs.declared.reply.Reply.TheVariants.{Number}
 use Rattle.sky_model.specs.declared.reply.Limit.TheVariants.{Tables}
 use Rattle.sky_model.specs.declared.reply.Refusal.{Refusal}
 use Rattle.sky_model.specs.declared.reply.Refusal.TheVariants.{BadSnapshot, Canceled, Deadlock, EventIdsSpent, NoTable, TableExists, TooMany, TxidsSpent}
-use Rattle.sky_model.specs.History.{Mark, began, ended, block_begun, repeats, looked, block_failed, block_ended, tabled, table_made, wrote, waits, waited, queued}
+use Rattle.sky_model.specs.History.{Mark, of_session, of_worker, began, ended, block_begun, repeats, looked, block_failed, block_ended, tabled, table_made, wrote, waits, waited, queued}
 use Rattle.sky_model.specs.Sessions.{Block, outside, inside, failed, Session}
 use Rattle.sky_model.specs.State.{RowPart, after_part, after_part_marks}
 use Rattle.sky_model.specs.ShownRows.{RowsShown, rows_by}
@@ -58,11 +58,11 @@ and-true false = refl
 
 -- of what a session writes it is asked for the write alone
 pub written-takes : {G : Type 0} (gate : Gate G) (g : G) (who t : ℕ) (s : Session) (table : ℕ) (key : List Val) (old new : Option (List Val))
-    → takes_all gate g (written who t s (tabled (wrote who t table key old new) ∷ [])) ≡ gate.has_room g (record { table = table; old = old; new = new })
+    → takes_all gate g (written who t s (tabled (wrote (of_session who) t table key old new) ∷ [])) ≡ gate.has_room g (record { table = table; old = old; new = new })
 written-takes gate g who t s table key old new = of s.txid s.block
   where
     of : (o : Option ℕ) (b : Block)
-        → takes_all gate g (begin_of who t o ++ (tabled (wrote who t table key old new) ∷ []) ++ commit_of who t b) ≡ gate.has_room g (record { table = table; old = old; new = new })
+        → takes_all gate g (begin_of who t o ++ (tabled (wrote (of_session who) t table key old new) ∷ []) ++ commit_of who t b) ≡ gate.has_room g (record { table = table; old = old; new = new })
     of None outside = and-true _
     of None inside = and-true _
     of None failed = and-true _
@@ -72,11 +72,11 @@ written-takes gate g who t s table key old new = of s.txid s.block
 
 -- and told of it alone
 pub written-passed : {G : Type 0} (gate : Gate G) (g : G) (who t : ℕ) (s : Session) (table : ℕ) (key : List Val) (old new : Option (List Val))
-    → passed_all gate g (written who t s (tabled (wrote who t table key old new) ∷ [])) ≡ gate.after g t (record { table = table; old = old; new = new })
+    → passed_all gate g (written who t s (tabled (wrote (of_session who) t table key old new) ∷ [])) ≡ gate.after g t (record { table = table; old = old; new = new })
 written-passed gate g who t s table key old new = of s.txid s.block
   where
     of : (o : Option ℕ) (b : Block)
-        → passed_all gate g (begin_of who t o ++ (tabled (wrote who t table key old new) ∷ []) ++ commit_of who t b) ≡ gate.after g t (record { table = table; old = old; new = new })
+        → passed_all gate g (begin_of who t o ++ (tabled (wrote (of_session who) t table key old new) ∷ []) ++ commit_of who t b) ≡ gate.after g t (record { table = table; old = old; new = new })
     of None outside = refl
     of None inside = refl
     of None failed = refl
@@ -139,18 +139,18 @@ gated-checked gate g (Ok a) c = refl
 
 -- what a session writes is refused where it has no room for the write
 pub gated-written : {G : Type 0} (gate : Gate G) (g : G) (reply : Reply) (who t : ℕ) (s : Session) (table : ℕ) (key : List Val) (old new : Option (List Val))
-    → gated gate g (does_marks reply (written who t s (tabled (wrote who t table key old new) ∷ [])))
-    ≡ (refused_if (not (gate.has_room g (record { table = table; old = old; new = new }))) EventIdsSpent >> does_marks reply (written who t s (tabled (wrote who t table key old new) ∷ [])))
+    → gated gate g (does_marks reply (written who t s (tabled (wrote (of_session who) t table key old new) ∷ [])))
+    ≡ (refused_if (not (gate.has_room g (record { table = table; old = old; new = new }))) EventIdsSpent >> does_marks reply (written who t s (tabled (wrote (of_session who) t table key old new) ∷ [])))
 gated-written gate g reply who t s table key old new =
-    ap (λ b. refused_if (not b) EventIdsSpent >> does_marks reply (written who t s (tabled (wrote who t table key old new) ∷ []))) (written-takes gate g who t s table key old new)
+    ap (λ b. refused_if (not b) EventIdsSpent >> does_marks reply (written who t s (tabled (wrote (of_session who) t table key old new) ∷ []))) (written-takes gate g who t s table key old new)
 
 -- a write of a key is refused so behind the refusal of the transaction's id
 pub gated-writes_key : {G : Type 0} (gate : Gate G) (g : G) (d : RowPart) (who table : ℕ) (key : List Val) (old new : Option (List Val))
     → gated gate g (writes_key d who table key old new)
     ≡ (txid_for d who >>= (λ t. refused_if (not (gate.has_room g (record { table = table; old = old; new = new }))) EventIdsSpent
-    >> does_marks (Number 1) (written who t (d.session who) (tabled (wrote who t table key old new) ∷ []))))
+    >> does_marks (Number 1) (written who t (d.session who) (tabled (wrote (of_session who) t table key old new) ∷ []))))
 gated-writes_key gate g d who table key old new =
-    gated-checked gate g (txid_for d who) (λ t. does_marks (Number 1) (written who t (d.session who) (tabled (wrote who t table key old new) ∷ [])))
+    gated-checked gate g (txid_for d who) (λ t. does_marks (Number 1) (written who t (d.session who) (tabled (wrote (of_session who) t table key old new) ∷ [])))
     ∙ (λ i. txid_for d who >>= (λ t. gated-written gate g (Number 1) who t (d.session who) table key old new i))
 
 -- ---- what writes nothing
@@ -337,7 +337,8 @@ open-mark g (looked who) = refl
 open-mark g (block_failed who) = refl
 open-mark g (block_ended who) = refl
 open-mark g (tabled (table_made name columns)) = refl
-open-mark g (tabled (wrote who t table key old new)) = refl
+open-mark g (tabled (wrote (of_session who) t table key old new)) = refl
+open-mark g (tabled (wrote of_worker t table key old new)) = refl
 open-mark g (tabled (waits who table key attempt)) = refl
 open-mark g (tabled (waited who)) = refl
 open-mark g (queued mark) = refl

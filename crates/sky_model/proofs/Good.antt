@@ -1,31 +1,53 @@
 -- Statements whose marks may come where they come.
-use Rattle.std.proofs.Common.{◌≡◌, ℕ, [], ◌∷◌, ◌++◌, Bool, true, false, ◌==◌, Option, Some, None, Ok, Err, refl, ap, arith, if◌then◌else◌}
+use Rattle.std.proofs.Common.{◌≡◌, ℕ, [], ◌∷◌, ◌++◌, Bool, true, false, ◌==◌, Option, Some, None, Ok, Err, is_ok, refl, ap, arith, if◌then◌else◌}
 use Rattle.std.proofs.lemmas.Bool.Decides.{nat_tests}
 use Rattle.sky_model.specs.declared.reply.Refusal.{Refusal}
+use Rattle.sky_model.specs.declared.stmt.Where.{Where}
+use Rattle.sky_val.specs.Waits.{is_waiting}
 use Rattle.sky_model.specs.History.{block_failed, History}
+use Rattle.sky_model.specs.Locks.{waiting}
+use Rattle.sky_model.specs.Allowed.{allowed}
 use Rattle.sky_model.specs.Sessions.{Block, outside, inside, failed, block, own_txid, session}
 use Rattle.sky_model.specs.Outcome.{Outcome, Checked, ◌>>=◌, ◌>>◌, refused_if, refused_by, found_or, end_of, aborts, abort, settled}
 use Rattle.sky_model.specs.OwnTransaction.{commit_of}
+use Rattle.sky_model.specs.SessionMarks.{failure}
 use Rattle.sky_model.proofs.Legal.{ends, fails_block, Chain, done, more}
 
 -- a session is itself
 pub same-session : (who : ℕ) → (who == who) ≡ true
 same-session who = grind (arith, nat_tests)
 
+-- a session may make a statement there that may stand in such a place
+abbrev pub MayStand : History → ℕ → Where → Type 0
+MayStand h who place = is_ok (allowed (is_waiting who (waiting h)) (block who h) place) ≡ true
+
 -- the marks of an answer, or of a refusal, may come next
 abbrev pub Good : History → ℕ → Checked Outcome → Type 0
 Good h who c = Chain h (settled who (session h who) c).marks
+
+-- a block's may that is rolled back, and stays aborted
+good_rolled_back : (h : History) (who : ℕ) → block who h ≡ inside → Chain h (end_of false who (own_txid who h) ++ block_failed who ∷ [])
+good_rolled_back h who is = of (own_txid who h) refl
+  where
+    of : (o : Option ℕ) → own_txid who h ≡ o → Chain h (end_of false who o ++ block_failed who ∷ [])
+    of None none = more (fails_block who is none) done
+    of (Some t) mine = more (ends who t false mine) (more (fails_block who is (ap (λ b. if b then None else own_txid who h) (same-session who))) done)
+
+-- those of a failure may
+pub good_failure : (h : History) (who : ℕ) → Chain h (failure who (own_txid who h) (block who h))
+good_failure h who = of (block who h) refl
+  where
+    of : (b : Block) → block who h ≡ b → Chain h (failure who (own_txid who h) b)
+    of outside is = done
+    of inside is = good_rolled_back h who is
+    of failed is = done
 
 -- a refusal's may
 pub good_refused : (h : History) (who : ℕ) (refusal : Refusal) → Chain h (abort who (block who h) (own_txid who h) refusal)
 good_refused h who refusal = by_block (block who h) refl
   where
-    fails : (o : Option ℕ) → own_txid who h ≡ o → block who h ≡ inside → Chain h (end_of false who o ++ block_failed who ∷ [])
-    fails None none is = more (fails_block who is none) done
-    fails (Some t) mine is = more (ends who t false mine) (more (fails_block who is (ap (λ b. if b then None else own_txid who h) (same-session who))) done)
-
     by_kind : (b : Bool) → block who h ≡ inside → Chain h (if b then end_of false who (own_txid who h) ++ block_failed who ∷ [] else [])
-    by_kind true is = fails (own_txid who h) refl is
+    by_kind true is = good_rolled_back h who is
     by_kind false is = done
 
     by_block : (b : Block) → block who h ≡ b → Chain h (abort who b (own_txid who h) refusal)
@@ -60,9 +82,9 @@ pub good_refused_by : (h : History) (who : ℕ) (o : Option Refusal) (c : Checke
 good_refused_by h who None c good = good refl
 good_refused_by h who (Some refusal) c good = good_refused h who refusal
 
-pub good_checked : {A : Type 0} (h : History) (who : ℕ) (o : Checked A) (c : A → Checked Outcome) → ((a : A) → Good h who (c a)) → Good h who (o >>= c)
+pub good_checked : {A : Type 0} (h : History) (who : ℕ) (o : Checked A) (c : A → Checked Outcome) → ((a : A) → o ≡ Ok a → Good h who (c a)) → Good h who (o >>= c)
 good_checked h who (Err refusal) c good = good_refused h who refusal
-good_checked h who (Ok a) c good = good a
+good_checked h who (Ok a) c good = good a refl
 
 -- a transaction that is running may commit where its statement stands outside a block
 pub good_commits : (h : History) (who t : ℕ) (b : Block) → own_txid who h ≡ Some t → Chain h (commit_of who t b)

@@ -9,7 +9,7 @@ use Rattle.sky_val.specs.Order.{key_cmp}
 use Rattle.sky_val.specs.Waits.{other_than}
 use Rattle.sky_val.proofs.Orders.{key_cmp-IsTotalOrder}
 use Rattle.sky_txid.proofs.EntryLemmas.{key_ties-is}
-use Rattle.sky_model.specs.History.{Mark, began, ended, tabled, wrote, History}
+use Rattle.sky_model.specs.History.{Mark, of_session, began, ended, tabled, wrote, History}
 use Rattle.sky_model.specs.Transactions.{next_txid, has_ended}
 use Rattle.sky_model.specs.Sessions.{own_txid}
 use Rattle.sky_model.specs.Rows.{Write, writes as writes_of, has_written}
@@ -62,21 +62,21 @@ holder-step h _ (begins v none) l table key who ih e = of (v == who) refl
     w : HasWritten h table key who
     w = ih e
 
-    of : (b : Bool) → (v == who) ≡ b → HasWritten (began v (next_txid h) ∷ h) table key who
+    of : (b : Bool) → (v == who) ≡ b → HasWritten (began (of_session v) (next_txid h) ∷ h) table key who
     of true is = (let one : v ≡ who = grind (arith, nat_tests) in absurd (cc (sym none ∙ ap (λ x. own_txid x h) one ∙ w.runs)))
     of false is = record { txid = w.txid; runs = ap (λ b. if b then Some (next_txid h) else own_txid who h) is ∙ w.runs; wrote = w.wrote }
 holder-step h _ (ends v t c mine) l table key who ih e =
     let both : (holder table key h ≡ Some who) × ((v == who) ≡ false) = unless-another v who (holder table key h) e in
     let w : HasWritten h table key who = ih both.0 in
     record { txid = w.txid; runs = ap (λ b. if b then None else own_txid who h) both.1 ∙ w.runs; wrote = w.wrote }
-holder-step h _ (writes v t n at_key old new mine free) l table key who ih e = of (n == table) refl (eq_by_cmp key_cmp at_key key) refl e
+holder-step h _ (writes v t n at_key old new mine free stands) l table key who ih e = of (n == table) refl (eq_by_cmp key_cmp at_key key) refl e
   where
     grown : (u : ℕ) (b : Bool) → has_written key (writes_of table u h) ≡ true
         → has_written key (if b then writes_of table u h ++ record { key = at_key; row = new } ∷ [] else writes_of table u h) ≡ true
     grown u true e = has_written-push key (writes_of table u h) (record { key = at_key; row = new }) ∙ ap (λ b. b || eq_by_cmp key_cmp key at_key) e
     grown u false e = e
 
-    before : holder table key h ≡ Some who → HasWritten (tabled (wrote v t n at_key old new) ∷ h) table key who
+    before : holder table key h ≡ Some who → HasWritten (tabled (wrote (of_session v) t n at_key old new) ∷ h) table key who
     before e = let w : HasWritten h table key who = ih e in record { txid = w.txid; runs = w.runs; wrote = grown w.txid (n == table && t == w.txid) w.wrote }
 
     last : (b : Bool) → (b || true) ≡ true
@@ -84,7 +84,7 @@ holder-step h _ (writes v t n at_key old new mine free) l table key who ih e = o
     last false = refl
 
     of : (a : Bool) → (n == table) ≡ a → (b : Bool) → eq_by_cmp key_cmp at_key key ≡ b → (if a && b then Some v else holder table key h) ≡ Some who
-        → HasWritten (tabled (wrote v t n at_key old new) ∷ h) table key who
+        → HasWritten (tabled (wrote (of_session v) t n at_key old new) ∷ h) table key who
     of true here true tie e =
         let one : v ≡ who = cc in
         let same : (t == t) ≡ true = grind (arith, nat_tests) in
@@ -103,7 +103,7 @@ holder-step h _ (ends_block v x) l table key who ih e = let w : HasWritten h tab
 holder-step h _ (repeats_block v) l table key who ih e = let w : HasWritten h table key who = ih e in record { txid = w.txid; runs = w.runs; wrote = w.wrote }
 holder-step h _ (looks v) l table key who ih e = let w : HasWritten h table key who = ih e in record { txid = w.txid; runs = w.runs; wrote = w.wrote }
 holder-step h _ (makes_table name columns x) l table key who ih e = let w : HasWritten h table key who = ih e in record { txid = w.txid; runs = w.runs; wrote = w.wrote }
-holder-step h _ (begins_waiting v n at_key attempt) l table key who ih e = let w : HasWritten h table key who = ih e in record { txid = w.txid; runs = w.runs; wrote = w.wrote }
+holder-step h _ (begins_waiting v n at_key attempt fits) l table key who ih e = let w : HasWritten h table key who = ih e in record { txid = w.txid; runs = w.runs; wrote = w.wrote }
 holder-step h _ (ends_waiting v) l table key who ih e = let w : HasWritten h table key who = ih e in record { txid = w.txid; runs = w.runs; wrote = w.wrote }
 holder-step h _ (makes name x) l table key who ih e = let w : HasWritten h table key who = ih e in record { txid = w.txid; runs = w.runs; wrote = w.wrote }
 holder-step h _ (raises q v i le) l table key who ih e = let w : HasWritten h table key who = ih e in record { txid = w.txid; runs = w.runs; wrote = w.wrote }
@@ -136,7 +136,7 @@ held-step h _ (ends v t c mine) l table key ih = λ who u runs wrote_it. of who 
     of : (who u : ℕ) (b : Bool) → (v == who) ≡ b → (if b then None else own_txid who h) ≡ Some u → has_written key (writes_of table u h) ≡ true → other_than v (holder table key h) ≡ Some who
     of who u true is runs wrote_it = absurd (cc)
     of who u false is runs wrote_it = ap (other_than v) (ih who u runs wrote_it) ∙ unless-kept v who is
-held-step h _ (writes v t n at_key old new mine free) l table key ih =
+held-step h _ (writes v t n at_key old new mine free stands) l table key ih =
     λ who u runs wrote_it. of who u runs (n == table) refl (eq_by_cmp key_cmp at_key key) refl (t == u) refl wrote_it
   where
     pushed : (u : ℕ) → eq_by_cmp key_cmp at_key key ≡ false → has_written key (writes_of table u h ++ record { key = at_key; row = new } ∷ []) ≡ true → has_written key (writes_of table u h) ≡ true
@@ -169,7 +169,7 @@ held-step h _ (ends_block v x) l table key ih = ih
 held-step h _ (repeats_block v) l table key ih = ih
 held-step h _ (looks v) l table key ih = ih
 held-step h _ (makes_table name columns x) l table key ih = ih
-held-step h _ (begins_waiting v n at_key attempt) l table key ih = ih
+held-step h _ (begins_waiting v n at_key attempt fits) l table key ih = ih
 held-step h _ (ends_waiting v) l table key ih = ih
 held-step h _ (makes name x) l table key ih = ih
 held-step h _ (raises q v i le) l table key ih = ih
@@ -198,33 +198,33 @@ Owners h table key = (u : ℕ) → has_ended h u ≡ false → has_written key (
 owner-step : (h : History) (mark : Mark) → Fine h mark → (table : ℕ) (key : List Val) → Owners h table key → Owners (mark ∷ h) table key
 owner-step h _ (begins v none) table key ih = λ u unended wrote_it. of u (ih u unended wrote_it)
   where
-    of : (u : ℕ) → Owner h u → Owner (began v (next_txid h) ∷ h) u
+    of : (u : ℕ) → Owner h u → Owner (began (of_session v) (next_txid h) ∷ h) u
     of u o = by (v == o.who) refl
       where
-        by : (b : Bool) → (v == o.who) ≡ b → Owner (began v (next_txid h) ∷ h) u
+        by : (b : Bool) → (v == o.who) ≡ b → Owner (began (of_session v) (next_txid h) ∷ h) u
         by true is = (let one : v ≡ o.who = grind (arith, nat_tests) in absurd (cc (sym none ∙ ap (λ x. own_txid x h) one ∙ o.owns)))
         by false is = record { who = o.who; owns = ap (λ b. if b then Some (next_txid h) else own_txid o.who h) is ∙ o.owns }
 owner-step h _ (ends v t c mine) table key ih = λ u unended wrote_it. of u (u == t) refl (has_ended h u) refl unended wrote_it
   where
-    by : (u : ℕ) → (u == t) ≡ false → (o : Owner h u) → (b : Bool) → (v == o.who) ≡ b → Owner (ended v t c ∷ h) u
+    by : (u : ℕ) → (u == t) ≡ false → (o : Owner h u) → (b : Bool) → (v == o.who) ≡ b → Owner (ended (of_session v) t c ∷ h) u
     by u other o true is =
         let one : v ≡ o.who = grind (arith, nat_tests) in
         let same : t ≡ u = cc (sym mine ∙ ap (λ x. own_txid x h) one ∙ o.owns) in
         absurd (grind (arith, nat_tests))
     by u other o false is = record { who = o.who; owns = ap (λ b. if b then None else own_txid o.who h) is ∙ o.owns }
 
-    of : (u : ℕ) (a : Bool) → (u == t) ≡ a → (b : Bool) → has_ended h u ≡ b → (a || b) ≡ false → has_written key (writes_of table u h) ≡ true → Owner (ended v t c ∷ h) u
+    of : (u : ℕ) (a : Bool) → (u == t) ≡ a → (b : Bool) → has_ended h u ≡ b → (a || b) ≡ false → has_written key (writes_of table u h) ≡ true → Owner (ended (of_session v) t c ∷ h) u
     of u true is b e unended wrote_it = absurd (cc)
     of u false is true e unended wrote_it = absurd (cc)
     of u false is false e unended wrote_it = let o : Owner h u = ih u e wrote_it in by u is o (v == o.who) refl
-owner-step h _ (writes v t n at_key old new mine free) table key ih = λ u unended wrote_it. of u unended (n == table) (t == u) refl wrote_it
+owner-step h _ (writes v t n at_key old new mine free stands) table key ih = λ u unended wrote_it. of u unended (n == table) (t == u) refl wrote_it
   where
-    later : (u : ℕ) → Owner h u → Owner (tabled (wrote v t n at_key old new) ∷ h) u
+    later : (u : ℕ) → Owner h u → Owner (tabled (wrote (of_session v) t n at_key old new) ∷ h) u
     later u o = record { who = o.who; owns = o.owns }
 
     of : (u : ℕ) → has_ended h u ≡ false → (a c : Bool) → (t == u) ≡ c
         → has_written key (if a && c then writes_of table u h ++ record { key = at_key; row = new } ∷ [] else writes_of table u h) ≡ true
-        → Owner (tabled (wrote v t n at_key old new) ∷ h) u
+        → Owner (tabled (wrote (of_session v) t n at_key old new) ∷ h) u
     of u unended true true same wrote_it = (let one : t ≡ u = grind (arith, nat_tests) in record { who = v; owns = mine ∙ ap Some one })
     of u unended true false same wrote_it = later u (ih u unended wrote_it)
     of u unended false c same wrote_it = later u (ih u unended wrote_it)
@@ -234,7 +234,7 @@ owner-step h _ (ends_block v x) table key ih = λ u unended wrote_it. let o : Ow
 owner-step h _ (repeats_block v) table key ih = λ u unended wrote_it. let o : Owner h u = ih u unended wrote_it in record { who = o.who; owns = o.owns }
 owner-step h _ (looks v) table key ih = λ u unended wrote_it. let o : Owner h u = ih u unended wrote_it in record { who = o.who; owns = o.owns }
 owner-step h _ (makes_table name columns x) table key ih = λ u unended wrote_it. let o : Owner h u = ih u unended wrote_it in record { who = o.who; owns = o.owns }
-owner-step h _ (begins_waiting v n at_key attempt) table key ih = λ u unended wrote_it. let o : Owner h u = ih u unended wrote_it in record { who = o.who; owns = o.owns }
+owner-step h _ (begins_waiting v n at_key attempt fits) table key ih = λ u unended wrote_it. let o : Owner h u = ih u unended wrote_it in record { who = o.who; owns = o.owns }
 owner-step h _ (ends_waiting v) table key ih = λ u unended wrote_it. let o : Owner h u = ih u unended wrote_it in record { who = o.who; owns = o.owns }
 owner-step h _ (makes name x) table key ih = λ u unended wrote_it. let o : Owner h u = ih u unended wrote_it in record { who = o.who; owns = o.owns }
 owner-step h _ (raises q v i le) table key ih = λ u unended wrote_it. let o : Owner h u = ih u unended wrote_it in record { who = o.who; owns = o.owns }

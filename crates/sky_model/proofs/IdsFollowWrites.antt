@@ -3,12 +3,12 @@ use Rattle.std.proofs.Common.{◌≡◌, ℕ, zero, suc, ℤ, ◌<◌, All, Cont
 use Rattle.std.proofs.lemmas.Bool.Decides.{nat_tests}
 use Rattle.std.proofs.lemmas.List.Elements.{All-pop}
 use Rattle.sky_val.specs.declared.event.Event.{Event}
-use Rattle.sky_model.specs.History.{Mark, tabled, wrote, queued, put, History}
+use Rattle.sky_model.specs.History.{Mark, of_session, tabled, wrote, queued, put, History}
 use Rattle.sky_model.specs.Queues.{events}
 use Rattle.sky_model.specs.State.{Database, database_of}
 use Rattle.sky_model.specs.Outcome.{Checked}
 use Rattle.sky_model.specs.Telling.{events_in, told_of}
-use Rattle.sky_model.specs.RowSteps.{marked}
+use Rattle.sky_model.specs.Settling.{marked}
 use Rattle.sky_model.specs.HistoryPlaces.{IsPlace}
 use Rattle.sky_model.specs.LawsOfWrites.{IsToldBy, EventIdsFollowWrites}
 use Rattle.sky_model.proofs.Inserted.{Inserted, none, with_raised, with_put}
@@ -36,7 +36,7 @@ no_write-events _ (with_raised {ys = ys} queue value more) = (λ is. is, no_writ
 no_write-events _ (with_put {ys = ys} queue event more) = (λ is. is, no_write-events ys more)
 
 told_of-events : (d : Database) (now : ℤ) (mark : Mark) → EventMarks (told_of d now mark)
-told_of-events d now (tabled (wrote who t table key old new)) = told_by-events d now t (events_in d table old new)
+told_of-events d now (tabled (wrote (of_session who) t table key old new)) = told_by-events d now t (events_in d table old new)
 told_of-events d now _ = none
 
 -- of anything but a write nothing is
@@ -167,7 +167,7 @@ follow h place later middle p first second queue e f same one other write =
     at_place : IsPlace (queued (put queue f) ∷ (at_f.below ++ second ∷ k))
     at_place = record {
       calls = place.calls;
-      database = place.database;
+      in_form = place.in_form;
       later = place.later ++ (other.is_told.later ++ at_f.above);
       below = place.below ∙ ap (λ g. place.later ++ g) (other.is_told.stands ∙ ap (λ g. other.is_told.later ++ g) at_f.is
           ∙ sym (append_assoc other.is_told.later at_f.above (queued (put queue f) ∷ (at_f.below ++ second ∷ k))))

@@ -1,9 +1,10 @@
 -- Marks with marks of events among them: what they leave of a database beside its queues.
-use Rattle.std.proofs.Common.{◌≡◌, ℕ, Bool, true, false, List, [], ◌∷◌, ◌++◌, Option, Some, None, refl, ◌∙◌, ap}
+use Rattle.std.proofs.Common.{◌≡◌, ℕ, ◌+◌, Bool, true, false, List, [], ◌∷◌, ◌++◌, Option, Some, None, refl, ◌∙◌, ap}
 use Rattle.std.specs.Prelude.{◌||◌, ◌==◌}
 use Rattle.sky_val.specs.declared.event.Event.{Event}
 use Rattle.sky_model.specs.History.{Batch, Mark, began, ended, block_begun, repeats, looked, block_failed, block_ended, tabled, queued, made, raised, put, ticked, registered, opened, closed, traced}
-use Rattle.sky_model.specs.Triggers.{NamedTrigger}
+use Rattle.sky_model.specs.Triggers.{TableTrigger}
+use Rattle.sky_model.specs.Queues.{NamedQueue}
 use Rattle.sky_model.specs.State.{RowPart, after_part, after_part_marks, Database, changed_at, after_mark, after_marks}
 use Rattle.sky_model.proofs.RowStanding.{part-behind}
 
@@ -38,12 +39,13 @@ pub record BesideQueues : Type 0 where
   pub undone : ℕ → Bool
   pub last_batch_id : ℕ
   pub last_sub_id : ℕ
-  pub names : List (List ℕ)
+  pub queues_made : ℕ
+  pub queues : List NamedQueue
   pub batch : ℕ → Option Batch
-  pub triggers : ℕ → List NamedTrigger
+  pub triggers : List TableTrigger
 
 abbrev pub beside : Database → BesideQueues
-beside d = record { part = d.part; undone = d.undone; last_batch_id = d.last_batch_id; last_sub_id = d.last_sub_id; names = d.names; batch = d.batch; triggers = d.triggers }
+beside d = record { part = d.part; undone = d.undone; last_batch_id = d.last_batch_id; last_sub_id = d.last_sub_id; queues_made = d.queues_made; queues = d.queues; batch = d.batch; triggers = d.triggers }
 
 -- a mark changes it alike
 beside-mark : (d e : Database) (mark : Mark) → beside d ≡ beside e → beside (after_mark d mark) ≡ beside (after_mark e mark)
@@ -56,7 +58,10 @@ beside-mark d e (looked who) same = λ i. record (same i) { part = after_part (s
 beside-mark d e (block_failed who) same = λ i. record (same i) { part = after_part (same i).part (block_failed who) }
 beside-mark d e (block_ended who) same = λ i. record (same i) { part = after_part (same i).part (block_ended who) }
 beside-mark d e (tabled mark) same = λ i. record (same i) { part = after_part (same i).part (tabled mark) }
-beside-mark d e (queued (made name)) same = λ i. record (same i) { names = (same i).names ++ name ∷ [] }
+beside-mark d e (queued (made name)) same = λ i. record (same i) {
+  queues_made = (same i).queues_made + 1;
+  queues = (same i).queues ++ record { number = (same i).queues_made; name = name } ∷ [];
+}
 beside-mark d e (queued (raised queue value)) same = same
 beside-mark d e (queued (put queue event)) same = same
 beside-mark d e (queued (ticked queue id time seq)) same = same
@@ -64,7 +69,7 @@ beside-mark d e (queued (registered queue name id tick)) same = λ i. record (sa
 beside-mark d e (queued (opened b)) same = λ i. record (same i) { last_batch_id = b.id; batch = changed_at b.id (λ _. Some b) (same i).batch }
 beside-mark d e (queued (closed b)) same = λ i. record (same i) { batch = changed_at b.id (λ _. None) (same i).batch }
 beside-mark d e (queued (traced table name trigger)) same = λ i. record (same i) {
-  triggers = changed_at table (λ ts. ts ++ record { name = name; trigger = trigger } ∷ []) (same i).triggers;
+  triggers = (same i).triggers ++ record { table = table; name = name; trigger = trigger } ∷ [];
 }
 
 beside-alike : (d e : Database) {xs ys : List Mark} → Inserted xs ys → beside d ≡ beside e → beside (after_marks d ys) ≡ beside (after_marks e xs)

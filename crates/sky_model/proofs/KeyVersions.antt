@@ -13,7 +13,7 @@ use Rattle.sky_txid.specs.declared.version.Version.{Version}
 use Rattle.sky_txid.specs.Versions.{with_version, without, version_of, newest_by, row_of, versions_at, written}
 use Rattle.sky_txid.proofs.VersionLemmas.{left, OnlyLast, OthersPass, newest_with, newest_without, newest_more, version_of-with, version_of-without, only_more, only_without, only_with}
 use Rattle.sky_txid.proofs.EntryLemmas.{key_ties-is, versions_at-written, versions_at-forgotten}
-use Rattle.sky_model.specs.History.{Mark, ended, tabled, wrote, History}
+use Rattle.sky_model.specs.History.{Mark, of_session, ended, tabled, wrote, History}
 use Rattle.sky_model.specs.Transactions.{has_ended}
 use Rattle.sky_model.specs.Sessions.{own_txid}
 use Rattle.sky_model.specs.Rows.{committed, writes as writes_of, rows, last_writer}
@@ -81,7 +81,7 @@ writer-committed : (t : ℕ) (own : Option Version) (before : Option Version) (l
 writer-committed t None before last earlier e mine is = is ∙ ap (λ o. if is_some o then Some t else earlier) e
 writer-committed t (Some v) before last earlier e mine is = ap Some (mine v refl) ∙ ap (λ o. if is_some o then Some t else earlier) e
 
-key_committed : (h : History) → Legal h → (who t : ℕ) → has_ended h t ≡ false → (table : ℕ) (key : List Val) → KeyHolds h table key → KeyHolds (ended who t true ∷ h) table key
+key_committed : (h : History) → Legal h → (who t : ℕ) → has_ended h t ≡ false → (table : ℕ) (key : List Val) → KeyHolds h table key → KeyHolds (ended (of_session who) t true ∷ h) table key
 key_committed h l who t unended table key k = record {
   newest = ap row_of newer
       ∙ row-committed (version_of t (kept h table key)) (newest_by (has_ended h) (kept h table key)) (last_of key (writes_of table t h)) (k.own t unended)
@@ -93,35 +93,35 @@ key_committed h l who t unended table key k = record {
       ∙ ap (λ b. if b then Some t else last_writer key (λ u. writes_of table u h) None (committed h)) (sym (has_written-last_of key (writes_of table t h)))
       ∙ sym (last_writer-push key (λ u. writes_of table u h) (committed h) t);
   own = λ u e. k.own u (unended-before (u == t) (has_ended h u) e);
-  only = only_more (has_ended h) (has_ended (ended who t true ∷ h)) (kept h table key) (λ u e. still-ended (u == t) (has_ended h u) e) k.only;
+  only = only_more (has_ended h) (has_ended (ended (of_session who) t true ∷ h)) (kept h table key) (λ u e. still-ended (u == t) (has_ended h u) e) k.only;
 }
   where
-    newer : newest_by (has_ended (ended who t true ∷ h)) (kept h table key) ≡ option_or (version_of t (kept h table key)) (newest_by (has_ended h) (kept h table key))
-    newer = newest_more (has_ended h) (has_ended (ended who t true ∷ h)) t (kept h table key) k.only unended (ended-or h t)
+    newer : newest_by (has_ended (ended (of_session who) t true ∷ h)) (kept h table key) ≡ option_or (version_of t (kept h table key)) (newest_by (has_ended h) (kept h table key))
+    newer = newest_more (has_ended h) (has_ended (ended (of_session who) t true ∷ h)) t (kept h table key) k.only unended (ended-or h t)
 
-key_rolled_back : (h : History) → Legal h → (who t : ℕ) → has_ended h t ≡ false → (table : ℕ) (key : List Val) → KeyHolds h table key → KeyHolds (ended who t false ∷ h) table key
+key_rolled_back : (h : History) → Legal h → (who t : ℕ) → has_ended h t ≡ false → (table : ℕ) (key : List Val) → KeyHolds h table key → KeyHolds (ended (of_session who) t false ∷ h) table key
 key_rolled_back h l who t unended table key k = record {
   newest = ap row_of same ∙ k.newest;
   writer = ap (option_map Version.txid) same ∙ k.writer;
   own = λ u e. ap (λ vs. option_map Version.row (version_of u vs)) gone
       ∙ ap (option_map Version.row) (version_of-without u t (kept h table key) ∙ ap (λ b. cond b None (version_of u (kept h table key))) (another (u == t) (has_ended h u) e))
       ∙ k.own u (unended-before (u == t) (has_ended h u) e);
-  only = subst (OnlyLast (has_ended (ended who t false ∷ h))) (sym gone) (only_more (has_ended h) (has_ended (ended who t false ∷ h)) (without t (kept h table key))
+  only = subst (OnlyLast (has_ended (ended (of_session who) t false ∷ h))) (sym gone) (only_more (has_ended h) (has_ended (ended (of_session who) t false ∷ h)) (without t (kept h table key))
       (λ u e. still-ended (u == t) (has_ended h u) e) (only_without (has_ended h) t (kept h table key) k.only));
 }
   where
-    gone : kept (ended who t false ∷ h) table key ≡ without t (kept h table key)
+    gone : kept (ended (of_session who) t false ∷ h) table key ≡ without t (kept h table key)
     gone = versions_at-forgotten t key (versions table h) (is_in_order-versions table h)
 
     none : (b : Bool) (o : Option Version) → b ≡ true → cond b None o ≡ None
     none true o e = refl
     none false o e = absurd (cc)
 
-    same : newest_by (has_ended (ended who t false ∷ h)) (kept (ended who t false ∷ h) table key) ≡ newest_by (has_ended h) (kept h table key)
+    same : newest_by (has_ended (ended (of_session who) t false ∷ h)) (kept (ended (of_session who) t false ∷ h) table key) ≡ newest_by (has_ended h) (kept h table key)
     same =
         let mine : (t == t) ≡ true = grind (arith, nat_tests) in
-        ap (newest_by (has_ended (ended who t false ∷ h))) gone
-        ∙ newest_more (has_ended h) (has_ended (ended who t false ∷ h)) t (without t (kept h table key)) (only_without (has_ended h) t (kept h table key) k.only) unended (ended-or h t)
+        ap (newest_by (has_ended (ended (of_session who) t false ∷ h))) gone
+        ∙ newest_more (has_ended h) (has_ended (ended (of_session who) t false ∷ h)) t (without t (kept h table key)) (only_without (has_ended h) t (kept h table key) k.only) unended (ended-or h t)
         ∙ ap (λ o. option_or o (newest_by (has_ended h) (without t (kept h table key)))) (version_of-without t t (kept h table key) ∙ none (t == t) (version_of t (kept h table key)) mine)
         ∙ newest_without (has_ended h) t (kept h table key) unended
 
@@ -147,7 +147,7 @@ others-from p t (v ∷ vs) none = (of (t == v.txid) refl (p v.txid) refl, others
 
 module _ (h : History) (l : Legal h) (who t n : ℕ) (at_key : List Val) (old new : Option (List Val)) (mine : own_txid who h ≡ Some t) (free : other_than who (holder n at_key h) ≡ None) where
   abbrev g : History
-  g = tabled (wrote who t n at_key old new) ∷ h
+  g = tabled (wrote (of_session who) t n at_key old new) ∷ h
 
   unended : has_ended h t ≡ false
   unended = own-unended h l who t mine
@@ -240,7 +240,7 @@ module _ (h : History) (l : Legal h) (who t n : ℕ) (at_key : List Val) (old ne
 key_step : (h : History) (mark : Mark) → Fine h mark → Legal h → (table : ℕ) (key : List Val) → KeyHolds h table key → KeyHolds (mark ∷ h) table key
 key_step h _ (ends who t true e) l table key k = key_committed h l who t (own-unended h l who t e) table key k
 key_step h _ (ends who t false e) l table key k = key_rolled_back h l who t (own-unended h l who t e) table key k
-key_step h _ (writes who t n at_key old new e free) l table key k = key_written h l who t n at_key old new e free table key k
+key_step h _ (writes who t n at_key old new e free stands) l table key k = key_written h l who t n at_key old new e free table key k
 key_step h _ (begins who e) l table key k = record { newest = k.newest; writer = k.writer; own = k.own; only = k.only }
 key_step h _ (begins_block who e) l table key k = record { newest = k.newest; writer = k.writer; own = k.own; only = k.only }
 key_step h _ (fails_block who e f) l table key k = record { newest = k.newest; writer = k.writer; own = k.own; only = k.only }
@@ -248,7 +248,7 @@ key_step h _ (ends_block who e) l table key k = record { newest = k.newest; writ
 key_step h _ (repeats_block who) l table key k = record { newest = k.newest; writer = k.writer; own = k.own; only = k.only }
 key_step h _ (looks who) l table key k = record { newest = k.newest; writer = k.writer; own = k.own; only = k.only }
 key_step h _ (makes_table name columns e) l table key k = record { newest = k.newest; writer = k.writer; own = k.own; only = k.only }
-key_step h _ (begins_waiting who n at_key attempt) l table key k = record { newest = k.newest; writer = k.writer; own = k.own; only = k.only }
+key_step h _ (begins_waiting who n at_key attempt fits) l table key k = record { newest = k.newest; writer = k.writer; own = k.own; only = k.only }
 key_step h _ (ends_waiting who) l table key k = record { newest = k.newest; writer = k.writer; own = k.own; only = k.only }
 key_step h _ (makes name e) l table key k = record { newest = k.newest; writer = k.writer; own = k.own; only = k.only }
 key_step h _ (raises q v i le) l table key k = record { newest = k.newest; writer = k.writer; own = k.own; only = k.only }

@@ -1,5 +1,5 @@
--- Whatever is called, the history of each database is legal.
-use Rattle.std.proofs.Common.{◌≡◌, All, ℕ, suc, zero, ℤ, ◌+◌, ◌<◌, List, [], ◌∷◌, ◌++◌, Bool, true, false, ◌==◌, nat_le, Option, Some, None, Ok, Err, option_map, unwrap_or, map, length, is_some, refl, sym, ◌∙◌, ap, subst, arith, if◌then◌else◌, length-append, ◌^◌}
+-- Whatever is called of a database, its history is legal.
+use Rattle.std.proofs.Common.{◌≡◌, All, ℕ, suc, zero, ℤ, ◌+◌, ◌<◌, List, [], ◌∷◌, ◌++◌, Bool, true, false, ◌==◌, nat_le, Option, Some, None, Ok, Err, is_ok, option_map, unwrap_or, length, is_some, refl, sym, ◌∙◌, ap, subst, arith, ◌^◌, if◌then◌else◌}
 use Rattle.std.specs.Prelude.{find, not}
 use Rattle.std.proofs.lemmas.Bool.Decides.{nat_tests}
 use Rattle.sky_model.specs.declared.stmt.Stmt.{Stmt}
@@ -11,41 +11,38 @@ use Rattle.sky_model.specs.declared.reply.Limit.TheVariants.{Queues, Triggers}
 use Rattle.sky_model.specs.declared.reply.Refusal.TheVariants.{BadColumn, NoQueue, NoTable, TableBusy, TooMany, TriggerExists, TxidsSpent, EventIdsSpent, NoConsumer}
 use Rattle.sky_val.specs.Waits.{Waiting, is_waiting}
 use Rattle.sky_names.specs.Places.{place_of}
-use Rattle.sky_model.specs.History.{Batch, Mark, began, ended, block_begun, block_failed, block_ended, repeats, looked, tabled, waited, queued, made, raised, put, ticked, registered, opened, closed, traced, History, Fact, left, within, Past}
+use Rattle.sky_model.specs.History.{Batch, Mark, of_session, began, ended, block_begun, block_failed, block_ended, repeats, looked, tabled, waited, queued, made, raised, put, ticked, registered, opened, closed, traced, History}
 use Rattle.sky_model.specs.Transactions.{next_txid}
 use Rattle.sky_model.specs.Sessions.{Block, outside, inside, failed, block, own_txid, session}
 use Rattle.sky_model.specs.Rows.{table_names, columns_of}
-use Rattle.sky_model.specs.Triggers.{triggers}
+use Rattle.sky_model.specs.Triggers.{triggers, triggers_of}
 use Rattle.sky_model.specs.StepTrigger.{has_trigger, may_ignore, add_trigger}
-use Rattle.sky_model.specs.Telling.{tells}
 use Rattle.sky_model.specs.Config.{default_config}
-use Rattle.sky_model.specs.Queues.{queue_names, Tick, ticks, tick, newest_tick, sequence, events}
+use Rattle.sky_model.specs.Queues.{queues_made, queues, queue_number, Tick, ticks, tick, newest_tick, sequence, events}
 use Rattle.sky_model.specs.Consumers.{subscription_id, Subscription, subscription, active_batch}
 use Rattle.sky_model.specs.Locks.{waiting}
 use Rattle.sky_model.specs.State.{RowPart, part_of, database_of}
-use Rattle.sky_model.specs.ShownRows.{rows_in, least_writer}
+use Rattle.sky_model.specs.ShownRows.{RowsShown, rows_in, least_writer}
 use Rattle.sky_model.specs.OwnTransaction.{own_or_next, begin_of, commit_of, written}
 use Rattle.sky_model.specs.Outcome.{Outcome, Checked, ◌>>=◌, ◌>>◌, refused_if, answers, does_marks, abort, settled}
 use Rattle.sky_model.specs.Allowed.{where_of_row, where_of, allowed}
 use Rattle.sky_model.specs.StepRows.{attempts}
 use Rattle.sky_model.specs.StepQueue.{create_queue, insert_event, ticker, force_tick, is_due, forced, newest_id, id_of, next_event_id, made_event}
 use Rattle.sky_model.specs.StepConsumer.{has_dot, register_consumer, next_batch, opens_batch, takes_batch, finishes}
-use Rattle.sky_model.specs.World.{World, world_of, history_in, on_top, session_names, home}
-use Rattle.sky_model.specs.Reader.{shown_in, PartReader, part_by_history, database_by_history, within_part, within_database, by_past, Deed, appears, followed}
+use Rattle.sky_model.specs.Reader.{shown_in, PartReader, part_by_history, database_by_history, within_part}
 use Rattle.sky_model.specs.Gates.{Gate, takes_all, gated, by_gate}
 use Rattle.sky_model.specs.Made.{takes_sight, looking, runs_if}
 use Rattle.sky_model.specs.Settling.{Turn, turn_of, behind_marks, and_then, ready, attempted, resumed, goes_on, settles, settling, with_settling}
-use Rattle.sky_model.specs.Calls.{row_form, form, row_making, making, row_statement, row_turn, statement, database_turn, is_leaving, unopened, session_does, turn, Call, called, after, past_of}
-use Rattle.sky_model.proofs.Legal.{Fine, begins, ends, looks, ends_waiting, makes, raises, puts, ticks_next, registers, opens as opens_fine, closes, traces, Chain, done, more, Legal, start, next}
-use Rattle.sky_model.proofs.Good.{Good, same-session, good_test, good_test_then, good_found, good_if, good_refused, good_refused_by, good_commits}
+use Rattle.sky_model.specs.Calls.{row_form, form, row_making, making, row_statement, row_turn, statement, database_turn, turn}
+use Rattle.sky_model.proofs.Legal.{MayWait, Fine, IsAmong, IsQueue, begins, ends, looks, ends_waiting, makes, raises, puts, ticks_next, registers, opens as opens_fine, closes, traces, Chain, done, more, Legal, next}
+use Rattle.sky_model.proofs.Good.{MayStand, Good, same-session, good_test, good_test_then, good_found, good_if, good_refused, good_refused_by, good_commits}
 use Rattle.sky_model.proofs.RowOutcomes.{OfRows, attempts-rows, form-rows}
 use Rattle.sky_model.proofs.LawfulTelling.{good_append, legal_behind, good_tells}
+use Rattle.sky_model.proofs.WaitersFit.{may_go_on}
 use Rattle.sky_model.proofs.LawfulRows.{good_attempts, good_row_form}
-use Rattle.sky_model.proofs.MadeAt.{same-made_by}
-use Rattle.sky_model.proofs.Turns.{ReadAlike, same-with_settling, Any, each-any}
+use Rattle.sky_model.proofs.QueueNumbers.{among-number, among-last}
 use Rattle.sky_model.proofs.Ticks.{ticks_beyond}
 use Rattle.sky_model.proofs.Selecting.{events_below-next}
-use Rattle.sky_model.proofs.Unopened.{on_top-append, unopened-within}
 use Rattle.sky_names.proofs.PlaceLemmas.{place_of_within}
 
 -- an active batch is found by its id
@@ -78,94 +75,94 @@ active_batch-id (queued (traced table name trigger) ∷ h) id batch is = active_
 
 good_create_queue : (h : History) → Legal h → (now : ℤ) (who : ℕ) (name : List ℕ) → Good h who (create_queue (database_of h) now who name)
 good_create_queue h l now who name =
-    by_place (place_of name (queue_names h)) refl
+    by_place (queue_number name (queues h)) refl
   where
     count : ℕ
-    count = length (queue_names h)
+    count = queues_made h
 
-    ticks_first : (g : History) → queue_names g ≡ queue_names h ++ name ∷ [] → ticks count g ≡ [] → Chain g (queued (ticked count 1 now 0) ∷ [])
+    ticks_first : (g : History) → queues g ≡ queues h ++ record { number = count; name = name } ∷ [] → ticks count g ≡ [] → Chain g (queued (ticked count 1 now 0) ∷ [])
     ticks_first g names none =
         more (ticks_next count 1 now 0
-        (omega (arith, ap length names, length-append (queue_names h) (name ∷ [])))
+        (subst (IsAmong count) (sym names) (among-last (queues h) (record { number = count; name = name })))
         (subst (λ ts. id_of (newest_tick ts) < 1) (sym none) (omega arith))) done
 
-    body : (g : History) (t : ℕ) (b : Block) → place_of name (queue_names h) ≡ None → own_txid who g ≡ Some t → queue_names g ≡ queue_names h → ticks count g ≡ []
+    body : (g : History) (t : ℕ) (b : Block) → queue_number name (queues h) ≡ None → own_txid who g ≡ Some t → queues g ≡ queues h → queues_made g ≡ count → ticks count g ≡ []
         → Chain g (queued (made name) ∷ commit_of who t b ++ queued (ticked count 1 now 0) ∷ [])
-    body g t outside new mine names none = more (makes name (ap (place_of name) names ∙ new)) (more (ends who t true mine) (ticks_first (ended who t true ∷ queued (made name) ∷ g) (ap (λ ns. ns ++ name ∷ []) names) none))
-    body g t inside new mine names none = more (makes name (ap (place_of name) names ∙ new)) (ticks_first (queued (made name) ∷ g) (ap (λ ns. ns ++ name ∷ []) names) none)
-    body g t failed new mine names none = more (makes name (ap (place_of name) names ∙ new)) (ticks_first (queued (made name) ∷ g) (ap (λ ns. ns ++ name ∷ []) names) none)
+    body g t outside new mine names many none = more (makes name (ap (queue_number name) names ∙ new)) (more (ends who t true mine) (ticks_first (ended (of_session who) t true ∷ queued (made name) ∷ g) (λ i. names i ++ record { number = many i; name = name } ∷ []) none))
+    body g t inside new mine names many none = more (makes name (ap (queue_number name) names ∙ new)) (ticks_first (queued (made name) ∷ g) (λ i. names i ++ record { number = many i; name = name } ∷ []) none)
+    body g t failed new mine names many none = more (makes name (ap (queue_number name) names ∙ new)) (ticks_first (queued (made name) ∷ g) (λ i. names i ++ record { number = many i; name = name } ∷ []) none)
 
     none_yet : ticks count h ≡ []
     none_yet = ticks_beyond h l count (omega arith)
 
-    by_own : (o : Option ℕ) → own_txid who h ≡ o → place_of name (queue_names h) ≡ None → Good h who (own_or_next (part_of h) o >>= (λ t.
+    by_own : (o : Option ℕ) → own_txid who h ≡ o → queue_number name (queues h) ≡ None → Good h who (own_or_next (part_of h) o >>= (λ t.
         does_marks (Number 1) ((begin_of who t o ++ (queued (made name) ∷ []) ++ commit_of who t (block who h)) ++ queued (ticked count 1 now 0) ∷ [])))
     by_own None none new =
         good_test_then h who (nat_le (2 ^ 62) (next_txid h)) TxidsSpent (next_txid h) _
-        (more (begins who none) (body (began who (next_txid h) ∷ h) (next_txid h) (block who h) new (ap (λ b. if b then Some (next_txid h) else own_txid who h) (same-session who)) refl none_yet))
-    by_own (Some t) mine new = body h t (block who h) new mine refl none_yet
+        (more (begins who none) (body (began (of_session who) (next_txid h) ∷ h) (next_txid h) (block who h) new (ap (λ b. if b then Some (next_txid h) else own_txid who h) (same-session who)) refl refl none_yet))
+    by_own (Some t) mine new = body h t (block who h) new mine refl refl none_yet
 
-    by_place : (o : Option ℕ) → place_of name (queue_names h) ≡ o → Good h who (if is_some o then answers (Number 0) else (
-        refused_if (nat_le 64 count) (TooMany Queues) >> (own_or_next (part_of h) (own_txid who h) >>= (λ t.
+    by_place : (o : Option ℕ) → queue_number name (queues h) ≡ o → Good h who (if is_some o then answers (Number 0) else (
+        refused_if (nat_le 64 (length (queues h))) (TooMany Queues) >> (own_or_next (part_of h) (own_txid who h) >>= (λ t.
         does_marks (Number 1) (written who t (session h who) (queued (made name) ∷ []) ++ queued (ticked count 1 now 0) ∷ [])))))
     by_place (Some n) is = done
-    by_place None is = good_test h who (nat_le 64 count) (TooMany Queues) _ (λ _. by_own (own_txid who h) refl is)
+    by_place None is = good_test h who (nat_le 64 (length (queues h))) (TooMany Queues) _ (λ _. by_own (own_txid who h) refl is)
 
 good_insert_event : (h : History) → Legal h → (now : ℤ) (who : ℕ) (name : List ℕ) (ev_type ev_data : Option (List ℕ)) (extra : Option Extra)
     → Good h who (insert_event (database_of h) now who name ev_type ev_data extra)
 good_insert_event h l now who name ev_type ev_data extra =
-    good_found h who (place_of name (queue_names h)) (NoQueue name) _ (λ q is. by_own q (place_of_within name (queue_names h) q is) (own_txid who h) refl)
+    good_found h who (queue_number name (queues h)) (NoQueue name) _ (λ q is. by_own q (among-number name (queues h) q is) (own_txid who h) refl)
   where
     same : (q : ℕ) → (q == q) ≡ true
     same q = grind (arith, nat_tests)
 
-    body : (g : History) → Legal g → (q n t : ℕ) (b : Block) → own_txid who g ≡ Some t → q < length (queue_names g) → sequence q g ≡ n
+    body : (g : History) → Legal g → (q n t : ℕ) (b : Block) → own_txid who g ≡ Some t → IsQueue g q → sequence q g ≡ n
         → Chain g (queued (raised q (n + 1)) ∷ queued (put q (made_event (n + 1) now t ev_type ev_data extra)) ∷ commit_of who t b)
     body g l q n t b mine below is =
         more (raises q (n + 1) below (omega arith))
         (more (puts who q _ below (ap (λ b. if b then n + 1 else sequence q g) (sym (same q))) mine (subst (λ m. All (λ e. e.ev_id < m + 1) (events q g)) is (events_below-next g l q)))
         (good_commits (queued (put q (made_event (n + 1) now t ev_type ev_data extra)) ∷ queued (raised q (n + 1)) ∷ g) who t b mine))
 
-    by_own : (q : ℕ) → q < length (queue_names h) → (o : Option ℕ) → own_txid who h ≡ o → Good h who (own_or_next (part_of h) o >>= (λ t.
+    by_own : (q : ℕ) → IsQueue h q → (o : Option ℕ) → own_txid who h ≡ o → Good h who (own_or_next (part_of h) o >>= (λ t.
         next_event_id ((database_of h).queue q) >>= (λ id.
         does_marks (Number id) (begin_of who t o ++ (queued (raised q id) ∷ queued (put q (made_event id now t ev_type ev_data extra)) ∷ []) ++ commit_of who t (block who h)))))
     by_own q below None none =
         good_test_then h who (nat_le (2 ^ 62) (next_txid h)) TxidsSpent (next_txid h) _
         (good_test_then h who (nat_le (2 ^ 62) (sequence q h + 1)) EventIdsSpent (sequence q h + 1) _
-        (more (begins who none) (body (began who (next_txid h) ∷ h) (next l (begins who none)) q (sequence q h) (next_txid h) (block who h) (ap (λ b. if b then Some (next_txid h) else own_txid who h) (same-session who)) below refl)))
+        (more (begins who none) (body (began (of_session who) (next_txid h) ∷ h) (next l (begins who none)) q (sequence q h) (next_txid h) (block who h) (ap (λ b. if b then Some (next_txid h) else own_txid who h) (same-session who)) below refl)))
     by_own q below (Some t) mine =
         good_test_then h who (nat_le (2 ^ 62) (sequence q h + 1)) EventIdsSpent (sequence q h + 1) _
         (body h l q (sequence q h) t (block who h) mine below refl)
 
 good_ticker : (h : History) (now : ℤ) (who : ℕ) (name : List ℕ) → Good h who (ticker (database_of h) now name)
 good_ticker h now who name =
-    good_found h who (place_of name (queue_names h)) (NoQueue name) _ (λ q is.
+    good_found h who (queue_number name (queues h)) (NoQueue name) _ (λ q is.
     good_if h who (is_due now ((database_of h).queue q)) _ _
     (good_test h who (nat_le (2 ^ 64) (newest_id ((database_of h).queue q) + 1)) _ _ (λ _.
-    more (ticks_next q _ now _ (place_of_within name (queue_names h) q is) (omega arith)) done))
+    more (ticks_next q _ now _ (among-number name (queues h) q is) (omega arith)) done))
     (λ _. done))
 
 good_force_tick : (h : History) (who : ℕ) (name : List ℕ) → Good h who (force_tick (database_of h) name)
 good_force_tick h who name =
-    good_found h who (place_of name (queue_names h)) (NoQueue name) _ (λ q is.
+    good_found h who (queue_number name (queues h)) (NoQueue name) _ (λ q is.
     good_test h who (nat_le (2 ^ 62) (sequence q h + forced default_config)) _ _ (λ _.
-    more (raises q _ (place_of_within name (queue_names h) q is) (omega arith)) done))
+    more (raises q _ (among-number name (queues h) q is) (omega arith)) done))
 
 good_register_consumer : (h : History) (who : ℕ) (name consumer : List ℕ) → Good h who (register_consumer (database_of h) name consumer)
 good_register_consumer h who name consumer =
-    good_found h who (place_of name (queue_names h)) (NoQueue name) _ (λ q is.
+    good_found h who (queue_number name (queues h)) (NoQueue name) _ (λ q is.
     good_test h who (has_dot consumer) _ _ (λ _.
     good_if h who (is_some (((database_of h).queue q).sub consumer)) _ _ done (λ unregistered.
     good_test h who (nat_le 256 (length ((database_of h).queue q).members)) _ _ (λ _.
     good_test h who (nat_le (2 ^ 64) ((database_of h).last_sub_id + 1)) _ _ (λ _.
-    more (registers q consumer _ _ (place_of_within name (queue_names h) q is) (none-mapped _ (subscription_id q consumer h) unregistered) (omega arith) (omega arith)) done)))))
+    more (registers q consumer _ _ (among-number name (queues h) q is) (none-mapped _ (subscription_id q consumer h) unregistered) (omega arith) (omega arith)) done)))))
   where
     none-mapped : {A B : Type 0} (f : A → B) (o : Option A) → is_some (option_map f o) ≡ false → o ≡ None
     none-mapped f None e = refl
     none-mapped f (Some a) e = cc
 
 good_opens_batch : (h : History) (who q : ℕ) (consumer : List ℕ) (sub : Subscription) (found : Option Tick)
-    → q < length (queue_names h) → subscription q consumer h ≡ Some (record { id = sub.id; position = sub.position; active = None }) → tick (sub.position + 1) (ticks q h) ≡ found
+    → IsQueue h q → subscription q consumer h ≡ Some (record { id = sub.id; position = sub.position; active = None }) → tick (sub.position + 1) (ticks q h) ≡ found
     → Good h who (opens_batch (database_of h) q consumer sub found)
 good_opens_batch h who q consumer sub None below stands is = done
 good_opens_batch h who q consumer sub (Some t) below stands is =
@@ -173,17 +170,17 @@ good_opens_batch h who q consumer sub (Some t) below stands is =
     more (opens_fine _ (record { within = below; stands = stands; fresh = omega arith; closing = t; made = is; to = refl })) done)
 
 good_takes_batch : (h : History) (who q : ℕ) (consumer : List ℕ) (sub : Subscription) (batch : Option ℕ)
-    → q < length (queue_names h) → subscription q consumer h ≡ Some (record { id = sub.id; position = sub.position; active = batch })
+    → IsQueue h q → subscription q consumer h ≡ Some (record { id = sub.id; position = sub.position; active = batch })
     → Good h who (takes_batch (database_of h) q consumer sub batch)
 good_takes_batch h who q consumer sub (Some batch) below stands = done
 good_takes_batch h who q consumer sub None below stands = good_opens_batch h who q consumer sub (tick (sub.position + 1) (ticks q h)) below stands refl
 
 good_next_batch : (h : History) (who : ℕ) (name consumer : List ℕ) → Good h who (next_batch (database_of h) name consumer)
 good_next_batch h who name consumer =
-    good_found h who (place_of name (queue_names h)) (NoQueue name) _ (λ q is.
+    good_found h who (queue_number name (queues h)) (NoQueue name) _ (λ q is.
     good_test h who (has_dot consumer) _ _ (λ _.
     good_found h who (((database_of h).queue q).sub consumer) (NoConsumer consumer) _ (λ sub stands.
-    good_takes_batch h who q consumer sub sub.active (place_of_within name (queue_names h) q is) stands)))
+    good_takes_batch h who q consumer sub sub.active (among-number name (queues h) q is) stands)))
 
 good_finishes : (h : History) (who id : ℕ) (batch : Option Batch) → active_batch id h ≡ batch → Good h who (finishes batch)
 good_finishes h who id None is = done
@@ -193,36 +190,37 @@ good_add_trigger : (h : History) (who : ℕ) (name table_name queue_name : List 
     → Good h who (add_trigger (database_of h) name table_name queue_name backup ignored)
 good_add_trigger h who name table_name queue_name backup ignored =
     good_found h who (place_of table_name (table_names h)) (NoTable table_name) _ (λ table there.
-    good_found h who (place_of queue_name (queue_names h)) (NoQueue queue_name) _ (λ queue is.
-    good_test h who (has_trigger name (triggers table h)) (TriggerExists name) _ (λ new.
-    good_test h who (nat_le 8 (length (triggers table h))) (TooMany Triggers) _ (λ _.
+    good_found h who (queue_number queue_name (queues h)) (NoQueue queue_name) _ (λ queue is.
+    good_test h who (has_trigger name (triggers_of table (triggers h))) (TriggerExists name) _ (λ new.
+    good_test h who (nat_le 8 (length (triggers_of table (triggers h)))) (TooMany Triggers) _ (λ _.
     good_refused_by h who (option_map BadColumn (find (λ column. not (may_ignore (columns_of table h) column)) ignored)) _ (λ _.
     good_refused_by h who (option_map TableBusy (least_writer (part_of h) table)) _ (λ _.
-    more (traces table name _ (place_of_within table_name (table_names h) table there) (place_of_within queue_name (queue_names h) queue is) new) done))))))
+    more (traces table (Some name) _ (place_of_within table_name (table_names h) table there) (among-number queue_name (queues h) queue is) new) done))))))
 
-good_form : (h : History) → Legal h → (now : ℤ) (who : ℕ) (stmt : Stmt) → Good h who (form (database_of h) (shown_in h) now who stmt)
-good_form h l now who (Row stmt) = good_tells h l now who _ (form-rows (part_of h) (rows_in h) who stmt) (good_row_form h who stmt)
-good_form h l now who (CreateQueue queue) = good_create_queue h l now who queue
-good_form h l now who (InsertEvent queue ev_type ev_data extra) = good_insert_event h l now who queue ev_type ev_data extra
-good_form h l now who (Ticker queue) = good_ticker h now who queue
-good_form h l now who (ForceTick queue) = good_force_tick h who queue
-good_form h l now who (RegisterConsumer queue consumer) = good_register_consumer h who queue consumer
-good_form h l now who (NextBatch queue consumer) = good_next_batch h who queue consumer
-good_form h l now who (GetBatchEvents batch) = good_found h who ((database_of h).batch batch) _ _ (λ b _. done)
-good_form h l now who (FinishBatch batch) = good_finishes h who batch (active_batch batch h) refl
-good_form h l now who (AddTrigger name table queue backup ignored) = good_add_trigger h who name table queue backup ignored
+good_form : (h : History) → Legal h → (now : ℤ) (who : ℕ) (stmt : Stmt) → MayStand h who (where_of stmt) → Good h who (form (database_of h) (shown_in h) now who stmt)
+good_form h l now who (Row stmt) may = good_tells h l now who _ (form-rows (part_of h) (rows_in h) who stmt) (good_row_form h l who stmt may)
+good_form h l now who (CreateQueue queue) may = good_create_queue h l now who queue
+good_form h l now who (InsertEvent queue ev_type ev_data extra) may = good_insert_event h l now who queue ev_type ev_data extra
+good_form h l now who (Ticker queue) may = good_ticker h now who queue
+good_form h l now who (ForceTick queue) may = good_force_tick h who queue
+good_form h l now who (RegisterConsumer queue consumer) may = good_register_consumer h who queue consumer
+good_form h l now who (NextBatch queue consumer) may = good_next_batch h who queue consumer
+good_form h l now who (GetBatchEvents batch) may = good_found h who ((database_of h).batch batch) _ _ (λ b _. done)
+good_form h l now who (FinishBatch batch) may = good_finishes h who batch (active_batch batch h) refl
+good_form h l now who (AddTrigger name table queue backup ignored) may = good_add_trigger h who name table queue backup ignored
 
-good_runs_if : (h : History) → Legal h → (now : ℤ) (who : ℕ) (stmt : Stmt) (may : Checked (Unit {0})) → Chain h (runs_if (making database_by_history now who stmt) (where_of stmt) who h may).marks
-good_runs_if h l now who stmt (Err refusal) = good_refused h who refusal
-good_runs_if h l now who stmt (Ok _) = of (takes_sight (where_of stmt) (session h who).sight)
+good_runs_if : (h : History) → Legal h → (now : ℤ) (who : ℕ) (stmt : Stmt) (may : Checked (Unit {0})) → allowed (is_waiting who (waiting h)) (block who h) (where_of stmt) ≡ may
+    → Chain h (runs_if (making database_by_history now who stmt) (where_of stmt) who h may).marks
+good_runs_if h l now who stmt (Err refusal) is = good_refused h who refusal
+good_runs_if h l now who stmt (Ok _) is = of (takes_sight (where_of stmt) (session h who).sight)
   where
     of : (b : Bool) → Chain h (if b then looking who (settled who (session (looked who ∷ h) who) (form (database_of (looked who ∷ h)) (shown_in (looked who ∷ h)) now who stmt))
         else settled who (session h who) (form (database_of h) (shown_in h) now who stmt)).marks
-    of true = more (looks who) (good_form (looked who ∷ h) (next l (looks who)) now who stmt)
-    of false = good_form h l now who stmt
+    of true = more (looks who) (good_form (looked who ∷ h) (next l (looks who)) now who stmt (ap is_ok is))
+    of false = good_form h l now who stmt (ap is_ok is)
 
 good_statement : (h : History) → Legal h → (now : ℤ) (who : ℕ) (stmt : Stmt) → Chain h (statement database_by_history h now who stmt).marks
-good_statement h l now who stmt = good_runs_if h l now who stmt (allowed (is_waiting who (waiting h)) (block who h) (where_of stmt))
+good_statement h l now who stmt = good_runs_if h l now who stmt (allowed (is_waiting who (waiting h)) (block who h) (where_of stmt)) refl
 
 -- a place that reads as its past does, and where what a statement on rows does that may come there still may once its
 -- writes are told of
@@ -273,8 +271,9 @@ good_then r past reads p l turn rest chain also =
     (subst (λ h. Chain h (rest (behind_marks r p turn.marks)).marks) (past-behind r past reads p turn.marks)
     (also (behind_marks r p turn.marks) (subst Legal (sym (past-behind r past reads p turn.marks)) (legal_behind (past p) turn.marks l chain))))
 
-good_resumed : {P : Type 0} (r : PartReader P) (past : P → History) → ReadsPast r past → (p : P) → Legal (past p) → (w : Waiting) → Chain (past p) (resumed r p w).marks
-good_resumed {P = P} r past reads p l w =
+good_resumed : {P : Type 0} (r : PartReader P) (past : P → History) → ReadsPast r past → (p : P) → Legal (past p) → (w : Waiting) → ready (r.part p) ≡ Some w
+    → Chain (past p) (resumed r p w).marks
+good_resumed {P = P} r past reads p l w is =
     more (ends_waiting w.who) (subst (λ h. Chain h (attempted r w ((r.part p).attempt w.who) behind).marks) gone (good_told r past reads behind legal w.who _ (attempts-rows (r.part behind) ((r.rows behind).key w.who w.table w.key) w.who w.table w.key ((r.part p).attempt w.who)) tried))
   where
     behind : P
@@ -286,18 +285,27 @@ good_resumed {P = P} r past reads p l w =
     legal : Legal (past behind)
     legal = subst Legal (sym gone) (next l (ends_waiting w.who))
 
-    tried : Good (past behind) w.who (attempts (r.part behind) ((r.rows behind).key w.who w.table w.key) w.who w.table w.key ((r.part p).attempt w.who))
-    tried = subst (λ d. Good (past behind) w.who (attempts d ((r.rows behind).key w.who w.table w.key) w.who w.table w.key ((r.part p).attempt w.who))) (sym (reads.part behind))
-        (good_attempts (past behind) w.who w.table w.key ((r.rows behind).key w.who w.table w.key) ((r.part p).attempt w.who))
+    -- it no longer waits, and what it attempts fits as it did when it began to wait
+    may : MayWait (part_of (past behind)) w.who w.table w.key ((r.part p).attempt w.who)
+    may =
+        subst (λ h. MayWait (part_of h) w.who w.table w.key ((r.part p).attempt w.who)) (sym gone)
+        (subst (λ (d : RowPart). MayWait (part_of (tabled (waited w.who) ∷ past p)) w.who w.table w.key (d.attempt w.who)) (sym (reads.part p))
+        (may_go_on (past p) l w (ap ready (sym (reads.part p)) ∙ is)))
 
-good_goes_on : {P : Type 0} (r : PartReader P) (past : P → History) → ReadsPast r past → (p : P) → Legal (past p) → (rest : P → Turn) (o : Option Waiting)
+    tried : Good (past behind) w.who (attempts (r.part behind) ((r.rows behind).key w.who w.table w.key) w.who w.table w.key ((r.part p).attempt w.who))
+    tried =
+        subst (λ d. Good (past behind) w.who (attempts d ((r.rows behind).key w.who w.table w.key) w.who w.table w.key ((r.part p).attempt w.who))) (sym (reads.part behind))
+        (subst (λ (rows : RowsShown). Good (past behind) w.who (attempts (part_of (past behind)) (rows.key w.who w.table w.key) w.who w.table w.key ((r.part p).attempt w.who))) (sym (reads.rows behind))
+        (good_attempts (past behind) legal w.who w.table w.key ((r.part p).attempt w.who) may))
+
+good_goes_on : {P : Type 0} (r : PartReader P) (past : P → History) → ReadsPast r past → (p : P) → Legal (past p) → (rest : P → Turn) (o : Option Waiting) → ready (r.part p) ≡ o
     → ((q : P) → Legal (past q) → Chain (past q) (rest q).marks) → Chain (past p) (goes_on r p rest o).marks
-good_goes_on r past reads p l rest None also = done
-good_goes_on r past reads p l rest (Some w) also = good_then r past reads p l (resumed r p w) rest (good_resumed r past reads p l w) also
+good_goes_on r past reads p l rest None is also = done
+good_goes_on r past reads p l rest (Some w) is also = good_then r past reads p l (resumed r p w) rest (good_resumed r past reads p l w is) also
 
 good_settles : {P : Type 0} (r : PartReader P) (past : P → History) → ReadsPast r past → (n : ℕ) (p : P) → Legal (past p) → Chain (past p) (settles r n p).marks
 good_settles r past reads zero p l = done
-good_settles r past reads (suc n) p l = good_goes_on r past reads p l (settles r n) (ready (r.part p)) (good_settles r past reads n)
+good_settles r past reads (suc n) p l = good_goes_on r past reads p l (settles r n) (ready (r.part p)) refl (good_settles r past reads n)
 
 -- a turn with those that it lets go on, at a place that reads as its past
 pub good_with_settling-by : {P : Type 0} (r : PartReader P) (past : P → History) → ReadsPast r past → (p : P) → Legal (past p) → (turn : Turn) → Chain (past p) turn.marks
@@ -305,129 +313,38 @@ pub good_with_settling-by : {P : Type 0} (r : PartReader P) (past : P → Histor
 good_with_settling-by r past reads p l turn chain = good_then r past reads p l turn (settling r) chain (λ q legal. good_settles r past reads (length (r.part q).waiting) q legal)
 
 good_row_runs : {P : Type 0} (r : PartReader P) (past : P → History) → ReadsPast r past → (p : P) → Legal (past p) → (who : ℕ) (stmt : RowStmt) (may : Checked (Unit {0}))
-    → Chain (past p) (runs_if (row_making r who stmt) (where_of_row stmt) who p may).marks
-good_row_runs r past reads p l who stmt (Err refusal) =
+    → allowed (is_waiting who (r.part p).waiting) ((r.part p).session who).block (where_of_row stmt) ≡ may → Chain (past p) (runs_if (row_making r who stmt) (where_of_row stmt) who p may).marks
+good_row_runs r past reads p l who stmt (Err refusal) is =
     subst (λ (d : RowPart). Chain (past p) (abort who (d.session who).block (d.session who).txid refusal)) (sym (reads.part p)) (good_refused (past p) who refusal)
-good_row_runs {P = P} r past reads p l who stmt (Ok _) = of (takes_sight (where_of_row stmt) ((r.part p).session who).sight)
+good_row_runs {P = P} r past reads p l who stmt (Ok _) is = of (takes_sight (where_of_row stmt) ((r.part p).session who).sight)
   where
     behind : P
     behind = r.behind p (looked who)
 
-    runs_at : (q : P) → Legal (past q) → Chain (past q) (settled who ((r.part q).session who) (r.tells q (row_form (r.part q) (r.rows q) who stmt))).marks
-    runs_at q legal = good_told r past reads q legal who _ (form-rows (r.part q) (r.rows q) who stmt)
+    stands : MayStand (past p) who (where_of_row stmt)
+    stands = ap is_ok (ap (λ (d : RowPart). allowed (is_waiting who d.waiting) (d.session who).block (where_of_row stmt)) (sym (reads.part p)) ∙ is)
+
+    runs_at : (q : P) → Legal (past q) → MayStand (past q) who (where_of_row stmt) → Chain (past q) (settled who ((r.part q).session who) (r.tells q (row_form (r.part q) (r.rows q) who stmt))).marks
+    runs_at q legal stands = good_told r past reads q legal who _ (form-rows (r.part q) (r.rows q) who stmt)
         (subst (λ d. Good (past q) who (row_form d (r.rows q) who stmt)) (sym (reads.part q))
-        (subst (λ rows. Good (past q) who (row_form (part_of (past q)) rows who stmt)) (sym (reads.rows q)) (good_row_form (past q) who stmt)))
+        (subst (λ rows. Good (past q) who (row_form (part_of (past q)) rows who stmt)) (sym (reads.rows q)) (good_row_form (past q) legal who stmt stands)))
 
     of : (b : Bool) → Chain (past p) (if b then looking who (settled who ((r.part behind).session who) (r.tells behind (row_form (r.part behind) (r.rows behind) who stmt)))
         else settled who ((r.part p).session who) (r.tells p (row_form (r.part p) (r.rows p) who stmt))).marks
     of true =
         more (looks who) (subst (λ h. Chain h (settled who ((r.part behind).session who) (r.tells behind (row_form (r.part behind) (r.rows behind) who stmt))).marks) (reads.behind p (looked who))
-        (runs_at behind (subst Legal (sym (reads.behind p (looked who))) (next l (looks who)))))
-    of false = runs_at p l
+        (runs_at behind (subst Legal (sym (reads.behind p (looked who))) (next l (looks who)))
+        (subst (λ h. MayStand h who (where_of_row stmt)) (sym (reads.behind p (looked who))) stands)))
+    of false = runs_at p l stands
 
 -- and a statement on rows with those that it lets go on
 pub good_row_turn-by : {P : Type 0} (r : PartReader P) (past : P → History) → ReadsPast r past → (p : P) → Legal (past p) → (who : ℕ) (stmt : RowStmt)
     → Chain (past p) (row_turn r p who stmt).marks
 good_row_turn-by r past reads p l who stmt =
     good_with_settling-by r past reads p l (turn_of who (row_statement r p who stmt))
-    (good_row_runs r past reads p l who stmt (allowed (is_waiting who (r.part p).waiting) ((r.part p).session who).block (where_of_row stmt)))
+    (good_row_runs r past reads p l who stmt (allowed (is_waiting who (r.part p).waiting) ((r.part p).session who).block (where_of_row stmt)) refl)
 
--- the same of a history
-pub good_row_turn : (h : History) → Legal h → (who : ℕ) (stmt : RowStmt) → Chain h (row_turn part_by_history h who stmt).marks
-good_row_turn h l who stmt = good_row_turn-by part_by_history (λ h. h) history-reads h l who stmt
-
--- and of a whole database by its history
+-- so may a statement of a whole database by its history
 pub good_turn : (h : History) → Legal h → (now : ℤ) (who : ℕ) (stmt : Stmt) → Chain h (database_turn database_by_history h now who stmt).marks
 good_turn h l now who stmt =
     good_with_settling-by (within_part database_by_history now) (λ g. g) (database-reads now) h l (turn_of who (statement database_by_history h now who stmt)) (good_statement h l now who stmt)
-
--- the history of each database is legal
-abbrev pub AllLegal : Past → Type 0
-AllLegal past = (d : ℕ) → Legal (history_in past d)
-
-pub legal_mark : (past : Past) (d : ℕ) (mark : Mark) → Fine (history_in past d) mark → AllLegal past → AllLegal (within d mark ∷ past)
-legal_mark past d mark fine all n = of (d == n) refl
-  where
-    of : (b : Bool) → (d == n) ≡ b → Legal (if b then mark ∷ history_in past n else history_in past n)
-    of true e = (let same : d ≡ n = grind (arith, nat_tests) in next (all n) (subst (λ m. Fine (history_in past m) mark) same fine))
-    of false e = all n
-
-legal_marks : (past : Past) (d : ℕ) (marks : List Mark) → Chain (history_in past d) marks → AllLegal past → AllLegal (on_top past (map (within d) marks))
-legal_marks past d [] done all = all
-legal_marks past d (mark ∷ marks) (more fine chain) all =
-    legal_marks (within d mark ∷ past) d marks
-    (subst (λ b. Chain (if b then mark ∷ history_in past d else history_in past d) marks) (sym same) chain)
-    (legal_mark past d mark fine all)
-  where
-    same : (d == d) ≡ true
-    same = grind (arith, nat_tests)
-
-legal_leaving : (past : Past) (who : ℕ) (facts : List Fact) (leaving : Bool) → AllLegal (on_top past facts) → AllLegal (on_top past (facts ++ (if leaving then left who ∷ [] else [])))
-legal_leaving past who facts true all = subst AllLegal (sym (on_top-append past facts (left who ∷ []))) all
-legal_leaving past who facts false all = subst AllLegal (sym (on_top-append past facts [])) all
-
-legal_if : (past : Past) (b : Bool) (x y : Deed) → AllLegal (on_top past x.facts) → AllLegal (on_top past y.facts) → AllLegal (on_top past (if b then x else y).facts)
-legal_if past true x y all also = all
-legal_if past false x y all also = also
-
-legal_unopened : (past : Past) (w : World) (who : ℕ) (stmt : Stmt) → AllLegal past → AllLegal (on_top past (unopened w who stmt).facts)
-legal_unopened past w who stmt all d = subst Legal (sym (unopened-within past w who stmt d)) (all d)
-
--- in the past a statement reads its database's history
-same-within : (past : Past) (d : ℕ) (now : ℤ) (who : ℕ) (stmt : Stmt) → statement (within_database by_past d) past now who stmt ≡ statement database_by_history (history_in past d) now who stmt
-same-within past d now who stmt =
-    same-made_by (making (within_database by_past d) now who stmt) (making database_by_history now who stmt) (where_of stmt) who past (history_in past d) (record {
-      sessions = refl;
-      waiting = refl;
-      outcomes = refl;
-      sessions_behind = ap (λ b. session (if b then looked who ∷ history_in past d else history_in past d) who) (same-session d);
-      outcomes_behind = ap (λ b. form (database_of (if b then looked who ∷ history_in past d else history_in past d)) (shown_in (if b then looked who ∷ history_in past d else history_in past d)) now who stmt) (same-session d);
-    })
-
-in-database : (d : ℕ) (now : ℤ) → ReadAlike (within_part (within_database by_past d) now) (within_part database_by_history now) Any (λ past h. history_in past d ≡ h)
-in-database d now = record {
-  parts = λ past h is. ap part_of is;
-  rows = λ past h is. ap rows_in is;
-  tells = λ past h is. λ i checked. tells (database_of (is i)) now checked;
-  behind = λ past h mark is _. ap (λ b. if b then mark ∷ history_in past d else history_in past d) (same-session d) ∙ ap (λ g. mark ∷ g) is;
-}
-
--- and what it lets go on does
-pub same-turn-within : (past : Past) (d : ℕ) (now : ℤ) (who : ℕ) (stmt : Stmt) → database_turn (within_database by_past d) past now who stmt ≡ database_turn database_by_history (history_in past d) now who stmt
-same-turn-within past d now who stmt =
-    same-with_settling (within_part (within_database by_past d) now) (within_part database_by_history now) Any (λ p h. history_in p d ≡ h) (in-database d now) past (history_in past d) _ _ refl
-    (ap (turn_of who) (same-within past d now who stmt)) (each-any (within_part (within_database by_past d) now) past _)
-
-pub good_turn-within : (past : Past) → AllLegal past → (d : ℕ) (now : ℤ) (who : ℕ) (stmt : Stmt) → Chain (history_in past d) (database_turn (within_database by_past d) past now who stmt).marks
-good_turn-within past all d now who stmt =
-    subst (λ (turn : Turn). Chain (history_in past d) turn.marks) (sym (same-turn-within past d now who stmt)) (good_turn (history_in past d) (all d) now who stmt)
-
-legal_session : (past : Past) (who : ℕ) (stmt : Stmt) (at : Option ℕ) → AllLegal past → AllLegal (on_top past (session_does by_past past who stmt at).facts)
-legal_session past who stmt None all = legal_unopened past (world_of past) who stmt all
-legal_session past who stmt (Some d) all =
-    legal_leaving past who (map (within d) (database_turn (within_database by_past d) past (world_of past).now who stmt).marks)
-    (is_leaving (is_waiting who ((world_of past).database d).part.waiting) stmt)
-    (legal_marks past d (database_turn (within_database by_past d) past (world_of past).now who stmt).marks (good_turn-within past all d (world_of past).now who stmt) all)
-
--- a turn, and one behind another
-legal_turn : (past : Past) (who : ℕ) (stmt : Stmt) → AllLegal past → AllLegal (on_top past (turn by_past who stmt past).facts)
-legal_turn past who stmt all = legal_session past who stmt (home past who) all
-
-legal_followed : (past : Past) (rest : Past → Deed) (deed : Deed) → AllLegal (on_top past deed.facts)
-    → ((later : Past) → AllLegal later → AllLegal (on_top later (rest later).facts)) → AllLegal (on_top past (followed by_past past rest deed).facts)
-legal_followed past rest deed all also =
-    subst AllLegal (sym (on_top-append past deed.facts (rest (on_top past deed.facts)).facts)) (also (on_top past deed.facts) all)
-
-legal_called : (past : Past) (call : Call) (found : Option ℕ) → AllLegal past → AllLegal (on_top past (called by_past past call found).facts)
-legal_called past call (Some who) all = legal_turn past who call.stmt all
-legal_called past call None all =
-    legal_if past (nat_le 256 (length (session_names past))) _ _ all
-    (legal_followed past (turn by_past (length (session_names past)) call.stmt) (appears call.who) all
-    (λ later legal. legal_turn later (length (session_names past)) call.stmt legal))
-
-pub legal_after : (past : Past) (call : Call) → AllLegal past → AllLegal (after past call)
-legal_after past call all = legal_called past call (place_of call.who (session_names past)) all
-
-pub legal_past : (calls : List Call) → AllLegal (past_of calls)
-legal_past [] = λ d. start
-legal_past (call ∷ calls) = legal_after (past_of calls) call (legal_past calls)

@@ -1,5 +1,5 @@
 -- The statements on sessions, transactions, tables and rows leave a legal history legal.
-use Rattle.std.proofs.Common.{◌≡◌, ℕ, ◌^◌, List, [], ◌∷◌, ◌++◌, Bool, true, false, nat_le, Option, Some, None, Ok, option_map, length, is_some, refl, ap, if◌then◌else◌}
+use Rattle.std.proofs.Common.{◌≡◌, ℕ, ◌^◌, ◌<◌, List, [], ◌∷◌, ◌++◌, Bool, true, false, nat_le, Option, Some, None, Ok, is_ok, IfSome, option_map, length, is_some, refl, sym, ◌∙◌, ap, if◌then◌else◌}
 use Rattle.std.specs.Prelude.{find}
 use Rattle.sky_val.specs.declared.val.Val.{Val}
 use Rattle.sky_val.specs.declared.column.Column.{Column}
@@ -15,21 +15,27 @@ use Rattle.sky_model.specs.declared.reply.Limit.TheVariants.{Tables}
 use Rattle.sky_model.specs.declared.reply.Refusal.TheVariants.{AlreadyOpen, BadRow, BadSnapshot, Canceled, Deadlock, Duplicate, KeyChange, NoTable, Serialize, TableExists, TooMany, TxidsSpent}
 use Rattle.sky_model.specs.declared.stmt.Attempt.{Attempt}
 use Rattle.sky_model.specs.declared.stmt.Attempt.TheVariants.{Insertion, Changes, Deletion}
-use Rattle.sky_model.specs.History.{began, tabled, wrote, waited, History}
+use Rattle.sky_model.specs.History.{of_session, began, tabled, wrote, waited, History}
 use Rattle.sky_model.specs.Transactions.{next_txid}
 use Rattle.sky_model.specs.Sessions.{Block, outside, inside, failed, block, own_txid}
 use Rattle.sky_model.specs.Rows.{table_names, columns_of}
 use Rattle.sky_model.specs.Locks.{holder, waiting}
 use Rattle.sky_model.specs.State.{part_of}
-use Rattle.sky_model.specs.ShownRows.{KeyShown, rows_in}
+use Rattle.sky_model.specs.ShownRows.{rows_in}
 use Rattle.sky_model.specs.Outcome.{Outcome, Checked, ◌>>=◌, does_marks}
 use Rattle.sky_model.specs.OwnTransaction.{own_or_next, begin_of, commit_of}
 use Rattle.sky_model.specs.StepLocks.{ring, once_free}
 use Rattle.sky_model.specs.StepRows.{schema_refusal, create_table, bad_values, bad_sets, is_key_change, writes_key, changes, attempts, insert, update, delete, row_or_none, get}
 use Rattle.sky_model.specs.StepSession.{begin, begin_repeatable_read, leaves, commit, rollback, close, cancel}
 use Rattle.sky_model.specs.Calls.{row_form}
-use Rattle.sky_model.proofs.Legal.{begins, ends, begins_block, repeats_block, ends_block, makes_table, writes, begins_waiting, ends_waiting, Chain, done, more}
-use Rattle.sky_model.proofs.Good.{Good, same-session, good_refused, good_test, good_test_then, good_found, good_refused_by, good_checked, good_commits}
+use Rattle.sky_model.specs.Allowed.{where_of_row, allowed}
+use Rattle.sky_model.specs.LawsOfWrites.{IsRowOf}
+use Rattle.sky_model.specs.declared.stmt.Where.TheVariants.{WhenReading}
+use Rattle.sky_names.proofs.PlaceLemmas.{place_of_within}
+use Rattle.sky_model.proofs.Legal.{MayWait, Legal, begins, ends, begins_block, repeats_block, ends_block, makes_table, writes, begins_waiting, ends_waiting, Chain, done, more}
+use Rattle.sky_model.proofs.SetsFit.{sets-fit, none-fits, changes-fit}
+use Rattle.sky_model.proofs.SeenRows.{seen-stands, stands-by, stands-begun}
+use Rattle.sky_model.proofs.Good.{MayStand, Good, same-session, good_refused, good_test, good_test_then, good_found, good_refused_by, good_checked, good_commits}
 
 good_begin : (h : History) (who : ℕ) (b : Block) → block who h ≡ b → Good h who (begin who b)
 good_begin h who outside is = more (begins_block who is) done
@@ -68,68 +74,111 @@ good_txid_current : (h : History) (who : ℕ) (o : Option ℕ) → own_txid who 
     → Good h who (own_or_next (part_of h) o >>= (λ t. does_marks (Number t) (begin_of who t o ++ [] ++ commit_of who t (block who h))))
 good_txid_current h who None none =
     good_test_then h who (nat_le (2 ^ 62) (next_txid h)) TxidsSpent (next_txid h) _
-    (more (begins who none) (good_commits (began who (next_txid h) ∷ h) who (next_txid h) (block who h) (ap (λ b. if b then Some (next_txid h) else own_txid who h) (same-session who))))
+    (more (begins who none) (good_commits (began (of_session who) (next_txid h) ∷ h) who (next_txid h) (block who h) (ap (λ b. if b then Some (next_txid h) else own_txid who h) (same-session who))))
 good_txid_current h who (Some t) mine = good_commits h who t (block who h) mine
 
-good_writes_key : (h : History) (who table : ℕ) (key : List Val) (old new : Option (List Val)) → other_than who (holder table key h) ≡ None
+-- a statement that may stand where only one that reads may is made by a session that doesn't wait
+quiet-reading : (h : History) (who : ℕ) → MayStand h who WhenReading → is_waiting who (waiting h) ≡ false
+quiet-reading h who may = of (is_waiting who (waiting h)) may
+  where
+    of : (b : Bool) → is_ok (allowed b (block who h) WhenReading) ≡ true → b ≡ false
+    of true e = absurd (cc)
+    of false e = refl
+
+-- a write in a table that there is, over the row that stands; if that is one of the table, so is the new one
+good_writes_key : (h : History) → Legal h → (who table : ℕ) (key : List Val) (old new : Option (List Val)) → other_than who (holder table key h) ≡ None → table < length (table_names h)
+    → ((rows_in h).key who table key).standing ≡ old → (IfSome old (IsRowOf (columns_of table h) key) → IfSome new (IsRowOf (columns_of table h) key))
     → Good h who (writes_key (part_of h) who table key old new)
-good_writes_key h who table key old new free = by_own (own_txid who h) refl
+good_writes_key h l who table key old new free within stands fits = by_own (own_txid who h) refl
   where
     by_own : (o : Option ℕ) → own_txid who h ≡ o → Good h who (own_or_next (part_of h) o >>= (λ t.
-        does_marks (Number 1) (begin_of who t o ++ (tabled (wrote who t table key old new) ∷ []) ++ commit_of who t (block who h))))
+        does_marks (Number 1) (begin_of who t o ++ (tabled (wrote (of_session who) t table key old new) ∷ []) ++ commit_of who t (block who h))))
     by_own None none =
-        let mine : own_txid who (began who (next_txid h) ∷ h) ≡ Some (next_txid h) = ap (λ b. if b then Some (next_txid h) else own_txid who h) (same-session who) in
+        let mine : own_txid who (began (of_session who) (next_txid h) ∷ h) ≡ Some (next_txid h) = ap (λ b. if b then Some (next_txid h) else own_txid who h) (same-session who) in
         good_test_then h who (nat_le (2 ^ 62) (next_txid h)) TxidsSpent (next_txid h) _
         (more (begins who none)
-        (more (writes who (next_txid h) table key old new mine free)
-        (good_commits (tabled (wrote who (next_txid h) table key old new) ∷ began who (next_txid h) ∷ h) who (next_txid h) (block who h) mine)))
-    by_own (Some t) mine = more (writes who t table key old new mine free) (good_commits (tabled (wrote who t table key old new) ∷ h) who t (block who h) mine)
+        (more (writes who (next_txid h) table key old new mine free (record { within = within; stands = stands-begun h l who table key old none stands; fits = fits }))
+        (good_commits (tabled (wrote (of_session who) (next_txid h) table key old new) ∷ began (of_session who) (next_txid h) ∷ h) who (next_txid h) (block who h) mine)))
+    by_own (Some t) mine =
+        more (writes who t table key old new mine free (record { within = within; stands = stands-by h l who table key old stands; fits = fits }))
+        (good_commits (tabled (wrote (of_session who) t table key old new) ∷ h) who t (block who h) mine)
 
 -- what is done once a key is free
-good_once_free : (h : History) (who table : ℕ) (key : List Val) (attempt : Attempt) (c : Checked Outcome) → (other_than who (holder table key h) ≡ None → Good h who c)
+good_once_free : (h : History) (who table : ℕ) (key : List Val) (attempt : Attempt) (c : Checked Outcome) → MayWait (part_of h) who table key attempt
+    → (other_than who (holder table key h) ≡ None → Good h who c)
     → Good h who (once_free (part_of h) who table key attempt (other_than who (holder table key h)) c)
-good_once_free h who table key attempt c good = of (other_than who (holder table key h)) refl
+good_once_free h who table key attempt c may good = of (other_than who (holder table key h)) refl
   where
     of : (o : Option ℕ) → other_than who (holder table key h) ≡ o → Good h who (once_free (part_of h) who table key attempt o c)
     of None free = good free
-    of (Some v) is = good_refused_by h who (option_map Deadlock (ring (part_of h) who v)) _ (λ _. more (begins_waiting who table key attempt) done)
+    of (Some v) is = good_refused_by h who (option_map Deadlock (ring (part_of h) who v)) _ (λ _. more (begins_waiting who table key attempt may) done)
 
-good_changes : (h : History) (who table : ℕ) (key : List Val) (attempt : Attempt) (shown : KeyShown) (new_of : List Val → Checked (Option (List Val))) (row : Option (List Val))
-    → Good h who (changes (part_of h) shown who table key attempt new_of row)
-good_changes h who table key attempt shown new_of None = done
-good_changes h who table key attempt shown new_of (Some row) =
-    good_once_free h who table key attempt _ (λ free.
-    good_refused_by h who (option_map Serialize shown.unseen) _ (λ _.
-    good_checked h who (new_of row) _ (λ new.
-    good_writes_key h who table key (Some row) new free)))
+no-one : {A B : Type 0} (f : A → B) (o : Option A) → option_map f o ≡ None → o ≡ None
+no-one f None e = refl
+no-one f (Some a) e = absurd (cc)
 
-pub good_attempts : (h : History) (who table : ℕ) (key : List Val) (shown : KeyShown) (attempt : Attempt) → Good h who (attempts (part_of h) shown who table key attempt)
-good_attempts h who table key shown (Insertion row) =
-    good_once_free h who table key (Insertion row) _ (λ free.
-    good_test h who (is_some shown.standing) Duplicate _ (λ _.
-    good_writes_key h who table key None (Some row) free))
-good_attempts h who table key shown (Changes sets) = good_changes h who table key (Changes sets) shown _ shown.row
-good_attempts h who table key shown Deletion = good_changes h who table key Deletion shown (λ row. Ok None) shown.row
+nothing : {A : Type 0} (o : Option A) → is_some o ≡ false → o ≡ None
+nothing None e = refl
+nothing (Some a) e = absurd (cc)
 
-good_insert : (h : History) (who : ℕ) (name : List ℕ) (row : List Val) → Good h who (insert (part_of h) (rows_in h) who name row)
-good_insert h who name row =
-    good_found h who (place_of name (table_names h)) (NoTable name) _ (λ table _.
-    good_refused_by h who (option_map (bad_values (columns_of table h)) (row_fault (columns_of table h) row)) _ (λ _.
-    good_attempts h who table (key_of (columns_of table h) row) ((rows_in h).key who table (key_of (columns_of table h) row)) (Insertion row)))
+good_changes : (h : History) → Legal h → (who table : ℕ) (key : List Val) (attempt : Attempt) → MayWait (part_of h) who table key attempt
+    → (new_of : List Val → Checked (Option (List Val)))
+    → ((row : List Val) (new : Option (List Val)) → new_of row ≡ Ok new → IsRowOf (columns_of table h) key row → IfSome new (IsRowOf (columns_of table h) key))
+    → (row : Option (List Val)) → ((rows_in h).key who table key).row ≡ row
+    → Good h who (changes (part_of h) ((rows_in h).key who table key) who table key attempt new_of row)
+good_changes h l who table key attempt may new_of fits None is = done
+good_changes h l who table key attempt may new_of fits (Some row) is =
+    good_once_free h who table key attempt _ may (λ free.
+    good_refused_by h who (option_map Serialize ((rows_in h).key who table key).unseen) _ (λ seen.
+    good_checked h who (new_of row) _ (λ new same.
+    good_writes_key h l who table key (Some row) new free may.within
+    (sym (seen-stands h l who table key (no-one Serialize ((rows_in h).key who table key).unseen seen)) ∙ is)
+    (fits row new same))))
 
-good_update : (h : History) (who : ℕ) (name : List ℕ) (key : List Val) (sets : List Set) → Good h who (update (part_of h) (rows_in h) who name key sets)
-good_update h who name key sets =
-    good_found h who (place_of name (table_names h)) (NoTable name) _ (λ table _.
+pub good_attempts : (h : History) → Legal h → (who table : ℕ) (key : List Val) (attempt : Attempt) → MayWait (part_of h) who table key attempt
+    → Good h who (attempts (part_of h) ((rows_in h).key who table key) who table key attempt)
+good_attempts h l who table key (Insertion row) may =
+    good_once_free h who table key (Insertion row) _ may (λ free.
+    good_test h who (is_some ((rows_in h).key who table key).standing) Duplicate _ (λ none.
+    good_writes_key h l who table key None (Some row) free may.within (nothing ((rows_in h).key who table key).standing none) (λ _. may.fits)))
+good_attempts h l who table key (Changes sets) may =
+    good_changes h l who table key (Changes sets) may _ (sets-fit (columns_of table h) key sets may.fits) ((rows_in h).key who table key).row refl
+good_attempts h l who table key Deletion may =
+    good_changes h l who table key Deletion may (λ row. Ok None) (λ row new same _. none-fits (columns_of table h) key new same) ((rows_in h).key who table key).row refl
+
+good_insert : (h : History) → Legal h → (who : ℕ) → is_waiting who (waiting h) ≡ false → (name : List ℕ) (row : List Val) → Good h who (insert (part_of h) (rows_in h) who name row)
+good_insert h l who quiet name row =
+    good_found h who (place_of name (table_names h)) (NoTable name) _ (λ table there.
+    good_refused_by h who (option_map (bad_values (columns_of table h)) (row_fault (columns_of table h) row)) _ (λ fits.
+    good_attempts h l who table (key_of (columns_of table h) row) (Insertion row) (record {
+      within = place_of_within name (table_names h) table there;
+      fits = (no-one (bad_values (columns_of table h)) (row_fault (columns_of table h) row) fits, refl);
+      quiet = quiet;
+    })))
+
+good_update : (h : History) → Legal h → (who : ℕ) → is_waiting who (waiting h) ≡ false → (name : List ℕ) (key : List Val) (sets : List Set)
+    → Good h who (update (part_of h) (rows_in h) who name key sets)
+good_update h l who quiet name key sets =
+    good_found h who (place_of name (table_names h)) (NoTable name) _ (λ table there.
     good_refused_by h who (option_map (bad_values (key_columns (columns_of table h))) (row_fault (key_columns (columns_of table h)) key)) _ (λ _.
-    good_refused_by h who (option_map BadRow (bad_sets (columns_of table h) [] sets)) _ (λ _.
-    good_refused_by h who (option_map (λ (set : Set). KeyChange set.column) (find (is_key_change (columns_of table h)) sets)) _ (λ _.
-    good_attempts h who table key ((rows_in h).key who table key) (Changes sets)))))
+    good_refused_by h who (option_map BadRow (bad_sets (columns_of table h) [] sets)) _ (λ well.
+    good_refused_by h who (option_map (λ (set : Set). KeyChange set.column) (find (is_key_change (columns_of table h)) sets)) _ (λ stays.
+    good_attempts h l who table key (Changes sets) (record {
+      within = place_of_within name (table_names h) table there;
+      fits = changes-fit (columns_of table h) [] sets (no-one BadRow (bad_sets (columns_of table h) [] sets) well)
+          (no-one (λ (set : Set). KeyChange set.column) (find (is_key_change (columns_of table h)) sets) stays);
+      quiet = quiet;
+    })))))
 
-good_delete : (h : History) (who : ℕ) (name : List ℕ) (key : List Val) → Good h who (delete (part_of h) (rows_in h) who name key)
-good_delete h who name key =
-    good_found h who (place_of name (table_names h)) (NoTable name) _ (λ table _.
-    good_refused_by h who (option_map (bad_values (key_columns (columns_of table h))) (row_fault (key_columns (columns_of table h)) key)) _ (λ _.
-    good_attempts h who table key ((rows_in h).key who table key) Deletion))
+good_delete : (h : History) → Legal h → (who : ℕ) → is_waiting who (waiting h) ≡ false → (name : List ℕ) (key : List Val) → Good h who (delete (part_of h) (rows_in h) who name key)
+good_delete h l who quiet name key =
+    good_found h who (place_of name (table_names h)) (NoTable name) _ (λ table there.
+    good_refused_by h who (option_map (bad_values (key_columns (columns_of table h))) (row_fault (key_columns (columns_of table h)) key)) _ (λ fits.
+    good_attempts h l who table key Deletion (record {
+      within = place_of_within name (table_names h) table there;
+      fits = no-one (bad_values (key_columns (columns_of table h))) (row_fault (key_columns (columns_of table h)) key) fits;
+      quiet = quiet;
+    })))
 
 good_row_or_none : (h : History) (who : ℕ) (row : Option (List Val)) → Good h who (row_or_none row)
 good_row_or_none h who None = done
@@ -146,26 +195,23 @@ good_create_table h who name columns =
     good_test h who (is_some (place_of name (table_names h))) (TableExists name) _ (λ new.
     good_test h who (nat_le 64 (length (table_names h))) (TooMany Tables) _ (λ _.
     good_refused_by h who (option_map (schema_refusal columns) (schema_fault columns)) _ (λ _.
-    more (makes_table name columns (none-there (place_of name (table_names h)) new)) done)))
-  where
-    none-there : (o : Option ℕ) → is_some o ≡ false → o ≡ None
-    none-there None e = refl
-    none-there (Some n) e = absurd (cc)
+    more (makes_table name columns (nothing (place_of name (table_names h)) new)) done)))
 
-pub good_row_form : (h : History) (who : ℕ) (stmt : RowStmt) → Good h who (row_form (part_of h) (rows_in h) who stmt)
-good_row_form h who (OpenDb name) = good_refused h who AlreadyOpen
-good_row_form h who Close = good_close h who (block who h)
-good_row_form h who Cancel = good_cancel h who (is_waiting who (waiting h))
-good_row_form h who Begin = good_begin h who (block who h) refl
-good_row_form h who BeginRepeatableRead = good_begin_repeatable_read h who (block who h) refl
-good_row_form h who Commit = good_commit h who (block who h)
-good_row_form h who Rollback = good_rollback h who (block who h)
-good_row_form h who TxidCurrent = good_txid_current h who (own_txid who h) refl
-good_row_form h who TxidCurrentSnapshot = done
-good_row_form h who (TxidVisibleInSnapshot txid snapshot) = good_found h who (parse_snapshot snapshot) BadSnapshot _ (λ s _. done)
-good_row_form h who (CreateTable table columns) = good_create_table h who table columns
-good_row_form h who (Insert table row) = good_insert h who table row
-good_row_form h who (Update table key sets) = good_update h who table key sets
-good_row_form h who (Delete table key) = good_delete h who table key
-good_row_form h who (Get table key) = good_get h who table key
-good_row_form h who (Scan table) = good_found h who (place_of table (table_names h)) (NoTable table) _ (λ _ _. done)
+-- a statement that its session may make there
+pub good_row_form : (h : History) → Legal h → (who : ℕ) (stmt : RowStmt) → MayStand h who (where_of_row stmt) → Good h who (row_form (part_of h) (rows_in h) who stmt)
+good_row_form h l who (OpenDb name) may = good_refused h who AlreadyOpen
+good_row_form h l who Close may = good_close h who (block who h)
+good_row_form h l who Cancel may = good_cancel h who (is_waiting who (waiting h))
+good_row_form h l who Begin may = good_begin h who (block who h) refl
+good_row_form h l who BeginRepeatableRead may = good_begin_repeatable_read h who (block who h) refl
+good_row_form h l who Commit may = good_commit h who (block who h)
+good_row_form h l who Rollback may = good_rollback h who (block who h)
+good_row_form h l who TxidCurrent may = good_txid_current h who (own_txid who h) refl
+good_row_form h l who TxidCurrentSnapshot may = done
+good_row_form h l who (TxidVisibleInSnapshot txid snapshot) may = good_found h who (parse_snapshot snapshot) BadSnapshot _ (λ s _. done)
+good_row_form h l who (CreateTable table columns) may = good_create_table h who table columns
+good_row_form h l who (Insert table row) may = good_insert h l who (quiet-reading h who may) table row
+good_row_form h l who (Update table key sets) may = good_update h l who (quiet-reading h who may) table key sets
+good_row_form h l who (Delete table key) may = good_delete h l who (quiet-reading h who may) table key
+good_row_form h l who (Get table key) may = good_get h who table key
+good_row_form h l who (Scan table) may = good_found h who (place_of table (table_names h)) (NoTable table) _ (λ _ _. done)

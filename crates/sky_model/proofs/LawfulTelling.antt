@@ -1,22 +1,23 @@
 -- A statement on rows leaves a legal history legal once its writes are told of.
-use Rattle.std.proofs.Common.{◌≡◌, ℕ, ℤ, ◌+◌, ◌<◌, ◌≤◌, ◌^◌, List, [], ◌∷◌, ◌++◌, Bool, true, false, ◌==◌, nat_le, Option, Some, Ok, Err, map, length, refl, sym, ◌∙◌, ap, subst, arith, if◌then◌else◌, length-append}
+use Rattle.std.proofs.Common.{◌≡◌, ℕ, ℤ, ◌+◌, ◌^◌, List, [], ◌∷◌, ◌++◌, Bool, true, false, cond, ◌==◌, nat_le, Option, Some, Ok, Err, map, refl, sym, ◌∙◌, ap, subst, arith, if◌then◌else◌}
 use Rattle.std.specs.Prelude.{filter, not}
 use Rattle.sky_val.specs.declared.val.Val.{Val}
 use Rattle.sky_val.specs.Waits.{other_than}
 use Rattle.sky_names.specs.Places.{place_of}
 use Rattle.sky_urlenc.specs.RowEvents.{Trigger, Write, leaves_out, event_of, RowEvent, events_of}
 use Rattle.sky_model.specs.declared.reply.Refusal.TheVariants.{EventIdsSpent}
-use Rattle.sky_model.specs.History.{Mark, began, tabled, wrote, queued, made, raised, put, traced, History}
+use Rattle.sky_model.specs.History.{Mark, of_session, began, tabled, wrote, queued, made, raised, put, traced, History}
 use Rattle.sky_model.specs.Sessions.{Block, block, own_txid}
-use Rattle.sky_model.specs.Triggers.{NamedTrigger, triggers}
-use Rattle.sky_model.specs.Queues.{queue_names, sequence}
+use Rattle.sky_model.specs.Triggers.{TableTrigger, triggers, triggers_of}
+use Rattle.sky_model.specs.Queues.{NamedQueue, queues_made, queues, sequence}
 use Rattle.sky_model.specs.State.{RowPart, part_of, after_part, database_of, after_mark, after_marks}
 use Rattle.sky_model.specs.Outcome.{Outcome, Checked, ◌>>=◌, ◌>>◌, refused_if, does_marks}
 use Rattle.sky_model.specs.Telling.{write_in, events_in, told_event, event_marks, told_by, told_of, with_told, tells}
 use Rattle.sky_model.specs.Reader.{part_by_history}
 use Rattle.sky_model.specs.Settling.{behind_marks}
-use Rattle.sky_model.specs.RowSteps.{marked}
-use Rattle.sky_model.proofs.Legal.{IsQueue, Fine, begins, ends, begins_block, fails_block, ends_block, repeats_block, looks, makes_table, writes, begins_waiting, ends_waiting, raises, puts, traces, Chain, done, more, Legal, next}
+use Rattle.sky_model.specs.Settling.{marked}
+use Rattle.sky_model.proofs.Legal.{Replaces, MayWait, IsAmong, IsQueue, Fine, begins, ends, begins_block, fails_block, ends_block, repeats_block, looks, makes_table, writes, begins_waiting, ends_waiting, raises, puts, traces, Chain, done, more, Legal, next}
+use Rattle.sky_model.proofs.QueueNumbers.{among-before}
 use Rattle.sky_model.proofs.Marks.{part_of-mark, database_of-mark, database_of-marks}
 use Rattle.sky_model.proofs.Selecting.{events_below-next}
 use Rattle.sky_model.proofs.Good.{Good, same-session, good_refused}
@@ -33,54 +34,57 @@ legal_behind h (mark ∷ marks) l (more fine chain) = legal_behind (mark ∷ h) 
 
 -- ---- the events of triggers go to queues
 
--- the queues of triggers are among so many
-abbrev pub TriggersWithin : ℕ → List NamedTrigger → Type 0
-TriggersWithin count [] = Unit {0}
-TriggersWithin count (t ∷ ts) = t.trigger.queue < count × TriggersWithin count ts
+-- the queues of triggers are among these
+abbrev pub TriggersAmong : List NamedQueue → List TableTrigger → Type 0
+TriggersAmong queues [] = Unit {0}
+TriggersAmong queues (t ∷ ts) = IsAmong t.trigger.queue queues × TriggersAmong queues ts
 
 -- and those of events
-abbrev EventsWithin : ℕ → List RowEvent → Type 0
-EventsWithin count [] = Unit {0}
-EventsWithin count (e ∷ es) = e.queue < count × EventsWithin count es
+abbrev EventsAmong : List NamedQueue → List RowEvent → Type 0
+EventsAmong queues [] = Unit {0}
+EventsAmong queues (e ∷ es) = IsAmong e.queue queues × EventsAmong queues es
 
-within-more : (count later : ℕ) (ts : List NamedTrigger) → count ≤ later → TriggersWithin count ts → TriggersWithin later ts
-within-more count later [] le within = tt
-within-more count later (t ∷ ts) le within = (omega (arith, within.0, le), within-more count later ts le within.1)
+among-more : (queues : List NamedQueue) (last : NamedQueue) (ts : List TableTrigger) → TriggersAmong queues ts → TriggersAmong (queues ++ last ∷ []) ts
+among-more queues last [] among = tt
+among-more queues last (t ∷ ts) among = (among-before queues last t.trigger.queue among.0, among-more queues last ts among.1)
 
-within-push : (count : ℕ) (ts : List NamedTrigger) (t : NamedTrigger) → TriggersWithin count ts → t.trigger.queue < count → TriggersWithin count (ts ++ t ∷ [])
-within-push count [] t within below = (below, tt)
-within-push count (x ∷ xs) t within below = (within.0, within-push count xs t within.1 below)
+among-push : (queues : List NamedQueue) (ts : List TableTrigger) (t : TableTrigger) → TriggersAmong queues ts → IsAmong t.trigger.queue queues → TriggersAmong queues (ts ++ t ∷ [])
+among-push queues [] t among is = (is, tt)
+among-push queues (x ∷ xs) t among is = (among.0, among-push queues xs t among.1 is)
+
+among-of : (queues : List NamedQueue) (table : ℕ) (ts : List TableTrigger) → TriggersAmong queues ts → TriggersAmong queues (triggers_of table ts)
+among-of queues table [] among = tt
+among-of queues table (t ∷ ts) among = of (t.table == table) (among-of queues table ts among.1)
+  where
+    of : (b : Bool) → TriggersAmong queues (triggers_of table ts) → TriggersAmong queues (cond b (t ∷ triggers_of table ts) (triggers_of table ts))
+    of true ih = (among.0, ih)
+    of false ih = ih
 
 below-mark : {h : History} {mark : Mark} → Legal (mark ∷ h) → Legal h
 below-mark (next l fine) = l
 
-traced-queue : {h : History} {table : ℕ} {name : List ℕ} {trigger : Trigger} → Legal (queued (traced table name trigger) ∷ h) → IsQueue h trigger.queue
+traced-queue : {h : History} {table : ℕ} {name : Option (List ℕ)} {trigger : Trigger} → Legal (queued (traced table name trigger) ∷ h) → IsQueue h trigger.queue
 traced-queue (next l (traces table name trigger below is new)) = is
 
--- a table's triggers are of queues that are there
-pub trigger-queues : (h : History) → Legal h → (table : ℕ) → TriggersWithin (length (queue_names h)) (triggers table h)
-trigger-queues [] l table = tt
-trigger-queues (queued (made name) ∷ h) l table =
-    within-more (length (queue_names h)) (length (queue_names h ++ name ∷ [])) (triggers table h) (omega (arith, length-append (queue_names h) (name ∷ []))) (trigger-queues h (below-mark l) table)
-trigger-queues (queued (traced n name trigger) ∷ h) l table = of (n == table) (trigger-queues h (below-mark l) table) (traced-queue l)
-  where
-    of : (b : Bool) → TriggersWithin (length (queue_names h)) (triggers table h) → IsQueue h trigger.queue
-        → TriggersWithin (length (queue_names h)) (if b then triggers table h ++ record { name = name; trigger = trigger } ∷ [] else triggers table h)
-    of true ih is = within-push (length (queue_names h)) (triggers table h) (record { name = name; trigger = trigger }) ih is
-    of false ih is = ih
-trigger-queues (_ ∷ h) l table = trigger-queues h (below-mark l) table
+-- triggers are of queues that stand
+pub trigger-queues : (h : History) → Legal h → TriggersAmong (queues h) (triggers h)
+trigger-queues [] l = tt
+trigger-queues (queued (made name) ∷ h) l = among-more (queues h) (record { number = queues_made h; name = name }) (triggers h) (trigger-queues h (below-mark l))
+trigger-queues (queued (traced table name trigger) ∷ h) l =
+    among-push (queues h) (triggers h) (record { table = table; name = name; trigger = trigger }) (trigger-queues h (below-mark l)) (traced-queue l)
+trigger-queues (_ ∷ h) l = trigger-queues h (below-mark l)
 
 -- so are the events of a write
-events-queues : (count : ℕ) (w : Write) (ts : List NamedTrigger) → TriggersWithin count ts → EventsWithin count (events_of w (map NamedTrigger.trigger ts))
-events-queues count w [] within = tt
-events-queues count w (t ∷ ts) within = of (not (leaves_out t.trigger w.columns w.old w.new)) within.0 (events-queues count w ts within.1)
+events-queues : (queues : List NamedQueue) (w : Write) (ts : List TableTrigger) → TriggersAmong queues ts → EventsAmong queues (events_of w (map TableTrigger.trigger ts))
+events-queues queues w [] among = tt
+events-queues queues w (t ∷ ts) among = of (not (leaves_out t.trigger w.columns w.old w.new)) among.0 (events-queues queues w ts among.1)
   where
     rest : List Trigger
-    rest = filter (λ trigger. not (leaves_out trigger w.columns w.old w.new)) (map NamedTrigger.trigger ts)
+    rest = filter (λ trigger. not (leaves_out trigger w.columns w.old w.new)) (map TableTrigger.trigger ts)
 
-    of : (b : Bool) → t.trigger.queue < count → EventsWithin count (map (event_of w) rest) → EventsWithin count (map (event_of w) (if b then t.trigger ∷ rest else rest))
-    of true below ih = (below, ih)
-    of false below ih = ih
+    of : (b : Bool) → IsAmong t.trigger.queue queues → EventsAmong queues (map (event_of w) rest) → EventsAmong queues (map (event_of w) (if b then t.trigger ∷ rest else rest))
+    of true is ih = (is, ih)
+    of false is ih = ih
 
 -- ---- what is told of a mark may come behind it
 
@@ -89,12 +93,12 @@ abbrev ToldWell : History → Checked (List Mark) → Type 0
 ToldWell h (Ok marks) = Chain h marks × (part_of (marked h marks) ≡ part_of h)
 ToldWell h (Err refusal) = Unit {0}
 
-told-well : (h : History) → Legal h → (now : ℤ) (who t : ℕ) (es : List RowEvent) → own_txid who h ≡ Some t → EventsWithin (length (queue_names h)) es
+told-well : (h : History) → Legal h → (now : ℤ) (who t : ℕ) (es : List RowEvent) → own_txid who h ≡ Some t → EventsAmong (queues h) es
     → ToldWell h (told_by (database_of h) now t es)
-told-well h l now who t [] mine within = (done, refl)
-told-well h l now who t (e ∷ es) mine within =
+told-well h l now who t [] mine among = (done, refl)
+told-well h l now who t (e ∷ es) mine among =
     of (nat_le (2 ^ 62) id)
-    (subst (λ d. ToldWell behind (told_by d now t es)) (database_of-marks h (event_marks e.queue (told_event id now t e))) (told-well behind (next (next l raised_fine) put_fine) now who t es mine within.1))
+    (subst (λ d. ToldWell behind (told_by d now t es)) (database_of-marks h (event_marks e.queue (told_event id now t e))) (told-well behind (next (next l raised_fine) put_fine) now who t es mine among.1))
   where
     id : ℕ
     id = sequence e.queue h + 1
@@ -103,10 +107,10 @@ told-well h l now who t (e ∷ es) mine within =
     behind = queued (put e.queue (told_event id now t e)) ∷ queued (raised e.queue id) ∷ h
 
     raised_fine : Fine h (queued (raised e.queue id))
-    raised_fine = raises e.queue id within.0 (omega arith)
+    raised_fine = raises e.queue id among.0 (omega arith)
 
     put_fine : Fine (queued (raised e.queue id) ∷ h) (queued (put e.queue (told_event id now t e)))
-    put_fine = puts who e.queue (told_event id now t e) within.0 (ap (λ b. if b then id else sequence e.queue h) (sym (same-session e.queue))) mine (events_below-next h l e.queue)
+    put_fine = puts who e.queue (told_event id now t e) among.0 (ap (λ b. if b then id else sequence e.queue h) (sym (same-session e.queue))) mine (events_below-next h l e.queue)
 
     joined : (x : Checked (List Mark)) → ToldWell behind x → ToldWell h (x >>= (λ rest. Ok (event_marks e.queue (told_event id now t e) ++ rest)))
     joined (Err refusal) well = tt
@@ -118,13 +122,13 @@ told-well h l now who t (e ∷ es) mine within =
     of true well = tt
     of false well = joined (told_by (after_marks (database_of h) (event_marks e.queue (told_event id now t e))) now t es) well
 
-writer-owns : {h : History} {who t table : ℕ} {key : List Val} {old new : Option (List Val)} → Fine h (tabled (wrote who t table key old new)) → own_txid who h ≡ Some t
-writer-owns (writes who t table key old new mine free) = mine
+writer-owns : {h : History} {who t table : ℕ} {key : List Val} {old new : Option (List Val)} → Fine h (tabled (wrote (of_session who) t table key old new)) → own_txid who h ≡ Some t
+writer-owns (writes who t table key old new mine free stands) = mine
 
 told_of-well : (h : History) → Legal h → (now : ℤ) (mark : Mark) → Fine h mark → ToldWell (mark ∷ h) (told_of (database_of (mark ∷ h)) now mark)
-told_of-well h l now (tabled (wrote who t table key old new)) fine =
-    told-well (tabled (wrote who t table key old new) ∷ h) (next l fine) now who t (events_in (database_of (tabled (wrote who t table key old new) ∷ h)) table old new) (writer-owns fine)
-    (events-queues (length (queue_names h)) (write_in (database_of (tabled (wrote who t table key old new) ∷ h)) table old new) (triggers table h) (trigger-queues h l table))
+told_of-well h l now (tabled (wrote (of_session who) t table key old new)) fine =
+    told-well (tabled (wrote (of_session who) t table key old new) ∷ h) (next l fine) now who t (events_in (database_of (tabled (wrote (of_session who) t table key old new) ∷ h)) table old new) (writer-owns fine)
+    (events-queues (queues h) (write_in (database_of (tabled (wrote (of_session who) t table key old new) ∷ h)) table old new) (triggers_of table (triggers h)) (among-of (queues h) table (triggers h) (trigger-queues h l)))
 told_of-well h l now _ fine = (done, refl)
 
 -- ---- marks of rows may come wherever the row part is the same
@@ -137,7 +141,7 @@ block-alike h g same who b is = sym (ap (λ (d : RowPart). (d.session who).block
 
 fine-alike : (h g : History) → part_of h ≡ part_of g → (mark : Mark) (marks : List Mark) → RowMarks (mark ∷ marks) → Fine h mark → Fine g mark
 fine-alike h g same (queued mark) marks rows fine = absurd rows
-fine-alike h g same _ marks rows (begins who none) = subst (λ n. Fine g (began who n)) (sym (ap RowPart.next same)) (begins who (own-alike h g same who _ none))
+fine-alike h g same _ marks rows (begins who none) = subst (λ n. Fine g (began (of_session who) n)) (sym (ap RowPart.next same)) (begins who (own-alike h g same who _ none))
 fine-alike h g same _ marks rows (ends who t committed mine) = ends who t committed (own-alike h g same who _ mine)
 fine-alike h g same _ marks rows (begins_block who is) = begins_block who (block-alike h g same who _ is)
 fine-alike h g same _ marks rows (fails_block who is none) = fails_block who (block-alike h g same who _ is) (own-alike h g same who _ none)
@@ -145,9 +149,10 @@ fine-alike h g same _ marks rows (ends_block who none) = ends_block who (own-ali
 fine-alike h g same _ marks rows (repeats_block who) = repeats_block who
 fine-alike h g same _ marks rows (looks who) = looks who
 fine-alike h g same _ marks rows (makes_table name columns new) = makes_table name columns (sym (ap (λ (d : RowPart). place_of name d.tables) same) ∙ new)
-fine-alike h g same _ marks rows (writes who t table key old new mine free) =
+fine-alike h g same _ marks rows (writes who t table key old new mine free stands) =
     writes who t table key old new (own-alike h g same who _ mine) (sym (ap (λ (d : RowPart). other_than who (d.holder table key)) same) ∙ free)
-fine-alike h g same _ marks rows (begins_waiting who table key attempt) = begins_waiting who table key attempt
+    (subst (λ d. Replaces d who table key old new) same stands)
+fine-alike h g same _ marks rows (begins_waiting who table key attempt fits) = begins_waiting who table key attempt (subst (λ d. MayWait d who table key attempt) same fits)
 fine-alike h g same _ marks rows (ends_waiting who) = ends_waiting who
 
 chain-alike : (h g : History) → part_of h ≡ part_of g → (marks : List Mark) → RowMarks marks → Chain h marks → Chain g marks

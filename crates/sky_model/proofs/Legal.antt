@@ -1,27 +1,39 @@
 -- Legal histories: each mark has evidence of why it stands there, so that a law about histories has one
 -- line for each kind of mark, and none for each statement.
-use Rattle.std.proofs.Common.{◌≡◌, ℕ, ◌+◌, ◌<◌, ◌≤◌, ℤ, Bool, false, All, List, [], ◌∷◌, Option, Some, None, length}
+use Rattle.std.proofs.Common.{◌≡◌, ℕ, ◌+◌, ◌<◌, ◌≤◌, ◌==◌, ℤ, Bool, true, false, IfSome, All, List, [], ◌∷◌, Option, Some, None, length}
+use Rattle.std.specs.List.{list_any}
 use Rattle.sky_val.specs.declared.event.Event.{Event}
 use Rattle.sky_val.specs.declared.val.Val.{Val}
 use Rattle.sky_val.specs.declared.column.Column.{Column}
-use Rattle.sky_val.specs.Waits.{other_than}
+use Rattle.sky_val.specs.Waits.{other_than, is_waiting}
+use Rattle.sky_val.specs.Schemas.{row_fault, key_columns}
 use Rattle.sky_urlenc.specs.RowEvents.{Trigger}
 use Rattle.sky_names.specs.Places.{place_of}
+use Rattle.sky_model.specs.declared.stmt.Set.{Set}
 use Rattle.sky_model.specs.declared.stmt.Attempt.{Attempt}
-use Rattle.sky_model.specs.History.{Batch, Mark, began, ended, block_begun, repeats, looked, block_failed, block_ended, tabled, table_made, wrote, waits, waited, queued, made, raised, put, ticked, registered, opened, closed, traced, History}
+use Rattle.sky_model.specs.declared.stmt.Attempt.TheVariants.{Insertion, Changes, Deletion}
+use Rattle.sky_model.specs.History.{Batch, Mark, of_session, began, ended, block_begun, repeats, looked, block_failed, block_ended, tabled, table_made, wrote, waits, waited, queued, made, raised, put, ticked, registered, opened, closed, traced, History}
 use Rattle.sky_model.specs.Transactions.{next_txid}
 use Rattle.sky_model.specs.Sessions.{outside, inside, block, own_txid}
 use Rattle.sky_model.specs.Rows.{table_names}
 use Rattle.sky_model.specs.Locks.{holder}
-use Rattle.sky_model.specs.Triggers.{triggers}
-use Rattle.sky_model.specs.Queues.{queue_names, sequence, events, Tick, ticks, tick, newest_tick}
+use Rattle.sky_model.specs.Triggers.{triggers, triggers_of}
+use Rattle.sky_model.specs.Queues.{NamedQueue, queues, queue_number, sequence, events, Tick, ticks, tick, newest_tick}
 use Rattle.sky_model.specs.Consumers.{subscription_id, subscription, last_subscription, last_batch, active_batch}
 use Rattle.sky_model.specs.StepQueue.{id_of}
+use Rattle.sky_model.specs.State.{RowPart, part_of}
+use Rattle.sky_model.specs.ShownRows.{rows_by}
+use Rattle.sky_model.specs.StepRows.{column_called, bad_set, is_key_change}
 use Rattle.sky_model.specs.StepTrigger.{has_trigger}
+use Rattle.sky_model.specs.LawsOfWrites.{IsRowOf}
 
--- a queue of the database
+-- a queue of this number is among them
+abbrev pub IsAmong : ℕ → List NamedQueue → Type 0
+IsAmong q queues = list_any (λ x. x.number == q) queues ≡ true
+
+-- a queue of this number stands
 abbrev pub IsQueue : History → ℕ → Type 0
-IsQueue h q = q < length (queue_names h)
+IsQueue h q = IsAmong q (queues h)
 
 -- a batch may be made: from where its consumer stands, without an active one, to the tick with the next id
 pub record Opens (h : History) (batch : Batch) : Type 0 where
@@ -32,10 +44,37 @@ pub record Opens (h : History) (batch : Batch) : Type 0 where
   pub made : tick (batch.prev + 1) (ticks batch.queue h) ≡ Some closing
   pub to : batch.cur ≡ closing.id
 
+-- a change is of a column of its kind, and of none of the key
+abbrev pub ChangeFits : List Column → Set → Type 0
+ChangeFits columns set = (bad_set [] set (column_called set.column columns) ≡ None) × (is_key_change columns set ≡ false)
+
+abbrev pub ChangesFit : List Column → List Set → Type 0
+ChangesFit columns [] = Unit {0}
+ChangesFit columns (set ∷ sets) = ChangeFits columns set × ChangesFit columns sets
+
+-- what is attempted with a key fits the columns and the key
+abbrev pub AttemptFits : List Column → List Val → Attempt → Type 0
+AttemptFits columns key (Insertion row) = IsRowOf columns key row
+AttemptFits columns key (Changes sets) = ChangesFit columns sets
+AttemptFits columns key Deletion = row_fault (key_columns columns) key ≡ None
+
+-- a write in a table that there is: the old row is the one that stands, and if it is one that the table may have there,
+-- so is the new one
+pub record Replaces (d : RowPart) (who table : ℕ) (key : List Val) (old new : Option (List Val)) : Type 0 where
+  pub within : table < length d.tables
+  pub stands : ((rows_by d).key who table key).standing ≡ old
+  pub fits : IfSome old (IsRowOf (d.columns table) key) → IfSome new (IsRowOf (d.columns table) key)
+
+-- a session that doesn't wait yet is to wait for a key of a table that there is, with an attempt that fits
+pub record MayWait (d : RowPart) (who table : ℕ) (key : List Val) (attempt : Attempt) : Type 0 where
+  pub within : table < length d.tables
+  pub fits : AttemptFits (d.columns table) key attempt
+  pub quiet : is_waiting who d.waiting ≡ false
+
 -- the mark may come next
 pub data Fine (h : History) : Mark → Type 0 where
-  begins : (who : ℕ) → own_txid who h ≡ None → Fine h (began who (next_txid h))
-  ends : (who t : ℕ) (committed : Bool) → own_txid who h ≡ Some t → Fine h (ended who t committed)
+  begins : (who : ℕ) → own_txid who h ≡ None → Fine h (began (of_session who) (next_txid h))
+  ends : (who t : ℕ) (committed : Bool) → own_txid who h ≡ Some t → Fine h (ended (of_session who) t committed)
   begins_block : (who : ℕ) → block who h ≡ outside → Fine h (block_begun who)
   fails_block : (who : ℕ) → block who h ≡ inside → own_txid who h ≡ None → Fine h (block_failed who)
   ends_block : (who : ℕ) → own_txid who h ≡ None → Fine h (block_ended who)
@@ -43,10 +82,11 @@ pub data Fine (h : History) : Mark → Type 0 where
   looks : (who : ℕ) → Fine h (looked who)
   makes_table : (name : List ℕ) (columns : List Column) → place_of name (table_names h) ≡ None → Fine h (tabled (table_made name columns))
   writes : (who t table : ℕ) (key : List Val) (old new : Option (List Val)) → own_txid who h ≡ Some t → other_than who (holder table key h) ≡ None
-      → Fine h (tabled (wrote who t table key old new))
-  begins_waiting : (who table : ℕ) (key : List Val) (attempt : Attempt) → Fine h (tabled (waits who table key attempt))
+      → Replaces (part_of h) who table key old new
+      → Fine h (tabled (wrote (of_session who) t table key old new))
+  begins_waiting : (who table : ℕ) (key : List Val) (attempt : Attempt) → MayWait (part_of h) who table key attempt → Fine h (tabled (waits who table key attempt))
   ends_waiting : (who : ℕ) → Fine h (tabled (waited who))
-  makes : (name : List ℕ) → place_of name (queue_names h) ≡ None → Fine h (queued (made name))
+  makes : (name : List ℕ) → queue_number name (queues h) ≡ None → Fine h (queued (made name))
   raises : (q value : ℕ) → IsQueue h q → sequence q h ≤ value → Fine h (queued (raised q value))
   puts : (who q : ℕ) (event : Event) → IsQueue h q → event.ev_id ≡ sequence q h → own_txid who h ≡ Some event.ev_txid
       → All (λ e. e.ev_id < event.ev_id) (events q h) → Fine h (queued (put q event))
@@ -55,7 +95,8 @@ pub data Fine (h : History) : Mark → Type 0 where
       → tick ≤ id_of (newest_tick (ticks q h)) → Fine h (queued (registered q name sub tick))
   opens : (batch : Batch) → Opens h batch → Fine h (queued (opened batch))
   closes : (batch : Batch) → active_batch batch.id h ≡ Some batch → Fine h (queued (closed batch))
-  traces : (table : ℕ) (name : List ℕ) (trigger : Trigger) → table < length (table_names h) → IsQueue h trigger.queue → has_trigger name (triggers table h) ≡ false
+  traces : (table : ℕ) (name : Option (List ℕ)) (trigger : Trigger) → table < length (table_names h) → IsQueue h trigger.queue
+      → IfSome name (λ n. has_trigger n (triggers_of table (triggers h)) ≡ false)
       → Fine h (queued (traced table name trigger))
 
 -- these marks may come next, one after the other

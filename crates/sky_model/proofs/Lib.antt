@@ -1,5 +1,6 @@
 mod WorkedLines
 mod WorkedRowLines
+mod WorkedForms
 mod WorkedMoments
 pub mod WorkedScripts
 mod WorkedRows
@@ -9,13 +10,20 @@ pub mod NameLemmas
 pub mod LeastBadWord
 pub mod WholeWords
 pub mod BadWordLaw
+pub mod WordsInForm
+pub mod InFormLaw
 pub mod Marks
 pub mod Legal
+pub mod QueueNumbers
 pub mod Snapshots
 pub mod Ticks
 pub mod Selecting
 pub mod OrderById
 pub mod Good
+pub mod SetsFit
+pub mod SeenRows
+pub mod WaitersFit
+pub mod WrittenRows
 pub mod LawfulRows
 pub mod RowOutcomes
 pub mod LawfulTelling
@@ -23,6 +31,9 @@ pub mod MadeAt
 pub mod Turns
 pub mod Unopened
 pub mod Lawful
+pub mod Histories
+pub mod Promised
+pub mod Entering
 pub mod SnapshotLaws
 pub mod TickOrder
 pub mod ActiveBatches
@@ -40,12 +51,15 @@ pub mod Resting
 pub mod GatedLemmas
 pub mod RowStanding
 pub mod GatedStanding
+pub mod RoomsAlike
+pub mod RowCallStanding
 pub mod DatabaseStanding
 pub mod Standing
 pub mod DatabaseResting
 pub mod Inserted
 pub mod Telling
 pub mod LockLaws
+pub mod Writers
 pub mod WriteOrder
 pub mod EventIds
 pub mod QueueOutcomes

@@ -1,28 +1,29 @@
 -- The laws on locks and waits.
-use Rattle.std.proofs.Common.{◌≡◌, ℕ, ℤ, List, [], ◌∷◌, map, length, Bool, true, false, ◌==◌, nat_le, Option, Some, None, Err, option_map, refl, sym, ◌∙◌, ap, subst, arith, if◌then◌else◌}
-use Rattle.std.proofs.lemmas.Bool.Decides.{nat_tests}
+use Rattle.std.proofs.Common.{◌≡◌, ℕ, ℤ, List, [], ◌∷◌, length, Bool, true, false, Option, Some, None, Ok, Err, option_map, refl, sym, ◌∙◌, ap, subst}
 use Rattle.sky_val.specs.declared.val.Val.{Val}
 use Rattle.sky_val.specs.Waits.{is_waiting, waits_for, LeadsBack, way_back}
 use Rattle.sky_val.proofs.WaitLemmas.{leads_back, way_found}
-use Rattle.sky_names.specs.Places.{place_of}
-use Rattle.sky_model.specs.declared.stmt.Stmt.{Stmt}
 use Rattle.sky_model.specs.declared.stmt.Attempt.{Attempt}
 use Rattle.sky_model.specs.declared.reply.Reply.TheVariants.{Waits}
 use Rattle.sky_model.specs.declared.reply.Refusal.TheVariants.{Deadlock}
-use Rattle.sky_model.specs.History.{History, appeared, within, Past, tabled, waits}
-use Rattle.sky_model.specs.Outcome.{◌>>◌, refused_by, does_marks}
+use Rattle.sky_model.specs.History.{History, tabled, waits}
+use Rattle.sky_model.specs.Sessions.{block, session}
+use Rattle.sky_model.specs.Locks.{waiting}
+use Rattle.sky_model.specs.Allowed.{allowed}
+use Rattle.sky_model.specs.Made.{takes_sight}
+use Rattle.sky_model.specs.Outcome.{Checked, ◌>>◌, refused_by, does_marks}
 use Rattle.sky_model.specs.StepLocks.{ring, blocked}
 use Rattle.sky_model.specs.State.{RowPart, part_of}
-use Rattle.sky_model.specs.World.{world_of, session_names, history_in, on_top, home}
-use Rattle.sky_model.specs.Reader.{part_by_history, database_by_history, within_part, within_database, by_past, Deed, appears}
-use Rattle.sky_model.specs.Settling.{Turn, turn_of, behind_marks, ready}
-use Rattle.sky_model.specs.Calls.{statement, database_turn, is_leaving, session_does, turn, Call, called, past_of}
+use Rattle.sky_model.specs.Reader.{database_by_history, within_part}
+use Rattle.sky_model.specs.Settling.{Turn, turn_of, marked, ready, with_settling}
+use Rattle.sky_model.specs.Calls.{statement, turn}
+use Rattle.sky_model.specs.SessionMarks.{look_of, entry_place, enters, failing}
+use Rattle.sky_model.specs.Promises.{after_all}
+use Rattle.sky_model.specs.DatabaseCalls.{stepped, entered, failed, database_part}
 use Rattle.sky_model.specs.LawsOfLocks.{HoldersHaveWritten, DeadlocksAreRings, NothingIsReady}
 use Rattle.sky_model.proofs.SnapshotLaws.{legal_place}
 use Rattle.sky_model.proofs.Holders.{holder-written, written-holder}
-use Rattle.sky_model.proofs.Legal.{Legal}
-use Rattle.sky_model.proofs.Unopened.{on_top-append, unopened-within, history-marks, history-left}
-use Rattle.sky_model.proofs.Lawful.{AllLegal, database-reads, past-behind, same-turn-within, legal_past}
+use Rattle.sky_model.proofs.Lawful.{database-reads, past-behind}
 use Rattle.sky_model.proofs.Resting.{turn-rests}
 use Rattle.sky_model.proofs.DatabaseResting.{history-keeps}
 
@@ -57,49 +58,24 @@ deadlocks_are_rings p is who table key attempt other way = (
         subst (LeadsBack (waits_for d.holder d.waiting) who other) one (leads_back (waits_for d.holder d.waiting) who (length d.waiting) other rest is)
 
 -- in a history none is ready behind a turn with all that it lets go on
-history-rests : (h : History) → Legal h → (now : ℤ) (who : ℕ) (stmt : Stmt) (turn : Turn) → turn ≡ database_turn database_by_history h now who stmt
-    → ready (part_of (behind_marks part_by_history h turn.marks)) ≡ None
-history-rests h l now who stmt turn same =
-    ap (λ (x : Turn). ready (part_of (behind_marks part_by_history h x.marks))) same
-    ∙ ap (λ g. ready (part_of g)) (sym (past-behind (within_part database_by_history now) (λ g. g) (database-reads now) h (database_turn database_by_history h now who stmt).marks))
-    ∙ turn-rests (within_part database_by_history now) (history-keeps now) h (turn_of who (statement database_by_history h now who stmt))
+history-rests : (h : History) (now : ℤ) (turn : Turn) → ready (part_of (marked h (with_settling (within_part database_by_history now) h turn).marks)) ≡ None
+history-rests h now turn =
+    ap (λ g. ready (part_of g)) (sym (past-behind (within_part database_by_history now) (λ g. g) (database-reads now) h (with_settling (within_part database_by_history now) h turn).marks))
+    ∙ turn-rests (within_part database_by_history now) (history-keeps now) h turn
 
--- a past in each of whose databases none is ready
-abbrev AllRest : Past → Type 0
-AllRest past = (d : ℕ) → ready (part_of (history_in past d)) ≡ None
-
-rest_if : (past : Past) (b : Bool) (x y : Deed) → AllRest (on_top past x.facts) → AllRest (on_top past y.facts) → AllRest (on_top past (if b then x else y).facts)
-rest_if past true x y rest also = rest
-rest_if past false x y rest also = also
-
-rest_session : (past : Past) (who : ℕ) (stmt : Stmt) (at : Option ℕ) → AllLegal past → AllRest past → AllRest (on_top past (session_does by_past past who stmt at).facts)
-rest_session past who stmt None all rest = λ n. ap (λ h. ready (part_of h)) (unopened-within past (world_of past) who stmt n) ∙ rest n
-rest_session past who stmt (Some d) all rest = λ n.
-    ap (λ h. ready (part_of h)) (history-left past (map (within d) turn_within.marks) who leaving n ∙ history-marks past d turn_within.marks n) ∙ of n (d == n) refl
-  where
-    turn_within : Turn
-    turn_within = database_turn (within_database by_past d) past (world_of past).now who stmt
-
-    leaving : Bool
-    leaving = is_leaving (is_waiting who ((world_of past).database d).part.waiting) stmt
-
-    here : ready (part_of (behind_marks part_by_history (history_in past d) turn_within.marks)) ≡ None
-    here = history-rests (history_in past d) (all d) (world_of past).now who stmt turn_within (same-turn-within past d (world_of past).now who stmt)
-
-    of : (n : ℕ) (b : Bool) → (d == n) ≡ b → ready (part_of (if b then behind_marks part_by_history (history_in past n) turn_within.marks else history_in past n)) ≡ None
-    of n true e = (let same : d ≡ n = grind (arith, nat_tests) in subst (λ m. ready (part_of (behind_marks part_by_history (history_in past m) turn_within.marks)) ≡ None) same here)
-    of n false e = rest n
-
-rest_turn : (past : Past) (who : ℕ) (stmt : Stmt) → AllLegal past → AllRest past → AllRest (on_top past (turn by_past who stmt past).facts)
-rest_turn past who stmt all rest = rest_session past who stmt (home past who) all rest
-
-rest_called : (past : Past) (call : Call) (found : Option ℕ) → AllLegal past → AllRest past → AllRest (on_top past (called by_past past call found).facts)
-rest_called past call (Some who) all rest = rest_turn past who call.stmt all rest
-rest_called past call None all rest =
-    rest_if past (nat_le 256 (length (session_names past))) _ _ rest
-    (λ d. ap (λ p. ready (part_of (history_in p d))) (on_top-append past (appears call.who).facts (turn by_past (length (session_names past)) call.stmt (appeared call.who ∷ past)).facts)
-    ∙ rest_turn (appeared call.who ∷ past) (length (session_names past)) call.stmt all rest d)
+-- nor behind the sight of a session that enters
+enters-rests : (h : History) (who : ℕ) (sight : Bool) (may : Checked (Unit {0})) → ready (part_of h) ≡ None → ready (part_of (marked h (enters who (look_of who sight) may).marks)) ≡ None
+enters-rests h who true (Ok _) rests = rests
+enters-rests h who false (Ok _) rests = rests
+enters-rests h who sight (Err refusal) rests = rests
 
 pub nothing_is_ready : NothingIsReady
-nothing_is_ready [] d = refl
-nothing_is_ready (call ∷ calls) d = rest_called (past_of calls) call (place_of call.who (session_names (past_of calls))) (legal_past calls) (nothing_is_ready calls) d
+nothing_is_ready [] = refl
+nothing_is_ready (stepped who stmt now ∷ calls) =
+    history-rests (after_all database_part calls) now (turn_of who (statement database_by_history (after_all database_part calls) now who stmt))
+nothing_is_ready (entered who outside ∷ calls) =
+    enters-rests h who (takes_sight (entry_place outside) (session h who).sight) (allowed (is_waiting who (waiting h)) (block who h) (entry_place outside)) (nothing_is_ready calls)
+  where
+    h : History
+    h = after_all database_part calls
+nothing_is_ready (failed who now ∷ calls) = history-rests (after_all database_part calls) now (failing (part_of (after_all database_part calls)) who)

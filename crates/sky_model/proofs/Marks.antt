@@ -3,14 +3,14 @@ use Rattle.std.proofs.Common.{◌≡◌, ℕ, ◌+◌, List, [], ◌∷◌, ◌+
 use Rattle.sky_val.specs.declared.event.Event.{Event}
 use Rattle.sky_val.specs.Waits.{released}
 use Rattle.sky_txid.specs.Versions.{forgotten}
-use Rattle.sky_model.specs.History.{Mark, began, ended, block_begun, repeats, looked, block_failed, block_ended, tabled, table_made, wrote, waits, waited, queued, QueueMark, made, raised, put, ticked, registered, opened, closed, traced, History, Fact, appeared, founded, entered, left, within, Past}
+use Rattle.sky_model.specs.History.{Mark, of_session, of_worker, began, ended, block_begun, repeats, looked, block_failed, block_ended, tabled, table_made, wrote, waits, waited, queued, QueueMark, made, raised, put, ticked, registered, opened, closed, traced, History, Fact, appeared, founded, entered, left, within, Past}
 use Rattle.sky_model.specs.Consumers.{Subscription, subscription_id, position, active}
 use Rattle.sky_model.specs.Transactions.{next_txid, running, has_rolled_back, snapshot}
 use Rattle.sky_model.specs.Sessions.{Block, outside, inside, failed, Sight, at_each, at_first, at_place, sight, sight_by, Session, session}
 use Rattle.sky_model.specs.Queues.{Tick}
 use Rattle.sky_model.specs.Versions.{versions}
 use Rattle.sky_model.specs.State.{Queue, queue_of, part_of, database_of, changed_at, changed_for, with_batch, at_position, after_queue_mark, with_txid, with_sight, with_block, without_sight, after_part, after_mark, after_marks}
-use Rattle.sky_model.specs.RowSteps.{marked}
+use Rattle.sky_model.specs.Settling.{marked}
 use Rattle.sky_model.specs.World.{world_of, history_in, after_fact, after_facts, on_top}
 
 raised_at : (b : Bool) (x : Queue) (v : ℕ) → record x { seq = if b then v else x.seq } ≡ (if b then record x { seq = v } else x)
@@ -125,29 +125,35 @@ over_at false s old to e = λ i. record s { sight = sym e i }
 
 -- a mark changes transactions, sessions and tables as `after_part` says
 pub part_of-mark : (h : History) (mark : Mark) → part_of (mark ∷ h) ≡ after_part (part_of h) mark
-part_of-mark h (began who t) = λ i. record (part_of h) {
+part_of-mark h (began (of_session who) t) = λ i. record (part_of h) {
   next = next_txid h + 1;
   running_ids = running h ++ t ∷ [];
   session = λ n. txid_at (who == n) (session h n) (Some t) i;
 }
-part_of-mark h (ended who t true) = λ i. record (part_of h) {
+part_of-mark h (began of_worker t) = refl
+part_of-mark h (ended (of_session who) t true) = λ i. record (part_of h) {
   running_ids = filter (λ u. not (u == t)) (running h);
   session = λ n. txid_at (who == n) (session h n) None i;
+  wrote_in = λ n u. not (t == u) && (part_of h).wrote_in n u;
   holder = released who (part_of h).holder;
 }
-part_of-mark h (ended who t false) = λ i. record (part_of h) {
+part_of-mark h (ended of_worker t true) = refl
+part_of-mark h (ended (of_session who) t false) = λ i. record (part_of h) {
   running_ids = filter (λ u. not (u == t)) (running h);
   session = λ n. txid_at (who == n) (session h n) None i;
   versions = λ n. forgotten t (versions n h);
+  wrote_in = λ n u. not (t == u) && (part_of h).wrote_in n u;
   holder = released who (part_of h).holder;
 }
+part_of-mark h (ended of_worker t false) = refl
 part_of-mark h (block_begun who) = λ i. record (part_of h) { session = λ n. block_at (who == n) (session h n) inside i }
 part_of-mark h (repeats who) = λ i. record (part_of h) { session = λ n. sight_at (who == n) (session h n) (sight n h) at_first refl i }
 part_of-mark h (looked who) = λ i. record (part_of h) { session = λ n. sight_at (who == n) (session h n) (sight n h) (at_place h) refl i }
 part_of-mark h (block_failed who) = λ i. record (part_of h) { session = λ n. over_at (who == n) (session h n) (sight n h) failed refl i }
 part_of-mark h (block_ended who) = λ i. record (part_of h) { session = λ n. over_at (who == n) (session h n) (sight n h) outside refl i }
 part_of-mark h (tabled (table_made name columns)) = refl
-part_of-mark h (tabled (wrote who t table key old new)) = refl
+part_of-mark h (tabled (wrote (of_session who) t table key old new)) = refl
+part_of-mark h (tabled (wrote of_worker t table key old new)) = refl
 part_of-mark h (tabled (waits who table key attempt)) = refl
 part_of-mark h (tabled (waited who)) = refl
 part_of-mark h (queued mark) = refl

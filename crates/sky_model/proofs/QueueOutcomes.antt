@@ -8,7 +8,8 @@ use Rattle.sky_model.specs.declared.reply.Limit.TheVariants.{Consumers, Queues, 
 use Rattle.sky_model.specs.declared.reply.Refusal.TheVariants.{BadColumn, EventIdsSpent, IdsSpent, NoBatch, NoConsumer, NodeConsumer, NoQueue, NoTable, TableBusy, TooMany, TriggerExists}
 use Rattle.sky_model.specs.History.{Batch, Mark, tabled, wrote}
 use Rattle.sky_model.specs.Sessions.{Session}
-use Rattle.sky_model.specs.Queues.{Tick, tick}
+use Rattle.sky_model.specs.Queues.{queue_number, Tick, tick}
+use Rattle.sky_model.specs.Triggers.{triggers_of}
 use Rattle.sky_model.specs.Consumers.{Subscription}
 use Rattle.sky_model.specs.ShownRows.{least_writer}
 use Rattle.sky_model.specs.State.{Database}
@@ -62,36 +63,36 @@ IsOnQueues _ = Unit {0}
 pub plain-form : (d : Database) (shown : Shown) (now : ℤ) (who : ℕ) (stmt : Stmt) → IsOnQueues stmt → PlainOutcome (form d shown now who stmt)
 plain-form d shown now who (Row stmt) on = absurd on
 plain-form d shown now who (CreateQueue name) on =
-    either (is_some (place_of name d.names)) _ _ tt
-    (test (nat_le 64 (length d.names)) (TooMany Queues) _
+    either (is_some (queue_number name d.queues)) _ _ tt
+    (test (nat_le 64 (length d.queues)) (TooMany Queues) _
     (checked (txid_for d.part who) _ (λ t. plain-append (written who t (d.part.session who) _) _ (plain-written who t (d.part.session who) _ tt) tt)))
 plain-form d shown now who (InsertEvent name ev_type ev_data extra) on =
-    found (place_of name d.names) (NoQueue name) _ (λ q.
+    found (queue_number name d.queues) (NoQueue name) _ (λ q.
     checked (txid_for d.part who) _ (λ t.
     checked (next_event_id (d.queue q)) _ (λ id.
     plain-written who t (d.part.session who) _ tt)))
 plain-form d shown now who (Ticker name) on =
-    found (place_of name d.names) (NoQueue name) _ (λ q.
+    found (queue_number name d.queues) (NoQueue name) _ (λ q.
     either (is_due now (d.queue q)) _ _ (test (nat_le (2 ^ 64) (newest_id (d.queue q) + 1)) IdsSpent _ tt) tt)
 plain-form d shown now who (ForceTick name) on =
-    found (place_of name d.names) (NoQueue name) _ (λ q.
+    found (queue_number name d.queues) (NoQueue name) _ (λ q.
     test (nat_le (2 ^ 62) ((d.queue q).seq + forced (d.queue q).config)) EventIdsSpent _ tt)
 plain-form d shown now who (RegisterConsumer name consumer) on =
-    found (place_of name d.names) (NoQueue name) _ (λ q.
+    found (queue_number name d.queues) (NoQueue name) _ (λ q.
     test (has_dot consumer) NodeConsumer _
     (either (is_some ((d.queue q).sub consumer)) _ _ tt
     (test (nat_le 256 (length (d.queue q).members)) (TooMany Consumers) _
     (test (nat_le (2 ^ 64) (d.last_sub_id + 1)) IdsSpent _ tt))))
 plain-form d shown now who (NextBatch name consumer) on =
-    found (place_of name d.names) (NoQueue name) _ (λ q.
+    found (queue_number name d.queues) (NoQueue name) _ (λ q.
     test (has_dot consumer) NodeConsumer _
     (found ((d.queue q).sub consumer) (NoConsumer consumer) _ (λ sub. plain-takes d q consumer sub sub.active)))
 plain-form d shown now who (GetBatchEvents batch) on = found (d.batch batch) NoBatch _ (λ b. tt)
 plain-form d shown now who (FinishBatch batch) on = plain-finishes (d.batch batch)
 plain-form d shown now who (AddTrigger name table_name queue_name backup ignored) on =
     found (place_of table_name d.part.tables) (NoTable table_name) _ (λ table.
-    found (place_of queue_name d.names) (NoQueue queue_name) _ (λ queue.
-    test (has_trigger name (d.triggers table)) (TriggerExists name) _
-    (test (nat_le 8 (length (d.triggers table))) (TooMany Triggers) _
+    found (queue_number queue_name d.queues) (NoQueue queue_name) _ (λ queue.
+    test (has_trigger name (triggers_of table d.triggers)) (TriggerExists name) _
+    (test (nat_le 8 (length (triggers_of table d.triggers))) (TooMany Triggers) _
     (by_option (option_map BadColumn (find (λ column. not (may_ignore (d.part.columns table) column)) ignored)) _
     (by_option (option_map TableBusy (least_writer d.part table)) _ tt)))))

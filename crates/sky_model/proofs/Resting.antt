@@ -11,7 +11,7 @@ use Rattle.sky_model.specs.declared.reply.Refusal.{Refusal}
 use Rattle.sky_model.specs.declared.reply.Refusal.TheVariants.{Duplicate, EventIdsSpent, Serialize, TxidsSpent}
 use Rattle.sky_model.specs.declared.stmt.Attempt.{Attempt}
 use Rattle.sky_model.specs.declared.stmt.Attempt.TheVariants.{Insertion, Changes, Deletion}
-use Rattle.sky_model.specs.History.{Mark, began, ended, block_begun, repeats, looked, block_failed, block_ended, tabled, table_made, wrote, waits as waits_mark, waited, queued}
+use Rattle.sky_model.specs.History.{Mark, of_session, began, ended, block_begun, repeats, looked, block_failed, block_ended, tabled, table_made, wrote, waits as waits_mark, waited, queued}
 use Rattle.sky_model.specs.Sessions.{Block, outside, inside, failed, Session}
 use Rattle.sky_model.specs.State.{RowPart, after_part}
 use Rattle.sky_model.specs.ShownRows.{KeyShown}
@@ -59,7 +59,7 @@ commit-quiet who t failed = tt
 writes-quiet : (d : RowPart) (who table : ℕ) (key : List Val) (old new : Option (List Val)) → Quiet (writes_key d who table key old new)
 writes-quiet d who table key old new = of (d.session who).txid
   where
-    of : (o : Option ℕ) → Quiet (own_or_next d o >>= (λ t. does_marks (Number 1) (begin_of who t o ++ (tabled (wrote who t table key old new) ∷ []) ++ commit_of who t (d.session who).block)))
+    of : (o : Option ℕ) → Quiet (own_or_next d o >>= (λ t. does_marks (Number 1) (begin_of who t o ++ (tabled (wrote (of_session who) t table key old new) ∷ []) ++ commit_of who t (d.session who).block)))
     of None = test_then (nat_le (2 ^ 62) d.next) TxidsSpent d.next _ (commit-quiet who d.next (d.session who).block)
     of (Some t) = commit-quiet who t (d.session who).block
 

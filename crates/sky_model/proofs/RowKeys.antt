@@ -75,7 +75,7 @@ Begun h = (table t : ℕ) → next_txid h ≤ t → writes_of table t h ≡ []
 
 begun_step : (h : History) (mark : Mark) → Fine h mark → Legal h → Begun h → Begun (mark ∷ h)
 begun_step h _ (begins who e) l b = λ table t le. b table t (omega arith)
-begun_step h _ (writes who t n key old new e free) l b = λ table u le. of table u (n == table) (t == u) refl le
+begun_step h _ (writes who t n key old new e free stands) l b = λ table u le. of table u (n == table) (t == u) refl le
   where
     of : (table u : ℕ) (c d : Bool) → (t == u) ≡ d → next_txid h ≤ u → (if c && d then writes_of table u h ++ record { key = key; row = new } ∷ [] else writes_of table u h) ≡ []
     of table u true true is le =
@@ -95,7 +95,7 @@ begun_step h _ (ends_block who e) l b = b
 begun_step h _ (repeats_block who) l b = b
 begun_step h _ (looks who) l b = b
 begun_step h _ (makes_table name columns e) l b = b
-begun_step h _ (begins_waiting who n at_key attempt) l b = b
+begun_step h _ (begins_waiting who n at_key attempt fits) l b = b
 begun_step h _ (ends_waiting who) l b = b
 begun_step h _ (makes name e) l b = b
 begun_step h _ (raises q v i le) l b = b

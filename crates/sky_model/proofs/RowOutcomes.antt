@@ -17,7 +17,7 @@ use Rattle.sky_model.specs.declared.reply.Refusal.{Refusal}
 use Rattle.sky_model.specs.declared.reply.Refusal.TheVariants.{BadRow, BadSnapshot, Canceled, Deadlock, Duplicate, EventIdsSpent, KeyChange, NoTable, Serialize, TableExists, TooMany, TxidsSpent}
 use Rattle.sky_model.specs.declared.stmt.Attempt.{Attempt}
 use Rattle.sky_model.specs.declared.stmt.Attempt.TheVariants.{Insertion, Changes, Deletion}
-use Rattle.sky_model.specs.History.{Mark, began, ended, block_begun, repeats, block_ended, looked, block_failed, tabled, wrote, waited, queued}
+use Rattle.sky_model.specs.History.{Mark, of_session, began, ended, block_begun, repeats, block_ended, looked, block_failed, tabled, wrote, waited, queued}
 use Rattle.sky_model.specs.Sessions.{Block, outside, inside, failed, Session}
 use Rattle.sky_model.specs.State.{RowPart}
 use Rattle.sky_model.specs.ShownRows.{KeyShown, RowsShown}
@@ -87,7 +87,7 @@ marks-left committed who (Some t) = tt
 writes-rows : (d : RowPart) (who table : ℕ) (key : List Val) (old new : Option (List Val)) → OfRows (writes_key d who table key old new)
 writes-rows d who table key old new = of (d.session who).txid
   where
-    of : (o : Option ℕ) → OfRows (own_or_next d o >>= (λ t. does_marks (Number 1) (begin_of who t o ++ (tabled (wrote who t table key old new) ∷ []) ++ commit_of who t (d.session who).block)))
+    of : (o : Option ℕ) → OfRows (own_or_next d o >>= (λ t. does_marks (Number 1) (begin_of who t o ++ (tabled (wrote (of_session who) t table key old new) ∷ []) ++ commit_of who t (d.session who).block)))
     of None = test_then (nat_le (2 ^ 62) d.next) TxidsSpent d.next _ (record { moments = tt; marks = marks-committed who d.next (d.session who).block })
     of (Some t) = record { moments = tt; marks = marks-committed who t (d.session who).block }
 

@@ -50,7 +50,7 @@ ended-behind h (block_ended who) t e = e
 ended-behind h (tabled mark) t e = e
 ended-behind h (queued mark) t e = e
 
-ended-since : {k h : History} → Since k h → (t : ℕ) → has_ended k t ≡ true → has_ended h t ≡ true
+pub ended-since : {k h : History} → Since k h → (t : ℕ) → has_ended k t ≡ true → has_ended h t ≡ true
 ended-since here t e = e
 ended-since (later {h = h} {mark = mark} since) t e = ended-behind h mark t (ended-since since t e)
 
@@ -106,7 +106,7 @@ sight-since (queued mark ∷ h) who k is = later (sight-since h who k is)
 abbrev pub place : History → ℕ → History
 place h who = place_of_sight h (sight who h)
 
-place-since : (h : History) (who : ℕ) → Since (place h who) h
+pub place-since : (h : History) (who : ℕ) → Since (place h who) h
 place-since h who = of (sight who h) refl
   where
     of : (s : Sight History) → sight who h ≡ s → Since (place_of_sight h s) h
@@ -115,7 +115,7 @@ place-since h who = of (sight who h) refl
     of (at_place k) is = sight-since h who k is
 
 -- a session's snapshot is that of the place of its sight
-snapshot-place : (h : History) (who : ℕ) → place_of_sight (snapshot h) (sight_by snapshot (sight who h)) ≡ snapshot (place h who)
+pub snapshot-place : (h : History) (who : ℕ) → place_of_sight (snapshot h) (sight_by snapshot (sight who h)) ≡ snapshot (place h who)
 snapshot-place h who = of (sight who h)
   where
     of : (s : Sight History) → place_of_sight (snapshot h) (sight_by snapshot s) ≡ snapshot (place_of_sight h s)
@@ -137,7 +137,7 @@ newest-behind k h since l _ (ends who t true e) table key = refl
 newest-behind k h since l _ (ends who t false e) table key =
     ap (newest_by (has_ended k)) (versions_at-forgotten t key (versions table h) (is_in_order-versions table h))
     ∙ newest_without (has_ended k) t (kept h table key) (unended-at since t (own-unended h l who t e))
-newest-behind k h since l _ (writes who t n at_key old new e free) table key =
+newest-behind k h since l _ (writes who t n at_key old new e free stands) table key =
     ap (newest_by (has_ended k)) (kept-wrote h l who t n at_key old new e free table key) ∙ of ((n == table) && eq_by_cmp key_cmp key at_key)
   where
     of : (b : Bool) → newest_by (has_ended k) (if b then with_version t new (kept h table key) else kept h table key) ≡ newest_by (has_ended k) (kept h table key)
@@ -150,7 +150,7 @@ newest-behind k h since l _ (ends_block who e) table key = refl
 newest-behind k h since l _ (repeats_block who) table key = refl
 newest-behind k h since l _ (looks who) table key = refl
 newest-behind k h since l _ (makes_table name columns e) table key = refl
-newest-behind k h since l _ (begins_waiting who n at_key attempt) table key = refl
+newest-behind k h since l _ (begins_waiting who n at_key attempt fits) table key = refl
 newest-behind k h since l _ (ends_waiting who) table key = refl
 newest-behind k h since l _ (makes name e) table key = refl
 newest-behind k h since l _ (raises q v i le) table key = refl

@@ -1,8 +1,6 @@
 -- A statement on rows, in its part of a database: from what the part keeps to the history, and to the whole database.
-use Rattle.std.proofs.Common.{◌≡◌, ℕ, ℤ, List, [], ◌∷◌, true, false, refl, sym, ◌∙◌, ap, if◌then◌else◌}
-use Rattle.sky_model.specs.declared.stmt.RowStmt.{RowStmt}
+use Rattle.std.proofs.Common.{◌≡◌, ℕ, ℤ, List, [], ◌∷◌, true, false, refl, ◌∙◌, ap, if◌then◌else◌}
 use Rattle.sky_model.specs.declared.stmt.Stmt.{Stmt}
-use Rattle.sky_model.specs.declared.reply.Reply.{Reply}
 use Rattle.sky_model.specs.History.{Mark, began, ended, block_begun, repeats, looked, block_failed, block_ended, tabled, queued, made, raised, put, ticked, registered, opened, closed, traced, History}
 use Rattle.sky_model.specs.State.{RowPart, part_of, after_part, after_part_marks, Database, after_mark}
 use Rattle.sky_model.specs.ShownRows.{rows_by}
@@ -10,18 +8,14 @@ use Rattle.sky_model.specs.Allowed.{where_of}
 use Rattle.sky_model.specs.World.{World}
 use Rattle.sky_model.specs.Telling.{tells}
 use Rattle.sky_model.specs.Reader.{part_by_history, part_by_itself, database_by_itself, within_part, within_database, by_world, shown_by}
-use Rattle.sky_model.specs.Settling.{Turn, turn_of, behind_marks}
-use Rattle.sky_model.specs.Calls.{row_turn, form, making, statement, database_turn}
-use Rattle.sky_model.specs.HistoryPlaces.{IsPlace}
-use Rattle.sky_model.specs.RowSteps.{marked, row_turn_at, RowSteps}
-use Rattle.sky_model.proofs.Legal.{Fine, looks, Chain, done, more, Legal, next}
+use Rattle.sky_model.specs.Settling.{turn_of, marked}
+use Rattle.sky_model.specs.Calls.{form, making, statement, database_turn}
+use Rattle.sky_model.proofs.Legal.{Fine, Legal, next}
 use Rattle.sky_model.proofs.Marks.{part_of-mark}
 use Rattle.sky_model.proofs.Good.{same-session}
 use Rattle.sky_model.proofs.MadeAt.{same-made_by}
-use Rattle.sky_model.proofs.Turns.{Each, ReadAlike, same-with_settling, alike-turn, Any, each-any}
-use Rattle.sky_model.proofs.Lawful.{good_row_turn}
+use Rattle.sky_model.proofs.Turns.{ReadAlike, same-with_settling, Any, each-any}
 use Rattle.sky_model.proofs.RowSights.{same-rows}
-use Rattle.sky_model.proofs.SnapshotLaws.{legal_place}
 
 -- a legal history reads as what the part keeps of it
 pub record Keeps (h : History) (d : RowPart) : Type 0 where
@@ -36,36 +30,9 @@ as-kept = record {
   behind = λ h d mark keeps fine. record { legal = next keeps.legal fine; shows = part_of-mark h mark ∙ ap (λ x. after_part x mark) keeps.shows };
 }
 
-pub each-fine : (h : History) (marks : List Mark) → Chain h marks → Each part_by_history Fine h marks
-each-fine h [] done = tt
-each-fine h (mark ∷ marks) (more fine chain) = (fine, each-fine (mark ∷ h) marks chain)
-
-pub behind-after : (d : RowPart) (marks : List Mark) → behind_marks part_by_itself d marks ≡ after_part_marks d marks
-behind-after d [] = refl
-behind-after d (mark ∷ marks) = behind-after (after_part d mark) marks
-
--- by the history a statement on rows does what it does by what the part keeps
-same-row_turn : (h : History) → Legal h → (who : ℕ) (stmt : RowStmt) → row_turn part_by_history h who stmt ≡ row_turn part_by_itself (part_of h) who stmt
-same-row_turn h l who stmt =
-    alike-turn part_by_history part_by_itself Fine Keeps as-kept h (part_of h) who stmt (record { legal = l; shows = refl }) (looks who) (each-fine h _ (good_row_turn h l who stmt))
-
 pub part_of-marks : (h : History) (marks : List Mark) → part_of (marked h marks) ≡ after_part_marks (part_of h) marks
 part_of-marks h [] = refl
 part_of-marks h (mark ∷ marks) = part_of-marks (mark ∷ h) marks ∙ ap (λ d. after_part_marks d marks) (part_of-mark h mark)
-
--- an exact step of a row part is a step at each place of a history that leaves the part as it was
-pub row_steps_from_exact : (old new : RowPart) (who : ℕ) (stmt : RowStmt) (replies : List (ℕ × Reply))
-    → replies ≡ (row_turn part_by_itself old who stmt).answers
-    → new ≡ after_part_marks old (row_turn part_by_itself old who stmt).marks → RowSteps old new who stmt replies
-row_steps_from_exact old new who stmt replies replied stands = record {
-  same = at_place;
-  replied = λ h place is. replied ∙ ap Turn.answers (at_place h place is);
-  stands = λ h place is. stands ∙ ap (λ (d : RowPart). after_part_marks d (row_turn part_by_itself old who stmt).marks) is
-      ∙ ap (λ (turn : Turn). after_part_marks (part_of h) turn.marks) (at_place h place is) ∙ sym (part_of-marks h (row_turn_at h who stmt).marks);
-}
-  where
-    at_place : (h : History) → IsPlace h → old ≡ part_of h → row_turn part_by_itself old who stmt ≡ row_turn_at h who stmt
-    at_place h place is = ap (λ d. row_turn part_by_itself d who stmt) is ∙ sym (same-row_turn h (legal_place h place) who stmt)
 
 -- the row part of a database behind a mark
 pub part-behind : (d : Database) (mark : Mark) → (after_mark d mark).part ≡ after_part d.part mark

@@ -64,9 +64,9 @@ committed-at_tick _ (next {h = h} l (ends_block who e)) q id t = committed-at_ti
 committed-at_tick _ (next {h = h} l (repeats_block who)) q id t = committed-at_tick h l q id t
 committed-at_tick _ (next {h = h} l (looks who)) q id t = committed-at_tick h l q id t
 committed-at_tick _ (next {h = h} l (makes_table name columns e)) q id t = committed-at_tick h l q id t
-committed-at_tick _ (next {h = h} l (begins_waiting who n at_key attempt)) q id t = committed-at_tick h l q id t
+committed-at_tick _ (next {h = h} l (begins_waiting who n at_key attempt fits)) q id t = committed-at_tick h l q id t
 committed-at_tick _ (next {h = h} l (ends_waiting who)) q id t = committed-at_tick h l q id t
-committed-at_tick _ (next {h = h} l (writes who u table key old new e free)) q id t = committed-at_tick h l q id t
+committed-at_tick _ (next {h = h} l (writes who u table key old new e free stands)) q id t = committed-at_tick h l q id t
 committed-at_tick _ (next {h = h} l (makes name new)) q id t = committed-at_tick h l q id t
 committed-at_tick _ (next {h = h} l (raises p v i e)) q id t = committed-at_tick h l q id t
 committed-at_tick _ (next {h = h} l (puts who p e i s o newest)) q id t = committed-at_tick h l q id t
@@ -124,9 +124,9 @@ numbered _ (next {h = h} l (ends_block who e)) q = numbered h l q
 numbered _ (next {h = h} l (repeats_block who)) q = numbered h l q
 numbered _ (next {h = h} l (looks who)) q = numbered h l q
 numbered _ (next {h = h} l (makes_table name columns e)) q = numbered h l q
-numbered _ (next {h = h} l (begins_waiting who n at_key attempt)) q = numbered h l q
+numbered _ (next {h = h} l (begins_waiting who n at_key attempt fits)) q = numbered h l q
 numbered _ (next {h = h} l (ends_waiting who)) q = numbered h l q
-numbered _ (next {h = h} l (writes who u table key old new e free)) q = numbered h l q
+numbered _ (next {h = h} l (writes who u table key old new e free stands)) q = numbered h l q
 numbered _ (next {h = h} l (makes name new)) q = numbered h l q
 numbered _ (next {h = h} l (raises p v i le)) q = of (p == q) refl (numbered h l q)
   where

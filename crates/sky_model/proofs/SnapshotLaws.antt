@@ -4,7 +4,7 @@ use Rattle.sky_model.specs.History.{Mark, History}
 use Rattle.sky_model.specs.HistoryPlaces.{IsPlace}
 use Rattle.sky_model.specs.LawsOfSnapshots.{SnapshotsSeeWhatHasEnded, BatchesAreSelectedBySnapshots}
 use Rattle.sky_model.proofs.Legal.{Fine, Legal, next}
-use Rattle.sky_model.proofs.Lawful.{legal_past}
+use Rattle.sky_model.proofs.Histories.{legal_calls}
 use Rattle.sky_model.proofs.Snapshots.{sees-snapshot}
 use Rattle.sky_model.proofs.Selecting.{batch_events-by_id}
 
@@ -19,7 +19,7 @@ legal-below [] p l = l
 legal-below (mark ∷ later) p l = legal-below later p (legal-below_mark l)
 
 pub legal_place : (p : History) → IsPlace p → Legal p
-legal_place p is = legal-below is.later p (subst Legal is.below (legal_past is.calls is.database))
+legal_place p is = legal-below is.later p (subst Legal is.below (legal_calls is.calls))
 
 pub snapshots_see_what_has_ended : SnapshotsSeeWhatHasEnded
 snapshots_see_what_has_ended p is = sees-snapshot p (legal_place p is)

@@ -3,7 +3,7 @@ use Rattle.std.proofs.Common.{◌≡◌, ℕ, ◌+◌, ◌<◌, ◌≤◌, List,
 use Rattle.std.proofs.lemmas.Bool.Decides.{nat_tests}
 use Rattle.sky_txid.specs.Ids.{contains, first_or}
 use Rattle.sky_txid.specs.Snapshot.{sees}
-use Rattle.sky_model.specs.History.{Mark, began, ended, block_begun, block_failed, block_ended, repeats, looked, tabled, queued, History}
+use Rattle.sky_model.specs.History.{Mark, of_session, began, ended, block_begun, block_failed, block_ended, repeats, looked, tabled, queued, History}
 use Rattle.sky_model.specs.Transactions.{next_txid, running, has_ended, has_committed, has_rolled_back, snapshot}
 use Rattle.sky_model.specs.Sessions.{own_txid}
 use Rattle.sky_model.proofs.Legal.{Fine, begins, ends, begins_block, fails_block, ends_block, repeats_block, looks, makes_table, writes, begins_waiting, ends_waiting, makes, raises, puts, ticks_next, registers, opens, closes, traces, Legal, start, next}
@@ -154,7 +154,7 @@ runs-unended h s t runs = of (nat_lt t (next_txid h)) (has_ended h t) (sym (s.ru
     of false true e = cc
     of false false e = refl
 
-sound_began : (h : History) (who : ℕ) → Sound h → Sound (began who (next_txid h) ∷ h)
+sound_began : (h : History) (who : ℕ) → Sound h → Sound (began (of_session who) (next_txid h) ∷ h)
 sound_began h who s = record {
   first = (let three : 3 ≤ next_txid h = s.first in omega arith);
   runs = λ t. contains-push t (next_txid h) (running h) ∙ ap (λ b. b || t == next_txid h) (s.runs t) ∙ more t (has_ended h t) (s.ended_below t);
@@ -187,7 +187,7 @@ sound_began h who s = record {
     more t true lt = let below : t < next_txid h = lt refl in grind (arith, nat_tests)
     more t false lt = grind (arith, nat_tests)
 
-sound_ended : (h : History) (who t : ℕ) (committed : Bool) → own_txid who h ≡ Some t → Sound h → Sound (ended who t committed ∷ h)
+sound_ended : (h : History) (who t : ℕ) (committed : Bool) → own_txid who h ≡ Some t → Sound h → Sound (ended (of_session who) t committed ∷ h)
 sound_ended h who t committed mine s = record {
   first = s.first;
   runs = λ u. contains-filter u t (running h) ∙ ap (λ b. b && not (u == t)) (s.runs u) ∙ less (nat_lt u (next_txid h)) (has_ended h u) (u == t);
@@ -231,9 +231,9 @@ sound_step h _ (ends_block who e) s = record { first = s.first; runs = s.runs; e
 sound_step h _ (repeats_block who) s = record { first = s.first; runs = s.runs; ended_below = s.ended_below; rising = s.rising; below = s.below; owns = s.owns; once = s.once }
 sound_step h _ (looks who) s = record { first = s.first; runs = s.runs; ended_below = s.ended_below; rising = s.rising; below = s.below; owns = s.owns; once = s.once }
 sound_step h _ (makes_table name columns e) s = record { first = s.first; runs = s.runs; ended_below = s.ended_below; rising = s.rising; below = s.below; owns = s.owns; once = s.once }
-sound_step h _ (begins_waiting who n at_key attempt) s = record { first = s.first; runs = s.runs; ended_below = s.ended_below; rising = s.rising; below = s.below; owns = s.owns; once = s.once }
+sound_step h _ (begins_waiting who n at_key attempt fits) s = record { first = s.first; runs = s.runs; ended_below = s.ended_below; rising = s.rising; below = s.below; owns = s.owns; once = s.once }
 sound_step h _ (ends_waiting who) s = record { first = s.first; runs = s.runs; ended_below = s.ended_below; rising = s.rising; below = s.below; owns = s.owns; once = s.once }
-sound_step h _ (writes who u table key old new e free) s = record { first = s.first; runs = s.runs; ended_below = s.ended_below; rising = s.rising; below = s.below; owns = s.owns; once = s.once }
+sound_step h _ (writes who u table key old new e free stands) s = record { first = s.first; runs = s.runs; ended_below = s.ended_below; rising = s.rising; below = s.below; owns = s.owns; once = s.once }
 sound_step h _ (makes name e) s = record { first = s.first; runs = s.runs; ended_below = s.ended_below; rising = s.rising; below = s.below; owns = s.owns; once = s.once }
 sound_step h _ (raises q v i l) s = record { first = s.first; runs = s.runs; ended_below = s.ended_below; rising = s.rising; below = s.below; owns = s.owns; once = s.once }
 sound_step h _ (puts who q e i n o newest) s = record { first = s.first; runs = s.runs; ended_below = s.ended_below; rising = s.rising; below = s.below; owns = s.owns; once = s.once }
@@ -335,9 +335,9 @@ has_committed-ended _ (next {h = h} l (ends_block who e)) t = has_committed-ende
 has_committed-ended _ (next {h = h} l (repeats_block who)) t = has_committed-ended h l t
 has_committed-ended _ (next {h = h} l (looks who)) t = has_committed-ended h l t
 has_committed-ended _ (next {h = h} l (makes_table name columns e)) t = has_committed-ended h l t
-has_committed-ended _ (next {h = h} l (begins_waiting who n at_key attempt)) t = has_committed-ended h l t
+has_committed-ended _ (next {h = h} l (begins_waiting who n at_key attempt fits)) t = has_committed-ended h l t
 has_committed-ended _ (next {h = h} l (ends_waiting who)) t = has_committed-ended h l t
-has_committed-ended _ (next {h = h} l (writes who u table key old new e free)) t = has_committed-ended h l t
+has_committed-ended _ (next {h = h} l (writes who u table key old new e free stands)) t = has_committed-ended h l t
 has_committed-ended _ (next {h = h} l (makes name e)) t = has_committed-ended h l t
 has_committed-ended _ (next {h = h} l (raises q v i le)) t = has_committed-ended h l t
 has_committed-ended _ (next {h = h} l (puts who q e i n o newest)) t = has_committed-ended h l t

@@ -9,10 +9,11 @@ use Rattle.sky_names.specs.Places.{place_of}
 use Rattle.sky_model.specs.History.{Past}
 use Rattle.sky_model.specs.World.{World, world_of, session_names, history_in, on_top, after_facts}
 use Rattle.sky_model.specs.Reader.{within_database, by_past, by_world, Deed, refuses, appears, joined, followed}
-use Rattle.sky_model.specs.Calls.{database_turn, is_leaving, deed_in, session_does, turn, Call, called, does, after, past_of, answers_of}
-use Rattle.sky_model.specs.Steps.{Steps, deed_at, answers_at, after_call}
+use Rattle.sky_model.specs.Calls.{database_turn, is_leaving, deed_in, session_does, turn, Call, called, does, after, world_part, past_of, answers_of}
+use Rattle.sky_model.specs.Steps.{IsCallInForm, Steps, deed_at, answers_at, after_call}
 use Rattle.sky_model.proofs.Marks.{world_of-facts}
-use Rattle.sky_model.proofs.Lawful.{AllLegal, same-turn-within, legal_past}
+use Rattle.sky_model.proofs.Histories.{AllLegal, same-turn-within, legal_past}
+use Rattle.sky_model.proofs.Promised.{promised}
 use Rattle.sky_model.proofs.RowStanding.{turn-within}
 use Rattle.sky_model.proofs.DatabaseStanding.{same-turn_at}
 
@@ -54,9 +55,9 @@ world_of-after : (past : Past) → AllLegal past → (call : Call) → world_of 
 world_of-after past all call =
     world_of-facts past (does past call).facts ∙ ap (λ (deed : Deed). after_facts (world_of past) deed.facts) (does-deed_at past all call)
 
--- an exact step is a step of each history after which the world was as it was
+-- a call that answers and changes the world as the world itself tells keeps its promise
 pub steps_from_exact : (old new : World) (call : Call) (replies : List (ℕ × Reply)) → replies ≡ answers_at old call → new ≡ after_call old call → Steps old new call replies
-steps_from_exact old new call replies replied stands = record {
-  replied = λ calls is. replied ∙ ap (λ w. answers_at w call) is ∙ sym (answers_of-answers_at (past_of calls) (legal_past calls) call);
-  stands = λ calls is. stands ∙ ap (λ w. after_call w call) is ∙ sym (world_of-after (past_of calls) (legal_past calls) call);
-}
+steps_from_exact old new call =
+    promised world_part IsCallInForm call (λ w. answers_at w call) (λ w. after_call w call)
+    (λ calls in_form. sym (answers_of-answers_at (past_of calls) (legal_past calls) call))
+    (λ calls in_form. sym (world_of-after (past_of calls) (legal_past calls) call)) old new

@@ -10,7 +10,7 @@ use Rattle.sky_model.specs.declared.stmt.Stmt.TheVariants.{Row}
 use Rattle.sky_model.specs.declared.reply.Reply.TheVariants.{Refused}
 use Rattle.sky_model.specs.declared.reply.Refusal.{Refusal}
 use Rattle.sky_model.specs.declared.reply.Refusal.TheVariants.{EventIdsSpent}
-use Rattle.sky_model.specs.History.{Mark, looked, tabled, wrote, waited, queued}
+use Rattle.sky_model.specs.History.{Mark, looked, of_session, tabled, wrote, waited, queued}
 use Rattle.sky_model.specs.Sessions.{Session}
 use Rattle.sky_model.specs.State.{RowPart, after_part, after_part_marks, Database, after_mark, after_marks}
 use Rattle.sky_model.specs.ShownRows.{rows_by}
@@ -28,9 +28,9 @@ use Rattle.sky_model.proofs.GatedLemmas.{gated-behind, passed-append, WritesNone
 use Rattle.sky_model.proofs.DatabaseStanding.{after_marks-append, behind-all}
 use Rattle.sky_model.proofs.Inserted.{Inserted, none, kept, with_raised, with_put, inserted-same, inserted-append}
 
--- a mark that is neither a write nor a queue's
+-- a mark that is neither a session's write nor a queue's
 abbrev pub IsOther : Mark → Type 0
-IsOther (tabled (wrote who t table key old new)) = ⊥
+IsOther (tabled (wrote (of_session who) t table key old new)) = ⊥
 IsOther (queued mark) = ⊥
 IsOther _ = Unit {0}
 
@@ -39,12 +39,12 @@ pub record TellsAlike {G : Type 0} (gate : Gate G) (now : ℤ) (related : Databa
   pub part : (d : Database) (p : RowPart) (g : G) → related d p g → d.part ≡ p
   pub other : (d : Database) (p : RowPart) (g : G) (mark : Mark) → IsOther mark → related d p g → related (after_mark d mark) (after_part p mark) g
   pub room : (d : Database) (p : RowPart) (g : G) (who t table : ℕ) (key : List Val) (old new : Option (List Val)) → related d p g
-      → takes gate g (tabled (wrote who t table key old new))
-      ≡ is_ok (told_of (after_mark d (tabled (wrote who t table key old new))) now (tabled (wrote who t table key old new)))
+      → takes gate g (tabled (wrote (of_session who) t table key old new))
+      ≡ is_ok (told_of (after_mark d (tabled (wrote (of_session who) t table key old new))) now (tabled (wrote (of_session who) t table key old new)))
   pub wrote : (d : Database) (p : RowPart) (g : G) (who t table : ℕ) (key : List Val) (old new : Option (List Val)) (told : List Mark) → related d p g
-      → told_of (after_mark d (tabled (wrote who t table key old new))) now (tabled (wrote who t table key old new)) ≡ Ok told
-      → related (after_marks d (tabled (wrote who t table key old new) ∷ told)) (after_part p (tabled (wrote who t table key old new)))
-      (passed gate g (tabled (wrote who t table key old new)))
+      → told_of (after_mark d (tabled (wrote (of_session who) t table key old new))) now (tabled (wrote (of_session who) t table key old new)) ≡ Ok told
+      → related (after_marks d (tabled (wrote (of_session who) t table key old new) ∷ told)) (after_part p (tabled (wrote (of_session who) t table key old new)))
+      (passed gate g (tabled (wrote (of_session who) t table key old new)))
 
 -- the answer is the same, the database has the marks of events among those of the row part, and all stands alike behind them
 record SameOutcome {G : Type 0} (gate : Gate G) (related : Database → RowPart → G → Type 0) (d : Database) (p : RowPart) (g : G) (behind_gate told : Outcome) : Type 0 where
@@ -111,12 +111,12 @@ module _ {G : Type 0} (gate : Gate G) (now : ℤ) (related : Database → RowPar
   told-mark : (mark : Mark) (marks : List Mark) → RowMarks (mark ∷ marks) → (d : Database) (p : RowPart) (g : G) → related d p g
       → ToldMark d p g mark (takes gate g mark) (told_of (after_mark d mark) now mark)
   told-mark (queued mark) marks rows d p g is = absurd rows
-  told-mark (tabled (wrote who t table key old new)) marks rows d p g is =
+  told-mark (tabled (wrote (of_session who) t table key old new)) marks rows d p g is =
       of (takes gate g write) (told_of (after_mark d write) now write) refl (alike.room d p g who t table key old new is)
       (told_by-events (after_mark d write) now t (events_in (after_mark d write) table old new))
     where
       write : Mark
-      write = tabled (wrote who t table key old new)
+      write = tabled (wrote (of_session who) t table key old new)
 
       of : (b : Bool) (x : Checked (List Mark)) → told_of (after_mark d write) now write ≡ x → b ≡ is_ok x → EventMarks x → ToldMark d p g write b x
       of b (Ok told) same room only = subst (λ c. ToldMark d p g write c (Ok told)) (sym room) (only, alike.wrote d p g who t table key old new told is same)

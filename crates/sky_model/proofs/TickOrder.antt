@@ -107,9 +107,9 @@ committed_later _ (next {h = h} l (ends_block who e)) q from to t less there = c
 committed_later _ (next {h = h} l (repeats_block who)) q from to t less there = committed_later h l q from to t less there
 committed_later _ (next {h = h} l (looks who)) q from to t less there = committed_later h l q from to t less there
 committed_later _ (next {h = h} l (makes_table name columns e)) q from to t less there = committed_later h l q from to t less there
-committed_later _ (next {h = h} l (begins_waiting who n at_key attempt)) q from to t less there = committed_later h l q from to t less there
+committed_later _ (next {h = h} l (begins_waiting who n at_key attempt fits)) q from to t less there = committed_later h l q from to t less there
 committed_later _ (next {h = h} l (ends_waiting who)) q from to t less there = committed_later h l q from to t less there
-committed_later _ (next {h = h} l (writes who u table key old new e free)) q from to t less there = committed_later h l q from to t less there
+committed_later _ (next {h = h} l (writes who u table key old new e free stands)) q from to t less there = committed_later h l q from to t less there
 committed_later _ (next {h = h} l (makes name new)) q from to t less there = committed_later h l q from to t less there
 committed_later _ (next {h = h} l (raises p v i e)) q from to t less there = committed_later h l q from to t less there
 committed_later _ (next {h = h} l (puts who p e i s o newest)) q from to t less there = committed_later h l q from to t less there

@@ -1,15 +1,16 @@
 -- What ticks keep of the history as it was when they were made.
-use Rattle.std.proofs.Common.{◌≡◌, ℕ, ◌<◌, ◌≤◌, List, [], ◌∷◌, ◌++◌, Bool, true, false, ◌&&◌, ◌==◌, Option, Some, None, length, refl, sym, ◌∙◌, ap, subst, arith, if◌then◌else◌, length-append}
+use Rattle.std.proofs.Common.{◌≡◌, ℕ, ◌<◌, ◌≤◌, List, [], ◌∷◌, ◌++◌, Bool, true, false, ◌&&◌, ◌==◌, Option, Some, None, refl, sym, ◌∙◌, ap, subst, arith, if◌then◌else◌}
 use Rattle.std.proofs.lemmas.Bool.Decides.{nat_tests}
 use Rattle.sky_model.specs.History.{History}
 use Rattle.sky_model.specs.Transactions.{snapshot}
-use Rattle.sky_model.specs.Queues.{queue_names, Tick, ticks, tick, newest_tick, at_tick}
+use Rattle.sky_model.specs.Queues.{queues_made, Tick, ticks, tick, newest_tick, at_tick}
 use Rattle.sky_model.specs.StepQueue.{id_of}
 use Rattle.sky_model.specs.Selection.{snapshot_at}
 use Rattle.sky_model.proofs.Legal.{begins, ends, begins_block, fails_block, ends_block, repeats_block, looks, makes_table, writes, begins_waiting, ends_waiting, makes, raises, puts, ticks_next, registers, opens, closes, traces, Legal, start, next}
+use Rattle.sky_model.proofs.QueueNumbers.{queue-below}
 
 -- a queue that isn't made yet has no ticks
-pub ticks_beyond : (h : History) → Legal h → (q : ℕ) → length (queue_names h) ≤ q → ticks q h ≡ []
+pub ticks_beyond : (h : History) → Legal h → (q : ℕ) → queues_made h ≤ q → ticks q h ≡ []
 ticks_beyond [] start q le = refl
 ticks_beyond _ (next {h = h} l (begins who e)) q le = ticks_beyond h l q le
 ticks_beyond _ (next {h = h} l (ends who t committed mine)) q le = ticks_beyond h l q le
@@ -19,16 +20,16 @@ ticks_beyond _ (next {h = h} l (ends_block who e)) q le = ticks_beyond h l q le
 ticks_beyond _ (next {h = h} l (repeats_block who)) q le = ticks_beyond h l q le
 ticks_beyond _ (next {h = h} l (looks who)) q le = ticks_beyond h l q le
 ticks_beyond _ (next {h = h} l (makes_table name columns e)) q le = ticks_beyond h l q le
-ticks_beyond _ (next {h = h} l (begins_waiting who n at_key attempt)) q le = ticks_beyond h l q le
+ticks_beyond _ (next {h = h} l (begins_waiting who n at_key attempt fits)) q le = ticks_beyond h l q le
 ticks_beyond _ (next {h = h} l (ends_waiting who)) q le = ticks_beyond h l q le
-ticks_beyond _ (next {h = h} l (writes who u table key old new e free)) q le = ticks_beyond h l q le
-ticks_beyond _ (next {h = h} l (makes name new)) q le = ticks_beyond h l q (omega (arith, length-append (queue_names h) (name ∷ []), le))
+ticks_beyond _ (next {h = h} l (writes who u table key old new e free stands)) q le = ticks_beyond h l q le
+ticks_beyond _ (next {h = h} l (makes name new)) q le = ticks_beyond h l q (omega (arith, le))
 ticks_beyond _ (next {h = h} l (raises p v i e)) q le = ticks_beyond h l q le
 ticks_beyond _ (next {h = h} l (puts who p e i s o newest)) q le = ticks_beyond h l q le
 ticks_beyond _ (next {h = h} l (ticks_next p id time seq i e)) q le = of (p == q) refl (ticks_beyond h l q le)
   where
     of : (b : Bool) → (p == q) ≡ b → ticks q h ≡ [] → (if b then ticks q h ++ record { id = id; time = time; snapshot = snapshot h; seq = seq } ∷ [] else ticks q h) ≡ []
-    of true e ih = let lt : p < length (queue_names h) = i in absurd (grind (arith, nat_tests))
+    of true e ih = let lt : p < queues_made h = queue-below h p i in absurd (grind (arith, nat_tests))
     of false e ih = ih
 ticks_beyond _ (next {h = h} l (registers p name sub tick i e f g)) q le = ticks_beyond h l q le
 ticks_beyond _ (next {h = h} l (opens b e)) q le = ticks_beyond h l q le
@@ -80,9 +81,9 @@ none_above _ (next {h = h} l (ends_block who e)) q = none_above h l q
 none_above _ (next {h = h} l (repeats_block who)) q = none_above h l q
 none_above _ (next {h = h} l (looks who)) q = none_above h l q
 none_above _ (next {h = h} l (makes_table name columns e)) q = none_above h l q
-none_above _ (next {h = h} l (begins_waiting who n at_key attempt)) q = none_above h l q
+none_above _ (next {h = h} l (begins_waiting who n at_key attempt fits)) q = none_above h l q
 none_above _ (next {h = h} l (ends_waiting who)) q = none_above h l q
-none_above _ (next {h = h} l (writes who u table key old new e free)) q = none_above h l q
+none_above _ (next {h = h} l (writes who u table key old new e free stands)) q = none_above h l q
 none_above _ (next {h = h} l (makes name new)) q = none_above h l q
 none_above _ (next {h = h} l (raises p v i e)) q = none_above h l q
 none_above _ (next {h = h} l (puts who p e i s o newest)) q = none_above h l q
@@ -110,9 +111,9 @@ snapshot-at_tick _ (next {h = h} l (ends_block who e)) q id = snapshot-at_tick h
 snapshot-at_tick _ (next {h = h} l (repeats_block who)) q id = snapshot-at_tick h l q id
 snapshot-at_tick _ (next {h = h} l (looks who)) q id = snapshot-at_tick h l q id
 snapshot-at_tick _ (next {h = h} l (makes_table name columns e)) q id = snapshot-at_tick h l q id
-snapshot-at_tick _ (next {h = h} l (begins_waiting who n at_key attempt)) q id = snapshot-at_tick h l q id
+snapshot-at_tick _ (next {h = h} l (begins_waiting who n at_key attempt fits)) q id = snapshot-at_tick h l q id
 snapshot-at_tick _ (next {h = h} l (ends_waiting who)) q id = snapshot-at_tick h l q id
-snapshot-at_tick _ (next {h = h} l (writes who u table key old new e free)) q id = snapshot-at_tick h l q id
+snapshot-at_tick _ (next {h = h} l (writes who u table key old new e free stands)) q id = snapshot-at_tick h l q id
 snapshot-at_tick _ (next {h = h} l (makes name new)) q id = snapshot-at_tick h l q id
 snapshot-at_tick _ (next {h = h} l (raises p v i e)) q id = snapshot-at_tick h l q id
 snapshot-at_tick _ (next {h = h} l (puts who p e i s o newest)) q id = snapshot-at_tick h l q id
@@ -149,9 +150,9 @@ legal-at_tick _ (next {h = h} l (ends_block who e)) q id = legal-at_tick h l q i
 legal-at_tick _ (next {h = h} l (repeats_block who)) q id = legal-at_tick h l q id
 legal-at_tick _ (next {h = h} l (looks who)) q id = legal-at_tick h l q id
 legal-at_tick _ (next {h = h} l (makes_table name columns e)) q id = legal-at_tick h l q id
-legal-at_tick _ (next {h = h} l (begins_waiting who n at_key attempt)) q id = legal-at_tick h l q id
+legal-at_tick _ (next {h = h} l (begins_waiting who n at_key attempt fits)) q id = legal-at_tick h l q id
 legal-at_tick _ (next {h = h} l (ends_waiting who)) q id = legal-at_tick h l q id
-legal-at_tick _ (next {h = h} l (writes who u table key old new e free)) q id = legal-at_tick h l q id
+legal-at_tick _ (next {h = h} l (writes who u table key old new e free stands)) q id = legal-at_tick h l q id
 legal-at_tick _ (next {h = h} l (makes name new)) q id = legal-at_tick h l q id
 legal-at_tick _ (next {h = h} l (raises p v i e)) q id = legal-at_tick h l q id
 legal-at_tick _ (next {h = h} l (puts who p e i s o newest)) q id = legal-at_tick h l q id

@@ -106,9 +106,9 @@ cond-Some true x y so = refl
 cond-Some false x y so = absurd (cc)
 
 -- what was mapped to a value was one
-option_map-Some : {A B : Type 0} (f : A → B) (o : Option A) (y : B) → option_map f o ≡ Some y → (x : A) × (o ≡ Some x)
+pub option_map-Some : {A B : Type 0} (f : A → B) (o : Option A) (y : B) → option_map f o ≡ Some y → (x : A) × (o ≡ Some x) × (f x ≡ y)
 option_map-Some f None y so = absurd (cc)
-option_map-Some f (Some x) y so = (x, refl)
+option_map-Some f (Some x) y so = (x, refl, cc)
 
 -- from inside quotes, or from behind a quote, to a text's closing quote
 whole-text_from : (quote : Bool) (bs text : List ℕ) → text_from quote bs ≡ Some text → whole (not quote) bs ≡ true
@@ -219,7 +219,7 @@ whole-column_kind w k so =
     whole-text w (codes "int") _ _ k refl (whole-text w (codes "int:key") _ _ k refl (whole-text w (codes "text") _ _ k refl (whole-text w (codes "text:key") _ _ k refl (λ e. absurd (cc))))) so
 
 -- what a test let through passed it
-cond-passed : {A : Type 0} (b : Bool) (o : Option A) (y : A) → cond b o None ≡ Some y → (b ≡ true) × (o ≡ Some y)
+pub cond-passed : {A : Type 0} (b : Bool) (o : Option A) (y : A) → cond b o None ≡ Some y → (b ≡ true) × (o ≡ Some y)
 cond-passed true o y so = (refl, so)
 cond-passed false o y so = absurd (cc)
 

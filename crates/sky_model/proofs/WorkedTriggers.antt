@@ -13,7 +13,7 @@ use Rattle.sky_model.specs.declared.stmt.Stmt.TheVariants.{Row, CreateQueue, Add
 use Rattle.sky_model.specs.declared.reply.Reply.{Reply}
 use Rattle.sky_model.specs.declared.reply.Reply.TheVariants.{Done, Refused}
 use Rattle.sky_model.specs.declared.reply.Refusal.TheVariants.{BadColumn, TableBusy, TriggerExists}
-use Rattle.sky_model.specs.History.{ended, tabled, wrote, queued, raised, put, History}
+use Rattle.sky_model.specs.History.{of_session, ended, tabled, wrote, queued, raised, put, History}
 use Rattle.sky_model.specs.Queues.{events}
 use Rattle.sky_model.specs.World.{history_in}
 use Rattle.sky_model.specs.Calls.{Call, past_of, answers_of}
@@ -69,10 +69,10 @@ event id t ev_type ev_data before = record {
 
 -- behind an insert stand an event of each trigger, and then the end of its transaction
 inserted : take 6 (then (a (insert 1) ∷ []))
-    ≡ ended 0 4 true
+    ≡ ended (of_session 0) 4 true
     ∷ queued (put 0 (event 2 4 (codes "I:id") (text 1 0) None)) ∷ queued (raised 0 2)
     ∷ queued (put 0 (event 1 4 (codes "I:id") (text 1 0) None)) ∷ queued (raised 0 1)
-    ∷ tabled (wrote 0 4 0 (key 1) None (Some (row 1 0))) ∷ []
+    ∷ tabled (wrote (of_session 0) 4 0 (key 1) None (Some (row 1 0))) ∷ []
 inserted = refl
 
 -- a statement that waited writes when it goes on, so its event comes behind those of the other one
@@ -91,7 +91,7 @@ written_in_turn = refl
 -- the update has its row as it was, too
 updated : take 3 (then waited_for)
     ≡ queued (put 0 (event 6 5 (codes "U:id") (text 1 2) (Some (text 1 1)))) ∷ queued (raised 0 6)
-    ∷ tabled (wrote 1 5 0 (key 1) (Some (row 1 1)) (Some (row 1 2))) ∷ []
+    ∷ tabled (wrote (of_session 1) 5 0 (key 1) (Some (row 1 1)) (Some (row 1 2))) ∷ []
 updated = refl
 
 abbrev answers : List Call → Stmt → List (ℕ × Reply)

@@ -7,7 +7,7 @@ use Rattle.sky_val.specs.declared.val.Val.{Val}
 use Rattle.sky_val.specs.Order.{key_cmp}
 use Rattle.sky_txid.specs.Ids.{contains}
 use Rattle.sky_txid.proofs.EntryLemmas.{key_ties-is}
-use Rattle.sky_model.specs.History.{Mark, ended, tabled, wrote, History}
+use Rattle.sky_model.specs.History.{Mark, Whose, ended, tabled, wrote, History}
 use Rattle.sky_model.specs.Transactions.{has_ended, has_committed, has_rolled_back}
 use Rattle.sky_model.specs.Rows.{committed, writes as writes_of, has_written}
 use Rattle.sky_model.specs.LawsOfWrites.{writers, is_before, KeysAreWrittenInTurn, WritesAndCommitsHaveOneOrder, SnapshotsSeeEarlierWriters}
@@ -86,9 +86,9 @@ turned_test t v true e = grind (arith, nat_tests)
 turned_test t v false e = grind (arith, nat_tests)
 
 -- they are the same as by the writes of each
-written-step : (h : History) (who v n table : ℕ) (k key : List Val) (old new : Option (List Val)) (t : ℕ) → contains t (writers table key h) ≡ has_written key (writes_of table t h)
-    → contains t (writers table key (tabled (wrote who v n k old new) ∷ h)) ≡ has_written key (writes_of table t (tabled (wrote who v n k old new) ∷ h))
-written-step h who v n table k key old new t ih = of (n == table) (eq_by_cmp key_cmp k key) refl (v == t) refl
+written-step : (h : History) (whose : Whose) (v n table : ℕ) (k key : List Val) (old new : Option (List Val)) (t : ℕ) → contains t (writers table key h) ≡ has_written key (writes_of table t h)
+    → contains t (writers table key (tabled (wrote whose v n k old new) ∷ h)) ≡ has_written key (writes_of table t (tabled (wrote whose v n k old new) ∷ h))
+written-step h whose v n table k key old new t ih = of (n == table) (eq_by_cmp key_cmp k key) refl (v == t) refl
   where
     pushed : (b : Bool) → eq_by_cmp key_cmp k key ≡ b → has_written key (writes_of table t h ++ record { key = k; row = new } ∷ []) ≡ (has_written key (writes_of table t h) || b)
     pushed b e = has_written-push key (writes_of table t h) (record { key = k; row = new }) ∙ ap (λ c. has_written key (writes_of table t h) || c) (turned key k ∙ e)
@@ -104,34 +104,34 @@ written-step h who v n table k key old new t ih = of (n == table) (eq_by_cmp key
 
 writers-written : (table : ℕ) (key : List Val) (t : ℕ) (h : History) → contains t (writers table key h) ≡ has_written key (writes_of table t h)
 writers-written table key t [] = refl
-writers-written table key t (tabled (wrote who v n k old new) ∷ h) = written-step h who v n table k key old new t (writers-written table key t h)
+writers-written table key t (tabled (wrote whose v n k old new) ∷ h) = written-step h whose v n table k key old new t (writers-written table key t h)
 writers-written table key t (_ ∷ h) = writers-written table key t h
 
 -- ---- who has ended where another one writes a key
 
 -- one that writes a key hasn't ended
-writer-unended : (h : History) (who u table : ℕ) (key : List Val) (old new : Option (List Val)) → Legal h → Fine h (tabled (wrote who u table key old new)) → has_ended h u ≡ false
-writer-unended h _ _ _ _ _ _ l (writes who u table key old new mine free) = own-unended h l who u mine
+writer-unended : (h : History) (whose : Whose) (u table : ℕ) (key : List Val) (old new : Option (List Val)) → Legal h → Fine h (tabled (wrote whose u table key old new)) → has_ended h u ≡ false
+writer-unended h _ _ _ _ _ _ l (writes who u table key old new mine free stands) = own-unended h l who u mine
 
 -- and each other one that has written it has
-others-ended : (h : History) (who u table : ℕ) (key : List Val) (old new : Option (List Val)) → Legal h → Fine h (tabled (wrote who u table key old new))
+others-ended : (h : History) (whose : Whose) (u table : ℕ) (key : List Val) (old new : Option (List Val)) → Legal h → Fine h (tabled (wrote whose u table key old new))
     → (t : ℕ) → (t == u) ≡ false → has_written key (writes_of table t h) ≡ true → has_ended h t ≡ true
-others-ended h _ _ _ _ _ _ l (writes who u table key old new mine free) t other wrote_it = of (has_ended h t) refl
+others-ended h _ _ _ _ _ _ l (writes who u table key old new mine free stands) t other wrote_it = of (has_ended h t) refl
   where
     of : (b : Bool) → has_ended h t ≡ b → b ≡ true
     of true is = refl
     of false is = absurd (nobody-else h l who u table key mine free t is (turned_test u t false other) wrote_it)
 
 pub keys_are_written_in_turn : KeysAreWrittenInTurn
-keys_are_written_in_turn p who u table key old new is =
-    let l : Legal (tabled (wrote who u table key old new) ∷ p) = legal_place (tabled (wrote who u table key old new) ∷ p) is in
-    let fine : Fine p (tabled (wrote who u table key old new)) = fine_mark l in
-    (writer-unended p who u table key old new (legal-below_mark l) fine, λ t other wrote_it. others-ended p who u table key old new (legal-below_mark l) fine t (apart t u other) wrote_it)
+keys_are_written_in_turn p whose u table key old new is =
+    let l : Legal (tabled (wrote whose u table key old new) ∷ p) = legal_place (tabled (wrote whose u table key old new) ∷ p) is in
+    let fine : Fine p (tabled (wrote whose u table key old new)) = fine_mark l in
+    (writer-unended p whose u table key old new (legal-below_mark l) fine, λ t other wrote_it. others-ended p whose u table key old new (legal-below_mark l) fine t (apart t u other) wrote_it)
 
 -- a write adds its transaction to those that wrote its key, and to no other
-by-write : (table : ℕ) (key : List Val) (h : History) (who v n : ℕ) (k : List Val) (old new : Option (List Val)) (holds : List ℕ → Type 0)
-    → (n ≡ table → k ≡ key → holds (writers table key h ++ v ∷ [])) → holds (writers table key h) → holds (writers table key (tabled (wrote who v n k old new) ∷ h))
-by-write table key h who v n k old new holds at_end before = of (n == table) refl (eq_by_cmp key_cmp k key) refl
+by-write : (table : ℕ) (key : List Val) (h : History) (whose : Whose) (v n : ℕ) (k : List Val) (old new : Option (List Val)) (holds : List ℕ → Type 0)
+    → (n ≡ table → k ≡ key → holds (writers table key h ++ v ∷ [])) → holds (writers table key h) → holds (writers table key (tabled (wrote whose v n k old new) ∷ h))
+by-write table key h whose v n k old new holds at_end before = of (n == table) refl (eq_by_cmp key_cmp k key) refl
   where
     of : (a : Bool) → (n == table) ≡ a → (b : Bool) → eq_by_cmp key_cmp k key ≡ b → holds (if a && b then writers table key h ++ v ∷ [] else writers table key h)
     of true same true tie = at_end (grind (arith, nat_tests)) (key_ties-is k key tie)
@@ -139,11 +139,11 @@ by-write table key h who v n k old new holds at_end before = of (n == table) ref
     of false same b tie = before
 
 -- where one wrote a key before another, it has ended
-before-step : (table : ℕ) (key : List Val) (t u : ℕ) (h : History) (who v n : ℕ) (k : List Val) (old new : Option (List Val)) → Legal (tabled (wrote who v n k old new) ∷ h)
+before-step : (table : ℕ) (key : List Val) (t u : ℕ) (h : History) (whose : Whose) (v n : ℕ) (k : List Val) (old new : Option (List Val)) → Legal (tabled (wrote whose v n k old new) ∷ h)
     → (t == u) ≡ false → (is_before t u (writers table key h) ≡ true → has_ended h t ≡ true)
-    → is_before t u (writers table key (tabled (wrote who v n k old new) ∷ h)) ≡ true → has_ended h t ≡ true
-before-step table key t u h who v n k old new l other ih =
-    by-write table key h who v n k old new (λ vs. is_before t u vs ≡ true → has_ended h t ≡ true)
+    → is_before t u (writers table key (tabled (wrote whose v n k old new) ∷ h)) ≡ true → has_ended h t ≡ true
+before-step table key t u h whose v n k old new l other ih =
+    by-write table key h whose v n k old new (λ vs. is_before t u vs ≡ true → has_ended h t ≡ true)
     (λ table_is key_is e. pushed table_is key_is (is_before t u (writers table key h)) refl (contains t (writers table key h)) refl (u == v) refl (sym (is_before-push t u v (writers table key h)) ∙ e))
     ih
   where
@@ -153,15 +153,15 @@ before-step table key t u h who v n k old new l other ih =
     pushed table_is key_is false isb true isc true isd e =
         let apart_now : (t == v) ≡ false = grind (arith, nat_tests) in
         let wrote_it : has_written k (writes_of n t h) ≡ true = (λ i. has_written (key_is i) (writes_of (table_is i) t h)) ∙ sym (writers-written table key t h) ∙ isc in
-        others-ended h who v n k old new (legal-below_mark l) (fine_mark l) t apart_now wrote_it
+        others-ended h whose v n k old new (legal-below_mark l) (fine_mark l) t apart_now wrote_it
     pushed table_is key_is false isb true isc false isd e = absurd (cc)
     pushed table_is key_is false isb false isc d isd e = absurd (cc)
 
 before-ended : (table : ℕ) (key : List Val) (t u : ℕ) (h : History) → Legal h → (t == u) ≡ false → is_before t u (writers table key h) ≡ true → has_ended h t ≡ true
 before-ended table key t u [] l other e = absurd (cc)
-before-ended table key t u (tabled (wrote who v n k old new) ∷ h) l other e =
-    before-step table key t u h who v n k old new l other (before-ended table key t u h (legal-below_mark l) other) e
-before-ended table key t u (ended who v c ∷ h) l other e = ended-behind h (ended who v c) t (before-ended table key t u h (legal-below_mark l) other e)
+before-ended table key t u (tabled (wrote whose v n k old new) ∷ h) l other e =
+    before-step table key t u h whose v n k old new l other (before-ended table key t u h (legal-below_mark l) other) e
+before-ended table key t u (ended whose v c ∷ h) l other e = ended-behind h (ended whose v c) t (before-ended table key t u h (legal-below_mark l) other e)
 before-ended table key t u (_ ∷ h) l other e = before-ended table key t u h (legal-below_mark l) other e
 
 -- ---- snapshots
@@ -171,23 +171,23 @@ ended-later [] p t e = e
 ended-later (mark ∷ later) p t e = ended-behind (later ++ p) mark t (ended-later later p t e)
 
 -- one that has ended writes no more, so nobody comes to stand before it
-still-step : (table : ℕ) (key : List Val) (t u : ℕ) (h : History) (who v n : ℕ) (k : List Val) (old new : Option (List Val)) → Legal (tabled (wrote who v n k old new) ∷ h)
-    → has_ended h u ≡ true → is_before t u (writers table key (tabled (wrote who v n k old new) ∷ h)) ≡ is_before t u (writers table key h)
-still-step table key t u h who v n k old new l over =
-    by-write table key h who v n k old new (λ vs. is_before t u vs ≡ is_before t u (writers table key h))
+still-step : (table : ℕ) (key : List Val) (t u : ℕ) (h : History) (whose : Whose) (v n : ℕ) (k : List Val) (old new : Option (List Val)) → Legal (tabled (wrote whose v n k old new) ∷ h)
+    → has_ended h u ≡ true → is_before t u (writers table key (tabled (wrote whose v n k old new) ∷ h)) ≡ is_before t u (writers table key h)
+still-step table key t u h whose v n k old new l over =
+    by-write table key h whose v n k old new (λ vs. is_before t u vs ≡ is_before t u (writers table key h))
     (λ table_is key_is. is_before-other t u v (writers table key h) (another (u == v) refl)) refl
   where
     another : (b : Bool) → (u == v) ≡ b → b ≡ false
     another false is = refl
     another true is =
         let one : u ≡ v = grind (arith, nat_tests) in
-        absurd (cc (sym over ∙ ap (has_ended h) one ∙ writer-unended h who v n k old new (legal-below_mark l) (fine_mark l)))
+        absurd (cc (sym over ∙ ap (has_ended h) one ∙ writer-unended h whose v n k old new (legal-below_mark l) (fine_mark l)))
 
 still-before : (table : ℕ) (key : List Val) (t u : ℕ) (later : List Mark) (p : History) → Legal (later ++ p) → has_ended p u ≡ true
     → is_before t u (writers table key (later ++ p)) ≡ is_before t u (writers table key p)
 still-before table key t u [] p l over = refl
-still-before table key t u (tabled (wrote who v n k old new) ∷ later) p l over =
-    still-step table key t u (later ++ p) who v n k old new l (ended-later later p u over) ∙ still-before table key t u later p (legal-below_mark l) over
+still-before table key t u (tabled (wrote whose v n k old new) ∷ later) p l over =
+    still-step table key t u (later ++ p) whose v n k old new l (ended-later later p u over) ∙ still-before table key t u later p (legal-below_mark l) over
 still-before table key t u (_ ∷ later) p l over = still-before table key t u later p (legal-below_mark l) over
 
 pub snapshots_see_earlier_writers : SnapshotsSeeEarlierWriters
@@ -206,7 +206,7 @@ snapshots_see_earlier_writers later p is table key t u first seen =
 -- who has committed stands among those that have, but the three that had before there was a history
 committed-listed : (h : History) (t : ℕ) → has_committed h t ≡ true → nat_lt t 3 ≡ false → contains t (committed h) ≡ true
 committed-listed [] t e over = absurd (cc)
-committed-listed (ended who u true ∷ h) t e over = contains-push t u (committed h) ∙ of (t == u) e (λ e. committed-listed h t e over)
+committed-listed (ended whose u true ∷ h) t e over = contains-push t u (committed h) ∙ of (t == u) e (λ e. committed-listed h t e over)
   where
     of : (b : Bool) → (b || has_committed h t) ≡ true → (has_committed h t ≡ true → contains t (committed h) ≡ true) → (contains t (committed h) || b) ≡ true
     of true e ih = or-last (contains t (committed h))
@@ -215,7 +215,7 @@ committed-listed (ended who u true ∷ h) t e over = contains-push t u (committe
         or-last true = refl
         or-last false = refl
     of false e ih = or_false (contains t (committed h)) ∙ ih e
-committed-listed (ended who u false ∷ h) t e over = committed-listed h t e over
+committed-listed (ended whose u false ∷ h) t e over = committed-listed h t e over
 committed-listed (_ ∷ h) t e over = committed-listed h t e over
 
 -- these had ended
@@ -224,15 +224,15 @@ early-ended [] t early = early
 early-ended (mark ∷ h) t early = ended-behind h mark t (early-ended h t early)
 
 -- so none of them writes
-writer-step : (table : ℕ) (key : List Val) (t : ℕ) (h : History) (who v n : ℕ) (k : List Val) (old new : Option (List Val)) → Legal (tabled (wrote who v n k old new) ∷ h)
-    → (contains t (writers table key h) ≡ true → nat_lt t 3 ≡ false) → contains t (writers table key (tabled (wrote who v n k old new) ∷ h)) ≡ true → nat_lt t 3 ≡ false
-writer-step table key t h who v n k old new l ih =
-    by-write table key h who v n k old new (λ vs. contains t vs ≡ true → nat_lt t 3 ≡ false)
+writer-step : (table : ℕ) (key : List Val) (t : ℕ) (h : History) (whose : Whose) (v n : ℕ) (k : List Val) (old new : Option (List Val)) → Legal (tabled (wrote whose v n k old new) ∷ h)
+    → (contains t (writers table key h) ≡ true → nat_lt t 3 ≡ false) → contains t (writers table key (tabled (wrote whose v n k old new) ∷ h)) ≡ true → nat_lt t 3 ≡ false
+writer-step table key t h whose v n k old new l ih =
+    by-write table key h whose v n k old new (λ vs. contains t vs ≡ true → nat_lt t 3 ≡ false)
     (λ table_is key_is e. of (contains t (writers table key h)) refl (t == v) refl (sym (contains-push t v (writers table key h)) ∙ e)) ih
   where
     late : (b : Bool) → nat_lt t 3 ≡ b → t ≡ v → b ≡ false
     late false is one = refl
-    late true is one = absurd (cc (sym (early-ended h t is) ∙ ap (has_ended h) one ∙ writer-unended h who v n k old new (legal-below_mark l) (fine_mark l)))
+    late true is one = absurd (cc (sym (early-ended h t is) ∙ ap (has_ended h) one ∙ writer-unended h whose v n k old new (legal-below_mark l) (fine_mark l)))
 
     of : (b : Bool) → contains t (writers table key h) ≡ b → (c : Bool) → (t == v) ≡ c → (b || c) ≡ true → nat_lt t 3 ≡ false
     of true isb c isc e = ih isb
@@ -241,11 +241,11 @@ writer-step table key t h who v n k old new l ih =
 
 writer-late : (table : ℕ) (key : List Val) (t : ℕ) (h : History) → Legal h → contains t (writers table key h) ≡ true → nat_lt t 3 ≡ false
 writer-late table key t [] l e = absurd (cc)
-writer-late table key t (tabled (wrote who v n k old new) ∷ h) l e = writer-step table key t h who v n k old new l (writer-late table key t h (legal-below_mark l)) e
+writer-late table key t (tabled (wrote whose v n k old new) ∷ h) l e = writer-step table key t h whose v n k old new l (writer-late table key t h (legal-below_mark l)) e
 writer-late table key t (_ ∷ h) l e = writer-late table key t h (legal-below_mark l) e
 
 -- one that ends hadn't
-ender-unended : (h : History) (who v : ℕ) (c : Bool) → Legal h → Fine h (ended who v c) → has_ended h v ≡ false
+ender-unended : (h : History) (whose : Whose) (v : ℕ) (c : Bool) → Legal h → Fine h (ended whose v c) → has_ended h v ≡ false
 ender-unended h _ _ _ l (ends who v c mine) = own-unended h l who v mine
 
 -- who has ended is another than who hasn't
@@ -268,17 +268,17 @@ unended-unlisted h t runs = of (contains t (committed h)) refl
 abbrev IsOneOrder : History → List ℕ → ℕ → ℕ → Type 0
 IsOneOrder h vs t u = contains t vs ≡ true → contains u vs ≡ true → contains u (committed h) ≡ true → is_before t u vs ≡ is_before t u (committed h)
 
-order-wrote : (table : ℕ) (key : List Val) (t u : ℕ) (h : History) (who v n : ℕ) (k : List Val) (old new : Option (List Val)) → Legal (tabled (wrote who v n k old new) ∷ h)
-    → IsOneOrder h (writers table key h) t u → IsOneOrder h (writers table key (tabled (wrote who v n k old new) ∷ h)) t u
-order-wrote table key t u h who v n k old new l ih =
-    by-write table key h who v n k old new (λ vs. IsOneOrder h vs t u)
+order-wrote : (table : ℕ) (key : List Val) (t u : ℕ) (h : History) (whose : Whose) (v n : ℕ) (k : List Val) (old new : Option (List Val)) → Legal (tabled (wrote whose v n k old new) ∷ h)
+    → IsOneOrder h (writers table key h) t u → IsOneOrder h (writers table key (tabled (wrote whose v n k old new) ∷ h)) t u
+order-wrote table key t u h whose v n k old new l ih =
+    by-write table key h whose v n k old new (λ vs. IsOneOrder h vs t u)
     (λ table_is key_is has_t has_u listed. of (ended-other h u v (committed-ended h u listed) runs) listed
     (contains t (writers table key h)) refl (t == v) refl (sym (contains-push t v (writers table key h)) ∙ has_t)
     (contains u (writers table key h)) refl (sym (contains-push u v (writers table key h)) ∙ has_u))
     ih
   where
     runs : has_ended h v ≡ false
-    runs = writer-unended h who v n k old new (legal-below_mark l) (fine_mark l)
+    runs = writer-unended h whose v n k old new (legal-below_mark l) (fine_mark l)
 
     of : (u == v) ≡ false → contains u (committed h) ≡ true → (a : Bool) → contains t (writers table key h) ≡ a → (b : Bool) → (t == v) ≡ b → (a || b) ≡ true
         → (c : Bool) → contains u (writers table key h) ≡ c → (c || u == v) ≡ true → is_before t u (writers table key h ++ v ∷ []) ≡ is_before t u (committed h)
@@ -290,16 +290,16 @@ order-wrote table key t u h who v n k old new l ih =
         ∙ sym (is_before-none t u (committed h) (unended-unlisted h t (ap (has_ended h) one ∙ runs)))
     of other listed false isa false isb has_t true isc has_u = absurd (cc)
 
-order-committed : (table : ℕ) (key : List Val) (t u : ℕ) (h : History) (who v : ℕ) → Legal (ended who v true ∷ h) → (t == u) ≡ false → has_rolled_back h t ≡ false
-    → IsOneOrder h (writers table key h) t u → IsOneOrder (ended who v true ∷ h) (writers table key h) t u
-order-committed table key t u h who v l other stays ih has_t has_u listed =
+order-committed : (table : ℕ) (key : List Val) (t u : ℕ) (h : History) (whose : Whose) (v : ℕ) → Legal (ended whose v true ∷ h) → (t == u) ≡ false → has_rolled_back h t ≡ false
+    → IsOneOrder h (writers table key h) t u → IsOneOrder (ended whose v true ∷ h) (writers table key h) t u
+order-committed table key t u h whose v l other stays ih has_t has_u listed =
     of (contains u (committed h)) refl (u == v) refl (sym (contains-push u v (committed h)) ∙ listed)
   where
     below : Legal h
     below = legal-below_mark l
 
     runs : has_ended h v ≡ false
-    runs = ender-unended h who v true below (fine_mark l)
+    runs = ender-unended h whose v true below (fine_mark l)
 
     -- the second one commits now: it ran until now, so its writes are the last ones
     isnt : (u == v) ≡ true → (b : Bool) → is_before u t (writers table key h) ≡ b → b ≡ false
@@ -329,11 +329,11 @@ order-committed table key t u h who v l other stays ih has_t has_u listed =
 
 in_one_order : (table : ℕ) (key : List Val) (t u : ℕ) (h : History) → Legal h → (t == u) ≡ false → has_rolled_back h t ≡ false → IsOneOrder h (writers table key h) t u
 in_one_order table key t u [] l other stays has_t has_u listed = refl
-in_one_order table key t u (tabled (wrote who v n k old new) ∷ h) l other stays has_t has_u listed =
-    order-wrote table key t u h who v n k old new l (in_one_order table key t u h (legal-below_mark l) other stays) has_t has_u listed
-in_one_order table key t u (ended who v true ∷ h) l other stays has_t has_u listed =
-    order-committed table key t u h who v l other stays (in_one_order table key t u h (legal-below_mark l) other stays) has_t has_u listed
-in_one_order table key t u (ended who v false ∷ h) l other stays has_t has_u listed =
+in_one_order table key t u (tabled (wrote whose v n k old new) ∷ h) l other stays has_t has_u listed =
+    order-wrote table key t u h whose v n k old new l (in_one_order table key t u h (legal-below_mark l) other stays) has_t has_u listed
+in_one_order table key t u (ended whose v true ∷ h) l other stays has_t has_u listed =
+    order-committed table key t u h whose v l other stays (in_one_order table key t u h (legal-below_mark l) other stays) has_t has_u listed
+in_one_order table key t u (ended whose v false ∷ h) l other stays has_t has_u listed =
     in_one_order table key t u h (legal-below_mark l) other (of (t == v) stays) has_t has_u listed
   where
     of : (b : Bool) → (b || has_rolled_back h t) ≡ false → has_rolled_back h t ≡ false

@@ -22,9 +22,10 @@ use Rattle.sky_model.specs.StepRows.{create_table, insert, update, delete, get, 
 use Rattle.sky_model.specs.StepTrigger.{add_trigger}
 use Rattle.sky_model.specs.Telling.{tells}
 use Rattle.sky_model.specs.StepConsumer.{register_consumer, next_batch, get_batch_events, finish_batch}
-use Rattle.sky_model.specs.World.{World, on_top}
+use Rattle.sky_model.specs.World.{World, world_of, on_top}
 use Rattle.sky_model.specs.Reader.{Shown, PartReader, DatabaseReader, Reader, within_part, within_database, by_past, Deed, answers_with, refuses, appears, followed}
 use Rattle.sky_model.specs.Settling.{Turn, turn_of, with_settling}
+use Rattle.sky_model.specs.Promises.{Part, after_all}
 
 -- what a statement on sessions, transactions, tables and rows does that its session may make
 abbrev pub row_form : RowPart → RowsShown → ℕ → RowStmt → Checked Outcome
@@ -147,11 +148,14 @@ does past call = step by_past past call
 abbrev pub after : Past → Call → Past
 after past call = on_top past (does past call).facts
 
--- what has happened after calls, the last one first
-abbrev pub past_of : List Call → Past
-past_of [] = []
-past_of (call ∷ calls) = after (past_of calls) call
-
 -- the answers of a call, each with its session: the call's own, and those of statements that it lets go on
 abbrev pub answers_of : Past → Call → List (ℕ × Reply)
 answers_of past call = (does past call).answers
+
+-- the world, as calls change it
+abbrev pub world_part : Part Call Past World (List (ℕ × Reply))
+world_part = record { start = []; after = after; answers = answers_of; shows = world_of }
+
+-- what has happened after calls, the last one first
+abbrev pub past_of : List Call → Past
+past_of calls = after_all world_part calls

@@ -2,7 +2,7 @@
 use Rattle.std.specs.Prelude.{ℕ, List, [], ◌∷◌, Bool, true, not, ◌&&◌, Option, Ok}
 use Rattle.sky_val.specs.declared.val.Val.{Val}
 use Rattle.sky_model.specs.declared.reply.Refusal.TheVariants.{EventIdsSpent}
-use Rattle.sky_model.specs.History.{Mark, tabled, wrote}
+use Rattle.sky_model.specs.History.{Mark, of_session, tabled, wrote}
 use Rattle.sky_model.specs.Outcome.{Outcome, Checked, ◌>>=◌, ◌>>◌, refused_if}
 use Rattle.sky_model.specs.Reader.{PartReader}
 
@@ -17,14 +17,14 @@ pub record Gate (G : Type 0) : Type 0 where
   pub has_room : G → RowWrite → Bool
   pub after : G → ℕ → RowWrite → G
 
--- whether it has room for a mark: for the write, if it is one
+-- whether it has room for a mark: for the write, if it is a session's
 abbrev pub takes : {G : Type 0} → Gate G → G → Mark → Bool
-takes gate g (tabled (wrote who t table key old new)) = gate.has_room g (record { table = table; old = old; new = new })
+takes gate g (tabled (wrote (of_session who) t table key old new)) = gate.has_room g (record { table = table; old = old; new = new })
 takes gate g _ = true
 
 -- the gate behind a mark
 abbrev pub passed : {G : Type 0} → Gate G → G → Mark → G
-passed gate g (tabled (wrote who t table key old new)) = gate.after g t (record { table = table; old = old; new = new })
+passed gate g (tabled (wrote (of_session who) t table key old new)) = gate.after g t (record { table = table; old = old; new = new })
 passed gate g _ = g
 
 -- whether it has room for each of some marks, the first one first

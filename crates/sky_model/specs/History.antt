@@ -32,15 +32,20 @@ pub data QueueMark : Type 0 where
   opened : (batch : Batch) → QueueMark
   -- a batch was finished
   closed : (batch : Batch) → QueueMark
-  -- a table got a trigger: its writes are told of by events of a queue
-  traced : (table : ℕ) (name : List ℕ) (trigger : Trigger) → QueueMark
+  -- a table got a trigger, which may have a name: its writes are told of by events of a queue
+  traced : (table : ℕ) (name : Option (List ℕ)) (trigger : Trigger) → QueueMark
+
+-- whose a transaction is: a session's, or a worker's
+pub data Whose : Type 0 where
+  of_session : (who : ℕ) → Whose
+  of_worker : Whose
 
 -- what happened to the tables of a database; a table goes by its number in the order of making
 pub data TableMark : Type 0 where
   -- a table was made
   table_made : (name : List ℕ) (columns : List Column) → TableMark
-  -- a transaction of the session wrote a key of a table: the row that it had, and the row that it has
-  wrote : (who t table : ℕ) (key : List Val) (old new : Option (List Val)) → TableMark
+  -- a transaction wrote a key of a table: the row that it had, and the row that it has
+  wrote : (whose : Whose) (t table : ℕ) (key : List Val) (old new : Option (List Val)) → TableMark
   -- the session waits for a key that another one's transaction has written, and is to attempt this with the key
   waits : (who table : ℕ) (key : List Val) (attempt : Attempt) → TableMark
   -- the session no longer waits
@@ -48,10 +53,10 @@ pub data TableMark : Type 0 where
 
 -- what happened in a database
 pub data Mark : Type 0 where
-  -- a transaction of the session got its id
-  began : (who t : ℕ) → Mark
+  -- a transaction got its id
+  began : (whose : Whose) (t : ℕ) → Mark
   -- it ended
-  ended : (who t : ℕ) (committed : Bool) → Mark
+  ended : (whose : Whose) (t : ℕ) (committed : Bool) → Mark
   -- the session began a transaction block
   block_begun : (who : ℕ) → Mark
   -- which is to read at one place

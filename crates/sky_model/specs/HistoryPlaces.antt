@@ -1,12 +1,12 @@
 -- The places of a history, of which the laws speak.
-use Rattle.std.specs.Prelude.{◌≡◌, ℕ, List, ◌++◌}
+use Rattle.std.specs.Prelude.{◌≡◌, List, ◌++◌, All}
 use Rattle.sky_model.specs.History.{Mark, History}
-use Rattle.sky_model.specs.World.{history_in}
-use Rattle.sky_model.specs.Calls.{Call, past_of}
+use Rattle.sky_model.specs.Promises.{after_all}
+use Rattle.sky_model.specs.DatabaseCalls.{DatabaseCall, IsDatabaseCallInForm, database_part}
 
--- a place: calls made a database's history, and this stood below what came later
+-- a place: calls of a database, in form, made a history, and this stood below what came later
 pub record IsPlace (p : History) : Type 0 where
-  pub calls : List Call
-  pub database : ℕ
+  pub calls : List DatabaseCall
+  pub in_form : All IsDatabaseCallInForm calls
   pub later : List Mark
-  pub below : history_in (past_of calls) database ≡ later ++ p
+  pub below : after_all database_part calls ≡ later ++ p

@@ -1,8 +1,9 @@
--- The law on the bad word of a line.
+-- The laws on lines: the bad word of one, and what one says.
 use Rattle.std.specs.Prelude.{◌≡◌, ℕ, ◌+◌, ◌<◌, ◌≤◌, List, [], ◌∷◌, length, take, Ok, Err}
 use Rattle.sky_model.specs.declared.line.Line.{Line}
 use Rattle.sky_model.specs.Words.{words}
 use Rattle.sky_model.specs.Grammar.{line_of}
+use Rattle.sky_model.specs.InForm.{IsLineInForm}
 
 -- the words of a line; an empty line has none
 abbrev pub words_of : List ℕ → List (List ℕ)
@@ -26,3 +27,7 @@ pub record IsLeastBadWord (line : List ℕ) (k : ℕ) : Type 0 where
 -- the number that the grammar gives for a line outside it is that one
 abbrev pub BadWordIsLeast : Type 0
 BadWordIsLeast = (line : List ℕ) (k : ℕ) → line_of line ≡ Err k → IsLeastBadWord line k
+
+-- what a line of the grammar says is in form
+abbrev pub LinesAreInForm : Type 0
+LinesAreInForm = (line : List ℕ) (says : Line) → line_of line ≡ Ok says → IsLineInForm says

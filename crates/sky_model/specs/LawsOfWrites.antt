@@ -1,25 +1,28 @@
 -- The laws on the order in which transactions write a key, at each place of each history that calls make.
-use Rattle.std.specs.Prelude.{◌≡◌, ◌≢◌, ℕ, ◌<◌, ℤ, All, Contains, List, [], ◌∷◌, ◌++◌, Bool, true, false, ◌&&◌, ◌||◌, ◌==◌, Option, Ok, if◌then◌else◌}
+use Rattle.std.specs.Prelude.{◌≡◌, ◌≢◌, ℕ, ◌<◌, ℤ, All, Contains, List, [], ◌∷◌, ◌++◌, Bool, true, false, ◌&&◌, ◌||◌, ◌==◌, Option, Some, None, IfSome, Ok, if◌then◌else◌}
 use Rattle.sky_val.specs.declared.event.Event.{Event}
 use Rattle.sky_val.specs.declared.val.Val.{Val}
+use Rattle.sky_val.specs.declared.column.Column.{Column}
+use Rattle.sky_val.specs.Entries.{at}
+use Rattle.sky_val.specs.Schemas.{row_fault, key_of}
 use Rattle.sky_val.specs.Waits.{is_same_key}
 use Rattle.sky_txid.specs.Ids.{contains}
 use Rattle.sky_txid.specs.Snapshot.{sees}
-use Rattle.sky_model.specs.History.{Mark, tabled, wrote, queued, put, History}
+use Rattle.sky_model.specs.History.{Mark, Whose, of_session, tabled, wrote, queued, put, History}
 use Rattle.sky_model.specs.Transactions.{has_ended, has_committed, has_rolled_back, snapshot}
-use Rattle.sky_model.specs.Rows.{committed, writes, has_written}
+use Rattle.sky_model.specs.Rows.{columns_of, committed, writes, rows, rows_standing, has_written}
 use Rattle.sky_model.specs.Queues.{events}
 use Rattle.sky_model.specs.State.{database_of}
 use Rattle.sky_model.specs.Telling.{told_of}
-use Rattle.sky_model.specs.World.{history_in}
-use Rattle.sky_model.specs.Calls.{Call, past_of}
-use Rattle.sky_model.specs.RowSteps.{marked}
+use Rattle.sky_model.specs.Settling.{marked}
+use Rattle.sky_model.specs.Promises.{after_all}
+use Rattle.sky_model.specs.DatabaseCalls.{DatabaseCall, database_part}
 use Rattle.sky_model.specs.HistoryPlaces.{IsPlace}
 
 -- the transactions that wrote a key, one for each write, in order
 abbrev pub writers : ℕ → List Val → History → List ℕ
 writers table key [] = []
-writers table key (tabled (wrote who t n k old new) ∷ h) = if is_same_key n k table key then writers table key h ++ t ∷ [] else writers table key h
+writers table key (tabled (wrote whose t n k old new) ∷ h) = if is_same_key n k table key then writers table key h ++ t ∷ [] else writers table key h
 writers table key (_ ∷ h) = writers table key h
 
 -- whether in a list a transaction stands somewhere before another one
@@ -29,7 +32,7 @@ is_before t u (v ∷ vs) = (t == v && contains u vs) || is_before t u vs
 
 -- transactions write a key in turn: the one that writes it hasn't ended, and each other one that has written it has
 abbrev pub KeysAreWrittenInTurn : Type 0
-KeysAreWrittenInTurn = (p : History) (who u table : ℕ) (key : List Val) (old new : Option (List Val)) → IsPlace (tabled (wrote who u table key old new) ∷ p)
+KeysAreWrittenInTurn = (p : History) (whose : Whose) (u table : ℕ) (key : List Val) (old new : Option (List Val)) → IsPlace (tabled (wrote whose u table key old new) ∷ p)
     → (has_ended p u ≡ false) × ((t : ℕ) → t ≢ u → has_written key (writes table t p) ≡ true → has_ended p t ≡ true)
 
 -- of two transactions that have written a key, one that hasn't rolled back and one that has committed, the one wrote the
@@ -49,6 +52,25 @@ SnapshotsSeeEarlierWriters = (later : List Mark) (p : History) → IsPlace (late
 abbrev pub EventIdsRise : Type 0
 EventIdsRise = (p : History) (queue : ℕ) (event : Event) → IsPlace (queued (put queue event) ∷ p) → All (λ e. e.ev_id < event.ev_id) (events queue p)
 
+-- a row that a table of these columns may have under a key: it fits them, and the key is its own
+abbrev pub IsRowOf : List Column → List Val → List Val → Type 0
+IsRowOf columns key row = (row_fault columns row ≡ None) × (key_of columns row ≡ key)
+
+-- the old row that a session's write names is the one that stands there for the session: the one that its own transaction
+-- wrote last, or else that of the newest committed write
+abbrev pub WritesNameWhatStands : Type 0
+WritesNameWhatStands = (p : History) (who t table : ℕ) (key : List Val) (old new : Option (List Val))
+    → IsPlace (tabled (wrote (of_session who) t table key old new) ∷ p) → at key (rows_standing who table p) ≡ old
+
+-- the new row of a write, if there is one, is one that its table may have under the key
+abbrev pub WrittenRowsFit : Type 0
+WrittenRowsFit = (p : History) (whose : Whose) (t table : ℕ) (key : List Val) (old new : Option (List Val))
+    → IsPlace (tabled (wrote whose t table key old new) ∷ p) → IfSome new (IsRowOf (columns_of table p) key)
+
+-- each row that stands in a table, at whatever key, is one that the table may have there
+abbrev pub StandingRowsFit : Type 0
+StandingRowsFit = (p : History) → IsPlace p → (table : ℕ) (key row : List Val) → at key (rows table p) ≡ Some row → IsRowOf (columns_of table p) key row
+
 -- behind a write stand the events that tell of it, each taking the next id of its queue, and then what came later
 pub record IsTold (h : History) (write : Mark) (p : History) : Type 0 where
   pub time : ℤ
@@ -59,9 +81,9 @@ pub record IsTold (h : History) (write : Mark) (p : History) : Type 0 where
 
 -- each write of each history that calls make is told of so, with nothing between the write and its events
 abbrev pub WritesAreTold : Type 0
-WritesAreTold = (calls : List Call) (database : ℕ) (later : List Mark) (p : History) (who t table : ℕ) (key : List Val) (old new : Option (List Val))
-    → history_in (past_of calls) database ≡ later ++ tabled (wrote who t table key old new) ∷ p
-    → IsTold (history_in (past_of calls) database) (tabled (wrote who t table key old new)) p
+WritesAreTold = (calls : List DatabaseCall) (later : List Mark) (p : History) (whose : Whose) (t table : ℕ) (key : List Val) (old new : Option (List Val))
+    → after_all database_part calls ≡ later ++ tabled (wrote whose t table key old new) ∷ p
+    → IsTold (after_all database_part calls) (tabled (wrote whose t table key old new)) p
 
 -- this event tells of the write: the marks that tell of the write put it in this queue
 pub record IsToldBy (h : History) (write : Mark) (p : History) (queue : ℕ) (event : Event) : Type 0 where

@@ -1,6 +1,7 @@
 pub mod Words
 pub mod Kinds
 pub mod Grammar
+pub mod InForm
 pub mod LawsOfLines
 pub mod History
 pub mod Transactions
@@ -31,8 +32,13 @@ pub mod Selection
 pub mod World
 pub mod Reader
 pub mod Gates
+pub mod Rooms
 pub mod Settling
+pub mod Promises
 pub mod Calls
+pub mod SessionMarks
+pub mod DatabaseCalls
+pub mod RowCalls
 pub mod HistoryPlaces
 pub mod LawsOfSnapshots
 pub mod LawsOfRows
@@ -40,8 +46,8 @@ pub mod LawsOfBatches
 pub mod LawsOfLocks
 pub mod LawsOfWrites
 pub mod Steps
+pub mod LawsOfHistories
 pub mod RowSteps
-pub mod GatedSteps
 pub mod DatabaseSteps
 pub mod Moment
 pub mod Printed

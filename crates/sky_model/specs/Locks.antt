@@ -4,13 +4,13 @@ use Rattle.sky_val.specs.declared.val.Val.{Val}
 use Rattle.sky_val.specs.Waits.{is_same_key, other_than, Waiting, without}
 use Rattle.sky_model.specs.declared.stmt.Attempt.{Attempt}
 use Rattle.sky_model.specs.declared.stmt.Attempt.TheVariants.{Deletion}
-use Rattle.sky_model.specs.History.{ended, tabled, wrote, waits, waited, History}
+use Rattle.sky_model.specs.History.{of_session, ended, tabled, wrote, waits, waited, History}
 
 -- the session that holds a key: its transaction has written the key, and runs
 abbrev pub holder : ℕ → List Val → History → Option ℕ
 holder table key [] = None
-holder table key (tabled (wrote who t n k old new) ∷ h) = if is_same_key n k table key then Some who else holder table key h
-holder table key (ended who t committed ∷ h) = other_than who (holder table key h)
+holder table key (tabled (wrote (of_session who) t n k old new) ∷ h) = if is_same_key n k table key then Some who else holder table key h
+holder table key (ended (of_session who) t committed ∷ h) = other_than who (holder table key h)
 holder table key (_ ∷ h) = holder table key h
 
 -- the sessions that wait, each for a key, in order of arrival

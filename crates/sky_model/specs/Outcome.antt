@@ -4,7 +4,7 @@ use Rattle.sky_model.specs.declared.reply.Reply.{Reply}
 use Rattle.sky_model.specs.declared.reply.Reply.TheVariants.{Refused}
 use Rattle.sky_model.specs.declared.reply.Refusal.{Refusal}
 use Rattle.sky_model.specs.declared.reply.Refusal.TheVariants.{AlreadyOpen, Busy}
-use Rattle.sky_model.specs.History.{Mark, ended, block_failed}
+use Rattle.sky_model.specs.History.{Mark, of_session, ended, block_failed}
 use Rattle.sky_model.specs.Sessions.{Block, inside, Session}
 
 -- an answer, and what happened, the first mark first
@@ -57,7 +57,7 @@ does_marks reply marks = Ok (record { reply = reply; marks = marks })
 -- the end of a session's transaction, if it has got an id
 abbrev pub end_of : Bool → ℕ → Option ℕ → List Mark
 end_of committed who None = []
-end_of committed who (Some t) = ended who t committed ∷ []
+end_of committed who (Some t) = ended (of_session who) t committed ∷ []
 
 -- a refusal aborts the session's transaction, but for these
 abbrev pub aborts : Refusal → Bool

@@ -1,7 +1,7 @@
 -- The transaction of a statement: the one of its session's block, or one of its own.
 use Rattle.std.specs.Prelude.{ℕ, ◌^◌, List, [], ◌∷◌, ◌++◌, true, Option, Some, None, nat_le, Ok}
 use Rattle.sky_model.specs.declared.reply.Refusal.TheVariants.{TxidsSpent}
-use Rattle.sky_model.specs.History.{Mark, began, ended}
+use Rattle.sky_model.specs.History.{Mark, of_session, began, ended}
 use Rattle.sky_model.specs.Sessions.{Block, outside, Session}
 use Rattle.sky_model.specs.State.{RowPart}
 use Rattle.sky_model.specs.Outcome.{Checked, ◌>>◌, refused_if}
@@ -19,12 +19,12 @@ txid_for d who = own_or_next d (d.session who).txid
 
 -- a transaction gets its id at its first write
 abbrev pub begin_of : ℕ → ℕ → Option ℕ → List Mark
-begin_of who t None = began who t ∷ []
+begin_of who t None = began (of_session who) t ∷ []
 begin_of who t (Some own) = []
 
 -- outside a block a statement is a transaction of its own, which commits
 abbrev pub commit_of : ℕ → ℕ → Block → List Mark
-commit_of who t outside = ended who t true ∷ []
+commit_of who t outside = ended (of_session who) t true ∷ []
 commit_of who t _ = []
 
 -- what a session writes, in its transaction with this id

@@ -1,15 +1,31 @@
 -- Queues: their names, sequences, events and ticks.
-use Rattle.std.specs.Prelude.{ℕ, ℤ, List, [], ◌∷◌, ◌++◌, Option, Some, None, ◌==◌, ◌&&◌, find, if◌then◌else◌}
+use Rattle.std.specs.Prelude.{ℕ, ◌+◌, ℤ, List, [], ◌∷◌, ◌++◌, Option, Some, None, ◌==◌, ◌&&◌, find, option_map, if◌then◌else◌}
 use Rattle.sky_val.specs.declared.event.Event.{Event}
 use Rattle.sky_txid.specs.Snapshot.{SnapshotView}
+use Rattle.sky_names.specs.Places.{named}
 use Rattle.sky_model.specs.History.{queued, made, raised, put, ticked, History}
 use Rattle.sky_model.specs.Transactions.{snapshot}
 
--- the names of the queues, in the order of making: a queue's number is its place here
-abbrev pub queue_names : History → List (List ℕ)
-queue_names [] = []
-queue_names (queued (made name) ∷ h) = queue_names h ++ name ∷ []
-queue_names (_ ∷ h) = queue_names h
+-- a queue that stands: its number and its name
+pub record NamedQueue : Type 0 where
+  pub number : ℕ
+  pub name : List ℕ
+
+-- how many queues were made: the number of the next one
+abbrev pub queues_made : History → ℕ
+queues_made [] = 0
+queues_made (queued (made name) ∷ h) = queues_made h + 1
+queues_made (_ ∷ h) = queues_made h
+
+-- the queues that stand, in the order of making
+abbrev pub queues : History → List NamedQueue
+queues [] = []
+queues (queued (made name) ∷ h) = queues h ++ record { number = queues_made h; name = name } ∷ []
+queues (_ ∷ h) = queues h
+
+-- the number of the queue of a name among some
+abbrev pub queue_number : List ℕ → List NamedQueue → Option ℕ
+queue_number name queues = option_map NamedQueue.number (named NamedQueue.name name queues)
 
 -- the value of a queue's event sequence
 abbrev pub sequence : ℕ → History → ℕ

@@ -1,6 +1,6 @@
 -- Tables, and their rows at a place: what the transactions that have committed there wrote, one after the other
 -- in the order of their commits.
-use Rattle.std.specs.Prelude.{ℕ, List, [], ◌∷◌, ◌++◌, Bool, true, not, ◌&&◌, ◌==◌, Option, Some, None, length, filter, if◌then◌else◌}
+use Rattle.std.specs.Prelude.{ℕ, List, [], ◌∷◌, ◌++◌, Bool, true, false, not, ◌&&◌, ◌||◌, ◌==◌, Option, Some, None, length, filter, if◌then◌else◌}
 use Rattle.std.specs.List.{list_any}
 use Rattle.std.specs.Ordering.{eq_by_cmp}
 use Rattle.sky_val.specs.declared.val.Val.{Val}
@@ -27,7 +27,7 @@ columns_of table (_ ∷ h) = columns_of table h
 -- the transactions that have committed, in the order of their commits
 abbrev pub committed : History → List ℕ
 committed [] = []
-committed (ended who t true ∷ h) = committed h ++ t ∷ []
+committed (ended whose t true ∷ h) = committed h ++ t ∷ []
 committed (_ ∷ h) = committed h
 
 -- a write: the key has this row from then on, or none
@@ -38,9 +38,16 @@ pub record Write : Type 0 where
 -- what a transaction wrote in a table, in order
 abbrev pub writes : ℕ → ℕ → History → List Write
 writes table t [] = []
-writes table t (tabled (wrote who u n key old new) ∷ h) =
+writes table t (tabled (wrote whose u n key old new) ∷ h) =
     if n == table && u == t then writes table t h ++ record { key = key; row = new } ∷ [] else writes table t h
 writes table t (_ ∷ h) = writes table t h
+
+-- whether a transaction has written in a table, and hasn't ended
+abbrev pub wrote_in : (table t : ℕ) → History → Bool
+wrote_in table t [] = false
+wrote_in table t (tabled (wrote who u n key old new) ∷ h) = (n == table && u == t) || wrote_in table t h
+wrote_in table t (ended who u committed ∷ h) = not (u == t) && wrote_in table t h
+wrote_in table t (_ ∷ h) = wrote_in table t h
 
 -- rows without the one of a key
 abbrev pub removed : List Val → Entries (List Val) → Entries (List Val)

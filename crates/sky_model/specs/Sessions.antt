@@ -1,7 +1,7 @@
 -- The transaction blocks of sessions, and the places at which they read.
 use Rattle.std.specs.Prelude.{ℕ, [], ◌∷◌, Option, Some, None, ◌==◌, if◌then◌else◌}
 use Rattle.sky_txid.specs.Snapshot.{SnapshotView}
-use Rattle.sky_model.specs.History.{began, ended, block_begun, repeats, looked, block_failed, block_ended, History}
+use Rattle.sky_model.specs.History.{of_session, began, ended, block_begun, repeats, looked, block_failed, block_ended, History}
 use Rattle.sky_model.specs.Transactions.{snapshot}
 
 -- where a session stands: in no transaction block, in one, or in one that a refusal has aborted
@@ -20,8 +20,8 @@ block who (_ ∷ h) = block who h
 -- the id of a session's running transaction, if it has got one
 abbrev pub own_txid : ℕ → History → Option ℕ
 own_txid who [] = None
-own_txid who (began w t ∷ h) = if w == who then Some t else own_txid who h
-own_txid who (ended w t committed ∷ h) = if w == who then None else own_txid who h
+own_txid who (began (of_session w) t ∷ h) = if w == who then Some t else own_txid who h
+own_txid who (ended (of_session w) t committed ∷ h) = if w == who then None else own_txid who h
 own_txid who (_ ∷ h) = own_txid who h
 
 -- where a session's statements read: each at its own place; all at that of the first one, which is still

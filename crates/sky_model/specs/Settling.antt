@@ -5,11 +5,11 @@ use Rattle.sky_val.specs.Waits as waits
 use Rattle.sky_val.specs.Waits.{Waiting}
 use Rattle.sky_model.specs.declared.reply.Reply.{Reply}
 use Rattle.sky_model.specs.declared.stmt.Attempt.{Attempt}
-use Rattle.sky_model.specs.History.{Mark, tabled, waited}
+use Rattle.sky_model.specs.History.{Mark, tabled, waited, History}
 use Rattle.sky_model.specs.State.{RowPart}
 use Rattle.sky_model.specs.Outcome.{Outcome, settled}
 use Rattle.sky_model.specs.StepRows.{attempts}
-use Rattle.sky_model.specs.Reader.{PartReader}
+use Rattle.sky_model.specs.Reader.{PartReader, part_by_history}
 
 -- what is done in a database, one statement after the other: the answers, each with its session, and the marks
 pub record Turn : Type 0 where
@@ -28,6 +28,10 @@ rests = record { answers = []; marks = [] }
 abbrev pub behind_marks : {P : Type 0} → PartReader P → P → List Mark → P
 behind_marks r p [] = p
 behind_marks r p (mark ∷ marks) = behind_marks r (r.behind p mark) marks
+
+-- marks on top of a history, the first one first
+abbrev pub marked : History → List Mark → History
+marked h marks = behind_marks part_by_history h marks
 
 -- a turn behind another
 abbrev pub joined : Turn → Turn → Turn

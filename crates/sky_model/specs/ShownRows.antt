@@ -1,11 +1,10 @@
 -- What the tables of a database show a statement: by the history, and by the versions that are kept.
 use Rattle.std.specs.Prelude.{ℕ, List, Option, None, option_map, is_some, find, if◌then◌else◌}
-use Rattle.std.specs.List.{list_any}
 use Rattle.sky_val.specs.declared.val.Val.{Val}
 use Rattle.sky_val.specs.Entries.{Entries, at}
 use Rattle.sky_txid.specs.Snapshot.{SnapshotView, snapshot_of, sees}
 use Rattle.sky_txid.specs.declared.version.Version.{Version}
-use Rattle.sky_txid.specs.Versions.{newest_by, version_of, own_version, read, versions_at, rows_read}
+use Rattle.sky_txid.specs.Versions.{newest_by, own_version, read, versions_at, rows_read}
 use Rattle.sky_model.specs.History.{History}
 use Rattle.sky_model.specs.Sessions.{own_txid, sight, place_of_sight, Session}
 use Rattle.sky_model.specs.Rows.{rows_shown, rows_standing, unless, unseen_writer}
@@ -64,6 +63,6 @@ rows_by d = record {
   rows = λ who table. rows_read (snapshot_for d (d.session who)) (d.session who).txid (d.versions table);
 }
 
--- the least running transaction that has a version in a table
+-- the least running transaction that has written in a table
 abbrev pub least_writer : RowPart → ℕ → Option ℕ
-least_writer d table = find (λ t. list_any (λ e. is_some (version_of t e.1)) (d.versions table)) d.running_ids
+least_writer d table = find (d.wrote_in table) d.running_ids

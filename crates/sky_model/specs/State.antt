@@ -1,6 +1,6 @@
 -- What a database shows at a place: all that a statement reads of it, each part by its definition. The
 -- code keeps these, and a mark changes them.
-use Rattle.std.specs.Prelude.{ℕ, ◌+◌, List, [], ◌∷◌, ◌++◌, Bool, true, false, not, ◌||◌, Option, Some, None, ◌==◌, bytes_eq, filter, length, option_map, if◌then◌else◌}
+use Rattle.std.specs.Prelude.{ℕ, ◌+◌, List, [], ◌∷◌, ◌++◌, Bool, true, false, not, ◌&&◌, ◌||◌, Option, Some, None, ◌==◌, bytes_eq, filter, length, option_map, if◌then◌else◌}
 use Rattle.sky_val.specs.declared.event.Event.{Event}
 use Rattle.sky_val.specs.declared.column.Column.{Column}
 use Rattle.sky_val.specs.Entries.{Entries}
@@ -10,15 +10,15 @@ use Rattle.sky_txid.specs.Snapshot.{SnapshotView, snapshot_of}
 use Rattle.sky_txid.specs.Versions.{written, forgotten}
 use Rattle.sky_model.specs.declared.stmt.Attempt.{Attempt}
 use Rattle.sky_model.specs.declared.stmt.Attempt.TheVariants.{Deletion}
-use Rattle.sky_model.specs.History.{Batch, Mark, began, ended, block_begun, repeats, looked, block_failed, block_ended, tabled, TableMark, table_made, wrote, waits, waited, queued, QueueMark, made, raised, put, ticked, registered, opened, closed, traced, History}
+use Rattle.sky_model.specs.History.{Batch, Mark, Whose, of_session, of_worker, began, ended, block_begun, repeats, looked, block_failed, block_ended, tabled, TableMark, table_made, wrote, waits, waited, queued, QueueMark, made, raised, put, ticked, registered, opened, closed, traced, History}
 use Rattle.sky_model.specs.Transactions.{next_txid, running, has_rolled_back}
 use Rattle.sky_model.specs.Sessions.{Block, inside, failed, outside, Sight, at_each, at_first, at_place, Session, session}
 use Rattle.sky_model.specs.Config.{Config, config}
-use Rattle.sky_model.specs.Rows.{table_names, columns_of}
+use Rattle.sky_model.specs.Rows.{table_names, columns_of, wrote_in}
 use Rattle.sky_model.specs.Versions.{versions}
 use Rattle.sky_model.specs.Locks.{holder, waiting, attempt}
-use Rattle.sky_model.specs.Triggers.{NamedTrigger, triggers}
-use Rattle.sky_model.specs.Queues.{queue_names, sequence, events, Tick, ticks}
+use Rattle.sky_model.specs.Triggers.{TableTrigger, triggers}
+use Rattle.sky_model.specs.Queues.{NamedQueue, queues_made, queues, sequence, events, Tick, ticks}
 use Rattle.sky_model.specs.Consumers.{consumers, Subscription, subscription, last_subscription, last_batch, active_batch}
 
 -- a queue, as a statement reads it
@@ -38,6 +38,7 @@ pub record RowPart : Type 0 where
   pub tables : List (List ℕ)
   pub columns : ℕ → List Column
   pub versions : ℕ → Entries (List Version)
+  pub wrote_in : (table t : ℕ) → Bool
   pub holder : Holders
   pub waiting : List Waiting
   pub attempt : ℕ → Attempt
@@ -48,10 +49,11 @@ pub record Database : Type 0 where
   pub undone : ℕ → Bool
   pub last_batch_id : ℕ
   pub last_sub_id : ℕ
-  pub names : List (List ℕ)
+  pub queues_made : ℕ
+  pub queues : List NamedQueue
   pub queue : ℕ → Queue
   pub batch : ℕ → Option Batch
-  pub triggers : ℕ → List NamedTrigger
+  pub triggers : List TableTrigger
 
 abbrev pub queue_of : History → ℕ → Queue
 queue_of h q = record {
@@ -71,6 +73,7 @@ part_of h = record {
   tables = table_names h;
   columns = λ n. columns_of n h;
   versions = λ n. versions n h;
+  wrote_in = λ n t. wrote_in n t h;
   holder = λ n key. holder n key h;
   waiting = waiting h;
   attempt = λ who. attempt who h;
@@ -82,10 +85,11 @@ database_of h = record {
   undone = has_rolled_back h;
   last_batch_id = last_batch h;
   last_sub_id = last_subscription h;
-  names = queue_names h;
+  queues_made = queues_made h;
+  queues = queues h;
   queue = queue_of h;
   batch = λ id. active_batch id h;
-  triggers = λ table. triggers table h;
+  triggers = triggers h;
 }
 
 -- the same function but at a number
@@ -106,7 +110,10 @@ at_position tick s = record s { position = tick; active = None }
 
 -- a database after something happened to its queues
 abbrev pub after_queue_mark : Database → QueueMark → Database
-after_queue_mark d (made name) = record d { names = d.names ++ name ∷ [] }
+after_queue_mark d (made name) = record d {
+  queues_made = d.queues_made + 1;
+  queues = d.queues ++ record { number = d.queues_made; name = name } ∷ [];
+}
 after_queue_mark d (raised q value) = record d { queue = changed_at q (λ x. record x { seq = value }) d.queue }
 after_queue_mark d (put q event) = record d { queue = changed_at q (λ x. record x { stored = x.stored ++ event ∷ [] }) d.queue }
 after_queue_mark d (ticked q id time seq) = record d {
@@ -135,7 +142,7 @@ after_queue_mark d (closed b) = record d {
   }) d.queue;
 }
 after_queue_mark d (traced table name trigger) = record d {
-  triggers = changed_at table (λ ts. ts ++ record { name = name; trigger = trigger } ∷ []) d.triggers;
+  triggers = d.triggers ++ record { table = table; name = name; trigger = trigger } ∷ [];
 }
 
 -- a session after a mark of its own
@@ -152,15 +159,21 @@ with_block block s = record s { block = block }
 abbrev pub without_sight : Block → Session → Session
 without_sight block s = record s { block = block; sight = at_each }
 
+-- what a mark of a session's transaction does; one of a worker's does nothing
+abbrev pub by_session : {A : Type 0} → Whose → (ℕ → A → A) → A → A
+by_session (of_session who) f a = f who a
+by_session of_worker f a = a
+
 -- tables after something happened to them
 abbrev pub after_table_mark : RowPart → TableMark → RowPart
 after_table_mark d (table_made name columns) = record d {
   tables = d.tables ++ name ∷ [];
   columns = changed_at (length d.tables) (λ _. columns) d.columns;
 }
-after_table_mark d (wrote who t table key old new) = record d {
+after_table_mark d (wrote whose t table key old new) = record d {
   versions = changed_at table (written t key new) d.versions;
-  holder = taken who table key d.holder;
+  wrote_in = λ n u. (table == n && t == u) || d.wrote_in n u;
+  holder = by_session whose (λ who. taken who table key) d.holder;
 }
 after_table_mark d (waits who table key attempted) = record d {
   waiting = d.waiting ++ record { who = who; table = table; key = key } ∷ [];
@@ -170,21 +183,23 @@ after_table_mark d (waited who) = record d { waiting = without who d.waiting; at
 
 -- transactions, sessions and tables after a mark
 abbrev pub after_part : RowPart → Mark → RowPart
-after_part d (began who t) = record d {
+after_part d (began whose t) = record d {
   next = d.next + 1;
   running_ids = d.running_ids ++ t ∷ [];
-  session = changed_at who (with_txid (Some t)) d.session;
+  session = by_session whose (λ who. changed_at who (with_txid (Some t))) d.session;
 }
-after_part d (ended who t true) = record d {
+after_part d (ended whose t true) = record d {
   running_ids = filter (λ u. not (u == t)) d.running_ids;
-  session = changed_at who (with_txid None) d.session;
-  holder = released who d.holder;
+  session = by_session whose (λ who. changed_at who (with_txid None)) d.session;
+  wrote_in = λ n u. not (t == u) && d.wrote_in n u;
+  holder = by_session whose released d.holder;
 }
-after_part d (ended who t false) = record d {
+after_part d (ended whose t false) = record d {
   running_ids = filter (λ u. not (u == t)) d.running_ids;
-  session = changed_at who (with_txid None) d.session;
+  session = by_session whose (λ who. changed_at who (with_txid None)) d.session;
   versions = λ n. forgotten t (d.versions n);
-  holder = released who d.holder;
+  wrote_in = λ n u. not (t == u) && d.wrote_in n u;
+  holder = by_session whose released d.holder;
 }
 after_part d (block_begun who) = record d { session = changed_at who (with_block inside) d.session }
 after_part d (repeats who) = record d { session = changed_at who (with_sight at_first) d.session }
@@ -202,9 +217,9 @@ after_part_marks d (mark ∷ marks) = after_part_marks (after_part d mark) marks
 -- a database after a mark
 abbrev pub after_mark : Database → Mark → Database
 after_mark d (queued mark) = after_queue_mark d mark
-after_mark d (ended who t false) = record d { part = after_part d.part (ended who t false); undone = λ u. u == t || d.undone u }
-after_mark d (ended who t true) = record d { part = after_part d.part (ended who t true) }
-after_mark d (began who t) = record d { part = after_part d.part (began who t) }
+after_mark d (ended whose t false) = record d { part = after_part d.part (ended whose t false); undone = λ u. u == t || d.undone u }
+after_mark d (ended whose t true) = record d { part = after_part d.part (ended whose t true) }
+after_mark d (began whose t) = record d { part = after_part d.part (began whose t) }
 after_mark d (block_begun who) = record d { part = after_part d.part (block_begun who) }
 after_mark d (repeats who) = record d { part = after_part d.part (repeats who) }
 after_mark d (looked who) = record d { part = after_part d.part (looked who) }

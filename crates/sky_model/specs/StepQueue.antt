@@ -5,9 +5,8 @@ use Rattle.sky_model.specs.declared.stmt.Extra.{Extra}
 use Rattle.sky_model.specs.declared.reply.Reply.TheVariants.{Number, Null}
 use Rattle.sky_model.specs.declared.reply.Limit.TheVariants.{Queues}
 use Rattle.sky_model.specs.declared.reply.Refusal.TheVariants.{NoQueue, TooMany, EventIdsSpent, IdsSpent}
-use Rattle.sky_names.specs.Places.{place_of}
 use Rattle.sky_model.specs.History.{queued, made, raised, put, ticked}
-use Rattle.sky_model.specs.Queues.{Tick, newest_tick}
+use Rattle.sky_model.specs.Queues.{queue_number, Tick, newest_tick}
 use Rattle.sky_model.specs.Config.{Config}
 use Rattle.sky_model.specs.State.{Queue, Database}
 use Rattle.sky_model.specs.OwnTransaction.{txid_for, written}
@@ -15,16 +14,16 @@ use Rattle.sky_model.specs.Outcome.{Outcome, Checked, ◌>>=◌, ◌>>◌, refus
 
 -- the queue of a name
 abbrev pub queue_called : List ℕ → Database → Checked ℕ
-queue_called name d = found_or (place_of name d.names) (NoQueue name)
+queue_called name d = found_or (queue_number name d.queues) (NoQueue name)
 
 -- `create_queue NAME`: a queue with its first tick, which is made when the transaction has ended
 abbrev pub create_queue : Database → ℤ → ℕ → List ℕ → Checked Outcome
 create_queue d now who name =
-    if is_some (place_of name d.names) then answers (Number 0) else do
-      refused_if (nat_le 64 (length d.names)) (TooMany Queues)
+    if is_some (queue_number name d.queues) then answers (Number 0) else do
+      refused_if (nat_le 64 (length d.queues)) (TooMany Queues)
       t ← txid_for d.part who
       does_marks (Number 1)
-          (written who t (d.part.session who) (queued (made name) ∷ []) ++ queued (ticked (length d.names) 1 now 0) ∷ [])
+          (written who t (d.part.session who) (queued (made name) ∷ []) ++ queued (ticked d.queues_made 1 now 0) ∷ [])
 
 -- the further texts of an event
 abbrev pub extra_of : (Extra → Option (List ℕ)) → Option Extra → Option (List ℕ)

@@ -1,14 +1,20 @@
--- What a step promises: for every list of calls after which the world was as it was, the answers are those
--- that the definitions give there, and the world is as it is after the call.
-use Rattle.std.specs.Prelude.{◌≡◌, ℕ, List, ◌∷◌}
+-- What a call of the world promises: after all calls in form after which the world was as it was, the answers are those
+-- that the definitions give there, and the world is then as it is after this call too.
+use Rattle.std.specs.Prelude.{ℕ, List}
 use Rattle.sky_model.specs.declared.reply.Reply.{Reply}
-use Rattle.sky_model.specs.World.{World, world_of, after_facts}
+use Rattle.sky_model.specs.Kinds.{Name}
+use Rattle.sky_model.specs.InForm.{IsOf, IsInForm}
+use Rattle.sky_model.specs.World.{World, after_facts}
 use Rattle.sky_model.specs.Reader.{by_world, Deed}
-use Rattle.sky_model.specs.Calls.{Call, step, past_of, answers_of}
+use Rattle.sky_model.specs.Calls.{Call, step, world_part}
+use Rattle.sky_model.specs.Promises.{Promises}
 
-pub record Steps (old new : World) (call : Call) (replies : List (ℕ × Reply)) : Type 0 where
-  pub replied : (calls : List Call) → old ≡ world_of (past_of calls) → replies ≡ answers_of (past_of calls) call
-  pub stands : (calls : List Call) → old ≡ world_of (past_of calls) → new ≡ world_of (past_of (call ∷ calls))
+-- its session has a name, and its statement is in form
+abbrev pub IsCallInForm : Call → Type 0
+IsCallInForm call = IsOf Name call.who × IsInForm call.stmt
+
+abbrev pub Steps : (old new : World) (call : Call) (replies : List (ℕ × Reply)) → Type 0
+Steps old new call replies = Promises world_part IsCallInForm old new call replies
 
 -- what a call does in a world, by what the world shows alone
 abbrev pub deed_at : World → Call → Deed

@@ -3,8 +3,8 @@ use Rattle.std.specs.Prelude.{ℕ, ℤ, List, [], ◌∷◌, ◌++◌, Option, S
 use Rattle.sky_val.specs.declared.val.Val.{Val}
 use Rattle.sky_val.specs.declared.event.Event.{Event}
 use Rattle.sky_urlenc.specs.RowEvents.{Write, RowEvent, events_of}
-use Rattle.sky_model.specs.History.{Mark, tabled, wrote, queued, raised, put}
-use Rattle.sky_model.specs.Triggers.{NamedTrigger}
+use Rattle.sky_model.specs.History.{Mark, of_session, tabled, wrote, queued, raised, put}
+use Rattle.sky_model.specs.Triggers.{TableTrigger, triggers_of}
 use Rattle.sky_model.specs.State.{Database, after_mark, after_marks}
 use Rattle.sky_model.specs.Outcome.{Outcome, Checked, ◌>>=◌, does_marks}
 use Rattle.sky_model.specs.StepQueue.{next_event_id}
@@ -15,7 +15,7 @@ write_in d table old new = record { table = unwrap_or (slice_get d.part.tables t
 
 -- the events that tell of it
 abbrev pub events_in : Database → ℕ → (old new : Option (List Val)) → List RowEvent
-events_in d table old new = events_of (write_in d table old new) (map NamedTrigger.trigger (d.triggers table))
+events_in d table old new = events_of (write_in d table old new) (map TableTrigger.trigger (triggers_of table d.triggers))
 
 -- such an event with its id, at this time, of this transaction
 abbrev pub told_event : ℕ → ℤ → ℕ → RowEvent → Event
@@ -45,9 +45,9 @@ told_by d now t (e ∷ es) = do
   rest ← told_by (after_marks d (event_marks e.queue (told_event id now t e))) now t es
   Ok (event_marks e.queue (told_event id now t e) ++ rest)
 
--- what is told of a mark: of a write, its events
+-- what is told of a mark: of a session's write, its events
 abbrev pub told_of : Database → ℤ → Mark → Checked (List Mark)
-told_of d now (tabled (wrote who t table key old new)) = told_by d now t (events_in d table old new)
+told_of d now (tabled (wrote (of_session who) t table key old new)) = told_by d now t (events_in d table old new)
 told_of d now _ = Ok []
 
 -- marks, each with what is told of it behind it

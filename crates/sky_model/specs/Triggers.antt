@@ -1,16 +1,20 @@
 -- The triggers of tables.
-use Rattle.std.specs.Prelude.{ℕ, List, [], ◌∷◌, ◌++◌, ◌==◌, if◌then◌else◌}
+use Rattle.std.specs.Prelude.{ℕ, List, [], ◌∷◌, ◌++◌, Option, ◌==◌, filter}
 use Rattle.sky_urlenc.specs.RowEvents.{Trigger}
 use Rattle.sky_model.specs.History.{queued, traced, History}
 
--- a trigger and its name
-pub record NamedTrigger : Type 0 where
-  pub name : List ℕ
+-- a trigger of a table; that of a set of replicated tables has no name
+pub record TableTrigger : Type 0 where
+  pub table : ℕ
+  pub name : Option (List ℕ)
   pub trigger : Trigger
 
--- the triggers of a table, in the order of making
-abbrev pub triggers : ℕ → History → List NamedTrigger
-triggers table [] = []
-triggers table (queued (traced n name trigger) ∷ h) =
-    if n == table then triggers table h ++ record { name = name; trigger = trigger } ∷ [] else triggers table h
-triggers table (_ ∷ h) = triggers table h
+-- the triggers of a database, in the order of making
+abbrev pub triggers : History → List TableTrigger
+triggers [] = []
+triggers (queued (traced table name trigger) ∷ h) = triggers h ++ record { table = table; name = name; trigger = trigger } ∷ []
+triggers (_ ∷ h) = triggers h
+
+-- those of a table
+abbrev pub triggers_of : ℕ → List TableTrigger → List TableTrigger
+triggers_of table triggers = filter (λ t. t.table == table) triggers

@@ -7,6 +7,6 @@ use Rattle.sky_model.specs.History.{ended, tabled, wrote, History}
 
 abbrev pub versions : ℕ → History → Entries (List Version)
 versions table [] = []
-versions table (tabled (wrote who t n key old new) ∷ h) = if n == table then written t key new (versions table h) else versions table h
-versions table (ended who t false ∷ h) = forgotten t (versions table h)
+versions table (tabled (wrote whose t n key old new) ∷ h) = if n == table then written t key new (versions table h) else versions table h
+versions table (ended whose t false ∷ h) = forgotten t (versions table h)
 versions table (_ ∷ h) = versions table h

@@ -1,11 +1,12 @@
 //! The laws of the definitions: functions that do nothing, so that their contracts are proved.
 
 ghost use Rattle.sky_model.specs.LawsOfBatches.{BatchesAreConsecutive, BatchesListWhatStands, EqualIdsStay, EventsAreListedOnce, FinishedBatchesWereActive, IdsDontFall, ListingsStay};
-ghost use Rattle.sky_model.specs.LawsOfLines.{BadWordIsLeast};
-ghost use Rattle.sky_model.specs.LawsOfLocks.{DeadlocksAreRings, HoldersHaveWritten, NothingIsReady};
+ghost use Rattle.sky_model.specs.LawsOfHistories.{HistoriesAreMadeByOwnCalls};
+ghost use Rattle.sky_model.specs.LawsOfLines.{BadWordIsLeast, LinesAreInForm};
+ghost use Rattle.sky_model.specs.LawsOfLocks.{DeadlocksAreRings, HoldersHaveWritten, NothingIsReady, WritersHaveWritten};
 ghost use Rattle.sky_model.specs.LawsOfRows.{RowsAreReadUnderSnapshots};
 ghost use Rattle.sky_model.specs.LawsOfSnapshots.{BatchesAreSelectedBySnapshots, SnapshotsSeeWhatHasEnded};
-ghost use Rattle.sky_model.specs.LawsOfWrites.{EventIdsFollowWrites, EventIdsRise, KeysAreWrittenInTurn, SnapshotsSeeEarlierWriters, WritesAndCommitsHaveOneOrder, WritesAreTold};
+ghost use Rattle.sky_model.specs.LawsOfWrites.{EventIdsFollowWrites, EventIdsRise, KeysAreWrittenInTurn, SnapshotsSeeEarlierWriters, StandingRowsFit, WritesAndCommitsHaveOneOrder, WritesAreTold, WritesNameWhatStands, WrittenRowsFit};
 
 /// The number of a line's bad word is the least such that no line of the grammar begins with the
 /// line's words up to it. So it does not depend on the order in which a reader tries the rows.
@@ -13,7 +14,19 @@ pub fn bad_word_is_least()
     ensures { BadWordIsLeast }
 {}
 
-/// At each place of each history that calls make, the snapshot there sees exactly the transactions
+/// What a line of the grammar says is in form: the session's name is a name, and each word of its statement
+/// is worth what a word of its kind can be worth.
+pub fn lines_are_in_form()
+    ensures { LinesAreInForm }
+{}
+
+/// What the calls of the world make in one database, calls of that database alone make, and these are in form if
+/// those are. So what holds of each history that calls of a database make holds of each database of the world.
+pub fn histories_are_made_by_own_calls()
+    ensures { HistoriesAreMadeByOwnCalls }
+{}
+
+/// At each place of each history that calls of a database make, the snapshot there sees exactly the transactions
 /// that have ended there.
 pub fn snapshots_see_what_has_ended()
     ensures { SnapshotsSeeWhatHasEnded }
@@ -38,13 +51,19 @@ pub fn holders_have_written()
     ensures { HoldersHaveWritten }
 {}
 
+/// At each such place a transaction counts as one that has written in a table, which then has no new
+/// trigger, exactly where it hasn't ended, and has written a row there.
+pub fn writers_have_written()
+    ensures { WritersHaveWritten }
+{}
+
 /// At each such place a wait is refused exactly where it would close a ring of sessions each of which
 /// waits for the next, and the refusal lists them, the refused one first.
 pub fn deadlocks_are_rings()
     ensures { DeadlocksAreRings }
 {}
 
-/// After each call no statement waits for a key that nobody holds.
+/// After the calls of a database no statement waits for a key that nobody holds.
 pub fn nothing_is_ready()
     ensures { NothingIsReady }
 {}
@@ -64,6 +83,16 @@ pub fn writes_and_commits_have_one_order()
     ensures told { WritesAreTold }
     ensures ids { EventIdsRise }
     ensures order_of_ids { EventIdsFollowWrites }
+{}
+
+/// At each such place at which a write of a session was just made, the old row that it names is the one that
+/// stood there for the session: the one that its own transaction wrote last, or else that of the newest
+/// committed write. The new row of a write, if there is one, fits the table's columns and has the key under
+/// which it was written. And so does each row that stands in a table.
+pub fn writes_name_what_stands()
+    ensures stands { WritesNameWhatStands }
+    ensures written { WrittenRowsFit }
+    ensures rows { StandingRowsFit }
 {}
 
 /// At each such place the batches that a consumer has finished are of its queue and its subscription,

@@ -3,4 +3,3 @@ pub mod PlaceLemmas
 pub mod TableLemmas
 pub mod ScanLemmas
 pub mod ForgetLemmas
-pub mod WriterLemmas

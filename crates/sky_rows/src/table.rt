@@ -1,5 +1,4 @@
 ghost use Rattle.std.specs.Prelude.{◌≡◌, ◌==◌, ◌||◌, not, [], ◌∷◌, map, take, false, None, is_some, IsTrue, IfOk, OnOk, OnErr};
-ghost use Rattle.std.specs.List.{list_any};
 ghost use Rattle.std.specs.Option.{option_copied};
 ghost use Rattle.std.specs.BTreeSet.{contains};
 ghost use Rattle.sky_val.specs.Order.{key_cmp};
@@ -105,21 +104,6 @@ impl Table {
             Some(versions) => versions.own(txid).is_some(),
             None => false,
         }
-    }
-
-    /// Whether the transaction has a version at any key.
-    pub fn has_written(&self, txid: u64) -> bool
-        ensures { result ≡ list_any (λ e. is_some (version_of txid e.1)) self.now.versions }
-    {
-        if !self.written.may_have_written(txid) {
-            return false;
-        }
-        for (_, versions) in &self.rows {
-            if versions.own(txid).is_some() {
-                return true;
-            }
-        }
-        false
     }
 
     /// The first `most` rows by key above `after`, or above none, as `read` gives them.

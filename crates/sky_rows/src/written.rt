@@ -46,13 +46,6 @@ impl Written {
         }
     }
 
-    /// Whether the transaction may have written any key: if not, it wrote none.
-    pub(crate) fn may_have_written(&self, txid: u64) -> bool
-        ensures { result ≡ false → (key : List Val) → wrote self.now txid key ≡ false }
-    {
-        !self.tells(txid) || self.keys.contains_key(&txid)
-    }
-
     /// The transaction that reads, where it may have written the key.
     pub(crate) fn writer(&self, own: Option<u64>, key: &Key) -> Option<u64>
         ensures { result ≡ writer (wrote self.now) own key.now }

@@ -1,13 +1,15 @@
 -- How a run goes on.
 use Rattle.std.proofs.Common.{◌≡◌, ℕ, ◌+◌, List, [], ◌∷◌, ◌++◌, length, refl, sym, ap, ◌∙◌, append_assoc, append-nil}
-use Rattle.std.specs.Prelude.{Option, Some}
+use Rattle.std.specs.Prelude.{Option, Some, All}
 use Rattle.std.specs.Io.KnownBytes.{Appends}
 use Rattle.std.proofs.KnownBytes as known
+use Rattle.std.proofs.lemmas.List.Elements.{All-nil, All-cons}
 use Rattle.sky_io.proofs.AppendsLemmas.{Appends-both}
 use Rattle.sky_model.specs.Printed.{printed}
 use Rattle.sky_model.specs.Transcript.{Said, asks, idle, bad, said, call_text, transcript, transcript_from, bad_line, bad_line_from}
 use Rattle.sky_model.specs.World.{World, world_of, session_names}
 use Rattle.sky_model.specs.Calls.{Call, past_of, after}
+use Rattle.sky_model.specs.Steps.{IsCallInForm}
 use Rattle.sky_model.proofs.Splitting.{IsUnbroken}
 use Rattle.sky_model.proofs.Scripts.{transcript_from-asks, transcript_from-idle, bad_line_from-asks, bad_line_from-idle, said-fits}
 use Rattle.sky_script.specs.Reader.{Reader, TakesLine}
@@ -20,6 +22,7 @@ use Rattle.sky_run.specs.Goes.{Goes, IsFresh, SameButGathered}
 pub GoesOn-start : (world : World) (source first : Option (List ℕ)) (bytes : List ℕ) → world ≡ world_of [] → source ≡ Some bytes → GoesOn world 1 0 [] [] source first first bytes
 GoesOn-start world source first bytes stands told = record {
   calls = [];
+  in_form = All-nil IsCallInForm;
   read = [];
   left = bytes;
   written = [];
@@ -36,6 +39,7 @@ pub GoesOn-written : {world : World} {n taken : ℕ} {pending gathered : List �
     → GoesOn world n taken pending gathered source first held bytes → Appends held new_held gathered → GoesOn world n taken pending [] source first new_held bytes
 GoesOn-written {n = n} {taken = taken} {pending = pending} {gathered = gathered} {first = first} {held = held} new_held g appends = record {
   calls = g.calls;
+  in_form = g.in_form;
   read = g.read;
   left = g.left;
   written = g.written ++ gathered;
@@ -55,6 +59,7 @@ GoesOn-read {n = n} {taken = taken} {pending = pending} {gathered = gathered} {s
     let same : g.left ≡ left = cc (g.told, told) in
     record {
       calls = g.calls;
+      in_form = g.in_form;
       read = g.read ++ got;
       left = rest;
       written = g.written;
@@ -69,11 +74,11 @@ GoesOn-read {n = n} {taken = taken} {pending = pending} {gathered = gathered} {s
     }
 
 -- a call's answers are what the call prints
-Called-text : {old new : World} {call : Call} {gathered more : List ℕ} (calls : List Call) → old ≡ world_of (past_of calls) → (c : Called old new call gathered more) → more ≡ gathered ++ call_text (past_of calls) call
-Called-text {new = new} {call = call} {gathered = gathered} calls stands c =
+Called-text : {old new : World} {call : Call} {gathered more : List ℕ} (calls : List Call) → All IsCallInForm calls → old ≡ world_of (past_of calls) → (c : Called old new call gathered more) → more ≡ gathered ++ call_text (past_of calls) call
+Called-text {new = new} {call = call} {gathered = gathered} calls in_form stands c =
     c.prints
-    ∙ ap (λ (w : World). gathered ++ printed (w.sessions ++ call.who ∷ []) c.replies) (c.steps.stands calls stands)
-    ∙ ap (λ replies. gathered ++ printed (session_names (after (past_of calls) call) ++ call.who ∷ []) replies) (c.steps.replied calls stands)
+    ∙ ap (λ (w : World). gathered ++ printed (w.sessions ++ call.who ∷ []) c.replies) (c.steps.stands calls in_form stands)
+    ∙ ap (λ replies. gathered ++ printed (session_names (after (past_of calls) call) ++ call.who ∷ []) replies) (c.steps.answered calls in_form stands)
 
 joined : (written gathered text rest : List ℕ) → (written ++ gathered) ++ (text ++ rest) ≡ (written ++ (gathered ++ text)) ++ rest
 joined written gathered text rest = sym (append_assoc (written ++ gathered) text rest) ∙ ap (λ front. front ++ rest) (append_assoc written gathered text)
@@ -86,10 +91,11 @@ GoesOn-asks {n = n} {gathered = gathered} taken line pending call g says called 
     let past = past_of g.calls in
     record {
       calls = call ∷ g.calls;
+      in_form = All-cons IsCallInForm call g.calls called.in_form g.in_form;
       read = g.read;
       left = g.left;
       written = g.written;
-      stands = called.steps.stands g.calls g.stands;
+      stands = called.steps.stands g.calls g.in_form g.stands;
       told = g.told;
       bytes_are = g.bytes_are;
       appends = g.appends;
@@ -97,7 +103,7 @@ GoesOn-asks {n = n} {gathered = gathered} taken line pending call g says called 
           ∙ ap (λ u. (g.written ++ gathered) ++ transcript_from past taken u) (append_assoc line (10 ∷ pending) more)
           ∙ ap (λ text. (g.written ++ gathered) ++ text) (transcript_from-asks past taken line (pending ++ more) call unbroken says)
           ∙ joined g.written gathered (call_text past call) (transcript_from (after past call) (taken + length line + 1) (pending ++ more))
-          ∙ ap (λ front. (g.written ++ front) ++ transcript_from (after past call) (taken + length line + 1) (pending ++ more)) (sym (Called-text g.calls g.stands called));
+          ∙ ap (λ front. (g.written ++ front) ++ transcript_from (after past call) (taken + length line + 1) (pending ++ more)) (sym (Called-text g.calls g.in_form g.stands called));
       is_bad = λ more. g.is_bad more
           ∙ ap (λ u. bad_line_from n taken u) (append_assoc line (10 ∷ pending) more)
           ∙ bad_line_from-asks n taken line (pending ++ more) call unbroken says;
@@ -111,6 +117,7 @@ GoesOn-idle {n = n} {gathered = gathered} taken line pending g says same_world s
     let past = past_of g.calls in
     record {
       calls = g.calls;
+      in_form = g.in_form;
       read = g.read;
       left = g.left;
       written = g.written;

@@ -1,12 +1,12 @@
 -- How far a run has come.
-use Rattle.std.specs.Prelude.{◌≡◌, ℕ, List, [], ◌∷◌, ◌++◌, Option, Some, if◌then◌else◌}
+use Rattle.std.specs.Prelude.{◌≡◌, ℕ, List, [], ◌∷◌, ◌++◌, Option, Some, All, if◌then◌else◌}
 use Rattle.std.specs.Str.{is_utf8}
 use Rattle.std.specs.Io.KnownBytes.{Appends}
 use Rattle.sky_model.specs.declared.line.Cause.TheVariants.{NotUtf8}
 use Rattle.sky_model.specs.declared.reply.Reply.{Reply}
 use Rattle.sky_model.specs.Grammar.{line_of}
 use Rattle.sky_model.specs.Printed.{printed}
-use Rattle.sky_model.specs.Steps.{Steps}
+use Rattle.sky_model.specs.Steps.{IsCallInForm, Steps}
 use Rattle.sky_model.specs.Transcript.{Said, asks, idle, bad, said_by, transcript, transcript_from, bad_line, bad_line_from}
 use Rattle.sky_model.specs.World.{World, world_of}
 use Rattle.sky_model.specs.Calls.{Call, past_of}
@@ -20,6 +20,7 @@ pub record GoesOn (world : World) (n taken : ℕ) (pending gathered : List ℕ) 
   pub read : List ℕ
   pub left : List ℕ
   pub written : List ℕ
+  pub in_form : All IsCallInForm calls
   pub stands : world ≡ world_of (past_of calls)
   pub told : source ≡ Some left
   pub bytes_are : bytes ≡ read ++ left
@@ -31,9 +32,10 @@ pub record GoesOn (world : World) (n taken : ℕ) (pending gathered : List ℕ) 
 abbrev pub said_in : List ℕ → Said
 said_in line = if is_utf8 line then said_by (line_of line) else bad NotUtf8
 
--- a call was answered in a world, and its answers were put behind what was gathered
+-- a call in form was answered in a world, and its answers were put behind what was gathered
 pub record Called (old new : World) (call : Call) (gathered more : List ℕ) : Type 0 where
   pub replies : List (ℕ × Reply)
+  pub in_form : IsCallInForm call
   pub steps : Steps old new call replies
   pub prints : more ≡ gathered ++ printed (new.sessions ++ call.who ∷ []) replies
 

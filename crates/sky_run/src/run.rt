@@ -2,6 +2,8 @@ ghost use Rattle.std.specs.Prelude.{◌≡◌, ℕ, List, Option, Some, None, Ok
 ghost use Rattle.std.specs.Io.KnownBytes.{Appends};
 ghost use Rattle.sky_io.specs.Appends.{AppendsPrefix};
 ghost use Rattle.sky_io.specs.Faults.{Rose};
+ghost use Rattle.sky_model.specs.Kinds.{is_name};
+ghost use Rattle.sky_model.specs.InForm.{IsInForm, IsLineInForm};
 ghost use Rattle.sky_model.specs.Transcript.{said_by, most_in_script};
 ghost use Rattle.sky_model.specs.World.{world_of};
 ghost use Rattle.sky_world.specs.Seen.{seen_world};
@@ -151,7 +153,8 @@ impl Run {
 
     // Answers a line that was parsed, and counts it.
     fn count(&mut self, said: &Line) -> Result<(), End>
-        requires { self.old.number ≤ most_in_script }
+        requires number { self.old.number ≤ most_in_script }
+        requires form { IsLineInForm said.now }
         ensures answers { OnOk result (Answers (said_by (Ok said.now)) (seen_world self.old.world) (seen_world self.new.world) self.old.gathered.items self.new.gathered.items) }
         ensures number { OnOk result (self.new.number ≡ self.old.number + 1) }
         ensures no_memory { IfErr result (λ end. end ≡ End.NoMemory) }
@@ -169,6 +172,7 @@ impl Run {
 
     // Answers what a line says. A blank line says nothing.
     fn answer_said(&mut self, said: &Line) -> Result<(), NoMemory>
+        requires { IsLineInForm said.now }
         ensures answers { OnOk result (Answers (said_by (Ok said.now)) (seen_world self.old.world) (seen_world self.new.world) self.old.gathered.items self.new.gathered.items) }
         ensures err { OnErr result (self.new.gathered.items ≡ self.old.gathered.items) }
         ensures reader { self.new.reader ≡ self.old.reader }
@@ -182,6 +186,8 @@ impl Run {
 
     // Runs a statement of a session, and gathers its answers.
     fn call(&mut self, who: &Text, stmt: &Stmt) -> Result<(), NoMemory>
+        requires name { is_name who.now ≡ true }
+        requires form { IsInForm stmt.now }
         ensures answers { OnOk result (Called (seen_world self.old.world) (seen_world self.new.world) (record { who = who.now; stmt = stmt.now }) self.old.gathered.items self.new.gathered.items) }
         ensures err { OnErr result (self.new.gathered.items ≡ self.old.gathered.items) }
         ensures reader { self.new.reader ≡ self.old.reader }

@@ -1,6 +1,7 @@
-ghost use Rattle.std.specs.Prelude.{◌≡◌, ◌↔◌, IsUtf8};
+ghost use Rattle.std.specs.Prelude.{◌≡◌, ◌↔◌, IfOk, IsUtf8};
 ghost use Rattle.sky_model.specs.Words as line_words;
 ghost use Rattle.sky_model.specs.Grammar.{statement_of, line_of_words, line_of};
+ghost use Rattle.sky_model.specs.InForm.{IsLineInForm};
 ghost use Rattle.sky_script.specs.Reading.{IsAnswer};
 
 use crate::cause::LineCause;
@@ -38,6 +39,7 @@ fn run_line(alloc: Global, line: &[u8]) -> Result<Line, LineCause>
 pub fn parse_line(alloc: Global, line: &[u8]) -> Result<Line, LineCause>
     ensures not_utf8 { result ≡ Err LineCause.NotUtf8 ↔ ¬ (IsUtf8 line.now) }
     ensures answer { IsUtf8 line.now → IsAnswer result (line_of line.now) }
+    ensures in_form { IfOk result (λ says. IsLineInForm says) }
 {
     if str::from_utf8(line).is_err() {
         return Err(LineCause::NotUtf8);

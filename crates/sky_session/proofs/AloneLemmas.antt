@@ -1,5 +1,5 @@
 -- A transaction of one write: it leaves nobody's id, and no lock.
-use Rattle.std.proofs.Common.{◌≡◌, ℕ, ◌+◌, ◌<◌, List, [], ◌∷◌, ◌++◌, Bool, true, false, not, ◌==◌, ◌||◌, filter, Option, Some, None, length, get_or, slice_set, refl, sym, ◌∙◌, ap, arith, if◌then◌else◌}
+use Rattle.std.proofs.Common.{◌≡◌, ℕ, ◌+◌, ◌<◌, List, [], ◌∷◌, ◌++◌, Bool, true, false, not, ◌==◌, ◌&&◌, ◌||◌, filter, Option, Some, None, length, get_or, slice_set, refl, sym, ◌∙◌, ap, arith, if◌then◌else◌}
 use Rattle.std.proofs.lemmas.Bool.{and_parts}
 use Rattle.std.proofs.lemmas.Bool.Decides.{nat_tests}
 use Rattle.std.proofs.lemmas.Map.Views.{tells_apart}
@@ -14,10 +14,10 @@ use Rattle.sky_trans.specs.Trans.{TransView}
 use Rattle.sky_rows.specs.Table.{TableView}
 use Rattle.sky_locks.specs.Locks.{LocksView, holder}
 use Rattle.sky_model.specs.Sessions.{Session}
-use Rattle.sky_model.specs.History.{began, ended, tabled, wrote}
+use Rattle.sky_model.specs.History.{of_session, began, ended, tabled, wrote}
 use Rattle.sky_model.specs.State.{changed_at, with_txid, after_part_marks}
 use Rattle.sky_session.specs.Views.{RowDbView}
-use Rattle.sky_session.specs.Seen.{no_table, table_of, columns_of, versions_of, session_of, seen}
+use Rattle.sky_session.specs.Seen.{no_table, table_of, columns_of, versions_of, session_of, wrote_in, seen}
 use Rattle.sky_session.proofs.SessionLists.{set-at, read-at}
 
 -- an id that began last and has ended has left the others
@@ -79,21 +79,31 @@ version-written tables n t key row old new lt at is = (
         ap (λ (v : TableView). v.versions) is ∙ ap (λ (v : TableView). written t key row v.versions) (sym there) ∙ ap (λ k. written t key row (table_of tables k).versions) one
     versions m false e = refl
 
+-- one that has ended counts no more as one that has written
+gone-again : (old : (table t : ℕ) → Bool) (table t n u : ℕ) → (not (t == u) && old n u) ≡ (not (t == u) && ((table == n && t == u) || old n u))
+gone-again old table t n u = by (t == u) (table == n)
+  where
+    by : (a b : Bool) → (not a && old n u) ≡ (not a && ((b && a) || old n u))
+    by true b = refl
+    by false true = refl
+    by false false = refl
+
 -- a transaction of one write
-pub alone-as : (v now : RowDbView) (trans : TransView) (tables : List TableView) (locks : LocksView) (who table : ℕ) (key : List Val) (row : Option (List Val)) → v ≡ now → ((seen now).session who).txid ≡ None
+pub alone-as : (v now : RowDbView) (trans : TransView) (tables : List TableView) (writers : List (ℕ × ℕ)) (locks : LocksView) (who table : ℕ) (key : List Val) (row : Option (List Val)) → v ≡ now → ((seen now).session who).txid ≡ None
     → other_holder (seen now).holder who table key ≡ None → trans ≡ record { next = v.trans.next + 1; running = filter (λ u. not (u == v.trans.next)) (v.trans.running ++ v.trans.next ∷ []) }
     → columns_of tables ≡ columns_of v.tables → versions_of tables ≡ changed_at table (written v.trans.next key row) (versions_of v.tables)
-    → holder locks ≡ released who (holder v.locks) → locks.waiting ≡ v.locks.waiting
-    → seen (record v { trans = trans; tables = tables; locks = locks })
-    ≡ after_part_marks (seen now) (began who (seen now).next ∷ tabled (wrote who (seen now).next table key None row) ∷ ended who (seen now).next true ∷ [])
-alone-as v now trans tables locks who table key row same none free passed columns versions keys waits =
+    → wrote_in writers ≡ (λ n u. not (v.trans.next == u) && wrote_in v.writers n u) → holder locks ≡ released who (holder v.locks) → locks.waiting ≡ v.locks.waiting
+    → seen (record v { trans = trans; tables = tables; writers = writers; locks = locks })
+    ≡ after_part_marks (seen now) (began (of_session who) (seen now).next ∷ tabled (wrote (of_session who) (seen now).next table key None row) ∷ ended (of_session who) (seen now).next true ∷ [])
+alone-as v now trans tables writers locks who table key row same none free passed columns versions gone keys waits =
     (λ i. record (seen v) {
       next = (passed i).next;
       running_ids = (passed i).running;
       session = sym (no-id-again (session_of v.sessions) who v.trans.next (ap (λ (w : RowDbView). ((seen w).session who).txid) same ∙ none)) i;
       columns = columns i;
       versions = versions i;
+      wrote_in = λ n u. (ap (λ (f : (table t : ℕ) → Bool). f n u) gone ∙ gone-again (wrote_in v.writers) table v.trans.next n u) i;
       holder = (keys ∙ sym (taken-released (holder v.locks) who table key (ap (λ (w : RowDbView). other_holder (seen w).holder who table key) same ∙ free))) i;
       waiting = waits i;
     })
-    ∙ ap (λ (w : RowDbView). after_part_marks (seen w) (began who (seen w).next ∷ tabled (wrote who (seen w).next table key None row) ∷ ended who (seen w).next true ∷ [])) same
+    ∙ ap (λ (w : RowDbView). after_part_marks (seen w) (began (of_session who) (seen w).next ∷ tabled (wrote (of_session who) (seen w).next table key None row) ∷ ended (of_session who) (seen w).next true ∷ [])) same

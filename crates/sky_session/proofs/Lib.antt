@@ -1,5 +1,6 @@
 pub mod SessionLists
 pub mod AttemptLists
+pub mod WriterBits
 pub mod Owning
 pub mod WaitLemmas
 pub mod Steps
@@ -7,6 +8,7 @@ pub mod LockLemmas
 pub mod ValueLemmas
 pub mod SetLemmas
 pub mod FaultLemmas
+pub mod FormLemmas
 pub mod WrittenLemmas
 pub mod AloneLemmas
 pub mod ScanLemmas

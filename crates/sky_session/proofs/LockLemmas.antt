@@ -25,7 +25,7 @@ use Rattle.sky_model.specs.declared.stop.Stop.{Stop}
 use Rattle.sky_model.specs.declared.stop.Stop.TheVariants as stop
 use Rattle.sky_session.specs.declared.effect.Effect.{Effect}
 use Rattle.sky_session.specs.Effects.{effects_of}
-use Rattle.sky_session.specs.Marks.{failure}
+use Rattle.sky_model.specs.SessionMarks.{failure}
 use Rattle.sky_session.specs.Views.{RowDbView}
 use Rattle.sky_session.specs.Seen.{attempt_of, seen}
 use Rattle.sky_session.specs.Gives.{GivesTurn, GivesOutcome, Adds, Does, Ran, Passes}

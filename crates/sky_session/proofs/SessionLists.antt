@@ -1,25 +1,21 @@
 -- Lists of sessions and of tables, read by number.
-use Rattle.std.proofs.Common.{◌≡◌, ℕ, zero, suc, ◌+◌, ◌<◌, ◌≤◌, List, [], ◌∷◌, ◌++◌, Bool, true, false, not, ◌==◌, filter, find, drop, is_some, Option, Some, None, nat_lt, take, length, get_or, slice_set, get_or-set_same, get_or-set_other, ◌≢◌, refl, sym, ◌∙◌, ap, arith, if◌then◌else◌}
+use Rattle.std.proofs.Common.{◌≡◌, ℕ, zero, suc, ◌+◌, ◌<◌, ◌≤◌, List, [], ◌∷◌, ◌++◌, Bool, true, false, not, ◌&&◌, ◌||◌, ◌==◌, filter, Option, None, nat_lt, take, length, get_or, slice_set, get_or-set_same, get_or-set_other, ◌≢◌, refl, sym, ◌∙◌, ap, arith, if◌then◌else◌}
 use Rattle.std.proofs.lemmas.Bool.Decides.{nat_tests}
 use Rattle.std.proofs.lemmas.Option.{get_or_from_slice_get, slice_get_read}
-use Rattle.std.proofs.lemmas.List.{get_or_past, at_drop_more}
-use Rattle.std.specs.List.{list_any}
+use Rattle.std.proofs.lemmas.List.{get_or_past}
 use Rattle.sky_val.specs.declared.val.Val.{Val}
-use Rattle.sky_txid.specs.declared.version.Version.{Version}
-use Rattle.sky_txid.specs.Versions.{version_of, forgotten}
+use Rattle.sky_txid.specs.Versions.{written, forgotten}
 use Rattle.sky_trans.specs.Trans.{TransView}
 use Rattle.sky_rows.specs.Table.{TableView}
-use Rattle.sky_val.specs.Waits.{released}
+use Rattle.sky_val.specs.Waits.{taken, released}
 use Rattle.sky_locks.specs.Locks.{LocksView, holder}
 use Rattle.sky_model.specs.Sessions as model
 use Rattle.sky_val.specs.declared.column.Column.{Column}
-use Rattle.sky_val.specs.Entries.{Entries}
-use Rattle.sky_model.specs.History.{ended, tabled, table_made}
-use Rattle.sky_model.specs.ShownRows.{least_writer}
+use Rattle.sky_model.specs.History.{of_session, ended, tabled, table_made, wrote}
 use Rattle.sky_model.specs.State.{changed_at, with_txid, after_part}
 use Rattle.sky_session.specs.Views.{RowDbView}
 use Rattle.sky_session.specs.declared.session.Session.{Session}
-use Rattle.sky_session.specs.Seen.{seen_session, rest, session_of, no_table, table_of, columns_of, versions_of, seen}
+use Rattle.sky_session.specs.Seen.{seen_session, rest, session_of, no_table, table_of, columns_of, versions_of, wrote_in, seen}
 
 -- an item in the place of another
 pub set-at : {A : Type 0} → (xs : List A) (i n : ℕ) (x d : A) → i < length xs → get_or (slice_set xs i x) n d ≡ (if i == n then x else get_or xs n d)
@@ -148,61 +144,30 @@ made-as v now names tables table name columns same more one new count =
     whole : tables ≡ v.tables ++ made columns ∷ []
     whole = one ∙ ap (λ t. v.tables ++ t ∷ []) new
 
+-- a write takes its key, and its transaction counts as one that has written in the table
+pub wrote-as : (v now : RowDbView) (tables : List TableView) (writers : List (ℕ × ℕ)) (locks : LocksView) (who t table : ℕ) (key : List Val) (row : Option (List Val)) → v ≡ now
+    → columns_of tables ≡ columns_of v.tables → versions_of tables ≡ changed_at table (written t key row) (versions_of v.tables)
+    → wrote_in writers ≡ (λ n u. (table == n && t == u) || wrote_in v.writers n u) → holder locks ≡ taken who table key (holder v.locks) → locks.waiting ≡ v.locks.waiting
+    → seen (record v { tables = tables; writers = writers; locks = locks }) ≡ after_part (seen now) (tabled (wrote (of_session who) t table key None row))
+wrote-as v now tables writers locks who t table key row same columns versions writes keys waits =
+    (λ i. record (seen v) { columns = columns i; versions = versions i; wrote_in = writes i; holder = keys i; waiting = waits i })
+    ∙ ap (λ (w : RowDbView). after_part (seen w) (tabled (wrote (of_session who) t table key None row))) same
+
 -- a transaction that has committed doesn't run, is no session's, and its keys are free
-pub committed-as : (v now : RowDbView) (trans : TransView) (sessions : List Session) (locks : LocksView) (who t : ℕ) → v ≡ now
+pub committed-as : (v now : RowDbView) (trans : TransView) (sessions : List Session) (writers : List (ℕ × ℕ)) (locks : LocksView) (who t : ℕ) → v ≡ now
     → trans ≡ record { next = v.trans.next; running = filter (λ u. not (u == t)) v.trans.running } → session_of sessions ≡ changed_at who (with_txid None) (session_of v.sessions)
-    → holder locks ≡ released who (holder v.locks) → locks.waiting ≡ v.locks.waiting
-    → seen (record v { trans = trans; sessions = sessions; locks = locks }) ≡ after_part (seen now) (ended who t true)
-committed-as v now trans sessions locks who t same less free keys waits =
-    (λ i. record (seen v) { next = (less i).next; running_ids = (less i).running; session = free i; holder = keys i; waiting = waits i })
-    ∙ ap (λ (w : RowDbView). after_part (seen w) (ended who t true)) same
+    → wrote_in writers ≡ (λ n u. not (t == u) && wrote_in v.writers n u) → holder locks ≡ released who (holder v.locks) → locks.waiting ≡ v.locks.waiting
+    → seen (record v { trans = trans; sessions = sessions; writers = writers; locks = locks }) ≡ after_part (seen now) (ended (of_session who) t true)
+committed-as v now trans sessions writers locks who t same less free gone keys waits =
+    (λ i. record (seen v) { next = (less i).next; running_ids = (less i).running; session = free i; wrote_in = gone i; holder = keys i; waiting = waits i })
+    ∙ ap (λ (w : RowDbView). after_part (seen w) (ended (of_session who) t true)) same
 
 -- so it is with one that was rolled back, which has no version either
-pub aborted-as : (v now : RowDbView) (trans : TransView) (sessions : List Session) (tables : List TableView) (locks : LocksView) (who t : ℕ) → v ≡ now
+pub aborted-as : (v now : RowDbView) (trans : TransView) (sessions : List Session) (tables : List TableView) (writers : List (ℕ × ℕ)) (locks : LocksView) (who t : ℕ) → v ≡ now
     → trans ≡ record { next = v.trans.next; running = filter (λ u. not (u == t)) v.trans.running } → session_of sessions ≡ changed_at who (with_txid None) (session_of v.sessions)
     → columns_of tables ≡ columns_of v.tables → versions_of tables ≡ (λ n. forgotten t (versions_of v.tables n))
-    → holder locks ≡ released who (holder v.locks) → locks.waiting ≡ v.locks.waiting
-    → seen (record v { trans = trans; sessions = sessions; tables = tables; locks = locks }) ≡ after_part (seen now) (ended who t false)
-aborted-as v now trans sessions tables locks who t same less free columns versions keys waits =
-    (λ i. record (seen v) { next = (less i).next; running_ids = (less i).running; session = free i; columns = columns i; versions = versions i; holder = keys i; waiting = waits i })
-    ∙ ap (λ (w : RowDbView). after_part (seen w) (ended who t false)) same
-
--- the first of the transactions that has a version at a key
-abbrev pub writer_in : Entries (List Version) → List ℕ → Option ℕ
-writer_in vs ids = find (λ t. list_any (λ e. is_some (version_of t e.1)) vs) ids
-
-never : (ids : List ℕ) → writer_in [] ids ≡ None
-never [] = refl
-never (t ∷ ts) = never ts
-
--- nobody writes a table that isn't made
-pub none-writes : (d : RowDbView) (n : ℕ) → length d.tables ≤ n → least_writer (seen d) n ≡ None
-none-writes d n past = ap (λ (v : TableView). writer_in v.versions d.trans.running) (get_or_past d.tables n no_table past) ∙ never d.trans.running
-
--- the one at a place is the first of those that are left from there on
-pub writer-here : (vs : Entries (List Version)) (ids : List ℕ) (i : ℕ) (r : Option ℕ) → i < length ids
-    → list_any (λ (e : List Val × List Version). is_some (version_of (get_or ids i 0) e.1)) vs ≡ true → writer_in vs (drop i ids) ≡ r → Some (get_or ids i 0) ≡ r
-writer-here vs ids i r lt writes rest =
-    sym (ap (λ b. if b then Some (get_or ids i 0) else writer_in vs (drop (i + 1) ids)) writes) ∙ sym (at_drop_more (writer_in vs) ids i 0 lt) ∙ rest
-
--- or else that is behind it
-pub writer-later : (vs : Entries (List Version)) (ids : List ℕ) (i : ℕ) (r : Option ℕ) → i < length ids
-    → list_any (λ (e : List Val × List Version). is_some (version_of (get_or ids i 0) e.1)) vs ≡ false → writer_in vs (drop i ids) ≡ r → writer_in vs (drop (i + 1) ids) ≡ r
-writer-later vs ids i r lt writes rest =
-    sym (ap (λ b. if b then Some (get_or ids i 0) else writer_in vs (drop (i + 1) ids)) writes) ∙ sym (at_drop_more (writer_in vs) ids i 0 lt) ∙ rest
-
-none-left : (ids : List ℕ) (i : ℕ) → length ids ≤ i → drop i ids ≡ []
-none-left [] zero le = refl
-none-left [] (suc i) le = refl
-none-left (u ∷ ids) zero le = absurd (omega arith)
-none-left (u ∷ ids) (suc i) le = none-left ids i (omega arith)
-
-pub writer-none : (vs : Entries (List Version)) (ids : List ℕ) (i : ℕ) (r : Option ℕ) → length ids ≤ i → writer_in vs (drop i ids) ≡ r → None ≡ r
-writer-none vs ids i r le rest = sym (ap (writer_in vs) (none-left ids i le)) ∙ rest
-
--- among all that run it is the least that writes the table
-pub writer-least : (v now : RowDbView) (n : ℕ) (table : TableView) (ids : List ℕ) → v ≡ now → n < length v.tables → table ≡ get_or v.tables n table → ids ≡ v.trans.running
-    → writer_in table.versions ids ≡ least_writer (seen now) n
-writer-least v now n table ids same lt at is =
-    ap (writer_in table.versions) is ∙ ap (λ (t : TableView). writer_in t.versions v.trans.running) (sym (read-at v.tables n table no_table lt at))
-    ∙ ap (λ (w : RowDbView). least_writer (seen w) n) same
+    → wrote_in writers ≡ (λ n u. not (t == u) && wrote_in v.writers n u) → holder locks ≡ released who (holder v.locks) → locks.waiting ≡ v.locks.waiting
+    → seen (record v { trans = trans; sessions = sessions; tables = tables; writers = writers; locks = locks }) ≡ after_part (seen now) (ended (of_session who) t false)
+aborted-as v now trans sessions tables writers locks who t same less free columns versions gone keys waits =
+    (λ i. record (seen v) { next = (less i).next; running_ids = (less i).running; session = free i; columns = columns i; versions = versions i; wrote_in = gone i; holder = keys i; waiting = waits i })
+    ∙ ap (λ (w : RowDbView). after_part (seen w) (ended (of_session who) t false)) same

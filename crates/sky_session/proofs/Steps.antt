@@ -1,5 +1,5 @@
 -- What a step gives, part by part.
-use Rattle.std.proofs.Common.{◌≡◌, ℕ, List, [], ◌∷◌, ◌++◌, Bool, true, false, Option, Some, None, Result, Ok, Err, OnOk, refl, sym, ◌∙◌, ap, subst, eq-eqb, if◌then◌else◌}
+use Rattle.std.proofs.Common.{◌≡◌, ℕ, List, [], ◌∷◌, ◌++◌, Bool, true, false, Option, Some, None, Result, Ok, Err, IfOk, OnOk, refl, sym, ◌∙◌, ap, subst, eq-eqb, if◌then◌else◌}
 use Rattle.sky_model.specs.declared.reply.Reply.TheVariants.{Number, Refused}
 use Rattle.sky_model.specs.declared.reply.Refusal.{Refusal}
 use Rattle.sky_model.specs.declared.stmt.RowStmt.{RowStmt}
@@ -18,11 +18,7 @@ use Rattle.sky_model.specs.Reader.{part_by_itself}
 use Rattle.sky_model.specs.Gates.{Gate, passed_all, gated, by_gate, open_gate}
 use Rattle.sky_model.specs.Calls.{row_form, row_making, row_statement, row_turn}
 use Rattle.sky_model.specs.Settling.{Turn, turn_of, behind_marks, settling, with_settling}
-use Rattle.sky_model.specs.RowSteps.{RowSteps}
-use Rattle.sky_model.proofs.RowStanding.{row_steps_from_exact}
 use Rattle.sky_model.proofs.GatedLemmas.{gated-behind, passed-append, passed-abort, passed-none, gated-none, PlainOutcome, open-turn}
-use Rattle.sky_model.proofs.GatedStanding.{gated_steps_from_exact}
-use Rattle.sky_model.specs.GatedSteps.{GatedSteps}
 use Rattle.sky_session.specs.declared.answer.Answer.{Answer}
 use Rattle.sky_session.specs.declared.answer.RowStep.{RowStep}
 use Rattle.sky_session.specs.declared.effect.Effect.{Effect}
@@ -31,8 +27,12 @@ use Rattle.sky_session.specs.Effects.{op_of, effects_of}
 use Rattle.sky_session.specs.Views.{RowDbView}
 use Rattle.sky_model.specs.declared.stop.Stop.{Stop}
 use Rattle.sky_model.specs.declared.stop.Stop.TheVariants as stop
-use Rattle.sky_session.specs.Marks.{look_of}
-use Rattle.sky_session.specs.Gives.{GivesTurn, GivesOutcome, Adds, Does, Ran, Passes, Enters, sight_marks}
+use Rattle.sky_model.specs.Sessions.{Block, outside, inside, failed}
+use Rattle.sky_model.specs.SessionMarks.{look_of, sight_marks, failure, Enters, entry, entry_place}
+use Rattle.sky_model.specs.RowCalls.{row_entered}
+use Rattle.sky_model.specs.RowSteps.{RowSteps}
+use Rattle.sky_model.proofs.RowCallStanding.{row_enter_from_exact}
+use Rattle.sky_session.specs.Gives.{GivesTurn, GivesOutcome, Adds, Does, Ran, Passes}
 use Rattle.sky_model.specs.Stops.{Refuses}
 use Rattle.sky_model.specs.Outcome.{marks_of}
 
@@ -249,17 +249,19 @@ gives-turn d new answer step who outcome gives replied told = record {
   changed = gives.changed;
 }
 
--- an exact step is a step at each place of a history that leaves the part as it was
-pub steps-exact : (d new : RowPart) (step : RowStep) (who : ℕ) (stmt : RowStmt) → GivesTurn d new step (row_turn part_by_itself d who stmt) → RowSteps d new who stmt step.replies
-steps-exact d new step who stmt gives = row_steps_from_exact d new who stmt step.replies gives.replied gives.changed
-
--- behind a gate too
-pub gated-steps-exact : {G : Type 0} (gate : Gate G) (g g' : G) (d new : RowPart) (step : RowStep) (who : ℕ) (stmt : RowStmt) → GivesTurn d new step (row_turn (by_gate gate part_by_itself) (d, g) who stmt)
-    → g' ≡ passed_all gate g (row_turn (by_gate gate part_by_itself) (d, g) who stmt).marks → GatedSteps gate (d, g) (new, g') who stmt step.replies
-gated-steps-exact gate g g' d new step who stmt gives told =
-    gated_steps_from_exact gate (d, g) (new, g') who stmt step.replies gives.replied
-    ((λ i. (gives.changed i, told i)) ∙ sym (gated-behind gate d g (row_turn (by_gate gate part_by_itself) (d, g) who stmt).marks))
-
 -- one whose gate always has room is given without a gate
 pub gives-open : (d new : RowPart) (step : RowStep) (who : ℕ) (stmt : RowStmt) → GivesTurn d new step (row_turn (by_gate open_gate part_by_itself) (d, tt) who stmt) → GivesTurn d new step (row_turn part_by_itself d who stmt)
 gives-open d new step who stmt gives = subst (GivesTurn d new step) (open-turn d who stmt) gives
+
+-- a session that entered, or was refused, keeps its promise
+pub entered-steps : {E : Type 0} (old new : RowPart) (who : ℕ) (alone : Bool) (r : Result (Option Refusal) E) → IfOk r (λ refusal. Enters old new who (entry_place alone) refusal)
+    → OnOk r (RowSteps old new (row_entered who alone) (entry old who (entry_place alone)))
+entered-steps old new who alone (Ok refusal) enters = row_enter_from_exact old new who alone refusal enters
+entered-steps old new who alone (Err e) enters = tt
+
+-- no gate is told of a rollback
+pub passed-failing : {G : Type 0} (gate : Gate G) (g : G) (who : ℕ) (txid : Option ℕ) (b : Block) → passed_all gate g (failure who txid b) ≡ g
+passed-failing gate g who txid outside = refl
+passed-failing gate g who None inside = refl
+passed-failing gate g who (Some t) inside = refl
+passed-failing gate g who txid failed = refl

@@ -16,7 +16,7 @@ op_of (Some row) (Some next) = Update
 -- the effects of marks, the first one first
 abbrev pub effects_of : List Mark → List Effect
 effects_of [] = []
-effects_of (tabled (wrote who t table key old new) ∷ marks) = Wrote t table (op_of old new) old new ∷ effects_of marks
-effects_of (ended who t true ∷ marks) = Committed t ∷ effects_of marks
-effects_of (ended who t false ∷ marks) = Aborted t ∷ effects_of marks
+effects_of (tabled (wrote whose t table key old new) ∷ marks) = Wrote t table (op_of old new) old new ∷ effects_of marks
+effects_of (ended whose t true ∷ marks) = Committed t ∷ effects_of marks
+effects_of (ended whose t false ∷ marks) = Aborted t ∷ effects_of marks
 effects_of (_ ∷ marks) = effects_of marks

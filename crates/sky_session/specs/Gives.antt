@@ -1,9 +1,7 @@
 -- What a method of the code gives, by what the database showed.
-use Rattle.std.specs.Prelude.{◌≡◌, ℕ, List, ◌++◌, Option, Some, None, Result, Ok, Err}
-use Rattle.sky_val.specs.Waits.{is_waiting}
+use Rattle.std.specs.Prelude.{◌≡◌, ℕ, List, ◌++◌, Result, Ok, Err}
 use Rattle.sky_model.specs.declared.reply.Reply.{Reply}
 use Rattle.sky_model.specs.declared.reply.Refusal.{Refusal}
-use Rattle.sky_model.specs.declared.stmt.Where.{Where}
 use Rattle.sky_model.specs.History.{Mark}
 use Rattle.sky_model.specs.State.{RowPart, after_part_marks}
 use Rattle.sky_model.specs.declared.stop.Stop.{Stop}
@@ -12,12 +10,9 @@ use Rattle.sky_model.specs.Outcome.{Outcome, Checked, marks_of}
 use Rattle.sky_model.specs.Stops.{Stops}
 use Rattle.sky_model.specs.Gates.{Gate, passed_all}
 use Rattle.sky_model.specs.Settling.{Turn}
-use Rattle.sky_model.specs.Allowed.{allowed}
-use Rattle.sky_model.specs.Made.{takes_sight}
 use Rattle.sky_session.specs.declared.answer.Answer.{Answer}
 use Rattle.sky_session.specs.declared.answer.RowStep.{RowStep}
 use Rattle.sky_session.specs.Effects.{effects_of}
-use Rattle.sky_session.specs.Marks.{look_of}
 use Rattle.sky_session.specs.Views.{RowDbView}
 use Rattle.sky_session.specs.Seen.{seen}
 
@@ -60,12 +55,3 @@ abbrev pub Passes : {G : Type 0} → Gate G → G → G → Result Answer Stop �
 Passes gate old new (Ok answer) checked = new ≡ passed_all gate old (marks_of checked)
 Passes gate old new (Err (Refused refusal)) checked = new ≡ old
 Passes gate old new (Err NoMemory) checked = Unit {0}
-
--- the marks of taking a session's sight, where a statement takes it
-abbrev pub sight_marks : RowPart → ℕ → Where → List Mark
-sight_marks d who place = look_of who (takes_sight place (d.session who).sight)
-
--- a statement may be made, and has taken its session's sight if it is to, or it is refused
-abbrev pub Enters : RowPart → RowPart → ℕ → Where → Option Refusal → Type 0
-Enters old new who place (Some refusal) = (allowed (is_waiting who old.waiting) (old.session who).block place ≡ Err refusal) × (new ≡ old)
-Enters old new who place None = (allowed (is_waiting who old.waiting) (old.session who).block place ≡ Ok tt) × (new ≡ after_part_marks old (sight_marks old who place))

@@ -2,5 +2,4 @@ pub mod Views
 pub mod Seen
 pub mod Owned
 pub mod Effects
-pub mod Marks
 pub mod Gives

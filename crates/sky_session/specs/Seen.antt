@@ -1,5 +1,10 @@
 -- The readings of the definitions, in what the code keeps.
-use Rattle.std.specs.Prelude.{ℕ, List, [], None, slice_index_or}
+use Rattle.std.specs.Prelude.{ℕ, Bool, false, ◌==◌, List, [], None, slice_index_or}
+use Rattle.std.specs.Int.{bit_at}
+use Rattle.std.specs.Option.{option_map_or}
+use Rattle.std.specs.Map.{lookup}
+use Rattle.std.specs.BTreeMap.{is_at}
+use Rattle.std.specs.Ordering.{nat_cmp}
 use Rattle.sky_val.specs.declared.column.Column.{Column}
 use Rattle.sky_val.specs.Entries.{Entries}
 use Rattle.sky_txid.specs.declared.version.Version.{Version}
@@ -52,6 +57,10 @@ columns_of tables n = (table_of tables n).columns
 abbrev pub versions_of : List TableView → ℕ → Entries (List Version)
 versions_of tables n = (table_of tables n).versions
 
+-- whether a transaction has written in a table: its bit for the table is set
+abbrev pub wrote_in : List (ℕ × ℕ) → (table t : ℕ) → Bool
+wrote_in writers table t = option_map_or (λ tables. bit_at tables table == 1) (lookup (is_at (nat_cmp t)) writers) false
+
 -- what a session that waits is to do
 abbrev pub attempt_of : List Attempt → ℕ → Attempt
 attempt_of attempts who = slice_index_or attempts who Deletion
@@ -64,6 +73,7 @@ seen d = record {
   tables = d.names;
   columns = columns_of d.tables;
   versions = versions_of d.tables;
+  wrote_in = wrote_in d.writers;
   holder = holder d.locks;
   waiting = d.locks.waiting;
   attempt = attempt_of d.attempts;

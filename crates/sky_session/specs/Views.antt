@@ -13,10 +13,12 @@ pub record RowDbView : Type 0 where
   -- the names of the tables, and the tables, each at its number
   pub names : List (List ℕ)
   pub tables : List TableView
+  -- the transactions that have written, each with a number that has a bit for each table, at its number
+  pub writers : List (ℕ × ℕ)
   pub locks : LocksView
   -- what each session that waits is to do, at its number; further ones don't wait
   pub attempts : List Attempt
 
 -- those of a database in which nothing has happened
 abbrev pub no_rows : RowDbView
-no_rows = record { trans = record { next = 3; running = [] }; sessions = []; names = []; tables = []; locks = record { held = []; waiting = [] }; attempts = [] }
+no_rows = record { trans = record { next = 3; running = [] }; sessions = []; names = []; tables = []; writers = []; locks = record { held = []; waiting = [] }; attempts = [] }

@@ -25,6 +25,7 @@ mod sessions;
 mod settling;
 mod statements;
 mod values;
+mod writers;
 
 pub use answer::RowStep;
 pub use effect::{Effect, Effects};

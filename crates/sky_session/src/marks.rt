@@ -4,7 +4,7 @@
 ghost use Rattle.std.specs.Prelude.{◌≡◌, ◌+◌, ◌-◌, ◌<◌, ◌^◌, [], ◌∷◌, true, false, None, Some, IfOk, OnOk, OnErr, length};
 ghost use Rattle.sky_val.specs.Waits.{other_holder, is_waiting};
 ghost use Rattle.sky_names.specs.Places.{place_of};
-ghost use Rattle.sky_model.specs.History.{began, ended, block_begun, repeats, looked, block_failed, block_ended, tabled, table_made, wrote, waited};
+ghost use Rattle.sky_model.specs.History.{of_session, began, ended, block_begun, repeats, looked, block_failed, block_ended, tabled, table_made, wrote, waited};
 ghost use Rattle.sky_model.specs.State.{after_part, after_part_marks};
 ghost use Rattle.sky_txid.specs.Versions.{written, forgotten};
 ghost use Rattle.sky_session.specs.Seen.{seen, columns_of, versions_of};
@@ -24,7 +24,7 @@ impl RowDb {
     pub(crate) fn began(&mut self, who: SessionId) -> Result<u64, NoMemory>
         requires { (seen self.old).next < 2 ^ 62 }
         ensures id { IfOk result (λ txid. txid ≡ (seen self.old).next) }
-        ensures mark { IfOk result (λ txid. seen self.new ≡ after_part (seen self.old) (began who txid)) }
+        ensures mark { IfOk result (λ txid. seen self.new ≡ after_part (seen self.old) (began (of_session who) txid)) }
         ensures err { OnErr result (seen self.new ≡ seen self.old) }
     {
         self.sessions.make_room(who)?;
@@ -40,21 +40,23 @@ impl RowDb {
     /// The session's transaction commits.
     pub(crate) fn committed(&mut self, who: SessionId, txid: u64)
         requires { ((seen self.old).session who).txid ≡ Some txid }
-        ensures { seen self.new ≡ after_part (seen self.old) (ended who txid true) }
+        ensures { seen self.new ≡ after_part (seen self.old) (ended (of_session who) txid true) }
     {
         self.sessions.end_txid(who);
         self.trans.commit(txid);
+        self.writers.end(txid);
         self.locks.release(who);
     }
 
     /// The session's transaction is rolled back.
     pub(crate) fn aborted(&mut self, who: SessionId, txid: u64)
         requires { ((seen self.old).session who).txid ≡ Some txid }
-        ensures { seen self.new ≡ after_part (seen self.old) (ended who txid false) }
+        ensures { seen self.new ≡ after_part (seen self.old) (ended (of_session who) txid false) }
     {
         self.sessions.end_txid(who);
         self.trans.abort(txid);
         forget_all(&mut self.tables, txid);
+        self.writers.end(txid);
         self.locks.release(who);
     }
 
@@ -102,7 +104,7 @@ impl RowDb {
     /// A table was made.
     pub(crate) fn table_made(&mut self, name: Text, schema: Schema) -> Result<(), NoMemory>
         requires new { place_of name (seen self.old).tables ≡ None }
-        requires room { length (seen self.old).tables < 2 ^ 32 - 1 }
+        requires room { length (seen self.old).tables < 64 }
         ensures { OnOk result (seen self.new ≡ after_part (seen self.old) (tabled (table_made name schema))) }
     {
         self.tables.reserve(1)?;
@@ -124,12 +126,13 @@ impl RowDb {
         requires within { key.table < length (seen self.old).tables }
         requires free { other_holder (seen self.old).holder who key.table key.key ≡ None }
         requires awake { is_waiting who (seen self.old).waiting ≡ false }
-        ensures { OnOk result (seen self.new ≡ after_part (seen self.old) (tabled (wrote who txid key.table key.key None row))) }
+        ensures { OnOk result (seen self.new ≡ after_part (seen self.old) (tabled (wrote (of_session who) txid key.table key.key None row))) }
     {
         match self.locks.try_key(who, &key)? {
             Taken::Got => {}
             Taken::Waits(_) | Taken::Cycle(_) => unreachable!(),
         }
+        self.writers.add(key.table, txid)?;
         let least = self.trans.least().unwrap_or(txid);
         let table = &mut self.tables[key.table as usize];
         table.prune(least);
@@ -137,8 +140,8 @@ impl RowDb {
         Ok(())
     }
 
-    /// The same in a transaction of its own, which gets the next id and commits with this write. So no lock is taken:
-    /// between the write and its end nobody asks for one.
+    /// The same in a transaction of its own, which gets the next id and commits with this write. So no lock is taken, and
+    /// nothing is kept of where it wrote: between the write and its end nobody asks for either.
     pub(crate) fn wrote_alone(
         &mut self,
         who: SessionId,
@@ -150,7 +153,7 @@ impl RowDb {
         requires single { ((seen self.old).session who).txid ≡ None }
         requires room { (seen self.old).next < 2 ^ 62 }
         ensures { let t = (seen self.old).next in
-            OnOk result (seen self.new ≡ after_part_marks (seen self.old) (began who t ∷ tabled (wrote who t key.table key.key None row) ∷ ended who t true ∷ [])) }
+            OnOk result (seen self.new ≡ after_part_marks (seen self.old) (began (of_session who) t ∷ tabled (wrote (of_session who) t key.table key.key None row) ∷ ended (of_session who) t true ∷ [])) }
     {
         let least = self.trans.least();
         let txid = match self.trans.assign() {
@@ -166,6 +169,7 @@ impl RowDb {
             row,
         )?;
         self.trans.commit(txid);
+        self.writers.end(txid);
         self.locks.release(who);
         Ok(())
     }

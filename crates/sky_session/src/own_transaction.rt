@@ -3,14 +3,15 @@
 
 ghost use Rattle.std.specs.Prelude.{◌≡◌, ◌<◌, ◌++◌, [], ◌∷◌, true, false, None, Ok, length, IfOk, IfErr, OnOk, OnErr};
 ghost use Rattle.sky_val.specs.Waits.{other_holder, is_waiting};
-ghost use Rattle.sky_model.specs.History.{tabled, wrote};
+ghost use Rattle.sky_model.specs.History.{of_session, tabled, wrote};
 ghost use Rattle.sky_model.specs.Outcome.{end_of};
 ghost use Rattle.sky_model.specs.Sessions.{outside};
 ghost use Rattle.sky_model.specs.State.{after_part_marks};
 ghost use Rattle.sky_model.specs.OwnTransaction.{txid_for, begin_of, commit_of, written};
+ghost use Rattle.sky_model.specs.RowCalls.{rolled_back};
+ghost use Rattle.sky_model.specs.RowSteps.{RowSteps};
 ghost use Rattle.sky_session.specs.Effects.{effects_of};
-ghost use Rattle.sky_session.specs.Marks.{failure};
-ghost use Rattle.sky_session.specs.Gives.{Enters};
+ghost use Rattle.sky_model.specs.SessionMarks.{Enters, failing};
 ghost use Rattle.sky_session.specs.Seen.{seen};
 
 use crate::allowed::allow;
@@ -66,7 +67,8 @@ impl RowDb {
     /// Gives the session's transaction its id, where it has none.
     pub(crate) fn begin_own(&mut self, who: SessionId, txid: u64) -> Result<(), NoMemory>
         requires { txid_for (seen self.old) who ≡ Ok txid }
-        ensures { OnOk result (seen self.new ≡ after_part_marks (seen self.old) (begin_of who txid ((seen self.old).session who).txid)) }
+        ensures ok { OnOk result (seen self.new ≡ after_part_marks (seen self.old) (begin_of who txid ((seen self.old).session who).txid)) }
+        ensures err { OnErr result (seen self.new ≡ seen self.old) }
     {
         if self.own_txid(who).is_none() {
             self.began(who)?;
@@ -107,7 +109,7 @@ impl RowDb {
         requires free { other_holder (seen self.old).holder who key.table key.key ≡ None }
         requires awake { is_waiting who (seen self.old).waiting ≡ false }
         ensures marks { OnOk result (seen self.new ≡ after_part_marks (seen self.old)
-            (written who txid ((seen self.old).session who) (tabled (wrote who txid key.table key.key None row) ∷ []))) }
+            (written who txid ((seen self.old).session who) (tabled (wrote (of_session who) txid key.table key.key None row) ∷ []))) }
         ensures told { OnOk result (effects.new ≡ effects.old ++ effects_of (commit_of who txid ((seen self.old).session who).block)) }
     {
         if self.is_alone(who) {
@@ -123,8 +125,18 @@ impl RowDb {
 
     /// Rolls back the transaction of the session's block, and aborts the block, if it is in one that isn't aborted.
     pub fn roll_back(&mut self, who: SessionId) -> Result<Effects, NoMemory>
-        ensures marks { IfOk result (λ effects. seen self.new ≡ after_part_marks (seen self.old) (failure who ((seen self.old).session who).txid ((seen self.old).session who).block)) }
-        ensures told { IfOk result (λ effects. effects ≡ effects_of (failure who ((seen self.old).session who).txid ((seen self.old).session who).block)) }
+        ensures marks { OnOk result (seen self.new ≡ after_part_marks (seen self.old) (failing (seen self.old) who).marks) }
+        ensures told { IfOk result (λ effects. effects ≡ effects_of (failing (seen self.old) who).marks) }
+        ensures steps { OnOk result (RowSteps (seen self.old) (seen self.new) (rolled_back who) (failing (seen self.old) who)) }
+    {
+        let effects = self.abort_block(who)?;
+        Ok(effects)
+    }
+
+    /// The same, told by its marks alone.
+    fn abort_block(&mut self, who: SessionId) -> Result<Effects, NoMemory>
+        ensures marks { OnOk result (seen self.new ≡ after_part_marks (seen self.old) (failing (seen self.old) who).marks) }
+        ensures told { IfOk result (λ effects. effects ≡ effects_of (failing (seen self.old) who).marks) }
     {
         let mut effects = Effects::new(self.alloc);
         if self.block(who) == Block::Inside {

@@ -3,18 +3,21 @@ ghost use Rattle.std.specs.Option.{option_copied};
 ghost use Rattle.sky_txid.specs.Snapshot.{SnapshotView};
 ghost use Rattle.sky_val.specs.Waits.{is_waiting};
 ghost use Rattle.sky_names.specs.Places.{place_of};
-ghost use Rattle.sky_model.specs.declared.stmt.Where.TheVariants.{WhenReading, WhenOutside};
+ghost use Rattle.sky_model.specs.declared.stmt.Where.TheVariants.{WhenReading};
 ghost use Rattle.sky_model.specs.declared.reply.Refusal.TheVariants.{TxidsSpent};
 ghost use Rattle.sky_model.specs.Sessions.{outside, inside, place_of_sight};
 ghost use Rattle.sky_model.specs.State.{part_of, after_part_marks};
 ghost use Rattle.sky_model.specs.ShownRows.{snapshot_now, snapshot_for, least_writer};
 ghost use Rattle.sky_model.specs.Made.{takes_sight};
 ghost use Rattle.sky_model.specs.OwnTransaction.{txid_for, begin_of};
-ghost use Rattle.sky_session.specs.Marks.{single_end, failure};
+ghost use Rattle.sky_model.specs.SessionMarks.{Enters, entry, entry_place, failing, taking, ending};
 ghost use Rattle.sky_model.specs.Reader.{part_by_itself};
 ghost use Rattle.sky_model.specs.Gates.{by_gate, passed_all};
+ghost use Rattle.sky_model.specs.Rooms.{any_room, room_of};
+ghost use Rattle.sky_model.specs.RowCalls.{row_entered, row_failed, row_settled, txid_taken, single_ended};
+ghost use Rattle.sky_model.specs.RowSteps.{RowSteps};
 ghost use Rattle.sky_model.specs.Settling.{ready, settling, with_settling};
-ghost use Rattle.sky_session.specs.Gives.{GivesTurn, Enters};
+ghost use Rattle.sky_session.specs.Gives.{GivesTurn};
 ghost use Rattle.sky_session.specs.Seen.{seen, seen_block};
 
 use crate::answer::RowStep;
@@ -23,6 +26,7 @@ use crate::block::Block;
 use crate::effect::{Effect, Effects};
 use crate::gate::{OpenGate, WriteGate};
 use crate::sessions::Sessions;
+use crate::writers::Writers;
 use sky_locks::Locks;
 use sky_model::{Refusal, Replies, Where};
 use sky_names::Names;
@@ -41,21 +45,22 @@ pub struct RowDb {
     pub(crate) sessions: Sessions,
     pub(crate) names: Names,
     pub(crate) tables: Vec<Table>,
+    pub(crate) writers: Writers,
     pub(crate) locks: Locks,
     pub(crate) attempts: Attempts,
 }
 
 impl Model for RowDb {
-    ghost use Rattle.std.specs.Prelude.{◌≡◌, length};
+    ghost use Rattle.std.specs.Prelude.{◌≡◌, ◌≤◌, length};
     ghost use Rattle.sky_session.specs.Views.{RowDbView};
     ghost use Rattle.sky_session.specs.Seen.{session_of};
     ghost use Rattle.sky_session.specs.Owned.{AreOwned, AreWithin};
 
     ghost Value = { RowDbView };
 
-    ghost view = { λ d. record { trans = d.trans; sessions = d.sessions; names = d.names; tables = d.tables.items; locks = d.locks; attempts = d.attempts } };
+    ghost view = { λ d. record { trans = d.trans; sessions = d.sessions; names = d.names; tables = d.tables.items; writers = d.writers; locks = d.locks; attempts = d.attempts } };
 
-    ghost invariant = { λ d. (length d.tables.items ≡ length d.names) × (AreOwned (session_of d.sessions) d.trans.running × AreWithin (length d.tables.items) d.locks.waiting) };
+    ghost invariant = { λ d. ((length d.tables.items ≡ length d.names) × (length d.names ≤ 64)) × (AreOwned (session_of d.sessions) d.trans.running × AreWithin (length d.tables.items) d.locks.waiting) };
 }
 
 impl RowDb {
@@ -69,6 +74,7 @@ impl RowDb {
             sessions: Sessions::new(alloc),
             names: Names::new(alloc),
             tables: Vec::new(alloc),
+            writers: Writers::new(alloc),
             locks: Locks::new(alloc),
             attempts: Attempts::new(alloc),
         }
@@ -141,17 +147,7 @@ impl RowDb {
     pub fn least_writer(&self, table: u32) -> Option<u64>
         ensures { result ≡ least_writer (seen self.now) table }
     {
-        let table = table as usize;
-        if table >= self.tables.len() {
-            return None;
-        }
-        let table = &self.tables[table];
-        for txid in self.trans.ids() {
-            if table.has_written(*txid) {
-                return Some(*txid);
-            }
-        }
-        None
+        self.writers.first(table, self.trans.ids())
     }
 
     /// Whether the session waits for another one's transaction.
@@ -171,8 +167,9 @@ impl RowDb {
     /// Lets the session make a statement that isn't on rows, or refuses it. One that may stand `outside` of blocks alone
     /// reads nothing; any other takes the sight of a repeatable read block, if that is still to come.
     pub fn enter(&mut self, who: SessionId, outside: bool) -> Result<Option<Refusal>, NoMemory>
-        ensures ok { IfOk result (λ refusal. Enters (seen self.old) (seen self.new) who (if outside then WhenOutside else WhenReading) refusal) }
+        ensures ok { IfOk result (λ refusal. Enters (seen self.old) (seen self.new) who (entry_place outside) refusal) }
         ensures err { OnErr result (seen self.new ≡ seen self.old) }
+        ensures steps { OnOk result (RowSteps (seen self.old) (seen self.new) (row_entered who outside) (entry (seen self.old) who (entry_place outside))) }
     {
         if outside {
             self.admit(who, Where::WhenOutside)
@@ -184,10 +181,10 @@ impl RowDb {
     /// Rolls back the session's block, which stays aborted, and runs what this lets go on. Where it is in none, or that
     /// is aborted, nothing is rolled back.
     pub fn fail(&mut self, who: SessionId) -> Result<RowStep, NoMemory>
-        ensures gives { let marks = failure who ((seen self.old).session who).txid ((seen self.old).session who).block in
-            IfOk result (λ step. GivesTurn (seen self.old) (seen self.new) step
-            (with_settling part_by_itself (seen self.old) (record { answers = []; marks = marks }))) }
+        ensures gives { IfOk result (λ step. GivesTurn (seen self.old) (seen self.new) step (with_settling part_by_itself (seen self.old) (failing (seen self.old) who))) }
         ensures rests { OnOk result (ready (seen self.new) ≡ None) }
+        ensures steps { OnOk result (RowSteps (seen self.old) (seen self.new) (row_failed any_room who)
+            (with_settling part_by_itself (seen self.old) (failing (seen self.old) who))) }
     {
         let mut gate = OpenGate;
         let step = self.fail_with(who, &mut gate)?;
@@ -200,13 +197,13 @@ impl RowDb {
         who: SessionId,
         gate: &mut G,
     ) -> Result<RowStep, NoMemory>
-        ensures gives { let marks = failure who ((seen self.old).session who).txid ((seen self.old).session who).block in
-            IfOk result (λ step. GivesTurn (seen self.old) (seen self.new) step
-            (with_settling (by_gate G.rule part_by_itself) (seen self.old, gate.old) (record { answers = []; marks = marks }))) }
-        ensures passed { let marks = failure who ((seen self.old).session who).txid ((seen self.old).session who).block in
-            OnOk result (gate.new ≡ passed_all G.rule gate.old
-            (with_settling (by_gate G.rule part_by_itself) (seen self.old, gate.old) (record { answers = []; marks = marks })).marks) }
+        ensures gives { IfOk result (λ step. GivesTurn (seen self.old) (seen self.new) step
+            (with_settling (by_gate G.rule part_by_itself) (seen self.old, gate.old) (failing (seen self.old) who))) }
+        ensures passed { OnOk result (gate.new ≡ passed_all G.rule gate.old
+            (with_settling (by_gate G.rule part_by_itself) (seen self.old, gate.old) (failing (seen self.old) who)).marks) }
         ensures rests { OnOk result (ready (seen self.new) ≡ None) }
+        ensures steps { OnOk result (RowSteps (seen self.old) (seen self.new) (row_failed (room_of G.rule gate.old) who)
+            (with_settling (by_gate G.rule part_by_itself) (seen self.old, gate.old) (failing (seen self.old) who))) }
     {
         let effects = self.roll_back(who)?;
         let mut step = RowStep {
@@ -223,6 +220,7 @@ impl RowDb {
         ensures gives { IfOk result (λ step. GivesTurn (seen self.old) (seen self.new) step (settling (by_gate G.rule part_by_itself) (seen self.old, gate.old))) }
         ensures passed { OnOk result (gate.new ≡ passed_all G.rule gate.old (settling (by_gate G.rule part_by_itself) (seen self.old, gate.old)).marks) }
         ensures rests { OnOk result (ready (seen self.new) ≡ None) }
+        ensures steps { OnOk result (RowSteps (seen self.old) (seen self.new) (row_settled (room_of G.rule gate.old)) (settling (by_gate G.rule part_by_itself) (seen self.old, gate.old))) }
     {
         let mut step = RowStep {
             replies: Replies::new(self.alloc),
@@ -245,22 +243,30 @@ impl RowDb {
         ensures marks { IfOk result (λ txid. seen self.new ≡ after_part_marks (seen self.old) (begin_of who txid ((seen self.old).session who).txid)) }
         ensures spent { (result ≡ Err TransFault.TxidsSpent) ↔ (txid_for (seen self.old) who ≡ Err TxidsSpent) }
         ensures same { OnErr result (seen self.new ≡ seen self.old) }
+        ensures steps { OnOk result (RowSteps (seen self.old) (seen self.new) (txid_taken who) (taking (seen self.old) who)) }
+        ensures steps_spent { result ≡ Err TransFault.TxidsSpent → RowSteps (seen self.old) (seen self.new) (txid_taken who) (taking (seen self.old) who) }
     {
-        if let Some(txid) = self.own_txid(who) {
-            return Ok(txid);
-        }
-        if !self.trans.id_left() {
-            return Err(TransFault::TxidsSpent);
-        }
-        match self.began(who) {
-            Ok(txid) => Ok(txid),
+        let txid = match self.txid_for(who) {
+            Ok(txid) => txid,
+            Err(_) => return Err(TransFault::TxidsSpent),
+        };
+        match self.begin_own(who, txid) {
+            Ok(()) => Ok(txid),
             Err(_) => Err(TransFault::NoMemory),
         }
     }
 
     /// Commits the session's transaction, where it is in no block. Nothing happens in a block, or where no id was taken.
     pub fn end_single(&mut self, who: SessionId)
-        ensures { seen self.new ≡ after_part_marks (seen self.old) (single_end who ((seen self.old).session who).txid ((seen self.old).session who).block) }
+        ensures marks { seen self.new ≡ after_part_marks (seen self.old) (ending (seen self.old) who).marks }
+        ensures steps { RowSteps (seen self.old) (seen self.new) (single_ended who) (ending (seen self.old) who) }
+    {
+        self.commit_alone(who);
+    }
+
+    /// Commits the session's transaction, where it is in no block.
+    fn commit_alone(&mut self, who: SessionId)
+        ensures { seen self.new ≡ after_part_marks (seen self.old) (ending (seen self.old) who).marks }
     {
         if self.block(who) != Block::Outside {
             return;

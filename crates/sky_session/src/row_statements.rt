@@ -1,6 +1,7 @@
 //! The statements on tables and rows. A refusal changes nothing here, so all tests stand in front of the first change.
 
 ghost use Rattle.std.specs.Prelude.{◌≡◌, ◌<◌, false, None, Some, Ok, Err, IfOk, IfErr, OnOk, length};
+ghost use Rattle.sky_val.specs.Schemas.{AreNamed};
 ghost use Rattle.sky_val.specs.Waits.{other_holder, is_waiting};
 ghost use Rattle.sky_model.specs.ShownRows.{snapshot_now, rows_by};
 ghost use Rattle.sky_model.specs.StepRows.{table_called, is_seen, writes_key, create_table, insert, update, delete, get, scan};
@@ -107,6 +108,7 @@ impl RowDb {
 
     /// `create table TABLE COL..`
     pub(crate) fn create_table(&mut self, name: &Text, columns: &Columns) -> Result<Answer, Stop>
+        requires { AreNamed columns.now }
         ensures { Ran self.old self.new result (create_table (seen self.old) name.now columns.now) }
     {
         if self.names.number(name).is_some() {

@@ -5,6 +5,7 @@ ghost use Rattle.std.specs.Prelude.{◌≡◌, [], ◌∷◌, true, false, Ok, I
 ghost use Rattle.sky_val.specs.Waits.{is_waiting};
 ghost use Rattle.sky_model.specs.declared.reply.Reply.TheVariants.{Refused};
 ghost use Rattle.sky_model.specs.declared.stmt.Where.TheVariants.{WhenReading};
+ghost use Rattle.sky_model.specs.InForm.{IsRowInForm};
 ghost use Rattle.sky_model.specs.Allowed.{where_of_row};
 ghost use Rattle.sky_model.specs.Sessions.{outside};
 ghost use Rattle.sky_model.specs.State.{after_part_marks};
@@ -15,8 +16,9 @@ ghost use Rattle.sky_model.specs.Calls.{row_form, row_statement, row_turn};
 ghost use Rattle.sky_model.specs.Reader.{part_by_itself};
 ghost use Rattle.sky_model.specs.Gates.{gated, by_gate, passed_all};
 ghost use Rattle.sky_model.specs.Settling.{ready};
+ghost use Rattle.sky_model.specs.Rooms.{any_room, room_of};
+ghost use Rattle.sky_model.specs.RowCalls.{row_stepped};
 ghost use Rattle.sky_model.specs.RowSteps.{RowSteps};
-ghost use Rattle.sky_model.specs.GatedSteps.{GatedSteps};
 ghost use Rattle.sky_session.specs.Effects.{effects_of};
 ghost use Rattle.sky_session.specs.Gives.{GivesTurn, GivesOutcome, Ran, Passes};
 ghost use Rattle.sky_session.specs.Seen.{seen};
@@ -35,9 +37,10 @@ use std::alloc::AllocError;
 impl RowDb {
     /// Runs a statement of a session that has this database open, and those that it lets go on.
     pub fn step(&mut self, who: SessionId, stmt: &RowStmt) -> Result<RowStep, NoMemory>
+        requires { IsRowInForm stmt.now }
         ensures exact { IfOk result (λ step. GivesTurn (seen self.old) (seen self.new) step (row_turn part_by_itself (seen self.old) who stmt.now)) }
         ensures rests { OnOk result (ready (seen self.new) ≡ None) }
-        ensures steps { IfOk result (λ step. RowSteps (seen self.old) (seen self.new) who stmt.now step.replies) }
+        ensures steps { OnOk result (RowSteps (seen self.old) (seen self.new) (row_stepped any_room who stmt.now) (row_turn part_by_itself (seen self.old) who stmt.now)) }
     {
         let mut gate = OpenGate;
         let step = self.step_with(who, stmt, &mut gate)?;
@@ -53,10 +56,12 @@ impl RowDb {
         stmt: &RowStmt,
         gate: &mut G,
     ) -> Result<RowStep, NoMemory>
+        requires { IsRowInForm stmt.now }
         ensures exact { IfOk result (λ step. GivesTurn (seen self.old) (seen self.new) step (row_turn (by_gate G.rule part_by_itself) (seen self.old, gate.old) who stmt.now)) }
         ensures passed { OnOk result (gate.new ≡ passed_all G.rule gate.old (row_turn (by_gate G.rule part_by_itself) (seen self.old, gate.old) who stmt.now).marks) }
         ensures rests { OnOk result (ready (seen self.new) ≡ None) }
-        ensures steps { IfOk result (λ step. GatedSteps G.rule (seen self.old, gate.old) (seen self.new, gate.new) who stmt.now step.replies) }
+        ensures steps { OnOk result (RowSteps (seen self.old) (seen self.new) (row_stepped (room_of G.rule gate.old) who stmt.now)
+            (row_turn (by_gate G.rule part_by_itself) (seen self.old, gate.old) who stmt.now)) }
     {
         let answer = self.own_answer(who, stmt, gate)?;
         let replies = Replies::one(self.alloc, who, answer.reply)?;
@@ -75,6 +80,7 @@ impl RowDb {
         stmt: &RowStmt,
         gate: &mut G,
     ) -> Result<Answer, NoMemory>
+        requires { IsRowInForm stmt.now }
         ensures gives { IfOk result (λ answer. GivesOutcome (seen self.old) (seen self.new) answer (row_statement (by_gate G.rule part_by_itself) (seen self.old, gate.old) who stmt.now)) }
         ensures passed { OnOk result (gate.new ≡ passed_all G.rule gate.old (row_statement (by_gate G.rule part_by_itself) (seen self.old, gate.old) who stmt.now).marks) }
     {
@@ -91,7 +97,8 @@ impl RowDb {
         stmt: &RowStmt,
         gate: &mut G,
     ) -> Result<Answer, NoMemory>
-        requires { where_of_row stmt.now ≡ WhenReading → is_waiting who (seen self.old).waiting ≡ false }
+        requires form { IsRowInForm stmt.now }
+        requires admitted { where_of_row stmt.now ≡ WhenReading → is_waiting who (seen self.old).waiting ≡ false }
         ensures gives { let outcome = settled who ((seen self.old).session who) (gated G.rule gate.old (row_form (seen self.old) (rows_by (seen self.old)) who stmt.now)) in
             IfOk result (λ answer. GivesOutcome (seen self.old) (seen self.new) answer outcome) }
         ensures passed { let outcome = settled who ((seen self.old).session who) (gated G.rule gate.old (row_form (seen self.old) (rows_by (seen self.old)) who stmt.now)) in
@@ -125,7 +132,8 @@ impl RowDb {
         stmt: &RowStmt,
         gate: &mut G,
     ) -> Result<Answer, Stop>
-        requires { where_of_row stmt.now ≡ WhenReading → is_waiting who (seen self.old).waiting ≡ false }
+        requires form { IsRowInForm stmt.now }
+        requires admitted { where_of_row stmt.now ≡ WhenReading → is_waiting who (seen self.old).waiting ≡ false }
         ensures ran { Ran self.old self.new result (gated G.rule gate.old (row_form (seen self.old) (rows_by (seen self.old)) who stmt.now)) }
         ensures passes { Passes G.rule gate.old gate.new result (gated G.rule gate.old (row_form (seen self.old) (rows_by (seen self.old)) who stmt.now)) }
     {

@@ -3,7 +3,7 @@
 ghost use Rattle.std.specs.Prelude.{◌≡◌, ◌<◌, [], ◌∷◌, Ok, Some, None, IfOk, IfErr, OnOk, length, bytes_eq, option_map, find, position};
 ghost use Rattle.std.specs.Option.{option_copied};
 ghost use Rattle.std.specs.List.{list_any};
-ghost use Rattle.sky_val.specs.Schemas.{schema_fault, key_columns};
+ghost use Rattle.sky_val.specs.Schemas.{AreNamed, schema_fault, key_columns};
 ghost use Rattle.sky_model.specs.Outcome.{refused_by, found_or};
 ghost use Rattle.sky_model.specs.StepRows as spec;
 ghost use Rattle.sky_model.specs.Stops.{StopsAs};
@@ -238,6 +238,7 @@ fn schema_refusal(
 
 /// The schema of the columns of a new table.
 pub(crate) fn new_schema(alloc: Global, columns: &Columns) -> Result<Schema, Stop>
+    requires { AreNamed columns.now }
     ensures schema { IfOk result (λ schema. schema ≡ columns.now) }
     ensures ok { OnOk result (refused_by (option_map (spec.schema_refusal columns.now) (schema_fault columns.now)) ≡ Ok tt) }
     ensures err { IfErr result (λ stop. StopsAs stop (refused_by (option_map (spec.schema_refusal columns.now) (schema_fault columns.now)))) }

@@ -15,9 +15,9 @@ use Rattle.sky_val.specs.declared.val.Val.{Val}
 use Rattle.sky_val.specs.declared.column.Column.{Column}
 use Rattle.sky_val.specs.declared.schema.RowFault.{RowFault}
 use Rattle.sky_val.specs.declared.schema.RowFault.TheVariants.{Count}
-use Rattle.sky_val.specs.Schemas.{value_fault, values_fault, row_fault}
+use Rattle.sky_val.specs.Schemas.{value_fault, values_fault, row_fault, AreNamed}
 use Rattle.sky_urlenc.specs.Held.{HoldsOne, HoldsAll}
-use Rattle.sky_urlenc.specs.RowText.{column_text, column_texts, row_text, AreNamed}
+use Rattle.sky_urlenc.specs.RowText.{column_text, column_texts, row_text}
 use Rattle.sky_urlenc.specs.ReadRow.{◌>>=◌, Piece, placed, pieces_from, name_in, text_in, is_text, column_named, value_for, given_by, all_given, values_from, read_row}
 use Rattle.sky_urlenc.proofs.PieceBack.{text_of, column_text-written, written_no_ampersand, written_some, zero-add, text_of-IsWord, piece_written, name_back, text_back, is_text_back, value_back}
 

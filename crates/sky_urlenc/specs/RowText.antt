@@ -1,7 +1,7 @@
 -- How a row is written: `name=value` for each column, joined by `&`.
-use Rattle.std.specs.Prelude.{◌≢◌, ℕ, List, [], ◌∷◌, ◌++◌, map, zip}
+use Rattle.std.specs.Prelude.{ℕ, List, ◌∷◌, ◌++◌, map, zip}
 use Rattle.std.specs.Fmt.{signed_decimal}
-use Rattle.std.specs.List.{join_with_byte, All}
+use Rattle.std.specs.List.{join_with_byte}
 use Rattle.form_urlencoded.specs.Form.{ampersand, equals_sign, byte_serialize}
 use Rattle.sky_val.specs.declared.val.Val.{Val}
 use Rattle.sky_val.specs.declared.val.Val.TheVariants.{Null, Int, Text}
@@ -20,7 +20,3 @@ column_texts columns row = map (λ pair. column_text pair.0 pair.1) (zip columns
 -- what is written for a row
 abbrev pub row_text : List Column → List Val → List ℕ
 row_text columns row = join_with_byte ampersand (column_texts columns row)
-
--- each column has a name of one byte or more
-abbrev pub AreNamed : List Column → Type 0
-AreNamed columns = All (λ column. column.name ≢ []) columns

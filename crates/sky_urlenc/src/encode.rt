@@ -7,7 +7,7 @@ ghost use Rattle.form_urlencoded.specs.Form.{byte_serialize};
 ghost use Rattle.sky_val.specs.Schemas.{row_fault};
 ghost use Rattle.sky_urlenc.specs.Held.{HoldsOne};
 ghost use Rattle.sky_urlenc.specs.ReadRow.{read_row};
-ghost use Rattle.sky_urlenc.specs.RowText.{AreNamed, column_text, row_text};
+ghost use Rattle.sky_urlenc.specs.RowText.{column_text, row_text};
 
 use form_urlencoded::byte_serialize;
 use itoa::Buffer;
@@ -21,8 +21,8 @@ const USUAL_BYTES: usize = 16;
 pub fn encode_row(alloc: Global, schema: &Schema, row: &Row) -> Result<Text, NoMemory>
     ensures text { IfOk result (λ text. text ≡ row_text schema.now row.now) }
 
-    // What is written of a row that the table may have is read back. A column with no name and no value would leave no trace.
-    ensures back { IfOk result (λ text. row_fault schema.now row.now ≡ None → AreNamed schema.now → read_row schema.now text ≡ Ok row.now) }
+    // What is written of a row that the table may have is read back.
+    ensures back { IfOk result (λ text. row_fault schema.now row.now ≡ None → read_row schema.now text ≡ Ok row.now) }
 {
     let columns = schema.columns();
     let mut text = String::with_capacity(alloc, columns.len() * USUAL_BYTES)?;

@@ -11,7 +11,7 @@ use Rattle.std.proofs.lemmas.Iterator.Adapters.{position_from-zero}
 use Rattle.std.proofs.lemmas.Slice.Eq.{bytes_eq-Decides}
 use Rattle.sky_val.specs.declared.column.Column.{Column}
 use Rattle.sky_val.specs.declared.schema.SchemaFault.TheVariants.{TooManyColumns, TwiceNamed, ReservedColumn, NoKey}
-use Rattle.sky_val.specs.Schemas.{has_name, twice_named, is_reserved, has_key, schema_fault, IsSchema}
+use Rattle.sky_val.specs.Schemas.{has_name, twice_named, is_reserved, has_key, schema_fault, AreNamed, IsSchema}
 
 not_None : {X : Type 0} (x : X) → Some x ≢ None
 not_None x e = cc e
@@ -62,12 +62,13 @@ new_names before (column ∷ columns) e =
       apart = AllPairs-cons (λ one other. one.name ≢ other.name) column columns (λ k d within. other_name column (get_or columns k d) (each k d within).1) rest.apart;
     }
 
-pub is_schema : (columns : List Column) → schema_fault columns ≡ None → IsSchema columns
-is_schema columns none =
+pub is_schema : (columns : List Column) → schema_fault columns ≡ None → AreNamed columns → IsSchema columns
+is_schema columns none named =
     let count = untold (nat_lt 32 (length columns)) TooManyColumns _ none in
     let names = neither _ _ count.1 in
     let reserved = neither _ _ names.1 in
     record {
+      named = named;
       few = ltb-false 32 (length columns) count.0;
       apart = (new_names [] columns (unmapped TwiceNamed _ names.0)).apart;
       free = nowhere (λ column. is_reserved column.name) 0 columns (sym (position_from-zero (λ column. is_reserved column.name) columns) ∙ unmapped ReservedColumn _ reserved.0);

@@ -48,8 +48,13 @@ schema_fault columns =
     option_or (option_map ReservedColumn (reserved_column columns)) (
     if has_key columns then None else Some NoKey))
 
--- what the columns of a schema are: few, with names that are apart from each other and not reserved, and one at least is a key
+-- each column has a name of one byte or more
+abbrev pub AreNamed : List Column → Type 0
+AreNamed columns = All (λ column. column.name ≢ []) columns
+
+-- what the columns of a schema are: few, with names that are not empty, apart from each other and not reserved, and one at least is a key
 pub record IsSchema (columns : List Column) : Type 0 where
+  pub named : AreNamed columns
   pub few : length columns ≤ 32
   pub apart : AllPairs (λ one other. one.name ≢ other.name) columns
   pub free : All (λ column. is_reserved column.name ≡ false) columns

@@ -1,5 +1,5 @@
 ghost use Rattle.std.specs.Prelude.{◌≡◌, [], IfOk, OnOk, IfErr};
-ghost use Rattle.sky_val.specs.Schemas.{has_name, twice_named, reserved_column, has_key, schema_fault};
+ghost use Rattle.sky_val.specs.Schemas.{AreNamed, has_name, twice_named, reserved_column, has_key, schema_fault};
 
 use crate::NoMemory;
 use crate::column::{Column, copy_columns};
@@ -44,7 +44,7 @@ pub enum RowFault {
     NullKey(usize),
 }
 
-/// The columns of a table: at most 32, each with a name of its own, and one at least is a key.
+/// The columns of a table: at most 32, each with a name of its own that isn't empty, and one at least is a key.
 #[derive(Debug, Drop)]
 pub struct Schema {
     columns: Vec<Column>,
@@ -53,20 +53,21 @@ pub struct Schema {
 impl Model for Schema {
     ghost use Rattle.std.specs.Prelude.{◌≡◌, List, None};
     ghost use Rattle.sky_val.specs.declared.column.Column.{Column};
-    ghost use Rattle.sky_val.specs.Schemas.{schema_fault};
+    ghost use Rattle.sky_val.specs.Schemas.{AreNamed, schema_fault};
 
     ghost Value = { List Column };
 
     ghost view = { λ schema. schema.columns.items };
 
-    ghost invariant = { λ schema. schema_fault schema.columns.items ≡ None };
+    ghost invariant = { λ schema. (schema_fault schema.columns.items ≡ None) × AreNamed schema.columns.items };
 }
 
 impl Schema {
     ghost use Rattle.sky_val.specs.Schemas.{IsSchema, row_fault, key_of};
 
-    /// The schema of these columns.
+    /// The schema of these columns, none of which has an empty name.
     pub fn new(columns: Vec<Column>) -> Result<Schema, SchemaFault>
+        requires { AreNamed columns.items }
         ensures ok { IfOk result (λ schema. schema ≡ columns.items) }
         ensures passed { OnOk result (schema_fault columns.items ≡ None) }
         ensures fault { IfErr result (λ fault. schema_fault columns.items ≡ Some fault) }

@@ -1,6 +1,8 @@
-ghost use Rattle.std.specs.Prelude.{◌≡◌, ◌+◌, ◌<◌, ◌≤◌, [], ◌∷◌, false, Some, None, IfOk, OnOk, IfSome, All, length};
+ghost use Rattle.std.specs.Prelude.{◌≡◌, ◌+◌, ◌<◌, ◌≤◌, [], ◌∷◌, true, false, Some, None, IfOk, OnOk, IfSome, All, length};
 ghost use Rattle.sky_val.specs.Waits.{is_waiting};
 ghost use Rattle.sky_names.specs.Places.{place_of};
+ghost use Rattle.sky_model.specs.Kinds.{is_name};
+ghost use Rattle.sky_model.specs.InForm.{IsInForm};
 ghost use Rattle.sky_model.specs.History.{appeared, founded, entered, left};
 ghost use Rattle.sky_model.specs.Printed.{HaveMoments, ReplyHasMoments};
 ghost use Rattle.sky_model.specs.World.{world_of, after_fact};
@@ -86,6 +88,8 @@ impl World {
     /// Runs a statement of the session of this name, and answers it and those that it lets go on. After want of
     /// memory nothing is said of the world.
     pub fn step(&mut self, name: &Text, stmt: &Stmt) -> Result<Replies, NoMemory>
+        requires name { is_name name.now ≡ true }
+        requires form { IsInForm stmt.now }
         ensures steps { IfOk result (λ replies. Steps (seen_world self.old) (seen_world self.new) (record { who = name.now; stmt = stmt.now }) replies) }
         ensures numbered { IfOk result (λ replies. All (λ answer. answer.0 ≤ length (seen_world self.new).sessions) replies) }
         ensures times { IfOk result (λ replies. HaveMoments replies) }
@@ -95,6 +99,7 @@ impl World {
     }
 
     fn answer(&mut self, name: &Text, stmt: &Stmt) -> Result<Replies, AllocError>
+        requires { IsInForm stmt.now }
         ensures answers { IfOk result (λ replies. GivesDeed (seen_world self.old) (seen_world self.new) replies (deed_at (seen_world self.old) (record { who = name.now; stmt = stmt.now }))) }
         ensures numbered { IfOk result (λ replies. All (λ answer. answer.0 ≤ length self.new.sessions) replies) }
         ensures moments { IfOk result HaveMoments }
@@ -111,6 +116,7 @@ impl World {
         name: &Text,
         stmt: &Stmt,
     ) -> Result<Replies, AllocError>
+        requires form { IsInForm stmt.now }
         requires known { Some who ≡ place_of name.now self.old.sessions }
         requires within { who < length self.old.homes }
         requires counted { length self.old.homes ≡ length self.old.sessions }
@@ -123,7 +129,8 @@ impl World {
     }
 
     fn answer_new(&mut self, name: &Text, stmt: &Stmt) -> Result<Replies, AllocError>
-        requires { place_of name.now self.old.sessions ≡ None }
+        requires form { IsInForm stmt.now }
+        requires new { place_of name.now self.old.sessions ≡ None }
         ensures answers { IfOk result (λ replies. GivesDeed (seen_world self.old) (seen_world self.new) replies (deed_at (seen_world self.old) (record { who = name.now; stmt = stmt.now }))) }
         ensures numbered { IfOk result (λ replies. All (λ answer. answer.0 ≤ length self.new.sessions) replies) }
         ensures moments { IfOk result HaveMoments }
@@ -172,7 +179,8 @@ impl World {
 
     /// Runs a statement of a session.
     fn run(&mut self, who: SessionId, stmt: &Stmt) -> Result<Replies, AllocError>
-        requires { who < length self.old.homes }
+        requires who { who < length self.old.homes }
+        requires form { IsInForm stmt.now }
         ensures gives { IfOk result (λ replies. GivesDeed (seen_world self.old) (seen_world self.new) replies (turn by_world who stmt.now (seen_world self.old))) }
         ensures known { IfOk result (λ replies. All (λ answer. answer.0 < length self.old.homes) replies) }
         ensures moments { IfOk result HaveMoments }
@@ -204,6 +212,7 @@ impl World {
     ) -> Result<Replies, AllocError>
         requires who { who < length self.old.homes }
         requires database { database < length self.old.stores }
+        requires form { IsInForm stmt.now }
         ensures gives { IfOk result (λ replies. GivesDeed (seen_world self.old) (seen_world self.new) replies
             (session_does by_world (seen_world self.old) who stmt.now (Some database))) }
         ensures known { IfOk result (λ replies. All (λ answer. answer.0 < length self.old.homes) replies) }
@@ -246,6 +255,7 @@ impl World {
     ) -> Result<Replies, AllocError>
         requires who { who < length self.old.homes }
         requires database { database < length self.old.stores }
+        requires form { IsInForm stmt.now }
         ensures gives { IfOk result (λ replies. GivesDeed (seen_world self.old) (seen_world self.new) replies
             (deed_in who database false (database_turn (within_database by_world database) (seen_world self.old) (seen_world self.old).now who stmt.now))) }
         ensures known { IfOk result (λ replies. All (λ answer. answer.0 < length self.old.homes) replies) }

@@ -41,5 +41,5 @@ returns c =
     let held = c.loop-place.invariant.held (none_held columns row ended) in
     record {
       text = text;
-      back = λ fits named. ap (read_row c.args.schema.now) text ∙ read_back c.args.schema.now c.args.row.now c.columns-columns.ensures.sound.apart fits held named;
+      back = λ fits. ap (read_row c.args.schema.now) text ∙ read_back c.args.schema.now c.args.row.now c.columns-columns.ensures.sound.apart fits held c.columns-columns.ensures.sound.named;
     }

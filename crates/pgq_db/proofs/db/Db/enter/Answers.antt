@@ -1,7 +1,11 @@
-use Rattle.std.proofs.Common.{if◌then◌else◌}
+use Rattle.std.proofs.Common.{IfOk, subst, ap, if◌then◌else◌}
+use Rattle.sky_model.specs.SessionMarks.{Enters, entry_place}
+use Rattle.pgq_db.specs.Views.{DbView}
 use Rattle.sky_model.specs.declared.stmt.Where.TheVariants.{WhenReading, WhenOutside}
 use Rattle.sky_session.specs.Seen.{seen}
+use Rattle.pgq_db.specs.Seen.{seen_database}
 use Rattle.pgq_db.proofs.TracedLists.{tables-entered}
+use Rattle.pgq_db.proofs.Databases.{entered-steps}
 use Rattle.pgq_db.proofs.db.Db.enter.Goals as goal
 
 pub invariant_of-self : goal.invariant_of-self
@@ -17,3 +21,9 @@ invariant_of-self c = (
     ),
   ),
 )
+
+pub returns-clause-steps : goal.returns-clause-steps
+returns-clause-steps c =
+    entered-steps (seen_database c.args.self.now) _ c.args.who c.args.outside c.enter.result
+    (subst (λ (v : DbView). IfOk c.enter.result (λ refusal. Enters (seen v.rows) (seen c.enter.new.self) c.args.who (entry_place c.args.outside) refusal)) c.self.view_is c.enter.ensures.ok)
+    (ap (λ (v : DbView). record (seen_database v) { part = seen c.enter.new.self }) c.self.view_is)

@@ -1,7 +1,14 @@
-use Rattle.std.proofs.Common.{◌≡◌, ◌<◌, length, sym, subst, arith}
+use Rattle.std.proofs.Common.{rules, ◌≡◌, ◌<◌, Some, length, sym, subst, arith}
 use Rattle.sky_names.proofs.PlaceLemmas.{place_of_within}
 use Rattle.pgq_db.specs.Views.{DbView}
+use Rattle.pgq_db.proofs.NumberedQueues.{number-shown}
 use Rattle.pgq_db.proofs.db.Db.number.Goals as goal
+
+pub returns-in_err-number-clause-number : goal.returns-in_err-number-clause-number
+returns-in_err-number-clause-number c = number-shown _ _ c.args.queue.now c.from_residual.result c.self.view_is (search rules)
+
+pub returns-clause-number : goal.returns-clause-number
+returns-clause-number c = number-shown _ _ c.args.queue.now (Some c.in_ok-number.number) c.self.view_is c.in_ok-number.ensures
 
 pub returns-clause-within : goal.returns-clause-within
 returns-clause-within c =

@@ -1,6 +1,6 @@
 use Rattle.std.proofs.Common.{◌≡◌, refl, subst}
 use Rattle.sky_model.specs.State.{after_marks}
-use Rattle.sky_session.specs.Marks.{failure}
+use Rattle.sky_model.specs.SessionMarks.{failure}
 use Rattle.sky_session.specs.Seen.{seen}
 use Rattle.pgq_db.specs.Views.{DbView}
 use Rattle.pgq_db.specs.Seen.{seen_database}
@@ -32,6 +32,7 @@ returns-in_ok-undo_aborted-in-Ok c =
       queues = c.self.inside.queues.items;
       batches = c.self.inside.batches.entries;
       undone = c.self.inside.undone.keys;
+      triggers = c.self.inside.triggers.items;
       traced = c.self.inside.traced.entries;
     } in
     subst (λ (v : DbView). seen_database c.undo_aborted.new.self

@@ -1,7 +1,7 @@
 use Rattle.std.proofs.Common.{subst, w64, if◌then◌else◌}
 use Rattle.sky_model.specs.declared.stmt.Where.TheVariants.{WhenReading, WhenOutside}
 use Rattle.std.proofs.lemmas.Int.{to_z-of_z}
-use Rattle.sky_session.specs.Gives.{Enters}
+use Rattle.sky_model.specs.SessionMarks.{Enters}
 use Rattle.pgq_db.specs.Seen.{seen_database}
 use Rattle.pgq_db.proofs.Databases.{gives-entered, gives-turned_away}
 use Rattle.pgq_db.proofs.db.Db.run_or_refuse.Goals as goal

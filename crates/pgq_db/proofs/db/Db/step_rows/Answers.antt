@@ -33,7 +33,7 @@ pub note_all-requires : goal.note_all-requires
 note_all-requires c =
     let turn : Turn = row_turn (by_gate event_rule part_by_itself) (seen c.self.inside.rows, c.new-gate.result) c.args.who c.args.stmt.now in
     let queues : c.step_with.new.gate.queues ≡ c.self.inside.queues.items =
-    ap EventGateView.queues c.in-Ok.ensures.passed ∙ passed-queues turn.marks c.new-gate.result ∙ ap EventGateView.queues c.new-gate.ensures ∙ c.as_slice.ensures.value in
+    ap EventGateView.queues c.in-Ok.ensures.passed ∙ passed-queues turn.marks c.new-gate.result ∙ ap EventGateView.queues c.new-gate.ensures ∙ c.as_slice-queues.ensures.value in
     subst (λ (qs : List QueueView). AreStorable (length qs) c.into_told-told.result.items) queues c.into_told-told.ensures.storable
 
 pub returns-in_ok-note_all-in-Ok-clause-gives : goal.returns-in_ok-note_all-in-Ok-clause-gives
@@ -46,14 +46,15 @@ returns-in_ok-note_all-in-Ok-clause-gives c =
       queues = c.self.inside.queues.items;
       batches = c.self.inside.batches.entries;
       undone = c.self.inside.undone.keys;
+      triggers = c.self.inside.triggers.items;
       traced = c.self.inside.traced.entries;
     } in
-    let set_up : c.new-gate.result ≡ record { now = c.args.now; traced = c.self.inside.traced.entries; queues = c.self.inside.queues.items; told = [] } =
-    c.new-gate.ensures ∙ (λ i. record { now = to_z-of_z w64 c.args.now c.ranges.now i; traced = c.self.inside.traced.entries; queues = c.as_slice.ensures.value i; told = [] }) in
+    let set_up : c.new-gate.result ≡ record { now = c.args.now; triggers = c.self.inside.triggers.items; traced = c.self.inside.traced.entries; queues = c.self.inside.queues.items; told = [] } =
+    c.new-gate.ensures ∙ (λ i. record { now = to_z-of_z w64 c.args.now c.ranges.now i; triggers = c.as_slice-triggers.ensures.value i; traced = c.self.inside.traced.entries; queues = c.as_slice-queues.ensures.value i; told = [] }) in
     subst (λ (v : DbView). Gives (seen_database v) (seen_database c.note_all.new.self) c.in-Ok.step.replies (database_turn database_by_itself (seen_database v) c.args.now c.args.who (Row c.args.stmt.now))) c.self.view_is
-    (gives-step c.args.now c.self.inside.traced.entries c.self.inside.queues.items (seen_database was) (seen_database (record was { rows = c.step_with.new.self })) (seen_database c.note_all.new.self)
+    (gives-step c.args.now c.self.inside.triggers.items c.self.inside.traced.entries c.self.inside.queues.items (seen_database was) (seen_database (record was { rows = c.step_with.new.self })) (seen_database c.note_all.new.self)
     c.new-gate.result c.step_with.new.gate c.args.who c.args.stmt.now c.in-Ok.step c.into_told-told.result.items
-    (alike-new c.args.now c.self.inside.traced.entries c.self.inside.queues.items (seen_database was) c.new-gate.result set_up refl refl (c.self.invariant.1.1.1 c.if-self.false))
+    (alike-new c.args.now c.self.inside.triggers.items c.self.inside.traced.entries c.self.inside.queues.items (seen_database was) c.new-gate.result set_up refl refl c.self.invariant.1.1.0.places (c.self.invariant.1.1.1 c.if-self.false))
     c.in-Ok.ensures.exact refl c.in-Ok.ensures.passed c.into_told-told.ensures.told refl c.in_ok-note_all-in-Ok.ensures.stored)
 
 pub returns-in_ok-note_all-in-Ok-clause-moments : goal.returns-in_ok-note_all-in-Ok-clause-moments

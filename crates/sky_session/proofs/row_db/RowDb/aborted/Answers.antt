@@ -8,7 +8,7 @@ use Rattle.sky_session.proofs.row_db.RowDb.aborted.Goals as goal
 
 pub invariant_of-self : goal.invariant_of-self
 invariant_of-self c = (
-  c.forget_all.ensures.count ∙ c.self.invariant.0,
+  (c.forget_all.ensures.count ∙ c.self.invariant.0.0, c.self.invariant.0.1),
   (
     owned-end _ _ _ _ c.args.who c.args.txid c.end_txid.ensures (ap (λ (v : TransView). v.running) c.abort.ensures)
         (subst (λ (d : RowDbView). ((seen d).session c.args.who).txid ≡ Some c.args.txid) (sym c.self.view_is) c.requires) c.self.invariant.1.0,
@@ -17,5 +17,5 @@ invariant_of-self c = (
 )
 
 pub returns : goal.returns
-returns c = aborted-as _ _ c.abort.new.self _ _ c.release.new.self c.args.who c.args.txid c.self.view_is c.abort.ensures c.end_txid.ensures c.forget_all.ensures.columns c.forget_all.ensures.versions
-    c.release.ensures.held c.release.ensures.waiting
+returns c = aborted-as _ _ c.abort.new.self _ _ c.end.new.self c.release.new.self c.args.who c.args.txid c.self.view_is c.abort.ensures c.end_txid.ensures c.forget_all.ensures.columns c.forget_all.ensures.versions
+    c.end.ensures c.release.ensures.held c.release.ensures.waiting

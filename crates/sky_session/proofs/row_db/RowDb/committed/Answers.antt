@@ -17,4 +17,4 @@ invariant_of-self c = (
 )
 
 pub returns : goal.returns
-returns c = committed-as _ _ c.commit.new.self _ c.release.new.self c.args.who c.args.txid c.self.view_is c.commit.ensures c.end_txid.ensures c.release.ensures.held c.release.ensures.waiting
+returns c = committed-as _ _ c.commit.new.self _ c.end.new.self c.release.new.self c.args.who c.args.txid c.self.view_is c.commit.ensures c.end_txid.ensures c.end.ensures c.release.ensures.held c.release.ensures.waiting

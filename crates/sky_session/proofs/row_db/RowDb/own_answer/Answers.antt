@@ -33,8 +33,8 @@ returns-in-None-clause-passed g c =
     let made = entered d mid c.args.who c.where_of.result (where_of_row c.args.stmt.now) _ None c.where_of.ensures c.in-None.is c.in_ok-refusal.ensures.ok in
     on-ok-weaker c.run.result (λ told. passed-made g.G.WriteGate.rule c.args.gate.now c.run.new.gate d mid c.args.who c.args.stmt.now made.0 made.1 told) c.run.ensures.passed
 
-pub run-requires : goal.run-requires
-run-requires g c =
+pub run-requires-clause-admitted : goal.run-requires-clause-admitted
+run-requires-clause-admitted g c =
     let d = seen c.args.self.now in
     let mid = seen c.admit.new.self in
     let made = entered d mid c.args.who c.where_of.result (where_of_row c.args.stmt.now) _ None c.where_of.ensures c.in-None.is c.in_ok-refusal.ensures.ok in

@@ -1,4 +1,4 @@
--- A read writes nothing, so no gate is asked.
+-- A read writes nothing, so no gate is asked. The columns of a new table have names, as the statement is in form.
 use Rattle.std.proofs.Common.{sym, subst}
 use Rattle.sky_model.specs.ShownRows.{rows_by}
 use Rattle.sky_model.specs.Gates.{gated}
@@ -7,7 +7,9 @@ use Rattle.sky_model.specs.Calls.{row_form}
 use Rattle.sky_model.proofs.GatedLemmas.{plain-get}
 use Rattle.sky_session.specs.Gives.{Ran, Passes}
 use Rattle.sky_session.specs.Seen.{seen}
+use Rattle.sky_model.specs.InForm.{IsRowInForm}
 use Rattle.sky_session.proofs.Steps.{ran-plain, passes-plain}
+use Rattle.sky_session.proofs.FormLemmas.{columns_named}
 use Rattle.sky_session.proofs.row_db.RowDb.run_form.Goals as goal
 
 pub returns-in-Get-clause-ran : goal.returns-in-Get-clause-ran
@@ -23,3 +25,6 @@ returns-in-Get-clause-passes g c =
     subst (λ stmt. Passes g.G.WriteGate.rule c.args.gate.now c.args.gate.now c.get.result (gated g.G.WriteGate.rule c.args.gate.now (row_form d (rows_by d) c.args.who stmt))) (sym c.in-Get.is)
     (passes-plain g.G.WriteGate.rule c.args.gate.now c.get.result (get d (rows_by d) c.args.who c.in-Get.table c.in-Get.key)
     (plain-get d (rows_by d) c.args.who c.in-Get.table c.in-Get.key))
+
+pub create_table-requires : goal.create_table-requires
+create_table-requires g c = columns_named c.in-CreateTable.columns (subst IsRowInForm c.in-CreateTable.is c.requires.form).1.1

@@ -4,9 +4,10 @@ use Rattle.sky_model.specs.Settling.{turn_of}
 use Rattle.sky_model.specs.Reader.{part_by_itself}
 use Rattle.sky_model.specs.Gates.{by_gate}
 use Rattle.sky_model.specs.Calls.{row_statement}
+use Rattle.sky_model.proofs.RowCallStanding.{gated_step_from_exact}
 use Rattle.sky_session.specs.declared.answer.RowStep.{RowStep}
 use Rattle.sky_session.specs.Seen.{seen}
-use Rattle.sky_session.proofs.Steps.{gives-turn, gives-settled, passed-settled, gated-steps-exact}
+use Rattle.sky_session.proofs.Steps.{gives-turn, gives-settled, passed-settled}
 use Rattle.sky_session.proofs.row_db.RowDb.step_with.Goals as goal
 
 pub returns-clause-exact : goal.returns-clause-exact
@@ -28,5 +29,4 @@ returns-clause-passed g c =
 
 pub returns-clause-steps : goal.returns-clause-steps
 returns-clause-steps g c =
-    gated-steps-exact g.G.WriteGate.rule c.args.gate.now c.settle_behind.new.gate (seen c.args.self.now) (seen c.settle_behind.new.self) c.settle_behind.new.step c.args.who c.args.stmt.now
-    (returns-clause-exact g c) (returns-clause-passed g c)
+    gated_step_from_exact g.G.WriteGate.rule (seen c.args.self.now) (seen c.settle_behind.new.self) c.args.gate.now c.args.who c.args.stmt.now (returns-clause-exact g c).changed

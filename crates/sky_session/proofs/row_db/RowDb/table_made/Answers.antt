@@ -1,4 +1,5 @@
 use Rattle.std.proofs.Common.{◌++◌, ◌∷◌, [], length, length-append, arith, ap, ◌∙◌}
+use Rattle.sky_session.specs.Views.{RowDbView}
 use Rattle.sky_session.proofs.SessionLists.{made-as}
 use Rattle.sky_session.proofs.Owning.{within-more}
 use Rattle.sky_session.proofs.row_db.RowDb.table_made.Goals as goal
@@ -6,7 +7,7 @@ use Rattle.sky_session.proofs.row_db.RowDb.table_made.Goals as goal
 pub returns : goal.returns
 returns c =
     made-as _ _ _ _ c.new.result c.args.name c.args.schema c.self.view_is c.in_ok-add.ensures.added
-    (c.push_reserved.ensures.items ∙ ap (λ tables. tables ++ c.new.result ∷ []) c.in_ok-reserve.ensures.items) c.new.ensures c.self.invariant.0
+    (c.push_reserved.ensures.items ∙ ap (λ tables. tables ++ c.new.result ∷ []) c.in_ok-reserve.ensures.items) c.new.ensures c.self.invariant.0.0
 
 pub invariant_of-self-2 : goal.invariant_of-self-2
 invariant_of-self-2 c =
@@ -15,5 +16,7 @@ invariant_of-self-2 c =
     let reserved = ap length c.in_ok-reserve.ensures.items in
     let names = ap length c.in_ok-add.ensures.added in
     let added = length-append c.self.inside.names (c.args.name ∷ []) in
-    let same = c.self.invariant.0 in
-    (omega (arith, tables, pushed, reserved, names, added, same), (c.self.invariant.1.0, within-more _ _ _ (omega (arith, tables, pushed, reserved)) c.self.invariant.1.1))
+    let same = c.self.invariant.0.0 in
+    let room = c.requires.room in
+    let was = ap (λ (v : RowDbView). length v.names) c.self.view_is in
+    ((omega (arith, tables, pushed, reserved, names, added, same), omega (arith, names, added, room, was)), (c.self.invariant.1.0, within-more _ _ _ (omega (arith, tables, pushed, reserved)) c.self.invariant.1.1))

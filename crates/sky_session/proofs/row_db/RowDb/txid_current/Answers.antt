@@ -6,9 +6,9 @@ use Rattle.sky_session.proofs.Steps.{begun-txid, does-take}
 use Rattle.sky_session.proofs.row_db.RowDb.txid_current.Goals as goal
 
 pub commit_own-requires : goal.commit_own-requires
-commit_own-requires c = begun-txid (seen c.args.self.now) (seen c.begin_own.new.self) c.args.who c.in_ok-txid.txid c.in_ok-txid.ensures.ok c.in_ok-begin_own.ensures
+commit_own-requires c = begun-txid (seen c.args.self.now) (seen c.begin_own.new.self) c.args.who c.in_ok-txid.txid c.in_ok-txid.ensures.ok c.in_ok-begin_own.ensures.ok
 
 pub returns : goal.returns
 returns c =
-    does-take (seen c.args.self.now) (seen c.begin_own.new.self) (seen c.commit_own.new.self) c.args.who c.in_ok-txid.txid _ c.in_ok-txid.ensures.ok c.in_ok-begin_own.ensures c.in_ok-commit_own.ensures.marks
+    does-take (seen c.args.self.now) (seen c.begin_own.new.self) (seen c.commit_own.new.self) c.args.who c.in_ok-txid.txid _ c.in_ok-txid.ensures.ok c.in_ok-begin_own.ensures.ok c.in_ok-commit_own.ensures.marks
     (c.in_ok-commit_own.ensures.told ∙ ap (λ es. es ++ effects_of (commit_of c.args.who c.in_ok-txid.txid ((seen c.begin_own.new.self).session c.args.who).block)) c.new-effects.ensures)

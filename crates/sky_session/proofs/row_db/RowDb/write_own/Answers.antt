@@ -10,22 +10,22 @@ use Rattle.sky_session.proofs.row_db.RowDb.write_own.Goals as goal
 
 pub wrote-requires-clause-free : goal.wrote-requires-clause-free
 wrote-requires-clause-free c =
-    ap (λ (p : RowPart). other_holder p.holder c.args.who c.args.key.table c.args.key.key) (c.in_ok-begin_own.ensures)
+    ap (λ (p : RowPart). other_holder p.holder c.args.who c.args.key.table c.args.key.key) (c.in_ok-begin_own.ensures.ok)
     ∙ ap (λ holder. other_holder holder c.args.who c.args.key.table c.args.key.key) (holder-begun (seen c.args.self.now) c.args.who c.args.txid ((seen c.args.self.now).session c.args.who).txid)
     ∙ c.requires.free
 
 pub commit_own-requires : goal.commit_own-requires
 commit_own-requires c =
     owns-written (seen c.args.self.now) (seen c.begin_own.new.self) (seen c.wrote.new.self) c.args.who c.args.txid c.args.key.table c.args.key.key None c.args.row
-    c.requires.id c.in_ok-begin_own.ensures c.in_ok-wrote.ensures
+    c.requires.id c.in_ok-begin_own.ensures.ok c.in_ok-wrote.ensures
 
 pub returns-clause-marks : goal.returns-clause-marks
 returns-clause-marks c =
     part-written (seen c.args.self.now) (seen c.begin_own.new.self) (seen c.wrote.new.self) (seen c.commit_own.new.self) c.args.who c.args.txid c.args.key.table c.args.key.key None c.args.row
-    c.in_ok-begin_own.ensures c.in_ok-wrote.ensures c.in_ok-commit_own.ensures.marks
+    c.in_ok-begin_own.ensures.ok c.in_ok-wrote.ensures c.in_ok-commit_own.ensures.marks
 
 pub returns-clause-told : goal.returns-clause-told
 returns-clause-told c =
     c.in_ok-commit_own.ensures.told
     ∙ ap (λ block. c.args.effects.now ++ effects_of (commit_of c.args.who c.args.txid block))
-    (in_block (seen c.args.self.now) (seen c.begin_own.new.self) (seen c.wrote.new.self) c.args.who c.args.txid c.args.key.table c.args.key.key None c.args.row c.in_ok-begin_own.ensures c.in_ok-wrote.ensures)
+    (in_block (seen c.args.self.now) (seen c.begin_own.new.self) (seen c.wrote.new.self) c.args.who c.args.txid c.args.key.table c.args.key.key None c.args.row c.in_ok-begin_own.ensures.ok c.in_ok-wrote.ensures)

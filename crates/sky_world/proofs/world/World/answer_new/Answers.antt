@@ -5,7 +5,7 @@ use Rattle.sky_world.proofs.world.World.answer_new.Goals as goal
 pub returns-clause-answers : goal.returns-clause-answers
 returns-clause-answers c =
     let room : length c.args.self.now.sessions < 256 = grind (arith, c.if-who-ge-MAX_SESSIONS.false, c.session_count-who.ensures.count) in
-    answers-new _ _ _ _ _ _ c.requires room c.in_ok-appear.ensures.fact c.session_count-who.ensures.count c.in_ok-replies.ensures.gives
+    answers-new _ _ _ _ _ _ c.requires.new room c.in_ok-appear.ensures.fact c.session_count-who.ensures.count c.in_ok-replies.ensures.gives
 
 pub returns-clause-numbered : goal.returns-clause-numbered
 returns-clause-numbered c =

@@ -1,0 +1,159 @@
+-- Whatever is called, the history of each database is one that its own calls make; and those are legal.
+use Rattle.std.proofs.Common.{◌≡◌, All, ℕ, ℤ, List, [], ◌∷◌, ◌++◌, Bool, true, false, ◌==◌, nat_le, Option, Some, None, Ok, Err, map, length, refl, sym, ◌∙◌, ap, subst, arith, if◌then◌else◌}
+use Rattle.std.proofs.lemmas.Bool.Decides.{nat_tests}
+use Rattle.std.proofs.lemmas.List.Elements.{All-nil, All-cons, All-head, All-tail}
+use Rattle.sky_model.specs.declared.stmt.Stmt.{Stmt}
+use Rattle.sky_model.specs.InForm.{IsInForm}
+use Rattle.sky_val.specs.Waits.{is_waiting}
+use Rattle.sky_names.specs.Places.{place_of}
+use Rattle.sky_model.specs.History.{Mark, looked, History, within, appeared, Past}
+use Rattle.sky_model.specs.Sessions.{block, session}
+use Rattle.sky_model.specs.Telling.{tells}
+use Rattle.sky_model.specs.Locks.{waiting}
+use Rattle.sky_model.specs.State.{part_of, database_of}
+use Rattle.sky_model.specs.ShownRows.{rows_in}
+use Rattle.sky_model.specs.Outcome.{Checked}
+use Rattle.sky_model.specs.Allowed.{where_of, allowed}
+use Rattle.sky_model.specs.World.{world_of, history_in, on_top, session_names, home}
+use Rattle.sky_model.specs.Reader.{shown_in, database_by_history, within_part, within_database, by_past, Deed, appears}
+use Rattle.sky_model.specs.Made.{takes_sight}
+use Rattle.sky_model.specs.Settling.{Turn, turn_of, marked}
+use Rattle.sky_model.specs.Calls.{form, making, statement, database_turn, is_leaving, session_does, turn, Call, called, past_of}
+use Rattle.sky_model.specs.SessionMarks.{look_of, entry_place, enters, failing}
+use Rattle.sky_model.specs.Promises.{after_all}
+use Rattle.sky_model.specs.DatabaseCalls.{DatabaseCall, stepped, entered, failed, IsDatabaseCallInForm, database_does, database_part}
+use Rattle.sky_model.specs.HistoryPlaces.{IsPlace}
+use Rattle.sky_model.specs.Steps.{IsCallInForm}
+use Rattle.sky_model.specs.LawsOfHistories.{HistoriesAreMadeByOwnCalls}
+use Rattle.sky_model.proofs.Legal.{looks, Chain, done, more, Legal, start}
+use Rattle.sky_model.proofs.Good.{same-session, good_failure}
+use Rattle.sky_model.proofs.LawfulTelling.{legal_behind}
+use Rattle.sky_model.proofs.MadeAt.{same-made_by}
+use Rattle.sky_model.proofs.Turns.{ReadAlike, same-with_settling, Any, each-any}
+use Rattle.sky_model.proofs.Lawful.{database-reads, good_with_settling-by, good_turn}
+use Rattle.sky_model.proofs.Unopened.{on_top-append, unopened-within, history-marks, history-left}
+
+-- ---- calls of a database
+
+-- what a session does that enters may come
+pub good_enters : (h : History) (who : ℕ) (sight : Bool) (may : Checked (Unit {0})) → Chain h (enters who (look_of who sight) may).marks
+good_enters h who true (Ok _) = more (looks who) done
+good_enters h who false (Ok _) = done
+good_enters h who sight (Err refusal) = done
+
+-- and so may what a call does
+pub good_does : (h : History) → Legal h → (call : DatabaseCall) → Chain h (database_does database_by_history h call).marks
+good_does h l (stepped who stmt now) = good_turn h l now who stmt
+good_does h l (entered who outside) = good_enters h who (takes_sight (entry_place outside) (session h who).sight) (allowed (is_waiting who (waiting h)) (block who h) (entry_place outside))
+good_does h l (failed who now) = good_with_settling-by (within_part database_by_history now) (λ g. g) (database-reads now) h l (failing (part_of h) who) (good_failure h who)
+
+-- so the history that calls make is legal
+pub legal_calls : (calls : List DatabaseCall) → Legal (after_all database_part calls)
+legal_calls [] = start
+legal_calls (call ∷ calls) =
+    legal_behind (after_all database_part calls) (database_does database_by_history (after_all database_part calls) call).marks (legal_calls calls)
+    (good_does (after_all database_part calls) (legal_calls calls) call)
+
+-- ---- calls of the world
+
+-- in the past a statement reads its database's history
+same-within : (past : Past) (d : ℕ) (now : ℤ) (who : ℕ) (stmt : Stmt) → statement (within_database by_past d) past now who stmt ≡ statement database_by_history (history_in past d) now who stmt
+same-within past d now who stmt =
+    same-made_by (making (within_database by_past d) now who stmt) (making database_by_history now who stmt) (where_of stmt) who past (history_in past d) (record {
+      sessions = refl;
+      waiting = refl;
+      outcomes = refl;
+      sessions_behind = ap (λ b. session (if b then looked who ∷ history_in past d else history_in past d) who) (same-session d);
+      outcomes_behind = ap (λ b. form (database_of (if b then looked who ∷ history_in past d else history_in past d)) (shown_in (if b then looked who ∷ history_in past d else history_in past d)) now who stmt) (same-session d);
+    })
+
+in-database : (d : ℕ) (now : ℤ) → ReadAlike (within_part (within_database by_past d) now) (within_part database_by_history now) Any (λ past h. history_in past d ≡ h)
+in-database d now = record {
+  parts = λ past h is. ap part_of is;
+  rows = λ past h is. ap rows_in is;
+  tells = λ past h is. λ i checked. tells (database_of (is i)) now checked;
+  behind = λ past h mark is _. ap (λ b. if b then mark ∷ history_in past d else history_in past d) (same-session d) ∙ ap (λ g. mark ∷ g) is;
+}
+
+-- and what it lets go on does
+pub same-turn-within : (past : Past) (d : ℕ) (now : ℤ) (who : ℕ) (stmt : Stmt) → database_turn (within_database by_past d) past now who stmt ≡ database_turn database_by_history (history_in past d) now who stmt
+same-turn-within past d now who stmt =
+    same-with_settling (within_part (within_database by_past d) now) (within_part database_by_history now) Any (λ p h. history_in p d ≡ h) (in-database d now) past (history_in past d) _ _ refl
+    (ap (turn_of who) (same-within past d now who stmt)) (each-any (within_part (within_database by_past d) now) past _)
+
+-- calls of a database make a history, and are in form if this holds
+record Made (formed : Type 0) (h : History) : Type 0 where
+  calls : List DatabaseCall
+  in_form : formed → All IsDatabaseCallInForm calls
+  make : after_all database_part calls ≡ h
+
+-- a past in which that is so of each database
+abbrev AllMade : Type 0 → Past → Type 0
+AllMade formed past = (d : ℕ) → Made formed (history_in past d)
+
+-- a history with what a statement does is made so too
+made_turn : (formed : Type 0) (h : History) (now : ℤ) (who : ℕ) (stmt : Stmt) → (formed → IsInForm stmt) → Made formed h → Made formed (marked h (database_turn database_by_history h now who stmt).marks)
+made_turn formed h now who stmt is_form made = record {
+  calls = stepped who stmt now ∷ made.calls;
+  in_form = λ holds. All-cons IsDatabaseCallInForm (stepped who stmt now) made.calls (is_form holds) (made.in_form holds);
+  make = λ i. marked (made.make i) (database_turn database_by_history (made.make i) now who stmt).marks;
+}
+
+made_if : (formed : Type 0) (past : Past) (b : Bool) (x y : Deed) → AllMade formed (on_top past x.facts) → AllMade formed (on_top past y.facts) → AllMade formed (on_top past (if b then x else y).facts)
+made_if formed past true x y all also = all
+made_if formed past false x y all also = also
+
+made_session : (formed : Type 0) (past : Past) (who : ℕ) (stmt : Stmt) (at : Option ℕ) → (formed → IsInForm stmt) → AllMade formed past → AllMade formed (on_top past (session_does by_past past who stmt at).facts)
+made_session formed past who stmt None is_form all = λ n. subst (Made formed) (sym (unopened-within past (world_of past) who stmt n)) (all n)
+made_session formed past who stmt (Some d) is_form all = λ n.
+    subst (Made formed) (sym (history-left past (map (within d) turn_within.marks) who leaving n ∙ history-marks past d turn_within.marks n)) (of n (d == n) refl)
+  where
+    turn_within : Turn
+    turn_within = database_turn (within_database by_past d) past (world_of past).now who stmt
+
+    leaving : Bool
+    leaving = is_leaving (is_waiting who ((world_of past).database d).part.waiting) stmt
+
+    here : Made formed (marked (history_in past d) turn_within.marks)
+    here = subst (λ (x : Turn). Made formed (marked (history_in past d) x.marks)) (sym (same-turn-within past d (world_of past).now who stmt))
+        (made_turn formed (history_in past d) (world_of past).now who stmt is_form (all d))
+
+    of : (n : ℕ) (b : Bool) → (d == n) ≡ b → Made formed (if b then marked (history_in past n) turn_within.marks else history_in past n)
+    of n true e = (let same : d ≡ n = grind (arith, nat_tests) in subst (λ m. Made formed (marked (history_in past m) turn_within.marks)) same here)
+    of n false e = all n
+
+made_called : (formed : Type 0) (past : Past) (call : Call) (found : Option ℕ) → (formed → IsInForm call.stmt) → AllMade formed past → AllMade formed (on_top past (called by_past past call found).facts)
+made_called formed past call (Some who) is_form all = made_session formed past who call.stmt (home past who) is_form all
+made_called formed past call None is_form all =
+    made_if formed past (nat_le 256 (length (session_names past))) _ _ all
+    (λ d. subst (λ p. Made formed (history_in p d)) (sym (on_top-append past (appears call.who).facts (turn by_past (length (session_names past)) call.stmt (appeared call.who ∷ past)).facts))
+    (made_session formed (appeared call.who ∷ past) (length (session_names past)) call.stmt (home past (length (session_names past))) is_form all d))
+
+-- if something else holds that gives it
+made_if_given : (formed given : Type 0) → (given → formed) → (h : History) → Made formed h → Made given h
+made_if_given formed given gives h made = record { calls = made.calls; in_form = λ holds. made.in_form (gives holds); make = made.make }
+
+made_past : (calls : List Call) → AllMade (All IsCallInForm calls) (past_of calls)
+made_past [] d = record { calls = []; in_form = λ holds. All-nil IsDatabaseCallInForm; make = refl }
+made_past (call ∷ calls) d =
+    made_called (All IsCallInForm (call ∷ calls)) (past_of calls) call (place_of call.who (session_names (past_of calls)))
+    (λ holds. (All-head IsCallInForm call calls holds).1)
+    (λ n. made_if_given (All IsCallInForm calls) (All IsCallInForm (call ∷ calls)) (All-tail IsCallInForm call calls) (history_in (past_of calls) n) (made_past calls n)) d
+
+pub histories_are_made_by_own_calls : HistoriesAreMadeByOwnCalls
+histories_are_made_by_own_calls calls database =
+    let made : Made (All IsCallInForm calls) (history_in (past_of calls) database) = made_past calls database in
+    record { own_calls = made.calls; in_form = made.in_form; make = made.make }
+
+-- so a place of the world is one of its database's calls
+pub world_place : (calls : List Call) (database : ℕ) (later : List Mark) (p : History) → All IsCallInForm calls → history_in (past_of calls) database ≡ later ++ p → IsPlace p
+world_place calls database later p in_form is =
+    let made : Made (All IsCallInForm calls) (history_in (past_of calls) database) = made_past calls database in
+    record { calls = made.calls; in_form = made.in_form in_form; later = later; below = made.make ∙ is }
+
+-- the history of each database is legal
+abbrev pub AllLegal : Past → Type 0
+AllLegal past = (d : ℕ) → Legal (history_in past d)
+
+pub legal_past : (calls : List Call) → AllLegal (past_of calls)
+legal_past calls d = let made : Made (All IsCallInForm calls) (history_in (past_of calls) d) = made_past calls d in subst Legal made.make (legal_calls made.calls)

@@ -1,0 +1,154 @@
+-- The calls of a row part keep their promises.
+use Rattle.std.proofs.Common.{◌≡◌, ℕ, ◌^◌, Bool, true, false, nat_le, List, [], ◌∷◌, Option, Some, None, Ok, Err, refl, sym, ◌∙◌, ap}
+use Rattle.sky_val.specs.Waits.{is_waiting}
+use Rattle.sky_model.specs.declared.stmt.RowStmt.{RowStmt}
+use Rattle.sky_model.specs.declared.reply.Refusal.{Refusal}
+use Rattle.sky_model.specs.declared.reply.Refusal.TheVariants.{TxidsSpent}
+use Rattle.sky_model.specs.History.{History}
+use Rattle.sky_model.specs.Transactions.{next_txid}
+use Rattle.sky_model.specs.Sessions.{Block, outside, inside, failed, block, own_txid, session}
+use Rattle.sky_model.specs.Locks.{waiting}
+use Rattle.sky_model.specs.State.{RowPart, part_of, after_part_marks}
+use Rattle.sky_model.specs.Outcome.{◌>>◌, refused_if}
+use Rattle.sky_model.specs.OwnTransaction.{own_or_next, txid_for, begin_of}
+use Rattle.sky_model.specs.Allowed.{allowed}
+use Rattle.sky_model.specs.Made.{takes_sight}
+use Rattle.sky_model.specs.Reader.{part_by_history, part_by_itself}
+use Rattle.sky_model.specs.Gates.{Gate, by_gate, open_gate}
+use Rattle.sky_model.specs.Rooms.{any_room, room_of, room_gate}
+use Rattle.sky_model.specs.Settling.{Turn, rests, settling, with_settling}
+use Rattle.sky_model.specs.Calls.{row_turn}
+use Rattle.sky_model.specs.SessionMarks.{single_end, Enters, entry_place, entry, failing, takes_id, taking, ending}
+use Rattle.sky_model.specs.Promises.{after_all}
+use Rattle.sky_model.specs.RowCalls.{RowCall, row_stepped, row_entered, row_failed, row_settled, txid_taken, single_ended, rolled_back, IsRowCallInForm, row_does, row_part}
+use Rattle.sky_model.specs.RowSteps.{RowSteps}
+use Rattle.sky_model.proofs.Legal.{begins, ends, Chain, done, more, Legal, start}
+use Rattle.sky_model.proofs.Good.{good_failure}
+use Rattle.sky_model.proofs.LawfulTelling.{legal_behind}
+use Rattle.sky_model.proofs.Histories.{good_enters}
+use Rattle.sky_model.proofs.Promised.{promised}
+use Rattle.sky_model.proofs.Entering.{entered-part}
+use Rattle.sky_model.proofs.RowStanding.{part_of-marks}
+use Rattle.sky_model.proofs.GatedLemmas.{open-turn, open-with_settling}
+use Rattle.sky_model.proofs.GatedStanding.{good_gated_turn, good_gated_settling, same-gated_turn, same-gated_settling}
+use Rattle.sky_model.proofs.RoomsAlike.{room-turn, room-settling}
+
+-- ---- legal histories
+
+good_taking : (h : History) (who : ℕ) → Chain h (taking (part_of h) who).marks
+good_taking h who = of (own_txid who h) refl
+  where
+    next : own_txid who h ≡ None → (b : Bool) → Chain h (takes_id who None (refused_if b TxidsSpent >> Ok (next_txid h))).marks
+    next none true = done
+    next none false = more (begins who none) done
+
+    of : (o : Option ℕ) → own_txid who h ≡ o → Chain h (takes_id who o (own_or_next (part_of h) o)).marks
+    of (Some t) mine = done
+    of None none = next none (nat_le (2 ^ 62) (next_txid h))
+
+good_ending : (h : History) (who : ℕ) → Chain h (ending (part_of h) who).marks
+good_ending h who = of (own_txid who h) (block who h) refl
+  where
+    of : (o : Option ℕ) (b : Block) → own_txid who h ≡ o → Chain h (single_end who o b)
+    of (Some t) outside mine = more (ends who t true mine) done
+    of (Some t) inside mine = done
+    of (Some t) failed mine = done
+    of None b none = done
+
+-- what a call does may come
+good_row_does : (h : History) → Legal h → (call : RowCall) → Chain h (row_does part_by_history h call).marks
+good_row_does h l (row_stepped room who stmt) = good_gated_turn (room_gate room) h l [] who stmt
+good_row_does h l (row_entered who alone) = good_enters h who (takes_sight (entry_place alone) (session h who).sight) (allowed (is_waiting who (waiting h)) (block who h) (entry_place alone))
+good_row_does h l (row_failed room who) = good_gated_settling (room_gate room) h l [] (failing (part_of h) who) (good_failure h who)
+good_row_does h l (row_settled room) = good_gated_settling (room_gate room) h l [] rests done
+good_row_does h l (txid_taken who) = good_taking h who
+good_row_does h l (single_ended who) = good_ending h who
+good_row_does h l (rolled_back who) = good_failure h who
+
+-- so the history that calls make is legal
+legal_row_calls : (calls : List RowCall) → Legal (after_all row_part calls)
+legal_row_calls [] = start
+legal_row_calls (call ∷ calls) =
+    legal_behind (after_all row_part calls) (row_does part_by_history (after_all row_part calls) call).marks (legal_row_calls calls)
+    (good_row_does (after_all row_part calls) (legal_row_calls calls) call)
+
+-- ---- promises
+
+-- by what the part keeps a call does what it does by the history
+same-row_does : (h : History) → Legal h → (call : RowCall) → row_does part_by_itself (part_of h) call ≡ row_does part_by_history h call
+same-row_does h l (row_stepped room who stmt) = sym (same-gated_turn (room_gate room) h l [] who stmt)
+same-row_does h l (row_entered who alone) = refl
+same-row_does h l (row_failed room who) = sym (same-gated_settling (room_gate room) h l [] (failing (part_of h) who) (good_failure h who))
+same-row_does h l (row_settled room) = sym (same-gated_settling (room_gate room) h l [] rests done)
+same-row_does h l (txid_taken who) = refl
+same-row_does h l (single_ended who) = refl
+same-row_does h l (rolled_back who) = refl
+
+-- the part behind a call
+behind-row_does : (h : History) → Legal h → (call : RowCall)
+    → after_part_marks (part_of h) (row_does part_by_itself (part_of h) call).marks ≡ part_of (row_part.after h call)
+behind-row_does h l call =
+    ap (λ (turn : Turn). after_part_marks (part_of h) turn.marks) (same-row_does h l call) ∙ sym (part_of-marks h (row_does part_by_history h call).marks)
+
+-- a call that changes a part as this turn says keeps its promise, if the turn is the one that the part tells
+row_call_from_exact : (old new : RowPart) (call : RowCall) (turn : Turn) → turn ≡ row_does part_by_itself old call → new ≡ after_part_marks old turn.marks → RowSteps old new call turn
+row_call_from_exact old new call turn is changed =
+    promised row_part IsRowCallInForm call (λ d. row_does part_by_itself d call) (λ d. after_part_marks d (row_does part_by_itself d call).marks)
+    (λ calls in_form. same-row_does (after_all row_part calls) (legal_row_calls calls) call)
+    (λ calls in_form. behind-row_does (after_all row_part calls) (legal_row_calls calls) call)
+    old new turn is (changed ∙ ap (λ (x : Turn). after_part_marks old x.marks) is)
+
+-- ---- each call's
+
+-- behind a gate
+pub gated_step_from_exact : {G : Type 0} (gate : Gate G) (old new : RowPart) (g : G) (who : ℕ) (stmt : RowStmt)
+    → new ≡ after_part_marks old (row_turn (by_gate gate part_by_itself) (old, g) who stmt).marks
+    → RowSteps old new (row_stepped (room_of gate g) who stmt) (row_turn (by_gate gate part_by_itself) (old, g) who stmt)
+gated_step_from_exact gate old new g who stmt =
+    row_call_from_exact old new (row_stepped (room_of gate g) who stmt) (row_turn (by_gate gate part_by_itself) (old, g) who stmt) (room-turn gate g old who stmt)
+
+pub gated_fail_from_exact : {G : Type 0} (gate : Gate G) (old new : RowPart) (g : G) (who : ℕ)
+    → new ≡ after_part_marks old (with_settling (by_gate gate part_by_itself) (old, g) (failing old who)).marks
+    → RowSteps old new (row_failed (room_of gate g) who) (with_settling (by_gate gate part_by_itself) (old, g) (failing old who))
+gated_fail_from_exact gate old new g who =
+    row_call_from_exact old new (row_failed (room_of gate g) who) (with_settling (by_gate gate part_by_itself) (old, g) (failing old who)) (room-settling gate g old (failing old who))
+
+pub gated_settle_from_exact : {G : Type 0} (gate : Gate G) (old new : RowPart) (g : G)
+    → new ≡ after_part_marks old (settling (by_gate gate part_by_itself) (old, g)).marks
+    → RowSteps old new (row_settled (room_of gate g)) (settling (by_gate gate part_by_itself) (old, g))
+gated_settle_from_exact gate old new g =
+    row_call_from_exact old new (row_settled (room_of gate g)) (settling (by_gate gate part_by_itself) (old, g)) (room-settling gate g old rests)
+
+-- and without one
+pub row_step_from_exact : (old new : RowPart) (who : ℕ) (stmt : RowStmt) → new ≡ after_part_marks old (row_turn part_by_itself old who stmt).marks
+    → RowSteps old new (row_stepped any_room who stmt) (row_turn part_by_itself old who stmt)
+row_step_from_exact old new who stmt =
+    row_call_from_exact old new (row_stepped any_room who stmt) (row_turn part_by_itself old who stmt) (sym (open-turn old who stmt) ∙ room-turn open_gate tt old who stmt)
+
+pub row_enter_from_exact : (old new : RowPart) (who : ℕ) (alone : Bool) (refusal : Option Refusal) → Enters old new who (entry_place alone) refusal
+    → RowSteps old new (row_entered who alone) (entry old who (entry_place alone))
+row_enter_from_exact old new who alone refusal enters =
+    row_call_from_exact old new (row_entered who alone) (entry old who (entry_place alone)) refl (entered-part old new who (entry_place alone) refusal enters)
+
+pub row_fail_from_exact : (old new : RowPart) (who : ℕ) → new ≡ after_part_marks old (with_settling part_by_itself old (failing old who)).marks
+    → RowSteps old new (row_failed any_room who) (with_settling part_by_itself old (failing old who))
+row_fail_from_exact old new who =
+    row_call_from_exact old new (row_failed any_room who) (with_settling part_by_itself old (failing old who))
+    (sym (open-with_settling old (failing old who)) ∙ room-settling open_gate tt old (failing old who))
+
+pub take_txid_from_exact : (old new : RowPart) (who t : ℕ) → txid_for old who ≡ Ok t → new ≡ after_part_marks old (begin_of who t (old.session who).txid)
+    → RowSteps old new (txid_taken who) (taking old who)
+take_txid_from_exact old new who t is changed =
+    row_call_from_exact old new (txid_taken who) (taking old who) refl
+    (changed ∙ sym (ap (λ o. after_part_marks old (takes_id who (old.session who).txid o).marks) is))
+
+-- no id is left, and nothing has changed
+pub no_txid_from_exact : (old new : RowPart) (who : ℕ) (refusal : Refusal) → txid_for old who ≡ Err refusal → new ≡ old → RowSteps old new (txid_taken who) (taking old who)
+no_txid_from_exact old new who refusal is same =
+    row_call_from_exact old new (txid_taken who) (taking old who) refl (same ∙ sym (ap (λ o. after_part_marks old (takes_id who (old.session who).txid o).marks) is))
+
+pub end_single_from_exact : (old new : RowPart) (who : ℕ) → new ≡ after_part_marks old (ending old who).marks → RowSteps old new (single_ended who) (ending old who)
+end_single_from_exact old new who = row_call_from_exact old new (single_ended who) (ending old who) refl
+
+pub roll_back_from_exact : (old new : RowPart) (who : ℕ) → new ≡ after_part_marks old (failing old who).marks → RowSteps old new (rolled_back who) (failing old who)
+roll_back_from_exact old new who = row_call_from_exact old new (rolled_back who) (failing old who) refl

@@ -1,0 +1,121 @@
+-- What a waiting session attempts fits its table and its key, as it did when it began to wait.
+use Rattle.std.proofs.Common.{◌≡◌, ℕ, ◌+◌, ◌<◌, Bool, true, false, List, [], ◌∷◌, ◌++◌, Some, length, refl, sym, ap, subst, arith, if◌then◌else◌, length-append}
+use Rattle.std.specs.Prelude.{◌||◌, ◌==◌, not, find}
+use Rattle.std.proofs.lemmas.Bool.Decides.{nat_tests}
+use Rattle.sky_val.specs.declared.column.Column.{Column}
+use Rattle.sky_val.specs.Waits.{Waiting, is_waiting, without}
+use Rattle.sky_val.proofs.WaitLemmas.{is_waiting-without}
+use Rattle.sky_model.specs.declared.stmt.Attempt.TheVariants.{Deletion}
+use Rattle.sky_model.specs.History.{Mark, of_session, began, ended, block_begun, repeats, looked, block_failed, block_ended, tabled, table_made, wrote, waits, waited, queued, made, raised, put, ticked, registered, opened, closed, traced, History}
+use Rattle.sky_model.specs.Transactions.{next_txid}
+use Rattle.sky_model.specs.Rows.{table_names, columns_of}
+use Rattle.sky_model.specs.Locks.{waiting, attempt}
+use Rattle.sky_model.specs.State.{part_of}
+use Rattle.sky_model.specs.Settling.{ready}
+use Rattle.sky_model.proofs.Good.{same-session}
+use Rattle.sky_model.proofs.Legal.{AttemptFits, MayWait, Fine, begins, ends, begins_block, fails_block, ends_block, repeats_block, looks, makes_table, writes, begins_waiting, ends_waiting, makes, raises, puts, ticks_next, registers, opens, closes, traces, Legal, start, next}
+
+-- ---- each entry of a list
+
+abbrev Each : (Waiting → Type 0) → List Waiting → Type 0
+Each P [] = Unit {0}
+Each P (w ∷ ws) = P w × Each P ws
+
+each-push : (P : Waiting → Type 0) (ws : List Waiting) (w : Waiting) → Each P ws → P w → Each P (ws ++ w ∷ [])
+each-push P [] w all this = (this, tt)
+each-push P (x ∷ ws) w all this = (all.0, each-push P ws w all.1 this)
+
+each-map : (P Q : Waiting → Type 0) (ws : List Waiting) → ((w : Waiting) → P w → Q w) → Each P ws → Each Q ws
+each-map P Q [] f all = tt
+each-map P Q (w ∷ ws) f all = (f w all.0, each-map P Q ws f all.1)
+
+-- of a session that isn't among them they are others
+each-other : (P Q : Waiting → Type 0) (who : ℕ) (ws : List Waiting) → is_waiting who ws ≡ false → ((w : Waiting) → (w.who == who) ≡ false → P w → Q w) → Each P ws → Each Q ws
+each-other P Q who [] quiet f all = tt
+each-other P Q who (w ∷ ws) quiet f all = of (w.who == who) refl quiet (λ rest. each-other P Q who ws rest f all.1)
+  where
+    of : (b : Bool) → (w.who == who) ≡ b → (b || is_waiting who ws) ≡ false → (is_waiting who ws ≡ false → Each Q ws) → Each Q (w ∷ ws)
+    of true is e ih = absurd (cc)
+    of false is e ih = (f w is all.0, ih e)
+
+-- and those that are left without a session's
+each-without : (P Q : Waiting → Type 0) (who : ℕ) (ws : List Waiting) → ((w : Waiting) → (w.who == who) ≡ false → P w → Q w) → Each P ws → Each Q (without who ws)
+each-without P Q who [] f all = tt
+each-without P Q who (w ∷ ws) f all = of (w.who == who) refl (each-without P Q who ws f all.1)
+  where
+    of : (b : Bool) → (w.who == who) ≡ b → Each Q (without who ws) → Each Q (if not b then w ∷ without who ws else without who ws)
+    of true is rest = rest
+    of false is rest = (f w is all.0, rest)
+
+each-found : (P : Waiting → Type 0) (p : Waiting → Bool) (ws : List Waiting) (w : Waiting) → Each P ws → find p ws ≡ Some w → P w
+each-found P p [] w all e = absurd (cc)
+each-found P p (x ∷ ws) w all e = of (p x) e (each-found P p ws w all.1)
+  where
+    of : (b : Bool) → (if b then Some x else find p ws) ≡ Some w → (find p ws ≡ Some w → P w) → P w
+    of true e ih = (let one : x ≡ w = cc in subst P one all.0)
+    of false e ih = ih e
+
+-- ---- those that wait
+
+record EntryFits (h : History) (w : Waiting) : Type 0 where
+  within : w.table < length (table_names h)
+  fits : AttemptFits (columns_of w.table h) w.key (attempt w.who h)
+
+abbrev AllFit : History → Type 0
+AllFit h = Each (EntryFits h) (waiting h)
+
+fit-step : (h : History) (mark : Mark) → Fine h mark → AllFit h → AllFit (mark ∷ h)
+fit-step h _ (makes_table name columns new) all = each-map (EntryFits h) (EntryFits (tabled (table_made name columns) ∷ h)) (waiting h) still all
+  where
+    still : (w : Waiting) → EntryFits h w → EntryFits (tabled (table_made name columns) ∷ h) w
+    still w is = record {
+      within = (let more : length (table_names h ++ name ∷ []) ≡ length (table_names h) + 1 = length-append (table_names h) (name ∷ []) in let below : w.table < length (table_names h) = is.within in omega (arith, more, below));
+      fits = subst (λ (cs : List Column). AttemptFits cs w.key (attempt w.who h)) (sym (ap (λ b. if b then columns else columns_of w.table h) (other is.within))) is.fits;
+    }
+      where
+        other : w.table < length (table_names h) → (length (table_names h) == w.table) ≡ false
+        other below = grind (arith, nat_tests)
+fit-step h _ (begins_waiting who table key attempted may) all =
+    each-push (EntryFits g) (waiting h) (record { who = who; table = table; key = key })
+    (each-other (EntryFits h) (EntryFits g) who (waiting h) may.quiet still all)
+    (record { within = may.within; fits = subst (AttemptFits (columns_of table h) key) (sym (ap (λ b. if b then attempted else attempt who h) (same-session who))) may.fits })
+  where
+    g : History
+    g = tabled (waits who table key attempted) ∷ h
+
+    still : (w : Waiting) → (w.who == who) ≡ false → EntryFits h w → EntryFits g w
+    still w apart is =
+        let turned : (who == w.who) ≡ false = grind (arith, nat_tests) in
+        record { within = is.within; fits = subst (AttemptFits (columns_of w.table h) w.key) (sym (ap (λ b. if b then attempted else attempt w.who h) turned)) is.fits }
+fit-step h _ (ends_waiting who) all = each-without (EntryFits h) (EntryFits (tabled (waited who) ∷ h)) who (waiting h) still all
+  where
+    still : (w : Waiting) → (w.who == who) ≡ false → EntryFits h w → EntryFits (tabled (waited who) ∷ h) w
+    still w apart is =
+        let turned : (who == w.who) ≡ false = grind (arith, nat_tests) in
+        record { within = is.within; fits = subst (AttemptFits (columns_of w.table h) w.key) (sym (ap (λ b. if b then Deletion else attempt w.who h) turned)) is.fits }
+fit-step h _ (begins who e) all = each-map (EntryFits h) (EntryFits (began (of_session who) (next_txid h) ∷ h)) (waiting h) (λ w is. record { within = is.within; fits = is.fits }) all
+fit-step h _ (ends who t c e) all = each-map (EntryFits h) (EntryFits (ended (of_session who) t c ∷ h)) (waiting h) (λ w is. record { within = is.within; fits = is.fits }) all
+fit-step h _ (begins_block who e) all = each-map (EntryFits h) (EntryFits (block_begun who ∷ h)) (waiting h) (λ w is. record { within = is.within; fits = is.fits }) all
+fit-step h _ (fails_block who e f) all = each-map (EntryFits h) (EntryFits (block_failed who ∷ h)) (waiting h) (λ w is. record { within = is.within; fits = is.fits }) all
+fit-step h _ (ends_block who e) all = each-map (EntryFits h) (EntryFits (block_ended who ∷ h)) (waiting h) (λ w is. record { within = is.within; fits = is.fits }) all
+fit-step h _ (repeats_block who) all = each-map (EntryFits h) (EntryFits (repeats who ∷ h)) (waiting h) (λ w is. record { within = is.within; fits = is.fits }) all
+fit-step h _ (looks who) all = each-map (EntryFits h) (EntryFits (looked who ∷ h)) (waiting h) (λ w is. record { within = is.within; fits = is.fits }) all
+fit-step h _ (writes who t n at_key old new e free stands) all = each-map (EntryFits h) (EntryFits (tabled (wrote (of_session who) t n at_key old new) ∷ h)) (waiting h) (λ w is. record { within = is.within; fits = is.fits }) all
+fit-step h _ (makes name e) all = each-map (EntryFits h) (EntryFits (queued (made name) ∷ h)) (waiting h) (λ w is. record { within = is.within; fits = is.fits }) all
+fit-step h _ (raises q v i le) all = each-map (EntryFits h) (EntryFits (queued (raised q v) ∷ h)) (waiting h) (λ w is. record { within = is.within; fits = is.fits }) all
+fit-step h _ (puts who q e i n o newest) all = each-map (EntryFits h) (EntryFits (queued (put q e) ∷ h)) (waiting h) (λ w is. record { within = is.within; fits = is.fits }) all
+fit-step h _ (ticks_next q id time seq i le) all = each-map (EntryFits h) (EntryFits (queued (ticked q id time seq) ∷ h)) (waiting h) (λ w is. record { within = is.within; fits = is.fits }) all
+fit-step h _ (registers q name sub tick i e f le) all = each-map (EntryFits h) (EntryFits (queued (registered q name sub tick) ∷ h)) (waiting h) (λ w is. record { within = is.within; fits = is.fits }) all
+fit-step h _ (opens batch e) all = each-map (EntryFits h) (EntryFits (queued (opened batch) ∷ h)) (waiting h) (λ w is. record { within = is.within; fits = is.fits }) all
+fit-step h _ (closes batch e) all = each-map (EntryFits h) (EntryFits (queued (closed batch) ∷ h)) (waiting h) (λ w is. record { within = is.within; fits = is.fits }) all
+fit-step h _ (traces n name trigger below is new) all = each-map (EntryFits h) (EntryFits (queued (traced n name trigger) ∷ h)) (waiting h) (λ w is. record { within = is.within; fits = is.fits }) all
+
+all-fit : (h : History) → Legal h → AllFit h
+all-fit _ start = tt
+all-fit _ (next {h = h} {mark = mark} l fine) = fit-step h mark fine (all-fit h l)
+
+-- the one that is ready may attempt it once it no longer waits
+pub may_go_on : (h : History) → Legal h → (w : Waiting) → ready (part_of h) ≡ Some w → MayWait (part_of (tabled (waited w.who) ∷ h)) w.who w.table w.key (attempt w.who h)
+may_go_on h l w is =
+    let e : EntryFits h w = each-found (EntryFits h) _ (waiting h) w (all-fit h l) is in
+    record { within = e.within; fits = e.fits; quiet = is_waiting-without w.who (waiting h) }

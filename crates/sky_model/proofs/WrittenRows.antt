@@ -1,0 +1,193 @@
+-- Writes name the rows that stand, and what they leave are rows of their tables.
+use Rattle.std.proofs.Common.{◌≡◌, ℕ, ◌+◌, ◌<◌, Bool, true, false, List, [], ◌∷◌, ◌++◌, Option, Some, None, IfSome, length, refl, sym, ◌∙◌, ap, subst, arith, if◌then◌else◌, length-append}
+use Rattle.std.specs.Prelude.{◌&&◌, ◌==◌}
+use Rattle.std.specs.Option.{option_or}
+use Rattle.std.specs.Ordering.{eq_by_cmp}
+use Rattle.std.proofs.lemmas.Bool.Decides.{nat_tests}
+use Rattle.sky_val.specs.declared.val.Val.{Val}
+use Rattle.sky_val.specs.declared.column.Column.{Column}
+use Rattle.sky_val.specs.Order.{key_cmp}
+use Rattle.sky_val.specs.Entries.{at}
+use Rattle.sky_txid.specs.declared.version.Version.{Version}
+use Rattle.sky_txid.specs.Versions.{with_version, without, version_of, newest_from, newest_by, own_version, row_of}
+use Rattle.sky_txid.specs.Snapshot.{sees}
+use Rattle.sky_txid.proofs.EntryLemmas.{key_ties-is, versions_at-forgotten}
+use Rattle.sky_model.specs.History.{Mark, Whose, of_session, began, ended, block_begun, repeats, looked, block_failed, block_ended, tabled, table_made, wrote, waits, waited, queued, made, raised, put, ticked, registered, opened, closed, traced, History}
+use Rattle.sky_model.specs.Transactions.{next_txid, has_ended}
+use Rattle.sky_model.specs.Sessions.{own_txid}
+use Rattle.sky_model.specs.Rows.{table_names, columns_of, rows_standing}
+use Rattle.sky_model.specs.Versions.{versions}
+use Rattle.sky_model.specs.State.{part_of}
+use Rattle.sky_model.specs.ShownRows.{RowsShown, rows_by, snapshot_now}
+use Rattle.sky_model.specs.LawsOfWrites.{IsRowOf, WritesNameWhatStands, WrittenRowsFit, StandingRowsFit}
+use Rattle.sky_model.proofs.Legal.{Replaces, Fine, begins, ends, begins_block, fails_block, ends_block, repeats_block, looks, makes_table, writes, begins_waiting, ends_waiting, makes, raises, puts, ticks_next, registers, opens, closes, traces, Legal, start, next}
+use Rattle.sky_model.proofs.SnapshotLaws.{legal_place, legal-below_mark, fine_mark}
+use Rattle.sky_model.proofs.RowKeys.{is_in_order-versions}
+use Rattle.sky_model.proofs.KeyVersions.{kept, key_holds, kept-wrote}
+use Rattle.sky_model.proofs.RowSights.{same-rows}
+
+-- ---- each version of a list
+
+abbrev Each : (Version → Type 0) → List Version → Type 0
+Each P [] = Unit {0}
+Each P (v ∷ vs) = P v × Each P vs
+
+abbrev If : (Version → Type 0) → Option Version → Type 0
+If P None = Unit {0}
+If P (Some v) = P v
+
+each-map : (P Q : Version → Type 0) (vs : List Version) → ((v : Version) → P v → Q v) → Each P vs → Each Q vs
+each-map P Q [] f all = tt
+each-map P Q (v ∷ vs) f all = (f v all.0, each-map P Q vs f all.1)
+
+each-with : (P : Version → Type 0) (t : ℕ) (row : Option (List Val)) (vs : List Version) → Each P vs → P (record { txid = t; row = row }) → Each P (with_version t row vs)
+each-with P t row [] all this = (this, tt)
+each-with P t row (v ∷ vs) all this = of (t == v.txid) (each-with P t row vs all.1 this)
+  where
+    of : (b : Bool) → Each P (with_version t row vs) → Each P (if b then record { txid = t; row = row } ∷ vs else v ∷ with_version t row vs)
+    of true rest = (this, all.1)
+    of false rest = (all.0, rest)
+
+each-without : (P : Version → Type 0) (t : ℕ) (vs : List Version) → Each P vs → Each P (without t vs)
+each-without P t [] all = tt
+each-without P t (v ∷ vs) all = of (t == v.txid) (each-without P t vs all.1)
+  where
+    of : (b : Bool) → Each P (without t vs) → Each P (if b then without t vs else v ∷ without t vs)
+    of true rest = rest
+    of false rest = (all.0, rest)
+
+if-newest : (P : Version → Type 0) (p : ℕ → Bool) (vs : List Version) (newest : Option Version) → Each P vs → If P newest → If P (newest_from p newest vs)
+if-newest P p [] newest all this = this
+if-newest P p (v ∷ vs) newest all this = of (p v.txid) (λ o one. if-newest P p vs o all.1 one)
+  where
+    of : (b : Bool) → ((o : Option Version) → If P o → If P (newest_from p o vs)) → If P (newest_from p (if b then Some v else newest) vs)
+    of true ih = ih (Some v) all.0
+    of false ih = ih newest this
+
+if-own : (P : Version → Type 0) (own : Option ℕ) (vs : List Version) → Each P vs → If P (own_version own vs)
+if-own P None vs all = tt
+if-own P (Some t) [] all = tt
+if-own P (Some t) (v ∷ vs) all = of (t == v.txid) (if-own P (Some t) vs all.1)
+  where
+    of : (b : Bool) → If P (version_of t vs) → If P (if b then Some v else version_of t vs)
+    of true rest = all.0
+    of false rest = rest
+
+if-or : (P : Version → Type 0) (own newest : Option Version) → If P own → If P newest → If P (option_or own newest)
+if-or P None newest this also = also
+if-or P (Some v) newest this also = this
+
+-- ---- the versions that are kept
+
+-- its row, if it left one, is one of a table that there is, under the key
+record Left (h : History) (table : ℕ) (key : List Val) (v : Version) : Type 0 where
+  within : table < length (table_names h)
+  fits : IfSome v.row (IsRowOf (columns_of table h) key)
+
+abbrev AllLeft : History → Type 0
+AllLeft h = (table : ℕ) (key : List Val) → Each (Left h table key) (kept h table key)
+
+row-left : (h : History) (table : ℕ) (key : List Val) (o : Option Version) → If (Left h table key) o → IfSome (row_of o) (IsRowOf (columns_of table h) key)
+row-left h table key None this = tt
+row-left h table key (Some v) this = this.fits
+
+-- so is what stands for a session
+standing-left : (h : History) → AllLeft h → (who table : ℕ) (key : List Val) → IfSome ((rows_by (part_of h)).key who table key).standing (IsRowOf (columns_of table h) key)
+standing-left h all who table key =
+    row-left h table key _
+    (if-or (Left h table key) (own_version (own_txid who h) (kept h table key)) (newest_by (sees (snapshot_now (part_of h))) (kept h table key))
+    (if-own (Left h table key) (own_txid who h) (kept h table key) (all table key))
+    (if-newest (Left h table key) (sees (snapshot_now (part_of h))) (kept h table key) None (all table key) tt))
+
+-- a write over what stands leaves a row of its table
+new-fits : (h : History) → AllLeft h → (who table : ℕ) (key : List Val) (old new : Option (List Val)) → Replaces (part_of h) who table key old new → IfSome new (IsRowOf (columns_of table h) key)
+new-fits h all who table key old new is = is.fits (subst (λ o. IfSome o (IsRowOf (columns_of table h) key)) is.stands (standing-left h all who table key))
+
+left-same : (h : History) (mark : Mark) → ((table : ℕ) (key : List Val) (v : Version) → Left h table key v → Left (mark ∷ h) table key v)
+    → ((table : ℕ) (key : List Val) → kept (mark ∷ h) table key ≡ kept h table key) → AllLeft h → AllLeft (mark ∷ h)
+left-same h mark still same all table key =
+    subst (Each (Left (mark ∷ h) table key)) (sym (same table key)) (each-map (Left h table key) (Left (mark ∷ h) table key) (kept h table key) (still table key) (all table key))
+
+left-step : (h : History) (mark : Mark) → Fine h mark → Legal h → AllLeft h → AllLeft (mark ∷ h)
+left-step h _ (makes_table name columns new) l all = left-same h (tabled (table_made name columns)) still (λ table key. refl) all
+  where
+    still : (table : ℕ) (key : List Val) (v : Version) → Left h table key v → Left (tabled (table_made name columns) ∷ h) table key v
+    still table key v is = record {
+      within = (let more : length (table_names h ++ name ∷ []) ≡ length (table_names h) + 1 = length-append (table_names h) (name ∷ []) in let below : table < length (table_names h) = is.within in omega (arith, more, below));
+      fits = subst (λ (cs : List Column). IfSome v.row (IsRowOf cs key)) (sym (ap (λ b. if b then columns else columns_of table h) (other is.within))) is.fits;
+    }
+      where
+        other : table < length (table_names h) → (length (table_names h) == table) ≡ false
+        other below = grind (arith, nat_tests)
+left-step h _ (writes who t n at_key old new mine free stands) l all = λ table key.
+    subst (Each (Left g table key)) (sym (kept-wrote h l who t n at_key old new mine free table key)) (of table key (n == table) refl (eq_by_cmp key_cmp key at_key) refl)
+  where
+    g : History
+    g = tabled (wrote (of_session who) t n at_key old new) ∷ h
+
+    before : (table : ℕ) (key : List Val) → Each (Left g table key) (kept h table key)
+    before table key = each-map (Left h table key) (Left g table key) (kept h table key) (λ v is. record { within = is.within; fits = is.fits }) (all table key)
+
+    written : Left g n at_key (record { txid = t; row = new })
+    written = record { within = stands.within; fits = new-fits h all who n at_key old new stands }
+
+    of : (table : ℕ) (key : List Val) (b : Bool) → (n == table) ≡ b → (c : Bool) → eq_by_cmp key_cmp key at_key ≡ c
+        → Each (Left g table key) (if b && c then with_version t new (kept h table key) else kept h table key)
+    of table key true here true tie =
+        let table_is : n ≡ table = grind (arith, nat_tests) in
+        each-with (Left g table key) t new (kept h table key) (before table key)
+        (subst (λ m. Left g m key (record { txid = t; row = new })) table_is (subst (λ k. Left g n k (record { txid = t; row = new })) (sym (key_ties-is key at_key tie)) written))
+    of table key true here false tie = before table key
+    of table key false there c tie = before table key
+left-step h _ (ends who t true mine) l all = left-same h (ended (of_session who) t true) (λ table key v is. record { within = is.within; fits = is.fits }) (λ table key. refl) all
+left-step h _ (ends who t false mine) l all = λ table key.
+    subst (Each (Left (ended (of_session who) t false ∷ h) table key)) (sym (versions_at-forgotten t key (versions table h) (is_in_order-versions table h)))
+    (each-without (Left (ended (of_session who) t false ∷ h) table key) t (kept h table key)
+    (each-map (Left h table key) (Left (ended (of_session who) t false ∷ h) table key) (kept h table key) (λ v is. record { within = is.within; fits = is.fits }) (all table key)))
+left-step h _ (begins who e) l all = left-same h (began (of_session who) (next_txid h)) (λ table key v is. record { within = is.within; fits = is.fits }) (λ table key. refl) all
+left-step h _ (begins_block who e) l all = left-same h (block_begun who) (λ table key v is. record { within = is.within; fits = is.fits }) (λ table key. refl) all
+left-step h _ (fails_block who e f) l all = left-same h (block_failed who) (λ table key v is. record { within = is.within; fits = is.fits }) (λ table key. refl) all
+left-step h _ (ends_block who e) l all = left-same h (block_ended who) (λ table key v is. record { within = is.within; fits = is.fits }) (λ table key. refl) all
+left-step h _ (repeats_block who) l all = left-same h (repeats who) (λ table key v is. record { within = is.within; fits = is.fits }) (λ table key. refl) all
+left-step h _ (looks who) l all = left-same h (looked who) (λ table key v is. record { within = is.within; fits = is.fits }) (λ table key. refl) all
+left-step h _ (begins_waiting who n at_key attempt fits) l all = left-same h (tabled (waits who n at_key attempt)) (λ table key v is. record { within = is.within; fits = is.fits }) (λ table key. refl) all
+left-step h _ (ends_waiting who) l all = left-same h (tabled (waited who)) (λ table key v is. record { within = is.within; fits = is.fits }) (λ table key. refl) all
+left-step h _ (makes name e) l all = left-same h (queued (made name)) (λ table key v is. record { within = is.within; fits = is.fits }) (λ table key. refl) all
+left-step h _ (raises q v i le) l all = left-same h (queued (raised q v)) (λ table key v is. record { within = is.within; fits = is.fits }) (λ table key. refl) all
+left-step h _ (puts who q e i n o newest) l all = left-same h (queued (put q e)) (λ table key v is. record { within = is.within; fits = is.fits }) (λ table key. refl) all
+left-step h _ (ticks_next q id time seq i le) l all = left-same h (queued (ticked q id time seq)) (λ table key v is. record { within = is.within; fits = is.fits }) (λ table key. refl) all
+left-step h _ (registers q name sub tick i e f le) l all = left-same h (queued (registered q name sub tick)) (λ table key v is. record { within = is.within; fits = is.fits }) (λ table key. refl) all
+left-step h _ (opens batch e) l all = left-same h (queued (opened batch)) (λ table key v is. record { within = is.within; fits = is.fits }) (λ table key. refl) all
+left-step h _ (closes batch e) l all = left-same h (queued (closed batch)) (λ table key v is. record { within = is.within; fits = is.fits }) (λ table key. refl) all
+left-step h _ (traces n name trigger below is new) l all = left-same h (queued (traced n name trigger)) (λ table key v is. record { within = is.within; fits = is.fits }) (λ table key. refl) all
+
+all-left : (h : History) → Legal h → AllLeft h
+all-left _ start = λ table key. tt
+all-left _ (next {h = h} {mark = mark} l fine) = left-step h mark fine l (all-left h l)
+
+-- ---- the laws
+
+names-standing : (h : History) (who t table : ℕ) (key : List Val) (old new : Option (List Val)) → Legal h → Fine h (tabled (wrote (of_session who) t table key old new))
+    → at key (rows_standing who table h) ≡ old
+names-standing h _ _ _ _ _ _ l (writes who t table key old new mine free is) = ap (λ (r : RowsShown). (r.key who table key).standing) (same-rows h l) ∙ is.stands
+
+pub writes_name_what_stands : WritesNameWhatStands
+writes_name_what_stands p who t table key old new is =
+    let l : Legal (tabled (wrote (of_session who) t table key old new) ∷ p) = legal_place (tabled (wrote (of_session who) t table key old new) ∷ p) is in
+    names-standing p who t table key old new (legal-below_mark l) (fine_mark l)
+
+fits-written : (h : History) (whose : Whose) (t table : ℕ) (key : List Val) (old new : Option (List Val)) → Legal h → Fine h (tabled (wrote whose t table key old new))
+    → IfSome new (IsRowOf (columns_of table h) key)
+fits-written h _ _ _ _ _ _ l (writes who t table key old new mine free is) = new-fits h (all-left h l) who table key old new is
+
+pub written_rows_fit : WrittenRowsFit
+written_rows_fit p whose t table key old new is =
+    let l : Legal (tabled (wrote whose t table key old new) ∷ p) = legal_place (tabled (wrote whose t table key old new) ∷ p) is in
+    fits-written p whose t table key old new (legal-below_mark l) (fine_mark l)
+
+pub standing_rows_fit : StandingRowsFit
+standing_rows_fit p is table key row stands =
+    let l : Legal p = legal_place p is in
+    subst (λ o. IfSome o (IsRowOf (columns_of table p) key)) ((key_holds p l table key).newest ∙ stands)
+    (row-left p table key (newest_by (has_ended p) (kept p table key))
+    (if-newest (Left p table key) (has_ended p) (kept p table key) None (all-left p l table key) tt))

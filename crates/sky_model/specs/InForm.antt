@@ -1,0 +1,98 @@
+-- What a word of a kind can be worth, and so which statements a line can have: those in form.
+use Rattle.std.specs.Prelude.{◌≡◌, ℕ, ◌-◌, ◌^◌, ◌<◌, ◌≤◌, true, List, length, Option, Some, None, IsUtf8, All, FitsSigned, ⊤}
+use Rattle.std.specs.Int.{w64}
+use Rattle.sky_val.specs.declared.val.Val.{Val}
+use Rattle.sky_val.specs.declared.val.Val.TheVariants.{Null, Int, Text}
+use Rattle.sky_model.specs.declared.stmt.Change.{Change}
+use Rattle.sky_model.specs.declared.stmt.Change.TheVariants.{To, Add}
+use Rattle.sky_model.specs.declared.stmt.Extra.{Extra}
+use Rattle.sky_model.specs.declared.stmt.RowStmt.{RowStmt}
+use Rattle.sky_model.specs.declared.stmt.RowStmt.TheVariants as row
+use Rattle.sky_model.specs.declared.stmt.Stmt.{Stmt}
+use Rattle.sky_model.specs.declared.stmt.Stmt.TheVariants as stmt
+use Rattle.sky_model.specs.declared.line.Line.{Line}
+use Rattle.sky_model.specs.declared.line.Line.TheVariants.{Blank, Run}
+use Rattle.sky_model.specs.Kinds.{Kind, Name, Dotted, Number, OptText, Raw, Value, Column, Set, Ignore, Of, is_name, is_dotted, is_text_byte}
+
+-- ---- what a word of a kind can be worth
+
+-- a text that can stand in quotes: its bytes are characters, and none is a line feed or the zero byte
+pub record IsQuotable (text : List ℕ) : Type 0 where
+  pub characters : IsUtf8 text
+  pub free : All (λ b. is_text_byte b ≡ true) text
+
+-- none, or such a text
+abbrev pub IsOptText : Option (List ℕ) → Type 0
+IsOptText None = ⊤
+IsOptText (Some text) = IsQuotable text
+
+-- null, a number of 64 bits with its sign, or such a text
+abbrev pub IsValue : Val → Type 0
+IsValue Null = ⊤
+IsValue (Int n) = FitsSigned w64 n
+IsValue (Text text) = IsQuotable text
+
+-- such a value, or such a number more
+abbrev pub IsChange : Change → Type 0
+IsChange (To v) = IsValue v
+IsChange (Add n) = FitsSigned w64 n
+
+-- what a word of a kind can be worth
+abbrev pub IsOf : (k : Kind) → Of k → Type 0
+IsOf Name name = is_name name ≡ true
+IsOf Dotted name = is_dotted name ≡ true
+IsOf (Number most) n = n ≤ most
+IsOf OptText text = IsOptText text
+IsOf Raw text = IsQuotable text
+IsOf Value v = IsValue v
+IsOf Column column = is_name column.name ≡ true
+IsOf Set set = (is_name set.column ≡ true) × IsChange set.change
+IsOf Ignore names = (0 < length names) × All (λ name. is_name name ≡ true) names
+
+-- what one word or more can be worth
+abbrev pub AreOf : (k : Kind) → List (Of k) → Type 0
+AreOf k vs = (0 < length vs) × All (IsOf k) vs
+
+-- ---- the statements in form
+
+-- on sessions, transactions, tables and rows
+abbrev pub IsRowInForm : RowStmt → Type 0
+IsRowInForm (row.OpenDb name) = IsOf Name name
+IsRowInForm row.Close = ⊤
+IsRowInForm row.Cancel = ⊤
+IsRowInForm row.Begin = ⊤
+IsRowInForm row.BeginRepeatableRead = ⊤
+IsRowInForm row.Commit = ⊤
+IsRowInForm row.Rollback = ⊤
+IsRowInForm row.TxidCurrent = ⊤
+IsRowInForm row.TxidCurrentSnapshot = ⊤
+IsRowInForm (row.TxidVisibleInSnapshot txid snapshot) = IsOf (Number (2 ^ 64 - 1)) txid × IsOf Raw snapshot
+IsRowInForm (row.CreateTable table columns) = IsOf Dotted table × AreOf Column columns
+IsRowInForm (row.Insert table values) = IsOf Dotted table × AreOf Value values
+IsRowInForm (row.Update table key sets) = IsOf Dotted table × AreOf Value key × AreOf Set sets
+IsRowInForm (row.Delete table key) = IsOf Dotted table × AreOf Value key
+IsRowInForm (row.Get table key) = IsOf Dotted table × AreOf Value key
+IsRowInForm (row.Scan table) = IsOf Dotted table
+
+-- none, or four further texts of an event
+abbrev pub IsOptExtra : Option Extra → Type 0
+IsOptExtra None = ⊤
+IsOptExtra (Some extra) = IsOf OptText extra.ev_extra1 × IsOf OptText extra.ev_extra2 × IsOf OptText extra.ev_extra3 × IsOf OptText extra.ev_extra4
+
+-- any
+abbrev pub IsInForm : Stmt → Type 0
+IsInForm (stmt.Row stmt) = IsRowInForm stmt
+IsInForm (stmt.CreateQueue queue) = IsOf Name queue
+IsInForm (stmt.InsertEvent queue ev_type ev_data extra) = IsOf Name queue × IsOf OptText ev_type × IsOf OptText ev_data × IsOptExtra extra
+IsInForm (stmt.Ticker queue) = IsOf Name queue
+IsInForm (stmt.ForceTick queue) = IsOf Name queue
+IsInForm (stmt.RegisterConsumer queue consumer) = IsOf Name queue × IsOf Dotted consumer
+IsInForm (stmt.NextBatch queue consumer) = IsOf Name queue × IsOf Dotted consumer
+IsInForm (stmt.GetBatchEvents batch) = IsOf (Number (2 ^ 64 - 1)) batch
+IsInForm (stmt.FinishBatch batch) = IsOf (Number (2 ^ 64 - 1)) batch
+IsInForm (stmt.AddTrigger name table queue backup ignored) = IsOf Name name × IsOf Dotted table × IsOf Name queue × All (IsOf Name) ignored
+
+-- a line: it says nothing, or names a session by a name and has a statement in form
+abbrev pub IsLineInForm : Line → Type 0
+IsLineInForm Blank = ⊤
+IsLineInForm (Run session stmt) = IsOf Name session × IsInForm stmt

@@ -1,0 +1,58 @@
+-- The calls that change a database's row part, and what each does.
+use Rattle.std.specs.Prelude.{ℕ, Bool, [], ⊤}
+use Rattle.sky_model.specs.declared.stmt.RowStmt.{RowStmt}
+use Rattle.sky_model.specs.InForm.{IsRowInForm}
+use Rattle.sky_model.specs.History.{History}
+use Rattle.sky_model.specs.State.{RowPart, part_of}
+use Rattle.sky_model.specs.Reader.{PartReader, part_by_history}
+use Rattle.sky_model.specs.Gates.{by_gate}
+use Rattle.sky_model.specs.Rooms.{Room, room_gate}
+use Rattle.sky_model.specs.Settling.{Turn, marked, settling, with_settling}
+use Rattle.sky_model.specs.Calls.{row_turn}
+use Rattle.sky_model.specs.SessionMarks.{entry_place, entry, failing, taking, ending}
+use Rattle.sky_model.specs.Promises.{Part}
+
+pub data RowCall : Type 0 where
+  -- a session made a statement, and there was this room for writes
+  row_stepped : (room : Room) (who : ℕ) (stmt : RowStmt) → RowCall
+  -- something is to be done in a session's name, which may stand outside blocks alone, or in one too
+  row_entered : (who : ℕ) (outside : Bool) → RowCall
+  -- it failed
+  row_failed : (room : Room) (who : ℕ) → RowCall
+  -- those that may go on were run
+  row_settled : (room : Room) → RowCall
+  -- a session's transaction got its id
+  txid_taken : (who : ℕ) → RowCall
+  -- it ended with its only statement
+  single_ended : (who : ℕ) → RowCall
+  -- a session's block was rolled back, and nobody was run whom this lets go on
+  rolled_back : (who : ℕ) → RowCall
+
+-- its statement is in form
+abbrev pub IsRowCallInForm : RowCall → Type 0
+IsRowCallInForm (row_stepped room who stmt) = IsRowInForm stmt
+IsRowCallInForm (row_entered who outside) = ⊤
+IsRowCallInForm (row_failed room who) = ⊤
+IsRowCallInForm (row_settled room) = ⊤
+IsRowCallInForm (txid_taken who) = ⊤
+IsRowCallInForm (single_ended who) = ⊤
+IsRowCallInForm (rolled_back who) = ⊤
+
+-- what a call does at a place
+abbrev pub row_does : {P : Type 0} → PartReader P → P → RowCall → Turn
+row_does r p (row_stepped room who stmt) = row_turn (by_gate (room_gate room) r) (p, []) who stmt
+row_does r p (row_entered who outside) = entry (r.part p) who (entry_place outside)
+row_does r p (row_failed room who) = with_settling (by_gate (room_gate room) r) (p, []) (failing (r.part p) who)
+row_does r p (row_settled room) = settling (by_gate (room_gate room) r) (p, [])
+row_does r p (txid_taken who) = taking (r.part p) who
+row_does r p (single_ended who) = ending (r.part p) who
+row_does r p (rolled_back who) = failing (r.part p) who
+
+-- a row part, as its calls change it
+abbrev pub row_part : Part RowCall History RowPart Turn
+row_part = record {
+  start = [];
+  after = λ h call. marked h (row_does part_by_history h call).marks;
+  answers = λ h call. row_does part_by_history h call;
+  shows = part_of;
+}

@@ -1,0 +1,18 @@
+-- What is answered of a line is what the line says, and that is in form.
+use Rattle.std.proofs.Common.{rules, List, ℕ, Result, Ok, Err, IfOk}
+use Rattle.sky_model.specs.declared.line.Line.{Line}
+use Rattle.sky_model.specs.Grammar.{line_of}
+use Rattle.sky_model.specs.InForm.{IsLineInForm}
+use Rattle.sky_model.proofs.InFormLaw.{lines_are_in_form}
+use Rattle.sky_script.specs.declared.cause.LineCause.{LineCause}
+use Rattle.sky_script.specs.Reading.{IsAnswer}
+use Rattle.sky_script.proofs.parse.parse_line.Goals as goal
+
+answered : (line : List ℕ) (r : Result Line LineCause) → IsAnswer r (line_of line) → IfOk r (λ says. IsLineInForm says)
+answered line (Ok says) so = lines_are_in_form line says so
+answered line (Err cause) so = tt
+
+pub returns-in-Some-clause-in_form : goal.returns-in-Some-clause-in_form
+returns-in-Some-clause-in_form c =
+    let answer : IsAnswer c.run_line.result (line_of c.args.line.now) = search rules in
+    answered c.args.line.now c.run_line.result answer
