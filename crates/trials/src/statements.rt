@@ -1,0 +1,37 @@
+ghost use Rattle.std.specs.Prelude.{IfOk};
+ghost use Rattle.sky_model.specs.InForm.{IsInForm, IsLineInForm, IsRowInForm};
+
+use anyhow::bail;
+use sky_model::{Line, RowStmt, Stmt};
+use sky_script::parse_line;
+use std::alloc::Global;
+
+/// A script's line of the session `a` with this statement.
+pub fn line(alloc: Global, statement: &str) -> anyhow::Result<Line>
+    ensures { IfOk result IsLineInForm }
+{
+    let line = format!(in alloc; "a: {statement}")?;
+    Ok(parse_line(alloc, line.as_bytes())?)
+}
+
+/// The statement of a line.
+pub fn statement(line: &Line) -> anyhow::Result<&Stmt>
+    requires { IsLineInForm line.now }
+    ensures { IfOk result (λ stmt. IsInForm stmt.now) }
+{
+    match line {
+        Line::Run(_, stmt) => Ok(stmt),
+        Line::Blank => bail!("no statement"),
+    }
+}
+
+/// The same, where it is one on rows.
+pub fn row_statement(line: &Line) -> anyhow::Result<&RowStmt>
+    requires { IsLineInForm line.now }
+    ensures { IfOk result (λ stmt. IsRowInForm stmt.now) }
+{
+    match line {
+        Line::Run(_, Stmt::Row(stmt)) => Ok(stmt),
+        _ => bail!("no statement on rows"),
+    }
+}

@@ -1,0 +1,42 @@
+use crate::databases::Database;
+use crate::encoding::Encoding;
+use crate::runs::Runs;
+use crate::sessions::Sessions;
+use crate::words::first_word;
+use crate::{copies, streams};
+use anyhow::bail;
+use std::alloc::Global;
+
+/// The state of each table's trials.
+#[derive(Drop)]
+pub struct Trials {
+    encoding: Encoding,
+    sessions: Sessions,
+    database: Database,
+    runs: Runs,
+}
+
+impl Trials {
+    pub fn new(alloc: Global) -> Trials {
+        Trials {
+            encoding: Encoding::new(),
+            sessions: Sessions::new(alloc),
+            database: Database::new(alloc),
+            runs: Runs::new(alloc),
+        }
+    }
+
+    /// What a row of the table answers.
+    pub fn answer(&mut self, alloc: Global, table: &str, row: &str) -> anyhow::Result<String> {
+        let (command, rest) = first_word(row);
+        match table {
+            "copies.txt" => copies::answer(alloc, command, rest),
+            "encoding.txt" => self.encoding.answer(alloc, command, rest),
+            "streams.txt" => streams::answer(alloc, command, rest),
+            "sessions.txt" => self.sessions.answer(alloc, command, rest),
+            "databases.txt" => self.database.answer(alloc, command, rest),
+            "runs.txt" => self.runs.answer(alloc, command, rest),
+            _ => bail!("no trials of this name"),
+        }
+    }
+}
