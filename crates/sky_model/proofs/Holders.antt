@@ -15,7 +15,7 @@ use Rattle.sky_model.specs.Sessions.{own_txid}
 use Rattle.sky_model.specs.Rows.{Write, writes as writes_of, has_written}
 use Rattle.sky_model.specs.Locks.{holder}
 use Rattle.sky_model.specs.LawsOfLocks.{HasWritten}
-use Rattle.sky_model.proofs.Legal.{Fine, begins, ends, begins_block, fails_block, ends_block, repeats_block, looks, makes_table, writes, begins_waiting, ends_waiting, makes, raises, puts, ticks_next, registers, opens, closes, traces, Legal, start, next}
+use Rattle.sky_model.proofs.Legal.{Fine, begins, ends, begins_block, fails_block, ends_block, connects, disconnects, repeats_block, looks, makes_table, writes, begins_waiting, ends_waiting, makes, raises, puts, ticks_next, registers, opens, closes, traces, Legal, start, next}
 use Rattle.sky_model.proofs.Snapshots.{sound}
 use Rattle.sky_model.proofs.RowKeys.{begun}
 
@@ -100,6 +100,8 @@ holder-step h _ (writes v t n at_key old new mine free stands) l table key who i
 holder-step h _ (begins_block v x) l table key who ih e = let w : HasWritten h table key who = ih e in record { txid = w.txid; runs = w.runs; wrote = w.wrote }
 holder-step h _ (fails_block v x f) l table key who ih e = let w : HasWritten h table key who = ih e in record { txid = w.txid; runs = w.runs; wrote = w.wrote }
 holder-step h _ (ends_block v x) l table key who ih e = let w : HasWritten h table key who = ih e in record { txid = w.txid; runs = w.runs; wrote = w.wrote }
+holder-step h _ (connects v x) l table key who ih e = let w : HasWritten h table key who = ih e in record { txid = w.txid; runs = w.runs; wrote = w.wrote }
+holder-step h _ (disconnects v) l table key who ih e = let w : HasWritten h table key who = ih e in record { txid = w.txid; runs = w.runs; wrote = w.wrote }
 holder-step h _ (repeats_block v) l table key who ih e = let w : HasWritten h table key who = ih e in record { txid = w.txid; runs = w.runs; wrote = w.wrote }
 holder-step h _ (looks v) l table key who ih e = let w : HasWritten h table key who = ih e in record { txid = w.txid; runs = w.runs; wrote = w.wrote }
 holder-step h _ (makes_table name columns x) l table key who ih e = let w : HasWritten h table key who = ih e in record { txid = w.txid; runs = w.runs; wrote = w.wrote }
@@ -166,6 +168,8 @@ held-step h _ (writes v t n at_key old new mine free stands) l table key ih =
 held-step h _ (begins_block v x) l table key ih = ih
 held-step h _ (fails_block v x f) l table key ih = ih
 held-step h _ (ends_block v x) l table key ih = ih
+held-step h _ (connects v x) l table key ih = ih
+held-step h _ (disconnects v) l table key ih = ih
 held-step h _ (repeats_block v) l table key ih = ih
 held-step h _ (looks v) l table key ih = ih
 held-step h _ (makes_table name columns x) l table key ih = ih
@@ -231,6 +235,8 @@ owner-step h _ (writes v t n at_key old new mine free stands) table key ih = λ 
 owner-step h _ (begins_block v x) table key ih = λ u unended wrote_it. let o : Owner h u = ih u unended wrote_it in record { who = o.who; owns = o.owns }
 owner-step h _ (fails_block v x f) table key ih = λ u unended wrote_it. let o : Owner h u = ih u unended wrote_it in record { who = o.who; owns = o.owns }
 owner-step h _ (ends_block v x) table key ih = λ u unended wrote_it. let o : Owner h u = ih u unended wrote_it in record { who = o.who; owns = o.owns }
+owner-step h _ (connects v x) table key ih = λ u unended wrote_it. let o : Owner h u = ih u unended wrote_it in record { who = o.who; owns = o.owns }
+owner-step h _ (disconnects v) table key ih = λ u unended wrote_it. let o : Owner h u = ih u unended wrote_it in record { who = o.who; owns = o.owns }
 owner-step h _ (repeats_block v) table key ih = λ u unended wrote_it. let o : Owner h u = ih u unended wrote_it in record { who = o.who; owns = o.owns }
 owner-step h _ (looks v) table key ih = λ u unended wrote_it. let o : Owner h u = ih u unended wrote_it in record { who = o.who; owns = o.owns }
 owner-step h _ (makes_table name columns x) table key ih = λ u unended wrote_it. let o : Owner h u = ih u unended wrote_it in record { who = o.who; owns = o.owns }

@@ -15,9 +15,9 @@ use Rattle.sky_model.specs.declared.reply.Limit.TheVariants.{Tables}
 use Rattle.sky_model.specs.declared.reply.Refusal.TheVariants.{AlreadyOpen, BadRow, BadSnapshot, Canceled, Deadlock, Duplicate, KeyChange, NoTable, Serialize, TableExists, TooMany, TxidsSpent}
 use Rattle.sky_model.specs.declared.stmt.Attempt.{Attempt}
 use Rattle.sky_model.specs.declared.stmt.Attempt.TheVariants.{Insertion, Changes, Deletion}
-use Rattle.sky_model.specs.History.{of_session, began, tabled, wrote, waited, History}
+use Rattle.sky_model.specs.History.{of_session, began, disconnected, tabled, wrote, waited, History}
 use Rattle.sky_model.specs.Transactions.{next_txid}
-use Rattle.sky_model.specs.Sessions.{Block, outside, inside, failed, block, own_txid}
+use Rattle.sky_model.specs.Sessions.{Block, outside, inside, failed, has_open, block, own_txid}
 use Rattle.sky_model.specs.Rows.{table_names, columns_of}
 use Rattle.sky_model.specs.Locks.{holder, waiting}
 use Rattle.sky_model.specs.State.{part_of}
@@ -26,13 +26,13 @@ use Rattle.sky_model.specs.Outcome.{Outcome, Checked, ◌>>=◌, does_marks}
 use Rattle.sky_model.specs.OwnTransaction.{own_or_next, begin_of, commit_of}
 use Rattle.sky_model.specs.StepLocks.{ring, once_free}
 use Rattle.sky_model.specs.StepRows.{schema_refusal, create_table, bad_values, bad_sets, is_key_change, writes_key, changes, attempts, insert, update, delete, row_or_none, get}
-use Rattle.sky_model.specs.StepSession.{begin, begin_repeatable_read, leaves, commit, rollback, close, cancel}
+use Rattle.sky_model.specs.StepSession.{open_db, begin, begin_repeatable_read, leaves, commit, rollback, close, cancel}
 use Rattle.sky_model.specs.Calls.{row_form}
 use Rattle.sky_model.specs.Allowed.{where_of_row, allowed}
 use Rattle.sky_model.specs.LawsOfWrites.{IsRowOf}
 use Rattle.sky_model.specs.declared.stmt.Where.TheVariants.{WhenReading}
 use Rattle.sky_names.proofs.PlaceLemmas.{place_of_within}
-use Rattle.sky_model.proofs.Legal.{MayWait, Legal, begins, ends, begins_block, repeats_block, ends_block, makes_table, writes, begins_waiting, ends_waiting, Chain, done, more}
+use Rattle.sky_model.proofs.Legal.{MayWait, Legal, begins, ends, begins_block, repeats_block, ends_block, connects, disconnects, makes_table, writes, begins_waiting, ends_waiting, Chain, done, more}
 use Rattle.sky_model.proofs.SetsFit.{sets-fit, none-fits, changes-fit}
 use Rattle.sky_model.proofs.SeenRows.{seen-stands, stands-by, stands-begun}
 use Rattle.sky_model.proofs.Good.{MayStand, Good, same-session, good_refused, good_test, good_test_then, good_found, good_refused_by, good_checked, good_commits}
@@ -56,10 +56,19 @@ good_rollback h who outside = done
 good_rollback h who inside = good_leaves h who false (own_txid who h) refl
 good_rollback h who failed = good_leaves h who false (own_txid who h) refl
 
+good_open_db : (h : History) (who : ℕ) (b : Bool) → has_open who h ≡ b → Good h who (open_db who b)
+good_open_db h who true is = good_refused h who AlreadyOpen
+good_open_db h who false is = more (connects who is) done
+
+good_closes : (h : History) (who : ℕ) (o : Option ℕ) → own_txid who h ≡ o → Chain h (leaves false who o ++ disconnected who ∷ [])
+good_closes h who None none = more (ends_block who none) (more (disconnects who) done)
+good_closes h who (Some t) mine =
+    more (ends who t false mine) (more (ends_block who (ap (λ b. if b then None else own_txid who h) (same-session who))) (more (disconnects who) done))
+
 good_close : (h : History) (who : ℕ) (b : Block) → Good h who (close who (own_txid who h) b)
-good_close h who outside = done
-good_close h who inside = good_leaves h who false (own_txid who h) refl
-good_close h who failed = good_leaves h who false (own_txid who h) refl
+good_close h who outside = more (disconnects who) done
+good_close h who inside = good_closes h who (own_txid who h) refl
+good_close h who failed = good_closes h who (own_txid who h) refl
 
 good_cancel : (h : History) (who : ℕ) (waits : Bool) → Good h who (cancel who (own_txid who h) (block who h) waits)
 good_cancel h who false = done
@@ -81,7 +90,7 @@ good_txid_current h who (Some t) mine = good_commits h who t (block who h) mine
 quiet-reading : (h : History) (who : ℕ) → MayStand h who WhenReading → is_waiting who (waiting h) ≡ false
 quiet-reading h who may = of (is_waiting who (waiting h)) may
   where
-    of : (b : Bool) → is_ok (allowed b (block who h) WhenReading) ≡ true → b ≡ false
+    of : (b : Bool) → is_ok (allowed b (has_open who h) (block who h) WhenReading) ≡ true → b ≡ false
     of true e = absurd (cc)
     of false e = refl
 
@@ -199,7 +208,7 @@ good_create_table h who name columns =
 
 -- a statement that its session may make there
 pub good_row_form : (h : History) → Legal h → (who : ℕ) (stmt : RowStmt) → MayStand h who (where_of_row stmt) → Good h who (row_form (part_of h) (rows_in h) who stmt)
-good_row_form h l who (OpenDb name) may = good_refused h who AlreadyOpen
+good_row_form h l who (OpenDb name) may = good_open_db h who (has_open who h) refl
 good_row_form h l who Close may = good_close h who (block who h)
 good_row_form h l who Cancel may = good_cancel h who (is_waiting who (waiting h))
 good_row_form h l who Begin may = good_begin h who (block who h) refl

@@ -16,7 +16,7 @@ use Rattle.sky_model.specs.Telling.{write_in, events_in, told_event, event_marks
 use Rattle.sky_model.specs.Reader.{part_by_history}
 use Rattle.sky_model.specs.Settling.{behind_marks}
 use Rattle.sky_model.specs.Settling.{marked}
-use Rattle.sky_model.proofs.Legal.{Replaces, MayWait, IsAmong, IsQueue, Fine, begins, ends, begins_block, fails_block, ends_block, repeats_block, looks, makes_table, writes, begins_waiting, ends_waiting, raises, puts, traces, Chain, done, more, Legal, next}
+use Rattle.sky_model.proofs.Legal.{Replaces, MayWait, IsAmong, IsQueue, Fine, begins, ends, begins_block, fails_block, ends_block, connects, disconnects, repeats_block, looks, makes_table, writes, begins_waiting, ends_waiting, raises, puts, traces, Chain, done, more, Legal, next}
 use Rattle.sky_model.proofs.QueueNumbers.{among-before}
 use Rattle.sky_model.proofs.Marks.{part_of-mark, database_of-mark, database_of-marks}
 use Rattle.sky_model.proofs.Selecting.{events_below-next}
@@ -146,6 +146,8 @@ fine-alike h g same _ marks rows (ends who t committed mine) = ends who t commit
 fine-alike h g same _ marks rows (begins_block who is) = begins_block who (block-alike h g same who _ is)
 fine-alike h g same _ marks rows (fails_block who is none) = fails_block who (block-alike h g same who _ is) (own-alike h g same who _ none)
 fine-alike h g same _ marks rows (ends_block who none) = ends_block who (own-alike h g same who _ none)
+fine-alike h g same _ marks rows (connects who closed) = connects who (sym (ap (λ (d : RowPart). (d.session who).is_open) same) ∙ closed)
+fine-alike h g same _ marks rows (disconnects who) = disconnects who
 fine-alike h g same _ marks rows (repeats_block who) = repeats_block who
 fine-alike h g same _ marks rows (looks who) = looks who
 fine-alike h g same _ marks rows (makes_table name columns new) = makes_table name columns (sym (ap (λ (d : RowPart). place_of name d.tables) same) ∙ new)

@@ -3,6 +3,7 @@ mod WorkedRowLines
 mod WorkedForms
 mod WorkedMoments
 pub mod WorkedScripts
+mod WorkedOpening
 mod WorkedRows
 mod WorkedBatches
 pub mod FirstWords
@@ -29,7 +30,7 @@ pub mod RowOutcomes
 pub mod LawfulTelling
 pub mod MadeAt
 pub mod Turns
-pub mod Unopened
+pub mod PastHistories
 pub mod Lawful
 pub mod Histories
 pub mod Promised

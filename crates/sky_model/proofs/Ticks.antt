@@ -6,7 +6,7 @@ use Rattle.sky_model.specs.Transactions.{snapshot}
 use Rattle.sky_model.specs.Queues.{queues_made, Tick, ticks, tick, newest_tick, at_tick}
 use Rattle.sky_model.specs.StepQueue.{id_of}
 use Rattle.sky_model.specs.Selection.{snapshot_at}
-use Rattle.sky_model.proofs.Legal.{begins, ends, begins_block, fails_block, ends_block, repeats_block, looks, makes_table, writes, begins_waiting, ends_waiting, makes, raises, puts, ticks_next, registers, opens, closes, traces, Legal, start, next}
+use Rattle.sky_model.proofs.Legal.{begins, ends, begins_block, fails_block, ends_block, connects, disconnects, repeats_block, looks, makes_table, writes, begins_waiting, ends_waiting, makes, raises, puts, ticks_next, registers, opens, closes, traces, Legal, start, next}
 use Rattle.sky_model.proofs.QueueNumbers.{queue-below}
 
 -- a queue that isn't made yet has no ticks
@@ -17,6 +17,8 @@ ticks_beyond _ (next {h = h} l (ends who t committed mine)) q le = ticks_beyond 
 ticks_beyond _ (next {h = h} l (begins_block who e)) q le = ticks_beyond h l q le
 ticks_beyond _ (next {h = h} l (fails_block who e f)) q le = ticks_beyond h l q le
 ticks_beyond _ (next {h = h} l (ends_block who e)) q le = ticks_beyond h l q le
+ticks_beyond _ (next {h = h} l (connects who e)) q le = ticks_beyond h l q le
+ticks_beyond _ (next {h = h} l (disconnects who)) q le = ticks_beyond h l q le
 ticks_beyond _ (next {h = h} l (repeats_block who)) q le = ticks_beyond h l q le
 ticks_beyond _ (next {h = h} l (looks who)) q le = ticks_beyond h l q le
 ticks_beyond _ (next {h = h} l (makes_table name columns e)) q le = ticks_beyond h l q le
@@ -78,6 +80,8 @@ none_above _ (next {h = h} l (ends who t committed mine)) q = none_above h l q
 none_above _ (next {h = h} l (begins_block who e)) q = none_above h l q
 none_above _ (next {h = h} l (fails_block who e f)) q = none_above h l q
 none_above _ (next {h = h} l (ends_block who e)) q = none_above h l q
+none_above _ (next {h = h} l (connects who e)) q = none_above h l q
+none_above _ (next {h = h} l (disconnects who)) q = none_above h l q
 none_above _ (next {h = h} l (repeats_block who)) q = none_above h l q
 none_above _ (next {h = h} l (looks who)) q = none_above h l q
 none_above _ (next {h = h} l (makes_table name columns e)) q = none_above h l q
@@ -108,6 +112,8 @@ snapshot-at_tick _ (next {h = h} l (ends who t committed mine)) q id = snapshot-
 snapshot-at_tick _ (next {h = h} l (begins_block who e)) q id = snapshot-at_tick h l q id
 snapshot-at_tick _ (next {h = h} l (fails_block who e f)) q id = snapshot-at_tick h l q id
 snapshot-at_tick _ (next {h = h} l (ends_block who e)) q id = snapshot-at_tick h l q id
+snapshot-at_tick _ (next {h = h} l (connects who e)) q id = snapshot-at_tick h l q id
+snapshot-at_tick _ (next {h = h} l (disconnects who)) q id = snapshot-at_tick h l q id
 snapshot-at_tick _ (next {h = h} l (repeats_block who)) q id = snapshot-at_tick h l q id
 snapshot-at_tick _ (next {h = h} l (looks who)) q id = snapshot-at_tick h l q id
 snapshot-at_tick _ (next {h = h} l (makes_table name columns e)) q id = snapshot-at_tick h l q id
@@ -147,6 +153,8 @@ legal-at_tick _ (next {h = h} l (ends who t committed mine)) q id = legal-at_tic
 legal-at_tick _ (next {h = h} l (begins_block who e)) q id = legal-at_tick h l q id
 legal-at_tick _ (next {h = h} l (fails_block who e f)) q id = legal-at_tick h l q id
 legal-at_tick _ (next {h = h} l (ends_block who e)) q id = legal-at_tick h l q id
+legal-at_tick _ (next {h = h} l (connects who e)) q id = legal-at_tick h l q id
+legal-at_tick _ (next {h = h} l (disconnects who)) q id = legal-at_tick h l q id
 legal-at_tick _ (next {h = h} l (repeats_block who)) q id = legal-at_tick h l q id
 legal-at_tick _ (next {h = h} l (looks who)) q id = legal-at_tick h l q id
 legal-at_tick _ (next {h = h} l (makes_table name columns e)) q id = legal-at_tick h l q id

@@ -6,14 +6,14 @@ use Rattle.sky_val.specs.declared.column.Column.{Column}
 use Rattle.sky_val.specs.Waits.{Waiting, is_waiting, without}
 use Rattle.sky_val.proofs.WaitLemmas.{is_waiting-without}
 use Rattle.sky_model.specs.declared.stmt.Attempt.TheVariants.{Deletion}
-use Rattle.sky_model.specs.History.{Mark, of_session, began, ended, block_begun, repeats, looked, block_failed, block_ended, tabled, table_made, wrote, waits, waited, queued, made, raised, put, ticked, registered, opened, closed, traced, History}
+use Rattle.sky_model.specs.History.{Mark, of_session, began, ended, block_begun, repeats, looked, block_failed, block_ended, connected, disconnected, tabled, table_made, wrote, waits, waited, queued, made, raised, put, ticked, registered, opened, closed, traced, History}
 use Rattle.sky_model.specs.Transactions.{next_txid}
 use Rattle.sky_model.specs.Rows.{table_names, columns_of}
 use Rattle.sky_model.specs.Locks.{waiting, attempt}
 use Rattle.sky_model.specs.State.{part_of}
 use Rattle.sky_model.specs.Settling.{ready}
 use Rattle.sky_model.proofs.Good.{same-session}
-use Rattle.sky_model.proofs.Legal.{AttemptFits, MayWait, Fine, begins, ends, begins_block, fails_block, ends_block, repeats_block, looks, makes_table, writes, begins_waiting, ends_waiting, makes, raises, puts, ticks_next, registers, opens, closes, traces, Legal, start, next}
+use Rattle.sky_model.proofs.Legal.{AttemptFits, MayWait, Fine, begins, ends, begins_block, fails_block, ends_block, connects, disconnects, repeats_block, looks, makes_table, writes, begins_waiting, ends_waiting, makes, raises, puts, ticks_next, registers, opens, closes, traces, Legal, start, next}
 
 -- ---- each entry of a list
 
@@ -98,6 +98,8 @@ fit-step h _ (ends who t c e) all = each-map (EntryFits h) (EntryFits (ended (of
 fit-step h _ (begins_block who e) all = each-map (EntryFits h) (EntryFits (block_begun who ∷ h)) (waiting h) (λ w is. record { within = is.within; fits = is.fits }) all
 fit-step h _ (fails_block who e f) all = each-map (EntryFits h) (EntryFits (block_failed who ∷ h)) (waiting h) (λ w is. record { within = is.within; fits = is.fits }) all
 fit-step h _ (ends_block who e) all = each-map (EntryFits h) (EntryFits (block_ended who ∷ h)) (waiting h) (λ w is. record { within = is.within; fits = is.fits }) all
+fit-step h _ (connects who e) all = each-map (EntryFits h) (EntryFits (connected who ∷ h)) (waiting h) (λ w is. record { within = is.within; fits = is.fits }) all
+fit-step h _ (disconnects who) all = each-map (EntryFits h) (EntryFits (disconnected who ∷ h)) (waiting h) (λ w is. record { within = is.within; fits = is.fits }) all
 fit-step h _ (repeats_block who) all = each-map (EntryFits h) (EntryFits (repeats who ∷ h)) (waiting h) (λ w is. record { within = is.within; fits = is.fits }) all
 fit-step h _ (looks who) all = each-map (EntryFits h) (EntryFits (looked who ∷ h)) (waiting h) (λ w is. record { within = is.within; fits = is.fits }) all
 fit-step h _ (writes who t n at_key old new e free stands) all = each-map (EntryFits h) (EntryFits (tabled (wrote (of_session who) t n at_key old new) ∷ h)) (waiting h) (λ w is. record { within = is.within; fits = is.fits }) all
