@@ -1,6 +1,6 @@
 use Rattle.std.proofs.Common.{◌≡◌, drop}
 use Rattle.sky_model.specs.StepRows.{with_sets}
-use Rattle.sky_session.proofs.values.with_sets.Given as goal
+use Rattle.sky_fits.proofs.values.with_sets.Given as goal
 
 -- what the changes from here on make of the row so far is what all make of the row
 abbrev pub invariant-loop-set : goal.invariant-loop-set

@@ -1,9 +1,9 @@
 -- A value that its column takes is passed, and so is a column that isn't part of the key.
 use Rattle.std.proofs.Common.{◌≡◌, ◌∙◌, ◌+◌, sym, ap, length, drop, get_or}
 use Rattle.sky_val.specs.Schemas.{key_columns}
-use Rattle.sky_session.proofs.ValueLemmas.{takes, key_columns-here, key_columns-later, one_left, key-pass}
-use Rattle.sky_session.proofs.values.key_fits.Goals as goal
-use Rattle.sky_session.proofs.values.key_fits.Goals.{then-column+in_ok-fits_column, else-column}
+use Rattle.sky_fits.proofs.ValueLemmas.{takes, key_columns-here, key_columns-later, one_left, key-pass}
+use Rattle.sky_fits.proofs.values.key_fits.Goals as goal
+use Rattle.sky_fits.proofs.values.key_fits.Goals.{then-column+in_ok-fits_column, else-column}
 
 pub loop-column-preserved : goal.loop-column-preserved
 loop-column-preserved c =

@@ -11,8 +11,8 @@ use Rattle.sky_model.specs.StepRows.{bad_sets}
 use Rattle.sky_model.specs.declared.stop.Stop.{Stop}
 use Rattle.sky_model.specs.declared.stop.Stop.TheVariants.{Refused}
 use Rattle.sky_model.specs.Stops.{StopsAs}
-use Rattle.sky_session.proofs.SetLemmas.{names_onto, bad_sets-at, bad_sets-pass, twice_bad, kind_bad, not_bad, named_before}
-use Rattle.sky_session.proofs.values.sets_fit.Goals as goal
+use Rattle.sky_fits.proofs.SetLemmas.{names_onto, bad_sets-at, bad_sets-pass, twice_bad, kind_bad, not_bad, named_before}
+use Rattle.sky_fits.proofs.values.sets_fit.Goals as goal
 
 stopped : (columns : List Column) (sets : List Set) (stop : Stop) (fault : bad.BadRow) → bad_sets columns [] sets ≡ Some fault → stop ≡ Refused (BadRow fault) → StopsAs stop (refused_by (option_map BadRow (bad_sets columns [] sets)))
 stopped columns sets stop fault e is = subst (λ s. StopsAs s (refused_by (option_map BadRow (bad_sets columns [] sets)))) (sym is) (ap (λ o. refused_by (option_map BadRow o)) e)

@@ -34,7 +34,7 @@ fn fits_column(alloc: Global, column: &Column, value: &Val) -> Result<(), Stop>
 }
 
 /// Refuses a row that the columns don't take.
-pub(crate) fn row_fits(alloc: Global, columns: &[Column], row: &Row) -> Result<(), Stop>
+pub fn row_fits(alloc: Global, columns: &[Column], row: &Row) -> Result<(), Stop>
     ensures ok { OnOk result (spec.fits columns.now row.now ≡ Ok tt) }
     ensures err { IfErr result (λ stop. StopsAs stop (spec.fits columns.now row.now)) }
 {
@@ -56,7 +56,7 @@ fn key_len(columns: &[Column]) -> usize
 }
 
 /// Refuses a key that the key columns don't take.
-pub(crate) fn key_fits(alloc: Global, columns: &[Column], key: &Key) -> Result<(), Stop>
+pub fn key_fits(alloc: Global, columns: &[Column], key: &Key) -> Result<(), Stop>
     ensures ok { OnOk result (spec.fits (key_columns columns.now) key.now ≡ Ok tt) }
     ensures err { IfErr result (λ stop. StopsAs stop (spec.fits (key_columns columns.now) key.now)) }
 {
@@ -100,7 +100,7 @@ fn changes(sets: &[Set], column: &Text) -> bool
 
 /// Refuses the changes by the first one that is of no column, of a column that an earlier one changes,
 /// or such that its column can't change so.
-pub(crate) fn sets_fit(alloc: Global, columns: &[Column], sets: &[Set]) -> Result<(), Stop>
+pub fn sets_fit(alloc: Global, columns: &[Column], sets: &[Set]) -> Result<(), Stop>
     ensures ok { OnOk result (spec.bad_sets columns.now [] sets.now ≡ None) }
     ensures err { IfErr result (λ stop. StopsAs stop (refused_by (option_map Refusal.BadRow (spec.bad_sets columns.now [] sets.now)))) }
 {
@@ -136,7 +136,7 @@ fn key_change<'a>(columns: &[Column], sets: &'a [Set]) -> Option<&'a Set>
 }
 
 /// Refuses the first change of a key column.
-pub(crate) fn key_stays(alloc: Global, columns: &[Column], sets: &[Set]) -> Result<(), Stop>
+pub fn key_stays(alloc: Global, columns: &[Column], sets: &[Set]) -> Result<(), Stop>
     ensures ok { OnOk result (spec.key_stays columns.now sets.now ≡ Ok tt) }
     ensures err { IfErr result (λ stop. StopsAs stop (spec.key_stays columns.now sets.now)) }
 {
@@ -191,7 +191,7 @@ fn change_row(alloc: Global, columns: &[Column], set: &Set, row: &mut Row) -> Re
 }
 
 /// The row after the changes, the first one first.
-pub(crate) fn with_sets(
+pub fn with_sets(
     alloc: Global,
     columns: &[Column],
     sets: &[Set],
@@ -237,7 +237,7 @@ fn schema_refusal(
 }
 
 /// The schema of the columns of a new table.
-pub(crate) fn new_schema(alloc: Global, columns: &Columns) -> Result<Schema, Stop>
+pub fn new_schema(alloc: Global, columns: &Columns) -> Result<Schema, Stop>
     requires { AreNamed columns.now }
     ensures schema { IfOk result (λ schema. schema ≡ columns.now) }
     ensures ok { OnOk result (refused_by (option_map (spec.schema_refusal columns.now) (schema_fault columns.now)) ≡ Ok tt) }

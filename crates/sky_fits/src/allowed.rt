@@ -1,8 +1,8 @@
 ghost use Rattle.std.specs.Prelude.{◌≡◌, Result, Ok, Err, true, IfErr, OnOk};
 ghost use Rattle.sky_model.specs.Allowed as spec;
-ghost use Rattle.sky_session.specs.Seen.{seen_block};
+ghost use Rattle.sky_fits.specs.Blocks.{seen_block};
 
-use crate::block::Block;
+use crate::standing::{Block, Standing};
 use sky_model::{Refusal, RowStmt, Where};
 
 /// Where a statement may stand.
@@ -26,15 +26,19 @@ pub fn where_of(stmt: &RowStmt) -> Where
     }
 }
 
-/// Refuses a statement of a session that waits, or that may not stand in the session's block.
-pub fn allow(waits: bool, block: Block, place: Where) -> Result<(), Refusal>
-    ensures ok { OnOk result (spec.allowed waits (seen_block block) place ≡ Ok tt) }
-    ensures err { IfErr result (λ refusal. spec.allowed waits (seen_block block) place ≡ Err refusal) }
+/// Refuses a statement of a session that waits, or hasn't the database open, or one that may not stand in the session's
+/// block.
+pub fn allow(waits: bool, standing: Standing, place: Where) -> Result<(), Refusal>
+    ensures ok { OnOk result (spec.allowed waits standing.is_open (seen_block standing.block) place ≡ Ok tt) }
+    ensures err { IfErr result (λ refusal. spec.allowed waits standing.is_open (seen_block standing.block) place ≡ Err refusal) }
 {
     if waits && place != Where::Always {
         return Err(Refusal::Busy);
     }
-    match (block, place) {
+    if !standing.is_open && !matches!(place, Where::Always | Where::Anywhere) {
+        return Err(Refusal::NotOpen);
+    }
+    match (standing.block, place) {
         (Block::Inside, Where::WhenOutside) => Err(Refusal::InTransaction),
         (Block::Failed, Where::WhenSound | Where::WhenReading | Where::WhenOutside) => {
             Err(Refusal::Aborted)

@@ -6,8 +6,8 @@ use Rattle.std.proofs.lemmas.Option.{slice_get_past, slice_get-get_or}
 use Rattle.sky_val.specs.declared.val.Val.{Val}
 use Rattle.sky_model.specs.declared.reply.Refusal.TheVariants.{OutOfRange}
 use Rattle.sky_model.specs.Outcome.{found_or}
-use Rattle.sky_session.proofs.SetLemmas.{with_set-nowhere, with_set-place, changed_in}
-use Rattle.sky_session.proofs.values.change_row.Goals as goal
+use Rattle.sky_fits.proofs.SetLemmas.{with_set-nowhere, with_set-place, changed_in}
+use Rattle.sky_fits.proofs.values.change_row.Goals as goal
 
 -- what was read at a place stands there
 there : (items row : List Val) (place : ℕ) (v : Val) → items ≡ row → true ≡ nat_lt place (length items) → v ≡ get_or items place v → slice_get row place ≡ Some v

@@ -1,7 +1,7 @@
 use Rattle.std.proofs.Common.{◌≡◌}
 use Rattle.sky_model.specs.StepRows.{fits}
-use Rattle.sky_session.proofs.ValueLemmas.{takes}
-use Rattle.sky_session.proofs.values.row_fits.Given as goal
+use Rattle.sky_fits.proofs.ValueLemmas.{takes}
+use Rattle.sky_fits.proofs.values.row_fits.Given as goal
 
 -- what is refused from here on is what is refused of the row
 abbrev pub invariant-loop-column : goal.invariant-loop-column
