@@ -48,7 +48,7 @@ use Rattle.sky_session.specs.Effects.{effects_of}
 use Rattle.sky_session.specs.declared.effect.Effect.{Effect}
 use Rattle.sky_session.specs.declared.effect.Effect.TheVariants.{Wrote, Committed, Aborted}
 use Rattle.sky_model.specs.SessionMarks.{look_of, single_end, failure, Enters, entry, entry_place}
-use Rattle.sky_session.specs.Views.{RowDbView}
+use Rattle.sky_session.specs.Views.{RowStateView}
 use Rattle.sky_session.specs.Seen.{seen}
 use Rattle.pgq_db.specs.declared.batch.Batch.{Batch}
 use Rattle.pgq_db.specs.Views.{QueueView, DbView}
@@ -363,7 +363,7 @@ undone-as v now more t same updates =
     ∙ ap (λ (w : DbView). record (seen_database w) { undone = λ u. u == t || (seen_database w).undone u }) same
 
 -- a database whose row part alone has changed
-pub part-as : (v now : DbView) (rows : RowDbView) (part : RowPart) → v ≡ now → seen rows ≡ part → seen_database (record v { rows = rows }) ≡ record (seen_database now) { part = part }
+pub part-as : (v now : DbView) (rows : RowStateView) (part : RowPart) → v ≡ now → seen rows ≡ part → seen_database (record v { rows = rows }) ≡ record (seen_database now) { part = part }
 part-as v now rows part same is = (λ i. record (seen_database v) { part = is i }) ∙ ap (λ (w : DbView). record (seen_database w) { part = part }) same
 
 -- marks of rows change the row part, and which transactions were rolled back

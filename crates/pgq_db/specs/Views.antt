@@ -2,7 +2,7 @@
 use Rattle.std.specs.Prelude.{ℕ, List}
 use Rattle.sky_val.specs.declared.column.Column.{Column}
 use Rattle.sky_val.specs.declared.event.Event.{Event}
-use Rattle.sky_session.specs.Views.{RowDbView}
+use Rattle.sky_session.specs.Views.{RowStateView}
 use Rattle.pgq_db.specs.declared.batch.Batch.{Batch}
 use Rattle.sky_model.specs.Queues.{Tick}
 use Rattle.sky_model.specs.Triggers.{TableTrigger}
@@ -27,7 +27,7 @@ pub record TracedView : Type 0 where
   pub triggers : List TableTrigger
 
 pub record DbView : Type 0 where
-  pub rows : RowDbView
+  pub rows : RowStateView
   pub last_batch_id : ℕ
   pub last_sub_id : ℕ
   pub names : List (List ℕ)
