@@ -3,6 +3,3 @@ pub mod KindLemmas
 pub mod ReadingLemmas
 pub mod ListLemmas
 pub mod TextLemmas
-pub mod FeedLemmas
-pub mod GrowsLemmas
-pub mod ReaderLemmas

@@ -1,19 +1,17 @@
-//! A script's lines, from bytes.
+//! What a line of a script says.
 //!
-//! `LineReader` takes lines from a source. `parse_line` answers exactly what the grammar of `sky_model`
-//! says of a line: a line is read word by word, with no list of its words, and each statement form is a
-//! function over what is left of it. Memory is taken for lines and for a statement's texts. Nothing here
-//! knows what a statement does, or how its answers are printed.
+//! `parse_line` answers exactly what the grammar of `sky_model` says of a line: a line is read word by
+//! word, with no list of its words, and each statement form is a function over what is left of it.
+//! Memory is taken for a statement's texts. Nothing here knows what a statement does, where lines come
+//! from, or how they are answered.
 #![tactic(auto)]
 
-mod buffer;
 mod cause;
 mod forms;
 mod kinds;
 mod lists;
 mod parse;
 mod queue_forms;
-mod reader;
 mod row_forms;
 mod row_words;
 mod session_forms;
@@ -22,4 +20,3 @@ mod words;
 
 pub use cause::LineCause;
 pub use parse::parse_line;
-pub use reader::{LineFault, LineReader};

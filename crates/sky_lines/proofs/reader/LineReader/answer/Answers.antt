@@ -1,6 +1,6 @@
 use Rattle.std.proofs.Common.{arith}
-use Rattle.sky_script.proofs.ReaderLemmas.{StartsTooLong-feeds, EndsTooLate-feeds}
-use Rattle.sky_script.proofs.reader.LineReader.answer.Goals as goal
+use Rattle.sky_lines.proofs.ReaderLemmas.{StartsTooLong-feeds, EndsTooLate-feeds}
+use Rattle.sky_lines.proofs.reader.LineReader.answer.Goals as goal
 
 pub returns-then-len-gt-MOST_IN_LINE-clause-bad : goal.returns-then-len-gt-MOST_IN_LINE-clause-bad
 returns-then-len-gt-MOST_IN_LINE-clause-bad c =

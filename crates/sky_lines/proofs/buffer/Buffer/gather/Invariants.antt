@@ -1,7 +1,7 @@
 use Rattle.std.proofs.Common.{◌≡◌, ◌+◌, ◌-◌, ◌≤◌, true, length}
 use Rattle.sky_model.specs.Transcript.{most_in_line}
-use Rattle.sky_script.specs.Feeds.{is_settled, Grows}
-use Rattle.sky_script.proofs.buffer.Buffer.gather.Given as goal
+use Rattle.sky_lines.specs.Feeds.{is_settled, Grows}
+use Rattle.sky_lines.proofs.buffer.Buffer.gather.Given as goal
 
 abbrev pub invariant-reads : goal.invariant-reads
 invariant-reads g l = record {

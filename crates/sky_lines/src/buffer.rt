@@ -1,7 +1,7 @@
 ghost use Rattle.std.specs.Prelude.{◌≡◌, ℕ, List, [], ◌∷◌, ◌++◌, ◌+◌, ◌-◌, ◌<◌, ◌≤◌, ◌⊎◌, true, false, IfOk, IsOk, OnOk, OnErr, IsTrue, length, take, drop, slice_range, vec_len};
 ghost use Rattle.std.specs.Io.KnownBytes.{IsAtEnd};
 ghost use Rattle.sky_io.specs.Faults.{Rose};
-ghost use Rattle.sky_script.specs.Feeds.{has_feed, is_settled, FeedsAt, IsFirstFeed, Grows};
+ghost use Rattle.sky_lines.specs.Feeds.{has_feed, is_settled, FeedsAt, IsFirstFeed, Grows};
 
 use memchr::memchr;
 use sky_io::{Failed, Source};
@@ -31,7 +31,7 @@ pub struct Buffer {
 
 impl Model for Buffer {
     ghost use Rattle.std.specs.Prelude.{ℕ, List, slice_range};
-    ghost use Rattle.sky_script.specs.Room.{IsBuffer};
+    ghost use Rattle.sky_lines.specs.Room.{IsBuffer};
 
     ghost Value = { List ℕ };
 

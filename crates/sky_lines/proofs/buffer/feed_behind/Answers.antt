@@ -1,6 +1,6 @@
 use Rattle.std.proofs.Common.{None, Some}
-use Rattle.sky_script.proofs.FeedLemmas.{IsFirstFeed-behind}
-use Rattle.sky_script.proofs.buffer.feed_behind.Goals as goal
+use Rattle.sky_lines.proofs.FeedLemmas.{IsFirstFeed-behind}
+use Rattle.sky_lines.proofs.buffer.feed_behind.Goals as goal
 
 pub returns-in_err-at : goal.returns-in_err-at
 returns-in_err-at c =

@@ -1,6 +1,6 @@
 use Rattle.std.proofs.Common.{◌+◌, ◌-◌, ◌∙◌, ap, arith, length, take, drop, length-take}
-use Rattle.sky_script.proofs.FeedLemmas.{IsFirstFeed-searched, line_taken}
-use Rattle.sky_script.proofs.buffer.Buffer.take_line.Goals as goal
+use Rattle.sky_lines.proofs.FeedLemmas.{IsFirstFeed-searched, line_taken}
+use Rattle.sky_lines.proofs.buffer.Buffer.take_line.Goals as goal
 
 pub invariant_of-self : goal.invariant_of-self
 invariant_of-self c =

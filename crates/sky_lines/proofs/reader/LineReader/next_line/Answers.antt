@@ -1,6 +1,6 @@
 use Rattle.std.proofs.Common.{sym}
-use Rattle.sky_script.proofs.ReaderLemmas.{StartsBad-told, OnOk-not_err}
-use Rattle.sky_script.proofs.reader.LineReader.next_line.Goals as goal
+use Rattle.sky_lines.proofs.ReaderLemmas.{StartsBad-told, OnOk-not_err}
+use Rattle.sky_lines.proofs.reader.LineReader.next_line.Goals as goal
 
 pub returns-in-Err-clause-bad : goal.returns-in-Err-clause-bad
 returns-in-Err-clause-bad g c = λ left told sound.

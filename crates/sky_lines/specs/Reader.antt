@@ -1,9 +1,9 @@
 -- What a reader of lines has, and what its answers say of the bytes that it got.
 use Rattle.std.specs.Prelude.{◌≡◌, ℕ, ◌+◌, ◌<◌, ◌≤◌, ◌||◌, Bool, false, is_some, List, [], ◌∷◌, ◌++◌, length, Option, None, Some, ⊤}
 use Rattle.sky_model.specs.Transcript.{most_in_line, most_in_script}
-use Rattle.sky_script.specs.Feeds.{has_feed, is_settled}
-use Rattle.sky_script.specs.declared.reader.LineFault.{LineFault}
-use Rattle.sky_script.specs.declared.reader.LineFault.TheVariants.{Read, TooLong, Truncated, ScriptTooLong, NoMemory}
+use Rattle.sky_lines.specs.Feeds.{has_feed, is_settled}
+use Rattle.sky_lines.specs.declared.reader.LineFault.{LineFault}
+use Rattle.sky_lines.specs.declared.reader.LineFault.TheVariants.{Read, TooLong, Truncated, ScriptTooLong, NoMemory}
 
 -- the bytes that were got and stand in no line yet, how many bytes the lines had, and the fault that was given
 pub record Reader : Type 0 where

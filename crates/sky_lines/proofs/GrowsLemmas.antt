@@ -9,8 +9,8 @@ use Rattle.std.specs.Global.{Vec}
 use Rattle.std.specs.Vec.{with_items}
 use Rattle.std.specs.Prelude.{slice_range}
 use Rattle.std.proofs.Math.Seq.{take-append-add}
-use Rattle.sky_script.specs.Feeds.{is_settled, Grows}
-use Rattle.sky_script.proofs.FeedLemmas.{unsettled}
+use Rattle.sky_lines.specs.Feeds.{is_settled, Grows}
+use Rattle.sky_lines.proofs.FeedLemmas.{unsettled}
 
 -- a piece was got, and then another
 pub Grows-both : (old mid new : List ℕ) (before between after : Option (List ℕ)) → Grows old mid before between → Grows mid new between after → Grows old new before after

@@ -6,12 +6,12 @@ use Rattle.std.specs.Io.KnownBytes.{IsAtEnd}
 use Rattle.std.proofs.lemmas.Bool.{true≢false}
 use Rattle.std.proofs.lemmas.List.{take-append-drop, length-take-le}
 use Rattle.sky_model.specs.Transcript.{most_in_line, most_in_script}
-use Rattle.sky_script.specs.Feeds.{is_settled, FeedsAt, Grows}
-use Rattle.sky_script.specs.Reader.{StartsTooLong, IsTruncated, EndsTooLate, StartsBad}
-use Rattle.sky_script.specs.declared.reader.LineFault.{LineFault}
-use Rattle.sky_script.specs.declared.reader.LineFault.TheVariants.{Read, TooLong, Truncated, ScriptTooLong, NoMemory}
-use Rattle.sky_script.proofs.FeedLemmas.{FeedsAt-parts, is_settled-unsettled}
-use Rattle.sky_script.proofs.GrowsLemmas.{Told-consumed, nothing_told}
+use Rattle.sky_lines.specs.Feeds.{is_settled, FeedsAt, Grows}
+use Rattle.sky_lines.specs.Reader.{StartsTooLong, IsTruncated, EndsTooLate, StartsBad}
+use Rattle.sky_lines.specs.declared.reader.LineFault.{LineFault}
+use Rattle.sky_lines.specs.declared.reader.LineFault.TheVariants.{Read, TooLong, Truncated, ScriptTooLong, NoMemory}
+use Rattle.sky_lines.proofs.FeedLemmas.{FeedsAt-parts, is_settled-unsettled}
+use Rattle.sky_lines.proofs.GrowsLemmas.{Told-consumed, nothing_told}
 
 -- a first line that is too long, and one that ends too late
 pub StartsTooLong-feeds : (bytes : List ℕ) (at : ℕ) → FeedsAt bytes at → most_in_line < at → StartsTooLong bytes

@@ -1,8 +1,8 @@
 ghost use Rattle.std.specs.Prelude.{◌≡◌, ℕ, List, [], ◌++◌, ◌+◌, ◌≤◌, true, false, IfOk, IfErr, None, OnOk, IfSome, IfNone, IsErrOf, length};
 ghost use Rattle.sky_io.specs.Faults.{Rose};
 ghost use Rattle.sky_model.specs.Transcript.{most_in_script};
-ghost use Rattle.sky_script.specs.Feeds.{has_feed};
-ghost use Rattle.sky_script.specs.Reader.{Reader, is_at_hand, TakesLine, CountsLine, TakesPending, EndsLines, StartsBad, Kept};
+ghost use Rattle.sky_lines.specs.Feeds.{has_feed};
+ghost use Rattle.sky_lines.specs.Reader.{Reader, is_at_hand, TakesLine, CountsLine, TakesPending, EndsLines, StartsBad, Kept};
 
 use crate::buffer::{Buffer, MOST_IN_LINE};
 use sky_io::Source;
@@ -40,7 +40,7 @@ pub struct LineReader {
 impl Model for LineReader {
     ghost use Rattle.std.specs.Prelude.{◌≤◌};
     ghost use Rattle.sky_model.specs.Transcript.{most_in_script};
-    ghost use Rattle.sky_script.specs.Reader.{Reader};
+    ghost use Rattle.sky_lines.specs.Reader.{Reader};
 
     ghost Value = { Reader };
 

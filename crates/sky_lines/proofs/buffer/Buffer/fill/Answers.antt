@@ -1,8 +1,8 @@
 use Rattle.std.proofs.Common.{◌≡◌, ◌+◌, ◌-◌, ◌≤◌, ◌∙◌, ap, sym, arith, length, take, drop, slice_range, length-drop, length-take-le}
 use Rattle.std.specs.Vec.{with_items}
 use Rattle.std.proofs.lemmas.List.{with_items_is}
-use Rattle.sky_script.proofs.GrowsLemmas.{bytes_read, length-front}
-use Rattle.sky_script.proofs.buffer.Buffer.fill.Goals as goal
+use Rattle.sky_lines.proofs.GrowsLemmas.{bytes_read, length-front}
+use Rattle.sky_lines.proofs.buffer.Buffer.fill.Goals as goal
 
 pub returns-clause-grows : goal.returns-clause-grows
 returns-clause-grows g c =

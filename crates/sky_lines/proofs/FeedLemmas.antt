@@ -8,7 +8,7 @@ use Rattle.std.proofs.lemmas.List.Folds.{list_any_none, list_any-append}
 use Rattle.std.proofs.Math.Seq.{take-append-add}
 use Rattle.memchr.specs.Find.{Passes, IsFirstByte, is_byte}
 use Rattle.sky_model.specs.Transcript.{most_in_line}
-use Rattle.sky_script.specs.Feeds.{has_feed, is_settled, FeedsAt, IsFirstFeed}
+use Rattle.sky_lines.specs.Feeds.{has_feed, is_settled, FeedsAt, IsFirstFeed}
 
 -- none stands where a search finds none
 has_feed-nowhere : (bytes : List ℕ) → ((k : ℕ) → k < length bytes → ¬ (Passes (is_byte 10) bytes k)) → has_feed bytes ≡ false
