@@ -55,6 +55,7 @@ pub mod GatedStanding
 pub mod RoomsAlike
 pub mod RowCallStanding
 pub mod DatabaseStanding
+pub mod Staying
 pub mod Standing
 pub mod DatabaseResting
 pub mod Inserted
