@@ -49,7 +49,7 @@ finished_lead _ (next {h = h} l (begins_block who e)) queue consumer = finished_
 finished_lead _ (next {h = h} l (fails_block who e f)) queue consumer = finished_lead h l queue consumer
 finished_lead _ (next {h = h} l (ends_block who e)) queue consumer = finished_lead h l queue consumer
 finished_lead _ (next {h = h} l (connects who e)) queue consumer = finished_lead h l queue consumer
-finished_lead _ (next {h = h} l (disconnects who)) queue consumer = finished_lead h l queue consumer
+finished_lead _ (next {h = h} l (disconnects who quiet)) queue consumer = finished_lead h l queue consumer
 finished_lead _ (next {h = h} l (repeats_block who)) queue consumer = finished_lead h l queue consumer
 finished_lead _ (next {h = h} l (looks who)) queue consumer = finished_lead h l queue consumer
 finished_lead _ (next {h = h} l (makes_table name columns e)) queue consumer = finished_lead h l queue consumer

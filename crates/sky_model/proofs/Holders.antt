@@ -101,7 +101,7 @@ holder-step h _ (begins_block v x) l table key who ih e = let w : HasWritten h t
 holder-step h _ (fails_block v x f) l table key who ih e = let w : HasWritten h table key who = ih e in record { txid = w.txid; runs = w.runs; wrote = w.wrote }
 holder-step h _ (ends_block v x) l table key who ih e = let w : HasWritten h table key who = ih e in record { txid = w.txid; runs = w.runs; wrote = w.wrote }
 holder-step h _ (connects v x) l table key who ih e = let w : HasWritten h table key who = ih e in record { txid = w.txid; runs = w.runs; wrote = w.wrote }
-holder-step h _ (disconnects v) l table key who ih e = let w : HasWritten h table key who = ih e in record { txid = w.txid; runs = w.runs; wrote = w.wrote }
+holder-step h _ (disconnects v quiet) l table key who ih e = let w : HasWritten h table key who = ih e in record { txid = w.txid; runs = w.runs; wrote = w.wrote }
 holder-step h _ (repeats_block v) l table key who ih e = let w : HasWritten h table key who = ih e in record { txid = w.txid; runs = w.runs; wrote = w.wrote }
 holder-step h _ (looks v) l table key who ih e = let w : HasWritten h table key who = ih e in record { txid = w.txid; runs = w.runs; wrote = w.wrote }
 holder-step h _ (makes_table name columns x) l table key who ih e = let w : HasWritten h table key who = ih e in record { txid = w.txid; runs = w.runs; wrote = w.wrote }
@@ -169,7 +169,7 @@ held-step h _ (begins_block v x) l table key ih = ih
 held-step h _ (fails_block v x f) l table key ih = ih
 held-step h _ (ends_block v x) l table key ih = ih
 held-step h _ (connects v x) l table key ih = ih
-held-step h _ (disconnects v) l table key ih = ih
+held-step h _ (disconnects v quiet) l table key ih = ih
 held-step h _ (repeats_block v) l table key ih = ih
 held-step h _ (looks v) l table key ih = ih
 held-step h _ (makes_table name columns x) l table key ih = ih
@@ -236,7 +236,7 @@ owner-step h _ (begins_block v x) table key ih = λ u unended wrote_it. let o : 
 owner-step h _ (fails_block v x f) table key ih = λ u unended wrote_it. let o : Owner h u = ih u unended wrote_it in record { who = o.who; owns = o.owns }
 owner-step h _ (ends_block v x) table key ih = λ u unended wrote_it. let o : Owner h u = ih u unended wrote_it in record { who = o.who; owns = o.owns }
 owner-step h _ (connects v x) table key ih = λ u unended wrote_it. let o : Owner h u = ih u unended wrote_it in record { who = o.who; owns = o.owns }
-owner-step h _ (disconnects v) table key ih = λ u unended wrote_it. let o : Owner h u = ih u unended wrote_it in record { who = o.who; owns = o.owns }
+owner-step h _ (disconnects v quiet) table key ih = λ u unended wrote_it. let o : Owner h u = ih u unended wrote_it in record { who = o.who; owns = o.owns }
 owner-step h _ (repeats_block v) table key ih = λ u unended wrote_it. let o : Owner h u = ih u unended wrote_it in record { who = o.who; owns = o.owns }
 owner-step h _ (looks v) table key ih = λ u unended wrote_it. let o : Owner h u = ih u unended wrote_it in record { who = o.who; owns = o.owns }
 owner-step h _ (makes_table name columns x) table key ih = λ u unended wrote_it. let o : Owner h u = ih u unended wrote_it in record { who = o.who; owns = o.owns }

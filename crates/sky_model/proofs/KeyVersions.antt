@@ -246,7 +246,7 @@ key_step h _ (begins_block who e) l table key k = record { newest = k.newest; wr
 key_step h _ (fails_block who e f) l table key k = record { newest = k.newest; writer = k.writer; own = k.own; only = k.only }
 key_step h _ (ends_block who e) l table key k = record { newest = k.newest; writer = k.writer; own = k.own; only = k.only }
 key_step h _ (connects who e) l table key k = record { newest = k.newest; writer = k.writer; own = k.own; only = k.only }
-key_step h _ (disconnects who) l table key k = record { newest = k.newest; writer = k.writer; own = k.own; only = k.only }
+key_step h _ (disconnects who quiet) l table key k = record { newest = k.newest; writer = k.writer; own = k.own; only = k.only }
 key_step h _ (repeats_block who) l table key k = record { newest = k.newest; writer = k.writer; own = k.own; only = k.only }
 key_step h _ (looks who) l table key k = record { newest = k.newest; writer = k.writer; own = k.own; only = k.only }
 key_step h _ (makes_table name columns e) l table key k = record { newest = k.newest; writer = k.writer; own = k.own; only = k.only }

@@ -2,7 +2,7 @@
 use Rattle.std.proofs.Common.{◌≡◌, ℕ, ℤ, ◌+◌, ◌^◌, List, [], ◌∷◌, ◌++◌, Bool, true, false, cond, ◌==◌, nat_le, Option, Some, Ok, Err, map, refl, sym, ◌∙◌, ap, subst, arith, if◌then◌else◌}
 use Rattle.std.specs.Prelude.{filter, not}
 use Rattle.sky_val.specs.declared.val.Val.{Val}
-use Rattle.sky_val.specs.Waits.{other_than}
+use Rattle.sky_val.specs.Waits.{other_than, is_waiting}
 use Rattle.sky_names.specs.Places.{place_of}
 use Rattle.sky_urlenc.specs.RowEvents.{Trigger, Write, leaves_out, event_of, RowEvent, events_of}
 use Rattle.sky_model.specs.declared.reply.Refusal.TheVariants.{EventIdsSpent}
@@ -147,7 +147,7 @@ fine-alike h g same _ marks rows (begins_block who is) = begins_block who (block
 fine-alike h g same _ marks rows (fails_block who is none) = fails_block who (block-alike h g same who _ is) (own-alike h g same who _ none)
 fine-alike h g same _ marks rows (ends_block who none) = ends_block who (own-alike h g same who _ none)
 fine-alike h g same _ marks rows (connects who closed) = connects who (sym (ap (λ (d : RowPart). (d.session who).is_open) same) ∙ closed)
-fine-alike h g same _ marks rows (disconnects who) = disconnects who
+fine-alike h g same _ marks rows (disconnects who quiet) = disconnects who (sym (ap (λ (d : RowPart). is_waiting who d.waiting) same) ∙ quiet)
 fine-alike h g same _ marks rows (repeats_block who) = repeats_block who
 fine-alike h g same _ marks rows (looks who) = looks who
 fine-alike h g same _ marks rows (makes_table name columns new) = makes_table name columns (sym (ap (λ (d : RowPart). place_of name d.tables) same) ∙ new)

@@ -64,7 +64,7 @@ committed-at_tick _ (next {h = h} l (begins_block who e)) q id t = committed-at_
 committed-at_tick _ (next {h = h} l (fails_block who e f)) q id t = committed-at_tick h l q id t
 committed-at_tick _ (next {h = h} l (ends_block who e)) q id t = committed-at_tick h l q id t
 committed-at_tick _ (next {h = h} l (connects who e)) q id t = committed-at_tick h l q id t
-committed-at_tick _ (next {h = h} l (disconnects who)) q id t = committed-at_tick h l q id t
+committed-at_tick _ (next {h = h} l (disconnects who quiet)) q id t = committed-at_tick h l q id t
 committed-at_tick _ (next {h = h} l (repeats_block who)) q id t = committed-at_tick h l q id t
 committed-at_tick _ (next {h = h} l (looks who)) q id t = committed-at_tick h l q id t
 committed-at_tick _ (next {h = h} l (makes_table name columns e)) q id t = committed-at_tick h l q id t
@@ -126,7 +126,7 @@ numbered _ (next {h = h} l (begins_block who e)) q = numbered h l q
 numbered _ (next {h = h} l (fails_block who e f)) q = numbered h l q
 numbered _ (next {h = h} l (ends_block who e)) q = numbered h l q
 numbered _ (next {h = h} l (connects who e)) q = numbered h l q
-numbered _ (next {h = h} l (disconnects who)) q = numbered h l q
+numbered _ (next {h = h} l (disconnects who quiet)) q = numbered h l q
 numbered _ (next {h = h} l (repeats_block who)) q = numbered h l q
 numbered _ (next {h = h} l (looks who)) q = numbered h l q
 numbered _ (next {h = h} l (makes_table name columns e)) q = numbered h l q

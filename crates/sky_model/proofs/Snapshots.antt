@@ -229,7 +229,7 @@ sound_step h _ (begins_block who e) s = record { first = s.first; runs = s.runs;
 sound_step h _ (fails_block who e f) s = record { first = s.first; runs = s.runs; ended_below = s.ended_below; rising = s.rising; below = s.below; owns = s.owns; once = s.once }
 sound_step h _ (ends_block who e) s = record { first = s.first; runs = s.runs; ended_below = s.ended_below; rising = s.rising; below = s.below; owns = s.owns; once = s.once }
 sound_step h _ (connects who e) s = record { first = s.first; runs = s.runs; ended_below = s.ended_below; rising = s.rising; below = s.below; owns = s.owns; once = s.once }
-sound_step h _ (disconnects who) s = record { first = s.first; runs = s.runs; ended_below = s.ended_below; rising = s.rising; below = s.below; owns = s.owns; once = s.once }
+sound_step h _ (disconnects who quiet) s = record { first = s.first; runs = s.runs; ended_below = s.ended_below; rising = s.rising; below = s.below; owns = s.owns; once = s.once }
 sound_step h _ (repeats_block who) s = record { first = s.first; runs = s.runs; ended_below = s.ended_below; rising = s.rising; below = s.below; owns = s.owns; once = s.once }
 sound_step h _ (looks who) s = record { first = s.first; runs = s.runs; ended_below = s.ended_below; rising = s.rising; below = s.below; owns = s.owns; once = s.once }
 sound_step h _ (makes_table name columns e) s = record { first = s.first; runs = s.runs; ended_below = s.ended_below; rising = s.rising; below = s.below; owns = s.owns; once = s.once }
@@ -337,7 +337,7 @@ has_committed-ended _ (next {h = h} l (begins_block who e)) t = has_committed-en
 has_committed-ended _ (next {h = h} l (fails_block who e f)) t = has_committed-ended h l t
 has_committed-ended _ (next {h = h} l (ends_block who e)) t = has_committed-ended h l t
 has_committed-ended _ (next {h = h} l (connects who e)) t = has_committed-ended h l t
-has_committed-ended _ (next {h = h} l (disconnects who)) t = has_committed-ended h l t
+has_committed-ended _ (next {h = h} l (disconnects who quiet)) t = has_committed-ended h l t
 has_committed-ended _ (next {h = h} l (repeats_block who)) t = has_committed-ended h l t
 has_committed-ended _ (next {h = h} l (looks who)) t = has_committed-ended h l t
 has_committed-ended _ (next {h = h} l (makes_table name columns e)) t = has_committed-ended h l t

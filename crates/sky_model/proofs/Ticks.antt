@@ -18,7 +18,7 @@ ticks_beyond _ (next {h = h} l (begins_block who e)) q le = ticks_beyond h l q l
 ticks_beyond _ (next {h = h} l (fails_block who e f)) q le = ticks_beyond h l q le
 ticks_beyond _ (next {h = h} l (ends_block who e)) q le = ticks_beyond h l q le
 ticks_beyond _ (next {h = h} l (connects who e)) q le = ticks_beyond h l q le
-ticks_beyond _ (next {h = h} l (disconnects who)) q le = ticks_beyond h l q le
+ticks_beyond _ (next {h = h} l (disconnects who quiet)) q le = ticks_beyond h l q le
 ticks_beyond _ (next {h = h} l (repeats_block who)) q le = ticks_beyond h l q le
 ticks_beyond _ (next {h = h} l (looks who)) q le = ticks_beyond h l q le
 ticks_beyond _ (next {h = h} l (makes_table name columns e)) q le = ticks_beyond h l q le
@@ -81,7 +81,7 @@ none_above _ (next {h = h} l (begins_block who e)) q = none_above h l q
 none_above _ (next {h = h} l (fails_block who e f)) q = none_above h l q
 none_above _ (next {h = h} l (ends_block who e)) q = none_above h l q
 none_above _ (next {h = h} l (connects who e)) q = none_above h l q
-none_above _ (next {h = h} l (disconnects who)) q = none_above h l q
+none_above _ (next {h = h} l (disconnects who quiet)) q = none_above h l q
 none_above _ (next {h = h} l (repeats_block who)) q = none_above h l q
 none_above _ (next {h = h} l (looks who)) q = none_above h l q
 none_above _ (next {h = h} l (makes_table name columns e)) q = none_above h l q
@@ -113,7 +113,7 @@ snapshot-at_tick _ (next {h = h} l (begins_block who e)) q id = snapshot-at_tick
 snapshot-at_tick _ (next {h = h} l (fails_block who e f)) q id = snapshot-at_tick h l q id
 snapshot-at_tick _ (next {h = h} l (ends_block who e)) q id = snapshot-at_tick h l q id
 snapshot-at_tick _ (next {h = h} l (connects who e)) q id = snapshot-at_tick h l q id
-snapshot-at_tick _ (next {h = h} l (disconnects who)) q id = snapshot-at_tick h l q id
+snapshot-at_tick _ (next {h = h} l (disconnects who quiet)) q id = snapshot-at_tick h l q id
 snapshot-at_tick _ (next {h = h} l (repeats_block who)) q id = snapshot-at_tick h l q id
 snapshot-at_tick _ (next {h = h} l (looks who)) q id = snapshot-at_tick h l q id
 snapshot-at_tick _ (next {h = h} l (makes_table name columns e)) q id = snapshot-at_tick h l q id
@@ -154,7 +154,7 @@ legal-at_tick _ (next {h = h} l (begins_block who e)) q id = legal-at_tick h l q
 legal-at_tick _ (next {h = h} l (fails_block who e f)) q id = legal-at_tick h l q id
 legal-at_tick _ (next {h = h} l (ends_block who e)) q id = legal-at_tick h l q id
 legal-at_tick _ (next {h = h} l (connects who e)) q id = legal-at_tick h l q id
-legal-at_tick _ (next {h = h} l (disconnects who)) q id = legal-at_tick h l q id
+legal-at_tick _ (next {h = h} l (disconnects who quiet)) q id = legal-at_tick h l q id
 legal-at_tick _ (next {h = h} l (repeats_block who)) q id = legal-at_tick h l q id
 legal-at_tick _ (next {h = h} l (looks who)) q id = legal-at_tick h l q id
 legal-at_tick _ (next {h = h} l (makes_table name columns e)) q id = legal-at_tick h l q id
