@@ -56,6 +56,7 @@ pub mod RoomsAlike
 pub mod RowCallStanding
 pub mod DatabaseStanding
 pub mod Staying
+mod HomeLaws
 pub mod Standing
 pub mod DatabaseResting
 pub mod Inserted

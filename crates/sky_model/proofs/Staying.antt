@@ -177,13 +177,13 @@ stays-cancel : (who : ℕ) (txid : Option ℕ) (b : Block) (waits : Bool) → St
 stays-cancel who txid b false = tt
 stays-cancel who txid b true = stay-abort who b txid Canceled
 
--- a statement that opens no database, and closes none
-abbrev pub IsStaying : RowPart → ℕ → Stmt → Type 0
-IsStaying d who (Row (OpenDb name)) = (d.session who).is_open ≡ true
-IsStaying d who (Row Close) = ⊥
-IsStaying d who _ = Unit {0}
+-- a statement that opens no database, and closes none, of a session that has it open or hasn't
+abbrev pub IsStaying : Bool → Stmt → Type 0
+IsStaying is_open (Row (OpenDb name)) = is_open ≡ true
+IsStaying is_open (Row Close) = ⊥
+IsStaying is_open _ = Unit {0}
 
-stays-row_form : (d : RowPart) (shown : RowsShown) (who : ℕ) (stmt : RowStmt) → IsStaying d who (Row stmt) → Stays (row_form d shown who stmt)
+stays-row_form : (d : RowPart) (shown : RowsShown) (who : ℕ) (stmt : RowStmt) → IsStaying (d.session who).is_open (Row stmt) → Stays (row_form d shown who stmt)
 stays-row_form d shown who (OpenDb name) is = stays-open_db who (d.session who).is_open is
 stays-row_form d shown who Close is = absurd is
 stays-row_form d shown who Cancel is = stays-cancel who (d.session who).txid (d.session who).block (is_waiting who d.waiting)
@@ -283,7 +283,7 @@ stays-finishes : (o : Option Batch) → Stays (finishes o)
 stays-finishes None = tt
 stays-finishes (Some batch) = tt
 
-pub stays-form : (d : Database) (shown : Shown) (now : ℤ) (who : ℕ) (stmt : Stmt) → IsStaying d.part who stmt → Stays (form d shown now who stmt)
+pub stays-form : (d : Database) (shown : Shown) (now : ℤ) (who : ℕ) (stmt : Stmt) → IsStaying (d.part.session who).is_open stmt → Stays (form d shown now who stmt)
 stays-form d shown now who (Row stmt) is = stays-tells d now (row_form d.part shown.rows who stmt) (stays-row_form d.part shown.rows who stmt is)
 stays-form d shown now who (CreateQueue name) is =
     either (is_some (queue_number name d.queues)) _ _ tt
