@@ -1,5 +1,5 @@
 -- Each session has open the database that is its home, whatever is called.
-use Rattle.std.proofs.Common.{◌≡◌, ◌↔◌, ◌⊎◌, inl, inr, ℕ, ℤ, List, [], ◌∷◌, ◌++◌, Bool, true, false, ◌==◌, nat_le, Option, Some, None, Ok, Err, map, length, refl, sym, ◌∙◌, ap, subst, arith, if◌then◌else◌}
+use Rattle.std.proofs.Common.{◌≡◌, ◌≢◌, ◌↔◌, ◌⊎◌, inl, inr, ℕ, ℤ, List, [], ◌∷◌, ◌++◌, Bool, true, false, ◌==◌, nat_le, Option, Some, None, Ok, Err, map, length, refl, sym, ◌∙◌, ap, subst, arith, if◌then◌else◌}
 use Rattle.std.proofs.lemmas.Bool.Decides.{nat_tests}
 use Rattle.sky_val.specs.Waits.{is_waiting}
 use Rattle.sky_names.specs.Places.{place_of}
@@ -22,8 +22,8 @@ use Rattle.sky_model.specs.Telling.{tells}
 use Rattle.sky_model.specs.Reader.{shown_in, part_by_history, database_by_history, within_part, within_database, by_past, Deed, appears}
 use Rattle.sky_model.specs.Settling.{Turn, marked, behind_marks, settling}
 use Rattle.sky_model.specs.Calls.{form, making, statement, database_turn, deed_in, opening, opens, outside_does, is_leaving, left_if, session_does, turn, Call, called, past_of}
-use Rattle.sky_model.specs.LawsOfHistories.{HomesAreOpen, WaitersHaveOpen}
-use Rattle.sky_model.proofs.Legal.{Legal}
+use Rattle.sky_model.specs.LawsOfHistories.{HomesAreOpen, WaitersHaveOpen, BlocksAreOpen}
+use Rattle.sky_model.proofs.Legal.{Fine, begins_block, fails_block, ends_block, connects, disconnects, Legal, start, next}
 use Rattle.sky_model.proofs.WaitersFit.{waits-open}
 use Rattle.sky_model.proofs.SnapshotLaws.{legal_place}
 use Rattle.sky_model.proofs.Resting.{behind-append}
@@ -33,6 +33,47 @@ use Rattle.sky_model.proofs.Staying.{Stay, stay-append, open-stays, stay-settled
 
 pub waiters_have_open : WaitersHaveOpen
 waiters_have_open p is who waits = waits-open p (legal_place p is) who waits
+
+-- ---- who is in a block
+
+abbrev InBlock : History → ℕ → Type 0
+InBlock h who = block who h ≢ outside → has_open who h ≡ true
+
+-- a session that opens the database, or closes it
+opened-still : (f o : Bool) → o ≡ true → (if f then true else o) ≡ true
+opened-still true o is = refl
+opened-still false o is = is
+
+block-step : (h : History) (mark : Mark) → Fine h mark → (who : ℕ) → InBlock h who → InBlock (mark ∷ h) who
+block-step h _ (begins_block v e is_open) who ih = of (v == who) refl
+  where
+    of : (f : Bool) → (v == who) ≡ f → (if f then inside else block who h) ≢ outside → has_open who h ≡ true
+    of true e there = let same : v ≡ who = grind (arith, nat_tests) in ap (λ n. has_open n h) (sym same) ∙ is_open
+    of false e there = ih there
+block-step h _ (fails_block v e f) who ih = of (v == who) refl
+  where
+    of : (f : Bool) → (v == who) ≡ f → (if f then failed else block who h) ≢ outside → has_open who h ≡ true
+    of true is there = let same : v ≡ who = grind (arith, nat_tests) in ih (λ out. absurd (let both : inside ≡ outside = sym e ∙ ap (λ n. block n h) same ∙ out in cc))
+    of false is there = ih there
+block-step h _ (ends_block v e) who ih = of (v == who)
+  where
+    of : (f : Bool) → (if f then outside else block who h) ≢ outside → has_open who h ≡ true
+    of true there = absurd (there refl)
+    of false there = ih there
+block-step h _ (connects v e) who ih = λ there. opened-still (v == who) (has_open who h) (ih there)
+block-step h _ (disconnects v quiet away) who ih = of (v == who) refl
+  where
+    of : (f : Bool) → (v == who) ≡ f → block who h ≢ outside → (if f then false else has_open who h) ≡ true
+    of true is there = let same : v ≡ who = grind (arith, nat_tests) in absurd (there (ap (λ n. block n h) (sym same) ∙ away))
+    of false is there = ih there
+block-step h _ _ who ih = ih
+
+block-open : (h : History) → Legal h → (who : ℕ) → InBlock h who
+block-open _ start who there = absurd (there refl)
+block-open _ (next {h = h} {mark = mark} l fine) who there = block-step h mark fine who (block-open h l who) there
+
+pub blocks_are_open : BlocksAreOpen
+blocks_are_open p is who there = block-open p (legal_place p is) who there
 
 -- ---- who has a database open behind a turn
 

@@ -76,11 +76,11 @@ pub record MayWait (d : RowPart) (who table : ℕ) (key : List Val) (attempt : A
 pub data Fine (h : History) : Mark → Type 0 where
   begins : (who : ℕ) → own_txid who h ≡ None → Fine h (began (of_session who) (next_txid h))
   ends : (who t : ℕ) (committed : Bool) → own_txid who h ≡ Some t → Fine h (ended (of_session who) t committed)
-  begins_block : (who : ℕ) → block who h ≡ outside → Fine h (block_begun who)
+  begins_block : (who : ℕ) → block who h ≡ outside → has_open who h ≡ true → Fine h (block_begun who)
   fails_block : (who : ℕ) → block who h ≡ inside → own_txid who h ≡ None → Fine h (block_failed who)
   ends_block : (who : ℕ) → own_txid who h ≡ None → Fine h (block_ended who)
   connects : (who : ℕ) → has_open who h ≡ false → Fine h (connected who)
-  disconnects : (who : ℕ) → is_waiting who (waiting h) ≡ false → Fine h (disconnected who)
+  disconnects : (who : ℕ) → is_waiting who (waiting h) ≡ false → block who h ≡ outside → Fine h (disconnected who)
   repeats_block : (who : ℕ) → Fine h (repeats who)
   looks : (who : ℕ) → Fine h (looked who)
   makes_table : (name : List ℕ) (columns : List Column) → place_of name (table_names h) ≡ None → Fine h (tabled (table_made name columns))

@@ -98,7 +98,7 @@ fit-step h _ (ends_waiting who) all = each-without (EntryFits h) (EntryFits (tab
         record { within = is.within; fits = subst (AttemptFits (columns_of w.table h) w.key) (sym (ap (λ b. if b then Deletion else attempt w.who h) turned)) is.fits; is_open = is.is_open }
 fit-step h _ (begins who e) all = each-map (EntryFits h) (EntryFits (began (of_session who) (next_txid h) ∷ h)) (waiting h) (λ w is. record { within = is.within; fits = is.fits; is_open = is.is_open }) all
 fit-step h _ (ends who t c e) all = each-map (EntryFits h) (EntryFits (ended (of_session who) t c ∷ h)) (waiting h) (λ w is. record { within = is.within; fits = is.fits; is_open = is.is_open }) all
-fit-step h _ (begins_block who e) all = each-map (EntryFits h) (EntryFits (block_begun who ∷ h)) (waiting h) (λ w is. record { within = is.within; fits = is.fits; is_open = is.is_open }) all
+fit-step h _ (begins_block who e is_open) all = each-map (EntryFits h) (EntryFits (block_begun who ∷ h)) (waiting h) (λ w is. record { within = is.within; fits = is.fits; is_open = is.is_open }) all
 fit-step h _ (fails_block who e f) all = each-map (EntryFits h) (EntryFits (block_failed who ∷ h)) (waiting h) (λ w is. record { within = is.within; fits = is.fits; is_open = is.is_open }) all
 fit-step h _ (ends_block who e) all = each-map (EntryFits h) (EntryFits (block_ended who ∷ h)) (waiting h) (λ w is. record { within = is.within; fits = is.fits; is_open = is.is_open }) all
 fit-step h _ (connects who e) all = each-map (EntryFits h) (EntryFits (connected who ∷ h)) (waiting h) (λ w is. record { within = is.within; fits = is.fits; is_open = still (who == w.who) (has_open w.who h) is.is_open }) all
@@ -106,7 +106,7 @@ fit-step h _ (connects who e) all = each-map (EntryFits h) (EntryFits (connected
     still : (b o : Bool) → o ≡ true → (if b then true else o) ≡ true
     still true o is = refl
     still false o is = is
-fit-step h _ (disconnects who quiet) all = each-other (EntryFits h) (EntryFits (disconnected who ∷ h)) who (waiting h) quiet still all
+fit-step h _ (disconnects who quiet away) all = each-other (EntryFits h) (EntryFits (disconnected who ∷ h)) who (waiting h) quiet still all
   where
     still : (w : Waiting) → (w.who == who) ≡ false → EntryFits h w → EntryFits (disconnected who ∷ h) w
     still w apart is =

@@ -1,8 +1,8 @@
 -- Laws on histories: each database of the world has one that its own calls make, and each session has open the one that is its home.
-use Rattle.std.specs.Prelude.{◌≡◌, ◌↔◌, ℕ, true, List, Some, All}
+use Rattle.std.specs.Prelude.{◌≡◌, ◌≢◌, ◌↔◌, ℕ, true, List, Some, All}
 use Rattle.sky_val.specs.Waits.{is_waiting}
 use Rattle.sky_model.specs.History.{History}
-use Rattle.sky_model.specs.Sessions.{has_open}
+use Rattle.sky_model.specs.Sessions.{outside, has_open, block}
 use Rattle.sky_model.specs.Locks.{waiting}
 use Rattle.sky_model.specs.World.{home, history_in}
 use Rattle.sky_model.specs.Calls.{Call, past_of}
@@ -28,3 +28,7 @@ HomesAreOpen = (calls : List Call) (who database : ℕ) → (has_open who (histo
 -- a session that waits has the database open
 abbrev pub WaitersHaveOpen : Type 0
 WaitersHaveOpen = (p : History) → IsPlace p → (who : ℕ) → is_waiting who (waiting p) ≡ true → has_open who p ≡ true
+
+-- so has one that is in a block
+abbrev pub BlocksAreOpen : Type 0
+BlocksAreOpen = (p : History) → IsPlace p → (who : ℕ) → block who p ≢ outside → has_open who p ≡ true

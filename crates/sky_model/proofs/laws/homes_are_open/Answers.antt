@@ -6,3 +6,6 @@ returns-clause-homes c = law.homes_are_open
 
 pub returns-clause-waiters : goal.returns-clause-waiters
 returns-clause-waiters c = law.waiters_have_open
+
+pub returns-clause-blocks : goal.returns-clause-blocks
+returns-clause-blocks c = law.blocks_are_open
