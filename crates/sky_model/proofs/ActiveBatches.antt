@@ -80,11 +80,11 @@ pub active_batches : (h : History) → Legal h → (id : ℕ) (b : Batch) → ac
 active_batches [] start id b is = absurd (cc)
 active_batches _ (next {h = h} l (begins who e)) id b is = active_batches h l id b is
 active_batches _ (next {h = h} l (ends who t c mine)) id b is = active_batches h l id b is
-active_batches _ (next {h = h} l (begins_block who e)) id b is = active_batches h l id b is
+active_batches _ (next {h = h} l (begins_block who e is_open)) id b is = active_batches h l id b is
 active_batches _ (next {h = h} l (fails_block who e f)) id b is = active_batches h l id b is
 active_batches _ (next {h = h} l (ends_block who e)) id b is = active_batches h l id b is
 active_batches _ (next {h = h} l (connects who e)) id b is = active_batches h l id b is
-active_batches _ (next {h = h} l (disconnects who)) id b is = active_batches h l id b is
+active_batches _ (next {h = h} l (disconnects who quiet away)) id b is = active_batches h l id b is
 active_batches _ (next {h = h} l (repeats_block who)) id b is = active_batches h l id b is
 active_batches _ (next {h = h} l (looks who)) id b is = active_batches h l id b is
 active_batches _ (next {h = h} l (makes_table name columns e)) id b is = active_batches h l id b is

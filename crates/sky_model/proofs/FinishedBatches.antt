@@ -45,11 +45,11 @@ pub finished_lead : (h : History) → Legal h → (queue : ℕ) (consumer : List
 finished_lead [] start queue consumer = refl
 finished_lead _ (next {h = h} l (begins who e)) queue consumer = finished_lead h l queue consumer
 finished_lead _ (next {h = h} l (ends who t c mine)) queue consumer = finished_lead h l queue consumer
-finished_lead _ (next {h = h} l (begins_block who e)) queue consumer = finished_lead h l queue consumer
+finished_lead _ (next {h = h} l (begins_block who e is_open)) queue consumer = finished_lead h l queue consumer
 finished_lead _ (next {h = h} l (fails_block who e f)) queue consumer = finished_lead h l queue consumer
 finished_lead _ (next {h = h} l (ends_block who e)) queue consumer = finished_lead h l queue consumer
 finished_lead _ (next {h = h} l (connects who e)) queue consumer = finished_lead h l queue consumer
-finished_lead _ (next {h = h} l (disconnects who)) queue consumer = finished_lead h l queue consumer
+finished_lead _ (next {h = h} l (disconnects who quiet away)) queue consumer = finished_lead h l queue consumer
 finished_lead _ (next {h = h} l (repeats_block who)) queue consumer = finished_lead h l queue consumer
 finished_lead _ (next {h = h} l (looks who)) queue consumer = finished_lead h l queue consumer
 finished_lead _ (next {h = h} l (makes_table name columns e)) queue consumer = finished_lead h l queue consumer

@@ -242,11 +242,11 @@ key_step h _ (ends who t true e) l table key k = key_committed h l who t (own-un
 key_step h _ (ends who t false e) l table key k = key_rolled_back h l who t (own-unended h l who t e) table key k
 key_step h _ (writes who t n at_key old new e free stands) l table key k = key_written h l who t n at_key old new e free table key k
 key_step h _ (begins who e) l table key k = record { newest = k.newest; writer = k.writer; own = k.own; only = k.only }
-key_step h _ (begins_block who e) l table key k = record { newest = k.newest; writer = k.writer; own = k.own; only = k.only }
+key_step h _ (begins_block who e is_open) l table key k = record { newest = k.newest; writer = k.writer; own = k.own; only = k.only }
 key_step h _ (fails_block who e f) l table key k = record { newest = k.newest; writer = k.writer; own = k.own; only = k.only }
 key_step h _ (ends_block who e) l table key k = record { newest = k.newest; writer = k.writer; own = k.own; only = k.only }
 key_step h _ (connects who e) l table key k = record { newest = k.newest; writer = k.writer; own = k.own; only = k.only }
-key_step h _ (disconnects who) l table key k = record { newest = k.newest; writer = k.writer; own = k.own; only = k.only }
+key_step h _ (disconnects who quiet away) l table key k = record { newest = k.newest; writer = k.writer; own = k.own; only = k.only }
 key_step h _ (repeats_block who) l table key k = record { newest = k.newest; writer = k.writer; own = k.own; only = k.only }
 key_step h _ (looks who) l table key k = record { newest = k.newest; writer = k.writer; own = k.own; only = k.only }
 key_step h _ (makes_table name columns e) l table key k = record { newest = k.newest; writer = k.writer; own = k.own; only = k.only }

@@ -55,6 +55,8 @@ pub mod GatedStanding
 pub mod RoomsAlike
 pub mod RowCallStanding
 pub mod DatabaseStanding
+pub mod Staying
+mod HomeLaws
 pub mod Standing
 pub mod DatabaseResting
 pub mod Inserted

@@ -150,11 +150,11 @@ newest-behind k h since l _ (writes who t n at_key old new e free stands) table 
     of true = newest_with (has_ended k) t new (kept h table key) (unended-at since t (own-unended h l who t e))
     of false = refl
 newest-behind k h since l _ (begins who e) table key = refl
-newest-behind k h since l _ (begins_block who e) table key = refl
+newest-behind k h since l _ (begins_block who e is_open) table key = refl
 newest-behind k h since l _ (fails_block who e f) table key = refl
 newest-behind k h since l _ (ends_block who e) table key = refl
 newest-behind k h since l _ (connects who e) table key = refl
-newest-behind k h since l _ (disconnects who) table key = refl
+newest-behind k h since l _ (disconnects who quiet away) table key = refl
 newest-behind k h since l _ (repeats_block who) table key = refl
 newest-behind k h since l _ (looks who) table key = refl
 newest-behind k h since l _ (makes_table name columns e) table key = refl

@@ -60,11 +60,11 @@ committed-at_tick _ (next {h = h} l (ends who u false mine)) q id t = of (t == u
         absurd (cc)
     of true same false was ih = ih
     of false same e was ih = ih
-committed-at_tick _ (next {h = h} l (begins_block who e)) q id t = committed-at_tick h l q id t
+committed-at_tick _ (next {h = h} l (begins_block who e is_open)) q id t = committed-at_tick h l q id t
 committed-at_tick _ (next {h = h} l (fails_block who e f)) q id t = committed-at_tick h l q id t
 committed-at_tick _ (next {h = h} l (ends_block who e)) q id t = committed-at_tick h l q id t
 committed-at_tick _ (next {h = h} l (connects who e)) q id t = committed-at_tick h l q id t
-committed-at_tick _ (next {h = h} l (disconnects who)) q id t = committed-at_tick h l q id t
+committed-at_tick _ (next {h = h} l (disconnects who quiet away)) q id t = committed-at_tick h l q id t
 committed-at_tick _ (next {h = h} l (repeats_block who)) q id t = committed-at_tick h l q id t
 committed-at_tick _ (next {h = h} l (looks who)) q id t = committed-at_tick h l q id t
 committed-at_tick _ (next {h = h} l (makes_table name columns e)) q id t = committed-at_tick h l q id t
@@ -122,11 +122,11 @@ pub numbered : (h : History) → Legal h → (q : ℕ) → IsNumbered (sequence 
 numbered [] start q = (tt, tt)
 numbered _ (next {h = h} l (begins who e)) q = numbered h l q
 numbered _ (next {h = h} l (ends who t committed mine)) q = numbered h l q
-numbered _ (next {h = h} l (begins_block who e)) q = numbered h l q
+numbered _ (next {h = h} l (begins_block who e is_open)) q = numbered h l q
 numbered _ (next {h = h} l (fails_block who e f)) q = numbered h l q
 numbered _ (next {h = h} l (ends_block who e)) q = numbered h l q
 numbered _ (next {h = h} l (connects who e)) q = numbered h l q
-numbered _ (next {h = h} l (disconnects who)) q = numbered h l q
+numbered _ (next {h = h} l (disconnects who quiet away)) q = numbered h l q
 numbered _ (next {h = h} l (repeats_block who)) q = numbered h l q
 numbered _ (next {h = h} l (looks who)) q = numbered h l q
 numbered _ (next {h = h} l (makes_table name columns e)) q = numbered h l q

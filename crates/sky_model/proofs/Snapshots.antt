@@ -225,11 +225,11 @@ sound_ended h who t committed mine s = record {
 sound_step : (h : History) (mark : Mark) → Fine h mark → Sound h → Sound (mark ∷ h)
 sound_step h _ (begins who e) s = sound_began h who s
 sound_step h _ (ends who t committed mine) s = sound_ended h who t committed mine s
-sound_step h _ (begins_block who e) s = record { first = s.first; runs = s.runs; ended_below = s.ended_below; rising = s.rising; below = s.below; owns = s.owns; once = s.once }
+sound_step h _ (begins_block who e is_open) s = record { first = s.first; runs = s.runs; ended_below = s.ended_below; rising = s.rising; below = s.below; owns = s.owns; once = s.once }
 sound_step h _ (fails_block who e f) s = record { first = s.first; runs = s.runs; ended_below = s.ended_below; rising = s.rising; below = s.below; owns = s.owns; once = s.once }
 sound_step h _ (ends_block who e) s = record { first = s.first; runs = s.runs; ended_below = s.ended_below; rising = s.rising; below = s.below; owns = s.owns; once = s.once }
 sound_step h _ (connects who e) s = record { first = s.first; runs = s.runs; ended_below = s.ended_below; rising = s.rising; below = s.below; owns = s.owns; once = s.once }
-sound_step h _ (disconnects who) s = record { first = s.first; runs = s.runs; ended_below = s.ended_below; rising = s.rising; below = s.below; owns = s.owns; once = s.once }
+sound_step h _ (disconnects who quiet away) s = record { first = s.first; runs = s.runs; ended_below = s.ended_below; rising = s.rising; below = s.below; owns = s.owns; once = s.once }
 sound_step h _ (repeats_block who) s = record { first = s.first; runs = s.runs; ended_below = s.ended_below; rising = s.rising; below = s.below; owns = s.owns; once = s.once }
 sound_step h _ (looks who) s = record { first = s.first; runs = s.runs; ended_below = s.ended_below; rising = s.rising; below = s.below; owns = s.owns; once = s.once }
 sound_step h _ (makes_table name columns e) s = record { first = s.first; runs = s.runs; ended_below = s.ended_below; rising = s.rising; below = s.below; owns = s.owns; once = s.once }
@@ -333,11 +333,11 @@ has_committed-ended _ (next {h = h} l (ends who u false mine)) t = of (t == u) r
         let one : t ≡ u = grind (arith, nat_tests) in
         ih ∙ ap (λ e. e && not (has_rolled_back h t)) (ap (has_ended h) one ∙ own-unended h l who u mine)
     of false same ih = ih
-has_committed-ended _ (next {h = h} l (begins_block who e)) t = has_committed-ended h l t
+has_committed-ended _ (next {h = h} l (begins_block who e is_open)) t = has_committed-ended h l t
 has_committed-ended _ (next {h = h} l (fails_block who e f)) t = has_committed-ended h l t
 has_committed-ended _ (next {h = h} l (ends_block who e)) t = has_committed-ended h l t
 has_committed-ended _ (next {h = h} l (connects who e)) t = has_committed-ended h l t
-has_committed-ended _ (next {h = h} l (disconnects who)) t = has_committed-ended h l t
+has_committed-ended _ (next {h = h} l (disconnects who quiet away)) t = has_committed-ended h l t
 has_committed-ended _ (next {h = h} l (repeats_block who)) t = has_committed-ended h l t
 has_committed-ended _ (next {h = h} l (looks who)) t = has_committed-ended h l t
 has_committed-ended _ (next {h = h} l (makes_table name columns e)) t = has_committed-ended h l t

@@ -105,11 +105,11 @@ pub committed_later : (h : History) → Legal h → (q from to t : ℕ) → from
 committed_later [] start q from to t less there = absurd (cc)
 committed_later _ (next {h = h} l (begins who e)) q from to t less there = committed_later h l q from to t less there
 committed_later _ (next {h = h} l (ends who u c mine)) q from to t less there = committed_later h l q from to t less there
-committed_later _ (next {h = h} l (begins_block who e)) q from to t less there = committed_later h l q from to t less there
+committed_later _ (next {h = h} l (begins_block who e is_open)) q from to t less there = committed_later h l q from to t less there
 committed_later _ (next {h = h} l (fails_block who e f)) q from to t less there = committed_later h l q from to t less there
 committed_later _ (next {h = h} l (ends_block who e)) q from to t less there = committed_later h l q from to t less there
 committed_later _ (next {h = h} l (connects who e)) q from to t less there = committed_later h l q from to t less there
-committed_later _ (next {h = h} l (disconnects who)) q from to t less there = committed_later h l q from to t less there
+committed_later _ (next {h = h} l (disconnects who quiet away)) q from to t less there = committed_later h l q from to t less there
 committed_later _ (next {h = h} l (repeats_block who)) q from to t less there = committed_later h l q from to t less there
 committed_later _ (next {h = h} l (looks who)) q from to t less there = committed_later h l q from to t less there
 committed_later _ (next {h = h} l (makes_table name columns e)) q from to t less there = committed_later h l q from to t less there

@@ -145,11 +145,11 @@ left-step h _ (ends who t false mine) l all = λ table key.
     (each-without (Left (ended (of_session who) t false ∷ h) table key) t (kept h table key)
     (each-map (Left h table key) (Left (ended (of_session who) t false ∷ h) table key) (kept h table key) (λ v is. record { within = is.within; fits = is.fits }) (all table key)))
 left-step h _ (begins who e) l all = left-same h (began (of_session who) (next_txid h)) (λ table key v is. record { within = is.within; fits = is.fits }) (λ table key. refl) all
-left-step h _ (begins_block who e) l all = left-same h (block_begun who) (λ table key v is. record { within = is.within; fits = is.fits }) (λ table key. refl) all
+left-step h _ (begins_block who e is_open) l all = left-same h (block_begun who) (λ table key v is. record { within = is.within; fits = is.fits }) (λ table key. refl) all
 left-step h _ (fails_block who e f) l all = left-same h (block_failed who) (λ table key v is. record { within = is.within; fits = is.fits }) (λ table key. refl) all
 left-step h _ (ends_block who e) l all = left-same h (block_ended who) (λ table key v is. record { within = is.within; fits = is.fits }) (λ table key. refl) all
 left-step h _ (connects who e) l all = left-same h (connected who) (λ table key v is. record { within = is.within; fits = is.fits }) (λ table key. refl) all
-left-step h _ (disconnects who) l all = left-same h (disconnected who) (λ table key v is. record { within = is.within; fits = is.fits }) (λ table key. refl) all
+left-step h _ (disconnects who quiet away) l all = left-same h (disconnected who) (λ table key v is. record { within = is.within; fits = is.fits }) (λ table key. refl) all
 left-step h _ (repeats_block who) l all = left-same h (repeats who) (λ table key v is. record { within = is.within; fits = is.fits }) (λ table key. refl) all
 left-step h _ (looks who) l all = left-same h (looked who) (λ table key v is. record { within = is.within; fits = is.fits }) (λ table key. refl) all
 left-step h _ (begins_waiting who n at_key attempt fits) l all = left-same h (tabled (waits who n at_key attempt)) (λ table key v is. record { within = is.within; fits = is.fits }) (λ table key. refl) all

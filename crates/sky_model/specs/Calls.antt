@@ -75,7 +75,7 @@ row_statement r p who stmt = made_by (row_making r who stmt) (where_of_row stmt)
 abbrev pub row_turn : {P : Type 0} → PartReader P → P → ℕ → RowStmt → Turn
 row_turn r p who stmt = with_settling r p (turn_of who (row_statement r p who stmt))
 
--- a statement of a session, at a place of the database that it has open
+-- a statement of a session, at a place of a database
 abbrev pub making : {P : Type 0} → DatabaseReader P → ℤ → ℕ → Stmt → Making P
 making r now who stmt = record {
   session = λ p. (r.database p).part.session who;

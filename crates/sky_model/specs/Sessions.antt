@@ -67,7 +67,3 @@ pub record Session : Type 0 where
 
 abbrev pub session : History → ℕ → Session
 session h who = record { is_open = has_open who h; block = block who h; txid = own_txid who h; sight = sight_by snapshot (sight who h) }
-
--- a session that has the database not open, and so is in no transaction
-abbrev pub at_rest : Session
-at_rest = record { is_open = false; block = outside; txid = None; sight = at_each }
