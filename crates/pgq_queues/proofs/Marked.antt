@@ -1,5 +1,5 @@
 -- What queues show after what the code changed in them.
-use Rattle.std.proofs.Common.{◌≡◌, ℕ, suc, zero, ◌+◌, ◌<◌, ◌≤◌, List, [], ◌∷◌, ◌++◌, Bool, true, false, ◌||◌, ◌==◌, Option, Some, None, Result, Vec, Global, IfOk, length, get_or, slice_set, get_or-set_same, get_or-set_other, ◌≢◌, option_map, filter, nat_cmp, cond, length-append, refl, sym, ◌∙◌, ap, subst, arith, if◌then◌else◌}
+use Rattle.std.proofs.Common.{◌≡◌, ℕ, suc, zero, ◌+◌, ◌<◌, List, [], ◌∷◌, ◌++◌, Bool, true, false, ◌||◌, ◌==◌, Option, Some, None, Result, Ok, Err, OnErr, Vec, Global, IfOk, length, get_or, slice_set, get_or-set_same, get_or-set_other, ◌≢◌, option_map, filter, nat_cmp, cond, length-append, refl, sym, ◌∙◌, ap, subst, arith, if◌then◌else◌}
 use Rattle.std.proofs.lemmas.Bool.Decides.{nat_tests}
 use Rattle.std.proofs.lemmas.List.Elements.{All-filter}
 use Rattle.std.proofs.lemmas.Result.{IfOk-weaker}
@@ -11,11 +11,12 @@ use Rattle.std.specs.List.{list_any}
 use Rattle.sky_val.specs.declared.event.Event.{Event}
 use Rattle.sky_model.specs.Moment.{HasMoment}
 use Rattle.sky_model.specs.Printed.{EventsHaveMoments}
-use Rattle.sky_model.specs.History.{queued, made, ticked, opened, closed, traced}
+use Rattle.sky_model.specs.History.{queued, made, ticked, registered, opened, closed, traced}
+use Rattle.sky_model.specs.StepQueue.{newest_id}
 use Rattle.sky_model.specs.Queues.{Tick, tick}
 use Rattle.sky_model.specs.Triggers.{TableTrigger}
 use Rattle.sky_model.specs.Selection.{snapshot_at, is_selected, selected_in, selected}
-use Rattle.sky_model.specs.State.{Queue, RowPart, changed_at, changed_for, with_batch, at_position, after_mark, after_marks}
+use Rattle.sky_model.specs.State.{Queue, RowPart, Database, changed_at, changed_for, with_batch, at_position, after_mark, after_marks}
 use Rattle.sky_model.specs.ShownRows.{snapshot_now}
 use Rattle.pgq_queues.specs.declared.batch.Batch.{Batch}
 use Rattle.pgq_queues.specs.Views.{QueueView, TracedTableView, QueuesView}
@@ -130,7 +131,6 @@ undone-insert old new t updates = λ i u. pointwise u i
     pointwise : (u : ℕ) → keeps new u ≡ (u == t || keeps old u)
     pointwise u = updates u ∙ ap (λ b. cond b true (keeps old u)) (is_at-nat t u) ∙ by u (t == u) refl
 
-
 -- ---- the database that queues are shown in
 
 -- one of their queues in the place of another
@@ -150,21 +150,23 @@ one-set v i old new f lt at is = λ j n. pointwise n j
     pointwise : (n : ℕ) → seen_queue (get_or (slice_set v.queues i new) n no_queue) ≡ (if i == n then f (seen_queue (get_or v.queues n no_queue)) else seen_queue (get_or v.queues n no_queue))
     pointwise n = ap seen_queue (get_or-slice_set v.queues i n new lt) ∙ by n (i == n) refl
 
-pub queues-set : (v now : QueuesView) (i : ℕ) (old new : QueueView) (f : Queue → Queue) → v ≡ now → i < length v.queues → old ≡ get_or v.queues i old → seen_queue new ≡ f (seen_queue old)
+here-too : (v now : QueuesView) (i : ℕ) → v ≡ now → i < length now.queues → i < length v.queues
+here-too v now i same lt = subst (λ (w : QueuesView). i < length w.queues) (sym same) lt
+
+pub queues-set : (v now : QueuesView) (i : ℕ) (old new : QueueView) (f : Queue → Queue) → v ≡ now → i < length now.queues → old ≡ get_or v.queues i old → seen_queue new ≡ f (seen_queue old)
     → (part : RowPart) → seen_with part (record v { queues = slice_set v.queues i new }) ≡ record (seen_with part now) { queue = changed_at i f (queue_at now) }
 queues-set v now i old new f same lt at is part =
-    (λ j. record (seen_with part v) { queue = one-set v i old new f lt at is j })
+    (λ j. record (seen_with part v) { queue = one-set v i old new f (here-too v now i same lt) at is j })
     ∙ ap (λ (w : QueuesView). record (seen_with part w) { queue = changed_at i f (queue_at w) }) same
 
 -- the queue at a place is what is shown there
 pub queue-at : (v now : QueuesView) (i : ℕ) (q : QueueView) → v ≡ now → i < length now.queues → q ≡ get_or v.queues i q → seen_queue q ≡ queue_at now i
 queue-at v now i q same lt at =
-    let there : i < length v.queues = subst (λ (w : QueuesView). i < length w.queues) (sym same) lt in
-    ap seen_queue (sym (get_or_from_slice_get v.queues i q no_queue (slice_get_read v.queues (length v.queues) i q refl there at)))
+    ap seen_queue (sym (get_or_from_slice_get v.queues i q no_queue (slice_get_read v.queues (length v.queues) i q refl (here-too v now i same lt) at)))
     ∙ ap (λ (w : QueuesView). queue_at w i) same
 
 -- a tick that is stored is one with the snapshot as it was
-pub ticked-as : (v now : QueuesView) (i : ℕ) (old new : QueueView) (t : Tick) → v ≡ now → i < length v.queues → old ≡ get_or v.queues i old → new ≡ record old { ticks = old.ticks ++ t ∷ [] }
+pub ticked-as : (v now : QueuesView) (i : ℕ) (old new : QueueView) (t : Tick) → v ≡ now → i < length now.queues → old ≡ get_or v.queues i old → new ≡ record old { ticks = old.ticks ++ t ∷ [] }
     → (part : RowPart) → t.snapshot ≡ snapshot_now part → seen_with part (record v { queues = slice_set v.queues i new }) ≡ after_mark (seen_with part now) (queued (ticked i t.id t.time t.seq))
 ticked-as v now i old new t same lt at is part snap =
     queues-set v now i old new (λ q. record q { tick_list = q.tick_list ++ t ∷ [] }) same lt at (ap seen_queue is) part
@@ -199,8 +201,25 @@ made-as v now names queues q name t same more one new count id seq part snap =
     is : t ≡ record { id = 1; time = t.time; snapshot = snapshot_now part; seq = 0 }
     is = λ i. record { id = id i; time = t.time; snapshot = snap i; seq = seq i }
 
+-- a consumer that is registered stands at the newest tick
+pub registered-as : (v now : QueuesView) (i id newest : ℕ) (name : List ℕ) (old new : QueueView) → v ≡ now → i < length now.queues → old ≡ get_or v.queues i old
+    → seen_queue new ≡ record (seen_queue old) {
+      members = (seen_queue old).members ++ name ∷ [];
+      sub = changed_for name (λ _. Some (record { id = id; position = newest; active = None })) (seen_queue old).sub;
+    }
+    → id ≡ now.last_sub_id + 1 → newest ≡ newest_id (queue_at now i)
+    → (part : RowPart) → seen_with part (record v { last_sub_id = id; queues = slice_set v.queues i new })
+    ≡ after_mark (seen_with part now) (queued (registered i name (now.last_sub_id + 1) (newest_id (queue_at now i))))
+registered-as v now i id newest name old new same lt at is next last part =
+    ap (λ (d : Database). record d { last_sub_id = id })
+    (queues-set v now i old new (λ q. record q {
+      members = q.members ++ name ∷ [];
+      sub = changed_for name (λ _. Some (record { id = id; position = newest; active = None })) q.sub;
+    }) same lt at is part)
+    ∙ (λ j. after_mark (seen_with part now) (queued (registered i name (next j) (last j))))
+
 -- a batch is open once its consumer has it and it is noted
-pub opened-as : (v now : QueuesView) (more : List (ℕ × Batch)) (id : ℕ) (batch : Batch) (old new : QueueView) → v ≡ now → batch.queue < length v.queues → old ≡ get_or v.queues batch.queue old
+pub opened-as : (v now : QueuesView) (more : List (ℕ × Batch)) (id : ℕ) (batch : Batch) (old new : QueueView) → v ≡ now → batch.queue < length now.queues → old ≡ get_or v.queues batch.queue old
     → seen_queue new ≡ record (seen_queue old) { sub = changed_for batch.consumer (option_map (with_batch id)) (seen_queue old).sub }
     → ((q : ℕ) → lookup (is_at (nat_cmp q)) more ≡ cond (is_at (nat_cmp id) q) (Some batch) (lookup (is_at (nat_cmp q)) v.batches))
     → (part : RowPart) → seen_with part (record v { last_batch_id = id; queues = slice_set v.queues batch.queue new; batches = more })
@@ -208,7 +227,7 @@ pub opened-as : (v now : QueuesView) (more : List (ℕ × Batch)) (id : ℕ) (ba
 opened-as v now more id batch old new same lt at is updates part =
     (λ i. record (seen_with part v) {
       last_batch_id = id;
-      queue = one-set v batch.queue old new (λ q. record q { sub = changed_for batch.consumer (option_map (with_batch id)) q.sub }) lt at is i;
+      queue = one-set v batch.queue old new (λ q. record q { sub = changed_for batch.consumer (option_map (with_batch id)) q.sub }) (here-too v now batch.queue same lt) at is i;
       batch = batches-insert v.batches more id batch updates i;
     })
     ∙ ap (λ (w : QueuesView). after_mark (seen_with part w) (queued (opened (seen_batch id batch)))) same
@@ -247,5 +266,14 @@ selects-at now undone q batch id r but same is part =
     IfOk-weaker r _ _ (λ events e. e ∙ ap (λ u. selected_in (keeps u) (seen_queue q) (seen_batch id batch)) but ∙ ap (λ x. selected_in (keeps now.undone) x (seen_batch id batch)) same) is
 
 -- what is kept of tables stays true where neither they nor the triggers change
-pub tables-kept : (old new : QueuesView) → new.triggers ≡ old.triggers → new.traced ≡ old.traced → (part : RowPart) → AreTables part old → AreTables part new
-tables-kept old new triggers tables part are = subst (AreTables part) (λ i. record new { triggers = triggers (~ i); traced = tables (~ i) }) are
+pub tables-kept : (v now : QueuesView) → v ≡ now → (part : RowPart) → AreTables part now → AreTables part v
+tables-kept v now same part are = subst (AreTables part) (sym same) are
+
+-- what is shown is what is kept
+pub shown-as : (v now : QueuesView) → v ≡ now → (part : RowPart) → seen_with part v ≡ seen_with part now
+shown-as v now same part = ap (seen_with part) same
+
+-- what holds anyway holds of a result that is refused
+pub on-err : {A E : Type 0} (r : Result A E) (P : Type 0) → P → OnErr r P
+on-err (Ok a) P is = tt
+on-err (Err e) P is = is

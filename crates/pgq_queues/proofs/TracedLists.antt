@@ -1,16 +1,17 @@
 -- The tables with triggers that a database keeps, after one of them changed.
-use Rattle.std.proofs.lemmas.List.{map-append, append-nil}
-use Rattle.std.proofs.Common.{◌≡◌, ℕ, zero, suc, ◌+◌, ◌<◌, ◌≤◌, length-append, Bool, true, false, ◌==◌, List, [], ◌∷◌, ◌++◌, Option, Some, None, option_copied, Bor, IfSome, is_some, Result, Ok, Err, IfOk, OnErr, length, get_or, nat_cmp, cond, refl, sym, ◌∙◌, ap, subst, arith, if◌then◌else◌}
+use Rattle.std.proofs.lemmas.List.{map-append, append-nil, length-set}
+use Rattle.std.proofs.Common.{◌≡◌, ℕ, zero, suc, ◌+◌, ◌<◌, ◌≤◌, length-append, Bool, true, false, ◌==◌, List, [], ◌∷◌, ◌++◌, Option, Some, None, option_copied, Bor, IfSome, is_some, length, get_or, slice_set, option_map, nat_cmp, cond, refl, sym, ◌∙◌, ap, subst, arith, if◌then◌else◌}
 use Rattle.std.proofs.lemmas.Bool.Decides.{nat_tests}
 use Rattle.std.proofs.lemmas.List.Elements.{All-cons, All-append, filter-append}
 use Rattle.std.specs.List.{All}
 use Rattle.std.specs.BTreeMap.{is_at}
 use Rattle.std.specs.Map.{lookup}
+use Rattle.sky_val.specs.declared.column.Column.{Column}
 use Rattle.sky_model.specs.Triggers.{TableTrigger, triggers_of}
 use Rattle.sky_model.specs.State.{RowPart}
-use Rattle.pgq_queues.specs.Views.{QueueView, TracedTableView, QueuesView}
+use Rattle.pgq_queues.specs.Views.{QueueView, TracedTableView, TracedView, QueuesView}
 use Rattle.pgq_queues.specs.Seen.{kept}
-use Rattle.pgq_queues.specs.Traced.{no_trigger, triggers_at, places_of, ArePlaced, TracedWithin, IsTable, IsTraced, AreTables}
+use Rattle.pgq_queues.specs.Traced.{no_trigger, triggers_at, traced_by, traced_at, places_of, ArePlaced, TracedWithin, IsTable, IsTraced, AreTables}
 use Rattle.pgq_queues.specs.declared.batch.Batch.{Batch}
 use Rattle.pgq_queues.specs.Batches.{BatchesWithin}
 use Rattle.pgq_queues.proofs.Marked.{is_at-nat}
@@ -152,6 +153,14 @@ pub queues-more : (count : ℕ) (xs : List TableTrigger) (x : TableTrigger) → 
 queues-more count xs x all lt =
     All-append (λ (y : TableTrigger). y.trigger.queue < count) xs (x ∷ []) all (All-cons (λ (y : TableTrigger). y.trigger.queue < count) x [] lt (λ k d low. absurd (omega arith)))
 
+-- what is true of queues, where one of them and what is kept of batches has changed
+abbrev AreWithin : ℕ → List (List ℕ) → List (ℕ × Batch) → List TableTrigger → List (ℕ × TracedTableView) → Type 0
+AreWithin count names batches triggers all = (count ≡ length names) × (BatchesWithin count batches × TracedWithin count triggers all)
+
+pub within-set : (queues : List QueueView) (names : List (List ℕ)) (batches : List (ℕ × Batch)) (triggers : List TableTrigger) (all : List (ℕ × TracedTableView)) (i : ℕ) (q : QueueView)
+    → AreWithin (length queues) names batches triggers all → AreWithin (length (slice_set queues i q)) names batches triggers all
+within-set queues names batches triggers all i q are = subst (λ count. AreWithin count names batches triggers all) (sym (length-set queues i q)) are
+
 pub lengths : (xs ys zs : List QueueView) (q : QueueView) (ns ms : List (List ℕ)) (n : List ℕ) → ys ≡ zs ++ q ∷ [] → zs ≡ xs → ms ≡ ns ++ n ∷ [] → length xs ≡ length ns
     → (length ys ≡ length ms) × (length xs ≤ length ys)
 lengths xs ys zs q ns ms n one two three same =
@@ -191,49 +200,72 @@ traced-more count triggers ts more x old new n place t was same is updates its a
       places = places-more triggers x old new n t updates its (ap TracedTableView.places with ∙ (λ i. places_of (at i) ++ (at_end ∙ ap length same) i ∷ [])) within.places;
     })
 
--- where what is kept of a table has changed, and only triggers of it may have come, each table is as it was that is another
-tables-where : (part : RowPart) (old : QueuesView) (ts : List TableTrigger) (new : List (ℕ × TracedTableView)) (n : ℕ) (t : TracedTableView) → Updated old.traced new n (Some t)
-    → ((m : ℕ) → (n == m) ≡ false → triggers_of m ts ≡ triggers_of m old.triggers) → IsTable part n t.name t.columns → AreTables part old → (m : ℕ) → IsTraced part m ts (kept new m)
-tables-where part old ts new n t updates same here are m = subst (IsTraced part m ts) (sym (kept-updated old.traced new n (Some t) updates m)) (by (n == m) refl)
+-- ---- that names and columns are kept of tables
+
+-- where what is kept of a table has changed, and only triggers of it may have come, each other table is as it was
+tables-where : (v : QueuesView) (ts : List TableTrigger) (new : List (ℕ × TracedTableView)) (n : ℕ) (t : TracedTableView) → Updated v.traced new n (Some t)
+    → ((m : ℕ) → (n == m) ≡ false → triggers_of m ts ≡ triggers_of m v.triggers) → (part : RowPart) → IsTable part n t.name t.columns → AreTables part v → (m : ℕ) → IsTraced part m ts (kept new m)
+tables-where v ts new n t updates same part here are m = subst (IsTraced part m ts) (sym (kept-updated v.traced new n (Some t) updates m)) (by (n == m) refl)
   where
-    other : (o : Option TracedTableView) → triggers_of m ts ≡ triggers_of m old.triggers → IsTraced part m old.triggers o → IsTraced part m ts o
+    other : (o : Option TracedTableView) → triggers_of m ts ≡ triggers_of m v.triggers → IsTraced part m v.triggers o → IsTraced part m ts o
     other None alike is = alike ∙ is
     other (Some x) alike is = is
 
-    by : (b : Bool) → (n == m) ≡ b → IsTraced part m ts (if b then Some t else kept old.traced m)
+    by : (b : Bool) → (n == m) ≡ b → IsTraced part m ts (if b then Some t else kept v.traced m)
     by true e = let one : n ≡ m = grind (arith, nat_tests) in subst (λ k. IsTable part k t.name t.columns) one here
-    by false e = other (kept old.traced m) (same m e) (are m)
+    by false e = other (kept v.traced m) (same m e) (are m)
 
 -- a table has come
-pub tables-new : (old new : QueuesView) (n : ℕ) (t : TracedTableView) → new.triggers ≡ old.triggers → Updated old.traced new.traced n (Some t)
-    → (part : RowPart) → IsTable part n t.name t.columns → AreTables part old → AreTables part new
-tables-new old new n t triggers updates part here are =
-    tables-where part old new.triggers new.traced n t updates (λ m other. ap (triggers_of m) triggers) here are
+pub tables-new : (v now : QueuesView) (new : List (ℕ × TracedTableView)) (n : ℕ) (t : TracedTableView) (name : List ℕ) (columns : List Column) → v ≡ now → Updated v.traced new n (Some t)
+    → t.name ≡ name → t.columns ≡ columns → (part : RowPart) → IsTable part n name columns → AreTables part now → (m : ℕ) → IsTraced part m v.triggers (kept new m)
+tables-new v now new n t name columns same updates named of_columns part here are =
+    tables-where v v.triggers new n t updates (λ m other. refl) part (here.0 ∙ ap Some (sym named), here.1 ∙ sym of_columns) (subst (AreTables part) (sym same) are)
 
--- or what is kept of a table has changed, but not its name and its columns, and a trigger of it may have come
-there : (part : RowPart) (n : ℕ) (ts : List TableTrigger) (was : TracedTableView) (o : Option TracedTableView) → Some was ≡ o → IsTraced part n ts o → IsTable part n was.name was.columns
-there part n ts was o at is = subst (IsTraced part n ts) (sym at) is
+-- or a trigger of a table has come
+table-there : (part : RowPart) (n : ℕ) (ts : List TableTrigger) (was : TracedTableView) (o : Option TracedTableView) → Some was ≡ o → IsTraced part n ts o → IsTable part n was.name was.columns
+table-there part n ts was o at is = subst (IsTraced part n ts) (sym at) is
 
-pub tables-at : (old new : QueuesView) (n : ℕ) (t was : TracedTableView) → new.triggers ≡ old.triggers → Updated old.traced new.traced n (Some t) → Some was ≡ kept old.traced n
-    → t.name ≡ was.name → t.columns ≡ was.columns → (part : RowPart) → AreTables part old → AreTables part new
-tables-at old new n t was triggers updates at name columns part are =
-    tables-new old new n t triggers updates part
-    (subst (λ (x : TracedTableView). IsTable part n x.name x.columns) (λ i. record t { name = name (~ i); columns = columns (~ i) }) (there part n old.triggers was (kept old.traced n) at (are n))) are
-
-pub tables-more : (old new : QueuesView) (n : ℕ) (x : TableTrigger) (t was : TracedTableView) → new.triggers ≡ old.triggers ++ x ∷ [] → x.table ≡ n → Updated old.traced new.traced n (Some t) → Some was ≡ kept old.traced n
-    → t.name ≡ was.name → t.columns ≡ was.columns → (part : RowPart) → AreTables part old → AreTables part new
-tables-more old new n x t was triggers its updates at name columns part are =
-    tables-where part old new.triggers new.traced n t updates alike
-    (subst (λ (y : TracedTableView). IsTable part n y.name y.columns) (λ i. record t { name = name (~ i); columns = columns (~ i) }) (there part n old.triggers was (kept old.traced n) at (are n))) are
+pub tables-more : (v now : QueuesView) (more : List TableTrigger) (new : List (ℕ × TracedTableView)) (n : ℕ) (x : TableTrigger) (t was : TracedTableView) → v ≡ now → more ≡ v.triggers ++ x ∷ [] → x.table ≡ n
+    → Updated v.traced new n (Some t) → Some was ≡ kept v.traced n → t.name ≡ was.name → t.columns ≡ was.columns → (part : RowPart) → AreTables part now → (m : ℕ) → IsTraced part m more (kept new m)
+tables-more v now more new n x t was same is its updates at named of_columns part are =
+    tables-where v more new n t updates alike part (here.0 ∙ ap Some (sym named), here.1 ∙ sym of_columns) before
   where
-    alike : (m : ℕ) → (n == m) ≡ false → triggers_of m new.triggers ≡ triggers_of m old.triggers
+    before : AreTables part v
+    before = subst (AreTables part) (sym same) are
+
+    here : IsTable part n was.name was.columns
+    here = table-there part n v.triggers was (kept v.traced n) at (before n)
+
+    alike : (m : ℕ) → (n == m) ≡ false → triggers_of m more ≡ triggers_of m v.triggers
     alike m other =
         let apart : (x.table == m) ≡ false = ap (λ k. k == m) its ∙ other in
-        ap (triggers_of m) triggers ∙ triggers_of-more m old.triggers x
-        ∙ ap (λ b. triggers_of m old.triggers ++ (if b then x ∷ [] else [])) apart
-        ∙ append-nil (triggers_of m old.triggers)
+        ap (triggers_of m) is ∙ triggers_of-more m v.triggers x
+        ∙ ap (λ b. triggers_of m v.triggers ++ (if b then x ∷ [] else [])) apart
+        ∙ append-nil (triggers_of m v.triggers)
 
--- the triggers at the places that are kept of a table are its own
-pub traced-own : (ts : List TableTrigger) (all : List (ℕ × TracedTableView)) (n : ℕ) (o : Option TracedTableView) → o ≡ kept all n → ((m : ℕ) → ArePlaced ts m (places_of (kept all m)))
-    → triggers_at ts (places_of o) ≡ triggers_of n ts
-traced-own ts all n o is placed = (placed-at ts all n o is placed).own
+-- ---- a table with its triggers
+
+-- the table that is found
+pub traced-found : (v now : QueuesView) (n : ℕ) (slice : List TableTrigger) (t : TracedTableView) (found : TracedView) → v ≡ now → slice ≡ v.triggers → Some t ≡ kept v.traced n
+    → found ≡ traced_by (triggers_at slice t.places) t → ((m : ℕ) → ArePlaced v.triggers m (places_of (kept v.traced m))) → Some found ≡ traced_at now n
+traced-found v now n slice t found same all at is placed =
+    ap Some is
+    ∙ ap (λ ts. Some (traced_by (triggers_at ts t.places) t)) all
+    ∙ ap (λ own. Some (traced_by own t)) (placed-at v.triggers v.traced n (Some t) at placed).own
+    ∙ ap (option_map (traced_by (triggers_of n v.triggers))) at
+    ∙ ap (λ (w : QueuesView). traced_at w n) same
+
+-- the queues of its triggers are there
+pub found-within : (v now : QueuesView) (n : ℕ) (slice : List TableTrigger) (t : TracedTableView) (found : TracedView) → v ≡ now → slice ≡ v.triggers → Some t ≡ kept v.traced n
+    → found ≡ traced_by (triggers_at slice t.places) t → TracedWithin (length v.queues) v.triggers v.traced → All (λ (x : TableTrigger). x.trigger.queue < length now.queues) found.triggers
+found-within v now n slice t found same all at is within =
+    subst (λ (w : QueuesView). All (λ (x : TableTrigger). x.trigger.queue < length w.queues) found.triggers) same
+    (subst (All (λ (x : TableTrigger). x.trigger.queue < length v.queues)) (sym (ap TracedView.triggers is ∙ ap (λ ts. triggers_at ts t.places) all))
+    (at-queues (length v.queues) v.triggers t.places within.queues (placed-at v.triggers v.traced n (Some t) at within.places).within))
+
+-- one of which nothing is kept has none
+pub none-found : (v now : QueuesView) (n : ℕ) (o : Option TracedTableView) → v ≡ now → o ≡ kept v.traced n → o ≡ None → ((m : ℕ) → ArePlaced v.triggers m (places_of (kept v.traced m)))
+    → triggers_of n now.triggers ≡ []
+none-found v now n o same at none placed =
+    ap (λ (w : QueuesView). triggers_of n w.triggers) (sym same)
+    ∙ sym (placed-at v.triggers v.traced n o at placed).own ∙ ap (λ x. triggers_at v.triggers (places_of x)) none

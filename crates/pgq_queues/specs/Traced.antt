@@ -1,5 +1,5 @@
 -- What is kept of triggers, and of tables with triggers.
-use Rattle.std.specs.Prelude.{◌≡◌, ℕ, ◌<◌, false, List, [], Option, Some, None, length, map, slice_get, slice_index_or}
+use Rattle.std.specs.Prelude.{◌≡◌, ℕ, ◌<◌, false, List, [], Option, Some, None, option_map, length, map, slice_get, slice_index_or}
 use Rattle.std.specs.List.{All}
 use Rattle.sky_val.specs.declared.column.Column.{Column}
 use Rattle.sky_model.specs.Triggers.{TableTrigger, triggers_of}
@@ -18,6 +18,10 @@ triggers_at triggers places = map (λ place. slice_index_or triggers place no_tr
 -- a table with triggers
 abbrev pub traced_by : List TableTrigger → TracedTableView → TracedView
 traced_by triggers t = record { name = t.name; columns = t.columns; triggers = triggers }
+
+-- the table of a number with its triggers, if anything is kept of it
+abbrev pub traced_at : QueuesView → ℕ → Option TracedView
+traced_at q n = option_map (traced_by (triggers_of n q.triggers)) (kept q.traced n)
 
 -- the places of a table, which has none where nothing is kept of it
 abbrev pub places_of : Option TracedTableView → List ℕ

@@ -1,4 +1,4 @@
-ghost use Rattle.std.specs.Prelude.{◌≡◌, ◌+◌, ◌<◌, ◌^◌, [], ◌∷◌, ◌++◌, ◌||◌, ◌==◌, true, Some, None, IfOk, OnOk, OnErr, IfSome, IfNone, option_copied, option_map, length, is_some};
+ghost use Rattle.std.specs.Prelude.{◌≡◌, ℕ, ◌+◌, ◌<◌, ◌^◌, [], ◌∷◌, ◌++◌, ◌||◌, ◌==◌, true, Some, None, IfOk, OnOk, OnErr, IfSome, IfNone, option_copied, option_map, length, is_some};
 ghost use Rattle.std.specs.List.{All};
 ghost use Rattle.sky_model.specs.History.{queued, made, raised, put, ticked, registered, opened, closed, traced};
 ghost use Rattle.sky_model.specs.Moment.{HasMoment};
@@ -12,7 +12,7 @@ ghost use Rattle.sky_model.specs.StepTrigger.{has_trigger};
 ghost use Rattle.sky_model.specs.Triggers.{triggers_of};
 ghost use Rattle.pgq_queues.specs.Seen.{kept, seen_with, seen_queue, seen_batch, queues_of, queue_at, batch_at, no_queues};
 ghost use Rattle.pgq_queues.specs.Ticks.{IsTime};
-ghost use Rattle.pgq_queues.specs.Traced.{traced_by, IsTable, AreTables};
+ghost use Rattle.pgq_queues.specs.Traced.{traced_at, IsTable, AreTables};
 
 use crate::batch::Batch;
 use crate::queue::Queue;
@@ -141,8 +141,9 @@ impl Queues {
 
     /// A table with its triggers, if anything is kept of it.
     pub fn traced(&self, table: u32) -> Option<Traced<'_>>
-        ensures traced { result ≡ option_map (traced_by (triggers_of table self.now.triggers)) (kept self.now.traced table) }
+        ensures traced { result ≡ traced_at self.now table }
         ensures within { IfSome result (λ t. All (λ x. x.trigger.queue < length self.now.queues) t.triggers) }
+        ensures none { IfNone result (triggers_of table self.now.triggers ≡ []) }
     {
         let traced = self.traced.get(&table)?;
         Some(Traced::new(self.triggers.as_slice(), traced))
@@ -215,7 +216,8 @@ impl Queues {
         ensures queues { length self.new.queues ≡ length self.old.queues }
         ensures tables { (part : RowPart) → AreTables part self.old → AreTables part self.new }
     {
-        self.queues[queue].put(event)
+        self.queues[queue].put(event)?;
+        Ok(())
     }
 
     /// One more tick of a queue, with the snapshot as it is now.
@@ -243,7 +245,8 @@ impl Queues {
     {
         let newest = self.queues[queue].ticks().newest().id();
         self.last_sub_id += 1;
-        self.queues[queue].register(self.alloc, consumer, self.last_sub_id, newest)
+        self.queues[queue].register(self.alloc, consumer, self.last_sub_id, newest)?;
+        Ok(())
     }
 
     /// The batch is active from now on, is its consumer's, and is the last that was made.

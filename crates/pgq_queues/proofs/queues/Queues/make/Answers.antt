@@ -2,7 +2,7 @@ use Rattle.std.proofs.Common.{◌≡◌, ℕ, List, length, arith, ap, sym, subs
 use Rattle.pgq_queues.specs.Views.{QueueView}
 use Rattle.pgq_queues.specs.Batches.{BatchesWithin}
 use Rattle.pgq_queues.specs.Traced.{TracedWithin}
-use Rattle.pgq_queues.proofs.Marked.{made-as}
+use Rattle.pgq_queues.proofs.Marked.{made-as, tables-kept}
 use Rattle.pgq_queues.proofs.TracedLists.{lengths, batches-more, within-more}
 use Rattle.pgq_queues.proofs.NumberedQueues.{number-new, length-shown}
 use Rattle.pgq_queues.proofs.queues.Queues.make.Goals as goal
@@ -40,3 +40,12 @@ pub add-requires-clause-room : goal.add-requires-clause-room
 add-requires-clause-room c =
     let same = length-shown _ _ c.self.view_is in
     omega (arith, same, c.requires.room)
+
+pub returns-in_err-reserve-clause-tables : goal.returns-in_err-reserve-clause-tables
+returns-in_err-reserve-clause-tables c = tables-kept _ _ c.self.view_is
+
+pub returns-in_err-add-clause-tables : goal.returns-in_err-add-clause-tables
+returns-in_err-add-clause-tables c = tables-kept _ _ c.self.view_is
+
+pub returns-clause-tables : goal.returns-clause-tables
+returns-clause-tables c = tables-kept _ _ c.self.view_is
