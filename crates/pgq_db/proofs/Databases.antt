@@ -1,5 +1,5 @@
 -- What a database shows, after what the code changed in it.
-use Rattle.std.proofs.Common.{Err, is_ok, drop, ◌≡◌, ℕ, suc, zero, ℤ, ◌+◌, ◌<◌, ◌≤◌, ◌^◌, List, [], ◌∷◌, ◌++◌, Bool, true, false, ◌||◌, ◌==◌, nat_le, Option, Some, None, Result, Ok, Vec, Global, IfOk, OnOk, is_some, length, get_or, slice_set, get_or-set_same, get_or-set_other, ◌≢◌, option_map, filter, nat_cmp, cond, length-append, refl, sym, ◌∙◌, ap, subst, arith, if◌then◌else◌}
+use Rattle.std.proofs.Common.{Err, is_ok, drop, ◌≡◌, ℕ, suc, zero, ℤ, ◌+◌, ◌<◌, ◌≤◌, ◌^◌, List, [], ◌∷◌, ◌++◌, Bool, true, false, ◌||◌, ◌==◌, nat_le, Option, Some, None, Result, Ok, Vec, Global, IfOk, OnOk, IfSome, IfNone, is_some, length, get_or, slice_set, get_or-set_same, get_or-set_other, ◌≢◌, option_map, filter, nat_cmp, cond, length-append, refl, sym, ◌∙◌, ap, subst, arith, if◌then◌else◌}
 use Rattle.std.proofs.lemmas.Bool.Decides.{nat_tests}
 use Rattle.std.proofs.lemmas.List.Elements.{All-filter}
 use Rattle.std.proofs.lemmas.Result.{IfOk-weaker}
@@ -9,6 +9,7 @@ use Rattle.std.specs.BTreeMap.{is_at}
 use Rattle.std.specs.Map.{lookup}
 use Rattle.std.specs.List.{list_any}
 use Rattle.sky_val.specs.declared.event.Event.{Event}
+use Rattle.sky_txid.specs.Snapshot.{SnapshotView}
 use Rattle.sky_names.specs.Places.{place_of}
 use Rattle.sky_model.specs.declared.stmt.Extra.{Extra}
 use Rattle.sky_model.specs.declared.reply.Reply.{Reply}
@@ -23,7 +24,7 @@ use Rattle.sky_model.specs.Moment.{HasMoment}
 use Rattle.sky_model.specs.Printed.{EventsHaveMoments}
 use Rattle.sky_model.specs.declared.stmt.Stmt.{Stmt}
 use Rattle.sky_model.specs.declared.stmt.Where.{Where}
-use Rattle.sky_model.specs.History.{Mark, began, ended, block_begun, repeats, looked, block_failed, block_ended, tabled, table_made, wrote, waits, waited, queued, made, raised, put, ticked, opened, traced}
+use Rattle.sky_model.specs.History.{Mark, began, ended, block_begun, repeats, looked, block_failed, block_ended, tabled, table_made, wrote, waits, waited, queued, QueueMark, made, raised, put, ticked, closed, traced}
 use Rattle.sky_model.specs.Sessions.{Block, outside, inside, failed}
 use Rattle.sky_model.specs.Queues.{queue_number, Tick, tick}
 use Rattle.sky_model.specs.Triggers.{triggers_of}
@@ -50,13 +51,34 @@ use Rattle.sky_session.specs.declared.effect.Effect.TheVariants.{Wrote, Committe
 use Rattle.sky_model.specs.SessionMarks.{look_of, single_end, failure, Enters, entry, entry_place}
 use Rattle.sky_session.specs.Views.{RowDbView}
 use Rattle.sky_session.specs.Seen.{seen}
-use Rattle.pgq_db.specs.declared.batch.Batch.{Batch}
-use Rattle.pgq_db.specs.Views.{QueueView, DbView}
-use Rattle.pgq_db.specs.Seen.{seen_queue, no_queue, seen_batch, keeps, numbered, seen_database}
+use Rattle.pgq_queues.specs.declared.batch.Batch.{Batch}
+use Rattle.pgq_queues.specs.Views.{QueuesView}
+use Rattle.pgq_queues.specs.Seen.{seen_batch, batch_at, seen_with}
+use Rattle.pgq_db.specs.Views.{DbView}
+use Rattle.pgq_db.specs.Seen.{seen_database}
 use Rattle.pgq_db.specs.Undone.{undone_by}
 use Rattle.pgq_db.specs.Gives.{Gives, GivesReply, Does}
 use Rattle.sky_model.specs.Stops.{Refuses}
-use Rattle.pgq_db.proofs.NumberedQueues.{numbered-more}
+
+-- marks of the queues are marks of the database
+pub marked-as : (v now : DbView) (queues : QueuesView) (mark : QueuesView → QueueMark) → v ≡ now → ((part : RowPart) → seen_with part queues ≡ after_mark (seen_with part v.queues) (queued (mark v.queues)))
+    → seen_database (record v { queues = queues }) ≡ after_mark (seen_database now) (queued (mark now.queues))
+marked-as v now queues mark same is = is (seen v.rows) ∙ ap (λ (w : DbView). after_mark (seen_database w) (queued (mark w.queues))) same
+
+-- of those with a snapshot where it is that of the row part
+pub ticked-as : (v now : DbView) (queues : QueuesView) (snapshot : SnapshotView) (marks : QueuesView → List Mark) → v ≡ now → snapshot ≡ snapshot_now (seen now.rows)
+    → ((part : RowPart) → snapshot ≡ snapshot_now part → seen_with part queues ≡ after_marks (seen_with part v.queues) (marks v.queues))
+    → seen_database (record v { queues = queues }) ≡ after_marks (seen_database now) (marks now.queues)
+ticked-as v now queues snapshot marks same snap is =
+    is (seen v.rows) (snap ∙ ap (λ (w : DbView). snapshot_now (seen w.rows)) (sym same)) ∙ ap (λ (w : DbView). after_marks (seen_database w) (marks w.queues)) same
+
+-- and where there is none it is as it was
+pub unmarked-as : (v now : DbView) (queues : QueuesView) → v ≡ now → ((part : RowPart) → seen_with part queues ≡ seen_with part v.queues) → seen_database (record v { queues = queues }) ≡ seen_database now
+unmarked-as v now queues same is = is (seen v.rows) ∙ ap seen_database same
+
+pub none-from : (found : Option ℕ) (place : Option ℕ) → found ≡ place → is_some found ≡ false → place ≡ None
+none-from None place is e = sym is
+none-from (Some n) place is e = cc
 
 -- what a session writes may come behind the marks of its transaction
 event-written : (d : Database) (who t : ℕ) (o : Option ℕ) (b : Block) (q id : ℕ) (event : Event)
@@ -99,6 +121,25 @@ gives-event d s1 s2 s3 now time who name ev_type ev_data extra q seq t event pla
         does_marks (Number id) (written who x (d.part.session who) (queued (raised q id) ∷ queued (put q (made_event id now x ev_type ev_data extra)) ∷ []))))) txid
         ∙ ap (λ b. (refused_if b EventIdsSpent >> Ok ((d.queue q).seq + 1)) >>= result) unspent
         ∙ ap (λ n. result (n + 1)) (sym is)
+
+-- what a batch gives that is finished, and one that there isn't
+pub gives-finish : (v now : DbView) (queues : QueuesView) (id : ℕ) (found : Option Batch) (reply : Reply) → v ≡ now → option_map (seen_batch id) found ≡ batch_at v.queues id
+    → IfSome found (λ b. (part : RowPart) → seen_with part queues ≡ after_mark (seen_with part v.queues) (queued (closed (seen_batch id b))))
+    → IfNone found ((part : RowPart) → seen_with part queues ≡ seen_with part v.queues)
+    → reply ≡ Number (if is_some found then 1 else 0) → Does (seen_database now) (seen_database (record v { queues = queues })) reply (finish_batch (seen_database now) id)
+gives-finish v now queues id found reply same batch over nothing is =
+    subst (λ (w : DbView). Does (seen_database w) after reply (finish_batch (seen_database w) id)) same
+    (subst (λ o. Does (seen_database v) after reply (finishes o)) batch
+    (subst (λ r. Does (seen_database v) after r (finishes (option_map (seen_batch id) found))) (sym is) (of found over nothing)))
+  where
+    after : Database
+    after = seen_database (record v { queues = queues })
+
+    of : (o : Option Batch) → IfSome o (λ b. (part : RowPart) → seen_with part queues ≡ after_mark (seen_with part v.queues) (queued (closed (seen_batch id b))))
+        → IfNone o ((part : RowPart) → seen_with part queues ≡ seen_with part v.queues)
+        → Does (seen_database v) after (Number (if is_some o then 1 else 0)) (finishes (option_map (seen_batch id) o))
+    of None over nothing = record { accepted = refl; changed = nothing (seen v.rows) }
+    of (Some b) over nothing = record { accepted = refl; changed = over (seen v.rows) }
 
 -- what a query for a batch's events gives
 pub gives-events : (d : Database) (id : ℕ) (batch : Batch) (events : List Event) → Some (seen_batch id batch) ≡ d.batch id → events ≡ selected d (seen_batch id batch)
