@@ -1,5 +1,5 @@
 -- What a database shows, after what the code changed in it.
-use Rattle.std.proofs.Common.{Err, is_ok, drop, ◌≡◌, ℕ, suc, zero, ℤ, ◌+◌, ◌<◌, ◌≤◌, ◌^◌, List, [], ◌∷◌, ◌++◌, Bool, true, false, ◌||◌, ◌==◌, nat_le, Option, Some, None, Result, Ok, Vec, Global, IfOk, OnOk, is_some, length, get_or, slice_set, get_or-set_same, get_or-set_other, ◌≢◌, option_map, filter, nat_cmp, cond, length-append, refl, sym, ◌∙◌, ap, subst, arith, if◌then◌else◌}
+use Rattle.std.proofs.Common.{Err, is_ok, drop, ◌≡◌, ℕ, suc, zero, ℤ, ◌+◌, ◌<◌, ◌≤◌, ◌^◌, List, [], ◌∷◌, ◌++◌, Bool, true, false, ◌||◌, ◌==◌, nat_le, Option, Some, None, Result, Ok, Vec, Global, IfOk, OnOk, IfSome, IfNone, is_some, length, get_or, slice_set, get_or-set_same, get_or-set_other, ◌≢◌, option_map, filter, nat_cmp, cond, length-append, refl, sym, ◌∙◌, ap, subst, arith, if◌then◌else◌}
 use Rattle.std.proofs.lemmas.Bool.Decides.{nat_tests}
 use Rattle.std.proofs.lemmas.List.Elements.{All-filter}
 use Rattle.std.proofs.lemmas.Result.{IfOk-weaker}
@@ -9,6 +9,7 @@ use Rattle.std.specs.BTreeMap.{is_at}
 use Rattle.std.specs.Map.{lookup}
 use Rattle.std.specs.List.{list_any}
 use Rattle.sky_val.specs.declared.event.Event.{Event}
+use Rattle.sky_txid.specs.Snapshot.{SnapshotView}
 use Rattle.sky_names.specs.Places.{place_of}
 use Rattle.sky_model.specs.declared.stmt.Extra.{Extra}
 use Rattle.sky_model.specs.declared.reply.Reply.{Reply}
@@ -23,7 +24,7 @@ use Rattle.sky_model.specs.Moment.{HasMoment}
 use Rattle.sky_model.specs.Printed.{EventsHaveMoments}
 use Rattle.sky_model.specs.declared.stmt.Stmt.{Stmt}
 use Rattle.sky_model.specs.declared.stmt.Where.{Where}
-use Rattle.sky_model.specs.History.{Mark, began, ended, block_begun, repeats, looked, block_failed, block_ended, connected, disconnected, tabled, table_made, wrote, waits, waited, queued, made, raised, put, ticked, opened, traced}
+use Rattle.sky_model.specs.History.{Mark, began, ended, block_begun, repeats, looked, block_failed, block_ended, connected, disconnected, tabled, table_made, wrote, waits, waited, queued, QueueMark, made, raised, put, ticked, closed, traced}
 use Rattle.sky_model.specs.Sessions.{Block, outside, inside, failed}
 use Rattle.sky_model.specs.Queues.{queue_number, Tick, tick}
 use Rattle.sky_model.specs.Triggers.{triggers_of}
@@ -50,162 +51,30 @@ use Rattle.sky_session.specs.declared.effect.Effect.TheVariants.{Wrote, Committe
 use Rattle.sky_model.specs.SessionMarks.{look_of, single_end, failure, Enters, entry, entry_place}
 use Rattle.sky_state.specs.Views.{RowStateView}
 use Rattle.sky_state.specs.Seen.{seen}
-use Rattle.pgq_db.specs.declared.batch.Batch.{Batch}
-use Rattle.pgq_db.specs.Views.{QueueView, DbView}
-use Rattle.pgq_db.specs.Seen.{seen_queue, no_queue, seen_batch, keeps, numbered, seen_database}
+use Rattle.pgq_queues.specs.declared.batch.Batch.{Batch}
+use Rattle.pgq_queues.specs.Views.{QueuesView}
+use Rattle.pgq_queues.specs.Seen.{seen_batch, batch_at, seen_with}
+use Rattle.pgq_db.specs.Views.{DbView}
+use Rattle.pgq_db.specs.Seen.{seen_database}
 use Rattle.pgq_db.specs.Undone.{undone_by}
 use Rattle.pgq_db.specs.Gives.{Gives, GivesReply, Does}
 use Rattle.sky_model.specs.Stops.{Refuses}
-use Rattle.pgq_db.proofs.NumberedQueues.{numbered-more}
 
--- the test on an entry's key is equality
-pub is_at-nat : (k n : ℕ) → is_at (nat_cmp k) n ≡ (k == n)
-is_at-nat k n = grind (arith, nat_tests)
+-- marks of the queues are marks of the database
+pub marked-as : (v now : DbView) (queues : QueuesView) (mark : QueuesView → QueueMark) → v ≡ now → ((part : RowPart) → seen_with part queues ≡ after_mark (seen_with part v.queues) (queued (mark v.queues)))
+    → seen_database (record v { queues = queues }) ≡ after_mark (seen_database now) (queued (mark now.queues))
+marked-as v now queues mark same is = is (seen v.rows) ∙ ap (λ (w : DbView). after_mark (seen_database w) (queued (mark w.queues))) same
 
--- a batch under a new id
-pub batches-insert : (old new : List (ℕ × Batch)) (id : ℕ) (batch : Batch)
-    → ((q : ℕ) → lookup (is_at (nat_cmp q)) new ≡ cond (is_at (nat_cmp id) q) (Some batch) (lookup (is_at (nat_cmp q)) old))
-    → (λ n. option_map (seen_batch n) (lookup (is_at (nat_cmp n)) new)) ≡ changed_at id (λ _. Some (seen_batch id batch)) (λ n. option_map (seen_batch n) (lookup (is_at (nat_cmp n)) old))
-batches-insert old new id batch updates = λ i n. pointwise n i
-  where
-    by : (n : ℕ) (b : Bool) → (id == n) ≡ b → option_map (seen_batch n) (cond b (Some batch) (lookup (is_at (nat_cmp n)) old))
-        ≡ (if b then Some (seen_batch id batch) else option_map (seen_batch n) (lookup (is_at (nat_cmp n)) old))
-    by n true e = let same : id ≡ n = grind (arith, nat_tests) in ap (λ m. Some (seen_batch m batch)) (sym same)
-    by n false e = refl
+-- of those with a snapshot where it is that of the row part
+pub ticked-as : (v now : DbView) (queues : QueuesView) (snapshot : SnapshotView) (marks : QueuesView → List Mark) → v ≡ now → snapshot ≡ snapshot_now (seen now.rows)
+    → ((part : RowPart) → snapshot ≡ snapshot_now part → seen_with part queues ≡ after_marks (seen_with part v.queues) (marks v.queues))
+    → seen_database (record v { queues = queues }) ≡ after_marks (seen_database now) (marks now.queues)
+ticked-as v now queues snapshot marks same snap is =
+    is (seen v.rows) (snap ∙ ap (λ (w : DbView). snapshot_now (seen w.rows)) (sym same)) ∙ ap (λ (w : DbView). after_marks (seen_database w) (marks w.queues)) same
 
-    pointwise : (n : ℕ) → option_map (seen_batch n) (lookup (is_at (nat_cmp n)) new)
-        ≡ (if id == n then Some (seen_batch id batch) else option_map (seen_batch n) (lookup (is_at (nat_cmp n)) old))
-    pointwise n = ap (option_map (seen_batch n)) (updates n ∙ ap (λ b. cond b (Some batch) (lookup (is_at (nat_cmp n)) old)) (is_at-nat id n)) ∙ by n (id == n) refl
-
--- and one that is gone
-pub batches-remove : (old new : List (ℕ × Batch)) (id : ℕ)
-    → ((q : ℕ) → lookup (is_at (nat_cmp q)) new ≡ cond (is_at (nat_cmp id) q) None (lookup (is_at (nat_cmp q)) old))
-    → (λ n. option_map (seen_batch n) (lookup (is_at (nat_cmp n)) new)) ≡ changed_at id (λ _. None) (λ n. option_map (seen_batch n) (lookup (is_at (nat_cmp n)) old))
-batches-remove old new id updates = λ i n. pointwise n i
-  where
-    by : (n : ℕ) (b : Bool) → option_map (seen_batch n) (cond b None (lookup (is_at (nat_cmp n)) old))
-        ≡ (if b then None else option_map (seen_batch n) (lookup (is_at (nat_cmp n)) old))
-    by n true = refl
-    by n false = refl
-
-    pointwise : (n : ℕ) → option_map (seen_batch n) (lookup (is_at (nat_cmp n)) new)
-        ≡ (if id == n then None else option_map (seen_batch n) (lookup (is_at (nat_cmp n)) old))
-    pointwise n = ap (option_map (seen_batch n)) (updates n ∙ ap (λ b. cond b None (lookup (is_at (nat_cmp n)) old)) (is_at-nat id n)) ∙ by n (id == n)
-
--- a batch that is noted as the last
-pub batch-noted : (v now : DbView) (more : List (ℕ × Batch)) (id : ℕ) (batch : Batch) → v ≡ now
-    → ((q : ℕ) → lookup (is_at (nat_cmp q)) more ≡ cond (is_at (nat_cmp id) q) (Some batch) (lookup (is_at (nat_cmp q)) v.batches))
-    → seen_database (record v { last_batch_id = id; batches = more }) ≡ record (seen_database now) { last_batch_id = id; batch = changed_at id (λ _. Some (seen_batch id batch)) (seen_database now).batch }
-batch-noted v now more id batch same updates =
-    (λ i. record (seen_database v) { last_batch_id = id; batch = batches-insert v.batches more id batch updates i })
-    ∙ ap (λ (w : DbView). record (seen_database w) { last_batch_id = id; batch = changed_at id (λ _. Some (seen_batch id batch)) (seen_database w).batch }) same
-
-past_end : {A : Type 0} (xs : List A) (d : A) (i : ℕ) → length xs ≤ i → get_or xs i d ≡ d
-past_end [] d i le = refl
-past_end (x ∷ xs) d zero le = absurd (omega arith)
-past_end (x ∷ xs) d (suc i) le = past_end xs d i (omega arith)
-
--- a queue that is made has its first tick alone
-pub queues-made : (queues : List QueueView) (t : Tick) (count : ℕ) → count ≡ length queues
-    → (λ n. seen_queue (get_or (queues ++ record { seq = 0; events = []; ticks = t ∷ []; subs = [] } ∷ []) n no_queue))
-    ≡ changed_at count (λ q. record q { tick_list = q.tick_list ++ t ∷ [] }) (λ n. seen_queue (get_or queues n no_queue))
-queues-made queues t count is = λ i n. pointwise queues n count is i
-  where
-    new : QueueView
-    new = record { seq = 0; events = []; ticks = t ∷ []; subs = [] }
-
-    at : (b : Bool) (n : ℕ) → (zero == suc n) ≡ b → seen_queue no_queue ≡ (if b then record (seen_queue no_queue) { tick_list = t ∷ [] } else seen_queue no_queue)
-    at true n e = absurd (grind (arith, nat_tests))
-    at false n e = refl
-
-    first : (b : Bool) (qs : List QueueView) (x : QueueView) → (suc (length qs) == zero) ≡ b → seen_queue x ≡ (if b then record (seen_queue x) { tick_list = (seen_queue x).tick_list ++ t ∷ [] } else seen_queue x)
-    first true qs x e = absurd (grind (arith, nat_tests))
-    first false qs x e = refl
-
-    shift : (m n : ℕ) → (m == n) ≡ (suc m == suc n)
-    shift m n = grind (arith, nat_tests)
-
-    pointwise : (qs : List QueueView) (n m : ℕ) → m ≡ length qs
-        → seen_queue (get_or (qs ++ record { seq = 0; events = []; ticks = t ∷ []; subs = [] } ∷ []) n no_queue)
-        ≡ (if m == n then record (seen_queue (get_or qs n no_queue)) { tick_list = (seen_queue (get_or qs n no_queue)).tick_list ++ t ∷ [] } else seen_queue (get_or qs n no_queue))
-    pointwise [] zero m e =
-        let yes_it_is : true ≡ (m == zero) = grind (arith, nat_tests) in
-        ap (λ b. if b then record (seen_queue no_queue) { tick_list = t ∷ [] } else seen_queue no_queue) yes_it_is
-    pointwise [] (suc n) m e =
-        at (zero == suc n) n refl ∙ ap (λ k. if k == suc n then record (seen_queue no_queue) { tick_list = t ∷ [] } else seen_queue no_queue) (sym e)
-    pointwise (x ∷ qs) zero m e =
-        first (suc (length qs) == zero) qs x refl
-        ∙ ap (λ k. if k == zero then record (seen_queue x) { tick_list = (seen_queue x).tick_list ++ t ∷ [] } else seen_queue x) (sym e)
-    pointwise (x ∷ qs) (suc n) m e =
-        pointwise qs n (length qs) refl
-        ∙ ap (λ b. if b then record (seen_queue (get_or qs n no_queue)) { tick_list = (seen_queue (get_or qs n no_queue)).tick_list ++ t ∷ [] } else seen_queue (get_or qs n no_queue)) (shift (length qs) n)
-        ∙ ap (λ k. if k == suc n then record (seen_queue (get_or qs n no_queue)) { tick_list = (seen_queue (get_or qs n no_queue)).tick_list ++ t ∷ [] } else seen_queue (get_or qs n no_queue)) (sym e)
-
-get_or-slice_set : (xs : List QueueView) (i n : ℕ) (x : QueueView) → i < length xs → get_or (slice_set xs i x) n no_queue ≡ (if i == n then x else get_or xs n no_queue)
-get_or-slice_set xs i n x lt = by (i == n) refl
-  where
-    by : (b : Bool) → (i == n) ≡ b → get_or (slice_set xs i x) n no_queue ≡ (if b then x else get_or xs n no_queue)
-    by true e = let same : i ≡ n = grind (arith, nat_tests) in ap (λ m. get_or (slice_set xs i x) m no_queue) (sym same) ∙ get_or-set_same xs i x no_queue lt
-    by false e = let other : n ≢ i = grind (arith, nat_tests) in get_or-set_other xs i n x no_queue other
-
--- a queue in the place of another
-pub queues-set : (v now : DbView) (i : ℕ) (old new : QueueView) (f : Queue → Queue) → v ≡ now → i < length v.queues → old ≡ get_or v.queues i old → seen_queue new ≡ f (seen_queue old)
-    → seen_database (record v { queues = slice_set v.queues i new }) ≡ record (seen_database now) { queue = changed_at i f (seen_database now).queue }
-queues-set v now i old new f same lt at is =
-    (λ j. record (seen_database v) { queue = λ n. pointwise n j })
-    ∙ ap (λ (w : DbView). record (seen_database w) { queue = changed_at i f (seen_database w).queue }) same
-  where
-    here : get_or v.queues i no_queue ≡ old
-    here = get_or_from_slice_get v.queues i old no_queue (slice_get_read v.queues (length v.queues) i old refl lt at)
-
-    by : (n : ℕ) (b : Bool) → (i == n) ≡ b → seen_queue (if b then new else get_or v.queues n no_queue) ≡ (if b then f (seen_queue (get_or v.queues n no_queue)) else seen_queue (get_or v.queues n no_queue))
-    by n true e =
-        let one : i ≡ n = grind (arith, nat_tests) in
-        is ∙ ap (λ q. f (seen_queue q)) (sym here) ∙ ap (λ m. f (seen_queue (get_or v.queues m no_queue))) one
-    by n false e = refl
-
-    pointwise : (n : ℕ) → seen_queue (get_or (slice_set v.queues i new) n no_queue) ≡ (if i == n then f (seen_queue (get_or v.queues n no_queue)) else seen_queue (get_or v.queues n no_queue))
-    pointwise n = ap seen_queue (get_or-slice_set v.queues i n new lt) ∙ by n (i == n) refl
-
--- the queue at a place is what is shown there
-pub queue-at : (v now : DbView) (i : ℕ) (q : QueueView) → v ≡ now → i < length now.queues → q ≡ get_or v.queues i q → seen_queue q ≡ (seen_database now).queue i
-queue-at v now i q same lt at =
-    let there : i < length v.queues = subst (λ (w : DbView). i < length w.queues) (sym same) lt in
-    ap seen_queue (sym (get_or_from_slice_get v.queues i q no_queue (slice_get_read v.queues (length v.queues) i q refl there at)))
-    ∙ ap (λ (w : DbView). (seen_database w).queue i) same
-
--- a tick that is stored is one with the snapshot as it was
-pub ticked-as : (d s : Database) (q : ℕ) (t : Tick) → s ≡ record d { queue = changed_at q (λ x. record x { tick_list = x.tick_list ++ t ∷ [] }) d.queue }
-    → t.snapshot ≡ snapshot_now d.part → s ≡ after_mark d (queued (ticked q t.id t.time t.seq))
-ticked-as d s q t is snap =
-    is ∙ ap (λ x. record d { queue = changed_at q (λ y. record y { tick_list = y.tick_list ++ record { id = t.id; time = t.time; snapshot = x; seq = t.seq } ∷ [] }) d.queue }) snap
-
--- a queue that is made has its first tick, with the snapshot as it was
-pub made-as : (v now : DbView) (names : List (List ℕ)) (queues : List QueueView) (q : QueueView) (name : List ℕ) (t : Tick) → v ≡ now
-    → names ≡ v.names ++ name ∷ [] → queues ≡ v.queues ++ q ∷ [] → q ≡ record { seq = 0; events = []; ticks = t ∷ []; subs = [] } → length v.queues ≡ length v.names
-    → t.id ≡ 1 → t.seq ≡ 0 → t.snapshot ≡ snapshot_now (seen_database now).part
-    → seen_database (record v { names = names; queues = queues }) ≡ after_marks (seen_database now) (queued (made name) ∷ queued (ticked (length now.names) 1 t.time 0) ∷ [])
-made-as v now names queues q name t same more one new count id seq snap =
-    (λ i. record (seen_database v) {
-      queues_made = (ap length more ∙ length-append v.names (name ∷ [])) i;
-      queues = (ap (numbered 0) more ∙ numbered-more v.names name) i;
-      queue = ((λ j n. seen_queue (get_or (one j) n no_queue))
-          ∙ ap (λ x. λ n. seen_queue (get_or (v.queues ++ x ∷ []) n no_queue)) new
-          ∙ queues-made v.queues t (length v.names) (sym count)) i;
-    })
-    ∙ ap (λ (w : DbView). record (seen_database w) {
-      queues_made = length w.names + 1;
-      queues = numbered 0 w.names ++ record { number = length w.names; name = name } ∷ [];
-      queue = changed_at (length w.names) (λ x. record x { tick_list = x.tick_list ++ t ∷ [] }) (seen_database w).queue;
-    }) same
-    ∙ ap (λ (x : Tick). record (seen_database now) {
-      queues_made = length now.names + 1;
-      queues = numbered 0 now.names ++ record { number = length now.names; name = name } ∷ [];
-      queue = changed_at (length now.names) (λ y. record y { tick_list = y.tick_list ++ x ∷ [] }) (seen_database now).queue;
-    }) is
-  where
-    is : t ≡ record { id = 1; time = t.time; snapshot = snapshot_now (seen_database now).part; seq = 0 }
-    is = λ i. record { id = id i; time = t.time; snapshot = snap i; seq = seq i }
+-- and where there is none it is as it was
+pub unmarked-as : (v now : DbView) (queues : QueuesView) → v ≡ now → ((part : RowPart) → seen_with part queues ≡ seen_with part v.queues) → seen_database (record v { queues = queues }) ≡ seen_database now
+unmarked-as v now queues same is = is (seen v.rows) ∙ ap seen_database same
 
 pub none-from : (found : Option ℕ) (place : Option ℕ) → found ≡ place → is_some found ≡ false → place ≡ None
 none-from None place is e = sym is
@@ -253,47 +122,24 @@ gives-event d s1 s2 s3 now time who name ev_type ev_data extra q seq t event pla
         ∙ ap (λ b. (refused_if b EventIdsSpent >> Ok ((d.queue q).seq + 1)) >>= result) unspent
         ∙ ap (λ n. result (n + 1)) (sym is)
 
--- a batch is open once its consumer has it and it is noted
-pub opened-as : (d s1 s2 : Database) (id : ℕ) (batch : Batch)
-    → s1 ≡ record d { queue = changed_at batch.queue (λ q. record q { sub = changed_for batch.consumer (option_map (with_batch id)) q.sub }) d.queue }
-    → s2 ≡ record s1 { last_batch_id = id; batch = changed_at id (λ _. Some (seen_batch id batch)) s1.batch }
-    → s2 ≡ after_mark d (queued (opened (seen_batch id batch)))
-opened-as d s1 s2 id batch given noted = noted ∙ ap (λ (s : Database). record s { last_batch_id = id; batch = changed_at id (λ _. Some (seen_batch id batch)) s.batch }) given
+-- what a batch gives that is finished, and one that there isn't
+pub gives-finish : (v now : DbView) (queues : QueuesView) (id : ℕ) (found : Option Batch) (reply : Reply) → v ≡ now → option_map (seen_batch id) found ≡ batch_at v.queues id
+    → IfSome found (λ b. (part : RowPart) → seen_with part queues ≡ after_mark (seen_with part v.queues) (queued (closed (seen_batch id b))))
+    → IfNone found ((part : RowPart) → seen_with part queues ≡ seen_with part v.queues)
+    → reply ≡ Number (if is_some found then 1 else 0) → Does (seen_database now) (seen_database (record v { queues = queues })) reply (finish_batch (seen_database now) id)
+gives-finish v now queues id found reply same batch over nothing is =
+    subst (λ (w : DbView). Does (seen_database w) after reply (finish_batch (seen_database w) id)) same
+    (subst (λ o. Does (seen_database v) after reply (finishes o)) batch
+    (subst (λ r. Does (seen_database v) after r (finishes (option_map (seen_batch id) found))) (sym is) (of found over nothing)))
+  where
+    after : Database
+    after = seen_database (record v { queues = queues })
 
--- what a finished batch gives
-pub gives-finish : (d s1 s2 : Database) (id : ℕ) (batch : Batch) → Some (seen_batch id batch) ≡ d.batch id
-    → s1 ≡ record d { batch = changed_at id (λ _. None) d.batch }
-    → s2 ≡ record s1 { queue = changed_at batch.queue (λ q. record q { sub = changed_for batch.consumer (option_map (at_position batch.cur)) q.sub }) s1.queue }
-    → Does d s2 (Number 1) (finish_batch d id)
-gives-finish d s1 s2 id batch there forgotten over =
-    subst (λ found. Does d s2 (Number 1) (finishes found)) there (record {
-      accepted = refl;
-      changed = over ∙ ap (λ (s : Database). record s { queue = changed_at batch.queue (λ q. record q { sub = changed_for batch.consumer (option_map (at_position batch.cur)) q.sub }) s.queue }) forgotten;
-    })
-
--- what is selected between two ticks are the events of a batch
-pub selects : (undone : ℕ → Bool) (v now : QueueView) (batch : Batch) (prev cur : Option Tick) (events : List Event) (id : ℕ) (r : Result (Vec Event Global) AllocError) → v ≡ now
-    → prev ≡ tick batch.prev v.ticks → cur ≡ tick batch.cur v.ticks → events ≡ v.events
-    → IfOk r (λ selected. selected.items ≡ filter (is_selected undone (snapshot_at prev) (snapshot_at cur) batch.sub) events)
-    → IfOk r (λ selected. selected.items ≡ selected_in undone (seen_queue now) (seen_batch id batch))
-selects undone v now batch prev cur events id r same from_is to_is all is =
-    IfOk-weaker r _ _ (λ selected e. e
-    ∙ ap (λ es. filter (is_selected undone (snapshot_at prev) (snapshot_at cur) batch.sub) es) all
-    ∙ ap (λ t. filter (is_selected undone (snapshot_at t) (snapshot_at cur) batch.sub) v.events) from_is
-    ∙ ap (λ t. filter (is_selected undone (snapshot_at (tick batch.prev v.ticks)) (snapshot_at t) batch.sub) v.events) to_is
-    ∙ ap (λ (q : QueueView). selected_in undone (seen_queue q) (seen_batch id batch)) same) is
-
--- they were made at times that are printed, as all are
-pub selects-moments : (stored events : List Event) (p : Event → Bool) (r : Result (Vec Event Global) AllocError) → EventsHaveMoments stored → events ≡ stored
-    → IfOk r (λ selected. selected.items ≡ filter p events) → IfOk r (λ selected. EventsHaveMoments selected.items)
-selects-moments stored events p r have all is =
-    IfOk-weaker r _ _ (λ selected e. subst EventsHaveMoments (sym (e ∙ ap (filter p) all)) (All-filter p (λ event. HasMoment event.ev_time) stored have)) is
-
--- the events of a batch of a queue that is there
-pub selects-at : (d : Database) (undone : ℕ → Bool) (q : QueueView) (batch : Batch) (id : ℕ) (r : Result (Vec Event Global) AllocError) → undone ≡ d.undone → seen_queue q ≡ d.queue batch.queue
-    → IfOk r (λ events. events.items ≡ selected_in undone (seen_queue q) (seen_batch id batch)) → IfOk r (λ events. events.items ≡ selected d (seen_batch id batch))
-selects-at d undone q batch id r but same is =
-    IfOk-weaker r _ _ (λ events e. e ∙ ap (λ u. selected_in u (seen_queue q) (seen_batch id batch)) but ∙ ap (λ x. selected_in d.undone x (seen_batch id batch)) same) is
+    of : (o : Option Batch) → IfSome o (λ b. (part : RowPart) → seen_with part queues ≡ after_mark (seen_with part v.queues) (queued (closed (seen_batch id b))))
+        → IfNone o ((part : RowPart) → seen_with part queues ≡ seen_with part v.queues)
+        → Does (seen_database v) after (Number (if is_some o then 1 else 0)) (finishes (option_map (seen_batch id) o))
+    of None over nothing = record { accepted = refl; changed = nothing (seen v.rows) }
+    of (Some b) over nothing = record { accepted = refl; changed = over (seen v.rows) }
 
 -- what a query for a batch's events gives
 pub gives-events : (d : Database) (id : ℕ) (batch : Batch) (events : List Event) → Some (seen_batch id batch) ≡ d.batch id → events ≡ selected d (seen_batch id batch)
@@ -343,24 +189,6 @@ gives-queue d s now who t name new room txid is = subst (Does d s (Number 1)) (s
         ap (λ found. if is_some found then answers (Number 0) else (refused_if (nat_le 64 (length d.queues)) (TooMany Queues) >> (txid_for d.part who >>= result))) new
         ∙ ap (λ b. refused_if b (TooMany Queues) >> (txid_for d.part who >>= result)) few
         ∙ ap (λ c. c >>= result) txid
-
--- a transaction that was noted as rolled back
-pub undone-insert : (old new : List ℕ) (t : ℕ) → ((q : ℕ) → list_any (is_at (nat_cmp q)) new ≡ cond (is_at (nat_cmp t) q) true (list_any (is_at (nat_cmp q)) old))
-    → keeps new ≡ (λ u. u == t || keeps old u)
-undone-insert old new t updates = λ i u. pointwise u i
-  where
-    by : (u : ℕ) (b : Bool) → (t == u) ≡ b → cond b true (keeps old u) ≡ (u == t || keeps old u)
-    by u true e = (let yes_it_is : true ≡ (u == t) = grind (arith, nat_tests) in ap (λ c. c || keeps old u) yes_it_is)
-    by u false e = (let it_is_not : false ≡ (u == t) = grind (arith, nat_tests) in ap (λ c. c || keeps old u) it_is_not)
-
-    pointwise : (u : ℕ) → keeps new u ≡ (u == t || keeps old u)
-    pointwise u = updates u ∙ ap (λ b. cond b true (keeps old u)) (is_at-nat t u) ∙ by u (t == u) refl
-
-pub undone-as : (v now : DbView) (more : List ℕ) (t : ℕ) → v ≡ now → ((q : ℕ) → list_any (is_at (nat_cmp q)) more ≡ cond (is_at (nat_cmp t) q) true (list_any (is_at (nat_cmp q)) v.undone))
-    → seen_database (record v { undone = more }) ≡ record (seen_database now) { undone = λ u. u == t || (seen_database now).undone u }
-undone-as v now more t same updates =
-    (λ i. record (seen_database v) { undone = undone-insert v.undone more t updates i })
-    ∙ ap (λ (w : DbView). record (seen_database w) { undone = λ u. u == t || (seen_database w).undone u }) same
 
 -- a database whose row part alone has changed
 pub part-as : (v now : DbView) (rows : RowStateView) (part : RowPart) → v ≡ now → seen rows ≡ part → seen_database (record v { rows = rows }) ≡ record (seen_database now) { part = part }

@@ -1,6 +1,6 @@
 -- The gate of events keeps what tells a database of writes: so a statement behind it does what it does in the database.
 use Rattle.std.proofs.Common.{◌≡◌, ℕ, ℤ, zero, suc, ◌+◌, ◌<◌, ◌^◌, Bool, true, false, nat_le, ◌==◌, List, [], ◌∷◌, ◌++◌, Option, Some, None, Ok, Err, is_ok, IfSome, map, length, refl, sym, ◌∙◌, ap, subst, arith, if◌then◌else◌}
-use Rattle.std.specs.Prelude.{not, ◌&&◌, slice_get, slice_index_or, unwrap_or}
+use Rattle.std.specs.Prelude.{not, ◌&&◌, option_map, slice_get, unwrap_or}
 use Rattle.std.proofs.lemmas.Bool.Decides.{nat_tests}
 use Rattle.sky_val.specs.declared.val.Val.{Val}
 use Rattle.sky_val.specs.declared.column.Column.{Column}
@@ -26,61 +26,14 @@ use Rattle.sky_model.proofs.Telling.{IsOther, TellsAlike, SameTold, settling-tol
 use Rattle.sky_session.specs.declared.answer.RowStep.{RowStep}
 use Rattle.sky_session.specs.Gives.{GivesTurn}
 use Rattle.pgq_db.specs.declared.told.Told.{Told}
-use Rattle.pgq_db.specs.Views.{QueueView, TracedTableView}
-use Rattle.pgq_db.specs.Seen.{seen_queue, no_queue, kept}
-use Rattle.pgq_db.specs.Traced.{triggers_at, places_of, ArePlaced, IsTable, AreTables}
+use Rattle.pgq_queues.specs.Views.{TracedTableView, QueuesView}
+use Rattle.pgq_queues.specs.Seen.{queue_at, kept, seen_with}
+use Rattle.pgq_queues.specs.Traced.{traced_by, traced_at, IsTraced, AreTables}
 use Rattle.pgq_db.specs.Undone.{undone_by}
 use Rattle.pgq_db.specs.EventGates.{EventGateView, events_at, ids_left, told_from, seq_behind, seqs, event_rule, queues_behind, AreStorable}
 use Rattle.pgq_db.specs.Gives.{Gives}
 use Rattle.pgq_db.proofs.Databases.{noted-as}
-
--- ---- tables that are made stay as they are
-
-if-some : {A : Type 0} (o : Option A) (P Q : A → Type 0) → ((a : A) → P a → Q a) → IfSome o P → IfSome o Q
-if-some None P Q f is = tt
-if-some (Some a) P Q f is = f a is
-
-get-within : {A : Type 0} (xs : List A) (n : ℕ) (a : A) → slice_get xs n ≡ Some a → n < length xs
-get-within [] n a is = absurd (cc)
-get-within (x ∷ xs) zero a is = omega arith
-get-within (x ∷ xs) (suc n) a is = let lt = get-within xs n a is in omega arith
-
-get-more : {A : Type 0} (xs ys : List A) (n : ℕ) (a : A) → slice_get xs n ≡ Some a → slice_get (xs ++ ys) n ≡ Some a
-get-more [] ys n a is = absurd (cc)
-get-more (x ∷ xs) ys zero a is = is
-get-more (x ∷ xs) ys (suc n) a is = get-more xs ys n a is
-
-other-columns : (m n : ℕ) (columns : List Column) (f : ℕ → List Column) → n < m → changed_at m (λ _. columns) f n ≡ f n
-other-columns m n columns f lt = by (m == n) refl
-  where
-    by : (b : Bool) → (m == n) ≡ b → (if b then columns else f n) ≡ f n
-    by true e = let same : m ≡ n = grind (arith, nat_tests) in absurd (omega arith)
-    by false e = refl
-
-pub table-kept : (p : RowPart) (mark : Mark) (n : ℕ) (t : TracedTableView) → IsTable p n t → IsTable (after_part p mark) n t
-table-kept p (began who t') n t is = is
-table-kept p (ended who t' true) n t is = is
-table-kept p (ended who t' false) n t is = is
-table-kept p (block_begun who) n t is = is
-table-kept p (repeats who) n t is = is
-table-kept p (looked who) n t is = is
-table-kept p (block_failed who) n t is = is
-table-kept p (block_ended who) n t is = is
-table-kept p (connected who) n t is = is
-table-kept p (disconnected who) n t is = is
-table-kept p (tabled (table_made name columns)) n t is =
-    (get-more p.tables (name ∷ []) n t.name is.0, other-columns (length p.tables) n columns p.columns (get-within p.tables n t.name is.0) ∙ is.1)
-table-kept p (tabled (wrote who t' table key old new)) n t is = is
-table-kept p (tabled (waits who table key attempt)) n t is = is
-table-kept p (tabled (waited who)) n t is = is
-table-kept p (queued mark) n t is = is
-
-pub tables-kept : (p : RowPart) (mark : Mark) (traced : List (ℕ × TracedTableView)) → AreTables p traced → AreTables (after_part p mark) traced
-tables-kept p mark traced are n = if-some (kept traced n) (IsTable p n) (IsTable (after_part p mark) n) (table-kept p mark n) (are n)
-
-pub tables-behind : (p : RowPart) (marks : List Mark) (traced : List (ℕ × TracedTableView)) → AreTables p traced → AreTables (after_part_marks p marks) traced
-tables-behind p [] traced are = are
-tables-behind p (mark ∷ marks) traced are = tables-behind (after_part p mark) marks traced (tables-kept p mark traced are)
+use Rattle.pgq_db.proofs.Tables.{tables-kept}
 
 -- ---- what is told of events reads queues alone
 
@@ -173,21 +126,17 @@ behind-append (x ∷ xs) f ys = behind-append xs (changed_at x.queue (λ q. reco
 
 -- ---- a database, its row part, and the gate
 
--- the queues of a database, of those that the gate was set up with
-abbrev queues_of : List QueueView → ℕ → Queue
-queues_of queues n = seen_queue (slice_index_or queues n no_queue)
-
-pub record Alike (now : ℤ) (triggers : List TableTrigger) (traced : List (ℕ × TracedTableView)) (queues : List QueueView) (d : Database) (p : RowPart) (g : EventGateView) : Type 0 where
+-- a database, its row part, and a gate that was set up with these queues
+pub record Alike (now : ℤ) (queues : QueuesView) (d : Database) (p : RowPart) (g : EventGateView) : Type 0 where
   pub part : d.part ≡ p
-  pub gate : g ≡ record { now = now; triggers = triggers; traced = traced; queues = queues; told = g.told }
-  pub queue : d.queue ≡ queues_behind (queues_of queues) g.told
-  pub all : d.triggers ≡ triggers
-  pub placed : (n : ℕ) → ArePlaced triggers n (places_of (kept traced n))
-  pub tables : AreTables p traced
+  pub gate : g ≡ record { now = now; queues = queues; told = g.told }
+  pub queue : d.queue ≡ queues_behind (queue_at queues) g.told
+  pub all : d.triggers ≡ queues.triggers
+  pub tables : AreTables p queues
 
-module _ (now : ℤ) (triggers : List TableTrigger) (traced : List (ℕ × TracedTableView)) (queues : List QueueView) where
+module _ (now : ℤ) (queues : QueuesView) where
   abbrev Here : Database → RowPart → EventGateView → Type 0
-  Here d p g = Alike now triggers traced queues d p g
+  Here d p g = Alike now queues d p g
 
   beside-other : (d : Database) (mark : Mark) → IsOther mark → ((after_mark d mark).queue ≡ d.queue) × ((after_mark d mark).triggers ≡ d.triggers)
   beside-other d (began who t) other = (refl, refl)
@@ -209,30 +158,30 @@ module _ (now : ℤ) (triggers : List TableTrigger) (traced : List (ℕ × Trace
     gate = is.gate;
     queue = (beside-other d mark other).0 ∙ is.queue;
     all = (beside-other d mark other).1 ∙ is.all;
-    placed = is.placed;
-    tables = tables-kept p mark traced is.tables;
+    tables = tables-kept p mark queues is.tables;
   }
 
   -- the events of a write are those that the gate makes
   same-events : (d : Database) (p : RowPart) (g : EventGateView) (table : ℕ) (old new : Option (List Val)) → Here d p g
-      → events_in d table old new ≡ events_at g.triggers (kept g.traced table) (record { table = table; old = old; new = new })
+      → events_in d table old new ≡ events_at (traced_at g.queues table) (record { table = table; old = old; new = new })
   same-events d p g table old new is =
       ap (λ (x : RowPart). events_of (record { table = unwrap_or (slice_get x.tables table) []; columns = x.columns table; old = old; new = new }) (map TableTrigger.trigger (triggers_of table d.triggers))) is.part
-      ∙ ap (told_by_them p) (ap (triggers_of table) is.all ∙ sym (is.placed table).own)
-      ∙ by (kept traced table) (is.tables table)
-      ∙ ap (λ (x : EventGateView). events_at x.triggers (kept x.traced table) (record { table = table; old = old; new = new })) (sym is.gate)
+      ∙ ap (told_by_them p) (ap (triggers_of table) is.all)
+      ∙ by (kept queues.traced table) (is.tables table)
+      ∙ ap (λ (x : EventGateView). events_at (traced_at x.queues table) (record { table = table; old = old; new = new })) (sym is.gate)
     where
       told_by_them : RowPart → List TableTrigger → List RowEvent
       told_by_them x ts = events_of (record { table = unwrap_or (slice_get x.tables table) []; columns = x.columns table; old = old; new = new }) (map TableTrigger.trigger ts)
 
-      by : (o : Option TracedTableView) → IfSome o (IsTable p table) → told_by_them p (triggers_at triggers (places_of o)) ≡ events_at triggers o (record { table = table; old = old; new = new })
-      by None there = refl
-      by (Some t) there = λ i. events_of (record { table = unwrap_or (there.0 i) []; columns = there.1 i; old = old; new = new }) (map TableTrigger.trigger (triggers_at triggers t.places))
+      by : (o : Option TracedTableView) → IsTraced p table queues.triggers o
+          → told_by_them p (triggers_of table queues.triggers) ≡ events_at (option_map (traced_by (triggers_of table queues.triggers)) o) (record { table = table; old = old; new = new })
+      by None none = ap (told_by_them p) none
+      by (Some t) there = λ i. events_of (record { table = unwrap_or (there.0 i) []; columns = there.1 i; old = old; new = new }) (map TableTrigger.trigger (triggers_of table queues.triggers))
 
   same-seqs : (d : Database) (p : RowPart) (g : EventGateView) → Here d p g → (λ n. (d.queue n).seq) ≡ seqs g
   same-seqs d p g is =
       ap (λ (f : ℕ → Queue). λ n. (f n).seq) is.queue
-      ∙ (λ i n. seq-behind g.told (queues_of queues) n i)
+      ∙ (λ i n. seq-behind g.told (queue_at queues) n i)
       ∙ ap seqs (sym is.gate)
 
   room-alike : (d : Database) (p : RowPart) (g : EventGateView) (who t table : ℕ) (key : List Val) (old new : Option (List Val)) → Here d p g
@@ -249,12 +198,11 @@ module _ (now : ℤ) (triggers : List TableTrigger) (traced : List (ℕ × Trace
   wrote-alike d p g who t table key old new told is ok =
       subst (λ (s : Database). Here s (after_part p write) (passed event_rule g write)) (sym behind) (record {
         part = ap (λ x. after_part x write) is.part;
-        gate = (λ i. record (is.gate i) { told = g.told ++ told_from (seqs g) g.now t (events_at g.triggers (kept g.traced table) (record { table = table; old = old; new = new })) });
-        queue = ap (λ (f : ℕ → Queue). queues_behind f made) is.queue ∙ sym (behind-append g.told (queues_of queues) made)
-            ∙ ap (λ xs. queues_behind (queues_of queues) (g.told ++ xs)) same;
+        gate = (λ i. record (is.gate i) { told = g.told ++ told_from (seqs g) g.now t (events_at (traced_at g.queues table) (record { table = table; old = old; new = new })) });
+        queue = ap (λ (f : ℕ → Queue). queues_behind f made) is.queue ∙ sym (behind-append g.told (queue_at queues) made)
+            ∙ ap (λ xs. queues_behind (queue_at queues) (g.told ++ xs)) same;
         all = is.all;
-        placed = is.placed;
-        tables = tables-kept p write traced is.tables;
+        tables = tables-kept p write queues is.tables;
       })
     where
       write : Mark
@@ -263,7 +211,7 @@ module _ (now : ℤ) (triggers : List TableTrigger) (traced : List (ℕ × Trace
       made : List Told
       made = told_from (λ n. (d.queue n).seq) now t (events_in d table old new)
 
-      same : made ≡ told_from (seqs g) g.now t (events_at g.triggers (kept g.traced table) (record { table = table; old = old; new = new }))
+      same : made ≡ told_from (seqs g) g.now t (events_at (traced_at g.queues table) (record { table = table; old = old; new = new }))
       same =
           ap (λ f. told_from f now t (events_in d table old new)) (same-seqs d p g is)
           ∙ ap (λ (x : EventGateView). told_from (seqs g) x.now t (events_in d table old new)) (sym is.gate)
@@ -282,13 +230,13 @@ module _ (now : ℤ) (triggers : List TableTrigger) (traced : List (ℕ × Trace
 rebuilt : BesideQueues → (ℕ → Queue) → Database
 rebuilt b queue = record { part = b.part; undone = b.undone; last_batch_id = b.last_batch_id; last_sub_id = b.last_sub_id; queues_made = b.queues_made; queues = b.queues; queue = queue; batch = b.batch; triggers = b.triggers }
 
-gives-told : (now : ℤ) (triggers : List TableTrigger) (traced : List (ℕ × TracedTableView)) (queues : List QueueView) (d s1 s3 : Database) (g g' : EventGateView) (gated told : Turn) (step : RowStep) (events : List Told)
-    → SameTold event_rule (Alike now triggers traced queues) d d.part g gated told → TurnOfRows gated → GivesTurn d.part s1.part step gated
-    → d.queue ≡ queues_of queues → g' ≡ passed_all event_rule g gated.marks → events ≡ g'.told
+gives-told : (now : ℤ) (queues : QueuesView) (d s1 s3 : Database) (g g' : EventGateView) (gated told : Turn) (step : RowStep) (events : List Told)
+    → SameTold event_rule (Alike now queues) d d.part g gated told → TurnOfRows gated → GivesTurn d.part s1.part step gated
+    → d.queue ≡ queue_at queues → g' ≡ passed_all event_rule g gated.marks → events ≡ g'.told
     → s1 ≡ record d { part = s1.part } → s3 ≡ record s1 { undone = undone_by step.effects s1.undone; queue = queues_behind s1.queue events }
     → Gives d s3 step.replies told
 unfolding rebuilt
-gives-told now triggers traced queues d s1 s3 g g' gated told step events same rows gives base passed_is events_are but stored = record {
+gives-told now queues d s1 s3 g g' gated told step events same rows gives base passed_is events_are but stored = record {
   replied = gives.replied ∙ sym same.answers;
   changed = stored
       ∙ (λ i. rebuilt (beside (row_marks i)) (queue i))
@@ -305,41 +253,40 @@ gives-told now triggers traced queues d s1 s3 g g' gated told step events same r
     queue =
         ap (λ (x : Database). queues_behind x.queue events) but
         ∙ ap (λ f. queues_behind f events) base
-        ∙ ap (λ es. queues_behind (queues_of queues) es) (events_are ∙ ap EventGateView.told passed_is)
+        ∙ ap (λ es. queues_behind (queue_at queues) es) (events_are ∙ ap EventGateView.told passed_is)
         ∙ sym same.stands.queue
 
 -- a gate that has made no event yet
-pub alike-new : (now : ℤ) (triggers : List TableTrigger) (traced : List (ℕ × TracedTableView)) (queues : List QueueView) (d : Database) (g : EventGateView) → g ≡ record { now = now; triggers = triggers; traced = traced; queues = queues; told = [] }
-    → d.queue ≡ queues_of queues → d.triggers ≡ triggers → ((n : ℕ) → ArePlaced triggers n (places_of (kept traced n))) → AreTables d.part traced → Alike now triggers traced queues d d.part g
-alike-new now triggers traced queues d g is base all placed tables = record {
+pub alike-new : (now : ℤ) (queues : QueuesView) (d : Database) (g : EventGateView) → g ≡ record { now = now; queues = queues; told = [] }
+    → d.queue ≡ queue_at queues → d.triggers ≡ queues.triggers → AreTables d.part queues → Alike now queues d d.part g
+alike-new now queues d g is base all tables = record {
   part = refl;
-  gate = is ∙ ap (λ ts. let x : EventGateView = record { now = now; triggers = triggers; traced = traced; queues = queues; told = ts } in x) (sym (ap EventGateView.told is));
-  queue = base ∙ ap (queues_behind (queues_of queues)) (sym (ap EventGateView.told is));
+  gate = is ∙ ap (λ ts. let x : EventGateView = record { now = now; queues = queues; told = ts } in x) (sym (ap EventGateView.told is));
+  queue = base ∙ ap (queues_behind (queue_at queues)) (sym (ap EventGateView.told is));
   all = all;
-  placed = placed;
   tables = tables;
 }
 
 -- what is given by a statement on rows
-pub gives-step : (now : ℤ) (triggers : List TableTrigger) (traced : List (ℕ × TracedTableView)) (queues : List QueueView) (d s1 s3 : Database) (g g' : EventGateView) (who : ℕ) (stmt : RowStmt) (step : RowStep) (events : List Told)
-    → Alike now triggers traced queues d d.part g → GivesTurn d.part s1.part step (row_turn (by_gate event_rule part_by_itself) (d.part, g) who stmt)
-    → d.queue ≡ queues_of queues → g' ≡ passed_all event_rule g (row_turn (by_gate event_rule part_by_itself) (d.part, g) who stmt).marks → events ≡ g'.told
+pub gives-step : (now : ℤ) (queues : QueuesView) (d s1 s3 : Database) (g g' : EventGateView) (who : ℕ) (stmt : RowStmt) (step : RowStep) (events : List Told)
+    → Alike now queues d d.part g → GivesTurn d.part s1.part step (row_turn (by_gate event_rule part_by_itself) (d.part, g) who stmt)
+    → d.queue ≡ queue_at queues → g' ≡ passed_all event_rule g (row_turn (by_gate event_rule part_by_itself) (d.part, g) who stmt).marks → events ≡ g'.told
     → s1 ≡ record d { part = s1.part } → s3 ≡ record s1 { undone = undone_by step.effects s1.undone; queue = queues_behind s1.queue events }
     → Gives d s3 step.replies (database_turn database_by_itself d now who (Row stmt))
-gives-step now triggers traced queues d s1 s3 g g' who stmt step events is gives =
-    gives-told now triggers traced queues d s1 s3 g g' _ _ step events
-    (row_turn-told event_rule now (Alike now triggers traced queues) (events-alike now triggers traced queues) d d.part g who stmt is)
+gives-step now queues d s1 s3 g g' who stmt step events is gives =
+    gives-told now queues d s1 s3 g g' _ _ step events
+    (row_turn-told event_rule now (Alike now queues) (events-alike now queues) d d.part g who stmt is)
     (row_turn-rows-by (by_gate event_rule part_by_itself) (by_gate-rows event_rule part_by_itself itself-rows) (d.part, g) who stmt) gives
 
 -- and by those that may go on
-pub gives-settle : (now : ℤ) (triggers : List TableTrigger) (traced : List (ℕ × TracedTableView)) (queues : List QueueView) (d s1 s3 : Database) (g g' : EventGateView) (step : RowStep) (events : List Told)
-    → Alike now triggers traced queues d d.part g → GivesTurn d.part s1.part step (settling (by_gate event_rule part_by_itself) (d.part, g))
-    → d.queue ≡ queues_of queues → g' ≡ passed_all event_rule g (settling (by_gate event_rule part_by_itself) (d.part, g)).marks → events ≡ g'.told
+pub gives-settle : (now : ℤ) (queues : QueuesView) (d s1 s3 : Database) (g g' : EventGateView) (step : RowStep) (events : List Told)
+    → Alike now queues d d.part g → GivesTurn d.part s1.part step (settling (by_gate event_rule part_by_itself) (d.part, g))
+    → d.queue ≡ queue_at queues → g' ≡ passed_all event_rule g (settling (by_gate event_rule part_by_itself) (d.part, g)).marks → events ≡ g'.told
     → s1 ≡ record d { part = s1.part } → s3 ≡ record s1 { undone = undone_by step.effects s1.undone; queue = queues_behind s1.queue events }
     → Gives d s3 step.replies (settling (within_part database_by_itself now) d)
-gives-settle now triggers traced queues d s1 s3 g g' step events is gives =
-    gives-told now triggers traced queues d s1 s3 g g' _ _ step events
-    (settling-told event_rule now (Alike now triggers traced queues) (events-alike now triggers traced queues) d d.part g is)
+gives-settle now queues d s1 s3 g g' step events is gives =
+    gives-told now queues d s1 s3 g g' _ _ step events
+    (settling-told event_rule now (Alike now queues) (events-alike now queues) d d.part g is)
     (settling-rows-by (by_gate event_rule part_by_itself) (by_gate-rows event_rule part_by_itself itself-rows) (d.part, g)) gives
 
 -- a gate keeps the queues that it was set up with
@@ -373,11 +320,12 @@ settle-moments part g = (settling-rows-by (by_gate event_rule part_by_itself) (b
 
 -- ---- events are stored one after the other
 
-pub store-next : (d s1 s2 : Database) (x : Told) (all rest : List Told) → all ≡ x ∷ rest → s1 ≡ after_mark d (queued (raised x.queue x.event.ev_id)) → s2 ≡ after_mark s1 (queued (put x.queue x.event))
-    → record s2 { queue = queues_behind s2.queue rest } ≡ record d { queue = queues_behind d.queue all }
-store-next d s1 s2 x all rest is one two =
+pub store-next : (q1 q2 q3 : QueuesView) (x : Told) (all rest : List Told) → all ≡ x ∷ rest → (part : RowPart) → seen_with part q2 ≡ after_mark (seen_with part q1) (queued (raised x.queue x.event.ev_id))
+    → seen_with part q3 ≡ after_mark (seen_with part q2) (queued (put x.queue x.event))
+    → record (seen_with part q3) { queue = queues_behind (queue_at q3) rest } ≡ record (seen_with part q1) { queue = queues_behind (queue_at q1) all }
+store-next q1 q2 q3 x all rest is part one two =
     ap (λ (s : Database). record s { queue = queues_behind s.queue rest }) (two ∙ ap (λ s. after_mark s (queued (put x.queue x.event))) one)
-    ∙ ap (λ xs. record d { queue = queues_behind d.queue xs }) (sym is)
+    ∙ ap (λ xs. record (seen_with part q1) { queue = queues_behind (queue_at q1) xs }) (sym is)
 
 pub storable-rest : (count later : ℕ) (x : Told) (all rest : List Told) → all ≡ x ∷ rest → later ≡ count → AreStorable count all → AreStorable later rest
 storable-rest count later x all rest is same are = subst (λ n. AreStorable n rest) (sym same) (λ k d lt. subst (AreStorable count) is are (suc k) d (omega (arith, lt)))

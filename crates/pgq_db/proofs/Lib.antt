@@ -1,10 +1,7 @@
-pub mod TickLists
-pub mod SubLists
-pub mod NumberedQueues
 pub mod Databases
 pub mod Moments
 pub mod Empty
 pub mod Waiters
 pub mod Telling
+pub mod Tables
 pub mod EventsAlike
-pub mod TracedLists

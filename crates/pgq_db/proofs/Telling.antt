@@ -13,8 +13,8 @@ use Rattle.sky_model.specs.Triggers.{TableTrigger}
 use Rattle.sky_model.specs.State.{changed_at}
 use Rattle.sky_model.specs.Telling.{told_event}
 use Rattle.pgq_db.specs.declared.told.Told.{Told}
-use Rattle.pgq_db.specs.Views.{QueueView, TracedView}
-use Rattle.pgq_db.specs.Traced.{no_trigger}
+use Rattle.pgq_queues.specs.Views.{TracedView, QueuesView}
+use Rattle.pgq_queues.specs.Traced.{no_trigger}
 use Rattle.pgq_db.specs.EventGates.{events_by, table_events, ids_left, told_from, seq_behind, seqs_behind, count_of, Begins, AreStorable}
 
 -- ---- the triggers of a write
@@ -85,15 +85,15 @@ seq-more queue seq [] x = refl
 seq-more queue seq (y ∷ ys) x = seq-more queue (if y.queue == queue then y.event.ev_id else seq) ys x
 
 -- of events that are looked through from the newest on, those that are left leave a queue's sequence as all do
-abbrev pub LeftBehind : List QueueView → ℕ → List Told → List Told → Type 0
+abbrev pub LeftBehind : QueuesView → ℕ → List Told → List Told → Type 0
 LeftBehind queues queue all left = seqs_behind queues left queue ≡ seqs_behind queues all queue
 
-last_of_left : (queues : List QueueView) (queue : ℕ) (all left rest : List Told) (x : Told) → LeftBehind queues queue all left → left ≡ push rest x
+last_of_left : (queues : QueuesView) (queue : ℕ) (all left rest : List Told) (x : Told) → LeftBehind queues queue all left → left ≡ push rest x
     → (if x.queue == queue then x.event.ev_id else seqs_behind queues rest queue) ≡ seqs_behind queues all queue
 last_of_left queues queue all left rest x same is = sym (seq-more queue _ rest x) ∙ ap (λ told. seqs_behind queues told queue) (sym is) ∙ same
 
 -- the last of those that are left is of the queue, so it has the queue's newest id
-pub newest_id : (queues : List QueueView) (queue : ℕ) (all left rest : List Told) (x : Told) → LeftBehind queues queue all left → left ≡ push rest x → x.queue ≡ queue
+pub newest_id : (queues : QueuesView) (queue : ℕ) (all left rest : List Told) (x : Told) → LeftBehind queues queue all left → left ≡ push rest x → x.queue ≡ queue
     → x.event.ev_id ≡ seqs_behind queues all queue
 newest_id queues queue all left rest x same is its = ap (λ b. if b then x.event.ev_id else seqs_behind queues rest queue) (sym yes) ∙ last_of_left queues queue all left rest x same is
   where
@@ -101,7 +101,7 @@ newest_id queues queue all left rest x same is its = ap (λ b. if b then x.event
     yes = grind (arith, nat_tests)
 
 -- or it isn't of the queue, so that id is before it
-pub id_before : (queues : List QueueView) (queue : ℕ) (all left rest : List Told) (x : Told) → LeftBehind queues queue all left → left ≡ push rest x → x.queue ≢ queue
+pub id_before : (queues : QueuesView) (queue : ℕ) (all left rest : List Told) (x : Told) → LeftBehind queues queue all left → left ≡ push rest x → x.queue ≢ queue
     → LeftBehind queues queue all rest
 id_before queues queue all left rest x same is other = ap (λ b. if b then x.event.ev_id else seqs_behind queues rest queue) (sym no) ∙ last_of_left queues queue all left rest x same is
   where
@@ -109,7 +109,7 @@ id_before queues queue all left rest x same is other = ap (λ b. if b then x.eve
     no = grind (arith, nat_tests)
 
 -- behind one more event, which has the next id
-pub seqs-more : (queues : List QueueView) (told : List Told) (x : Told) → x.event.ev_id ≡ seqs_behind queues told x.queue + 1
+pub seqs-more : (queues : QueuesView) (told : List Told) (x : Told) → x.event.ev_id ≡ seqs_behind queues told x.queue + 1
     → seqs_behind queues (told ++ x ∷ []) ≡ changed_at x.queue (λ n. n + 1) (seqs_behind queues told)
 seqs-more queues told x id = λ i n. pointwise n i
   where
@@ -260,7 +260,7 @@ ids-spent seq t old new place x rest out over =
 -- ---- events made
 
 -- what is made so far, and what is to be made, is all
-abbrev pub all_told : List QueueView → TracedView → (old new : Option (List Val)) → ℤ → ℕ → List Told → List TableTrigger → List Told
+abbrev pub all_told : QueuesView → TracedView → (old new : Option (List Val)) → ℤ → ℕ → List Told → List TableTrigger → List Told
 all_told queues t old new now txid told rest = told ++ told_from (seqs_behind queues told) now txid (events_by t old new rest)
 
 -- where there are ids for the rest, the next one has one
@@ -272,7 +272,7 @@ and-second : (b c : Bool) → (not b && c) ≡ true → c ≡ true
 and-second true c e = absurd (cc)
 and-second false c e = e
 
-pub has-id : (queues : List QueueView) (t : TracedView) (old new : Option (List Val)) (told : List Told) (x : TableTrigger) (rest : List TableTrigger)
+pub has-id : (queues : QueuesView) (t : TracedView) (old new : Option (List Val)) (told : List Told) (x : TableTrigger) (rest : List TableTrigger)
     → leaves_out x.trigger t.columns old new ≡ false → ids_left (seqs_behind queues told) (events_by t old new (x ∷ rest)) ≡ true
     → seqs_behind queues told x.trigger.queue + 1 < 2 ^ 62
 has-id queues t old new told x rest out ids =
@@ -280,7 +280,7 @@ has-id queues t old new told x rest out ids =
     and-first _ _ (sym (ap (ids_left (seqs_behind queues told)) (told_of_it t old new x rest out)) ∙ ids) in
     grind (arith, nat_tests)
 
-pub ids-rest : (queues : List QueueView) (t : TracedView) (old new : Option (List Val)) (told : List Told) (x : TableTrigger) (rest : List TableTrigger) (y : Told)
+pub ids-rest : (queues : QueuesView) (t : TracedView) (old new : Option (List Val)) (told : List Told) (x : TableTrigger) (rest : List TableTrigger) (y : Told)
     → leaves_out x.trigger t.columns old new ≡ false → y.queue ≡ x.trigger.queue → y.event.ev_id ≡ seqs_behind queues told y.queue + 1
     → ids_left (seqs_behind queues told) (events_by t old new (x ∷ rest)) ≡ true
     → ids_left (seqs_behind queues (told ++ y ∷ [])) (events_by t old new rest) ≡ true
@@ -292,7 +292,7 @@ append-cons : (xs ys : List Told) (x : Told) → (xs ++ x ∷ []) ++ ys ≡ xs +
 append-cons [] ys x = refl
 append-cons (z ∷ zs) ys x = ap (λ ws. z ∷ ws) (append-cons zs ys x)
 
-pub told-next : (queues : List QueueView) (t : TracedView) (old new : Option (List Val)) (now : ℤ) (txid : ℕ) (told : List Told) (x : TableTrigger) (rest : List TableTrigger) (y : Told)
+pub told-next : (queues : QueuesView) (t : TracedView) (old new : Option (List Val)) (now : ℤ) (txid : ℕ) (told : List Told) (x : TableTrigger) (rest : List TableTrigger) (y : Told)
     → leaves_out x.trigger t.columns old new ≡ false
     → y ≡ record { queue = x.trigger.queue; event = told_event (seqs_behind queues told x.trigger.queue + 1) now txid (event_of (write_of t old new) x.trigger) }
     → all_told queues t old new now txid (told ++ y ∷ []) rest ≡ all_told queues t old new now txid told (x ∷ rest)
@@ -304,7 +304,7 @@ told-next queues t old new now txid told x rest y out is =
     ∙ ap (λ es. told ++ told_from (seqs_behind queues told) now txid es) (sym (told_of_it t old new x rest out))
 
 -- the event that is made
-pub made-is : (queues : List QueueView) (t : TracedView) (old new : Option (List Val)) (now : ℤ) (txid : ℕ) (told : List Told) (x : TableTrigger) (trigger : Trigger) (name : List ℕ) (columns : List Column)
+pub made-is : (queues : QueuesView) (t : TracedView) (old new : Option (List Val)) (now : ℤ) (txid : ℕ) (told : List Told) (x : TableTrigger) (trigger : Trigger) (name : List ℕ) (columns : List Column)
     (q id seq : ℕ) (e : RowEvent) (event : Event) → trigger ≡ x.trigger → name ≡ t.name → columns ≡ t.columns → q ≡ trigger.queue → seq ≡ seqs_behind queues told q → id ≡ seq + 1
     → e ≡ event_of (record { table = name; columns = columns; old = old; new = new }) trigger → event ≡ told_event id now txid e
     → (let y : Told = record { queue = q; event = event } in y)

@@ -1,5 +1,5 @@
 -- The gate that makes the events of triggers: what it has room for, and what it has made behind a write.
-use Rattle.std.specs.Prelude.{◌≡◌, ℕ, ℤ, ◌+◌, ◌^◌, ◌<◌, Bool, true, not, ◌&&◌, ◌==◌, nat_le, if◌then◌else◌, List, [], ◌∷◌, ◌++◌, Option, Some, None, map, slice_index_or}
+use Rattle.std.specs.Prelude.{◌≡◌, ℕ, ℤ, ◌+◌, ◌^◌, ◌<◌, Bool, true, not, ◌&&◌, ◌==◌, nat_le, if◌then◌else◌, List, [], ◌∷◌, ◌++◌, Option, Some, None, map}
 use Rattle.std.specs.List.{All}
 use Rattle.sky_val.specs.declared.val.Val.{Val}
 use Rattle.sky_urlenc.specs.RowEvents.{RowEvent, events_of}
@@ -8,18 +8,15 @@ use Rattle.sky_model.specs.State.{Queue, changed_at}
 use Rattle.sky_model.specs.Moment.{HasMoment}
 use Rattle.sky_model.specs.Telling.{told_event}
 use Rattle.sky_model.specs.Gates.{Gate, RowWrite}
+use Rattle.pgq_queues.specs.Views.{TracedView, QueuesView}
+use Rattle.pgq_queues.specs.Seen.{queue_at}
+use Rattle.pgq_queues.specs.Traced.{traced_at}
 use Rattle.pgq_db.specs.declared.told.Told.{Told}
-use Rattle.pgq_db.specs.Views.{QueueView, TracedTableView, TracedView}
-use Rattle.pgq_db.specs.Seen.{kept, no_queue}
-use Rattle.pgq_db.specs.Traced.{traced_by}
 
--- a gate at a time: the triggers, the tables with triggers, the queues as they were when it was set up, and the events that it has made
--- since, in their order
+-- a gate at a time: the queues and triggers as they were when it was set up, and the events that it has made since, in their order
 pub record EventGateView : Type 0 where
   pub now : ℤ
-  pub triggers : List TableTrigger
-  pub traced : List (ℕ × TracedTableView)
-  pub queues : List QueueView
+  pub queues : QueuesView
   pub told : List Told
 
 -- the events of triggers that tell of a write in a table, and those of all its triggers
@@ -30,10 +27,10 @@ events_by t old new triggers =
 abbrev pub table_events : TracedView → (old new : Option (List Val)) → List RowEvent
 table_events t old new = events_by t old new t.triggers
 
--- the events of these triggers that tell of a write, if its table has any of them
-abbrev pub events_at : List TableTrigger → Option TracedTableView → RowWrite → List RowEvent
-events_at triggers None write = []
-events_at triggers (Some t) write = table_events (traced_by triggers t) write.old write.new
+-- the events that tell of a write in a table, if anything is kept of that
+abbrev pub events_at : Option TracedView → RowWrite → List RowEvent
+events_at None write = []
+events_at (Some t) write = table_events t write.old write.new
 
 -- whether there are ids for events, each of which takes the next one of its queue's sequence
 abbrev pub ids_left : (ℕ → ℕ) → List RowEvent → Bool
@@ -52,8 +49,8 @@ seq_behind queue seq [] = seq
 seq_behind queue seq (x ∷ xs) = seq_behind queue (if x.queue == queue then x.event.ev_id else seq) xs
 
 -- the sequences of queues behind events
-abbrev pub seqs_behind : List QueueView → List Told → ℕ → ℕ
-seqs_behind queues told queue = seq_behind queue (slice_index_or queues queue no_queue).seq told
+abbrev pub seqs_behind : QueuesView → List Told → ℕ → ℕ
+seqs_behind queues told queue = seq_behind queue (queue_at queues queue).seq told
 
 -- the sequences as a gate leaves them
 abbrev pub seqs : EventGateView → ℕ → ℕ
@@ -62,8 +59,8 @@ seqs g = seqs_behind g.queues g.told
 -- there is room for a write where there are ids for all its events; then these are made
 abbrev pub event_rule : Gate EventGateView
 event_rule = record {
-  has_room = λ g write. ids_left (seqs g) (events_at g.triggers (kept g.traced write.table) write);
-  after = λ g t write. record g { told = g.told ++ told_from (seqs g) g.now t (events_at g.triggers (kept g.traced write.table) write) };
+  has_room = λ g write. ids_left (seqs g) (events_at (traced_at g.queues write.table) write);
+  after = λ g t write. record g { told = g.told ++ told_from (seqs g) g.now t (events_at (traced_at g.queues write.table) write) };
 }
 
 -- queues behind events: each has raised its queue's sequence, and is stored there

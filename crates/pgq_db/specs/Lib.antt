@@ -1,9 +1,5 @@
-pub mod Ticks
-pub mod Subs
 pub mod Views
 pub mod Seen
-pub mod Batches
-pub mod Traced
 pub mod EventGates
 pub mod Undone
 pub mod Gives

@@ -1,79 +1,13 @@
 -- The readings of the definitions, in what the code keeps of a database.
-use Rattle.std.specs.Prelude.{ℕ, ◌+◌, Bool, List, [], ◌∷◌, length, Option, option_map, map, slice_index_or}
-use Rattle.std.specs.List.{list_any}
-use Rattle.std.specs.Ordering.{nat_cmp}
-use Rattle.std.specs.BTreeMap.{is_at}
-use Rattle.std.specs.Map.{lookup}
-use Rattle.sky_names.specs.Places.{named}
-use Rattle.sky_model.specs.History as model
-use Rattle.sky_model.specs.Queues.{NamedQueue}
-use Rattle.sky_model.specs.Consumers.{Subscription}
-use Rattle.sky_model.specs.Config.{default_config}
-use Rattle.sky_model.specs.State.{Queue, Database}
-use Rattle.pgq_db.specs.declared.sub.Sub.{Sub}
-use Rattle.pgq_db.specs.declared.batch.Batch.{Batch}
+use Rattle.sky_model.specs.State.{Database}
 use Rattle.sky_state.specs.Views.{no_rows}
 use Rattle.sky_state.specs.Seen.{seen}
-use Rattle.pgq_db.specs.Subs.{consumer_of}
-use Rattle.pgq_db.specs.Views.{QueueView, DbView}
-
-abbrev pub seen_sub : Sub → Subscription
-seen_sub s = record { id = s.id; position = s.position; active = s.active }
-
-abbrev pub seen_queue : QueueView → Queue
-seen_queue q = record {
-  config = default_config;
-  seq = q.seq;
-  stored = q.events;
-  tick_list = q.ticks;
-  members = map consumer_of q.subs;
-  sub = λ name. option_map seen_sub (named consumer_of name q.subs);
-}
-
--- a queue that isn't made
-abbrev pub no_queue : QueueView
-no_queue = record { seq = 0; events = []; ticks = []; subs = [] }
-
--- a batch that is kept under an id
-abbrev pub seen_batch : ℕ → Batch → model.Batch
-seen_batch id b = record { id = id; queue = b.queue; consumer = b.consumer; sub = b.sub; prev = b.prev; cur = b.cur }
-
--- what is kept under a number
-abbrev pub kept : {A : Type 0} → List (ℕ × A) → ℕ → Option A
-kept entries n = lookup (is_at (nat_cmp n)) entries
-
--- whether a number is kept
-abbrev pub keeps : List ℕ → ℕ → Bool
-keeps numbers n = list_any (is_at (nat_cmp n)) numbers
-
--- the queues of names, numbered in their order from a number on
-abbrev pub numbered : ℕ → List (List ℕ) → List NamedQueue
-numbered n [] = []
-numbered n (name ∷ names) = record { number = n; name = name } ∷ numbered (n + 1) names
+use Rattle.pgq_queues.specs.Seen.{seen_with, no_queues}
+use Rattle.pgq_db.specs.Views.{DbView}
 
 abbrev pub seen_database : DbView → Database
-seen_database d = record {
-  part = seen d.rows;
-  undone = keeps d.undone;
-  last_batch_id = d.last_batch_id;
-  last_sub_id = d.last_sub_id;
-  queues_made = length d.names;
-  queues = numbered 0 d.names;
-  queue = λ n. seen_queue (slice_index_or d.queues n no_queue);
-  batch = λ id. option_map (seen_batch id) (kept d.batches id);
-  triggers = d.triggers;
-}
+seen_database d = seen_with (seen d.rows) d.queues
 
 -- a database that isn't made
 abbrev pub no_database : DbView
-no_database = record {
-  rows = no_rows;
-  last_batch_id = 0;
-  last_sub_id = 0;
-  names = [];
-  queues = [];
-  batches = [];
-  undone = [];
-  triggers = [];
-  traced = [];
-}
+no_database = record { rows = no_rows; queues = no_queues }

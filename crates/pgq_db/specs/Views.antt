@@ -1,40 +1,7 @@
--- What contracts see of a queue and of a database, as the code keeps them.
-use Rattle.std.specs.Prelude.{ℕ, List}
-use Rattle.sky_val.specs.declared.column.Column.{Column}
-use Rattle.sky_val.specs.declared.event.Event.{Event}
+-- What contracts see of a database, as the code keeps it.
 use Rattle.sky_state.specs.Views.{RowStateView}
-use Rattle.pgq_db.specs.declared.batch.Batch.{Batch}
-use Rattle.sky_model.specs.Queues.{Tick}
-use Rattle.sky_model.specs.Triggers.{TableTrigger}
-use Rattle.pgq_db.specs.declared.sub.Sub.{Sub}
-
-pub record QueueView : Type 0 where
-  pub seq : ℕ
-  pub events : List Event
-  pub ticks : List Tick
-  pub subs : List Sub
-
--- a table with triggers: its name, its columns, and the places of its own among the triggers of all tables
-pub record TracedTableView : Type 0 where
-  pub name : List ℕ
-  pub columns : List Column
-  pub places : List ℕ
-
--- the same with the triggers that stand there
-pub record TracedView : Type 0 where
-  pub name : List ℕ
-  pub columns : List Column
-  pub triggers : List TableTrigger
+use Rattle.pgq_queues.specs.Views.{QueuesView}
 
 pub record DbView : Type 0 where
   pub rows : RowStateView
-  pub last_batch_id : ℕ
-  pub last_sub_id : ℕ
-  pub names : List (List ℕ)
-  pub queues : List QueueView
-  pub undone : List ℕ
-  pub batches : List (ℕ × Batch)
-  -- the triggers, in the order of making
-  pub triggers : List TableTrigger
-  -- the tables with triggers, each under its number
-  pub traced : List (ℕ × TracedTableView)
+  pub queues : QueuesView

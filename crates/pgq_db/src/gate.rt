@@ -4,17 +4,14 @@ ghost use Rattle.std.specs.Prelude.{◌≡◌, ◌<◌, ◌≤◌, ◌++◌, [],
 ghost use Rattle.std.specs.List.{All};
 ghost use Rattle.sky_model.specs.Moment.{HasMoment};
 ghost use Rattle.sky_model.specs.Telling.{told_event};
-ghost use Rattle.pgq_db.specs.Traced.{TracedWithin};
 ghost use Rattle.pgq_db.specs.EventGates.{events_by, table_events, ids_left, told_from, seqs_behind, event_rule, count_of, Begins, AreStorable};
 
-use crate::queue::Queue;
 use crate::told::Told;
-use crate::traced::{TableTrigger, Traced, TracedTable};
+use pgq_queues::{Queues, Traced};
 use sky_session::WriteGate;
 use sky_urlenc::RowEvent;
 use sky_val::{Event, NoMemory, Op, Row};
 use std::alloc::Global;
-use std::collections::BTreeMap;
 use std::marker::Model;
 
 /// The number at which event ids are spent.
@@ -26,9 +23,7 @@ pub(crate) const EVENT_ID_END: u64 = 1 << 62;
 pub struct EventGate<'a> {
     alloc: Global,
     now: i64,
-    triggers: &'a [TableTrigger],
-    traced: &'a BTreeMap<u32, TracedTable>,
-    queues: &'a [Queue],
+    queues: &'a Queues,
     told: Vec<Told>,
 }
 
@@ -39,32 +34,22 @@ impl<'a> Model for EventGate<'a> {
 
     ghost use Rattle.std.specs.Prelude.{length};
     ghost use Rattle.sky_model.specs.Moment.{HasMoment};
-    ghost use Rattle.pgq_db.specs.Traced.{TracedWithin};
     ghost use Rattle.pgq_db.specs.EventGates.{AreStorable};
 
-    ghost view = { λ g. record { now = g.now; triggers = g.triggers.now; traced = g.traced.now.entries; queues = g.queues.now; told = g.told.items } };
+    ghost view = { λ g. record { now = g.now; queues = g.queues.now; told = g.told.items } };
 
-    ghost invariant = { λ g. TracedWithin (length g.queues.now) g.triggers.now g.traced.now.entries × (HasMoment g.now × AreStorable (length g.queues.now) g.told.items) };
+    ghost invariant = { λ g. HasMoment g.now × AreStorable (length g.queues.now.queues) g.told.items };
 }
 
 impl<'a> EventGate<'a> {
     /// A gate that has made no event.
-    pub fn new(
-        alloc: Global,
-        now: i64,
-        triggers: &'a [TableTrigger],
-        traced: &'a BTreeMap<u32, TracedTable>,
-        queues: &'a [Queue],
-    ) -> EventGate<'a>
-        requires within { TracedWithin (length queues.now) triggers.now traced.now.entries }
-        requires time { HasMoment now }
-        ensures { result ≡ record { now = now; triggers = triggers.now; traced = traced.now.entries; queues = queues.now; told = [] } }
+    pub fn new(alloc: Global, now: i64, queues: &'a Queues) -> EventGate<'a>
+        requires { HasMoment now }
+        ensures { result ≡ record { now = now; queues = queues.now; told = [] } }
     {
         EventGate {
             alloc,
             now,
-            triggers,
-            traced,
             queues,
             told: Vec::new(alloc),
         }
@@ -73,7 +58,7 @@ impl<'a> EventGate<'a> {
     /// The events that it has made, in their order.
     pub fn into_told(self) -> Vec<Told>
         ensures told { result.items ≡ self.entry.told }
-        ensures storable { AreStorable (length self.entry.queues) result.items }
+        ensures storable { AreStorable (length self.entry.queues.queues) result.items }
     {
         self.told
     }
@@ -83,11 +68,8 @@ impl<'a> WriteGate for EventGate<'a> {
     ghost rule = { event_rule };
 
     fn room(&self, table: u32, _op: Op, old: Option<&Row>, new: Option<&Row>) -> bool {
-        match self.traced.get(&table) {
-            Some(table) => {
-                let traced = Traced::new(self.triggers, table);
-                has_ids(self.queues, &self.told, &traced, old, new)
-            }
+        match self.queues.traced(table) {
+            Some(traced) => has_ids(self.queues, &self.told, &traced, old, new),
             None => true,
         }
     }
@@ -100,11 +82,9 @@ impl<'a> WriteGate for EventGate<'a> {
         old: Option<&Row>,
         new: Option<&Row>,
     ) -> Result<(), NoMemory> {
-        let tables = self.traced;
-        let Some(table) = tables.get(&table) else {
+        let Some(traced) = self.queues.traced(table) else {
             return Ok(());
         };
-        let traced = Traced::new(self.triggers, table);
         let before = self.told.len();
         match tell(
             self.queues,
@@ -125,8 +105,8 @@ impl<'a> WriteGate for EventGate<'a> {
 }
 
 /// The value of a queue's sequence behind events.
-fn seq_behind(queues: &[Queue], told: &[Told], queue: usize) -> u64
-    requires { queue < length queues.now }
+fn seq_behind(queues: &Queues, told: &[Told], queue: usize) -> u64
+    requires { queue < length queues.now.queues }
     ensures { result ≡ seqs_behind queues.now told.now queue }
 {
     for made in told.iter().rev() {
@@ -134,7 +114,7 @@ fn seq_behind(queues: &[Queue], told: &[Told], queue: usize) -> u64
             return made.event.ev_id;
         }
     }
-    queues[queue].seq()
+    queues.queue(queue).seq()
 }
 
 /// How many of the first triggers tell of the write by an event of the queue.
@@ -160,13 +140,13 @@ fn told_before(
 
 /// Whether there are ids for all events of the write.
 fn has_ids(
-    queues: &[Queue],
+    queues: &Queues,
     told: &[Told],
     traced: &Traced<'_>,
     old: Option<&Row>,
     new: Option<&Row>,
 ) -> bool
-    requires { All (λ x. x.trigger.queue < length queues.now) traced.now.triggers }
+    requires { All (λ x. x.trigger.queue < length queues.now.queues) traced.now.triggers }
     ensures { result ≡ ids_left (seqs_behind queues.now told.now) (table_events traced.now (option_copied old.entry) (option_copied new.entry)) }
 {
     for place in 0..traced.count() {
@@ -186,7 +166,7 @@ fn has_ids(
 
 /// Makes the events of the write, each with the next id of its queue.
 fn tell(
-    queues: &[Queue],
+    queues: &Queues,
     traced: &Traced<'_>,
     now: i64,
     txid: u64,
@@ -194,14 +174,14 @@ fn tell(
     new: Option<&Row>,
     told: &mut Vec<Told>,
 ) -> Result<(), NoMemory>
-    requires within { All (λ x. x.trigger.queue < length queues.now) traced.now.triggers }
+    requires within { All (λ x. x.trigger.queue < length queues.now.queues) traced.now.triggers }
     requires time { HasMoment now }
-    requires storable { AreStorable (length queues.now) told.old.items }
+    requires storable { AreStorable (length queues.now.queues) told.old.items }
     requires room { ids_left (seqs_behind queues.now told.old.items) (table_events traced.now (option_copied old) (option_copied new)) ≡ true }
     ensures ok { OnOk result (told.new.items ≡ told.old.items
         ++ told_from (seqs_behind queues.now told.old.items) now txid (table_events traced.now (option_copied old.entry) (option_copied new.entry))) }
     ensures begins { Begins told.old.items told.new.items }
-    ensures storable { AreStorable (length queues.now) told.new.items }
+    ensures storable { AreStorable (length queues.now.queues) told.new.items }
 {
     let alloc = *told.allocator();
     for place in 0..traced.count() {

@@ -8,17 +8,10 @@
 //! script.
 #![tactic(auto)]
 
-mod batch;
 mod db;
 mod gate;
-mod queue;
+mod noting;
 mod statements;
-mod stored;
-mod sub;
-mod subs;
-mod subscription;
-mod ticks;
 mod told;
-mod traced;
 
 pub use db::Db;

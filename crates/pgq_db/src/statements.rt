@@ -23,18 +23,15 @@ ghost use Rattle.sky_model.specs.Settling.{ready};
 ghost use Rattle.sky_model.specs.Calls.{form, statement, database_turn};
 ghost use Rattle.sky_model.specs.DatabaseCalls.{stepped};
 ghost use Rattle.sky_model.specs.DatabaseSteps.{DatabaseSteps};
-ghost use Rattle.pgq_db.specs.Ticks.{IsTime};
+ghost use Rattle.pgq_queues.specs.Ticks.{IsTime};
 ghost use Rattle.pgq_db.specs.Seen.{seen_database};
 ghost use Rattle.pgq_db.specs.Waiters.{StaysWithin};
 ghost use Rattle.pgq_db.specs.Gives.{is_row, Gives, GivesReply, Does, Ran};
 ghost use Rattle.sky_model.specs.Stops.{StopsAs};
 
-use crate::batch::Batch;
 use crate::db::Db;
 use crate::gate::EVENT_ID_END;
-use crate::subscription::Subscription;
-use crate::ticks::{MAX_COUNT, Tick};
-use crate::traced::TableTrigger;
+use pgq_queues::{Batch, MAX_COUNT, Subscription, TableTrigger, Tick};
 use sky_model::{BoxedExtra, ColumnNames, Events, Limit, Refusal, Replies, Reply, Stmt, Stop};
 use sky_urlenc::Trigger;
 use sky_val::{Event, NoMemory, SessionId, Text, copy_option};
@@ -100,7 +97,7 @@ impl Db {
         ensures moments { IfOk result HaveMoments }
     {
         let reply = self.run_or_refuse(now, who, stmt)?;
-        let mut replies = Replies::one(self.alloc(), who, reply)?;
+        let mut replies = Replies::one(self.alloc, who, reply)?;
         let resumed = self.settle(now)?;
         replies.append(resumed)?;
         Ok(replies)
@@ -189,12 +186,12 @@ impl Db {
     /// The number of the queue of this name.
     fn queue_called(&self, queue: &Text) -> Result<usize, Stop>
         ensures ok { IfOk result (λ number. queue_called queue.now (seen_database self.now) ≡ Ok number) }
-        ensures within { IfOk result (λ number. number < length self.now.queues) }
+        ensures within { IfOk result (λ number. number < length self.now.queues.queues) }
         ensures err { IfErr result (λ stop. StopsAs stop (queue_called queue.now (seen_database self.now))) }
     {
-        match self.number(queue) {
+        match self.queues.number(queue) {
             Some(number) => Ok(number),
-            None => Err(Stop::Refused(Refusal::NoQueue(queue.copy(self.alloc())?))),
+            None => Err(Stop::Refused(Refusal::NoQueue(queue.copy(self.alloc)?))),
         }
     }
 
@@ -203,10 +200,10 @@ impl Db {
         requires time { IsTime now }
         ensures { Ran self.old self.new result (create_queue (seen_database self.old) now who name.now) }
     {
-        if self.number(name).is_some() {
+        if self.queues.number(name).is_some() {
             return Ok(Reply::Number(0));
         }
-        if self.queue_count() >= MAX_QUEUES {
+        if self.queues.count() >= MAX_QUEUES {
             return Err(Stop::Refused(Refusal::TooMany(Limit::Queues)));
         }
         self.id_left(who)?;
@@ -223,12 +220,12 @@ impl Db {
         ensures marks { IfOk result (λ txid. seen_database self.new ≡ after_marks (seen_database self.old)
             (written who txid ((seen_database self.old).part.session who) (queued (made name.now) ∷ []) ++ queued (ticked (seen_database self.old).queues_made 1 now 0) ∷ [])) }
     {
-        let name = name.copy(self.alloc())?;
+        let name = name.copy(self.alloc)?;
         let txid = self.take_txid(who)?;
         let first = Tick {
             id: 1,
             time: now,
-            snapshot: self.snapshot()?,
+            snapshot: self.rows.snapshot_now()?,
             seq: 0,
         };
         self.make(name, first)?;
@@ -256,7 +253,7 @@ impl Db {
         }
         let id = seq + 1;
         let txid = self.take_txid(who)?;
-        let event = made_event(self.alloc(), id, now, txid, ev_type, ev_data, extra)?;
+        let event = made_event(self.alloc, id, now, txid, ev_type, ev_data, extra)?;
         self.raise(queue, id);
         self.put(queue, event)?;
         Ok(Reply::Number(id))
@@ -279,7 +276,7 @@ impl Db {
         let tick = Tick {
             id: newest + 1,
             time: now,
-            snapshot: self.snapshot()?,
+            snapshot: self.rows.snapshot_now()?,
             seq,
         };
         self.tick(queue, tick)?;
@@ -330,7 +327,7 @@ impl Db {
             return Err(Stop::Refused(Refusal::NodeConsumer));
         }
         let Some(sub) = self.subscription(queue, consumer) else {
-            let consumer = consumer.copy(self.alloc())?;
+            let consumer = consumer.copy(self.alloc)?;
             return Err(Stop::Refused(Refusal::NoConsumer(consumer)));
         };
         match sub.active() {
@@ -345,7 +342,7 @@ impl Db {
         consumer: &Text,
         sub: &Subscription,
     ) -> Result<Reply, Stop>
-        requires { queue < length self.old.queues }
+        requires { queue < length self.old.queues.queues }
         ensures { Ran self.old self.new result (opens_batch (seen_database self.old) queue consumer.now sub.now (tick (sub.now.position + 1) ((seen_database self.old).queue queue).tick_list)) }
     {
         let Some(next) = self.queue(queue).ticks().next(sub.position()) else {
@@ -358,7 +355,7 @@ impl Db {
         let id = self.last_batch() + 1;
         let batch = Batch {
             queue,
-            consumer: consumer.copy(self.alloc())?,
+            consumer: consumer.copy(self.alloc)?,
             sub: sub.id(),
             prev: sub.position(),
             cur,
@@ -371,10 +368,10 @@ impl Db {
     fn get_batch_events(&self, id: u64) -> Result<Reply, Stop>
         ensures { Ran self.now self.now result (get_batch_events (seen_database self.now) (selected (seen_database self.now)) id) }
     {
-        let Some(batch) = self.batch(id) else {
+        let Some(batch) = self.queues.batch(id) else {
             return Err(Stop::Refused(Refusal::NoBatch));
         };
-        Ok(Reply::Events(Events::new(self.batch_events(batch)?)))
+        Ok(Reply::Events(Events::new(self.queues.batch_events(batch)?)))
     }
 
     /// `finish_batch N`: the consumer stands at the batch's closing tick.
@@ -382,11 +379,10 @@ impl Db {
         ensures does { Does (seen_database self.old) (seen_database self.new) result (finish_batch (seen_database self.old) id) }
         ensures moments { ReplyHasMoments result }
     {
-        let Some(batch) = self.forget_batch(id) else {
-            return Reply::Number(0);
-        };
-        self.end_batch(batch.queue, &batch.consumer, batch.cur);
-        Reply::Number(1)
+        match self.queues.close_batch(id) {
+            Some(_) => Reply::Number(1),
+            None => Reply::Number(0),
+        }
     }
 
     /// The number of the table of this name.
@@ -394,9 +390,9 @@ impl Db {
         ensures ok { IfOk result (λ number. place_of table.now (seen_database self.now).part.tables ≡ Some number) }
         ensures err { IfErr result (λ stop. StopsAs stop (table_called table.now (seen_database self.now).part)) }
     {
-        match self.table(table) {
-            Some(number) => Ok(number),
-            None => Err(Stop::Refused(Refusal::NoTable(table.copy(self.alloc())?))),
+        match self.rows.table(table) {
+            Some((number, _)) => Ok(number),
+            None => Err(Stop::Refused(Refusal::NoTable(table.copy(self.alloc)?))),
         }
     }
 
@@ -413,28 +409,21 @@ impl Db {
     {
         let number = self.table_called(table)?;
         let queue = self.queue_called(queue)?;
-        if self.has_trigger(number, name) {
-            let name = name.copy(self.alloc())?;
+        if self.queues.has_trigger(number, name) {
+            let name = name.copy(self.alloc)?;
             return Err(Stop::Refused(Refusal::TriggerExists(name)));
         }
-        if self.trigger_count(number) >= MAX_TRIGGERS {
+        if self.queues.trigger_count(number) >= MAX_TRIGGERS {
             return Err(Stop::Refused(Refusal::TooMany(Limit::Triggers)));
         }
         if let Some(column) = self.bad_column(table, number, ignored.as_slice()) {
-            let column = column.copy(self.alloc())?;
+            let column = column.copy(self.alloc)?;
             return Err(Stop::Refused(Refusal::BadColumn(column)));
         }
-        if let Some(txid) = self.least_writer(number) {
+        if let Some(txid) = self.rows.least_writer(number) {
             return Err(Stop::Refused(Refusal::TableBusy(txid)));
         }
-        let trigger = new_trigger(
-            self.alloc(),
-            number,
-            name,
-            queue,
-            backup,
-            ignored.as_slice(),
-        )?;
+        let trigger = new_trigger(self.alloc, number, name, queue, backup, ignored.as_slice())?;
         self.trace(table, trigger)?;
         Ok(Reply::Done)
     }

@@ -1,7 +1,7 @@
 use Rattle.std.proofs.Common.{◌≡◌, ◌+◌, ◌∷◌, List, false, drop, take, get_or, refl, sym, ◌∙◌, ap, arith, option_copied}
 use Rattle.sky_urlenc.specs.RowEvents.{Trigger, leaves_out}
 use Rattle.sky_model.specs.Triggers.{TableTrigger}
-use Rattle.pgq_db.specs.Traced.{no_trigger}
+use Rattle.pgq_queues.specs.Traced.{no_trigger}
 use Rattle.pgq_db.specs.EventGates.{seqs_behind, events_by, count_of}
 use Rattle.pgq_db.proofs.Telling.{ids_from, drop-item, ids-told, room-for}
 use Rattle.pgq_db.proofs.gate.has_ids.Goals as goal

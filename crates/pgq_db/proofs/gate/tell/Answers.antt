@@ -5,7 +5,7 @@ use Rattle.sky_urlenc.specs.RowEvents.{Trigger, leaves_out}
 use Rattle.sky_model.specs.Moment.{HasMoment}
 use Rattle.sky_model.specs.Triggers.{TableTrigger}
 use Rattle.pgq_db.specs.declared.told.Told.{Told}
-use Rattle.pgq_db.specs.Traced.{no_trigger}
+use Rattle.pgq_queues.specs.Traced.{no_trigger}
 use Rattle.pgq_db.specs.EventGates.{seqs_behind, events_by, ids_left, Begins, AreStorable}
 use Rattle.pgq_db.proofs.Telling.{all_told, drop-item, told-next, made-is, ids-rest, begins-more, storable-more}
 use Rattle.pgq_db.proofs.gate.tell.Goals as goal
@@ -27,7 +27,7 @@ loop-place-preserved c =
     let same : c.trigger-trigger.result.now ≡ x.trigger = c.trigger-trigger.ensures in
     let out : leaves_out x.trigger t.columns old new ≡ false =
     sym (λ j. leaves_out (same j) (c.schema.ensures j) old new) ∙ sym c.leaves_out.ensures ∙ c.if-leaves_out.false in
-    let low : x.trigger.queue < length queues = c.requires.within i no_trigger fits in
+    let low : x.trigger.queue < length queues.queues = c.requires.within i no_trigger fits in
     let queue : x.trigger.queue ≡ c.queue-queue.result = sym (c.queue-queue.ensures ∙ ap Trigger.queue same) in
     let is = made-is queues t old new now c.args.txid told x c.trigger-trigger.result.now c.name.result.now c.schema-in-loop-place.result.now c.queue-queue.result (c.seq_behind-id.result + 1) c.seq_behind-id.result
     c.in_ok-event.event c.event_of.result same c.name.ensures c.schema-in-loop-place.ensures c.queue-queue.ensures (c.seq_behind-id.ensures ∙ ap (λ ts. seqs_behind queues ts c.queue-queue.result) c.as_slice.ensures.value)
@@ -42,7 +42,7 @@ loop-place-preserved c =
       ids = ap (λ ts. ids_left (seqs_behind queues ts) (events_by t old new rest)) pushed
           ∙ ids-rest queues t old new told x rest y out (ap Told.queue is) id (ap (λ xs. ids_left (seqs_behind queues told) (events_by t old new xs)) (sym at) ∙ c.loop-place.invariant.ids);
       begins = subst (Begins c.args.told.now.items) (sym pushed) (begins-more c.args.told.now.items told y c.loop-place.invariant.begins);
-      storable = subst (AreStorable (length queues)) (sym pushed)
-          (storable-more (length queues) told y c.loop-place.invariant.storable (subst (λ q. q < length queues) queue low)
+      storable = subst (AreStorable (length queues.queues)) (sym pushed)
+          (storable-more (length queues.queues) told y c.loop-place.invariant.storable (subst (λ q. q < length queues.queues) queue low)
           (subst HasMoment (sym (ap Event.ev_time c.event_of.ensures ∙ to_z-of_z w64 c.args.now c.ranges.now)) c.requires.time));
     }

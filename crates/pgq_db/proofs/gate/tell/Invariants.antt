@@ -10,5 +10,5 @@ invariant-loop-place l = record {
       ≡ all_told l.queues l.traced (option_copied l.old) (option_copied l.new) l.fn.now l.txid l.initial.told.items l.traced.triggers;
   ids : ids_left (seqs_behind l.queues l.told.items) (events_by l.traced (option_copied l.old) (option_copied l.new) (drop l.place l.traced.triggers)) ≡ true;
   begins : Begins l.initial.told.items l.told.items;
-  storable : AreStorable (length l.queues) l.told.items;
+  storable : AreStorable (length l.queues.queues) l.told.items;
 }

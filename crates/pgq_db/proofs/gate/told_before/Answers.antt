@@ -1,6 +1,6 @@
 use Rattle.std.proofs.Common.{◌≡◌, ◌<◌, ◌≤◌, length, get_or, sym, ◌∙◌, ap, arith, option_copied}
 use Rattle.sky_urlenc.specs.RowEvents.{Trigger, leaves_out}
-use Rattle.pgq_db.specs.Traced.{no_trigger}
+use Rattle.pgq_queues.specs.Traced.{no_trigger}
 use Rattle.pgq_db.proofs.Telling.{count-left_out, count-told, count-other}
 use Rattle.pgq_db.proofs.gate.told_before.Goals.{then-queue+then-not-leaves_out, else-queue, else-queue-via-then-queue+else-not-leaves_out, else-queue-via-else-queue}
 use Rattle.pgq_db.proofs.gate.told_before.Goals as goal

@@ -4,23 +4,14 @@ use Rattle.pgq_db.specs.Views.{DbView}
 use Rattle.sky_model.specs.declared.stmt.Where.TheVariants.{WhenReading, WhenOutside}
 use Rattle.sky_state.specs.Seen.{seen}
 use Rattle.pgq_db.specs.Seen.{seen_database}
-use Rattle.pgq_db.proofs.TracedLists.{tables-entered}
+use Rattle.pgq_db.proofs.Tables.{tables-entered}
 use Rattle.pgq_db.proofs.Databases.{entered-steps}
 use Rattle.pgq_db.proofs.db.Db.enter.Goals as goal
 
 pub invariant_of-self : goal.invariant_of-self
-invariant_of-self c = (
-  c.self.invariant.0,
-  (
-    c.self.invariant.1.0,
-    (
-      c.self.invariant.1.1.0,
-      λ e.
-          tables-entered (seen c.self.inside.rows) (seen c.enter.new.self) c.args.who (if c.args.outside then WhenOutside else WhenReading) c.enter.result c.self.inside.traced.entries
-          c.enter.ensures.ok c.enter.ensures.err (c.self.invariant.1.1.1 e),
-    ),
-  ),
-)
+invariant_of-self c = λ e.
+    tables-entered (seen c.self.inside.rows) (seen c.enter.new.self) c.args.who (if c.args.outside then WhenOutside else WhenReading) c.enter.result c.self.inside.queues
+    c.enter.ensures.ok c.enter.ensures.err (c.self.invariant e)
 
 pub returns-clause-steps : goal.returns-clause-steps
 returns-clause-steps c =

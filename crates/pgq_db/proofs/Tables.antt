@@ -1,0 +1,83 @@
+-- What is kept of tables stays true: a table that is made stays as it is.
+use Rattle.std.proofs.Common.{◌≡◌, ℕ, zero, suc, ◌<◌, Bool, true, false, ◌==◌, List, [], ◌∷◌, ◌++◌, Option, Some, None, Result, Ok, Err, IfOk, OnErr, length, refl, sym, ◌∙◌, ap, subst, arith, if◌then◌else◌}
+use Rattle.std.specs.Prelude.{slice_get}
+use Rattle.std.proofs.lemmas.Bool.Decides.{nat_tests}
+use Rattle.std.specs.declared.alloc.AllocError.{AllocError}
+use Rattle.sky_val.specs.declared.column.Column.{Column}
+use Rattle.sky_names.specs.Places.{place_of}
+use Rattle.sky_names.proofs.PlaceLemmas.{slice_get-place_of}
+use Rattle.sky_model.specs.declared.reply.Refusal.{Refusal}
+use Rattle.sky_model.specs.declared.stmt.Where.{Where}
+use Rattle.sky_model.specs.History.{Mark, began, ended, block_begun, repeats, looked, block_failed, block_ended, connected, disconnected, tabled, table_made, wrote, waits, waited, queued}
+use Rattle.sky_model.specs.State.{RowPart, after_part, after_part_marks, changed_at}
+use Rattle.sky_model.specs.SessionMarks.{sight_marks, Enters}
+use Rattle.pgq_queues.specs.Views.{TracedTableView, QueuesView}
+use Rattle.pgq_queues.specs.Seen.{kept}
+use Rattle.pgq_queues.specs.Traced.{IsTable, IsTraced, AreTables}
+
+get-within : {A : Type 0} (xs : List A) (n : ℕ) (a : A) → slice_get xs n ≡ Some a → n < length xs
+get-within [] n a is = absurd (cc)
+get-within (x ∷ xs) zero a is = omega arith
+get-within (x ∷ xs) (suc n) a is = let lt = get-within xs n a is in omega arith
+
+get-more : {A : Type 0} (xs ys : List A) (n : ℕ) (a : A) → slice_get xs n ≡ Some a → slice_get (xs ++ ys) n ≡ Some a
+get-more [] ys n a is = absurd (cc)
+get-more (x ∷ xs) ys zero a is = is
+get-more (x ∷ xs) ys (suc n) a is = get-more xs ys n a is
+
+other-columns : (m n : ℕ) (columns : List Column) (f : ℕ → List Column) → n < m → changed_at m (λ _. columns) f n ≡ f n
+other-columns m n columns f lt = by (m == n) refl
+  where
+    by : (b : Bool) → (m == n) ≡ b → (if b then columns else f n) ≡ f n
+    by true e = let same : m ≡ n = grind (arith, nat_tests) in absurd (omega arith)
+    by false e = refl
+
+table-kept : (p : RowPart) (mark : Mark) (n : ℕ) (called : List ℕ) (shape : List Column) → IsTable p n called shape → IsTable (after_part p mark) n called shape
+table-kept p (began who t') n called shape is = is
+table-kept p (ended who t' true) n called shape is = is
+table-kept p (ended who t' false) n called shape is = is
+table-kept p (block_begun who) n called shape is = is
+table-kept p (repeats who) n called shape is = is
+table-kept p (looked who) n called shape is = is
+table-kept p (block_failed who) n called shape is = is
+table-kept p (block_ended who) n called shape is = is
+table-kept p (connected who) n called shape is = is
+table-kept p (disconnected who) n called shape is = is
+table-kept p (tabled (table_made name columns)) n called shape is =
+    (get-more p.tables (name ∷ []) n called is.0, other-columns (length p.tables) n columns p.columns (get-within p.tables n called is.0) ∙ is.1)
+table-kept p (tabled (wrote who t' table key old new)) n called shape is = is
+table-kept p (tabled (waits who table key attempt)) n called shape is = is
+table-kept p (tabled (waited who)) n called shape is = is
+table-kept p (queued mark) n called shape is = is
+
+pub tables-kept : (p : RowPart) (mark : Mark) (q : QueuesView) → AreTables p q → AreTables (after_part p mark) q
+tables-kept p mark q are n = of (kept q.traced n) (are n)
+  where
+    of : (o : Option TracedTableView) → IsTraced p n q.triggers o → IsTraced (after_part p mark) n q.triggers o
+    of None is = is
+    of (Some t) is = table-kept p mark n t.name t.columns is
+
+tables-behind : (p : RowPart) (marks : List Mark) (q : QueuesView) → AreTables p q → AreTables (after_part_marks p marks) q
+tables-behind p [] q are = are
+tables-behind p (mark ∷ marks) q are = tables-behind (after_part p mark) marks q (tables-kept p mark q are)
+
+-- a row part after marks
+pub tables-then : (old new : RowPart) (marks : List Mark) (q : QueuesView) → new ≡ after_part_marks old marks → AreTables old q → AreTables new q
+tables-then old new marks q is are = subst (λ part. AreTables part q) (sym is) (tables-behind old marks q are)
+
+tables-same : (old new : RowPart) (q : QueuesView) → new ≡ old → AreTables old q → AreTables new q
+tables-same old new q is are = subst (λ part. AreTables part q) (sym is) are
+
+-- and after a statement came in, or not
+pub tables-entered : (old new : RowPart) (who : ℕ) (place : Where) (r : Result (Option Refusal) AllocError) (q : QueuesView)
+    → IfOk r (λ refusal. Enters old new who place refusal) → OnErr r (new ≡ old) → AreTables old q → AreTables new q
+tables-entered old new who place (Ok None) q enters err are = tables-then old new (sight_marks old who place) q enters.1 are
+tables-entered old new who place (Ok (Some refusal)) q enters err are = tables-same old new q enters.1 are
+tables-entered old new who place (Err no_memory) q enters err are = tables-same old new q err are
+
+-- the table of a name
+pub is-table : (part : RowPart) (name : List ℕ) (n found : ℕ) (columns : List Column) → place_of name part.tables ≡ Some n → place_of name part.tables ≡ Some found → columns ≡ part.columns found
+    → IsTable part n name columns
+is-table part name n found columns at also are =
+    let one : found ≡ n = cc in
+    (slice_get-place_of name part.tables n at, ap part.columns (sym one) ∙ sym are)

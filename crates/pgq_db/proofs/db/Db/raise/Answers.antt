@@ -1,0 +1,15 @@
+use Rattle.std.proofs.Common.{length, ◌∙◌, ap}
+use Rattle.sky_model.specs.History.{raised}
+use Rattle.sky_state.specs.Seen.{seen}
+use Rattle.pgq_db.specs.Views.{DbView}
+use Rattle.pgq_db.proofs.Databases.{marked-as}
+use Rattle.pgq_db.proofs.db.Db.raise.Goals as goal
+
+pub invariant_of-self : goal.invariant_of-self
+invariant_of-self c = λ e. c.raise.ensures.tables (seen c.self.inside.rows) (c.self.invariant e)
+
+pub returns-clause-mark : goal.returns-clause-mark
+returns-clause-mark c = marked-as _ _ c.raise.new.self (λ q. raised c.args.queue c.args.value) c.self.view_is c.raise.ensures.mark
+
+pub returns-clause-queues : goal.returns-clause-queues
+returns-clause-queues c = c.raise.ensures.queues ∙ ap (λ (v : DbView). length v.queues.queues) c.self.view_is

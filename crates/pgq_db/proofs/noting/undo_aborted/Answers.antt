@@ -1,0 +1,23 @@
+use Rattle.std.proofs.Common.{arith, drop, ◌∙◌, ap, sym}
+use Rattle.std.proofs.Math.ListN.{drop_of_length-le}
+use Rattle.pgq_queues.specs.Seen.{keeps, seen_with}
+use Rattle.pgq_db.specs.Undone.{undone_by}
+use Rattle.pgq_db.proofs.Databases.{undone-at}
+use Rattle.pgq_db.proofs.noting.undo_aborted.Goals as goal
+
+pub loop-effect-preserved : goal.loop-effect-preserved
+loop-effect-preserved c = record {
+  undone = λ part.
+      undone-at (seen_with part c.loop-effect.queues) (seen_with part c.note.new.queues) _ _ c.args.effects.now c.loop-effect.effect-index _ (c.in_ok-note.ensures.noted part) c.as_slice-effect-items.ensures (omega (arith, c.loop-effect-test.true))
+      c.effect-item.is (c.loop-effect.invariant.undone part);
+  queues = c.note.ensures.queues ∙ c.loop-effect.invariant.queues;
+  tables = λ part are. c.note.ensures.tables part (c.loop-effect.invariant.tables part are);
+}
+
+pub returns-in_err-note-clause-tables : goal.returns-in_err-note-clause-tables
+returns-in_err-note-clause-tables c = λ part are. c.note.ensures.tables part (c.loop-effect.invariant.tables part are)
+
+pub returns-clause-noted : goal.returns-clause-noted
+returns-clause-noted c = λ part.
+    ap (λ es. record (seen_with part c.loop-effect.queues) { undone = undone_by es (keeps c.loop-effect.queues.undone) }) (sym (ap (drop c.loop-effect.effect-index) (sym c.as_slice-effect-items.ensures) ∙ drop_of_length-le c.as_slice-effect-items.result.now c.loop-effect-test.false))
+    ∙ c.loop-effect.invariant.undone part

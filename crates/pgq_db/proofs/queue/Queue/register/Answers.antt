@@ -1,5 +1,0 @@
-use Rattle.pgq_db.proofs.SubLists.{seen-with_new}
-use Rattle.pgq_db.proofs.queue.Queue.register.Goals as goal
-
-pub returns : goal.returns
-returns c = seen-with_new _ _ _ _ _ c.self.view_is c.in_ok-copy.ensures c.in_ok-add.ensures.ok c.requires.new

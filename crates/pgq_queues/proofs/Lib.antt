@@ -1,0 +1,5 @@
+pub mod TickLists
+pub mod SubLists
+pub mod NumberedQueues
+pub mod Marked
+pub mod TracedLists

@@ -1,0 +1,279 @@
+-- What queues show after what the code changed in them.
+use Rattle.std.proofs.Common.{◌≡◌, ℕ, suc, zero, ◌+◌, ◌<◌, List, [], ◌∷◌, ◌++◌, Bool, true, false, ◌||◌, ◌==◌, Option, Some, None, Result, Ok, Err, OnErr, Vec, Global, IfOk, length, get_or, slice_set, get_or-set_same, get_or-set_other, ◌≢◌, option_map, filter, nat_cmp, cond, length-append, refl, sym, ◌∙◌, ap, subst, arith, if◌then◌else◌}
+use Rattle.std.proofs.lemmas.Bool.Decides.{nat_tests}
+use Rattle.std.proofs.lemmas.List.Elements.{All-filter}
+use Rattle.std.proofs.lemmas.Result.{IfOk-weaker}
+use Rattle.std.specs.declared.alloc.AllocError.{AllocError}
+use Rattle.std.proofs.lemmas.Option.{get_or_from_slice_get, slice_get_read}
+use Rattle.std.specs.BTreeMap.{is_at}
+use Rattle.std.specs.Map.{lookup}
+use Rattle.std.specs.List.{list_any}
+use Rattle.sky_val.specs.declared.event.Event.{Event}
+use Rattle.sky_model.specs.Moment.{HasMoment}
+use Rattle.sky_model.specs.Printed.{EventsHaveMoments}
+use Rattle.sky_model.specs.History.{queued, made, ticked, registered, opened, closed, traced}
+use Rattle.sky_model.specs.StepQueue.{newest_id}
+use Rattle.sky_model.specs.Queues.{Tick, tick}
+use Rattle.sky_model.specs.Triggers.{TableTrigger}
+use Rattle.sky_model.specs.Selection.{snapshot_at, is_selected, selected_in, selected}
+use Rattle.sky_model.specs.State.{Queue, RowPart, Database, changed_at, changed_for, with_batch, at_position, after_mark, after_marks}
+use Rattle.sky_model.specs.ShownRows.{snapshot_now}
+use Rattle.pgq_queues.specs.declared.batch.Batch.{Batch}
+use Rattle.pgq_queues.specs.Views.{QueueView, TracedTableView, QueuesView}
+use Rattle.pgq_queues.specs.Seen.{seen_queue, no_queue, seen_batch, keeps, numbered, queue_at, seen_with}
+use Rattle.pgq_queues.specs.Traced.{AreTables}
+use Rattle.pgq_queues.proofs.NumberedQueues.{numbered-more}
+
+-- the test on an entry's key is equality
+pub is_at-nat : (k n : ℕ) → is_at (nat_cmp k) n ≡ (k == n)
+is_at-nat k n = grind (arith, nat_tests)
+
+-- a batch under a new id
+pub batches-insert : (old new : List (ℕ × Batch)) (id : ℕ) (batch : Batch)
+    → ((q : ℕ) → lookup (is_at (nat_cmp q)) new ≡ cond (is_at (nat_cmp id) q) (Some batch) (lookup (is_at (nat_cmp q)) old))
+    → (λ n. option_map (seen_batch n) (lookup (is_at (nat_cmp n)) new)) ≡ changed_at id (λ _. Some (seen_batch id batch)) (λ n. option_map (seen_batch n) (lookup (is_at (nat_cmp n)) old))
+batches-insert old new id batch updates = λ i n. pointwise n i
+  where
+    by : (n : ℕ) (b : Bool) → (id == n) ≡ b → option_map (seen_batch n) (cond b (Some batch) (lookup (is_at (nat_cmp n)) old))
+        ≡ (if b then Some (seen_batch id batch) else option_map (seen_batch n) (lookup (is_at (nat_cmp n)) old))
+    by n true e = let same : id ≡ n = grind (arith, nat_tests) in ap (λ m. Some (seen_batch m batch)) (sym same)
+    by n false e = refl
+
+    pointwise : (n : ℕ) → option_map (seen_batch n) (lookup (is_at (nat_cmp n)) new)
+        ≡ (if id == n then Some (seen_batch id batch) else option_map (seen_batch n) (lookup (is_at (nat_cmp n)) old))
+    pointwise n = ap (option_map (seen_batch n)) (updates n ∙ ap (λ b. cond b (Some batch) (lookup (is_at (nat_cmp n)) old)) (is_at-nat id n)) ∙ by n (id == n) refl
+
+-- and one that is gone
+pub batches-remove : (old new : List (ℕ × Batch)) (id : ℕ)
+    → ((q : ℕ) → lookup (is_at (nat_cmp q)) new ≡ cond (is_at (nat_cmp id) q) None (lookup (is_at (nat_cmp q)) old))
+    → (λ n. option_map (seen_batch n) (lookup (is_at (nat_cmp n)) new)) ≡ changed_at id (λ _. None) (λ n. option_map (seen_batch n) (lookup (is_at (nat_cmp n)) old))
+batches-remove old new id updates = λ i n. pointwise n i
+  where
+    by : (n : ℕ) (b : Bool) → option_map (seen_batch n) (cond b None (lookup (is_at (nat_cmp n)) old))
+        ≡ (if b then None else option_map (seen_batch n) (lookup (is_at (nat_cmp n)) old))
+    by n true = refl
+    by n false = refl
+
+    pointwise : (n : ℕ) → option_map (seen_batch n) (lookup (is_at (nat_cmp n)) new)
+        ≡ (if id == n then None else option_map (seen_batch n) (lookup (is_at (nat_cmp n)) old))
+    pointwise n = ap (option_map (seen_batch n)) (updates n ∙ ap (λ b. cond b None (lookup (is_at (nat_cmp n)) old)) (is_at-nat id n)) ∙ by n (id == n)
+
+-- a queue that is made has its first tick alone
+pub queues-made : (queues : List QueueView) (t : Tick) (count : ℕ) → count ≡ length queues
+    → (λ n. seen_queue (get_or (queues ++ record { seq = 0; events = []; ticks = t ∷ []; subs = [] } ∷ []) n no_queue))
+    ≡ changed_at count (λ q. record q { tick_list = q.tick_list ++ t ∷ [] }) (λ n. seen_queue (get_or queues n no_queue))
+queues-made queues t count is = λ i n. pointwise queues n count is i
+  where
+    new : QueueView
+    new = record { seq = 0; events = []; ticks = t ∷ []; subs = [] }
+
+    at : (b : Bool) (n : ℕ) → (zero == suc n) ≡ b → seen_queue no_queue ≡ (if b then record (seen_queue no_queue) { tick_list = t ∷ [] } else seen_queue no_queue)
+    at true n e = absurd (grind (arith, nat_tests))
+    at false n e = refl
+
+    first : (b : Bool) (qs : List QueueView) (x : QueueView) → (suc (length qs) == zero) ≡ b → seen_queue x ≡ (if b then record (seen_queue x) { tick_list = (seen_queue x).tick_list ++ t ∷ [] } else seen_queue x)
+    first true qs x e = absurd (grind (arith, nat_tests))
+    first false qs x e = refl
+
+    shift : (m n : ℕ) → (m == n) ≡ (suc m == suc n)
+    shift m n = grind (arith, nat_tests)
+
+    pointwise : (qs : List QueueView) (n m : ℕ) → m ≡ length qs
+        → seen_queue (get_or (qs ++ record { seq = 0; events = []; ticks = t ∷ []; subs = [] } ∷ []) n no_queue)
+        ≡ (if m == n then record (seen_queue (get_or qs n no_queue)) { tick_list = (seen_queue (get_or qs n no_queue)).tick_list ++ t ∷ [] } else seen_queue (get_or qs n no_queue))
+    pointwise [] zero m e =
+        let yes_it_is : true ≡ (m == zero) = grind (arith, nat_tests) in
+        ap (λ b. if b then record (seen_queue no_queue) { tick_list = t ∷ [] } else seen_queue no_queue) yes_it_is
+    pointwise [] (suc n) m e =
+        at (zero == suc n) n refl ∙ ap (λ k. if k == suc n then record (seen_queue no_queue) { tick_list = t ∷ [] } else seen_queue no_queue) (sym e)
+    pointwise (x ∷ qs) zero m e =
+        first (suc (length qs) == zero) qs x refl
+        ∙ ap (λ k. if k == zero then record (seen_queue x) { tick_list = (seen_queue x).tick_list ++ t ∷ [] } else seen_queue x) (sym e)
+    pointwise (x ∷ qs) (suc n) m e =
+        pointwise qs n (length qs) refl
+        ∙ ap (λ b. if b then record (seen_queue (get_or qs n no_queue)) { tick_list = (seen_queue (get_or qs n no_queue)).tick_list ++ t ∷ [] } else seen_queue (get_or qs n no_queue)) (shift (length qs) n)
+        ∙ ap (λ k. if k == suc n then record (seen_queue (get_or qs n no_queue)) { tick_list = (seen_queue (get_or qs n no_queue)).tick_list ++ t ∷ [] } else seen_queue (get_or qs n no_queue)) (sym e)
+
+get_or-slice_set : (xs : List QueueView) (i n : ℕ) (x : QueueView) → i < length xs → get_or (slice_set xs i x) n no_queue ≡ (if i == n then x else get_or xs n no_queue)
+get_or-slice_set xs i n x lt = by (i == n) refl
+  where
+    by : (b : Bool) → (i == n) ≡ b → get_or (slice_set xs i x) n no_queue ≡ (if b then x else get_or xs n no_queue)
+    by true e = let same : i ≡ n = grind (arith, nat_tests) in ap (λ m. get_or (slice_set xs i x) m no_queue) (sym same) ∙ get_or-set_same xs i x no_queue lt
+    by false e = let other : n ≢ i = grind (arith, nat_tests) in get_or-set_other xs i n x no_queue other
+
+-- what is selected between two ticks are the events of a batch
+pub selects : (undone : ℕ → Bool) (v now : QueueView) (batch : Batch) (prev cur : Option Tick) (events : List Event) (id : ℕ) (r : Result (Vec Event Global) AllocError) → v ≡ now
+    → prev ≡ tick batch.prev v.ticks → cur ≡ tick batch.cur v.ticks → events ≡ v.events
+    → IfOk r (λ selected. selected.items ≡ filter (is_selected undone (snapshot_at prev) (snapshot_at cur) batch.sub) events)
+    → IfOk r (λ selected. selected.items ≡ selected_in undone (seen_queue now) (seen_batch id batch))
+selects undone v now batch prev cur events id r same from_is to_is all is =
+    IfOk-weaker r _ _ (λ selected e. e
+    ∙ ap (λ es. filter (is_selected undone (snapshot_at prev) (snapshot_at cur) batch.sub) es) all
+    ∙ ap (λ t. filter (is_selected undone (snapshot_at t) (snapshot_at cur) batch.sub) v.events) from_is
+    ∙ ap (λ t. filter (is_selected undone (snapshot_at (tick batch.prev v.ticks)) (snapshot_at t) batch.sub) v.events) to_is
+    ∙ ap (λ (q : QueueView). selected_in undone (seen_queue q) (seen_batch id batch)) same) is
+
+-- they were made at times that are printed, as all are
+pub selects-moments : (stored events : List Event) (p : Event → Bool) (r : Result (Vec Event Global) AllocError) → EventsHaveMoments stored → events ≡ stored
+    → IfOk r (λ selected. selected.items ≡ filter p events) → IfOk r (λ selected. EventsHaveMoments selected.items)
+selects-moments stored events p r have all is =
+    IfOk-weaker r _ _ (λ selected e. subst EventsHaveMoments (sym (e ∙ ap (filter p) all)) (All-filter p (λ event. HasMoment event.ev_time) stored have)) is
+
+-- a transaction that was noted as rolled back
+pub undone-insert : (old new : List ℕ) (t : ℕ) → ((q : ℕ) → list_any (is_at (nat_cmp q)) new ≡ cond (is_at (nat_cmp t) q) true (list_any (is_at (nat_cmp q)) old))
+    → keeps new ≡ (λ u. u == t || keeps old u)
+undone-insert old new t updates = λ i u. pointwise u i
+  where
+    by : (u : ℕ) (b : Bool) → (t == u) ≡ b → cond b true (keeps old u) ≡ (u == t || keeps old u)
+    by u true e = (let yes_it_is : true ≡ (u == t) = grind (arith, nat_tests) in ap (λ c. c || keeps old u) yes_it_is)
+    by u false e = (let it_is_not : false ≡ (u == t) = grind (arith, nat_tests) in ap (λ c. c || keeps old u) it_is_not)
+
+    pointwise : (u : ℕ) → keeps new u ≡ (u == t || keeps old u)
+    pointwise u = updates u ∙ ap (λ b. cond b true (keeps old u)) (is_at-nat t u) ∙ by u (t == u) refl
+
+-- ---- the database that queues are shown in
+
+-- one of their queues in the place of another
+one-set : (v : QueuesView) (i : ℕ) (old new : QueueView) (f : Queue → Queue) → i < length v.queues → old ≡ get_or v.queues i old → seen_queue new ≡ f (seen_queue old)
+    → (λ n. seen_queue (get_or (slice_set v.queues i new) n no_queue)) ≡ changed_at i f (queue_at v)
+one-set v i old new f lt at is = λ j n. pointwise n j
+  where
+    here : get_or v.queues i no_queue ≡ old
+    here = get_or_from_slice_get v.queues i old no_queue (slice_get_read v.queues (length v.queues) i old refl lt at)
+
+    by : (n : ℕ) (b : Bool) → (i == n) ≡ b → seen_queue (if b then new else get_or v.queues n no_queue) ≡ (if b then f (seen_queue (get_or v.queues n no_queue)) else seen_queue (get_or v.queues n no_queue))
+    by n true e =
+        let one : i ≡ n = grind (arith, nat_tests) in
+        is ∙ ap (λ q. f (seen_queue q)) (sym here) ∙ ap (λ m. f (seen_queue (get_or v.queues m no_queue))) one
+    by n false e = refl
+
+    pointwise : (n : ℕ) → seen_queue (get_or (slice_set v.queues i new) n no_queue) ≡ (if i == n then f (seen_queue (get_or v.queues n no_queue)) else seen_queue (get_or v.queues n no_queue))
+    pointwise n = ap seen_queue (get_or-slice_set v.queues i n new lt) ∙ by n (i == n) refl
+
+here-too : (v now : QueuesView) (i : ℕ) → v ≡ now → i < length now.queues → i < length v.queues
+here-too v now i same lt = subst (λ (w : QueuesView). i < length w.queues) (sym same) lt
+
+pub queues-set : (v now : QueuesView) (i : ℕ) (old new : QueueView) (f : Queue → Queue) → v ≡ now → i < length now.queues → old ≡ get_or v.queues i old → seen_queue new ≡ f (seen_queue old)
+    → (part : RowPart) → seen_with part (record v { queues = slice_set v.queues i new }) ≡ record (seen_with part now) { queue = changed_at i f (queue_at now) }
+queues-set v now i old new f same lt at is part =
+    (λ j. record (seen_with part v) { queue = one-set v i old new f (here-too v now i same lt) at is j })
+    ∙ ap (λ (w : QueuesView). record (seen_with part w) { queue = changed_at i f (queue_at w) }) same
+
+-- the queue at a place is what is shown there
+pub queue-at : (v now : QueuesView) (i : ℕ) (q : QueueView) → v ≡ now → i < length now.queues → q ≡ get_or v.queues i q → seen_queue q ≡ queue_at now i
+queue-at v now i q same lt at =
+    ap seen_queue (sym (get_or_from_slice_get v.queues i q no_queue (slice_get_read v.queues (length v.queues) i q refl (here-too v now i same lt) at)))
+    ∙ ap (λ (w : QueuesView). queue_at w i) same
+
+-- a tick that is stored is one with the snapshot as it was
+pub ticked-as : (v now : QueuesView) (i : ℕ) (old new : QueueView) (t : Tick) → v ≡ now → i < length now.queues → old ≡ get_or v.queues i old → new ≡ record old { ticks = old.ticks ++ t ∷ [] }
+    → (part : RowPart) → t.snapshot ≡ snapshot_now part → seen_with part (record v { queues = slice_set v.queues i new }) ≡ after_mark (seen_with part now) (queued (ticked i t.id t.time t.seq))
+ticked-as v now i old new t same lt at is part snap =
+    queues-set v now i old new (λ q. record q { tick_list = q.tick_list ++ t ∷ [] }) same lt at (ap seen_queue is) part
+    ∙ ap (λ x. record (seen_with part now) {
+      queue = changed_at i (λ q. record q { tick_list = q.tick_list ++ record { id = t.id; time = t.time; snapshot = x; seq = t.seq } ∷ [] }) (queue_at now);
+    }) snap
+
+-- a queue that is made has its first tick, with the snapshot as it was
+pub made-as : (v now : QueuesView) (names : List (List ℕ)) (queues : List QueueView) (q : QueueView) (name : List ℕ) (t : Tick) → v ≡ now
+    → names ≡ v.names ++ name ∷ [] → queues ≡ v.queues ++ q ∷ [] → q ≡ record { seq = 0; events = []; ticks = t ∷ []; subs = [] } → length v.queues ≡ length v.names
+    → t.id ≡ 1 → t.seq ≡ 0 → (part : RowPart) → t.snapshot ≡ snapshot_now part
+    → seen_with part (record v { names = names; queues = queues }) ≡ after_marks (seen_with part now) (queued (made name) ∷ queued (ticked (length now.names) 1 t.time 0) ∷ [])
+made-as v now names queues q name t same more one new count id seq part snap =
+    (λ i. record (seen_with part v) {
+      queues_made = (ap length more ∙ length-append v.names (name ∷ [])) i;
+      queues = (ap (numbered 0) more ∙ numbered-more v.names name) i;
+      queue = ((λ j n. seen_queue (get_or (one j) n no_queue))
+          ∙ ap (λ x. λ n. seen_queue (get_or (v.queues ++ x ∷ []) n no_queue)) new
+          ∙ queues-made v.queues t (length v.names) (sym count)) i;
+    })
+    ∙ ap (λ (w : QueuesView). record (seen_with part w) {
+      queues_made = length w.names + 1;
+      queues = numbered 0 w.names ++ record { number = length w.names; name = name } ∷ [];
+      queue = changed_at (length w.names) (λ x. record x { tick_list = x.tick_list ++ t ∷ [] }) (queue_at w);
+    }) same
+    ∙ ap (λ (x : Tick). record (seen_with part now) {
+      queues_made = length now.names + 1;
+      queues = numbered 0 now.names ++ record { number = length now.names; name = name } ∷ [];
+      queue = changed_at (length now.names) (λ y. record y { tick_list = y.tick_list ++ x ∷ [] }) (queue_at now);
+    }) is
+  where
+    is : t ≡ record { id = 1; time = t.time; snapshot = snapshot_now part; seq = 0 }
+    is = λ i. record { id = id i; time = t.time; snapshot = snap i; seq = seq i }
+
+-- a consumer that is registered stands at the newest tick
+pub registered-as : (v now : QueuesView) (i id newest : ℕ) (name : List ℕ) (old new : QueueView) → v ≡ now → i < length now.queues → old ≡ get_or v.queues i old
+    → seen_queue new ≡ record (seen_queue old) {
+      members = (seen_queue old).members ++ name ∷ [];
+      sub = changed_for name (λ _. Some (record { id = id; position = newest; active = None })) (seen_queue old).sub;
+    }
+    → id ≡ now.last_sub_id + 1 → newest ≡ newest_id (queue_at now i)
+    → (part : RowPart) → seen_with part (record v { last_sub_id = id; queues = slice_set v.queues i new })
+    ≡ after_mark (seen_with part now) (queued (registered i name (now.last_sub_id + 1) (newest_id (queue_at now i))))
+registered-as v now i id newest name old new same lt at is next last part =
+    ap (λ (d : Database). record d { last_sub_id = id })
+    (queues-set v now i old new (λ q. record q {
+      members = q.members ++ name ∷ [];
+      sub = changed_for name (λ _. Some (record { id = id; position = newest; active = None })) q.sub;
+    }) same lt at is part)
+    ∙ (λ j. after_mark (seen_with part now) (queued (registered i name (next j) (last j))))
+
+-- a batch is open once its consumer has it and it is noted
+pub opened-as : (v now : QueuesView) (more : List (ℕ × Batch)) (id : ℕ) (batch : Batch) (old new : QueueView) → v ≡ now → batch.queue < length now.queues → old ≡ get_or v.queues batch.queue old
+    → seen_queue new ≡ record (seen_queue old) { sub = changed_for batch.consumer (option_map (with_batch id)) (seen_queue old).sub }
+    → ((q : ℕ) → lookup (is_at (nat_cmp q)) more ≡ cond (is_at (nat_cmp id) q) (Some batch) (lookup (is_at (nat_cmp q)) v.batches))
+    → (part : RowPart) → seen_with part (record v { last_batch_id = id; queues = slice_set v.queues batch.queue new; batches = more })
+    ≡ after_mark (seen_with part now) (queued (opened (seen_batch id batch)))
+opened-as v now more id batch old new same lt at is updates part =
+    (λ i. record (seen_with part v) {
+      last_batch_id = id;
+      queue = one-set v batch.queue old new (λ q. record q { sub = changed_for batch.consumer (option_map (with_batch id)) q.sub }) (here-too v now batch.queue same lt) at is i;
+      batch = batches-insert v.batches more id batch updates i;
+    })
+    ∙ ap (λ (w : QueuesView). after_mark (seen_with part w) (queued (opened (seen_batch id batch)))) same
+
+-- and it is closed once it is gone, and its consumer stands at its closing tick
+pub closed-as : (v now : QueuesView) (rest : List (ℕ × Batch)) (id : ℕ) (batch : Batch) (old new : QueueView) → v ≡ now → batch.queue < length v.queues → old ≡ get_or v.queues batch.queue old
+    → seen_queue new ≡ record (seen_queue old) { sub = changed_for batch.consumer (option_map (at_position batch.cur)) (seen_queue old).sub }
+    → ((q : ℕ) → lookup (is_at (nat_cmp q)) rest ≡ cond (is_at (nat_cmp id) q) None (lookup (is_at (nat_cmp q)) v.batches))
+    → (part : RowPart) → seen_with part (record v { queues = slice_set v.queues batch.queue new; batches = rest })
+    ≡ after_mark (seen_with part now) (queued (closed (seen_batch id batch)))
+closed-as v now rest id batch old new same lt at is updates part =
+    (λ i. record (seen_with part v) {
+      queue = one-set v batch.queue old new (λ q. record q { sub = changed_for batch.consumer (option_map (at_position batch.cur)) q.sub }) lt at is i;
+      batch = batches-remove v.batches rest id updates i;
+    })
+    ∙ ap (λ (w : QueuesView). after_mark (seen_with part w) (queued (closed (seen_batch id batch)))) same
+
+-- a transaction is noted as rolled back
+pub undone-as : (v now : QueuesView) (more : List ℕ) (t : ℕ) → v ≡ now → ((q : ℕ) → list_any (is_at (nat_cmp q)) more ≡ cond (is_at (nat_cmp t) q) true (list_any (is_at (nat_cmp q)) v.undone))
+    → (part : RowPart) → seen_with part (record v { undone = more }) ≡ record (seen_with part now) { undone = λ u. u == t || keeps now.undone u }
+undone-as v now more t same updates part =
+    (λ i. record (seen_with part v) { undone = undone-insert v.undone more t updates i })
+    ∙ ap (λ (w : QueuesView). record (seen_with part w) { undone = λ u. u == t || keeps w.undone u }) same
+
+-- one more trigger
+pub traced-as : (v now : QueuesView) (more : List TableTrigger) (tables : List (ℕ × TracedTableView)) (x : TableTrigger) → v ≡ now → more ≡ v.triggers ++ x ∷ []
+    → (part : RowPart) → seen_with part (record v { triggers = more; traced = tables }) ≡ after_mark (seen_with part now) (queued (traced x.table x.name x.trigger))
+traced-as v now more tables x same is part =
+    (λ i. record (seen_with part v) { triggers = is i })
+    ∙ ap (λ (w : QueuesView). after_mark (seen_with part w) (queued (traced x.table x.name x.trigger))) same
+
+-- the events of a batch of a queue that is there
+pub selects-at : (now : QueuesView) (undone : List ℕ) (q : QueueView) (batch : Batch) (id : ℕ) (r : Result (Vec Event Global) AllocError) → undone ≡ now.undone → seen_queue q ≡ queue_at now batch.queue
+    → IfOk r (λ events. events.items ≡ selected_in (keeps undone) (seen_queue q) (seen_batch id batch)) → (part : RowPart) → IfOk r (λ events. events.items ≡ selected (seen_with part now) (seen_batch id batch))
+selects-at now undone q batch id r but same is part =
+    IfOk-weaker r _ _ (λ events e. e ∙ ap (λ u. selected_in (keeps u) (seen_queue q) (seen_batch id batch)) but ∙ ap (λ x. selected_in (keeps now.undone) x (seen_batch id batch)) same) is
+
+-- what is kept of tables stays true where neither they nor the triggers change
+pub tables-kept : (v now : QueuesView) → v ≡ now → (part : RowPart) → AreTables part now → AreTables part v
+tables-kept v now same part are = subst (AreTables part) (sym same) are
+
+-- what is shown is what is kept
+pub shown-as : (v now : QueuesView) → v ≡ now → (part : RowPart) → seen_with part v ≡ seen_with part now
+shown-as v now same part = ap (seen_with part) same
+
+-- what holds anyway holds of a result that is refused
+pub on-err : {A E : Type 0} (r : Result A E) (P : Type 0) → P → OnErr r P
+on-err (Ok a) P is = tt
+on-err (Err e) P is = is

@@ -1,0 +1,32 @@
+use Rattle.std.proofs.Common.{◌<◌, Some, length, sym, subst}
+use Rattle.pgq_queues.specs.Views.{QueuesView}
+use Rattle.pgq_queues.specs.Batches.{BatchesWithin}
+use Rattle.pgq_queues.proofs.Marked.{opened-as, tables-kept}
+use Rattle.pgq_queues.proofs.TracedLists.{within-set, batches-updated}
+use Rattle.pgq_queues.proofs.queues.Queues.open_batch.Goals as goal
+
+pub returns-clause-mark : goal.returns-clause-mark
+returns-clause-mark c =
+    opened-as _ _ c.insert.new.self.entries c.args.id c.args.batch _ c.open_batch.new.self c.self.view_is c.requires c.index_mut.ensures.value c.open_batch.ensures c.in_ok-insert.ensures.updates.0
+
+pub invariant_of-self : goal.invariant_of-self
+invariant_of-self c =
+    within-set c.self.inside.queues.items c.self.inside.names c.insert.new.self.entries c.self.inside.triggers.items c.self.inside.traced.entries c.args.batch.queue c.open_batch.new.self
+    (c.self.invariant.0, (subst (BatchesWithin (length c.self.inside.queues.items)) (sym c.in_err-insert.ensures.err) c.self.invariant.1.0, c.self.invariant.1.1))
+
+pub invariant_of-self-2 : goal.invariant_of-self-2
+invariant_of-self-2 c =
+    let low : c.args.batch.queue < length c.self.inside.queues.items = subst (λ (v : QueuesView). c.args.batch.queue < length v.queues) (sym c.self.view_is) c.requires in
+    within-set c.self.inside.queues.items c.self.inside.names c.insert.new.self.entries c.self.inside.triggers.items c.self.inside.traced.entries c.args.batch.queue c.open_batch.new.self (
+      c.self.invariant.0,
+      (
+        batches-updated (length c.self.inside.queues.items) c.self.inside.batches.entries c.insert.new.self.entries c.args.id (Some c.args.batch) c.in_ok-insert.ensures.updates.0 low c.self.invariant.1.0,
+        c.self.invariant.1.1,
+      ),
+    )
+
+pub returns-in_err-insert-clause-tables : goal.returns-in_err-insert-clause-tables
+returns-in_err-insert-clause-tables c = tables-kept _ _ c.self.view_is
+
+pub returns-clause-tables : goal.returns-clause-tables
+returns-clause-tables c = tables-kept _ _ c.self.view_is

@@ -1,0 +1,6 @@
+pub mod Ticks
+pub mod Subs
+pub mod Views
+pub mod Seen
+pub mod Batches
+pub mod Traced

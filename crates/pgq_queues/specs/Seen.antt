@@ -1,0 +1,89 @@
+-- The readings of the definitions, in what the code keeps of a database's queues.
+use Rattle.std.specs.Prelude.{ℕ, ◌+◌, Bool, List, [], ◌∷◌, length, Option, option_map, map, slice_index_or}
+use Rattle.std.specs.List.{list_any}
+use Rattle.std.specs.Ordering.{nat_cmp}
+use Rattle.std.specs.BTreeMap.{is_at}
+use Rattle.std.specs.Map.{lookup}
+use Rattle.sky_names.specs.Places.{named}
+use Rattle.sky_model.specs.History as model
+use Rattle.sky_model.specs.Queues.{NamedQueue}
+use Rattle.sky_model.specs.Consumers.{Subscription}
+use Rattle.sky_model.specs.Config.{default_config}
+use Rattle.sky_model.specs.State.{Queue, RowPart, Database}
+use Rattle.pgq_queues.specs.declared.sub.Sub.{Sub}
+use Rattle.pgq_queues.specs.declared.batch.Batch.{Batch}
+use Rattle.pgq_queues.specs.Subs.{consumer_of}
+use Rattle.pgq_queues.specs.Views.{QueueView, QueuesView}
+
+abbrev pub seen_sub : Sub → Subscription
+seen_sub s = record { id = s.id; position = s.position; active = s.active }
+
+abbrev pub seen_queue : QueueView → Queue
+seen_queue q = record {
+  config = default_config;
+  seq = q.seq;
+  stored = q.events;
+  tick_list = q.ticks;
+  members = map consumer_of q.subs;
+  sub = λ name. option_map seen_sub (named consumer_of name q.subs);
+}
+
+-- a queue that isn't made
+abbrev pub no_queue : QueueView
+no_queue = record { seq = 0; events = []; ticks = []; subs = [] }
+
+-- a batch that is kept under an id
+abbrev pub seen_batch : ℕ → Batch → model.Batch
+seen_batch id b = record { id = id; queue = b.queue; consumer = b.consumer; sub = b.sub; prev = b.prev; cur = b.cur }
+
+-- what is kept under a number
+abbrev pub kept : {A : Type 0} → List (ℕ × A) → ℕ → Option A
+kept entries n = lookup (is_at (nat_cmp n)) entries
+
+-- whether a number is kept
+abbrev pub keeps : List ℕ → ℕ → Bool
+keeps numbers n = list_any (is_at (nat_cmp n)) numbers
+
+-- the queues of names, numbered in their order from a number on
+abbrev pub numbered : ℕ → List (List ℕ) → List NamedQueue
+numbered n [] = []
+numbered n (name ∷ names) = record { number = n; name = name } ∷ numbered (n + 1) names
+
+-- the queues that stand
+abbrev pub queues_of : QueuesView → List NamedQueue
+queues_of q = numbered 0 q.names
+
+-- the queue of a number
+abbrev pub queue_at : QueuesView → ℕ → Queue
+queue_at q n = seen_queue (slice_index_or q.queues n no_queue)
+
+-- the active batch of an id
+abbrev pub batch_at : QueuesView → ℕ → Option model.Batch
+batch_at q id = option_map (seen_batch id) (kept q.batches id)
+
+-- the database that these are the queues of, with its row part
+abbrev pub seen_with : RowPart → QueuesView → Database
+seen_with part q = record {
+  part = part;
+  undone = keeps q.undone;
+  last_batch_id = q.last_batch_id;
+  last_sub_id = q.last_sub_id;
+  queues_made = length q.names;
+  queues = queues_of q;
+  queue = queue_at q;
+  batch = batch_at q;
+  triggers = q.triggers;
+}
+
+-- the queues of a database in which nothing has happened
+abbrev pub no_queues : QueuesView
+no_queues = record {
+  last_batch_id = 0;
+  last_sub_id = 0;
+  names = [];
+  queues = [];
+  batches = [];
+  undone = [];
+  triggers = [];
+  traced = [];
+}

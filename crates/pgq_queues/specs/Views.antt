@@ -1,0 +1,40 @@
+-- What contracts see of a queue and of a database's queues, as the code keeps them.
+use Rattle.std.specs.Prelude.{ℕ, List}
+use Rattle.sky_val.specs.declared.column.Column.{Column}
+use Rattle.sky_val.specs.declared.event.Event.{Event}
+use Rattle.sky_model.specs.Queues.{Tick}
+use Rattle.sky_model.specs.Triggers.{TableTrigger}
+use Rattle.pgq_queues.specs.declared.batch.Batch.{Batch}
+use Rattle.pgq_queues.specs.declared.sub.Sub.{Sub}
+
+pub record QueueView : Type 0 where
+  pub seq : ℕ
+  pub events : List Event
+  pub ticks : List Tick
+  pub subs : List Sub
+
+-- a table with triggers: its name, its columns, and the places of its own among the triggers of all tables
+pub record TracedTableView : Type 0 where
+  pub name : List ℕ
+  pub columns : List Column
+  pub places : List ℕ
+
+-- the same with the triggers that stand there
+pub record TracedView : Type 0 where
+  pub name : List ℕ
+  pub columns : List Column
+  pub triggers : List TableTrigger
+
+-- the queues of a database, and what it keeps beside them
+pub record QueuesView : Type 0 where
+  pub last_batch_id : ℕ
+  pub last_sub_id : ℕ
+  pub names : List (List ℕ)
+  pub queues : List QueueView
+  pub batches : List (ℕ × Batch)
+  -- the transactions that were rolled back
+  pub undone : List ℕ
+  -- the triggers, in the order of making
+  pub triggers : List TableTrigger
+  -- the tables with triggers, each under its number
+  pub traced : List (ℕ × TracedTableView)

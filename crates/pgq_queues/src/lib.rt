@@ -1,0 +1,23 @@
+//! The queues of one database, with their consumers, batches and triggers.
+//!
+//! `Queues` keeps them, and decides nothing: it has the readings that statements need, and a method for each mark of the
+//! definitions that changes a queue. What a contract sees of it is read by `seen_with`, with any row part, as the
+//! definitions' database. Nothing here knows a session, a transaction that runs, or a row.
+#![tactic(auto)]
+
+mod batch;
+mod queue;
+mod queues;
+mod stored;
+mod sub;
+mod subs;
+mod subscription;
+mod ticks;
+mod traced;
+
+pub use batch::Batch;
+pub use queue::Queue;
+pub use queues::Queues;
+pub use subscription::Subscription;
+pub use ticks::{MAX_COUNT, Tick, Ticks};
+pub use traced::{TableTrigger, Traced};

@@ -1,0 +1,169 @@
+ghost use Rattle.std.specs.Prelude.{◌≡◌, ℕ, ◌+◌, ◌<◌, ◌^◌, [], ◌∷◌, ◌++◌, Some, None, IfOk, OnOk, OnErr, IfSome, option_copied, option_map, length};
+ghost use Rattle.sky_names.specs.Places.{place_of, named};
+ghost use Rattle.sky_model.specs.Queues.{newest_tick};
+ghost use Rattle.sky_model.specs.Selection.{selected_in};
+ghost use Rattle.sky_model.specs.State.{changed_for, with_batch, at_position};
+ghost use Rattle.sky_model.specs.StepQueue.{id_of};
+ghost use Rattle.pgq_queues.specs.Ticks.{IsTime};
+ghost use Rattle.pgq_queues.specs.Seen.{keeps, seen_queue, seen_batch};
+ghost use Rattle.sky_model.specs.Moment.{HasMoment};
+ghost use Rattle.sky_model.specs.Printed.{EventsHaveMoments};
+ghost use Rattle.pgq_queues.specs.Subs.{consumer_of};
+
+use crate::batch::{Batch, select};
+use crate::stored::Stored;
+use crate::sub::Sub;
+use crate::subs::Subs;
+use crate::subscription::Subscription;
+use crate::ticks::{Tick, Ticks};
+use sky_val::{Event, Text};
+use std::alloc::{AllocError, Global};
+use std::collections::BTreeSet;
+use std::marker::Model;
+
+/// A queue: its sequence, its events, its ticks and its consumers.
+#[derive(Drop)]
+pub struct Queue {
+    seq: u64,
+    events: Vec<Stored>,
+    ticks: Ticks,
+    subs: Subs,
+}
+
+impl Model for Queue {
+    ghost use Rattle.sky_model.specs.Printed.{EventsHaveMoments};
+    ghost use Rattle.pgq_queues.specs.Views.{QueueView};
+
+    ghost Value = { QueueView };
+
+    ghost invariant = { λ q. EventsHaveMoments q.events.items };
+
+    ghost view = { λ q. record { seq = q.seq; events = q.events.items; ticks = q.ticks; subs = q.subs } };
+}
+
+impl Queue {
+    /// A queue with its first tick.
+    pub(crate) fn new(alloc: Global, first: Tick) -> Result<Queue, AllocError>
+        requires first { first.id ≡ 1 }
+        requires time { IsTime first.time }
+        ensures { IfOk result (λ queue. queue ≡ record { seq = 0; events = []; ticks = first ∷ []; subs = [] }) }
+    {
+        let ticks = Ticks::new(alloc, first)?;
+        Ok(Queue {
+            seq: 0,
+            events: Vec::new(alloc),
+            ticks,
+            subs: Subs::new(alloc),
+        })
+    }
+
+    /// The value of the sequence.
+    pub fn seq(&self) -> u64
+        ensures { result ≡ self.now.seq }
+    {
+        self.seq
+    }
+
+    /// The ticks, of which there is at least one.
+    pub fn ticks(&self) -> &Ticks
+        ensures { result.now ≡ self.now.ticks }
+    {
+        &self.ticks
+    }
+
+    /// How many consumers there are.
+    pub fn consumer_count(&self) -> usize
+        ensures { result ≡ length (seen_queue self.now).members }
+    {
+        self.subs.len()
+    }
+
+    /// The subscription of a consumer, if it is registered.
+    pub fn subscription(&self, consumer: &Text) -> Option<Subscription>
+        ensures { result ≡ (seen_queue self.now).sub consumer.now }
+    {
+        let sub = self.subs.get(consumer)?;
+        Some(Subscription::of(sub))
+    }
+
+    /// The sequence has this value from now on.
+    pub(crate) fn raise(&mut self, value: u64)
+        ensures { self.new ≡ record self.old { seq = value } }
+    {
+        self.seq = value;
+    }
+
+    /// Stores an event.
+    pub(crate) fn put(&mut self, event: Event) -> Result<(), AllocError>
+        requires { HasMoment event.ev_time }
+        ensures { OnOk result (self.new ≡ record self.old { events = self.old.events ++ event ∷ [] }) }
+    {
+        let stored = Stored::new(*self.events.allocator(), event)?;
+        self.events.push(stored)?;
+        Ok(())
+    }
+
+    /// One more tick.
+    pub(crate) fn tick(&mut self, tick: Tick) -> Result<(), AllocError>
+        requires next { tick.id ≡ id_of (newest_tick self.old.ticks) + 1 }
+        requires time { IsTime tick.time }
+        ensures { OnOk result (self.new ≡ record self.old { ticks = self.old.ticks ++ tick ∷ [] }) }
+    {
+        self.ticks.add(tick)?;
+        Ok(())
+    }
+
+    /// Registers a new consumer as a subscription that stands at a tick.
+    pub(crate) fn register(
+        &mut self,
+        alloc: Global,
+        consumer: &Text,
+        id: u64,
+        position: u64,
+    ) -> Result<(), AllocError>
+        requires new { named consumer_of consumer.now self.old.subs ≡ None }
+        requires room { length (seen_queue self.old).members < 256 }
+        ensures { OnOk result (seen_queue self.new ≡ record (seen_queue self.old) {
+          members = (seen_queue self.old).members ++ consumer.now ∷ [];
+          sub = changed_for consumer.now (λ _. Some (record { id = id; position = position; active = None })) (seen_queue self.old).sub;
+        }) }
+    {
+        let sub = Sub {
+            consumer: consumer.copy(alloc)?,
+            id,
+            position,
+            active: None,
+        };
+        self.subs.add(alloc, sub)?;
+        Ok(())
+    }
+
+    /// A consumer has this batch from now on.
+    pub(crate) fn open_batch(&mut self, consumer: &Text, batch: u64)
+        ensures { seen_queue self.new ≡ record (seen_queue self.old) { sub = changed_for consumer.now (option_map (with_batch batch)) (seen_queue self.old).sub } }
+    {
+        self.subs.open_batch(consumer, batch);
+    }
+
+    /// A consumer has finished its batch, and stands at its closing tick.
+    pub(crate) fn close_batch(&mut self, consumer: &Text, position: u64)
+        ensures { seen_queue self.new ≡ record (seen_queue self.old) { sub = changed_for consumer.now (option_map (at_position position)) (seen_queue self.old).sub } }
+    {
+        self.subs.close_batch(consumer, position);
+    }
+
+    /// The events of a batch of this queue, without those of the transactions that were rolled back.
+    pub(crate) fn select(
+        &self,
+        alloc: Global,
+        undone: &BTreeSet<u64>,
+        batch: &Batch,
+    ) -> Result<Vec<Event>, AllocError>
+        ensures events { (id : ℕ) → IfOk result (λ events. events.items ≡ selected_in (keeps undone.now.keys) (seen_queue self.now) (seen_batch id batch.now)) }
+        ensures moments { IfOk result (λ events. EventsHaveMoments events.items) }
+    {
+        let prev = self.ticks.get(batch.prev);
+        let cur = self.ticks.get(batch.cur);
+        select(alloc, self.events.as_slice(), prev, cur, undone, batch.sub)
+    }
+}

@@ -1,0 +1,327 @@
+ghost use Rattle.std.specs.Prelude.{◌≡◌, ℕ, ◌+◌, ◌<◌, ◌^◌, [], ◌∷◌, ◌++◌, ◌||◌, ◌==◌, true, Some, None, IfOk, OnOk, OnErr, IfSome, IfNone, option_copied, option_map, length, is_some};
+ghost use Rattle.std.specs.List.{All};
+ghost use Rattle.sky_model.specs.History.{queued, made, raised, put, ticked, registered, opened, closed, traced};
+ghost use Rattle.sky_model.specs.Moment.{HasMoment};
+ghost use Rattle.sky_model.specs.Printed.{EventsHaveMoments};
+ghost use Rattle.sky_model.specs.Queues.{queue_number};
+ghost use Rattle.sky_model.specs.Selection.{selected};
+ghost use Rattle.sky_model.specs.ShownRows.{snapshot_now};
+ghost use Rattle.sky_model.specs.State.{RowPart, after_mark, after_marks, changed_at, changed_for, with_batch, at_position};
+ghost use Rattle.sky_model.specs.StepQueue.{newest_id};
+ghost use Rattle.sky_model.specs.StepTrigger.{has_trigger};
+ghost use Rattle.sky_model.specs.Triggers.{triggers_of};
+ghost use Rattle.pgq_queues.specs.Seen.{kept, seen_with, seen_queue, seen_batch, queues_of, queue_at, batch_at, no_queues};
+ghost use Rattle.pgq_queues.specs.Ticks.{IsTime};
+ghost use Rattle.pgq_queues.specs.Traced.{traced_at, IsTable, AreTables};
+
+use crate::batch::Batch;
+use crate::queue::Queue;
+use crate::ticks::Tick;
+use crate::traced::{TableTrigger, Traced, TracedTable};
+use sky_names::Names;
+use sky_val::{Event, Schema, Text};
+use std::alloc::{AllocError, Global};
+use std::collections::{BTreeMap, BTreeSet};
+use std::marker::Model;
+
+/// The queues of one database, with their active batches; the transactions that were rolled back, whose events no batch
+/// lists; and the triggers of tables, whose events go to queues.
+#[derive(Drop)]
+pub struct Queues {
+    alloc: Global,
+    last_batch_id: u64,
+    last_sub_id: u64,
+    names: Names,
+    queues: Vec<Queue>,
+    batches: BTreeMap<u64, Batch>,
+    // The transactions that were rolled back.
+    undone: BTreeSet<u64>,
+    // The triggers, in the order of making.
+    triggers: Vec<TableTrigger>,
+    // The tables with triggers, each under its number.
+    traced: BTreeMap<u32, TracedTable>,
+}
+
+impl Model for Queues {
+    ghost use Rattle.std.specs.Prelude.{◌≡◌, length};
+    ghost use Rattle.pgq_queues.specs.Views.{QueuesView};
+    ghost use Rattle.pgq_queues.specs.Batches.{BatchesWithin};
+    ghost use Rattle.pgq_queues.specs.Traced.{TracedWithin};
+
+    ghost Value = { QueuesView };
+
+    ghost view = { λ q. record {
+      last_batch_id = q.last_batch_id;
+      last_sub_id = q.last_sub_id;
+      names = q.names;
+      queues = q.queues.items;
+      batches = q.batches.entries;
+      undone = q.undone.keys;
+      triggers = q.triggers.items;
+      traced = q.traced.entries;
+    } };
+
+    ghost invariant = { λ q. (length q.queues.items ≡ length q.names)
+        × (BatchesWithin (length q.queues.items) q.batches.entries × TracedWithin (length q.queues.items) q.triggers.items q.traced.entries) };
+}
+
+impl Queues {
+    /// No queues, and nothing else.
+    pub fn new(alloc: Global) -> Queues
+        ensures { result ≡ no_queues }
+    {
+        Queues {
+            alloc,
+            last_batch_id: 0,
+            last_sub_id: 0,
+            names: Names::new(alloc),
+            queues: Vec::new(alloc),
+            batches: BTreeMap::new(alloc),
+            undone: BTreeSet::new(alloc),
+            triggers: Vec::new(alloc),
+            traced: BTreeMap::new(alloc),
+        }
+    }
+
+    /// How many queues stand; none goes.
+    pub fn count(&self) -> usize
+        ensures { result ≡ length (queues_of self.now) }
+    {
+        self.names.len()
+    }
+
+    /// The number of a queue, if there is one of this name.
+    pub fn number(&self, queue: &Text) -> Option<usize>
+        ensures number { result ≡ queue_number queue.now (queues_of self.now) }
+        ensures within { IfSome result (λ n. n < length self.now.queues) }
+    {
+        let number = self.names.number(queue)?;
+        Some(number as usize)
+    }
+
+    /// The queue of this number.
+    pub fn queue(&self, number: usize) -> &Queue
+        requires { number < length self.now.queues }
+        ensures { seen_queue result.now ≡ queue_at self.now number }
+    {
+        &self.queues[number]
+    }
+
+    /// The last subscription id that was given.
+    pub fn last_sub(&self) -> u64
+        ensures { result ≡ self.now.last_sub_id }
+    {
+        self.last_sub_id
+    }
+
+    /// The last batch id that was given.
+    pub fn last_batch(&self) -> u64
+        ensures { result ≡ self.now.last_batch_id }
+    {
+        self.last_batch_id
+    }
+
+    /// An active batch, by its id.
+    pub fn batch(&self, id: u64) -> Option<&Batch>
+        ensures batch { option_map (seen_batch id) (option_copied result) ≡ batch_at self.now id }
+        ensures within { IfSome result (λ b. b.now.queue < length self.now.queues) }
+    {
+        self.batches.get(&id)
+    }
+
+    /// The events of a batch, without those of the transactions that were rolled back.
+    pub fn batch_events(&self, batch: &Batch) -> Result<Vec<Event>, AllocError>
+        requires { batch.now.queue < length self.now.queues }
+        ensures events { (part : RowPart) (id : ℕ) → IfOk result (λ events. events.items ≡ selected (seen_with part self.now) (seen_batch id batch.now)) }
+        ensures moments { IfOk result (λ events. EventsHaveMoments events.items) }
+    {
+        self.queue(batch.queue)
+            .select(self.alloc, &self.undone, batch)
+    }
+
+    /// A table with its triggers, if anything is kept of it.
+    pub fn traced(&self, table: u32) -> Option<Traced<'_>>
+        ensures traced { result ≡ traced_at self.now table }
+        ensures within { IfSome result (λ t. All (λ x. x.trigger.queue < length self.now.queues) t.triggers) }
+        ensures none { IfNone result (triggers_of table self.now.triggers ≡ []) }
+    {
+        let traced = self.traced.get(&table)?;
+        Some(Traced::new(self.triggers.as_slice(), traced))
+    }
+
+    /// Whether the table has a trigger of this name.
+    pub fn has_trigger(&self, table: u32, name: &Text) -> bool
+        ensures { result ≡ has_trigger name.now (triggers_of table self.now.triggers) }
+    {
+        match self.traced(table) {
+            Some(traced) => traced.has(name),
+            None => false,
+        }
+    }
+
+    /// How many triggers the table has.
+    pub fn trigger_count(&self, table: u32) -> usize
+        ensures { result ≡ length (triggers_of table self.now.triggers) }
+    {
+        match self.traced(table) {
+            Some(traced) => traced.count(),
+            None => 0,
+        }
+    }
+
+    /// Notes that a transaction was rolled back.
+    pub fn undo(&mut self, txid: u64) -> Result<(), AllocError>
+        ensures noted { OnOk result ((part : RowPart) → seen_with part self.new
+            ≡ record (seen_with part self.old) { undone = λ u. u == txid || (seen_with part self.old).undone u }) }
+        ensures queues { length self.new.queues ≡ length self.old.queues }
+        ensures tables { (part : RowPart) → AreTables part self.old → AreTables part self.new }
+    {
+        self.undone.insert(txid)?;
+        Ok(())
+    }
+
+    /// A queue of a new name, with its first tick, which has the snapshot as it is now.
+    pub fn make(&mut self, name: Text, first: Tick) -> Result<(), AllocError>
+        requires new { queue_number name (queues_of self.old) ≡ None }
+        requires room { length (queues_of self.old) < 64 }
+        requires first { first.id ≡ 1 }
+        requires time { IsTime first.time }
+        requires seq { first.seq ≡ 0 }
+        ensures marks { OnOk result ((part : RowPart) → first.snapshot ≡ snapshot_now part → seen_with part self.new
+            ≡ after_marks (seen_with part self.old) (queued (made name) ∷ queued (ticked (length self.old.names) 1 first.time 0) ∷ [])) }
+        ensures tables { (part : RowPart) → AreTables part self.old → AreTables part self.new }
+    {
+        let queue = Queue::new(self.alloc, first)?;
+        self.queues.reserve(1)?;
+        self.names.add(name)?;
+        self.queues.push_reserved(queue);
+        Ok(())
+    }
+
+    /// The sequence of a queue has this value from now on.
+    pub fn raise(&mut self, queue: usize, value: u64)
+        requires { queue < length self.old.queues }
+        ensures mark { (part : RowPart) → seen_with part self.new ≡ after_mark (seen_with part self.old) (queued (raised queue value)) }
+        ensures queues { length self.new.queues ≡ length self.old.queues }
+        ensures tables { (part : RowPart) → AreTables part self.old → AreTables part self.new }
+    {
+        self.queues[queue].raise(value);
+    }
+
+    /// Stores an event in a queue, whether its transaction commits or not.
+    pub fn put(&mut self, queue: usize, event: Event) -> Result<(), AllocError>
+        requires queue { queue < length self.old.queues }
+        requires time { HasMoment event.ev_time }
+        ensures mark { OnOk result ((part : RowPart) → seen_with part self.new ≡ after_mark (seen_with part self.old) (queued (put queue event))) }
+        ensures queues { length self.new.queues ≡ length self.old.queues }
+        ensures tables { (part : RowPart) → AreTables part self.old → AreTables part self.new }
+    {
+        self.queues[queue].put(event)?;
+        Ok(())
+    }
+
+    /// One more tick of a queue, with the snapshot as it is now.
+    pub fn tick(&mut self, queue: usize, tick: Tick) -> Result<(), AllocError>
+        requires queue { queue < length self.old.queues }
+        requires next { tick.id ≡ newest_id (queue_at self.old queue) + 1 }
+        requires time { IsTime tick.time }
+        ensures mark { OnOk result ((part : RowPart) → tick.snapshot ≡ snapshot_now part → seen_with part self.new
+            ≡ after_mark (seen_with part self.old) (queued (ticked queue tick.id tick.time tick.seq))) }
+        ensures tables { (part : RowPart) → AreTables part self.old → AreTables part self.new }
+    {
+        self.queues[queue].tick(tick)?;
+        Ok(())
+    }
+
+    /// Registers a new consumer, with the next subscription id, which stands at the newest tick.
+    pub fn register(&mut self, queue: usize, consumer: &Text) -> Result<(), AllocError>
+        requires queue { queue < length self.old.queues }
+        requires new { (queue_at self.old queue).sub consumer.now ≡ None }
+        requires room { length (queue_at self.old queue).members < 256 }
+        requires id { self.old.last_sub_id + 1 < 2 ^ 64 }
+        ensures mark { OnOk result ((part : RowPart) → seen_with part self.new
+            ≡ after_mark (seen_with part self.old) (queued (registered queue consumer.now (self.old.last_sub_id + 1) (newest_id (queue_at self.old queue))))) }
+        ensures tables { (part : RowPart) → AreTables part self.old → AreTables part self.new }
+    {
+        let newest = self.queues[queue].ticks().newest().id();
+        self.last_sub_id += 1;
+        self.queues[queue].register(self.alloc, consumer, self.last_sub_id, newest)?;
+        Ok(())
+    }
+
+    /// The batch is active from now on, is its consumer's, and is the last that was made.
+    pub fn open_batch(&mut self, id: u64, batch: Batch) -> Result<(), AllocError>
+        requires { batch.queue < length self.old.queues }
+        ensures mark { OnOk result ((part : RowPart) → seen_with part self.new ≡ after_mark (seen_with part self.old) (queued (opened (seen_batch id batch)))) }
+        ensures tables { (part : RowPart) → AreTables part self.old → AreTables part self.new }
+    {
+        self.queues[batch.queue].open_batch(&batch.consumer, id);
+        self.last_batch_id = id;
+        self.batches.insert(id, batch)?;
+        Ok(())
+    }
+
+    /// The batch of this id, if there is one, is no longer active; its consumer stands at its closing tick.
+    pub fn close_batch(&mut self, id: u64) -> Option<Batch>
+        ensures batch { option_map (seen_batch id) result ≡ batch_at self.old id }
+        ensures mark { IfSome result (λ b. (part : RowPart) → seen_with part self.new ≡ after_mark (seen_with part self.old) (queued (closed (seen_batch id b)))) }
+        ensures none { IfNone result ((part : RowPart) → seen_with part self.new ≡ seen_with part self.old) }
+        ensures tables { (part : RowPart) → AreTables part self.old → AreTables part self.new }
+    {
+        let batch = self.batches.remove(&id)?;
+        self.queues[batch.queue].close_batch(&batch.consumer, batch.cur);
+        Some(batch)
+    }
+
+    /// One more trigger of the table of this name and these columns.
+    pub fn trace(
+        &mut self,
+        name: &Text,
+        schema: &Schema,
+        trigger: TableTrigger,
+    ) -> Result<(), AllocError>
+        requires { trigger.trigger.queue < length self.old.queues }
+        ensures ok { OnOk result ((part : RowPart) → seen_with part self.new
+            ≡ after_mark (seen_with part self.old) (queued (traced trigger.table trigger.name trigger.trigger))) }
+        ensures err { OnErr result ((part : RowPart) → seen_with part self.new ≡ seen_with part self.old) }
+        ensures tables { (part : RowPart) → IsTable part trigger.table name.now schema.now → AreTables part self.old → AreTables part self.new }
+    {
+        self.keep_table(name, schema, trigger.table)?;
+        self.store_trigger(trigger)?;
+        Ok(())
+    }
+
+    /// Keeps what events say of a table, where that isn't kept yet.
+    fn keep_table(&mut self, name: &Text, schema: &Schema, number: u32) -> Result<(), AllocError>
+        ensures same { (part : RowPart) → seen_with part self.new ≡ seen_with part self.old }
+        ensures queues { length self.new.queues ≡ length self.old.queues }
+        ensures kept { OnOk result (is_some (kept self.new.traced number) ≡ true) }
+        ensures tables { (part : RowPart) → IsTable part number name.now schema.now → AreTables part self.old → AreTables part self.new }
+    {
+        if self.traced.contains_key(&number) {
+            return Ok(());
+        }
+        let table = TracedTable::new(self.alloc, name.copy(self.alloc)?, schema.copy(self.alloc)?);
+        self.traced.insert(number, table)?;
+        Ok(())
+    }
+
+    /// One more trigger of a table of which is kept what events say of it.
+    fn store_trigger(&mut self, trigger: TableTrigger) -> Result<(), AllocError>
+        requires table { is_some (kept self.old.traced trigger.table) ≡ true }
+        requires queue { trigger.trigger.queue < length self.old.queues }
+        ensures ok { OnOk result ((part : RowPart) → seen_with part self.new
+            ≡ after_mark (seen_with part self.old) (queued (traced trigger.table trigger.name trigger.trigger))) }
+        ensures err { OnErr result ((part : RowPart) → seen_with part self.new ≡ seen_with part self.old) }
+        ensures tables { (part : RowPart) → AreTables part self.old → AreTables part self.new }
+    {
+        self.triggers.reserve(1)?;
+        let place = self.triggers.len();
+        match self.traced.get_mut(&trigger.table) {
+            Some(table) => table.add(place)?,
+            None => unreachable!(),
+        }
+        self.triggers.push_reserved(trigger);
+        Ok(())
+    }
+}

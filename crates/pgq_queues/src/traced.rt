@@ -1,0 +1,164 @@
+ghost use Rattle.std.specs.Prelude.{◌≡◌, ◌<◌, [], ◌∷◌, ◌++◌, OnOk, OnErr, length, slice_index_or};
+ghost use Rattle.std.specs.List.{All};
+ghost use Rattle.sky_model.specs.StepTrigger.{has_name, has_trigger};
+ghost use Rattle.pgq_queues.specs.Traced.{no_trigger, triggers_at, traced_by};
+
+use sky_urlenc::Trigger;
+use sky_val::{NoMemory, Schema, Text};
+use std::alloc::Global;
+use std::marker::Model;
+
+/// A trigger of a table; that of a set of replicated tables has no name.
+#[derive(Drop)]
+pub struct TableTrigger {
+    pub table: u32,
+    pub name: Option<Text>,
+    pub trigger: Trigger,
+}
+
+impl Model for TableTrigger {
+    ghost use Rattle.sky_model.specs.Triggers as triggers;
+
+    ghost Value = { triggers.TableTrigger };
+
+    ghost view = { λ t. record { table = t.table; name = t.name; trigger = t.trigger } };
+}
+
+impl TableTrigger {
+    /// Whether it has this name.
+    pub fn has_name(&self, name: &Text) -> bool
+        ensures { result ≡ has_name name.now self.now.name }
+    {
+        match &self.name {
+            Some(own) => *own == *name,
+            None => false,
+        }
+    }
+}
+
+/// What is kept of a table with triggers: what their events say of it, and the places of its own among the triggers of all
+/// tables, in the order of making.
+#[derive(Drop)]
+pub struct TracedTable {
+    name: Text,
+    schema: Schema,
+    places: Vec<usize>,
+}
+
+impl Model for TracedTable {
+    ghost use Rattle.pgq_queues.specs.Views.{TracedTableView};
+
+    ghost Value = { TracedTableView };
+
+    ghost view = { λ t. record { name = t.name; columns = t.schema; places = t.places.items } };
+}
+
+impl TracedTable {
+    /// A table without triggers.
+    pub fn new(alloc: Global, name: Text, schema: Schema) -> TracedTable
+        ensures { result ≡ record { name = name; columns = schema; places = [] } }
+    {
+        TracedTable {
+            name,
+            schema,
+            places: Vec::new(alloc),
+        }
+    }
+
+    /// How many triggers it has.
+    pub fn count(&self) -> usize
+        ensures { result ≡ length self.now.places }
+    {
+        self.places.len()
+    }
+
+    /// One more trigger, at this place.
+    pub fn add(&mut self, place: usize) -> Result<(), NoMemory>
+        ensures ok { OnOk result (self.new ≡ record self.old { places = self.old.places ++ place ∷ [] }) }
+        ensures err { OnErr result (self.new ≡ self.old) }
+    {
+        self.places.push(place)?;
+        Ok(())
+    }
+}
+
+/// A table with its triggers, which stand among those of all tables.
+#[derive(Drop)]
+pub struct Traced<'a> {
+    triggers: &'a [TableTrigger],
+    table: &'a TracedTable,
+}
+
+impl<'a> Model for Traced<'a> {
+    ghost use Rattle.std.specs.Prelude.{◌<◌, length};
+    ghost use Rattle.std.specs.List.{All};
+    ghost use Rattle.pgq_queues.specs.Views.{TracedView};
+    ghost use Rattle.pgq_queues.specs.Traced.{triggers_at, traced_by};
+
+    ghost Value = { TracedView };
+
+    ghost view = { λ t. traced_by (triggers_at t.triggers.now t.table.now.places) t.table.now };
+
+    ghost invariant = { λ t. All (λ place. place < length t.triggers.now) t.table.now.places };
+}
+
+impl<'a> Traced<'a> {
+    /// The table, with its own of these triggers.
+    pub(crate) fn new(triggers: &'a [TableTrigger], table: &'a TracedTable) -> Traced<'a>
+        requires { All (λ place. place < length triggers.now) table.now.places }
+        ensures { result ≡ traced_by (triggers_at triggers.now table.now.places) table.now }
+    {
+        Traced { triggers, table }
+    }
+
+    /// Its name.
+    pub fn name(&self) -> &Text
+        ensures { result.now ≡ self.now.name }
+    {
+        let table = self.table;
+        &table.name
+    }
+
+    /// Its columns.
+    pub fn schema(&self) -> &Schema
+        ensures { result.now ≡ self.now.columns }
+    {
+        let table = self.table;
+        &table.schema
+    }
+
+    /// How many triggers it has.
+    pub fn count(&self) -> usize
+        ensures { result ≡ length self.now.triggers }
+    {
+        self.table.count()
+    }
+
+    /// What its nth trigger does.
+    pub fn trigger(&self, n: usize) -> &Trigger
+        requires { n < length self.now.triggers }
+        ensures { result.now ≡ (slice_index_or self.now.triggers n no_trigger).trigger }
+    {
+        &self.nth(n).trigger
+    }
+
+    fn nth(&self, n: usize) -> &TableTrigger
+        requires { n < length self.now.triggers }
+        ensures { result.now ≡ slice_index_or self.now.triggers n no_trigger }
+    {
+        let table = self.table;
+        &self.triggers[table.places[n]]
+    }
+
+    /// Whether it has a trigger of this name.
+    pub fn has(&self, name: &Text) -> bool
+        ensures { result ≡ has_trigger name.now self.now.triggers }
+    {
+        for n in 0..self.count() {
+            if self.nth(n).has_name(name) {
+                return true;
+            }
+        }
+        false
+    }
+}
