@@ -15,7 +15,7 @@ use Rattle.sky_model.specs.declared.reply.Refusal.{Refusal}
 use Rattle.sky_model.specs.declared.reply.Refusal.TheVariants.{BadColumn, NoTable, TableBusy, TooMany, TriggerExists, NoBatch, EventIdsSpent}
 use Rattle.sky_model.specs.declared.stmt.Stmt.{Stmt}
 use Rattle.sky_model.specs.declared.stmt.Where.{Where}
-use Rattle.sky_model.specs.History.{Mark, began, ended, block_begun, repeats, looked, block_failed, block_ended, tabled, table_made, wrote, waits, waited, queued, QueueMark, made, raised, put, ticked, closed, traced}
+use Rattle.sky_model.specs.History.{Mark, began, ended, block_begun, repeats, looked, block_failed, block_ended, connected, disconnected, tabled, table_made, wrote, waits, waited, queued, QueueMark, made, raised, put, ticked, closed, traced}
 use Rattle.sky_model.specs.Sessions.{Block, outside, inside, failed}
 use Rattle.sky_model.specs.Queues.{queue_number}
 use Rattle.sky_model.specs.Triggers.{triggers_of}
@@ -40,8 +40,8 @@ use Rattle.sky_session.specs.Effects.{effects_of}
 use Rattle.sky_session.specs.declared.effect.Effect.{Effect}
 use Rattle.sky_session.specs.declared.effect.Effect.TheVariants.{Wrote, Committed, Aborted}
 use Rattle.sky_model.specs.SessionMarks.{look_of, single_end, failure, Enters, entry, entry_place}
-use Rattle.sky_session.specs.Views.{RowDbView}
-use Rattle.sky_session.specs.Seen.{seen}
+use Rattle.sky_state.specs.Views.{RowStateView}
+use Rattle.sky_state.specs.Seen.{seen}
 use Rattle.pgq_queues.specs.declared.batch.Batch.{Batch}
 use Rattle.pgq_queues.specs.Views.{QueuesView}
 use Rattle.pgq_queues.specs.Seen.{seen_batch, batch_at, seen_with}
@@ -182,7 +182,7 @@ gives-queue d s now who t name new room txid is = subst (Does d s (Number 1)) (s
         ∙ ap (λ c. c >>= result) txid
 
 -- a database whose row part alone has changed
-pub part-as : (v now : DbView) (rows : RowDbView) (part : RowPart) → v ≡ now → seen rows ≡ part → seen_database (record v { rows = rows }) ≡ record (seen_database now) { part = part }
+pub part-as : (v now : DbView) (rows : RowStateView) (part : RowPart) → v ≡ now → seen rows ≡ part → seen_database (record v { rows = rows }) ≡ record (seen_database now) { part = part }
 part-as v now rows part same is = (λ i. record (seen_database v) { part = is i }) ∙ ap (λ (w : DbView). record (seen_database w) { part = part }) same
 
 -- marks of rows change the row part, and which transactions were rolled back
@@ -197,6 +197,8 @@ after-row_marks d (repeats who ∷ marks) rows = after-row_marks (after_mark d (
 after-row_marks d (looked who ∷ marks) rows = after-row_marks (after_mark d (looked who)) marks rows
 after-row_marks d (block_failed who ∷ marks) rows = after-row_marks (after_mark d (block_failed who)) marks rows
 after-row_marks d (block_ended who ∷ marks) rows = after-row_marks (after_mark d (block_ended who)) marks rows
+after-row_marks d (connected who ∷ marks) rows = after-row_marks (after_mark d (connected who)) marks rows
+after-row_marks d (disconnected who ∷ marks) rows = after-row_marks (after_mark d (disconnected who)) marks rows
 after-row_marks d (tabled (table_made name columns) ∷ marks) rows = after-row_marks (after_mark d (tabled (table_made name columns))) marks rows
 after-row_marks d (tabled (wrote who t table key old new) ∷ marks) rows = after-row_marks (after_mark d (tabled (wrote who t table key old new))) marks rows
 after-row_marks d (tabled (waits who table key attempt) ∷ marks) rows = after-row_marks (after_mark d (tabled (waits who table key attempt))) marks rows

@@ -6,7 +6,7 @@ use Rattle.sky_val.specs.declared.val.Val.{Val}
 use Rattle.sky_val.specs.declared.event.Event.{Event}
 use Rattle.sky_urlenc.specs.RowEvents.{RowEvent, events_of}
 use Rattle.sky_model.specs.declared.reply.Refusal.TheVariants.{EventIdsSpent}
-use Rattle.sky_model.specs.History.{Mark, of_session, of_worker, began, ended, block_begun, repeats, looked, block_failed, block_ended, tabled, table_made, wrote, waits, waited, queued, raised, put}
+use Rattle.sky_model.specs.History.{Mark, of_session, of_worker, began, ended, block_begun, repeats, looked, block_failed, block_ended, connected, disconnected, tabled, table_made, wrote, waits, waited, queued, raised, put}
 use Rattle.sky_model.specs.Triggers.{TableTrigger, triggers_of}
 use Rattle.sky_model.specs.State.{Queue, RowPart, after_part, Database, changed_at, after_mark, after_marks}
 use Rattle.sky_model.specs.Outcome.{Checked, ◌>>=◌, ◌>>◌, refused_if}
@@ -146,6 +146,8 @@ module _ (now : ℤ) (queues : QueuesView) where
   beside-other d (looked who) other = (refl, refl)
   beside-other d (block_failed who) other = (refl, refl)
   beside-other d (block_ended who) other = (refl, refl)
+  beside-other d (connected who) other = (refl, refl)
+  beside-other d (disconnected who) other = (refl, refl)
   beside-other d (tabled mark) other = (refl, refl)
   beside-other d (queued mark) other = absurd other
 
@@ -295,6 +297,8 @@ passed-one g (repeats who) = refl
 passed-one g (looked who) = refl
 passed-one g (block_failed who) = refl
 passed-one g (block_ended who) = refl
+passed-one g (connected who) = refl
+passed-one g (disconnected who) = refl
 passed-one g (tabled (table_made name columns)) = refl
 passed-one g (tabled (wrote (of_session who) t table key old new)) = refl
 passed-one g (tabled (wrote of_worker t table key old new)) = refl

@@ -8,7 +8,7 @@ use Rattle.sky_names.specs.Places.{place_of}
 use Rattle.sky_names.proofs.PlaceLemmas.{slice_get-place_of}
 use Rattle.sky_model.specs.declared.reply.Refusal.{Refusal}
 use Rattle.sky_model.specs.declared.stmt.Where.{Where}
-use Rattle.sky_model.specs.History.{Mark, began, ended, block_begun, repeats, looked, block_failed, block_ended, tabled, table_made, wrote, waits, waited, queued}
+use Rattle.sky_model.specs.History.{Mark, began, ended, block_begun, repeats, looked, block_failed, block_ended, connected, disconnected, tabled, table_made, wrote, waits, waited, queued}
 use Rattle.sky_model.specs.State.{RowPart, after_part, after_part_marks, changed_at}
 use Rattle.sky_model.specs.SessionMarks.{sight_marks, Enters}
 use Rattle.pgq_queues.specs.Views.{TracedTableView, QueuesView}
@@ -41,6 +41,8 @@ table-kept p (repeats who) n called shape is = is
 table-kept p (looked who) n called shape is = is
 table-kept p (block_failed who) n called shape is = is
 table-kept p (block_ended who) n called shape is = is
+table-kept p (connected who) n called shape is = is
+table-kept p (disconnected who) n called shape is = is
 table-kept p (tabled (table_made name columns)) n called shape is =
     (get-more p.tables (name ∷ []) n called is.0, other-columns (length p.tables) n columns p.columns (get-within p.tables n called is.0) ∙ is.1)
 table-kept p (tabled (wrote who t' table key old new)) n called shape is = is

@@ -1,7 +1,7 @@
 -- The readings of the definitions, in what the code keeps of a database.
 use Rattle.sky_model.specs.State.{Database}
-use Rattle.sky_session.specs.Views.{no_rows}
-use Rattle.sky_session.specs.Seen.{seen}
+use Rattle.sky_state.specs.Views.{no_rows}
+use Rattle.sky_state.specs.Seen.{seen}
 use Rattle.pgq_queues.specs.Seen.{seen_with, no_queues}
 use Rattle.pgq_db.specs.Views.{DbView}
 

@@ -49,7 +49,7 @@ pub struct Db {
 
 impl Model for Db {
     ghost use Rattle.std.specs.Prelude.{◌≡◌, false};
-    ghost use Rattle.sky_session.specs.Seen.{seen};
+    ghost use Rattle.sky_state.specs.Seen.{seen};
     ghost use Rattle.pgq_queues.specs.Traced.{AreTables};
     ghost use Rattle.pgq_db.specs.Views.{DbView};
 

@@ -5,7 +5,7 @@ use Rattle.sky_names.proofs.PlaceLemmas.{bytes_eq_refl, same_name}
 use Rattle.sky_model.specs.History.{Batch, History}
 use Rattle.sky_model.specs.Queues.{Tick, tick, ticks}
 use Rattle.sky_model.specs.Consumers.{subscription_id, position, active, Subscription, active_batch}
-use Rattle.sky_model.proofs.Legal.{Opens, begins, ends, begins_block, fails_block, ends_block, repeats_block, looks, makes_table, writes, begins_waiting, ends_waiting, makes, raises, puts, ticks_next, registers, opens, closes, traces, Legal, start, next}
+use Rattle.sky_model.proofs.Legal.{Opens, begins, ends, begins_block, fails_block, ends_block, connects, disconnects, repeats_block, looks, makes_table, writes, begins_waiting, ends_waiting, makes, raises, puts, ticks_next, registers, opens, closes, traces, Legal, start, next}
 use Rattle.sky_model.proofs.TickOrder.{is_made, is_made-tick}
 
 and-true : (a b : Bool) → (a && b) ≡ true → (a ≡ true) × (b ≡ true)
@@ -80,9 +80,11 @@ pub active_batches : (h : History) → Legal h → (id : ℕ) (b : Batch) → ac
 active_batches [] start id b is = absurd (cc)
 active_batches _ (next {h = h} l (begins who e)) id b is = active_batches h l id b is
 active_batches _ (next {h = h} l (ends who t c mine)) id b is = active_batches h l id b is
-active_batches _ (next {h = h} l (begins_block who e)) id b is = active_batches h l id b is
+active_batches _ (next {h = h} l (begins_block who e is_open)) id b is = active_batches h l id b is
 active_batches _ (next {h = h} l (fails_block who e f)) id b is = active_batches h l id b is
 active_batches _ (next {h = h} l (ends_block who e)) id b is = active_batches h l id b is
+active_batches _ (next {h = h} l (connects who e)) id b is = active_batches h l id b is
+active_batches _ (next {h = h} l (disconnects who quiet away)) id b is = active_batches h l id b is
 active_batches _ (next {h = h} l (repeats_block who)) id b is = active_batches h l id b is
 active_batches _ (next {h = h} l (looks who)) id b is = active_batches h l id b is
 active_batches _ (next {h = h} l (makes_table name columns e)) id b is = active_batches h l id b is

@@ -121,4 +121,4 @@ pub database_enter_from_exact : (old new : Database) (who : ℕ) (outside : Bool
 database_enter_from_exact old new who outside refusal enters but =
     database_steps_from_exact old new (entered who outside)
     (but ∙ ap (λ part. record old { part = part }) (entered-part old.part new.part who (entry_place outside) refusal enters)
-    ∙ enters-within old who (takes_sight (entry_place outside) (old.part.session who).sight) (allowed (is_waiting who old.part.waiting) (old.part.session who).block (entry_place outside)))
+    ∙ enters-within old who (takes_sight (entry_place outside) (old.part.session who).sight) (allowed (is_waiting who old.part.waiting) (old.part.session who).is_open (old.part.session who).block (entry_place outside)))

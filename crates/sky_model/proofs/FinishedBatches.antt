@@ -3,7 +3,7 @@ use Rattle.std.proofs.Common.{◌≡◌, ℕ, ◌+◌, List, [], ◌∷◌, ◌+
 use Rattle.sky_model.specs.History.{Batch, History}
 use Rattle.sky_model.specs.Consumers.{subscription_id, position}
 use Rattle.sky_model.specs.LawsOfBatches.{first_tick, finished, Lead, BatchesAreConsecutive}
-use Rattle.sky_model.proofs.Legal.{begins, ends, begins_block, fails_block, ends_block, repeats_block, looks, makes_table, writes, begins_waiting, ends_waiting, makes, raises, puts, ticks_next, registers, opens, closes, traces, Legal, start, next}
+use Rattle.sky_model.proofs.Legal.{begins, ends, begins_block, fails_block, ends_block, connects, disconnects, repeats_block, looks, makes_table, writes, begins_waiting, ends_waiting, makes, raises, puts, ticks_next, registers, opens, closes, traces, Legal, start, next}
 use Rattle.sky_model.proofs.SnapshotLaws.{legal_place}
 use Rattle.sky_model.proofs.TickOrder.{is_made, is_made-tick}
 use Rattle.sky_model.proofs.ActiveBatches.{or-right, same_consumer, IsActive, active_batches}
@@ -45,9 +45,11 @@ pub finished_lead : (h : History) → Legal h → (queue : ℕ) (consumer : List
 finished_lead [] start queue consumer = refl
 finished_lead _ (next {h = h} l (begins who e)) queue consumer = finished_lead h l queue consumer
 finished_lead _ (next {h = h} l (ends who t c mine)) queue consumer = finished_lead h l queue consumer
-finished_lead _ (next {h = h} l (begins_block who e)) queue consumer = finished_lead h l queue consumer
+finished_lead _ (next {h = h} l (begins_block who e is_open)) queue consumer = finished_lead h l queue consumer
 finished_lead _ (next {h = h} l (fails_block who e f)) queue consumer = finished_lead h l queue consumer
 finished_lead _ (next {h = h} l (ends_block who e)) queue consumer = finished_lead h l queue consumer
+finished_lead _ (next {h = h} l (connects who e)) queue consumer = finished_lead h l queue consumer
+finished_lead _ (next {h = h} l (disconnects who quiet away)) queue consumer = finished_lead h l queue consumer
 finished_lead _ (next {h = h} l (repeats_block who)) queue consumer = finished_lead h l queue consumer
 finished_lead _ (next {h = h} l (looks who)) queue consumer = finished_lead h l queue consumer
 finished_lead _ (next {h = h} l (makes_table name columns e)) queue consumer = finished_lead h l queue consumer

@@ -15,14 +15,14 @@ use Rattle.sky_model.specs.declared.reply.Reply.TheVariants.{Number}
 use Rattle.sky_model.specs.declared.reply.Limit.TheVariants.{Tables}
 use Rattle.sky_model.specs.declared.reply.Refusal.{Refusal}
 use Rattle.sky_model.specs.declared.reply.Refusal.TheVariants.{BadSnapshot, Canceled, Deadlock, EventIdsSpent, NoTable, TableExists, TooMany, TxidsSpent}
-use Rattle.sky_model.specs.History.{Mark, of_session, of_worker, began, ended, block_begun, repeats, looked, block_failed, block_ended, tabled, table_made, wrote, waits, waited, queued}
+use Rattle.sky_model.specs.History.{Mark, of_session, of_worker, began, ended, block_begun, repeats, looked, block_failed, block_ended, connected, disconnected, tabled, table_made, wrote, waits, waited, queued}
 use Rattle.sky_model.specs.Sessions.{Block, outside, inside, failed, Session}
 use Rattle.sky_model.specs.State.{RowPart, after_part, after_part_marks}
 use Rattle.sky_model.specs.ShownRows.{RowsShown, rows_by}
 use Rattle.sky_model.specs.Outcome.{Outcome, Checked, marks_of, ◌>>=◌, ◌>>◌, refused_if, refused_by, found_or, does_marks, end_of, aborts, abort, settled}
 use Rattle.sky_model.specs.OwnTransaction.{own_or_next, txid_for, begin_of, commit_of, written}
 use Rattle.sky_model.specs.StepLocks.{ring, blocked, once_free}
-use Rattle.sky_model.specs.StepSession.{begin, begin_repeatable_read, leaves, commit, rollback, close, cancel, txid_current, txid_current_snapshot, txid_visible_in_snapshot}
+use Rattle.sky_model.specs.StepSession.{open_db, begin, begin_repeatable_read, leaves, commit, rollback, close, cancel, txid_current, txid_current_snapshot, txid_visible_in_snapshot}
 use Rattle.sky_model.specs.StepRows.{schema_refusal, create_table, bad_values, writes_key, row_or_none, get, scan}
 use Rattle.sky_model.specs.Reader.{part_by_itself}
 use Rattle.sky_model.specs.Gates.{Gate, takes, passed, takes_all, passed_all, gated, by_gate, open_gate}
@@ -103,6 +103,8 @@ none-told gate g (repeats who ∷ marks) plain = none-told gate g marks plain
 none-told gate g (looked who ∷ marks) plain = none-told gate g marks plain
 none-told gate g (block_failed who ∷ marks) plain = none-told gate g marks plain
 none-told gate g (block_ended who ∷ marks) plain = none-told gate g marks plain
+none-told gate g (connected who ∷ marks) plain = none-told gate g marks plain
+none-told gate g (disconnected who ∷ marks) plain = none-told gate g marks plain
 none-told gate g (tabled (table_made name columns) ∷ marks) plain = none-told gate g marks plain
 none-told gate g (tabled (wrote who t table key old new) ∷ marks) plain = absurd plain
 none-told gate g (tabled (waits who table key attempt) ∷ marks) plain = none-told gate g marks plain
@@ -182,6 +184,10 @@ pub plain-leaves : (committed : Bool) (who : ℕ) (txid : Option ℕ) → Writes
 plain-leaves committed who None = tt
 plain-leaves committed who (Some t) = tt
 
+plain-closes : (who : ℕ) (txid : Option ℕ) → WritesNone (leaves false who txid ++ disconnected who ∷ [])
+plain-closes who None = tt
+plain-closes who (Some t) = tt
+
 -- nor does a refusal that aborts a block
 pub plain-abort : (who : ℕ) (b : Block) (txid : Option ℕ) (refusal : Refusal) → WritesNone (abort who b txid refusal)
 plain-abort who outside txid refusal = tt
@@ -232,8 +238,13 @@ plain-rollback who txid failed = plain-leaves false who txid
 -- `close`
 pub plain-close : (who : ℕ) (txid : Option ℕ) (b : Block) → PlainOutcome (close who txid b)
 plain-close who txid outside = tt
-plain-close who txid inside = plain-leaves false who txid
-plain-close who txid failed = plain-leaves false who txid
+plain-close who txid inside = plain-closes who txid
+plain-close who txid failed = plain-closes who txid
+
+-- `open`
+pub plain-open_db : (who : ℕ) (open_already : Bool) → PlainOutcome (open_db who open_already)
+plain-open_db who true = tt
+plain-open_db who false = tt
 
 -- `cancel`
 pub plain-cancel : (who : ℕ) (txid : Option ℕ) (b : Block) (waits : Bool) → PlainOutcome (cancel who txid b waits)
@@ -285,7 +296,7 @@ WritesNoRow _ = Unit {0}
 
 -- all that it does is plain
 pub plain-row_form : (d : RowPart) (shown : RowsShown) (who : ℕ) (stmt : RowStmt) → WritesNoRow stmt → PlainOutcome (row_form d shown who stmt)
-plain-row_form d shown who (OpenDb name) none = tt
+plain-row_form d shown who (OpenDb name) none = plain-open_db who (d.session who).is_open
 plain-row_form d shown who Close none = plain-close who (d.session who).txid (d.session who).block
 plain-row_form d shown who Cancel none = plain-cancel who (d.session who).txid (d.session who).block (is_waiting who d.waiting)
 plain-row_form d shown who Begin none = plain-begin who (d.session who).block
@@ -336,6 +347,8 @@ open-mark g (repeats who) = refl
 open-mark g (looked who) = refl
 open-mark g (block_failed who) = refl
 open-mark g (block_ended who) = refl
+open-mark g (connected who) = refl
+open-mark g (disconnected who) = refl
 open-mark g (tabled (table_made name columns)) = refl
 open-mark g (tabled (wrote (of_session who) t table key old new)) = refl
 open-mark g (tabled (wrote of_worker t table key old new)) = refl

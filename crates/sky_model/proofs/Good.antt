@@ -7,7 +7,7 @@ use Rattle.sky_val.specs.Waits.{is_waiting}
 use Rattle.sky_model.specs.History.{block_failed, History}
 use Rattle.sky_model.specs.Locks.{waiting}
 use Rattle.sky_model.specs.Allowed.{allowed}
-use Rattle.sky_model.specs.Sessions.{Block, outside, inside, failed, block, own_txid, session}
+use Rattle.sky_model.specs.Sessions.{Block, outside, inside, failed, has_open, block, own_txid, session}
 use Rattle.sky_model.specs.Outcome.{Outcome, Checked, ◌>>=◌, ◌>>◌, refused_if, refused_by, found_or, end_of, aborts, abort, settled}
 use Rattle.sky_model.specs.OwnTransaction.{commit_of}
 use Rattle.sky_model.specs.SessionMarks.{failure}
@@ -19,7 +19,7 @@ same-session who = grind (arith, nat_tests)
 
 -- a session may make a statement there that may stand in such a place
 abbrev pub MayStand : History → ℕ → Where → Type 0
-MayStand h who place = is_ok (allowed (is_waiting who (waiting h)) (block who h) place) ≡ true
+MayStand h who place = is_ok (allowed (is_waiting who (waiting h)) (has_open who h) (block who h) place) ≡ true
 
 -- the marks of an answer, or of a refusal, may come next
 abbrev pub Good : History → ℕ → Checked Outcome → Type 0

@@ -6,19 +6,19 @@ use Rattle.sky_model.specs.declared.stmt.Stmt.{Stmt}
 use Rattle.sky_model.specs.InForm.{IsInForm}
 use Rattle.sky_val.specs.Waits.{is_waiting}
 use Rattle.sky_names.specs.Places.{place_of}
-use Rattle.sky_model.specs.History.{Mark, looked, History, within, appeared, Past}
-use Rattle.sky_model.specs.Sessions.{block, session}
+use Rattle.sky_model.specs.History.{Mark, looked, History, Fact, appeared, founded, entered as came, within, Past}
+use Rattle.sky_model.specs.Sessions.{has_open, block, session}
 use Rattle.sky_model.specs.Telling.{tells}
 use Rattle.sky_model.specs.Locks.{waiting}
 use Rattle.sky_model.specs.State.{part_of, database_of}
 use Rattle.sky_model.specs.ShownRows.{rows_in}
 use Rattle.sky_model.specs.Outcome.{Checked}
 use Rattle.sky_model.specs.Allowed.{where_of, allowed}
-use Rattle.sky_model.specs.World.{world_of, history_in, on_top, session_names, home}
+use Rattle.sky_model.specs.World.{world_of, history_in, on_top, session_names, database_names, home}
 use Rattle.sky_model.specs.Reader.{shown_in, database_by_history, within_part, within_database, by_past, Deed, appears}
 use Rattle.sky_model.specs.Made.{takes_sight}
 use Rattle.sky_model.specs.Settling.{Turn, turn_of, marked}
-use Rattle.sky_model.specs.Calls.{form, making, statement, database_turn, is_leaving, session_does, turn, Call, called, past_of}
+use Rattle.sky_model.specs.Calls.{form, making, statement, database_turn, deed_in, opening, opens, outside_does, is_leaving, left_if, session_does, turn, Call, called, past_of}
 use Rattle.sky_model.specs.SessionMarks.{look_of, entry_place, enters, failing}
 use Rattle.sky_model.specs.Promises.{after_all}
 use Rattle.sky_model.specs.DatabaseCalls.{DatabaseCall, stepped, entered, failed, IsDatabaseCallInForm, database_does, database_part}
@@ -31,7 +31,7 @@ use Rattle.sky_model.proofs.LawfulTelling.{legal_behind}
 use Rattle.sky_model.proofs.MadeAt.{same-made_by}
 use Rattle.sky_model.proofs.Turns.{ReadAlike, same-with_settling, Any, each-any}
 use Rattle.sky_model.proofs.Lawful.{database-reads, good_with_settling-by, good_turn}
-use Rattle.sky_model.proofs.Unopened.{on_top-append, unopened-within, history-marks, history-left}
+use Rattle.sky_model.proofs.PastHistories.{on_top-append, history-marks, AreOutside, history-outside, left-outside}
 
 -- ---- calls of a database
 
@@ -44,7 +44,7 @@ good_enters h who sight (Err refusal) = done
 -- and so may what a call does
 pub good_does : (h : History) → Legal h → (call : DatabaseCall) → Chain h (database_does database_by_history h call).marks
 good_does h l (stepped who stmt now) = good_turn h l now who stmt
-good_does h l (entered who outside) = good_enters h who (takes_sight (entry_place outside) (session h who).sight) (allowed (is_waiting who (waiting h)) (block who h) (entry_place outside))
+good_does h l (entered who outside) = good_enters h who (takes_sight (entry_place outside) (session h who).sight) (allowed (is_waiting who (waiting h)) (has_open who h) (block who h) (entry_place outside))
 good_does h l (failed who now) = good_with_settling-by (within_part database_by_history now) (λ g. g) (database-reads now) h l (failing (part_of h) who) (good_failure h who)
 
 -- so the history that calls make is legal
@@ -103,16 +103,14 @@ made_if : (formed : Type 0) (past : Past) (b : Bool) (x y : Deed) → AllMade fo
 made_if formed past true x y all also = all
 made_if formed past false x y all also = also
 
-made_session : (formed : Type 0) (past : Past) (who : ℕ) (stmt : Stmt) (at : Option ℕ) → (formed → IsInForm stmt) → AllMade formed past → AllMade formed (on_top past (session_does by_past past who stmt at).facts)
-made_session formed past who stmt None is_form all = λ n. subst (Made formed) (sym (unopened-within past (world_of past) who stmt n)) (all n)
-made_session formed past who stmt (Some d) is_form all = λ n.
-    subst (Made formed) (sym (history-left past (map (within d) turn_within.marks) who leaving n ∙ history-marks past d turn_within.marks n)) (of n (d == n) refl)
+-- a statement in a database, with what it changes outside of databases
+made_deed : (formed : Type 0) (past : Past) (d who : ℕ) (stmt : Stmt) (outside : List Fact) → AreOutside outside → (formed → IsInForm stmt) → AllMade formed past
+    → AllMade formed (on_top past (deed_in d outside (database_turn (within_database by_past d) past (world_of past).now who stmt)).facts)
+made_deed formed past d who stmt outside none is_form all = λ n.
+    subst (Made formed) (sym (history-outside past (map (within d) turn_within.marks) outside n none ∙ history-marks past d turn_within.marks n)) (of n (d == n) refl)
   where
     turn_within : Turn
     turn_within = database_turn (within_database by_past d) past (world_of past).now who stmt
-
-    leaving : Bool
-    leaving = is_leaving (is_waiting who ((world_of past).database d).part.waiting) stmt
 
     here : Made formed (marked (history_in past d) turn_within.marks)
     here = subst (λ (x : Turn). Made formed (marked (history_in past d) x.marks)) (sym (same-turn-within past d (world_of past).now who stmt))
@@ -121,6 +119,24 @@ made_session formed past who stmt (Some d) is_form all = λ n.
     of : (n : ℕ) (b : Bool) → (d == n) ≡ b → Made formed (if b then marked (history_in past n) turn_within.marks else history_in past n)
     of n true e = (let same : d ≡ n = grind (arith, nat_tests) in subst (λ m. Made formed (marked (history_in past m) turn_within.marks)) same here)
     of n false e = all n
+
+made_opens : (formed : Type 0) (past : Past) (who : ℕ) (stmt : Stmt) (name : List ℕ) (found : Option ℕ) → (formed → IsInForm stmt) → AllMade formed past
+    → AllMade formed (on_top past (opens by_past past who stmt name found).facts)
+made_opens formed past who stmt name (Some d) is_form all = made_deed formed past d who stmt (came who d ∷ []) (λ p n. refl) is_form all
+made_opens formed past who stmt name None is_form all =
+    let d : ℕ = length (database_names past) in
+    made_if formed past (nat_le 16 d) _ _ all (made_deed formed (founded name ∷ past) d who stmt (came who d ∷ []) (λ p n. refl) is_form all)
+
+made_outside : (formed : Type 0) (past : Past) (who : ℕ) (stmt : Stmt) (name : Option (List ℕ)) → (formed → IsInForm stmt) → AllMade formed past
+    → AllMade formed (on_top past (outside_does by_past past who stmt name).facts)
+made_outside formed past who stmt None is_form all = all
+made_outside formed past who stmt (Some name) is_form all = made_opens formed past who stmt name (place_of name (database_names past)) is_form all
+
+made_session : (formed : Type 0) (past : Past) (who : ℕ) (stmt : Stmt) (at : Option ℕ) → (formed → IsInForm stmt) → AllMade formed past → AllMade formed (on_top past (session_does by_past past who stmt at).facts)
+made_session formed past who stmt None is_form all = made_outside formed past who stmt (opening stmt) is_form all
+made_session formed past who stmt (Some d) is_form all =
+    let leaving : Bool = is_leaving (is_waiting who ((world_of past).database d).part.waiting) stmt in
+    made_deed formed past d who stmt (left_if who leaving) (left-outside who leaving) is_form all
 
 made_called : (formed : Type 0) (past : Past) (call : Call) (found : Option ℕ) → (formed → IsInForm call.stmt) → AllMade formed past → AllMade formed (on_top past (called by_past past call found).facts)
 made_called formed past call (Some who) is_form all = made_session formed past who call.stmt (home past who) is_form all

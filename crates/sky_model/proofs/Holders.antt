@@ -15,7 +15,7 @@ use Rattle.sky_model.specs.Sessions.{own_txid}
 use Rattle.sky_model.specs.Rows.{Write, writes as writes_of, has_written}
 use Rattle.sky_model.specs.Locks.{holder}
 use Rattle.sky_model.specs.LawsOfLocks.{HasWritten}
-use Rattle.sky_model.proofs.Legal.{Fine, begins, ends, begins_block, fails_block, ends_block, repeats_block, looks, makes_table, writes, begins_waiting, ends_waiting, makes, raises, puts, ticks_next, registers, opens, closes, traces, Legal, start, next}
+use Rattle.sky_model.proofs.Legal.{Fine, begins, ends, begins_block, fails_block, ends_block, connects, disconnects, repeats_block, looks, makes_table, writes, begins_waiting, ends_waiting, makes, raises, puts, ticks_next, registers, opens, closes, traces, Legal, start, next}
 use Rattle.sky_model.proofs.Snapshots.{sound}
 use Rattle.sky_model.proofs.RowKeys.{begun}
 
@@ -97,9 +97,11 @@ holder-step h _ (writes v t n at_key old new mine free stands) l table key who i
         }
     of true here false tie e = before e
     of false there b tie e = before e
-holder-step h _ (begins_block v x) l table key who ih e = let w : HasWritten h table key who = ih e in record { txid = w.txid; runs = w.runs; wrote = w.wrote }
+holder-step h _ (begins_block v x is_open) l table key who ih e = let w : HasWritten h table key who = ih e in record { txid = w.txid; runs = w.runs; wrote = w.wrote }
 holder-step h _ (fails_block v x f) l table key who ih e = let w : HasWritten h table key who = ih e in record { txid = w.txid; runs = w.runs; wrote = w.wrote }
 holder-step h _ (ends_block v x) l table key who ih e = let w : HasWritten h table key who = ih e in record { txid = w.txid; runs = w.runs; wrote = w.wrote }
+holder-step h _ (connects v x) l table key who ih e = let w : HasWritten h table key who = ih e in record { txid = w.txid; runs = w.runs; wrote = w.wrote }
+holder-step h _ (disconnects v quiet away) l table key who ih e = let w : HasWritten h table key who = ih e in record { txid = w.txid; runs = w.runs; wrote = w.wrote }
 holder-step h _ (repeats_block v) l table key who ih e = let w : HasWritten h table key who = ih e in record { txid = w.txid; runs = w.runs; wrote = w.wrote }
 holder-step h _ (looks v) l table key who ih e = let w : HasWritten h table key who = ih e in record { txid = w.txid; runs = w.runs; wrote = w.wrote }
 holder-step h _ (makes_table name columns x) l table key who ih e = let w : HasWritten h table key who = ih e in record { txid = w.txid; runs = w.runs; wrote = w.wrote }
@@ -163,9 +165,11 @@ held-step h _ (writes v t n at_key old new mine free stands) l table key ih =
     of who u runs true here false tie true same wrote_it = ih who u runs (pushed u tie wrote_it)
     of who u runs true here false tie false other wrote_it = ih who u runs wrote_it
     of who u runs false there b tie c is wrote_it = ih who u runs wrote_it
-held-step h _ (begins_block v x) l table key ih = ih
+held-step h _ (begins_block v x is_open) l table key ih = ih
 held-step h _ (fails_block v x f) l table key ih = ih
 held-step h _ (ends_block v x) l table key ih = ih
+held-step h _ (connects v x) l table key ih = ih
+held-step h _ (disconnects v quiet away) l table key ih = ih
 held-step h _ (repeats_block v) l table key ih = ih
 held-step h _ (looks v) l table key ih = ih
 held-step h _ (makes_table name columns x) l table key ih = ih
@@ -228,9 +232,11 @@ owner-step h _ (writes v t n at_key old new mine free stands) table key ih = λ 
     of u unended true true same wrote_it = (let one : t ≡ u = grind (arith, nat_tests) in record { who = v; owns = mine ∙ ap Some one })
     of u unended true false same wrote_it = later u (ih u unended wrote_it)
     of u unended false c same wrote_it = later u (ih u unended wrote_it)
-owner-step h _ (begins_block v x) table key ih = λ u unended wrote_it. let o : Owner h u = ih u unended wrote_it in record { who = o.who; owns = o.owns }
+owner-step h _ (begins_block v x is_open) table key ih = λ u unended wrote_it. let o : Owner h u = ih u unended wrote_it in record { who = o.who; owns = o.owns }
 owner-step h _ (fails_block v x f) table key ih = λ u unended wrote_it. let o : Owner h u = ih u unended wrote_it in record { who = o.who; owns = o.owns }
 owner-step h _ (ends_block v x) table key ih = λ u unended wrote_it. let o : Owner h u = ih u unended wrote_it in record { who = o.who; owns = o.owns }
+owner-step h _ (connects v x) table key ih = λ u unended wrote_it. let o : Owner h u = ih u unended wrote_it in record { who = o.who; owns = o.owns }
+owner-step h _ (disconnects v quiet away) table key ih = λ u unended wrote_it. let o : Owner h u = ih u unended wrote_it in record { who = o.who; owns = o.owns }
 owner-step h _ (repeats_block v) table key ih = λ u unended wrote_it. let o : Owner h u = ih u unended wrote_it in record { who = o.who; owns = o.owns }
 owner-step h _ (looks v) table key ih = λ u unended wrote_it. let o : Owner h u = ih u unended wrote_it in record { who = o.who; owns = o.owns }
 owner-step h _ (makes_table name columns x) table key ih = λ u unended wrote_it. let o : Owner h u = ih u unended wrote_it in record { who = o.who; owns = o.owns }

@@ -2,7 +2,7 @@
 use Rattle.std.proofs.Common.{◌≡◌, ℕ, ◌+◌, Bool, true, false, List, [], ◌∷◌, ◌++◌, Option, Some, None, refl, ◌∙◌, ap}
 use Rattle.std.specs.Prelude.{◌||◌, ◌==◌}
 use Rattle.sky_val.specs.declared.event.Event.{Event}
-use Rattle.sky_model.specs.History.{Batch, Mark, began, ended, block_begun, repeats, looked, block_failed, block_ended, tabled, queued, made, raised, put, ticked, registered, opened, closed, traced}
+use Rattle.sky_model.specs.History.{Batch, Mark, began, ended, block_begun, repeats, looked, block_failed, block_ended, connected, disconnected, tabled, queued, made, raised, put, ticked, registered, opened, closed, traced}
 use Rattle.sky_model.specs.Triggers.{TableTrigger}
 use Rattle.sky_model.specs.Queues.{NamedQueue}
 use Rattle.sky_model.specs.State.{RowPart, after_part, after_part_marks, Database, changed_at, after_mark, after_marks}
@@ -57,6 +57,8 @@ beside-mark d e (repeats who) same = λ i. record (same i) { part = after_part (
 beside-mark d e (looked who) same = λ i. record (same i) { part = after_part (same i).part (looked who) }
 beside-mark d e (block_failed who) same = λ i. record (same i) { part = after_part (same i).part (block_failed who) }
 beside-mark d e (block_ended who) same = λ i. record (same i) { part = after_part (same i).part (block_ended who) }
+beside-mark d e (connected who) same = λ i. record (same i) { part = after_part (same i).part (connected who) }
+beside-mark d e (disconnected who) same = λ i. record (same i) { part = after_part (same i).part (disconnected who) }
 beside-mark d e (tabled mark) same = λ i. record (same i) { part = after_part (same i).part (tabled mark) }
 beside-mark d e (queued (made name)) same = λ i. record (same i) {
   queues_made = (same i).queues_made + 1;

@@ -11,9 +11,9 @@ use Rattle.sky_model.specs.declared.reply.Limit.TheVariants.{Queues, Triggers}
 use Rattle.sky_model.specs.declared.reply.Refusal.TheVariants.{BadColumn, NoQueue, NoTable, TableBusy, TooMany, TriggerExists, TxidsSpent, EventIdsSpent, NoConsumer}
 use Rattle.sky_val.specs.Waits.{Waiting, is_waiting}
 use Rattle.sky_names.specs.Places.{place_of}
-use Rattle.sky_model.specs.History.{Batch, Mark, of_session, began, ended, block_begun, block_failed, block_ended, repeats, looked, tabled, waited, queued, made, raised, put, ticked, registered, opened, closed, traced, History}
+use Rattle.sky_model.specs.History.{Batch, Mark, of_session, began, ended, block_begun, block_failed, block_ended, connected, disconnected, repeats, looked, tabled, waited, queued, made, raised, put, ticked, registered, opened, closed, traced, History}
 use Rattle.sky_model.specs.Transactions.{next_txid}
-use Rattle.sky_model.specs.Sessions.{Block, outside, inside, failed, block, own_txid, session}
+use Rattle.sky_model.specs.Sessions.{Block, outside, inside, failed, has_open, block, own_txid, session}
 use Rattle.sky_model.specs.Rows.{table_names, columns_of}
 use Rattle.sky_model.specs.Triggers.{triggers, triggers_of}
 use Rattle.sky_model.specs.StepTrigger.{has_trigger, may_ignore, add_trigger}
@@ -63,6 +63,8 @@ active_batch-id (ended who t c ∷ h) id batch is = active_batch-id h id batch i
 active_batch-id (block_begun who ∷ h) id batch is = active_batch-id h id batch is
 active_batch-id (block_failed who ∷ h) id batch is = active_batch-id h id batch is
 active_batch-id (block_ended who ∷ h) id batch is = active_batch-id h id batch is
+active_batch-id (connected who ∷ h) id batch is = active_batch-id h id batch is
+active_batch-id (disconnected who ∷ h) id batch is = active_batch-id h id batch is
 active_batch-id (repeats who ∷ h) id batch is = active_batch-id h id batch is
 active_batch-id (looked who ∷ h) id batch is = active_batch-id h id batch is
 active_batch-id (tabled mark ∷ h) id batch is = active_batch-id h id batch is
@@ -209,7 +211,7 @@ good_form h l now who (GetBatchEvents batch) may = good_found h who ((database_o
 good_form h l now who (FinishBatch batch) may = good_finishes h who batch (active_batch batch h) refl
 good_form h l now who (AddTrigger name table queue backup ignored) may = good_add_trigger h who name table queue backup ignored
 
-good_runs_if : (h : History) → Legal h → (now : ℤ) (who : ℕ) (stmt : Stmt) (may : Checked (Unit {0})) → allowed (is_waiting who (waiting h)) (block who h) (where_of stmt) ≡ may
+good_runs_if : (h : History) → Legal h → (now : ℤ) (who : ℕ) (stmt : Stmt) (may : Checked (Unit {0})) → allowed (is_waiting who (waiting h)) (has_open who h) (block who h) (where_of stmt) ≡ may
     → Chain h (runs_if (making database_by_history now who stmt) (where_of stmt) who h may).marks
 good_runs_if h l now who stmt (Err refusal) is = good_refused h who refusal
 good_runs_if h l now who stmt (Ok _) is = of (takes_sight (where_of stmt) (session h who).sight)
@@ -220,7 +222,7 @@ good_runs_if h l now who stmt (Ok _) is = of (takes_sight (where_of stmt) (sessi
     of false = good_form h l now who stmt (ap is_ok is)
 
 good_statement : (h : History) → Legal h → (now : ℤ) (who : ℕ) (stmt : Stmt) → Chain h (statement database_by_history h now who stmt).marks
-good_statement h l now who stmt = good_runs_if h l now who stmt (allowed (is_waiting who (waiting h)) (block who h) (where_of stmt)) refl
+good_statement h l now who stmt = good_runs_if h l now who stmt (allowed (is_waiting who (waiting h)) (has_open who h) (block who h) (where_of stmt)) refl
 
 -- a place that reads as its past does, and where what a statement on rows does that may come there still may once its
 -- writes are told of
@@ -313,7 +315,7 @@ pub good_with_settling-by : {P : Type 0} (r : PartReader P) (past : P → Histor
 good_with_settling-by r past reads p l turn chain = good_then r past reads p l turn (settling r) chain (λ q legal. good_settles r past reads (length (r.part q).waiting) q legal)
 
 good_row_runs : {P : Type 0} (r : PartReader P) (past : P → History) → ReadsPast r past → (p : P) → Legal (past p) → (who : ℕ) (stmt : RowStmt) (may : Checked (Unit {0}))
-    → allowed (is_waiting who (r.part p).waiting) ((r.part p).session who).block (where_of_row stmt) ≡ may → Chain (past p) (runs_if (row_making r who stmt) (where_of_row stmt) who p may).marks
+    → allowed (is_waiting who (r.part p).waiting) ((r.part p).session who).is_open ((r.part p).session who).block (where_of_row stmt) ≡ may → Chain (past p) (runs_if (row_making r who stmt) (where_of_row stmt) who p may).marks
 good_row_runs r past reads p l who stmt (Err refusal) is =
     subst (λ (d : RowPart). Chain (past p) (abort who (d.session who).block (d.session who).txid refusal)) (sym (reads.part p)) (good_refused (past p) who refusal)
 good_row_runs {P = P} r past reads p l who stmt (Ok _) is = of (takes_sight (where_of_row stmt) ((r.part p).session who).sight)
@@ -322,7 +324,7 @@ good_row_runs {P = P} r past reads p l who stmt (Ok _) is = of (takes_sight (whe
     behind = r.behind p (looked who)
 
     stands : MayStand (past p) who (where_of_row stmt)
-    stands = ap is_ok (ap (λ (d : RowPart). allowed (is_waiting who d.waiting) (d.session who).block (where_of_row stmt)) (sym (reads.part p)) ∙ is)
+    stands = ap is_ok (ap (λ (d : RowPart). allowed (is_waiting who d.waiting) (d.session who).is_open (d.session who).block (where_of_row stmt)) (sym (reads.part p)) ∙ is)
 
     runs_at : (q : P) → Legal (past q) → MayStand (past q) who (where_of_row stmt) → Chain (past q) (settled who ((r.part q).session who) (r.tells q (row_form (r.part q) (r.rows q) who stmt))).marks
     runs_at q legal stands = good_told r past reads q legal who _ (form-rows (r.part q) (r.rows q) who stmt)
@@ -342,7 +344,7 @@ pub good_row_turn-by : {P : Type 0} (r : PartReader P) (past : P → History) �
     → Chain (past p) (row_turn r p who stmt).marks
 good_row_turn-by r past reads p l who stmt =
     good_with_settling-by r past reads p l (turn_of who (row_statement r p who stmt))
-    (good_row_runs r past reads p l who stmt (allowed (is_waiting who (r.part p).waiting) ((r.part p).session who).block (where_of_row stmt)) refl)
+    (good_row_runs r past reads p l who stmt (allowed (is_waiting who (r.part p).waiting) ((r.part p).session who).is_open ((r.part p).session who).block (where_of_row stmt)) refl)
 
 -- so may a statement of a whole database by its history
 pub good_turn : (h : History) → Legal h → (now : ℤ) (who : ℕ) (stmt : Stmt) → Chain h (database_turn database_by_history h now who stmt).marks

@@ -15,9 +15,9 @@ use Rattle.sky_model.specs.declared.reply.Limit.TheVariants.{Tables}
 use Rattle.sky_model.specs.declared.reply.Refusal.TheVariants.{AlreadyOpen, BadRow, BadSnapshot, Canceled, Deadlock, Duplicate, KeyChange, NoTable, Serialize, TableExists, TooMany, TxidsSpent}
 use Rattle.sky_model.specs.declared.stmt.Attempt.{Attempt}
 use Rattle.sky_model.specs.declared.stmt.Attempt.TheVariants.{Insertion, Changes, Deletion}
-use Rattle.sky_model.specs.History.{of_session, began, tabled, wrote, waited, History}
+use Rattle.sky_model.specs.History.{of_session, began, ended, block_ended, disconnected, tabled, wrote, waited, History}
 use Rattle.sky_model.specs.Transactions.{next_txid}
-use Rattle.sky_model.specs.Sessions.{Block, outside, inside, failed, block, own_txid}
+use Rattle.sky_model.specs.Sessions.{Block, outside, inside, failed, has_open, block, own_txid}
 use Rattle.sky_model.specs.Rows.{table_names, columns_of}
 use Rattle.sky_model.specs.Locks.{holder, waiting}
 use Rattle.sky_model.specs.State.{part_of}
@@ -26,21 +26,21 @@ use Rattle.sky_model.specs.Outcome.{Outcome, Checked, ◌>>=◌, does_marks}
 use Rattle.sky_model.specs.OwnTransaction.{own_or_next, begin_of, commit_of}
 use Rattle.sky_model.specs.StepLocks.{ring, once_free}
 use Rattle.sky_model.specs.StepRows.{schema_refusal, create_table, bad_values, bad_sets, is_key_change, writes_key, changes, attempts, insert, update, delete, row_or_none, get}
-use Rattle.sky_model.specs.StepSession.{begin, begin_repeatable_read, leaves, commit, rollback, close, cancel}
+use Rattle.sky_model.specs.StepSession.{open_db, begin, begin_repeatable_read, leaves, commit, rollback, close, cancel}
 use Rattle.sky_model.specs.Calls.{row_form}
 use Rattle.sky_model.specs.Allowed.{where_of_row, allowed}
 use Rattle.sky_model.specs.LawsOfWrites.{IsRowOf}
-use Rattle.sky_model.specs.declared.stmt.Where.TheVariants.{WhenReading}
+use Rattle.sky_model.specs.declared.stmt.Where.TheVariants.{WhenOpen, WhenSound, WhenReading}
 use Rattle.sky_names.proofs.PlaceLemmas.{place_of_within}
-use Rattle.sky_model.proofs.Legal.{MayWait, Legal, begins, ends, begins_block, repeats_block, ends_block, makes_table, writes, begins_waiting, ends_waiting, Chain, done, more}
+use Rattle.sky_model.proofs.Legal.{MayWait, Legal, begins, ends, begins_block, repeats_block, ends_block, connects, disconnects, makes_table, writes, begins_waiting, ends_waiting, Chain, done, more}
 use Rattle.sky_model.proofs.SetsFit.{sets-fit, none-fits, changes-fit}
 use Rattle.sky_model.proofs.SeenRows.{seen-stands, stands-by, stands-begun}
 use Rattle.sky_model.proofs.Good.{MayStand, Good, same-session, good_refused, good_test, good_test_then, good_found, good_refused_by, good_checked, good_commits}
 
-good_begin : (h : History) (who : ℕ) (b : Block) → block who h ≡ b → Good h who (begin who b)
-good_begin h who outside is = more (begins_block who is) done
-good_begin h who inside is = done
-good_begin h who failed is = done
+good_begin : (h : History) (who : ℕ) (b : Block) → block who h ≡ b → has_open who h ≡ true → Good h who (begin who b)
+good_begin h who outside is is_open = more (begins_block who is is_open) done
+good_begin h who inside is is_open = done
+good_begin h who failed is is_open = done
 
 good_leaves : (h : History) (who : ℕ) (committed : Bool) (o : Option ℕ) → own_txid who h ≡ o → Chain h (leaves committed who o)
 good_leaves h who committed None none = more (ends_block who none) done
@@ -56,19 +56,31 @@ good_rollback h who outside = done
 good_rollback h who inside = good_leaves h who false (own_txid who h) refl
 good_rollback h who failed = good_leaves h who false (own_txid who h) refl
 
-good_close : (h : History) (who : ℕ) (b : Block) → Good h who (close who (own_txid who h) b)
-good_close h who outside = done
-good_close h who inside = good_leaves h who false (own_txid who h) refl
-good_close h who failed = good_leaves h who false (own_txid who h) refl
+good_open_db : (h : History) (who : ℕ) (b : Bool) → has_open who h ≡ b → Good h who (open_db who b)
+good_open_db h who true is = good_refused h who AlreadyOpen
+good_open_db h who false is = more (connects who is) done
+
+over : (who : ℕ) (h : History) → block who (block_ended who ∷ h) ≡ outside
+over who h = ap (λ b. if b then outside else block who h) (same-session who)
+
+good_closes : (h : History) (who : ℕ) (o : Option ℕ) → own_txid who h ≡ o → is_waiting who (waiting h) ≡ false → Chain h (leaves false who o ++ disconnected who ∷ [])
+good_closes h who None none quiet = more (ends_block who none) (more (disconnects who quiet (over who h)) done)
+good_closes h who (Some t) mine quiet =
+    more (ends who t false mine) (more (ends_block who (ap (λ b. if b then None else own_txid who h) (same-session who))) (more (disconnects who quiet (over who (ended (of_session who) t false ∷ h))) done))
+
+good_close : (h : History) (who : ℕ) (b : Block) → block who h ≡ b → is_waiting who (waiting h) ≡ false → Good h who (close who (own_txid who h) b)
+good_close h who outside is quiet = more (disconnects who quiet is) done
+good_close h who inside is quiet = good_closes h who (own_txid who h) refl quiet
+good_close h who failed is quiet = good_closes h who (own_txid who h) refl quiet
 
 good_cancel : (h : History) (who : ℕ) (waits : Bool) → Good h who (cancel who (own_txid who h) (block who h) waits)
 good_cancel h who false = done
 good_cancel h who true = more (ends_waiting who) (good_refused (tabled (waited who) ∷ h) who Canceled)
 
-good_begin_repeatable_read : (h : History) (who : ℕ) (b : Block) → block who h ≡ b → Good h who (begin_repeatable_read who b)
-good_begin_repeatable_read h who outside is = more (begins_block who is) (more (repeats_block who) done)
-good_begin_repeatable_read h who inside is = done
-good_begin_repeatable_read h who failed is = done
+good_begin_repeatable_read : (h : History) (who : ℕ) (b : Block) → block who h ≡ b → has_open who h ≡ true → Good h who (begin_repeatable_read who b)
+good_begin_repeatable_read h who outside is is_open = more (begins_block who is is_open) (more (repeats_block who) done)
+good_begin_repeatable_read h who inside is is_open = done
+good_begin_repeatable_read h who failed is is_open = done
 
 good_txid_current : (h : History) (who : ℕ) (o : Option ℕ) → own_txid who h ≡ o
     → Good h who (own_or_next (part_of h) o >>= (λ t. does_marks (Number t) (begin_of who t o ++ [] ++ commit_of who t (block who h))))
@@ -81,7 +93,33 @@ good_txid_current h who (Some t) mine = good_commits h who t (block who h) mine
 quiet-reading : (h : History) (who : ℕ) → MayStand h who WhenReading → is_waiting who (waiting h) ≡ false
 quiet-reading h who may = of (is_waiting who (waiting h)) may
   where
-    of : (b : Bool) → is_ok (allowed b (block who h) WhenReading) ≡ true → b ≡ false
+    of : (b : Bool) → is_ok (allowed b (has_open who h) (block who h) WhenReading) ≡ true → b ≡ false
+    of true e = absurd (cc)
+    of false e = refl
+
+-- and that has the database open
+open-reading : (h : History) (who : ℕ) → MayStand h who WhenReading → has_open who h ≡ true
+open-reading h who may = of (is_waiting who (waiting h)) (has_open who h) may
+  where
+    of : (b o : Bool) → is_ok (allowed b o (block who h) WhenReading) ≡ true → o ≡ true
+    of true o e = absurd (cc)
+    of false false e = absurd (cc)
+    of false true e = refl
+
+-- so is one that may begin a block
+open-beginning : (h : History) (who : ℕ) → MayStand h who WhenSound → has_open who h ≡ true
+open-beginning h who may = of (is_waiting who (waiting h)) (has_open who h) may
+  where
+    of : (b o : Bool) → is_ok (allowed b o (block who h) WhenSound) ≡ true → o ≡ true
+    of true o e = absurd (cc)
+    of false false e = absurd (cc)
+    of false true e = refl
+
+-- and `close` is made by one that doesn't wait
+quiet-closing : (h : History) (who : ℕ) → MayStand h who WhenOpen → is_waiting who (waiting h) ≡ false
+quiet-closing h who may = of (is_waiting who (waiting h)) may
+  where
+    of : (b : Bool) → is_ok (allowed b (has_open who h) (block who h) WhenOpen) ≡ true → b ≡ false
     of true e = absurd (cc)
     of false e = refl
 
@@ -146,19 +184,20 @@ good_attempts h l who table key (Changes sets) may =
 good_attempts h l who table key Deletion may =
     good_changes h l who table key Deletion may (λ row. Ok None) (λ row new same _. none-fits (columns_of table h) key new same) ((rows_in h).key who table key).row refl
 
-good_insert : (h : History) → Legal h → (who : ℕ) → is_waiting who (waiting h) ≡ false → (name : List ℕ) (row : List Val) → Good h who (insert (part_of h) (rows_in h) who name row)
-good_insert h l who quiet name row =
+good_insert : (h : History) → Legal h → (who : ℕ) → is_waiting who (waiting h) ≡ false → has_open who h ≡ true → (name : List ℕ) (row : List Val) → Good h who (insert (part_of h) (rows_in h) who name row)
+good_insert h l who quiet is_open name row =
     good_found h who (place_of name (table_names h)) (NoTable name) _ (λ table there.
     good_refused_by h who (option_map (bad_values (columns_of table h)) (row_fault (columns_of table h) row)) _ (λ fits.
     good_attempts h l who table (key_of (columns_of table h) row) (Insertion row) (record {
       within = place_of_within name (table_names h) table there;
       fits = (no-one (bad_values (columns_of table h)) (row_fault (columns_of table h) row) fits, refl);
       quiet = quiet;
+      is_open = is_open;
     })))
 
-good_update : (h : History) → Legal h → (who : ℕ) → is_waiting who (waiting h) ≡ false → (name : List ℕ) (key : List Val) (sets : List Set)
+good_update : (h : History) → Legal h → (who : ℕ) → is_waiting who (waiting h) ≡ false → has_open who h ≡ true → (name : List ℕ) (key : List Val) (sets : List Set)
     → Good h who (update (part_of h) (rows_in h) who name key sets)
-good_update h l who quiet name key sets =
+good_update h l who quiet is_open name key sets =
     good_found h who (place_of name (table_names h)) (NoTable name) _ (λ table there.
     good_refused_by h who (option_map (bad_values (key_columns (columns_of table h))) (row_fault (key_columns (columns_of table h)) key)) _ (λ _.
     good_refused_by h who (option_map BadRow (bad_sets (columns_of table h) [] sets)) _ (λ well.
@@ -168,16 +207,18 @@ good_update h l who quiet name key sets =
       fits = changes-fit (columns_of table h) [] sets (no-one BadRow (bad_sets (columns_of table h) [] sets) well)
           (no-one (λ (set : Set). KeyChange set.column) (find (is_key_change (columns_of table h)) sets) stays);
       quiet = quiet;
+      is_open = is_open;
     })))))
 
-good_delete : (h : History) → Legal h → (who : ℕ) → is_waiting who (waiting h) ≡ false → (name : List ℕ) (key : List Val) → Good h who (delete (part_of h) (rows_in h) who name key)
-good_delete h l who quiet name key =
+good_delete : (h : History) → Legal h → (who : ℕ) → is_waiting who (waiting h) ≡ false → has_open who h ≡ true → (name : List ℕ) (key : List Val) → Good h who (delete (part_of h) (rows_in h) who name key)
+good_delete h l who quiet is_open name key =
     good_found h who (place_of name (table_names h)) (NoTable name) _ (λ table there.
     good_refused_by h who (option_map (bad_values (key_columns (columns_of table h))) (row_fault (key_columns (columns_of table h)) key)) _ (λ fits.
     good_attempts h l who table key Deletion (record {
       within = place_of_within name (table_names h) table there;
       fits = no-one (bad_values (key_columns (columns_of table h))) (row_fault (key_columns (columns_of table h)) key) fits;
       quiet = quiet;
+      is_open = is_open;
     })))
 
 good_row_or_none : (h : History) (who : ℕ) (row : Option (List Val)) → Good h who (row_or_none row)
@@ -199,19 +240,19 @@ good_create_table h who name columns =
 
 -- a statement that its session may make there
 pub good_row_form : (h : History) → Legal h → (who : ℕ) (stmt : RowStmt) → MayStand h who (where_of_row stmt) → Good h who (row_form (part_of h) (rows_in h) who stmt)
-good_row_form h l who (OpenDb name) may = good_refused h who AlreadyOpen
-good_row_form h l who Close may = good_close h who (block who h)
+good_row_form h l who (OpenDb name) may = good_open_db h who (has_open who h) refl
+good_row_form h l who Close may = good_close h who (block who h) refl (quiet-closing h who may)
 good_row_form h l who Cancel may = good_cancel h who (is_waiting who (waiting h))
-good_row_form h l who Begin may = good_begin h who (block who h) refl
-good_row_form h l who BeginRepeatableRead may = good_begin_repeatable_read h who (block who h) refl
+good_row_form h l who Begin may = good_begin h who (block who h) refl (open-beginning h who may)
+good_row_form h l who BeginRepeatableRead may = good_begin_repeatable_read h who (block who h) refl (open-beginning h who may)
 good_row_form h l who Commit may = good_commit h who (block who h)
 good_row_form h l who Rollback may = good_rollback h who (block who h)
 good_row_form h l who TxidCurrent may = good_txid_current h who (own_txid who h) refl
 good_row_form h l who TxidCurrentSnapshot may = done
 good_row_form h l who (TxidVisibleInSnapshot txid snapshot) may = good_found h who (parse_snapshot snapshot) BadSnapshot _ (λ s _. done)
 good_row_form h l who (CreateTable table columns) may = good_create_table h who table columns
-good_row_form h l who (Insert table row) may = good_insert h l who (quiet-reading h who may) table row
-good_row_form h l who (Update table key sets) may = good_update h l who (quiet-reading h who may) table key sets
-good_row_form h l who (Delete table key) may = good_delete h l who (quiet-reading h who may) table key
+good_row_form h l who (Insert table row) may = good_insert h l who (quiet-reading h who may) (open-reading h who may) table row
+good_row_form h l who (Update table key sets) may = good_update h l who (quiet-reading h who may) (open-reading h who may) table key sets
+good_row_form h l who (Delete table key) may = good_delete h l who (quiet-reading h who may) (open-reading h who may) table key
 good_row_form h l who (Get table key) may = good_get h who table key
 good_row_form h l who (Scan table) may = good_found h who (place_of table (table_names h)) (NoTable table) _ (λ _ _. done)

@@ -2,12 +2,12 @@
 use Rattle.std.proofs.Common.{◌≡◌, ℕ, ℤ, ◌+◌, ◌^◌, List, [], ◌∷◌, ◌++◌, Bool, true, false, cond, ◌==◌, nat_le, Option, Some, Ok, Err, map, refl, sym, ◌∙◌, ap, subst, arith, if◌then◌else◌}
 use Rattle.std.specs.Prelude.{filter, not}
 use Rattle.sky_val.specs.declared.val.Val.{Val}
-use Rattle.sky_val.specs.Waits.{other_than}
+use Rattle.sky_val.specs.Waits.{other_than, is_waiting}
 use Rattle.sky_names.specs.Places.{place_of}
 use Rattle.sky_urlenc.specs.RowEvents.{Trigger, Write, leaves_out, event_of, RowEvent, events_of}
 use Rattle.sky_model.specs.declared.reply.Refusal.TheVariants.{EventIdsSpent}
 use Rattle.sky_model.specs.History.{Mark, of_session, began, tabled, wrote, queued, made, raised, put, traced, History}
-use Rattle.sky_model.specs.Sessions.{Block, block, own_txid}
+use Rattle.sky_model.specs.Sessions.{has_open, Block, block, own_txid}
 use Rattle.sky_model.specs.Triggers.{TableTrigger, triggers, triggers_of}
 use Rattle.sky_model.specs.Queues.{NamedQueue, queues_made, queues, sequence}
 use Rattle.sky_model.specs.State.{RowPart, part_of, after_part, database_of, after_mark, after_marks}
@@ -16,7 +16,7 @@ use Rattle.sky_model.specs.Telling.{write_in, events_in, told_event, event_marks
 use Rattle.sky_model.specs.Reader.{part_by_history}
 use Rattle.sky_model.specs.Settling.{behind_marks}
 use Rattle.sky_model.specs.Settling.{marked}
-use Rattle.sky_model.proofs.Legal.{Replaces, MayWait, IsAmong, IsQueue, Fine, begins, ends, begins_block, fails_block, ends_block, repeats_block, looks, makes_table, writes, begins_waiting, ends_waiting, raises, puts, traces, Chain, done, more, Legal, next}
+use Rattle.sky_model.proofs.Legal.{Replaces, MayWait, IsAmong, IsQueue, Fine, begins, ends, begins_block, fails_block, ends_block, connects, disconnects, repeats_block, looks, makes_table, writes, begins_waiting, ends_waiting, raises, puts, traces, Chain, done, more, Legal, next}
 use Rattle.sky_model.proofs.QueueNumbers.{among-before}
 use Rattle.sky_model.proofs.Marks.{part_of-mark, database_of-mark, database_of-marks}
 use Rattle.sky_model.proofs.Selecting.{events_below-next}
@@ -139,13 +139,19 @@ own-alike h g same who o is = sym (ap (λ (d : RowPart). (d.session who).txid) s
 block-alike : (h g : History) → part_of h ≡ part_of g → (who : ℕ) (b : Block) → block who h ≡ b → block who g ≡ b
 block-alike h g same who b is = sym (ap (λ (d : RowPart). (d.session who).block) same) ∙ is
 
+open-alike : (h g : History) → part_of h ≡ part_of g → (who : ℕ) (b : Bool) → has_open who h ≡ b → has_open who g ≡ b
+open-alike h g same who b is = sym (ap (λ (d : RowPart). (d.session who).is_open) same) ∙ is
+
 fine-alike : (h g : History) → part_of h ≡ part_of g → (mark : Mark) (marks : List Mark) → RowMarks (mark ∷ marks) → Fine h mark → Fine g mark
 fine-alike h g same (queued mark) marks rows fine = absurd rows
 fine-alike h g same _ marks rows (begins who none) = subst (λ n. Fine g (began (of_session who) n)) (sym (ap RowPart.next same)) (begins who (own-alike h g same who _ none))
 fine-alike h g same _ marks rows (ends who t committed mine) = ends who t committed (own-alike h g same who _ mine)
-fine-alike h g same _ marks rows (begins_block who is) = begins_block who (block-alike h g same who _ is)
+fine-alike h g same _ marks rows (begins_block who is is_open) = begins_block who (block-alike h g same who _ is) (open-alike h g same who _ is_open)
 fine-alike h g same _ marks rows (fails_block who is none) = fails_block who (block-alike h g same who _ is) (own-alike h g same who _ none)
 fine-alike h g same _ marks rows (ends_block who none) = ends_block who (own-alike h g same who _ none)
+fine-alike h g same _ marks rows (connects who closed) = connects who (open-alike h g same who _ closed)
+fine-alike h g same _ marks rows (disconnects who quiet away) =
+    disconnects who (sym (ap (λ (d : RowPart). is_waiting who d.waiting) same) ∙ quiet) (block-alike h g same who _ away)
 fine-alike h g same _ marks rows (repeats_block who) = repeats_block who
 fine-alike h g same _ marks rows (looks who) = looks who
 fine-alike h g same _ marks rows (makes_table name columns new) = makes_table name columns (sym (ap (λ (d : RowPart). place_of name d.tables) same) ∙ new)

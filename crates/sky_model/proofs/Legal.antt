@@ -12,11 +12,11 @@ use Rattle.sky_names.specs.Places.{place_of}
 use Rattle.sky_model.specs.declared.stmt.Set.{Set}
 use Rattle.sky_model.specs.declared.stmt.Attempt.{Attempt}
 use Rattle.sky_model.specs.declared.stmt.Attempt.TheVariants.{Insertion, Changes, Deletion}
-use Rattle.sky_model.specs.History.{Batch, Mark, of_session, began, ended, block_begun, repeats, looked, block_failed, block_ended, tabled, table_made, wrote, waits, waited, queued, made, raised, put, ticked, registered, opened, closed, traced, History}
+use Rattle.sky_model.specs.History.{Batch, Mark, of_session, began, ended, block_begun, repeats, looked, block_failed, block_ended, connected, disconnected, tabled, table_made, wrote, waits, waited, queued, made, raised, put, ticked, registered, opened, closed, traced, History}
 use Rattle.sky_model.specs.Transactions.{next_txid}
-use Rattle.sky_model.specs.Sessions.{outside, inside, block, own_txid}
+use Rattle.sky_model.specs.Sessions.{has_open, outside, inside, block, own_txid}
 use Rattle.sky_model.specs.Rows.{table_names}
-use Rattle.sky_model.specs.Locks.{holder}
+use Rattle.sky_model.specs.Locks.{holder, waiting}
 use Rattle.sky_model.specs.Triggers.{triggers, triggers_of}
 use Rattle.sky_model.specs.Queues.{NamedQueue, queues, queue_number, sequence, events, Tick, ticks, tick, newest_tick}
 use Rattle.sky_model.specs.Consumers.{subscription_id, subscription, last_subscription, last_batch, active_batch}
@@ -65,19 +65,22 @@ pub record Replaces (d : RowPart) (who table : ℕ) (key : List Val) (old new : 
   pub stands : ((rows_by d).key who table key).standing ≡ old
   pub fits : IfSome old (IsRowOf (d.columns table) key) → IfSome new (IsRowOf (d.columns table) key)
 
--- a session that doesn't wait yet is to wait for a key of a table that there is, with an attempt that fits
+-- a session that has the database open and doesn't wait yet is to wait for a key of a table that there is, with an attempt that fits
 pub record MayWait (d : RowPart) (who table : ℕ) (key : List Val) (attempt : Attempt) : Type 0 where
   pub within : table < length d.tables
   pub fits : AttemptFits (d.columns table) key attempt
   pub quiet : is_waiting who d.waiting ≡ false
+  pub is_open : (d.session who).is_open ≡ true
 
 -- the mark may come next
 pub data Fine (h : History) : Mark → Type 0 where
   begins : (who : ℕ) → own_txid who h ≡ None → Fine h (began (of_session who) (next_txid h))
   ends : (who t : ℕ) (committed : Bool) → own_txid who h ≡ Some t → Fine h (ended (of_session who) t committed)
-  begins_block : (who : ℕ) → block who h ≡ outside → Fine h (block_begun who)
+  begins_block : (who : ℕ) → block who h ≡ outside → has_open who h ≡ true → Fine h (block_begun who)
   fails_block : (who : ℕ) → block who h ≡ inside → own_txid who h ≡ None → Fine h (block_failed who)
   ends_block : (who : ℕ) → own_txid who h ≡ None → Fine h (block_ended who)
+  connects : (who : ℕ) → has_open who h ≡ false → Fine h (connected who)
+  disconnects : (who : ℕ) → is_waiting who (waiting h) ≡ false → block who h ≡ outside → Fine h (disconnected who)
   repeats_block : (who : ℕ) → Fine h (repeats who)
   looks : (who : ℕ) → Fine h (looked who)
   makes_table : (name : List ℕ) (columns : List Column) → place_of name (table_names h) ≡ None → Fine h (tabled (table_made name columns))

@@ -3,6 +3,7 @@ mod WorkedRowLines
 mod WorkedForms
 mod WorkedMoments
 pub mod WorkedScripts
+mod WorkedOpening
 mod WorkedRows
 mod WorkedBatches
 pub mod FirstWords
@@ -29,7 +30,7 @@ pub mod RowOutcomes
 pub mod LawfulTelling
 pub mod MadeAt
 pub mod Turns
-pub mod Unopened
+pub mod PastHistories
 pub mod Lawful
 pub mod Histories
 pub mod Promised
@@ -54,6 +55,8 @@ pub mod GatedStanding
 pub mod RoomsAlike
 pub mod RowCallStanding
 pub mod DatabaseStanding
+pub mod Staying
+mod HomeLaws
 pub mod Standing
 pub mod DatabaseResting
 pub mod Inserted

@@ -7,7 +7,7 @@ use Rattle.sky_model.specs.declared.stmt.Attempt.{Attempt}
 use Rattle.sky_model.specs.declared.reply.Reply.TheVariants.{Waits}
 use Rattle.sky_model.specs.declared.reply.Refusal.TheVariants.{Deadlock}
 use Rattle.sky_model.specs.History.{History, tabled, waits}
-use Rattle.sky_model.specs.Sessions.{block, session}
+use Rattle.sky_model.specs.Sessions.{has_open, block, session}
 use Rattle.sky_model.specs.Locks.{waiting}
 use Rattle.sky_model.specs.Allowed.{allowed}
 use Rattle.sky_model.specs.Made.{takes_sight}
@@ -74,7 +74,7 @@ nothing_is_ready [] = refl
 nothing_is_ready (stepped who stmt now ∷ calls) =
     history-rests (after_all database_part calls) now (turn_of who (statement database_by_history (after_all database_part calls) now who stmt))
 nothing_is_ready (entered who outside ∷ calls) =
-    enters-rests h who (takes_sight (entry_place outside) (session h who).sight) (allowed (is_waiting who (waiting h)) (block who h) (entry_place outside)) (nothing_is_ready calls)
+    enters-rests h who (takes_sight (entry_place outside) (session h who).sight) (allowed (is_waiting who (waiting h)) (has_open who h) (block who h) (entry_place outside)) (nothing_is_ready calls)
   where
     h : History
     h = after_all database_part calls

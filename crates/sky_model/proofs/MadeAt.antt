@@ -23,5 +23,5 @@ same-runs_if m n place who p q alike (Ok _) = λ i.
 
 pub same-made_by : {P Q : Type 0} (m : Making P) (n : Making Q) (place : Where) (who : ℕ) (p : P) (q : Q) → Alike m n who p q → made_by m place who p ≡ made_by n place who q
 same-made_by m n place who p q alike =
-    (λ i. runs_if m place who p (allowed (alike.waiting i) (alike.sessions i).block place))
-    ∙ same-runs_if m n place who p q alike (allowed (n.waits q) (n.session q).block place)
+    (λ i. runs_if m place who p (allowed (alike.waiting i) (alike.sessions i).is_open (alike.sessions i).block place))
+    ∙ same-runs_if m n place who p q alike (allowed (n.waits q) (n.session q).is_open (n.session q).block place)

@@ -3,13 +3,13 @@ use Rattle.std.proofs.Common.{◌≡◌, ℕ, ◌+◌, List, [], ◌∷◌, ◌+
 use Rattle.sky_val.specs.declared.event.Event.{Event}
 use Rattle.sky_val.specs.Waits.{released}
 use Rattle.sky_txid.specs.Versions.{forgotten}
-use Rattle.sky_model.specs.History.{Mark, of_session, of_worker, began, ended, block_begun, repeats, looked, block_failed, block_ended, tabled, table_made, wrote, waits, waited, queued, QueueMark, made, raised, put, ticked, registered, opened, closed, traced, History, Fact, appeared, founded, entered, left, within, Past}
+use Rattle.sky_model.specs.History.{Mark, of_session, of_worker, began, ended, block_begun, repeats, looked, block_failed, block_ended, connected, disconnected, tabled, table_made, wrote, waits, waited, queued, QueueMark, made, raised, put, ticked, registered, opened, closed, traced, History, Fact, appeared, founded, entered, left, within, Past}
 use Rattle.sky_model.specs.Consumers.{Subscription, subscription_id, position, active}
 use Rattle.sky_model.specs.Transactions.{next_txid, running, has_rolled_back, snapshot}
 use Rattle.sky_model.specs.Sessions.{Block, outside, inside, failed, Sight, at_each, at_first, at_place, sight, sight_by, Session, session}
 use Rattle.sky_model.specs.Queues.{Tick}
 use Rattle.sky_model.specs.Versions.{versions}
-use Rattle.sky_model.specs.State.{Queue, queue_of, part_of, database_of, changed_at, changed_for, with_batch, at_position, after_queue_mark, with_txid, with_sight, with_block, without_sight, after_part, after_mark, after_marks}
+use Rattle.sky_model.specs.State.{Queue, queue_of, part_of, database_of, changed_at, changed_for, with_batch, at_position, after_queue_mark, with_txid, with_sight, with_block, with_open, without_sight, after_part, after_mark, after_marks}
 use Rattle.sky_model.specs.Settling.{marked}
 use Rattle.sky_model.specs.World.{world_of, history_in, after_fact, after_facts, on_top}
 
@@ -113,6 +113,10 @@ block_at : (b : Bool) (s : Session) (to : Block) → record s { block = if b the
 block_at true s to = refl
 block_at false s to = refl
 
+open_at : (b : Bool) (s : Session) (to : Bool) → record s { is_open = if b then to else s.is_open } ≡ (if b then with_open to s else s)
+open_at true s to = refl
+open_at false s to = refl
+
 sight_at : (b : Bool) (s : Session) (old new : Sight History) → s.sight ≡ sight_by snapshot old
     → record s { sight = sight_by snapshot (if b then new else old) } ≡ (if b then with_sight (sight_by snapshot new) s else s)
 sight_at true s old new e = refl
@@ -151,6 +155,8 @@ part_of-mark h (repeats who) = λ i. record (part_of h) { session = λ n. sight_
 part_of-mark h (looked who) = λ i. record (part_of h) { session = λ n. sight_at (who == n) (session h n) (sight n h) (at_place h) refl i }
 part_of-mark h (block_failed who) = λ i. record (part_of h) { session = λ n. over_at (who == n) (session h n) (sight n h) failed refl i }
 part_of-mark h (block_ended who) = λ i. record (part_of h) { session = λ n. over_at (who == n) (session h n) (sight n h) outside refl i }
+part_of-mark h (connected who) = λ i. record (part_of h) { session = λ n. open_at (who == n) (session h n) true i }
+part_of-mark h (disconnected who) = λ i. record (part_of h) { session = λ n. open_at (who == n) (session h n) false i }
 part_of-mark h (tabled (table_made name columns)) = refl
 part_of-mark h (tabled (wrote (of_session who) t table key old new)) = refl
 part_of-mark h (tabled (wrote of_worker t table key old new)) = refl
@@ -168,6 +174,8 @@ database_of-mark h (repeats who) = λ i. record (database_of h) { part = part_of
 database_of-mark h (looked who) = λ i. record (database_of h) { part = part_of-mark h (looked who) i }
 database_of-mark h (block_failed who) = λ i. record (database_of h) { part = part_of-mark h (block_failed who) i }
 database_of-mark h (block_ended who) = λ i. record (database_of h) { part = part_of-mark h (block_ended who) i }
+database_of-mark h (connected who) = λ i. record (database_of h) { part = part_of-mark h (connected who) i }
+database_of-mark h (disconnected who) = λ i. record (database_of h) { part = part_of-mark h (disconnected who) i }
 database_of-mark h (tabled mark) = λ i. record (database_of h) { part = part_of-mark h (tabled mark) i }
 database_of-mark h (queued mark) = database_of-queue_mark h mark
 

@@ -11,7 +11,7 @@ use Rattle.sky_model.specs.declared.reply.Refusal.{Refusal}
 use Rattle.sky_model.specs.declared.reply.Refusal.TheVariants.{Duplicate, EventIdsSpent, Serialize, TxidsSpent}
 use Rattle.sky_model.specs.declared.stmt.Attempt.{Attempt}
 use Rattle.sky_model.specs.declared.stmt.Attempt.TheVariants.{Insertion, Changes, Deletion}
-use Rattle.sky_model.specs.History.{Mark, of_session, began, ended, block_begun, repeats, looked, block_failed, block_ended, tabled, table_made, wrote, waits as waits_mark, waited, queued}
+use Rattle.sky_model.specs.History.{Mark, of_session, began, ended, block_begun, repeats, looked, block_failed, block_ended, connected, disconnected, tabled, table_made, wrote, waits as waits_mark, waited, queued}
 use Rattle.sky_model.specs.Sessions.{Block, outside, inside, failed, Session}
 use Rattle.sky_model.specs.State.{RowPart, after_part}
 use Rattle.sky_model.specs.ShownRows.{KeyShown}
@@ -109,6 +109,8 @@ waiting-quiet d (repeats who ∷ marks) quiet = waiting-quiet (after_part d (rep
 waiting-quiet d (looked who ∷ marks) quiet = waiting-quiet (after_part d (looked who)) marks quiet
 waiting-quiet d (block_failed who ∷ marks) quiet = waiting-quiet (after_part d (block_failed who)) marks quiet
 waiting-quiet d (block_ended who ∷ marks) quiet = waiting-quiet (after_part d (block_ended who)) marks quiet
+waiting-quiet d (connected who ∷ marks) quiet = waiting-quiet (after_part d (connected who)) marks quiet
+waiting-quiet d (disconnected who ∷ marks) quiet = waiting-quiet (after_part d (disconnected who)) marks quiet
 waiting-quiet d (tabled (table_made name columns) ∷ marks) quiet = waiting-quiet (after_part d (tabled (table_made name columns))) marks quiet
 waiting-quiet d (tabled (wrote who t table key old new) ∷ marks) quiet = waiting-quiet (after_part d (tabled (wrote who t table key old new))) marks quiet
 waiting-quiet d (tabled (waits_mark who table key attempt) ∷ marks) quiet = absurd quiet

@@ -6,7 +6,7 @@ use Rattle.sky_model.specs.declared.reply.Refusal.{Refusal}
 use Rattle.sky_model.specs.declared.reply.Refusal.TheVariants.{TxidsSpent}
 use Rattle.sky_model.specs.History.{History}
 use Rattle.sky_model.specs.Transactions.{next_txid}
-use Rattle.sky_model.specs.Sessions.{Block, outside, inside, failed, block, own_txid, session}
+use Rattle.sky_model.specs.Sessions.{Block, outside, inside, failed, has_open, block, own_txid, session}
 use Rattle.sky_model.specs.Locks.{waiting}
 use Rattle.sky_model.specs.State.{RowPart, part_of, after_part_marks}
 use Rattle.sky_model.specs.Outcome.{◌>>◌, refused_if}
@@ -58,7 +58,7 @@ good_ending h who = of (own_txid who h) (block who h) refl
 -- what a call does may come
 good_row_does : (h : History) → Legal h → (call : RowCall) → Chain h (row_does part_by_history h call).marks
 good_row_does h l (row_stepped room who stmt) = good_gated_turn (room_gate room) h l [] who stmt
-good_row_does h l (row_entered who alone) = good_enters h who (takes_sight (entry_place alone) (session h who).sight) (allowed (is_waiting who (waiting h)) (block who h) (entry_place alone))
+good_row_does h l (row_entered who alone) = good_enters h who (takes_sight (entry_place alone) (session h who).sight) (allowed (is_waiting who (waiting h)) (has_open who h) (block who h) (entry_place alone))
 good_row_does h l (row_failed room who) = good_gated_settling (room_gate room) h l [] (failing (part_of h) who) (good_failure h who)
 good_row_does h l (row_settled room) = good_gated_settling (room_gate room) h l [] rests done
 good_row_does h l (txid_taken who) = good_taking h who

@@ -6,11 +6,11 @@ use Rattle.sky_val.specs.Entries.{is_in_order}
 use Rattle.sky_txid.specs.Ids.{contains}
 use Rattle.sky_txid.specs.Versions.{written}
 use Rattle.sky_txid.proofs.EntryLemmas.{is_in_order-written, is_in_order-forgotten}
-use Rattle.sky_model.specs.History.{Mark, began, ended, block_begun, repeats, looked, block_failed, block_ended, tabled, table_made, wrote, waits, waited, queued, History}
+use Rattle.sky_model.specs.History.{Mark, began, ended, block_begun, repeats, looked, block_failed, block_ended, connected, disconnected, tabled, table_made, wrote, waits, waited, queued, History}
 use Rattle.sky_model.specs.Transactions.{next_txid, running, has_ended}
 use Rattle.sky_model.specs.Rows.{committed, writes as writes_of}
 use Rattle.sky_model.specs.Versions.{versions}
-use Rattle.sky_model.proofs.Legal.{Fine, begins, ends, begins_block, fails_block, ends_block, repeats_block, looks, makes_table, writes, begins_waiting, ends_waiting, makes, raises, puts, ticks_next, registers, opens, closes, traces, Legal, start, next}
+use Rattle.sky_model.proofs.Legal.{Fine, begins, ends, begins_block, fails_block, ends_block, connects, disconnects, repeats_block, looks, makes_table, writes, begins_waiting, ends_waiting, makes, raises, puts, ticks_next, registers, opens, closes, traces, Legal, start, next}
 use Rattle.sky_model.proofs.Snapshots.{sound}
 
 -- the versions of a table stand in the order of their keys
@@ -29,6 +29,8 @@ is_in_order-versions table (repeats who ∷ h) = is_in_order-versions table h
 is_in_order-versions table (looked who ∷ h) = is_in_order-versions table h
 is_in_order-versions table (block_failed who ∷ h) = is_in_order-versions table h
 is_in_order-versions table (block_ended who ∷ h) = is_in_order-versions table h
+is_in_order-versions table (connected who ∷ h) = is_in_order-versions table h
+is_in_order-versions table (disconnected who ∷ h) = is_in_order-versions table h
 is_in_order-versions table (tabled (table_made name columns) ∷ h) = is_in_order-versions table h
 is_in_order-versions table (tabled (waits who n key attempt) ∷ h) = is_in_order-versions table h
 is_in_order-versions table (tabled (waited who) ∷ h) = is_in_order-versions table h
@@ -66,6 +68,8 @@ committed-ended (repeats who ∷ h) t e = committed-ended h t e
 committed-ended (looked who ∷ h) t e = committed-ended h t e
 committed-ended (block_failed who ∷ h) t e = committed-ended h t e
 committed-ended (block_ended who ∷ h) t e = committed-ended h t e
+committed-ended (connected who ∷ h) t e = committed-ended h t e
+committed-ended (disconnected who ∷ h) t e = committed-ended h t e
 committed-ended (tabled mark ∷ h) t e = committed-ended h t e
 committed-ended (queued mark ∷ h) t e = committed-ended h t e
 
@@ -89,9 +93,11 @@ begun_step h _ (writes who t n key old new e free stands) l b = λ table u le. o
     of table u true false is le = b table u le
     of table u false d is le = b table u le
 begun_step h _ (ends who t committed e) l b = b
-begun_step h _ (begins_block who e) l b = b
+begun_step h _ (begins_block who e is_open) l b = b
 begun_step h _ (fails_block who e f) l b = b
 begun_step h _ (ends_block who e) l b = b
+begun_step h _ (connects who e) l b = b
+begun_step h _ (disconnects who quiet away) l b = b
 begun_step h _ (repeats_block who) l b = b
 begun_step h _ (looks who) l b = b
 begun_step h _ (makes_table name columns e) l b = b

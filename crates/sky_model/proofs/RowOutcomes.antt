@@ -17,7 +17,7 @@ use Rattle.sky_model.specs.declared.reply.Refusal.{Refusal}
 use Rattle.sky_model.specs.declared.reply.Refusal.TheVariants.{BadRow, BadSnapshot, Canceled, Deadlock, Duplicate, EventIdsSpent, KeyChange, NoTable, Serialize, TableExists, TooMany, TxidsSpent}
 use Rattle.sky_model.specs.declared.stmt.Attempt.{Attempt}
 use Rattle.sky_model.specs.declared.stmt.Attempt.TheVariants.{Insertion, Changes, Deletion}
-use Rattle.sky_model.specs.History.{Mark, of_session, began, ended, block_begun, repeats, block_ended, looked, block_failed, tabled, wrote, waited, queued}
+use Rattle.sky_model.specs.History.{Mark, of_session, began, ended, block_begun, repeats, block_ended, connected, disconnected, looked, block_failed, tabled, wrote, waited, queued}
 use Rattle.sky_model.specs.Sessions.{Block, outside, inside, failed, Session}
 use Rattle.sky_model.specs.State.{RowPart}
 use Rattle.sky_model.specs.ShownRows.{KeyShown, RowsShown}
@@ -25,7 +25,7 @@ use Rattle.sky_model.specs.Outcome.{Outcome, Checked, ◌>>=◌, ◌>>◌, refus
 use Rattle.sky_model.specs.OwnTransaction.{own_or_next, begin_of, commit_of}
 use Rattle.sky_model.specs.StepRows.{schema_refusal, bad_values, bad_sets, is_key_change, with_sets, writes_key, changes, some_row, attempts, row_or_none}
 use Rattle.sky_model.specs.StepLocks.{ring, once_free}
-use Rattle.sky_model.specs.StepSession.{begin, begin_repeatable_read, leaves, commit, rollback, close, cancel}
+use Rattle.sky_model.specs.StepSession.{open_db, begin, begin_repeatable_read, leaves, commit, rollback, close, cancel}
 use Rattle.sky_model.specs.Printed.{ReplyHasMoments, HaveMoments}
 use Rattle.sky_model.specs.Allowed.{where_of_row, allowed}
 use Rattle.sky_model.specs.Made.{takes_sight, looking, runs_if}
@@ -84,6 +84,10 @@ marks-left : (committed : Bool) (who : ℕ) (txid : Option ℕ) → RowMarks (le
 marks-left committed who None = tt
 marks-left committed who (Some t) = tt
 
+marks-closed : (who : ℕ) (txid : Option ℕ) → RowMarks (leaves false who txid ++ disconnected who ∷ [])
+marks-closed who None = tt
+marks-closed who (Some t) = tt
+
 writes-rows : (d : RowPart) (who table : ℕ) (key : List Val) (old new : Option (List Val)) → OfRows (writes_key d who table key old new)
 writes-rows d who table key old new = of (d.session who).txid
   where
@@ -140,8 +144,12 @@ rollback-rows who txid failed = record { moments = tt; marks = marks-left false 
 
 close-rows : (who : ℕ) (txid : Option ℕ) (b : Block) → OfRows (close who txid b)
 close-rows who txid outside = record { moments = tt; marks = tt }
-close-rows who txid inside = record { moments = tt; marks = marks-left false who txid }
-close-rows who txid failed = record { moments = tt; marks = marks-left false who txid }
+close-rows who txid inside = record { moments = tt; marks = marks-closed who txid }
+close-rows who txid failed = record { moments = tt; marks = marks-closed who txid }
+
+open_db-rows : (who : ℕ) (open_already : Bool) → OfRows (open_db who open_already)
+open_db-rows who true = tt
+open_db-rows who false = record { moments = tt; marks = tt }
 
 -- a refusal that aborts a block
 pub abort-rows : (who : ℕ) (b : Block) (o : Option ℕ) (refusal : Refusal) → RowMarks (abort who b o refusal)
@@ -163,7 +171,7 @@ cancel-rows who txid b true = record { moments = tt; marks = abort-rows who b tx
 
 -- any statement on rows
 pub form-rows : (d : RowPart) (shown : RowsShown) (who : ℕ) (stmt : RowStmt) → OfRows (row_form d shown who stmt)
-form-rows d shown who (OpenDb name) = tt
+form-rows d shown who (OpenDb name) = open_db-rows who (d.session who).is_open
 form-rows d shown who Close = close-rows who (d.session who).txid (d.session who).block
 form-rows d shown who Cancel = cancel-rows who (d.session who).txid (d.session who).block (is_waiting who d.waiting)
 form-rows d shown who Begin = begin-rows who (d.session who).block
@@ -231,7 +239,7 @@ runs-rows {P = P} r keeps p who stmt (Ok _) = of (takes_sight (where_of_row stmt
     of false = at p
 
 statement-rows : {P : Type 0} (r : PartReader P) → KeepsRows r → (p : P) (who : ℕ) (stmt : RowStmt) → IsOfRows (row_statement r p who stmt)
-statement-rows r keeps p who stmt = runs-rows r keeps p who stmt (allowed (is_waiting who (r.part p).waiting) ((r.part p).session who).block (where_of_row stmt))
+statement-rows r keeps p who stmt = runs-rows r keeps p who stmt (allowed (is_waiting who (r.part p).waiting) ((r.part p).session who).is_open ((r.part p).session who).block (where_of_row stmt))
 
 -- a statement on rows lists no event and touches no queue
 pub row_statement-rows : (d : RowPart) (who : ℕ) (stmt : RowStmt) → IsOfRows (row_statement part_by_itself d who stmt)
@@ -251,6 +259,8 @@ rows-append (repeats who ∷ xs) ys rows also = rows-append xs ys rows also
 rows-append (looked who ∷ xs) ys rows also = rows-append xs ys rows also
 rows-append (block_failed who ∷ xs) ys rows also = rows-append xs ys rows also
 rows-append (block_ended who ∷ xs) ys rows also = rows-append xs ys rows also
+rows-append (connected who ∷ xs) ys rows also = rows-append xs ys rows also
+rows-append (disconnected who ∷ xs) ys rows also = rows-append xs ys rows also
 rows-append (tabled mark ∷ xs) ys rows also = rows-append xs ys rows also
 rows-append (queued mark ∷ xs) ys rows also = absurd rows
 

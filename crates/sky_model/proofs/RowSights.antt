@@ -13,14 +13,14 @@ use Rattle.sky_txid.specs.declared.version.Version.{Version}
 use Rattle.sky_txid.specs.Versions.{with_version, newest_by, own_version, row_of, read, rows_read}
 use Rattle.sky_txid.proofs.VersionLemmas.{newest_with, newest_without}
 use Rattle.sky_txid.proofs.EntryLemmas.{versions_at-forgotten, at-rows_read, is_in_order-rows_read}
-use Rattle.sky_model.specs.History.{Mark, began, ended, block_begun, repeats, looked, block_failed, block_ended, tabled, queued, History}
+use Rattle.sky_model.specs.History.{Mark, began, ended, block_begun, repeats, looked, block_failed, block_ended, connected, disconnected, tabled, queued, History}
 use Rattle.sky_model.specs.Transactions.{has_ended, has_committed, has_rolled_back, snapshot}
 use Rattle.sky_model.specs.Sessions.{own_txid, Sight, at_each, at_first, at_place, sight, sight_by, place_of_sight, session}
 use Rattle.sky_model.specs.Rows.{committed, writes as writes_of, rows, own_writes, rows_with_own, rows_shown, has_written, last_writer, unless, unseen_writer}
 use Rattle.sky_model.specs.Versions.{versions}
 use Rattle.sky_model.specs.State.{part_of}
 use Rattle.sky_model.specs.ShownRows.{rows_in, rows_by, unseen_in}
-use Rattle.sky_model.proofs.Legal.{Fine, begins, ends, begins_block, fails_block, ends_block, repeats_block, looks, makes_table, writes, begins_waiting, ends_waiting, makes, raises, puts, ticks_next, registers, opens, closes, traces, Legal, next}
+use Rattle.sky_model.proofs.Legal.{Fine, begins, ends, begins_block, fails_block, ends_block, connects, disconnects, repeats_block, looks, makes_table, writes, begins_waiting, ends_waiting, makes, raises, puts, ticks_next, registers, opens, closes, traces, Legal, next}
 use Rattle.sky_model.proofs.Snapshots.{sees-snapshot, own-unended, has_committed-ended}
 use Rattle.sky_model.proofs.RowWrites.{over, last_of, at-put_all, is_in_order-put_all, is_in_order-in_turn, has_written-last_of, last_writer-has}
 use Rattle.sky_model.proofs.RowKeys.{is_in_order-versions, contains-last-of}
@@ -47,6 +47,8 @@ ended-behind h (repeats who) t e = e
 ended-behind h (looked who) t e = e
 ended-behind h (block_failed who) t e = e
 ended-behind h (block_ended who) t e = e
+ended-behind h (connected who) t e = e
+ended-behind h (disconnected who) t e = e
 ended-behind h (tabled mark) t e = e
 ended-behind h (queued mark) t e = e
 
@@ -67,6 +69,8 @@ rolled_back-behind h (repeats who) t e = e
 rolled_back-behind h (looked who) t e = e
 rolled_back-behind h (block_failed who) t e = e
 rolled_back-behind h (block_ended who) t e = e
+rolled_back-behind h (connected who) t e = e
+rolled_back-behind h (disconnected who) t e = e
 rolled_back-behind h (tabled mark) t e = e
 rolled_back-behind h (queued mark) t e = e
 
@@ -97,6 +101,8 @@ sight-since (block_ended w ∷ h) who k is = of (w == who) is (sight-since h who
     of : (b : Bool) → (if b then at_each else sight who h) ≡ at_place k → (sight who h ≡ at_place k → Since k h) → Since k (block_ended w ∷ h)
     of true e ih = absurd (cc)
     of false e ih = later (ih e)
+sight-since (connected w ∷ h) who k is = later (sight-since h who k is)
+sight-since (disconnected w ∷ h) who k is = later (sight-since h who k is)
 sight-since (began w t ∷ h) who k is = later (sight-since h who k is)
 sight-since (ended w t c ∷ h) who k is = later (sight-since h who k is)
 sight-since (block_begun w ∷ h) who k is = later (sight-since h who k is)
@@ -144,9 +150,11 @@ newest-behind k h since l _ (writes who t n at_key old new e free stands) table 
     of true = newest_with (has_ended k) t new (kept h table key) (unended-at since t (own-unended h l who t e))
     of false = refl
 newest-behind k h since l _ (begins who e) table key = refl
-newest-behind k h since l _ (begins_block who e) table key = refl
+newest-behind k h since l _ (begins_block who e is_open) table key = refl
 newest-behind k h since l _ (fails_block who e f) table key = refl
 newest-behind k h since l _ (ends_block who e) table key = refl
+newest-behind k h since l _ (connects who e) table key = refl
+newest-behind k h since l _ (disconnects who quiet away) table key = refl
 newest-behind k h since l _ (repeats_block who) table key = refl
 newest-behind k h since l _ (looks who) table key = refl
 newest-behind k h since l _ (makes_table name columns e) table key = refl
@@ -213,6 +221,8 @@ committed-has (repeats who ∷ h) t e = committed-has h t e
 committed-has (looked who ∷ h) t e = committed-has h t e
 committed-has (block_failed who ∷ h) t e = committed-has h t e
 committed-has (block_ended who ∷ h) t e = committed-has h t e
+committed-has (connected who ∷ h) t e = committed-has h t e
+committed-has (disconnected who ∷ h) t e = committed-has h t e
 committed-has (tabled mark ∷ h) t e = committed-has h t e
 committed-has (queued mark ∷ h) t e = committed-has h t e
 

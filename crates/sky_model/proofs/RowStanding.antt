@@ -1,7 +1,7 @@
 -- A statement on rows, in its part of a database: from what the part keeps to the history, and to the whole database.
 use Rattle.std.proofs.Common.{◌≡◌, ℕ, ℤ, List, [], ◌∷◌, true, false, refl, ◌∙◌, ap, if◌then◌else◌}
 use Rattle.sky_model.specs.declared.stmt.Stmt.{Stmt}
-use Rattle.sky_model.specs.History.{Mark, began, ended, block_begun, repeats, looked, block_failed, block_ended, tabled, queued, made, raised, put, ticked, registered, opened, closed, traced, History}
+use Rattle.sky_model.specs.History.{Mark, began, ended, block_begun, repeats, looked, block_failed, block_ended, connected, disconnected, tabled, queued, made, raised, put, ticked, registered, opened, closed, traced, History}
 use Rattle.sky_model.specs.State.{RowPart, part_of, after_part, after_part_marks, Database, after_mark}
 use Rattle.sky_model.specs.ShownRows.{rows_by}
 use Rattle.sky_model.specs.Allowed.{where_of}
@@ -44,6 +44,8 @@ part-behind d (repeats who) = refl
 part-behind d (looked who) = refl
 part-behind d (block_failed who) = refl
 part-behind d (block_ended who) = refl
+part-behind d (connected who) = refl
+part-behind d (disconnected who) = refl
 part-behind d (tabled mark) = refl
 part-behind d (queued (made name)) = refl
 part-behind d (queued (raised q value)) = refl

@@ -4,13 +4,13 @@ use Rattle.std.proofs.lemmas.Bool.Decides.{nat_tests}
 use Rattle.std.proofs.lemmas.List.Elements.{All-nil, All-cons}
 use Rattle.sky_val.specs.declared.event.Event.{Event}
 use Rattle.sky_txid.specs.Snapshot.{sees}
-use Rattle.sky_model.specs.History.{Batch, began, ended, block_begun, block_failed, block_ended, repeats, looked, tabled, queued, made, raised, put, ticked, registered, opened, closed, traced, History}
+use Rattle.sky_model.specs.History.{Batch, began, ended, block_begun, block_failed, block_ended, connected, disconnected, repeats, looked, tabled, queued, made, raised, put, ticked, registered, opened, closed, traced, History}
 use Rattle.sky_model.specs.Transactions.{has_ended, has_committed, has_rolled_back}
 use Rattle.sky_model.specs.Queues.{sequence, events, ticks, tick, at_tick}
 use Rattle.sky_model.specs.Batches.{with_event, by_id_onto, by_id, is_for, batch_events}
 use Rattle.sky_model.specs.Selection.{snapshot_at, selected}
 use Rattle.sky_model.specs.State.{database_of}
-use Rattle.sky_model.proofs.Legal.{begins, ends, begins_block, fails_block, ends_block, repeats_block, looks, makes_table, writes, begins_waiting, ends_waiting, makes, raises, puts, ticks_next, registers, opens, closes, traces, Legal, start, next}
+use Rattle.sky_model.proofs.Legal.{begins, ends, begins_block, fails_block, ends_block, connects, disconnects, repeats_block, looks, makes_table, writes, begins_waiting, ends_waiting, makes, raises, puts, ticks_next, registers, opens, closes, traces, Legal, start, next}
 use Rattle.sky_model.proofs.Snapshots.{sees-snapshot, own-unended, has_committed-ended}
 use Rattle.sky_model.proofs.Ticks.{snapshot-at_tick, legal-at_tick}
 
@@ -26,6 +26,8 @@ ended-at_tick (ended who u committed ∷ h) q id t e = of (t == u) (ended-at_tic
 ended-at_tick (block_begun who ∷ h) q id t e = ended-at_tick h q id t e
 ended-at_tick (block_failed who ∷ h) q id t e = ended-at_tick h q id t e
 ended-at_tick (block_ended who ∷ h) q id t e = ended-at_tick h q id t e
+ended-at_tick (connected who ∷ h) q id t e = ended-at_tick h q id t e
+ended-at_tick (disconnected who ∷ h) q id t e = ended-at_tick h q id t e
 ended-at_tick (repeats who ∷ h) q id t e = ended-at_tick h q id t e
 ended-at_tick (looked who ∷ h) q id t e = ended-at_tick h q id t e
 ended-at_tick (tabled mark ∷ h) q id t e = ended-at_tick h q id t e
@@ -58,9 +60,11 @@ committed-at_tick _ (next {h = h} l (ends who u false mine)) q id t = of (t == u
         absurd (cc)
     of true same false was ih = ih
     of false same e was ih = ih
-committed-at_tick _ (next {h = h} l (begins_block who e)) q id t = committed-at_tick h l q id t
+committed-at_tick _ (next {h = h} l (begins_block who e is_open)) q id t = committed-at_tick h l q id t
 committed-at_tick _ (next {h = h} l (fails_block who e f)) q id t = committed-at_tick h l q id t
 committed-at_tick _ (next {h = h} l (ends_block who e)) q id t = committed-at_tick h l q id t
+committed-at_tick _ (next {h = h} l (connects who e)) q id t = committed-at_tick h l q id t
+committed-at_tick _ (next {h = h} l (disconnects who quiet away)) q id t = committed-at_tick h l q id t
 committed-at_tick _ (next {h = h} l (repeats_block who)) q id t = committed-at_tick h l q id t
 committed-at_tick _ (next {h = h} l (looks who)) q id t = committed-at_tick h l q id t
 committed-at_tick _ (next {h = h} l (makes_table name columns e)) q id t = committed-at_tick h l q id t
@@ -118,9 +122,11 @@ pub numbered : (h : History) → Legal h → (q : ℕ) → IsNumbered (sequence 
 numbered [] start q = (tt, tt)
 numbered _ (next {h = h} l (begins who e)) q = numbered h l q
 numbered _ (next {h = h} l (ends who t committed mine)) q = numbered h l q
-numbered _ (next {h = h} l (begins_block who e)) q = numbered h l q
+numbered _ (next {h = h} l (begins_block who e is_open)) q = numbered h l q
 numbered _ (next {h = h} l (fails_block who e f)) q = numbered h l q
 numbered _ (next {h = h} l (ends_block who e)) q = numbered h l q
+numbered _ (next {h = h} l (connects who e)) q = numbered h l q
+numbered _ (next {h = h} l (disconnects who quiet away)) q = numbered h l q
 numbered _ (next {h = h} l (repeats_block who)) q = numbered h l q
 numbered _ (next {h = h} l (looks who)) q = numbered h l q
 numbered _ (next {h = h} l (makes_table name columns e)) q = numbered h l q

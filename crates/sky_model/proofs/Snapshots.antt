@@ -3,10 +3,10 @@ use Rattle.std.proofs.Common.{◌≡◌, ℕ, ◌+◌, ◌<◌, ◌≤◌, List,
 use Rattle.std.proofs.lemmas.Bool.Decides.{nat_tests}
 use Rattle.sky_txid.specs.Ids.{contains, first_or}
 use Rattle.sky_txid.specs.Snapshot.{sees}
-use Rattle.sky_model.specs.History.{Mark, of_session, began, ended, block_begun, block_failed, block_ended, repeats, looked, tabled, queued, History}
+use Rattle.sky_model.specs.History.{Mark, of_session, began, ended, block_begun, block_failed, block_ended, connected, disconnected, repeats, looked, tabled, queued, History}
 use Rattle.sky_model.specs.Transactions.{next_txid, running, has_ended, has_committed, has_rolled_back, snapshot}
 use Rattle.sky_model.specs.Sessions.{own_txid}
-use Rattle.sky_model.proofs.Legal.{Fine, begins, ends, begins_block, fails_block, ends_block, repeats_block, looks, makes_table, writes, begins_waiting, ends_waiting, makes, raises, puts, ticks_next, registers, opens, closes, traces, Legal, start, next}
+use Rattle.sky_model.proofs.Legal.{Fine, begins, ends, begins_block, fails_block, ends_block, connects, disconnects, repeats_block, looks, makes_table, writes, begins_waiting, ends_waiting, makes, raises, puts, ticks_next, registers, opens, closes, traces, Legal, start, next}
 
 abbrev pub IsRising : List ℕ → Type 0
 IsRising [] = Unit {0}
@@ -225,9 +225,11 @@ sound_ended h who t committed mine s = record {
 sound_step : (h : History) (mark : Mark) → Fine h mark → Sound h → Sound (mark ∷ h)
 sound_step h _ (begins who e) s = sound_began h who s
 sound_step h _ (ends who t committed mine) s = sound_ended h who t committed mine s
-sound_step h _ (begins_block who e) s = record { first = s.first; runs = s.runs; ended_below = s.ended_below; rising = s.rising; below = s.below; owns = s.owns; once = s.once }
+sound_step h _ (begins_block who e is_open) s = record { first = s.first; runs = s.runs; ended_below = s.ended_below; rising = s.rising; below = s.below; owns = s.owns; once = s.once }
 sound_step h _ (fails_block who e f) s = record { first = s.first; runs = s.runs; ended_below = s.ended_below; rising = s.rising; below = s.below; owns = s.owns; once = s.once }
 sound_step h _ (ends_block who e) s = record { first = s.first; runs = s.runs; ended_below = s.ended_below; rising = s.rising; below = s.below; owns = s.owns; once = s.once }
+sound_step h _ (connects who e) s = record { first = s.first; runs = s.runs; ended_below = s.ended_below; rising = s.rising; below = s.below; owns = s.owns; once = s.once }
+sound_step h _ (disconnects who quiet away) s = record { first = s.first; runs = s.runs; ended_below = s.ended_below; rising = s.rising; below = s.below; owns = s.owns; once = s.once }
 sound_step h _ (repeats_block who) s = record { first = s.first; runs = s.runs; ended_below = s.ended_below; rising = s.rising; below = s.below; owns = s.owns; once = s.once }
 sound_step h _ (looks who) s = record { first = s.first; runs = s.runs; ended_below = s.ended_below; rising = s.rising; below = s.below; owns = s.owns; once = s.once }
 sound_step h _ (makes_table name columns e) s = record { first = s.first; runs = s.runs; ended_below = s.ended_below; rising = s.rising; below = s.below; owns = s.owns; once = s.once }
@@ -303,6 +305,8 @@ ended-rolled_back (ended who u false ∷ h) t e = of (t == u) (ended-rolled_back
 ended-rolled_back (block_begun who ∷ h) t e = ended-rolled_back h t e
 ended-rolled_back (block_failed who ∷ h) t e = ended-rolled_back h t e
 ended-rolled_back (block_ended who ∷ h) t e = ended-rolled_back h t e
+ended-rolled_back (connected who ∷ h) t e = ended-rolled_back h t e
+ended-rolled_back (disconnected who ∷ h) t e = ended-rolled_back h t e
 ended-rolled_back (repeats who ∷ h) t e = ended-rolled_back h t e
 ended-rolled_back (looked who ∷ h) t e = ended-rolled_back h t e
 ended-rolled_back (tabled mark ∷ h) t e = ended-rolled_back h t e
@@ -329,9 +333,11 @@ has_committed-ended _ (next {h = h} l (ends who u false mine)) t = of (t == u) r
         let one : t ≡ u = grind (arith, nat_tests) in
         ih ∙ ap (λ e. e && not (has_rolled_back h t)) (ap (has_ended h) one ∙ own-unended h l who u mine)
     of false same ih = ih
-has_committed-ended _ (next {h = h} l (begins_block who e)) t = has_committed-ended h l t
+has_committed-ended _ (next {h = h} l (begins_block who e is_open)) t = has_committed-ended h l t
 has_committed-ended _ (next {h = h} l (fails_block who e f)) t = has_committed-ended h l t
 has_committed-ended _ (next {h = h} l (ends_block who e)) t = has_committed-ended h l t
+has_committed-ended _ (next {h = h} l (connects who e)) t = has_committed-ended h l t
+has_committed-ended _ (next {h = h} l (disconnects who quiet away)) t = has_committed-ended h l t
 has_committed-ended _ (next {h = h} l (repeats_block who)) t = has_committed-ended h l t
 has_committed-ended _ (next {h = h} l (looks who)) t = has_committed-ended h l t
 has_committed-ended _ (next {h = h} l (makes_table name columns e)) t = has_committed-ended h l t

@@ -1,15 +1,15 @@
 -- From what the world shows to what has happened.
-use Rattle.std.proofs.Common.{◌≡◌, ℕ, ℤ, List, nat_le, length, Option, Some, None, refl, sym, ◌∙◌, ap, if◌then◌else◌}
+use Rattle.std.proofs.Common.{◌≡◌, ℕ, ℤ, List, [], ◌∷◌, nat_le, length, Option, Some, None, refl, sym, ◌∙◌, ap, if◌then◌else◌}
 use Rattle.sky_model.specs.declared.stmt.Stmt.{Stmt}
 use Rattle.sky_model.specs.declared.reply.Reply.{Reply}
 use Rattle.sky_model.specs.declared.reply.Refusal.TheVariants.{TooMany}
-use Rattle.sky_model.specs.declared.reply.Limit.TheVariants.{Sessions}
+use Rattle.sky_model.specs.declared.reply.Limit.TheVariants.{Sessions, Databases}
 use Rattle.sky_val.specs.Waits.{is_waiting}
 use Rattle.sky_names.specs.Places.{place_of}
-use Rattle.sky_model.specs.History.{Past}
-use Rattle.sky_model.specs.World.{World, world_of, session_names, history_in, on_top, after_facts}
-use Rattle.sky_model.specs.Reader.{within_database, by_past, by_world, Deed, refuses, appears, joined, followed}
-use Rattle.sky_model.specs.Calls.{database_turn, is_leaving, deed_in, session_does, turn, Call, called, does, after, world_part, past_of, answers_of}
+use Rattle.sky_model.specs.History.{entered, Past}
+use Rattle.sky_model.specs.World.{World, world_of, session_names, database_names, history_in, on_top, after_facts}
+use Rattle.sky_model.specs.Reader.{within_database, by_past, by_world, Deed, refuses, appears, founds, joined, followed}
+use Rattle.sky_model.specs.Calls.{database_turn, deed_in, opening, opens_in, opens, outside_does, is_leaving, left_if, session_does, turn, Call, called, does, after, world_part, past_of, answers_of}
 use Rattle.sky_model.specs.Steps.{IsCallInForm, Steps, deed_at, answers_at, after_call}
 use Rattle.sky_model.proofs.Marks.{world_of-facts}
 use Rattle.sky_model.proofs.Histories.{AllLegal, same-turn-within, legal_past}
@@ -23,19 +23,33 @@ same-database_turn : (past : Past) → AllLegal past → (d : ℕ) (now : ℤ) (
 same-database_turn past all d now who stmt =
     same-turn-within past d now who stmt ∙ same-turn_at (history_in past d) (all d) now who stmt ∙ sym (turn-within (world_of past) d now who stmt)
 
--- so does a turn
-same-session : (past : Past) → AllLegal past → (who : ℕ) (stmt : Stmt) (at : Option ℕ) → session_does by_past past who stmt at ≡ session_does by_world (world_of past) who stmt at
-same-session past all who stmt None = refl
-same-session past all who stmt (Some d) =
-    ap (deed_in who d (is_leaving (is_waiting who ((world_of past).database d).part.waiting) stmt)) (same-database_turn past all d (world_of past).now who stmt)
-
-same-turn : (past : Past) → AllLegal past → (who : ℕ) (stmt : Stmt) → turn by_past who stmt past ≡ turn by_world who stmt (world_of past)
-same-turn past all who stmt = same-session past all who stmt ((world_of past).homes who)
-
--- and one behind another, where each of them does
+-- so does a deed behind another, where each of them does
 same-followed : (past : Past) (rest : Past → Deed) (rest_shown : World → Deed) (deed : Deed) → AllLegal (on_top past deed.facts)
     → ((later : Past) → AllLegal later → rest later ≡ rest_shown (world_of later)) → followed by_past past rest deed ≡ followed by_world (world_of past) rest_shown deed
 same-followed past rest rest_shown deed all same = ap (joined deed) (same (on_top past deed.facts) all ∙ ap rest_shown (world_of-facts past deed.facts))
+
+-- so does a turn
+same-opens_in : (who : ℕ) (stmt : Stmt) (d : ℕ) (past : Past) → AllLegal past → opens_in by_past who stmt d past ≡ opens_in by_world who stmt d (world_of past)
+same-opens_in who stmt d past all = ap (deed_in d (entered who d ∷ [])) (same-database_turn past all d (world_of past).now who stmt)
+
+same-opens : (past : Past) → AllLegal past → (who : ℕ) (stmt : Stmt) (name : List ℕ) (found : Option ℕ) → opens by_past past who stmt name found ≡ opens by_world (world_of past) who stmt name found
+same-opens past all who stmt name (Some d) = same-opens_in who stmt d past all
+same-opens past all who stmt name None =
+    let d : ℕ = length (database_names past) in
+    ap (λ deed. if nat_le 16 d then refuses who (TooMany Databases) else deed)
+    (same-followed past (opens_in by_past who stmt d) (opens_in by_world who stmt d) (founds name) all (same-opens_in who stmt d))
+
+same-outside : (past : Past) → AllLegal past → (who : ℕ) (stmt : Stmt) (name : Option (List ℕ)) → outside_does by_past past who stmt name ≡ outside_does by_world (world_of past) who stmt name
+same-outside past all who stmt None = refl
+same-outside past all who stmt (Some name) = same-opens past all who stmt name (place_of name (database_names past))
+
+same-session : (past : Past) → AllLegal past → (who : ℕ) (stmt : Stmt) (at : Option ℕ) → session_does by_past past who stmt at ≡ session_does by_world (world_of past) who stmt at
+same-session past all who stmt None = same-outside past all who stmt (opening stmt)
+same-session past all who stmt (Some d) =
+    ap (deed_in d (left_if who (is_leaving (is_waiting who ((world_of past).database d).part.waiting) stmt))) (same-database_turn past all d (world_of past).now who stmt)
+
+same-turn : (past : Past) → AllLegal past → (who : ℕ) (stmt : Stmt) → turn by_past who stmt past ≡ turn by_world who stmt (world_of past)
+same-turn past all who stmt = same-session past all who stmt ((world_of past).homes who)
 
 same-called : (past : Past) → AllLegal past → (call : Call) (found : Option ℕ) → called by_past past call found ≡ called by_world (world_of past) call found
 same-called past all call (Some who) = same-turn past all who call.stmt

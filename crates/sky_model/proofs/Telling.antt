@@ -246,8 +246,8 @@ module _ {G : Type 0} (gate : Gate G) (now : ℤ) (related : Database → RowPar
       → Outcomes d p g (row_statement (by_gate gate part_by_itself) (p, g) who stmt) (statement database_by_itself d now who (Row stmt))
   told-statement who stmt d p g is =
       subst (λ (e : RowPart). Outcomes d p g (row_statement (by_gate gate part_by_itself) (p, g) who stmt)
-      (runs_if (making database_by_itself now who (Row stmt)) (where_of_row stmt) who d (allowed (is_waiting who e.waiting) (e.session who).block (where_of_row stmt)))) (sym (alike.part d p g is))
-      (told-runs who stmt (allowed (is_waiting who p.waiting) (p.session who).block (where_of_row stmt)) d p g is)
+      (runs_if (making database_by_itself now who (Row stmt)) (where_of_row stmt) who d (allowed (is_waiting who e.waiting) (e.session who).is_open (e.session who).block (where_of_row stmt)))) (sym (alike.part d p g is))
+      (told-runs who stmt (allowed (is_waiting who p.waiting) (p.session who).is_open (p.session who).block (where_of_row stmt)) d p g is)
 
   -- ---- what it lets go on
 

@@ -1,11 +1,11 @@
 -- Ticks are in order: what had committed at one had committed at each later one.
 use Rattle.std.proofs.Common.{◌≡◌, ℕ, ◌<◌, List, [], ◌∷◌, ◌++◌, Bool, true, false, ◌&&◌, ◌||◌, ◌==◌, Some, None, is_some, refl, sym, ◌∙◌, ap, subst, arith, if◌then◌else◌}
 use Rattle.std.proofs.lemmas.Bool.Decides.{nat_tests}
-use Rattle.sky_model.specs.History.{began, ended, block_begun, block_failed, block_ended, repeats, looked, tabled, queued, made, raised, put, ticked, registered, opened, closed, traced, History}
+use Rattle.sky_model.specs.History.{began, ended, block_begun, block_failed, block_ended, connected, disconnected, repeats, looked, tabled, queued, made, raised, put, ticked, registered, opened, closed, traced, History}
 use Rattle.sky_model.specs.Transactions.{has_committed, snapshot}
 use Rattle.sky_model.specs.Queues.{Tick, ticks, tick, newest_tick, at_tick}
 use Rattle.sky_model.specs.StepQueue.{id_of}
-use Rattle.sky_model.proofs.Legal.{begins, ends, begins_block, fails_block, ends_block, repeats_block, looks, makes_table, writes, begins_waiting, ends_waiting, makes, raises, puts, ticks_next, registers, opens, closes, traces, Legal, start, next}
+use Rattle.sky_model.proofs.Legal.{begins, ends, begins_block, fails_block, ends_block, connects, disconnects, repeats_block, looks, makes_table, writes, begins_waiting, ends_waiting, makes, raises, puts, ticks_next, registers, opens, closes, traces, Legal, start, next}
 use Rattle.sky_model.proofs.Ticks.{none_above}
 
 -- a queue's tick is made
@@ -39,6 +39,8 @@ is_made-tick (ended who t c ∷ h) q id = is_made-tick h q id
 is_made-tick (block_begun who ∷ h) q id = is_made-tick h q id
 is_made-tick (block_failed who ∷ h) q id = is_made-tick h q id
 is_made-tick (block_ended who ∷ h) q id = is_made-tick h q id
+is_made-tick (connected who ∷ h) q id = is_made-tick h q id
+is_made-tick (disconnected who ∷ h) q id = is_made-tick h q id
 is_made-tick (repeats who ∷ h) q id = is_made-tick h q id
 is_made-tick (looked who ∷ h) q id = is_made-tick h q id
 is_made-tick (tabled mark ∷ h) q id = is_made-tick h q id
@@ -76,6 +78,8 @@ committed_since (ended who u false ∷ h) q id t e = committed_since h q id t e
 committed_since (block_begun who ∷ h) q id t e = committed_since h q id t e
 committed_since (block_failed who ∷ h) q id t e = committed_since h q id t e
 committed_since (block_ended who ∷ h) q id t e = committed_since h q id t e
+committed_since (connected who ∷ h) q id t e = committed_since h q id t e
+committed_since (disconnected who ∷ h) q id t e = committed_since h q id t e
 committed_since (repeats who ∷ h) q id t e = committed_since h q id t e
 committed_since (looked who ∷ h) q id t e = committed_since h q id t e
 committed_since (tabled mark ∷ h) q id t e = committed_since h q id t e
@@ -101,9 +105,11 @@ pub committed_later : (h : History) → Legal h → (q from to t : ℕ) → from
 committed_later [] start q from to t less there = absurd (cc)
 committed_later _ (next {h = h} l (begins who e)) q from to t less there = committed_later h l q from to t less there
 committed_later _ (next {h = h} l (ends who u c mine)) q from to t less there = committed_later h l q from to t less there
-committed_later _ (next {h = h} l (begins_block who e)) q from to t less there = committed_later h l q from to t less there
+committed_later _ (next {h = h} l (begins_block who e is_open)) q from to t less there = committed_later h l q from to t less there
 committed_later _ (next {h = h} l (fails_block who e f)) q from to t less there = committed_later h l q from to t less there
 committed_later _ (next {h = h} l (ends_block who e)) q from to t less there = committed_later h l q from to t less there
+committed_later _ (next {h = h} l (connects who e)) q from to t less there = committed_later h l q from to t less there
+committed_later _ (next {h = h} l (disconnects who quiet away)) q from to t less there = committed_later h l q from to t less there
 committed_later _ (next {h = h} l (repeats_block who)) q from to t less there = committed_later h l q from to t less there
 committed_later _ (next {h = h} l (looks who)) q from to t less there = committed_later h l q from to t less there
 committed_later _ (next {h = h} l (makes_table name columns e)) q from to t less there = committed_later h l q from to t less there

@@ -6,7 +6,7 @@ use Rattle.sky_model.specs.Transactions.{snapshot}
 use Rattle.sky_model.specs.Queues.{queues_made, Tick, ticks, tick, newest_tick, at_tick}
 use Rattle.sky_model.specs.StepQueue.{id_of}
 use Rattle.sky_model.specs.Selection.{snapshot_at}
-use Rattle.sky_model.proofs.Legal.{begins, ends, begins_block, fails_block, ends_block, repeats_block, looks, makes_table, writes, begins_waiting, ends_waiting, makes, raises, puts, ticks_next, registers, opens, closes, traces, Legal, start, next}
+use Rattle.sky_model.proofs.Legal.{begins, ends, begins_block, fails_block, ends_block, connects, disconnects, repeats_block, looks, makes_table, writes, begins_waiting, ends_waiting, makes, raises, puts, ticks_next, registers, opens, closes, traces, Legal, start, next}
 use Rattle.sky_model.proofs.QueueNumbers.{queue-below}
 
 -- a queue that isn't made yet has no ticks
@@ -14,9 +14,11 @@ pub ticks_beyond : (h : History) → Legal h → (q : ℕ) → queues_made h ≤
 ticks_beyond [] start q le = refl
 ticks_beyond _ (next {h = h} l (begins who e)) q le = ticks_beyond h l q le
 ticks_beyond _ (next {h = h} l (ends who t committed mine)) q le = ticks_beyond h l q le
-ticks_beyond _ (next {h = h} l (begins_block who e)) q le = ticks_beyond h l q le
+ticks_beyond _ (next {h = h} l (begins_block who e is_open)) q le = ticks_beyond h l q le
 ticks_beyond _ (next {h = h} l (fails_block who e f)) q le = ticks_beyond h l q le
 ticks_beyond _ (next {h = h} l (ends_block who e)) q le = ticks_beyond h l q le
+ticks_beyond _ (next {h = h} l (connects who e)) q le = ticks_beyond h l q le
+ticks_beyond _ (next {h = h} l (disconnects who quiet away)) q le = ticks_beyond h l q le
 ticks_beyond _ (next {h = h} l (repeats_block who)) q le = ticks_beyond h l q le
 ticks_beyond _ (next {h = h} l (looks who)) q le = ticks_beyond h l q le
 ticks_beyond _ (next {h = h} l (makes_table name columns e)) q le = ticks_beyond h l q le
@@ -75,9 +77,11 @@ pub none_above : (h : History) → Legal h → (q : ℕ) → NoneAbove (ticks q 
 none_above [] start q = λ id above. refl
 none_above _ (next {h = h} l (begins who e)) q = none_above h l q
 none_above _ (next {h = h} l (ends who t committed mine)) q = none_above h l q
-none_above _ (next {h = h} l (begins_block who e)) q = none_above h l q
+none_above _ (next {h = h} l (begins_block who e is_open)) q = none_above h l q
 none_above _ (next {h = h} l (fails_block who e f)) q = none_above h l q
 none_above _ (next {h = h} l (ends_block who e)) q = none_above h l q
+none_above _ (next {h = h} l (connects who e)) q = none_above h l q
+none_above _ (next {h = h} l (disconnects who quiet away)) q = none_above h l q
 none_above _ (next {h = h} l (repeats_block who)) q = none_above h l q
 none_above _ (next {h = h} l (looks who)) q = none_above h l q
 none_above _ (next {h = h} l (makes_table name columns e)) q = none_above h l q
@@ -105,9 +109,11 @@ pub snapshot-at_tick : (h : History) → Legal h → (q id : ℕ) → snapshot (
 snapshot-at_tick [] start q id = refl
 snapshot-at_tick _ (next {h = h} l (begins who e)) q id = snapshot-at_tick h l q id
 snapshot-at_tick _ (next {h = h} l (ends who t committed mine)) q id = snapshot-at_tick h l q id
-snapshot-at_tick _ (next {h = h} l (begins_block who e)) q id = snapshot-at_tick h l q id
+snapshot-at_tick _ (next {h = h} l (begins_block who e is_open)) q id = snapshot-at_tick h l q id
 snapshot-at_tick _ (next {h = h} l (fails_block who e f)) q id = snapshot-at_tick h l q id
 snapshot-at_tick _ (next {h = h} l (ends_block who e)) q id = snapshot-at_tick h l q id
+snapshot-at_tick _ (next {h = h} l (connects who e)) q id = snapshot-at_tick h l q id
+snapshot-at_tick _ (next {h = h} l (disconnects who quiet away)) q id = snapshot-at_tick h l q id
 snapshot-at_tick _ (next {h = h} l (repeats_block who)) q id = snapshot-at_tick h l q id
 snapshot-at_tick _ (next {h = h} l (looks who)) q id = snapshot-at_tick h l q id
 snapshot-at_tick _ (next {h = h} l (makes_table name columns e)) q id = snapshot-at_tick h l q id
@@ -144,9 +150,11 @@ pub legal-at_tick : (h : History) → Legal h → (q id : ℕ) → Legal (at_tic
 legal-at_tick [] start q id = start
 legal-at_tick _ (next {h = h} l (begins who e)) q id = legal-at_tick h l q id
 legal-at_tick _ (next {h = h} l (ends who t committed mine)) q id = legal-at_tick h l q id
-legal-at_tick _ (next {h = h} l (begins_block who e)) q id = legal-at_tick h l q id
+legal-at_tick _ (next {h = h} l (begins_block who e is_open)) q id = legal-at_tick h l q id
 legal-at_tick _ (next {h = h} l (fails_block who e f)) q id = legal-at_tick h l q id
 legal-at_tick _ (next {h = h} l (ends_block who e)) q id = legal-at_tick h l q id
+legal-at_tick _ (next {h = h} l (connects who e)) q id = legal-at_tick h l q id
+legal-at_tick _ (next {h = h} l (disconnects who quiet away)) q id = legal-at_tick h l q id
 legal-at_tick _ (next {h = h} l (repeats_block who)) q id = legal-at_tick h l q id
 legal-at_tick _ (next {h = h} l (looks who)) q id = legal-at_tick h l q id
 legal-at_tick _ (next {h = h} l (makes_table name columns e)) q id = legal-at_tick h l q id

@@ -1,19 +1,20 @@
 -- What a waiting session attempts fits its table and its key, as it did when it began to wait.
-use Rattle.std.proofs.Common.{◌≡◌, ℕ, ◌+◌, ◌<◌, Bool, true, false, List, [], ◌∷◌, ◌++◌, Some, length, refl, sym, ap, subst, arith, if◌then◌else◌, length-append}
+use Rattle.std.proofs.Common.{◌≡◌, ℕ, ◌+◌, ◌<◌, Bool, true, false, List, [], ◌∷◌, ◌++◌, Some, length, refl, sym, ◌∙◌, ap, subst, arith, if◌then◌else◌, length-append}
 use Rattle.std.specs.Prelude.{◌||◌, ◌==◌, not, find}
 use Rattle.std.proofs.lemmas.Bool.Decides.{nat_tests}
 use Rattle.sky_val.specs.declared.column.Column.{Column}
 use Rattle.sky_val.specs.Waits.{Waiting, is_waiting, without}
 use Rattle.sky_val.proofs.WaitLemmas.{is_waiting-without}
 use Rattle.sky_model.specs.declared.stmt.Attempt.TheVariants.{Deletion}
-use Rattle.sky_model.specs.History.{Mark, of_session, began, ended, block_begun, repeats, looked, block_failed, block_ended, tabled, table_made, wrote, waits, waited, queued, made, raised, put, ticked, registered, opened, closed, traced, History}
+use Rattle.sky_model.specs.History.{Mark, of_session, began, ended, block_begun, repeats, looked, block_failed, block_ended, connected, disconnected, tabled, table_made, wrote, waits, waited, queued, made, raised, put, ticked, registered, opened, closed, traced, History}
 use Rattle.sky_model.specs.Transactions.{next_txid}
+use Rattle.sky_model.specs.Sessions.{has_open}
 use Rattle.sky_model.specs.Rows.{table_names, columns_of}
 use Rattle.sky_model.specs.Locks.{waiting, attempt}
 use Rattle.sky_model.specs.State.{part_of}
 use Rattle.sky_model.specs.Settling.{ready}
 use Rattle.sky_model.proofs.Good.{same-session}
-use Rattle.sky_model.proofs.Legal.{AttemptFits, MayWait, Fine, begins, ends, begins_block, fails_block, ends_block, repeats_block, looks, makes_table, writes, begins_waiting, ends_waiting, makes, raises, puts, ticks_next, registers, opens, closes, traces, Legal, start, next}
+use Rattle.sky_model.proofs.Legal.{AttemptFits, MayWait, Fine, begins, ends, begins_block, fails_block, ends_block, connects, disconnects, repeats_block, looks, makes_table, writes, begins_waiting, ends_waiting, makes, raises, puts, ticks_next, registers, opens, closes, traces, Legal, start, next}
 
 -- ---- each entry of a list
 
@@ -60,6 +61,7 @@ each-found P p (x ∷ ws) w all e = of (p x) e (each-found P p ws w all.1)
 record EntryFits (h : History) (w : Waiting) : Type 0 where
   within : w.table < length (table_names h)
   fits : AttemptFits (columns_of w.table h) w.key (attempt w.who h)
+  is_open : has_open w.who h ≡ true
 
 abbrev AllFit : History → Type 0
 AllFit h = Each (EntryFits h) (waiting h)
@@ -71,6 +73,7 @@ fit-step h _ (makes_table name columns new) all = each-map (EntryFits h) (EntryF
     still w is = record {
       within = (let more : length (table_names h ++ name ∷ []) ≡ length (table_names h) + 1 = length-append (table_names h) (name ∷ []) in let below : w.table < length (table_names h) = is.within in omega (arith, more, below));
       fits = subst (λ (cs : List Column). AttemptFits cs w.key (attempt w.who h)) (sym (ap (λ b. if b then columns else columns_of w.table h) (other is.within))) is.fits;
+      is_open = is.is_open;
     }
       where
         other : w.table < length (table_names h) → (length (table_names h) == w.table) ≡ false
@@ -78,7 +81,7 @@ fit-step h _ (makes_table name columns new) all = each-map (EntryFits h) (EntryF
 fit-step h _ (begins_waiting who table key attempted may) all =
     each-push (EntryFits g) (waiting h) (record { who = who; table = table; key = key })
     (each-other (EntryFits h) (EntryFits g) who (waiting h) may.quiet still all)
-    (record { within = may.within; fits = subst (AttemptFits (columns_of table h) key) (sym (ap (λ b. if b then attempted else attempt who h) (same-session who))) may.fits })
+    (record { within = may.within; fits = subst (AttemptFits (columns_of table h) key) (sym (ap (λ b. if b then attempted else attempt who h) (same-session who))) may.fits; is_open = may.is_open })
   where
     g : History
     g = tabled (waits who table key attempted) ∷ h
@@ -86,29 +89,40 @@ fit-step h _ (begins_waiting who table key attempted may) all =
     still : (w : Waiting) → (w.who == who) ≡ false → EntryFits h w → EntryFits g w
     still w apart is =
         let turned : (who == w.who) ≡ false = grind (arith, nat_tests) in
-        record { within = is.within; fits = subst (AttemptFits (columns_of w.table h) w.key) (sym (ap (λ b. if b then attempted else attempt w.who h) turned)) is.fits }
+        record { within = is.within; fits = subst (AttemptFits (columns_of w.table h) w.key) (sym (ap (λ b. if b then attempted else attempt w.who h) turned)) is.fits; is_open = is.is_open }
 fit-step h _ (ends_waiting who) all = each-without (EntryFits h) (EntryFits (tabled (waited who) ∷ h)) who (waiting h) still all
   where
     still : (w : Waiting) → (w.who == who) ≡ false → EntryFits h w → EntryFits (tabled (waited who) ∷ h) w
     still w apart is =
         let turned : (who == w.who) ≡ false = grind (arith, nat_tests) in
-        record { within = is.within; fits = subst (AttemptFits (columns_of w.table h) w.key) (sym (ap (λ b. if b then Deletion else attempt w.who h) turned)) is.fits }
-fit-step h _ (begins who e) all = each-map (EntryFits h) (EntryFits (began (of_session who) (next_txid h) ∷ h)) (waiting h) (λ w is. record { within = is.within; fits = is.fits }) all
-fit-step h _ (ends who t c e) all = each-map (EntryFits h) (EntryFits (ended (of_session who) t c ∷ h)) (waiting h) (λ w is. record { within = is.within; fits = is.fits }) all
-fit-step h _ (begins_block who e) all = each-map (EntryFits h) (EntryFits (block_begun who ∷ h)) (waiting h) (λ w is. record { within = is.within; fits = is.fits }) all
-fit-step h _ (fails_block who e f) all = each-map (EntryFits h) (EntryFits (block_failed who ∷ h)) (waiting h) (λ w is. record { within = is.within; fits = is.fits }) all
-fit-step h _ (ends_block who e) all = each-map (EntryFits h) (EntryFits (block_ended who ∷ h)) (waiting h) (λ w is. record { within = is.within; fits = is.fits }) all
-fit-step h _ (repeats_block who) all = each-map (EntryFits h) (EntryFits (repeats who ∷ h)) (waiting h) (λ w is. record { within = is.within; fits = is.fits }) all
-fit-step h _ (looks who) all = each-map (EntryFits h) (EntryFits (looked who ∷ h)) (waiting h) (λ w is. record { within = is.within; fits = is.fits }) all
-fit-step h _ (writes who t n at_key old new e free stands) all = each-map (EntryFits h) (EntryFits (tabled (wrote (of_session who) t n at_key old new) ∷ h)) (waiting h) (λ w is. record { within = is.within; fits = is.fits }) all
-fit-step h _ (makes name e) all = each-map (EntryFits h) (EntryFits (queued (made name) ∷ h)) (waiting h) (λ w is. record { within = is.within; fits = is.fits }) all
-fit-step h _ (raises q v i le) all = each-map (EntryFits h) (EntryFits (queued (raised q v) ∷ h)) (waiting h) (λ w is. record { within = is.within; fits = is.fits }) all
-fit-step h _ (puts who q e i n o newest) all = each-map (EntryFits h) (EntryFits (queued (put q e) ∷ h)) (waiting h) (λ w is. record { within = is.within; fits = is.fits }) all
-fit-step h _ (ticks_next q id time seq i le) all = each-map (EntryFits h) (EntryFits (queued (ticked q id time seq) ∷ h)) (waiting h) (λ w is. record { within = is.within; fits = is.fits }) all
-fit-step h _ (registers q name sub tick i e f le) all = each-map (EntryFits h) (EntryFits (queued (registered q name sub tick) ∷ h)) (waiting h) (λ w is. record { within = is.within; fits = is.fits }) all
-fit-step h _ (opens batch e) all = each-map (EntryFits h) (EntryFits (queued (opened batch) ∷ h)) (waiting h) (λ w is. record { within = is.within; fits = is.fits }) all
-fit-step h _ (closes batch e) all = each-map (EntryFits h) (EntryFits (queued (closed batch) ∷ h)) (waiting h) (λ w is. record { within = is.within; fits = is.fits }) all
-fit-step h _ (traces n name trigger below is new) all = each-map (EntryFits h) (EntryFits (queued (traced n name trigger) ∷ h)) (waiting h) (λ w is. record { within = is.within; fits = is.fits }) all
+        record { within = is.within; fits = subst (AttemptFits (columns_of w.table h) w.key) (sym (ap (λ b. if b then Deletion else attempt w.who h) turned)) is.fits; is_open = is.is_open }
+fit-step h _ (begins who e) all = each-map (EntryFits h) (EntryFits (began (of_session who) (next_txid h) ∷ h)) (waiting h) (λ w is. record { within = is.within; fits = is.fits; is_open = is.is_open }) all
+fit-step h _ (ends who t c e) all = each-map (EntryFits h) (EntryFits (ended (of_session who) t c ∷ h)) (waiting h) (λ w is. record { within = is.within; fits = is.fits; is_open = is.is_open }) all
+fit-step h _ (begins_block who e is_open) all = each-map (EntryFits h) (EntryFits (block_begun who ∷ h)) (waiting h) (λ w is. record { within = is.within; fits = is.fits; is_open = is.is_open }) all
+fit-step h _ (fails_block who e f) all = each-map (EntryFits h) (EntryFits (block_failed who ∷ h)) (waiting h) (λ w is. record { within = is.within; fits = is.fits; is_open = is.is_open }) all
+fit-step h _ (ends_block who e) all = each-map (EntryFits h) (EntryFits (block_ended who ∷ h)) (waiting h) (λ w is. record { within = is.within; fits = is.fits; is_open = is.is_open }) all
+fit-step h _ (connects who e) all = each-map (EntryFits h) (EntryFits (connected who ∷ h)) (waiting h) (λ w is. record { within = is.within; fits = is.fits; is_open = still (who == w.who) (has_open w.who h) is.is_open }) all
+  where
+    still : (b o : Bool) → o ≡ true → (if b then true else o) ≡ true
+    still true o is = refl
+    still false o is = is
+fit-step h _ (disconnects who quiet away) all = each-other (EntryFits h) (EntryFits (disconnected who ∷ h)) who (waiting h) quiet still all
+  where
+    still : (w : Waiting) → (w.who == who) ≡ false → EntryFits h w → EntryFits (disconnected who ∷ h) w
+    still w apart is =
+        let turned : (who == w.who) ≡ false = grind (arith, nat_tests) in
+        record { within = is.within; fits = is.fits; is_open = ap (λ b. if b then false else has_open w.who h) turned ∙ is.is_open }
+fit-step h _ (repeats_block who) all = each-map (EntryFits h) (EntryFits (repeats who ∷ h)) (waiting h) (λ w is. record { within = is.within; fits = is.fits; is_open = is.is_open }) all
+fit-step h _ (looks who) all = each-map (EntryFits h) (EntryFits (looked who ∷ h)) (waiting h) (λ w is. record { within = is.within; fits = is.fits; is_open = is.is_open }) all
+fit-step h _ (writes who t n at_key old new e free stands) all = each-map (EntryFits h) (EntryFits (tabled (wrote (of_session who) t n at_key old new) ∷ h)) (waiting h) (λ w is. record { within = is.within; fits = is.fits; is_open = is.is_open }) all
+fit-step h _ (makes name e) all = each-map (EntryFits h) (EntryFits (queued (made name) ∷ h)) (waiting h) (λ w is. record { within = is.within; fits = is.fits; is_open = is.is_open }) all
+fit-step h _ (raises q v i le) all = each-map (EntryFits h) (EntryFits (queued (raised q v) ∷ h)) (waiting h) (λ w is. record { within = is.within; fits = is.fits; is_open = is.is_open }) all
+fit-step h _ (puts who q e i n o newest) all = each-map (EntryFits h) (EntryFits (queued (put q e) ∷ h)) (waiting h) (λ w is. record { within = is.within; fits = is.fits; is_open = is.is_open }) all
+fit-step h _ (ticks_next q id time seq i le) all = each-map (EntryFits h) (EntryFits (queued (ticked q id time seq) ∷ h)) (waiting h) (λ w is. record { within = is.within; fits = is.fits; is_open = is.is_open }) all
+fit-step h _ (registers q name sub tick i e f le) all = each-map (EntryFits h) (EntryFits (queued (registered q name sub tick) ∷ h)) (waiting h) (λ w is. record { within = is.within; fits = is.fits; is_open = is.is_open }) all
+fit-step h _ (opens batch e) all = each-map (EntryFits h) (EntryFits (queued (opened batch) ∷ h)) (waiting h) (λ w is. record { within = is.within; fits = is.fits; is_open = is.is_open }) all
+fit-step h _ (closes batch e) all = each-map (EntryFits h) (EntryFits (queued (closed batch) ∷ h)) (waiting h) (λ w is. record { within = is.within; fits = is.fits; is_open = is.is_open }) all
+fit-step h _ (traces n name trigger below is new) all = each-map (EntryFits h) (EntryFits (queued (traced n name trigger) ∷ h)) (waiting h) (λ w is. record { within = is.within; fits = is.fits; is_open = is.is_open }) all
 
 all-fit : (h : History) → Legal h → AllFit h
 all-fit _ start = tt
@@ -118,4 +132,16 @@ all-fit _ (next {h = h} {mark = mark} l fine) = fit-step h mark fine (all-fit h 
 pub may_go_on : (h : History) → Legal h → (w : Waiting) → ready (part_of h) ≡ Some w → MayWait (part_of (tabled (waited w.who) ∷ h)) w.who w.table w.key (attempt w.who h)
 may_go_on h l w is =
     let e : EntryFits h w = each-found (EntryFits h) _ (waiting h) w (all-fit h l) is in
-    record { within = e.within; fits = e.fits; quiet = is_waiting-without w.who (waiting h) }
+    record { within = e.within; fits = e.fits; quiet = is_waiting-without w.who (waiting h); is_open = e.is_open }
+
+-- who waits has the database open
+pub waits-open : (h : History) → Legal h → (who : ℕ) → is_waiting who (waiting h) ≡ true → has_open who h ≡ true
+waits-open h l who is = of (waiting h) (all-fit h l) is
+  where
+    of : (ws : List Waiting) → Each (EntryFits h) ws → is_waiting who ws ≡ true → has_open who h ≡ true
+    of [] all e = absurd (cc)
+    of (w ∷ ws) all e = by (w.who == who) refl e (of ws all.1)
+      where
+        by : (b : Bool) → (w.who == who) ≡ b → (b || is_waiting who ws) ≡ true → (is_waiting who ws ≡ true → has_open who h ≡ true) → has_open who h ≡ true
+        by true same e ih = let one : w.who ≡ who = grind (arith, nat_tests) in ap (λ n. has_open n h) (sym one) ∙ all.0.is_open
+        by false other e ih = ih e

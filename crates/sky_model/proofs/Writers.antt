@@ -4,7 +4,7 @@ use Rattle.std.specs.Prelude.{◌||◌, ◌&&◌, ◌==◌}
 use Rattle.std.proofs.lemmas.Bool.{and_parts}
 use Rattle.std.proofs.lemmas.Bool.Decides.{nat_tests}
 use Rattle.sky_val.specs.declared.val.Val.{Val}
-use Rattle.sky_model.specs.History.{Whose, Mark, began, ended, block_begun, repeats, looked, block_failed, block_ended, tabled, table_made, wrote, waits, waited, queued, History}
+use Rattle.sky_model.specs.History.{Whose, Mark, began, ended, block_begun, repeats, looked, block_failed, block_ended, connected, disconnected, tabled, table_made, wrote, waits, waited, queued, History}
 use Rattle.sky_model.specs.Transactions.{has_ended}
 use Rattle.sky_model.specs.Rows.{Write, writes as writes_of, wrote_in}
 use Rattle.sky_model.specs.LawsOfLocks.{WritersHaveWritten}
@@ -49,6 +49,8 @@ runs-step h (repeats who) fine l table t ih = ih
 runs-step h (looked who) fine l table t ih = ih
 runs-step h (block_failed who) fine l table t ih = ih
 runs-step h (block_ended who) fine l table t ih = ih
+runs-step h (connected who) fine l table t ih = ih
+runs-step h (disconnected who) fine l table t ih = ih
 runs-step h (tabled (table_made name columns)) fine l table t ih = ih
 runs-step h (tabled (wrote whose u n key old new)) fine l table t ih = now-written h table t n u (writer-runs h l fine) ih
 runs-step h (tabled (waits who n key attempt)) fine l table t ih = ih
@@ -77,6 +79,8 @@ has-step h (repeats who) table t ih = ih
 has-step h (looked who) table t ih = ih
 has-step h (block_failed who) table t ih = ih
 has-step h (block_ended who) table t ih = ih
+has-step h (connected who) table t ih = ih
+has-step h (disconnected who) table t ih = ih
 has-step h (tabled (table_made name columns)) table t ih = ih
 has-step h (tabled (wrote v u n key old new)) table t ih = has-more (n == table && u == t) (wrote_in table t h) (writes_of table t h) (record { key = key; row = new }) ih
 has-step h (tabled (waits who n key attempt)) table t ih = ih
@@ -112,6 +116,8 @@ back-step h (repeats who) table t ih = ih
 back-step h (looked who) table t ih = ih
 back-step h (block_failed who) table t ih = ih
 back-step h (block_ended who) table t ih = ih
+back-step h (connected who) table t ih = ih
+back-step h (disconnected who) table t ih = ih
 back-step h (tabled (table_made name columns)) table t ih = ih
 back-step h (tabled (wrote v u n key old new)) table t ih = λ e. back-more (n == table && u == t) (wrote_in table t h) (writes_of table t h) (record { key = key; row = new }) (ih e)
 back-step h (tabled (waits who n key attempt)) table t ih = ih

@@ -5,7 +5,7 @@ use Rattle.sky_val.specs.Waits.{Waiting, is_waiting}
 use Rattle.sky_model.specs.declared.stmt.Stmt.{Stmt}
 use Rattle.sky_model.specs.declared.stmt.Stmt.TheVariants.{Row}
 use Rattle.sky_model.specs.History.{Mark, Whose, of_session, of_worker, looked, tabled, wrote, waited, History}
-use Rattle.sky_model.specs.Sessions.{Block, outside, inside, failed, Session, session, block, own_txid}
+use Rattle.sky_model.specs.Sessions.{Block, outside, inside, failed, Session, session, has_open, block, own_txid}
 use Rattle.sky_model.specs.Locks.{waiting}
 use Rattle.sky_model.specs.State.{part_of, database_of, after_mark, after_marks}
 use Rattle.sky_model.specs.ShownRows.{rows_in}
@@ -154,7 +154,7 @@ runs-told h told now who stmt (Ok _) = of (takes_sight (where_of stmt) (session 
     of false = form-told h told now who stmt
 
 statement-told : (h : History) → AllTold h → (now : ℤ) (who : ℕ) (stmt : Stmt) → AllTold (marked h (statement database_by_history h now who stmt).marks)
-statement-told h told now who stmt = runs-told h told now who stmt (allowed (is_waiting who (waiting h)) (block who h) (where_of stmt))
+statement-told h told now who stmt = runs-told h told now who stmt (allowed (is_waiting who (waiting h)) (has_open who h) (block who h) (where_of stmt))
 
 -- ---- what it lets go on
 
@@ -201,7 +201,7 @@ fails-plain who o failed = tt
 does-told : (h : History) → AllTold h → (call : DatabaseCall) → AllTold (marked h (database_does database_by_history h call).marks)
 does-told h told (stepped who stmt now) = with_settling-told now h (turn_of who (statement database_by_history h now who stmt)) (statement-told h told now who stmt)
 does-told h told (entered who alone) =
-    enters-told h told who (takes_sight (entry_place alone) (session h who).sight) (allowed (is_waiting who (waiting h)) (block who h) (entry_place alone))
+    enters-told h told who (takes_sight (entry_place alone) (session h who).sight) (allowed (is_waiting who (waiting h)) (has_open who h) (block who h) (entry_place alone))
 does-told h told (failed_call who now) =
     with_settling-told now h (failing (part_of h) who) (plain-told h (failure who (own_txid who h) (block who h)) (fails-plain who (own_txid who h) (block who h)) told)
 

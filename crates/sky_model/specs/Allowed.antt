@@ -6,7 +6,7 @@ use Rattle.sky_model.specs.declared.stmt.RowStmt.TheVariants.{OpenDb, Close, Can
 use Rattle.sky_model.specs.declared.stmt.Stmt.TheVariants.{Row, CreateQueue, InsertEvent, Ticker, ForceTick, RegisterConsumer, NextBatch, GetBatchEvents, FinishBatch, AddTrigger}
 use Rattle.sky_model.specs.declared.stmt.Where.{Where}
 use Rattle.sky_model.specs.declared.stmt.Where.TheVariants.{Always, Anywhere, WhenOpen, WhenSound, WhenReading, WhenOutside}
-use Rattle.sky_model.specs.declared.reply.Refusal.TheVariants.{Aborted, Busy, InTransaction}
+use Rattle.sky_model.specs.declared.reply.Refusal.TheVariants.{Aborted, Busy, InTransaction, NotOpen}
 use Rattle.sky_model.specs.Sessions.{Block, outside, inside, failed}
 use Rattle.sky_model.specs.Outcome.{Checked}
 
@@ -42,7 +42,7 @@ where_of (GetBatchEvents batch) = WhenOutside
 where_of (FinishBatch batch) = WhenOutside
 where_of (AddTrigger name table queue backup ignored) = WhenOutside
 
--- a statement, by where it may stand, in a session that doesn't wait
+-- a statement, by where it may stand, in a session that has the database open, and doesn't wait
 abbrev pub allowed_in : Block → Where → Checked (Unit {0})
 allowed_in outside place = Ok tt
 allowed_in inside WhenOutside = Err InTransaction
@@ -52,8 +52,15 @@ allowed_in failed Anywhere = Ok tt
 allowed_in failed WhenOpen = Ok tt
 allowed_in failed _ = Err Aborted
 
--- a statement, by where it may stand, in a session that has a database open, and waits or doesn't
-abbrev pub allowed : Bool → Block → Where → Checked (Unit {0})
-allowed false block place = allowed_in block place
-allowed true block Always = Ok tt
-allowed true block _ = Err Busy
+-- the same in a session that doesn't wait, and has the database open or hasn't
+abbrev pub allowed_by : Bool → Block → Where → Checked (Unit {0})
+allowed_by true block place = allowed_in block place
+allowed_by false block Always = Ok tt
+allowed_by false block Anywhere = Ok tt
+allowed_by false block _ = Err NotOpen
+
+-- the same in a session that waits or doesn't
+abbrev pub allowed : (waits is_open : Bool) → Block → Where → Checked (Unit {0})
+allowed false is_open block place = allowed_by is_open block place
+allowed true is_open block Always = Ok tt
+allowed true is_open block _ = Err Busy

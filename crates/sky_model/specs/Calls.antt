@@ -1,35 +1,35 @@
 -- What a call does: a statement of a session, with all that it causes.
-use Rattle.std.specs.Prelude.{ℕ, ℤ, Bool, false, List, [], ◌∷◌, ◌++◌, Option, Some, None, Err, not, nat_le, length, map, if◌then◌else◌}
+use Rattle.std.specs.Prelude.{ℕ, ℤ, Bool, true, false, List, [], ◌∷◌, ◌++◌, Option, Some, None, not, nat_le, length, map, if◌then◌else◌}
 use Rattle.sky_model.specs.declared.stmt.Stmt.{Stmt}
 use Rattle.sky_model.specs.declared.stmt.RowStmt.{RowStmt}
 use Rattle.sky_model.specs.declared.stmt.RowStmt.TheVariants.{OpenDb, Close, Cancel, Begin, BeginRepeatableRead, Commit, Rollback, TxidCurrent, TxidCurrentSnapshot, TxidVisibleInSnapshot, CreateTable, Insert, Update, Delete, Get, Scan}
 use Rattle.sky_model.specs.declared.stmt.Stmt.TheVariants.{Row, CreateQueue, InsertEvent, Ticker, ForceTick, RegisterConsumer, NextBatch, GetBatchEvents, FinishBatch, AddTrigger}
 use Rattle.sky_model.specs.declared.reply.Reply.{Reply}
-use Rattle.sky_model.specs.declared.reply.Reply.TheVariants.{Done, NotWaiting}
+use Rattle.sky_model.specs.declared.reply.Reply.TheVariants.{NotWaiting, Refused}
 use Rattle.sky_model.specs.declared.reply.Limit.TheVariants.{Sessions, Databases}
-use Rattle.sky_model.specs.declared.reply.Refusal.TheVariants.{TooMany, AlreadyOpen, NotOpen}
+use Rattle.sky_model.specs.declared.reply.Refusal.TheVariants.{TooMany, NotOpen}
 use Rattle.sky_val.specs.Waits.{is_waiting}
 use Rattle.sky_names.specs.Places.{place_of}
-use Rattle.sky_model.specs.History.{founded, entered, left, within, Past}
+use Rattle.sky_model.specs.History.{Fact, entered, left, within, Past}
 use Rattle.sky_model.specs.State.{RowPart, Database}
 use Rattle.sky_model.specs.ShownRows.{RowsShown}
 use Rattle.sky_model.specs.Outcome.{Outcome, Checked}
 use Rattle.sky_model.specs.Allowed.{where_of_row, where_of}
 use Rattle.sky_model.specs.Made.{Making, made_by}
 use Rattle.sky_model.specs.StepQueue.{create_queue, insert_event, ticker, force_tick}
-use Rattle.sky_model.specs.StepSession.{begin, begin_repeatable_read, commit, rollback, close, cancel, txid_current, txid_current_snapshot, txid_visible_in_snapshot}
+use Rattle.sky_model.specs.StepSession.{open_db, begin, begin_repeatable_read, commit, rollback, close, cancel, txid_current, txid_current_snapshot, txid_visible_in_snapshot}
 use Rattle.sky_model.specs.StepRows.{create_table, insert, update, delete, get, scan}
 use Rattle.sky_model.specs.StepTrigger.{add_trigger}
 use Rattle.sky_model.specs.Telling.{tells}
 use Rattle.sky_model.specs.StepConsumer.{register_consumer, next_batch, get_batch_events, finish_batch}
 use Rattle.sky_model.specs.World.{World, world_of, on_top}
-use Rattle.sky_model.specs.Reader.{Shown, PartReader, DatabaseReader, Reader, within_part, within_database, by_past, Deed, answers_with, refuses, appears, followed}
+use Rattle.sky_model.specs.Reader.{Shown, PartReader, DatabaseReader, Reader, within_part, within_database, by_past, Deed, answers_with, refuses, appears, founds, followed}
 use Rattle.sky_model.specs.Settling.{Turn, turn_of, with_settling}
 use Rattle.sky_model.specs.Promises.{Part, after_all}
 
 -- what a statement on sessions, transactions, tables and rows does that its session may make
 abbrev pub row_form : RowPart → RowsShown → ℕ → RowStmt → Checked Outcome
-row_form d shown who (OpenDb name) = Err AlreadyOpen
+row_form d shown who (OpenDb name) = open_db who (d.session who).is_open
 row_form d shown who Close = close who (d.session who).txid (d.session who).block
 row_form d shown who Cancel = cancel who (d.session who).txid (d.session who).block (is_waiting who d.waiting)
 row_form d shown who Begin = begin who (d.session who).block
@@ -75,7 +75,7 @@ row_statement r p who stmt = made_by (row_making r who stmt) (where_of_row stmt)
 abbrev pub row_turn : {P : Type 0} → PartReader P → P → ℕ → RowStmt → Turn
 row_turn r p who stmt = with_settling r p (turn_of who (row_statement r p who stmt))
 
--- a statement of a session, at a place of the database that it has open
+-- a statement of a session, at a place of a database
 abbrev pub making : {P : Type 0} → DatabaseReader P → ℤ → ℕ → Stmt → Making P
 making r now who stmt = record {
   session = λ p. (r.database p).part.session who;
@@ -91,33 +91,51 @@ statement r p now who stmt = made_by (making r now who stmt) (where_of stmt) who
 abbrev pub database_turn : {P : Type 0} → DatabaseReader P → P → ℤ → ℕ → Stmt → Turn
 database_turn r p now who stmt = with_settling (within_part r now) p (turn_of who (statement r p now who stmt))
 
--- `open NAME` of a session that has none open: the database is made where it is new
-abbrev pub opens : World → ℕ → List ℕ → Option ℕ → Deed
-opens w who name (Some d) = answers_with who Done (entered who d ∷ [])
-opens w who name None =
-    if nat_le 16 (length w.databases) then refuses who (TooMany Databases)
-    else answers_with who Done (founded name ∷ entered who (length w.databases) ∷ [])
+-- what is done in a database, and what this changes in the world
+abbrev pub deed_in : ℕ → List Fact → Turn → Deed
+deed_in d facts turn = record { answers = turn.answers; facts = map (within d) turn.marks ++ facts }
 
--- a statement of a session without a database
-abbrev pub unopened : World → ℕ → Stmt → Deed
-unopened w who (Row (OpenDb name)) = opens w who name (place_of name w.databases)
-unopened w who (Row Cancel) = answers_with who NotWaiting []
-unopened w who _ = refuses who NotOpen
+-- the name of the database that a statement is to open
+abbrev pub opening : Stmt → Option (List ℕ)
+opening (Row (OpenDb name)) = Some name
+opening _ = None
+
+-- what one is answered that opens none, of a session that has none open
+abbrev pub unopened : Stmt → Reply
+unopened (Row Cancel) = NotWaiting
+unopened _ = Refused NotOpen
+
+-- `open` of a session that has none open, in this database
+abbrev pub opens_in : {P : Type 0} → Reader P → ℕ → Stmt → ℕ → P → Deed
+opens_in r who stmt d p = deed_in d (entered who d ∷ []) (database_turn (within_database r d) p (r.world p).now who stmt)
+
+-- in the one of this name, which is made where it is new
+abbrev pub opens : {P : Type 0} → Reader P → P → ℕ → Stmt → List ℕ → Option ℕ → Deed
+opens r p who stmt name (Some d) = opens_in r who stmt d p
+opens r p who stmt name None =
+    if nat_le 16 (length (r.world p).databases) then refuses who (TooMany Databases)
+    else followed r p (opens_in r who stmt (length (r.world p).databases)) (founds name)
+
+-- a statement of a session that has none open, by the name of the one that it is to open
+abbrev pub outside_does : {P : Type 0} → Reader P → P → ℕ → Stmt → Option (List ℕ) → Deed
+outside_does r p who stmt None = answers_with who (unopened stmt) []
+outside_does r p who stmt (Some name) = opens r p who stmt name (place_of name (r.world p).databases)
 
 -- whether a session that waits, or doesn't, leaves its database: it does by `close`, which is refused while it waits
 abbrev pub is_leaving : Bool → Stmt → Bool
 is_leaving waits (Row Close) = not waits
 is_leaving waits _ = false
 
--- what is done in a database, which a session may leave
-abbrev pub deed_in : ℕ → ℕ → Bool → Turn → Deed
-deed_in who d leaving turn = record { answers = turn.answers; facts = map (within d) turn.marks ++ (if leaving then left who ∷ [] else []) }
+-- a session leaves its database, or doesn't
+abbrev pub left_if : ℕ → Bool → List Fact
+left_if who true = left who ∷ []
+left_if who false = []
 
 -- a statement of a session, by the database that it has open
 abbrev pub session_does : {P : Type 0} → Reader P → P → ℕ → Stmt → Option ℕ → Deed
-session_does r p who stmt None = unopened (r.world p) who stmt
+session_does r p who stmt None = outside_does r p who stmt (opening stmt)
 session_does r p who stmt (Some d) =
-    deed_in who d (is_leaving (is_waiting who ((r.world p).database d).part.waiting) stmt)
+    deed_in d (left_if who (is_leaving (is_waiting who ((r.world p).database d).part.waiting) stmt))
     (database_turn (within_database r d) p (r.world p).now who stmt)
 
 -- a turn: what a statement of a session does at a place

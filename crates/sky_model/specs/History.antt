@@ -67,6 +67,10 @@ pub data Mark : Type 0 where
   block_failed : (who : ℕ) → Mark
   -- the session ended it
   block_ended : (who : ℕ) → Mark
+  -- the session opened the database
+  connected : (who : ℕ) → Mark
+  -- it closed it
+  disconnected : (who : ℕ) → Mark
   tabled : TableMark → Mark
   queued : QueueMark → Mark
 

@@ -37,4 +37,4 @@ runs_if m place who p (Ok _) =
 -- a statement of a session: it is refused where it may not stand, and else a repeatable read block takes its sight
 -- in front of the first one that reads
 abbrev pub made_by : {P : Type 0} → Making P → Where → ℕ → P → Outcome
-made_by m place who p = runs_if m place who p (allowed (m.waits p) (m.session p).block place)
+made_by m place who p = runs_if m place who p (allowed (m.waits p) (m.session p).is_open (m.session p).block place)

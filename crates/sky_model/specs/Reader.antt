@@ -4,7 +4,7 @@ use Rattle.sky_val.specs.declared.event.Event.{Event}
 use Rattle.sky_model.specs.declared.reply.Reply.{Reply}
 use Rattle.sky_model.specs.declared.reply.Reply.TheVariants.{Refused}
 use Rattle.sky_model.specs.declared.reply.Refusal.{Refusal}
-use Rattle.sky_model.specs.History.{Batch, Mark, History, Fact, appeared, within, Past}
+use Rattle.sky_model.specs.History.{Batch, Mark, History, Fact, appeared, founded, within, Past}
 use Rattle.sky_model.specs.Batches.{batch_events}
 use Rattle.sky_model.specs.State.{RowPart, part_of, after_part, Database, database_of, after_mark}
 use Rattle.sky_model.specs.ShownRows.{RowsShown, rows_in, rows_by}
@@ -99,6 +99,10 @@ refuses who refusal = answers_with who (Refused refusal) []
 -- a session appears, which nothing answers
 abbrev pub appears : List ℕ → Deed
 appears name = record { answers = []; facts = appeared name ∷ [] }
+
+-- a database is made, which nothing answers
+abbrev pub founds : List ℕ → Deed
+founds name = record { answers = []; facts = founded name ∷ [] }
 
 -- a deed behind another
 abbrev pub joined : Deed → Deed → Deed

@@ -35,8 +35,8 @@ failure who txid _ = []
 
 -- a statement may be made, and has taken its session's sight if it is to, or it is refused
 abbrev pub Enters : RowPart → RowPart → ℕ → Where → Option Refusal → Type 0
-Enters old new who place (Some refusal) = (allowed (is_waiting who old.waiting) (old.session who).block place ≡ Err refusal) × (new ≡ old)
-Enters old new who place None = (allowed (is_waiting who old.waiting) (old.session who).block place ≡ Ok tt) × (new ≡ after_part_marks old (sight_marks old who place))
+Enters old new who place (Some refusal) = (allowed (is_waiting who old.waiting) (old.session who).is_open (old.session who).block place ≡ Err refusal) × (new ≡ old)
+Enters old new who place None = (allowed (is_waiting who old.waiting) (old.session who).is_open (old.session who).block place ≡ Ok tt) × (new ≡ after_part_marks old (sight_marks old who place))
 
 -- where what is done in a session's name may stand: outside a block, or wherever a statement may that reads
 abbrev pub entry_place : Bool → Where
@@ -49,7 +49,7 @@ enters who marks (Err refusal) = record { answers = (who, Refused refusal) ∷ [
 
 -- the same of a session there
 abbrev pub entry : RowPart → ℕ → Where → Turn
-entry d who place = enters who (sight_marks d who place) (allowed (is_waiting who d.waiting) (d.session who).block place)
+entry d who place = enters who (sight_marks d who place) (allowed (is_waiting who d.waiting) (d.session who).is_open (d.session who).block place)
 
 -- what was done in a session's name fails: its block is rolled back
 abbrev pub failing : RowPart → ℕ → Turn

@@ -1,8 +1,15 @@
--- The transaction blocks of sessions, and the places at which they read.
-use Rattle.std.specs.Prelude.{ℕ, [], ◌∷◌, Option, Some, None, ◌==◌, if◌then◌else◌}
+-- The sessions that have a database open, their transaction blocks, and the places at which they read.
+use Rattle.std.specs.Prelude.{ℕ, Bool, true, false, [], ◌∷◌, Option, Some, None, ◌==◌, if◌then◌else◌}
 use Rattle.sky_txid.specs.Snapshot.{SnapshotView}
-use Rattle.sky_model.specs.History.{of_session, began, ended, block_begun, repeats, looked, block_failed, block_ended, History}
+use Rattle.sky_model.specs.History.{of_session, began, ended, block_begun, repeats, looked, block_failed, block_ended, connected, disconnected, History}
 use Rattle.sky_model.specs.Transactions.{snapshot}
+
+-- whether a session has the database open
+abbrev pub has_open : ℕ → History → Bool
+has_open who [] = false
+has_open who (connected w ∷ h) = if w == who then true else has_open who h
+has_open who (disconnected w ∷ h) = if w == who then false else has_open who h
+has_open who (_ ∷ h) = has_open who h
 
 -- where a session stands: in no transaction block, in one, or in one that a refusal has aborted
 pub data Block : Type 0 where
@@ -53,13 +60,10 @@ place_of_sight own _ = own
 
 -- a session: its sight goes by the snapshot there
 pub record Session : Type 0 where
+  pub is_open : Bool
   pub block : Block
   pub txid : Option ℕ
   pub sight : Sight SnapshotView
 
 abbrev pub session : History → ℕ → Session
-session h who = record { block = block who h; txid = own_txid who h; sight = sight_by snapshot (sight who h) }
-
--- a session that is in no transaction
-abbrev pub at_rest : Session
-at_rest = record { block = outside; txid = None; sight = at_each }
+session h who = record { is_open = has_open who h; block = block who h; txid = own_txid who h; sight = sight_by snapshot (sight who h) }

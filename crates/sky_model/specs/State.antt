@@ -10,7 +10,7 @@ use Rattle.sky_txid.specs.Snapshot.{SnapshotView, snapshot_of}
 use Rattle.sky_txid.specs.Versions.{written, forgotten}
 use Rattle.sky_model.specs.declared.stmt.Attempt.{Attempt}
 use Rattle.sky_model.specs.declared.stmt.Attempt.TheVariants.{Deletion}
-use Rattle.sky_model.specs.History.{Batch, Mark, Whose, of_session, of_worker, began, ended, block_begun, repeats, looked, block_failed, block_ended, tabled, TableMark, table_made, wrote, waits, waited, queued, QueueMark, made, raised, put, ticked, registered, opened, closed, traced, History}
+use Rattle.sky_model.specs.History.{Batch, Mark, Whose, of_session, of_worker, began, ended, block_begun, repeats, looked, block_failed, block_ended, connected, disconnected, tabled, TableMark, table_made, wrote, waits, waited, queued, QueueMark, made, raised, put, ticked, registered, opened, closed, traced, History}
 use Rattle.sky_model.specs.Transactions.{next_txid, running, has_rolled_back}
 use Rattle.sky_model.specs.Sessions.{Block, inside, failed, outside, Sight, at_each, at_first, at_place, Session, session}
 use Rattle.sky_model.specs.Config.{Config, config}
@@ -155,6 +155,9 @@ with_sight sight s = record s { sight = sight }
 abbrev pub with_block : Block → Session → Session
 with_block block s = record s { block = block }
 
+abbrev pub with_open : Bool → Session → Session
+with_open is_open s = record s { is_open = is_open }
+
 -- a session whose block is over, or aborted
 abbrev pub without_sight : Block → Session → Session
 without_sight block s = record s { block = block; sight = at_each }
@@ -206,6 +209,8 @@ after_part d (repeats who) = record d { session = changed_at who (with_sight at_
 after_part d (looked who) = record d { session = changed_at who (with_sight (at_place (snapshot_of d.next d.running_ids))) d.session }
 after_part d (block_failed who) = record d { session = changed_at who (without_sight failed) d.session }
 after_part d (block_ended who) = record d { session = changed_at who (without_sight outside) d.session }
+after_part d (connected who) = record d { session = changed_at who (with_open true) d.session }
+after_part d (disconnected who) = record d { session = changed_at who (with_open false) d.session }
 after_part d (tabled mark) = after_table_mark d mark
 after_part d (queued mark) = d
 
@@ -225,6 +230,8 @@ after_mark d (repeats who) = record d { part = after_part d.part (repeats who) }
 after_mark d (looked who) = record d { part = after_part d.part (looked who) }
 after_mark d (block_failed who) = record d { part = after_part d.part (block_failed who) }
 after_mark d (block_ended who) = record d { part = after_part d.part (block_ended who) }
+after_mark d (connected who) = record d { part = after_part d.part (connected who) }
+after_mark d (disconnected who) = record d { part = after_part d.part (disconnected who) }
 after_mark d (tabled mark) = record d { part = after_part d.part (tabled mark) }
 
 -- a database after marks, the first one first

@@ -1,11 +1,11 @@
 -- What the statements on sessions and transactions do. Each reads the part `d` of its database as it stands.
-use Rattle.std.specs.Prelude.{ℕ, List, [], ◌∷◌, ◌++◌, Bool, true, false, Option}
+use Rattle.std.specs.Prelude.{ℕ, List, [], ◌∷◌, ◌++◌, Bool, true, false, Option, Err}
 use Rattle.sky_txid.specs.Snapshot.{snapshot_of, sees}
 use Rattle.sky_txid.specs.SnapshotText.{parse_snapshot}
 use Rattle.sky_model.specs.declared.reply.Reply as reply
 use Rattle.sky_model.specs.declared.reply.Reply.TheVariants.{Number, AlreadyInTransaction, NoTransaction, NotWaiting, Refused, Snapshot}
-use Rattle.sky_model.specs.declared.reply.Refusal.TheVariants.{BadSnapshot, Canceled}
-use Rattle.sky_model.specs.History.{Mark, block_begun, repeats, block_ended, tabled, waited}
+use Rattle.sky_model.specs.declared.reply.Refusal.TheVariants.{AlreadyOpen, BadSnapshot, Canceled}
+use Rattle.sky_model.specs.History.{Mark, block_begun, repeats, block_ended, connected, disconnected, tabled, waited}
 use Rattle.sky_model.specs.Sessions.{Block, outside, inside, failed, place_of_sight}
 use Rattle.sky_model.specs.State.{RowPart}
 use Rattle.sky_model.specs.Outcome.{Outcome, Checked, ◌>>=◌, found_or, answers, does_marks, end_of, abort}
@@ -36,10 +36,15 @@ abbrev pub rollback : ℕ → Option ℕ → Block → Checked Outcome
 rollback who txid outside = answers NoTransaction
 rollback who txid _ = does_marks reply.TheVariants.Rollback (leaves false who txid)
 
+-- `open`: the session has the database open from then on
+abbrev pub open_db : ℕ → Bool → Checked Outcome
+open_db who true = Err AlreadyOpen
+open_db who false = does_marks reply.TheVariants.Done (connected who ∷ [])
+
 -- `close`: a block is rolled back
 abbrev pub close : ℕ → Option ℕ → Block → Checked Outcome
-close who txid outside = answers reply.TheVariants.Done
-close who txid _ = does_marks reply.TheVariants.Done (leaves false who txid)
+close who txid outside = does_marks reply.TheVariants.Done (disconnected who ∷ [])
+close who txid _ = does_marks reply.TheVariants.Done (leaves false who txid ++ disconnected who ∷ [])
 
 -- `cancel`: a session no longer waits, and its statement is refused
 abbrev pub cancel : ℕ → Option ℕ → Block → Bool → Checked Outcome

@@ -1,7 +1,7 @@
 //! The laws of the definitions: functions that do nothing, so that their contracts are proved.
 
 ghost use Rattle.sky_model.specs.LawsOfBatches.{BatchesAreConsecutive, BatchesListWhatStands, EqualIdsStay, EventsAreListedOnce, FinishedBatchesWereActive, IdsDontFall, ListingsStay};
-ghost use Rattle.sky_model.specs.LawsOfHistories.{HistoriesAreMadeByOwnCalls};
+ghost use Rattle.sky_model.specs.LawsOfHistories.{HistoriesAreMadeByOwnCalls, HomesAreOpen, WaitersHaveOpen, BlocksAreOpen};
 ghost use Rattle.sky_model.specs.LawsOfLines.{BadWordIsLeast, LinesAreInForm};
 ghost use Rattle.sky_model.specs.LawsOfLocks.{DeadlocksAreRings, HoldersHaveWritten, NothingIsReady, WritersHaveWritten};
 ghost use Rattle.sky_model.specs.LawsOfRows.{RowsAreReadUnderSnapshots};
@@ -24,6 +24,15 @@ pub fn lines_are_in_form()
 /// those are. So what holds of each history that calls of a database make holds of each database of the world.
 pub fn histories_are_made_by_own_calls()
     ensures { HistoriesAreMadeByOwnCalls }
+{}
+
+/// After calls of the world each session has open the database that is its home, and no other. At each place of
+/// each history that calls of a database make, a session that waits there, or is in a block, has the
+/// database open.
+pub fn homes_are_open()
+    ensures homes { HomesAreOpen }
+    ensures waiters { WaitersHaveOpen }
+    ensures blocks { BlocksAreOpen }
 {}
 
 /// At each place of each history that calls of a database make, the snapshot there sees exactly the transactions

@@ -1,4 +1,4 @@
-ghost use Rattle.std.specs.Prelude.{◌≡◌, ◌-◌, ◌^◌, ◌<◌, ◌↔◌, [], ◌∷◌, ◌++◌, length, IsTrue, IfOk, OnOk, OnErr};
+ghost use Rattle.std.specs.Prelude.{◌≡◌, ◌-◌, ◌^◌, ◌<◌, ◌↔◌, [], ◌∷◌, ◌++◌, length, true, Some, IsTrue, IfOk, OnOk, OnErr};
 ghost use Rattle.sky_names.specs.Places.{place_of, Distinct};
 
 use indexmap::IndexSet;
@@ -6,10 +6,16 @@ use sky_val::{NoMemory, Text};
 use std::alloc::Global;
 use std::marker::Model;
 
+/// How many hints there are; a power of two.
+const HINTS: usize = 512;
+
 /// Distinct names in order, each with its place as its number.
 #[derive(Drop)]
 pub struct Names {
     texts: IndexSet<Text>,
+    // Where a name's bytes lead to, the number of the last name that they lead there. It is looked at first, in place of
+    // the set, and tells nothing of any other name.
+    hints: [u32; HINTS],
 }
 
 impl Model for Names {
@@ -29,6 +35,7 @@ impl Names {
     {
         Names {
             texts: IndexSet::new(alloc),
+            hints: [0; HINTS],
         }
     }
 
@@ -36,8 +43,22 @@ impl Names {
     pub fn number(&self, name: &Text) -> Option<u32>
         ensures { result ≡ place_of name.now self.now }
     {
+        let hint = self.hints[hint_place(name.bytes())];
+        if self.stands_at(hint as usize, name) {
+            return Some(hint);
+        }
         let place = self.texts.get_index_of(name)?;
         Some(place as u32)
+    }
+
+    /// Whether the name stands at this place.
+    fn stands_at(&self, place: usize, name: &Text) -> bool
+        ensures { result ≡ true → place_of name.now self.now ≡ Some place }
+    {
+        match self.as_slice().get(place) {
+            Some(there) => there == name,
+            None => false,
+        }
     }
 
     /// Puts a new name at the end, and gives its number.
@@ -49,7 +70,9 @@ impl Names {
         ensures err { OnErr result (self.new ≡ self.old) }
     {
         let number = self.texts.len() as u32;
+        let place = hint_place(name.bytes());
         self.texts.insert(name)?;
+        self.hints[place] = number;
         Ok(number)
     }
 
@@ -75,4 +98,16 @@ impl Names {
     {
         self.texts.as_slice()
     }
+}
+
+/// Where the bytes of a name lead to among the hints.
+#[inline(never)]
+fn hint_place(name: &[u8]) -> usize
+    ensures { result < 512 }
+{
+    let mut sum: usize = 0;
+    for byte in name {
+        sum = sum.wrapping_mul(31).wrapping_add(*byte as usize);
+    }
+    sum % HINTS
 }

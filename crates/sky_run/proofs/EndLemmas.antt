@@ -11,9 +11,9 @@ use Rattle.sky_model.specs.World.{World}
 use Rattle.sky_model.specs.Calls.{past_of}
 use Rattle.sky_model.proofs.Splitting.{IsUnbroken}
 use Rattle.sky_model.proofs.Scripts.{StopsHere, transcript_from-unbroken, said-fits, said-too_late, stops_at_line, stops_unended, stops_too_long}
-use Rattle.sky_script.specs.declared.reader.LineFault.{LineFault}
-use Rattle.sky_script.specs.declared.reader.LineFault.TheVariants as faults
-use Rattle.sky_script.specs.Reader.{Reader, TakesLine, EndsLines, StartsTooLong, IsTruncated, EndsTooLate, StartsBad, Kept}
+use Rattle.sky_lines.specs.declared.reader.LineFault.{LineFault}
+use Rattle.sky_lines.specs.declared.reader.LineFault.TheVariants as faults
+use Rattle.sky_lines.specs.Reader.{Reader, TakesLine, EndsLines, StartsTooLong, IsTruncated, EndsTooLate, StartsBad, Kept}
 use Rattle.sky_run.specs.declared.end.End.{End}
 use Rattle.sky_run.specs.declared.end.End.TheVariants.{Whole, Bad, Read, Write, NoMemory}
 use Rattle.sky_run.specs.Running.{GoesOn, said_in}

@@ -12,7 +12,7 @@ use Rattle.sky_model.specs.Calls.{Call, past_of, after}
 use Rattle.sky_model.specs.Steps.{IsCallInForm}
 use Rattle.sky_model.proofs.Splitting.{IsUnbroken}
 use Rattle.sky_model.proofs.Scripts.{transcript_from-asks, transcript_from-idle, bad_line_from-asks, bad_line_from-idle, said-fits}
-use Rattle.sky_script.specs.Reader.{Reader, TakesLine}
+use Rattle.sky_lines.specs.Reader.{Reader, TakesLine}
 use Rattle.sky_world.specs.Seen.{seen_world}
 use Rattle.sky_run.specs.declared.run.Run.{Run}
 use Rattle.sky_run.specs.Running.{GoesOn, said_in, Called, Answers}

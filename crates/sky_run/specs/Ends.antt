@@ -4,8 +4,8 @@ use Rattle.std.specs.Io.KnownBytes.{Appends}
 use Rattle.sky_model.specs.declared.line.Cause.{Cause}
 use Rattle.sky_model.specs.declared.line.Cause.TheVariants as causes
 use Rattle.sky_model.specs.Transcript.{Said, bad, transcript, bad_line}
-use Rattle.sky_script.specs.declared.reader.LineFault.{LineFault}
-use Rattle.sky_script.specs.declared.reader.LineFault.TheVariants as faults
+use Rattle.sky_lines.specs.declared.reader.LineFault.{LineFault}
+use Rattle.sky_lines.specs.declared.reader.LineFault.TheVariants as faults
 use Rattle.sky_script.specs.declared.cause.LineCause.{LineCause}
 use Rattle.sky_script.specs.declared.cause.LineCause.TheVariants as line_causes
 use Rattle.sky_run.specs.declared.end.End.{End}

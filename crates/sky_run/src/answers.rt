@@ -2,7 +2,7 @@ ghost use Rattle.std.specs.Prelude.{◌≡◌, [], ◌∷◌, ◌++◌, ◌<◌,
 ghost use Rattle.sky_model.specs.Printed.{printed, sessions_in, AllNamed, HaveMoments};
 
 use sky_model::{Refusal, Replies, Reply};
-use sky_script::print_replies;
+use sky_print::print_replies;
 use sky_val::{NoMemory, SessionId, Text};
 use std::alloc::Global;
 

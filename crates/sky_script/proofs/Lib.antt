@@ -3,10 +3,3 @@ pub mod KindLemmas
 pub mod ReadingLemmas
 pub mod ListLemmas
 pub mod TextLemmas
-pub mod DayLemmas
-pub mod Doubling
-pub mod MomentLemmas
-pub mod Printing
-pub mod FeedLemmas
-pub mod GrowsLemmas
-pub mod ReaderLemmas

@@ -1,15 +1,5 @@
-pub mod SessionLists
-pub mod AttemptLists
-pub mod WriterBits
-pub mod Owning
-pub mod WaitLemmas
 pub mod Steps
 pub mod LockLemmas
-pub mod ValueLemmas
-pub mod SetLemmas
-pub mod FaultLemmas
 pub mod FormLemmas
 pub mod WrittenLemmas
-pub mod AloneLemmas
-pub mod ScanLemmas
-pub mod Empty
+pub use Rattle.sky_state.proofs.Empty

@@ -1,18 +1,15 @@
 -- Writes that wait, or are refused where they would wait for ever, and those that go on.
-use Rattle.std.proofs.Common.{◌≡◌, ℕ, ◌<◌, List, [], ◌∷◌, ◌++◌, true, Option, Some, None, Ok, Err, Result, length, option_map, refl, sym, ◌∙◌, ap, subst, append_assoc, append-nil}
+use Rattle.std.proofs.Common.{◌≡◌, ℕ, ◌<◌, List, [], ◌∷◌, ◌++◌, true, Option, Some, None, Ok, Err, Result, length, refl, sym, ◌∙◌, ap, subst, append_assoc, append-nil}
 use Rattle.sky_val.specs.declared.val.Val.{Val}
-use Rattle.sky_val.specs.Waits.{Waiting, waits_for, without, LeadsBack, way_back, is_waiting}
-use Rattle.sky_val.proofs.WaitLemmas.{leads_back, way_found}
-use Rattle.sky_locks.specs.Locks.{LocksView, holder}
+use Rattle.sky_val.specs.Waits.{Waiting, is_waiting}
 use Rattle.sky_model.specs.declared.stmt.Attempt.{Attempt}
-use Rattle.sky_model.specs.declared.stmt.Attempt.TheVariants.{Deletion}
-use Rattle.sky_model.specs.declared.reply.Reply.TheVariants.{Waits, Refused}
-use Rattle.sky_model.specs.declared.reply.Refusal.TheVariants.{Canceled, Deadlock}
-use Rattle.sky_model.specs.History.{tabled, waits, waited}
+use Rattle.sky_model.specs.declared.reply.Reply.TheVariants.{Refused}
+use Rattle.sky_model.specs.declared.reply.Refusal.TheVariants.{Canceled}
+use Rattle.sky_model.specs.History.{tabled, waited}
 use Rattle.sky_model.specs.Sessions.{Block, outside, inside, failed}
-use Rattle.sky_model.specs.State.{RowPart, changed_at, after_part, after_part_marks}
-use Rattle.sky_model.specs.Outcome.{Outcome, Checked, ◌>>◌, refused_by, does_marks, abort}
-use Rattle.sky_model.specs.StepLocks.{ring, blocked, once_free}
+use Rattle.sky_model.specs.State.{RowPart, after_part, after_part_marks}
+use Rattle.sky_model.specs.Outcome.{Outcome, Checked, abort}
+use Rattle.sky_model.specs.StepLocks.{blocked, once_free}
 use Rattle.sky_model.specs.StepSession.{cancel}
 use Rattle.sky_model.specs.Reader.{PartReader, part_by_itself}
 use Rattle.sky_model.specs.Gates.{Gate, passed_all, gated, by_gate}
@@ -26,53 +23,9 @@ use Rattle.sky_model.specs.declared.stop.Stop.TheVariants as stop
 use Rattle.sky_session.specs.declared.effect.Effect.{Effect}
 use Rattle.sky_session.specs.Effects.{effects_of}
 use Rattle.sky_model.specs.SessionMarks.{failure}
-use Rattle.sky_session.specs.Views.{RowDbView}
-use Rattle.sky_session.specs.Seen.{attempt_of, seen}
+use Rattle.sky_state.specs.Views.{RowStateView}
 use Rattle.sky_session.specs.Gives.{GivesTurn, GivesOutcome, Adds, Does, Ran, Passes}
-use Rattle.sky_model.specs.Stops.{Refuses}
 use Rattle.sky_session.proofs.Steps.{after-append, effects-append}
-
--- where no way leads back there is no ring
-ring-none : (d : RowPart) (who holder : ℕ) → ((way : List ℕ) → LeadsBack (waits_for d.holder d.waiting) who holder way → ⊥) → ring d who holder ≡ None
-ring-none d who holder apart = of (way_back (waits_for d.holder d.waiting) who (length d.waiting) holder) refl
-  where
-    of : (o : Option (List ℕ)) → way_back (waits_for d.holder d.waiting) who (length d.waiting) holder ≡ o → option_map (λ way. who ∷ way) o ≡ None
-    of None e = refl
-    of (Some way) e = absurd (apart way (leads_back (waits_for d.holder d.waiting) who (length d.waiting) holder way e))
-
--- where the locks are as they were nothing has changed
-pub kept-as : (v now : RowDbView) (locks : LocksView) → v ≡ now → locks ≡ v.locks → seen (record v { locks = locks }) ≡ seen now
-kept-as v now locks same kept = ap (λ l. seen (record v { locks = l })) kept ∙ ap seen same
-
--- a session that waits is one more in the list
-pub wait-as : (v now : RowDbView) (locks : LocksView) (attempts : List Attempt) (who table : ℕ) (key : List Val) (attempt : Attempt) → v ≡ now → holder locks ≡ holder v.locks
-    → locks.waiting ≡ v.locks.waiting ++ record { who = who; table = table; key = key } ∷ [] → attempt_of attempts ≡ changed_at who (λ _. attempt) (attempt_of v.attempts)
-    → seen (record v { locks = locks; attempts = attempts }) ≡ after_part (seen now) (tabled (waits who table key attempt))
-wait-as v now locks attempts who table key attempt same keys more due =
-    (λ i. record (seen v) { holder = keys i; waiting = more i; attempt = due i })
-    ∙ ap (λ (w : RowDbView). after_part (seen w) (tabled (waits who table key attempt))) same
-
--- and one that waits no longer is none of it
-pub waited-as : (v now : RowDbView) (locks : LocksView) (attempts : List Attempt) (who : ℕ) → v ≡ now → holder locks ≡ holder v.locks → locks.waiting ≡ without who v.locks.waiting
-    → attempt_of attempts ≡ changed_at who (λ _. Deletion) (attempt_of v.attempts) → seen (record v { locks = locks; attempts = attempts }) ≡ after_part (seen now) (tabled (waited who))
-waited-as v now locks attempts who same keys less done =
-    (λ i. record (seen v) { holder = keys i; waiting = less i; attempt = done i }) ∙ ap (λ (w : RowDbView). after_part (seen w) (tabled (waited who))) same
-
-pub does-wait : (d new : RowPart) (answer : Answer) (who table : ℕ) (key : List Val) (attempt : Attempt) (holder : ℕ)
-    → ((way : List ℕ) → LeadsBack (waits_for d.holder d.waiting) who holder way → ⊥) → answer.reply ≡ Waits holder → answer.effects ≡ []
-    → new ≡ after_part d (tabled (waits who table key attempt)) → Does d new answer (blocked d who table key attempt holder)
-does-wait d new answer who table key attempt holder apart replied silent changed =
-    subst (λ o. Does d new answer (refused_by (option_map Deadlock o) >> does_marks (Waits holder) (tabled (waits who table key attempt) ∷ []))) (sym (ring-none d who holder apart))
-    (record { accepted = ap (λ reply. Ok (record { reply = reply; marks = tabled (waits who table key attempt) ∷ [] })) (sym replied); told = silent; changed = changed })
-
-pub refuses-ring : (d new : RowPart) (who table : ℕ) (key : List Val) (attempt : Attempt) (holder : ℕ) (waiters way : List ℕ) → LeadsBack (waits_for d.holder d.waiting) who holder way
-    → waiters ≡ who ∷ way → new ≡ d → Refuses d new (Deadlock waiters) (blocked d who table key attempt holder)
-refuses-ring d new who table key attempt holder waiters way leads closed same = record {
-  refused = ap (λ o. refused_by (option_map Deadlock (option_map (λ rest. who ∷ rest) o)) >> does_marks (Waits holder) (tabled (waits who table key attempt) ∷ []))
-      (way_found d.holder d.waiting who holder way leads)
-      ∙ ap (λ ws. Err (Deadlock ws)) (sym closed);
-  same = same;
-}
 
 -- a write of a key that another session holds waits for it, and the gate stays as it is
 pub gated-waits : {G : Type 0} (gate : Gate G) (g : G) (d : RowPart) (who table : ℕ) (key : List Val) (attempt : Attempt) (other : Option ℕ) (holder : ℕ) (c : Checked Outcome) → other ≡ Some holder
@@ -80,7 +33,7 @@ pub gated-waits : {G : Type 0} (gate : Gate G) (g : G) (d : RowPart) (who table 
 gated-waits gate g d who table key attempt other holder c is =
     ap (λ o. gated gate g (once_free d who table key attempt o c)) is ∙ gated-blocked gate g d who table key attempt holder
 
-pub ran-waits : {G : Type 0} (gate : Gate G) (g : G) (old new : RowDbView) (result : Result Answer Stop) (d : RowPart) (who table : ℕ) (key : List Val) (made attempt : Attempt) (other : Option ℕ) (holder : ℕ)
+pub ran-waits : {G : Type 0} (gate : Gate G) (g : G) (old new : RowStateView) (result : Result Answer Stop) (d : RowPart) (who table : ℕ) (key : List Val) (made attempt : Attempt) (other : Option ℕ) (holder : ℕ)
     (c : Checked Outcome) → other ≡ Some holder → made ≡ attempt → Ran old new result (blocked d who table key made holder) → Ran old new result (gated gate g (once_free d who table key attempt other c))
 ran-waits gate g old new result d who table key made attempt other holder c is same ran =
     subst (Ran old new result) (sym (gated-waits gate g d who table key attempt other holder c is)) (subst (λ a. Ran old new result (blocked d who table key a holder)) same ran)

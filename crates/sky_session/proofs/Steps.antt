@@ -6,7 +6,7 @@ use Rattle.sky_model.specs.declared.stmt.RowStmt.{RowStmt}
 use Rattle.sky_model.specs.declared.stmt.Where.{Where}
 use Rattle.sky_model.specs.declared.stmt.Where.TheVariants.{WhenReading}
 use Rattle.sky_val.specs.Waits.{is_waiting}
-use Rattle.sky_model.specs.History.{Mark, began, ended, block_begun, repeats, looked, block_failed, block_ended, tabled, table_made, wrote, waits, waited, queued}
+use Rattle.sky_model.specs.History.{Mark, began, ended, block_begun, repeats, looked, block_failed, block_ended, connected, disconnected, tabled, table_made, wrote, waits, waited, queued}
 use Rattle.sky_model.specs.State.{RowPart, with_txid, after_part, after_part_marks}
 use Rattle.sky_model.specs.ShownRows.{rows_by}
 use Rattle.sky_model.specs.Outcome.{Outcome, Checked, ◌>>=◌, does_marks, abort, settled}
@@ -24,7 +24,7 @@ use Rattle.sky_session.specs.declared.answer.RowStep.{RowStep}
 use Rattle.sky_session.specs.declared.effect.Effect.{Effect}
 use Rattle.sky_session.specs.declared.effect.Effect.TheVariants.{Wrote, Committed, Aborted}
 use Rattle.sky_session.specs.Effects.{op_of, effects_of}
-use Rattle.sky_session.specs.Views.{RowDbView}
+use Rattle.sky_state.specs.Views.{RowStateView}
 use Rattle.sky_model.specs.declared.stop.Stop.{Stop}
 use Rattle.sky_model.specs.declared.stop.Stop.TheVariants as stop
 use Rattle.sky_model.specs.Sessions.{Block, outside, inside, failed}
@@ -95,7 +95,7 @@ pub entered : (d mid : RowPart) (who : ℕ) (place there : Where) (found r : Opt
 entered d mid who place there found r same is enters = subst (λ p. Enters d mid who p r) same (subst (λ o. Enters d mid who place o) is enters)
 
 -- a statement that its session may not make is refused
-pub gives-barred : {G : Type 0} (gate : Gate G) (g : G) (d mid new : RowPart) (answer : Answer) (who : ℕ) (stmt : RowStmt) (refusal : Refusal) → allowed (is_waiting who d.waiting) (d.session who).block (where_of_row stmt) ≡ Err refusal
+pub gives-barred : {G : Type 0} (gate : Gate G) (g : G) (d mid new : RowPart) (answer : Answer) (who : ℕ) (stmt : RowStmt) (refusal : Refusal) → allowed (is_waiting who d.waiting) (d.session who).is_open (d.session who).block (where_of_row stmt) ≡ Err refusal
     → mid ≡ d → GivesOutcome mid new answer (record { reply = Refused refusal; marks = abort who (mid.session who).block (mid.session who).txid refusal })
     → GivesOutcome d new answer (row_statement (by_gate gate part_by_itself) (d, g) who stmt)
 gives-barred gate g d mid new answer who stmt refusal is same gives =
@@ -117,7 +117,7 @@ passed-refused gate g g' d mid who refusal checked refuses same =
     same ∙ sym (ap (λ o. passed_all gate g (settled who (d.session who) o).marks) refuses.refused ∙ passed-abort gate g who (d.session who).block (d.session who).txid refusal)
 
 -- nor where its session may not make it
-pub passed-barred : {G : Type 0} (gate : Gate G) (g : G) (d : RowPart) (who : ℕ) (stmt : RowStmt) (refusal : Refusal) → allowed (is_waiting who d.waiting) (d.session who).block (where_of_row stmt) ≡ Err refusal
+pub passed-barred : {G : Type 0} (gate : Gate G) (g : G) (d : RowPart) (who : ℕ) (stmt : RowStmt) (refusal : Refusal) → allowed (is_waiting who d.waiting) (d.session who).is_open (d.session who).block (where_of_row stmt) ≡ Err refusal
     → g ≡ passed_all gate g (row_statement (by_gate gate part_by_itself) (d, g) who stmt).marks
 passed-barred gate g d who stmt refusal is =
     sym (ap (λ checked. passed_all gate g (runs_if (row_making (by_gate gate part_by_itself) who stmt) (where_of_row stmt) who (d, g) checked).marks) is
@@ -135,7 +135,7 @@ gives-done d new who answer checked does = record {
     marks = ap (λ o. (settled who (d.session who) o).marks) (sym does.accepted)
 
 -- a statement that is made where its sight was taken in front
-pub gives-made : {G : Type 0} (gate : Gate G) (g : G) (d mid new : RowPart) (answer : Answer) (who : ℕ) (stmt : RowStmt) → allowed (is_waiting who d.waiting) (d.session who).block (where_of_row stmt) ≡ Ok tt
+pub gives-made : {G : Type 0} (gate : Gate G) (g : G) (d mid new : RowPart) (answer : Answer) (who : ℕ) (stmt : RowStmt) → allowed (is_waiting who d.waiting) (d.session who).is_open (d.session who).block (where_of_row stmt) ≡ Ok tt
     → mid ≡ after_part_marks d (sight_marks d who (where_of_row stmt)) → GivesOutcome mid new answer (settled who (mid.session who) (gated gate g (row_form mid (rows_by mid) who stmt)))
     → GivesOutcome d new answer (row_statement (by_gate gate part_by_itself) (d, g) who stmt)
 gives-made {G} gate g d mid new answer who stmt is look gives =
@@ -154,7 +154,7 @@ gives-made {G} gate g d mid new answer who stmt is look gives =
     by false e = subst there e gives
 
 -- and its gate is told of what is done
-pub passed-made : {G : Type 0} (gate : Gate G) (g g' : G) (d mid : RowPart) (who : ℕ) (stmt : RowStmt) → allowed (is_waiting who d.waiting) (d.session who).block (where_of_row stmt) ≡ Ok tt
+pub passed-made : {G : Type 0} (gate : Gate G) (g g' : G) (d mid : RowPart) (who : ℕ) (stmt : RowStmt) → allowed (is_waiting who d.waiting) (d.session who).is_open (d.session who).block (where_of_row stmt) ≡ Ok tt
     → mid ≡ after_part_marks d (sight_marks d who (where_of_row stmt)) → g' ≡ passed_all gate g (settled who (mid.session who) (gated gate g (row_form mid (rows_by mid) who stmt))).marks
     → g' ≡ passed_all gate g (row_statement (by_gate gate part_by_itself) (d, g) who stmt).marks
 passed-made {G} gate g g' d mid who stmt is look told =
@@ -173,7 +173,7 @@ passed-made {G} gate g g' d mid who stmt is look told =
     by false e = subst there e told
 
 -- what writes nothing is done as without the gate
-pub ran-plain : {G : Type 0} (gate : Gate G) (g : G) (old new : RowDbView) (result : Result Answer Stop) (checked : Checked Outcome) → PlainOutcome checked → Ran old new result checked → Ran old new result (gated gate g checked)
+pub ran-plain : {G : Type 0} (gate : Gate G) (g : G) (old new : RowStateView) (result : Result Answer Stop) (checked : Checked Outcome) → PlainOutcome checked → Ran old new result checked → Ran old new result (gated gate g checked)
 ran-plain gate g old new result checked plain ran = subst (Ran old new result) (sym (gated-none gate g checked plain)) ran
 
 -- which is told of nothing
@@ -186,16 +186,16 @@ passes-plain gate g result checked plain = subst (Passes gate g g result) (sym (
     of (Err stop.NoMemory) = tt
 
 -- a statement that reads is made by a session that doesn't wait
-pub awake-made : (d mid : RowPart) (who : ℕ) (place : Where) → allowed (is_waiting who d.waiting) (d.session who).block place ≡ Ok tt → mid ≡ after_part_marks d (sight_marks d who place)
+pub awake-made : (d mid : RowPart) (who : ℕ) (place : Where) → allowed (is_waiting who d.waiting) (d.session who).is_open (d.session who).block place ≡ Ok tt → mid ≡ after_part_marks d (sight_marks d who place)
     → place ≡ WhenReading → is_waiting who mid.waiting ≡ false
 awake-made d mid who place may look reads =
-    ap (λ (p : RowPart). is_waiting who p.waiting) look ∙ same (takes_sight place (d.session who).sight) ∙ awake (is_waiting who d.waiting) refl (subst (λ p. allowed (is_waiting who d.waiting) (d.session who).block p ≡ Ok tt) reads may)
+    ap (λ (p : RowPart). is_waiting who p.waiting) look ∙ same (takes_sight place (d.session who).sight) ∙ awake (is_waiting who d.waiting) refl (subst (λ p. allowed (is_waiting who d.waiting) (d.session who).is_open (d.session who).block p ≡ Ok tt) reads may)
   where
     same : (b : Bool) → is_waiting who (after_part_marks d (look_of who b)).waiting ≡ is_waiting who d.waiting
     same true = refl
     same false = refl
 
-    awake : (b : Bool) → is_waiting who d.waiting ≡ b → allowed b (d.session who).block WhenReading ≡ Ok tt → is_waiting who d.waiting ≡ false
+    awake : (b : Bool) → is_waiting who d.waiting ≡ b → allowed b (d.session who).is_open (d.session who).block WhenReading ≡ Ok tt → is_waiting who d.waiting ≡ false
     awake true is may = absurd (cc)
     awake false is may = is
 
@@ -210,6 +210,8 @@ effects-append (repeats who ∷ xs) ys = effects-append xs ys
 effects-append (looked who ∷ xs) ys = effects-append xs ys
 effects-append (block_failed who ∷ xs) ys = effects-append xs ys
 effects-append (block_ended who ∷ xs) ys = effects-append xs ys
+effects-append (connected who ∷ xs) ys = effects-append xs ys
+effects-append (disconnected who ∷ xs) ys = effects-append xs ys
 effects-append (tabled (table_made name columns) ∷ xs) ys = effects-append xs ys
 effects-append (tabled (wrote who t table key old new) ∷ xs) ys = ap (λ es. Wrote t table (op_of old new) old new ∷ es) (effects-append xs ys)
 effects-append (tabled (waits who table key attempt) ∷ xs) ys = effects-append xs ys

@@ -1,7 +1,6 @@
 -- What a method of the code gives, by what the database showed.
 use Rattle.std.specs.Prelude.{◌≡◌, ℕ, List, ◌++◌, Result, Ok, Err}
 use Rattle.sky_model.specs.declared.reply.Reply.{Reply}
-use Rattle.sky_model.specs.declared.reply.Refusal.{Refusal}
 use Rattle.sky_model.specs.History.{Mark}
 use Rattle.sky_model.specs.State.{RowPart, after_part_marks}
 use Rattle.sky_model.specs.declared.stop.Stop.{Stop}
@@ -13,8 +12,8 @@ use Rattle.sky_model.specs.Settling.{Turn}
 use Rattle.sky_session.specs.declared.answer.Answer.{Answer}
 use Rattle.sky_session.specs.declared.answer.RowStep.{RowStep}
 use Rattle.sky_session.specs.Effects.{effects_of}
-use Rattle.sky_session.specs.Views.{RowDbView}
-use Rattle.sky_session.specs.Seen.{seen}
+use Rattle.sky_state.specs.Views.{RowStateView}
+use Rattle.sky_state.specs.Seen.{seen}
 
 -- these are the replies, the effects are those of the marks, and the database is then as after them
 pub record GivesStep (old new : RowPart) (step : RowStep) (replies : List (ℕ × Reply)) (marks : List Mark) : Type 0 where
@@ -46,7 +45,7 @@ pub record Does (old new : RowPart) (answer : Answer) (checked : Checked Outcome
   pub changed : new ≡ after_part_marks old (marks_of checked)
 
 -- a statement was run: it does what its definition says, or is refused as it says
-abbrev pub Ran : RowDbView → RowDbView → Result Answer Stop → Checked Outcome → Type 0
+abbrev pub Ran : RowStateView → RowStateView → Result Answer Stop → Checked Outcome → Type 0
 Ran old new (Ok answer) checked = Does (seen old) (seen new) answer checked
 Ran old new (Err stop) checked = Stops stop (seen old) (seen new) checked
 

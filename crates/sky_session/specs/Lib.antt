@@ -1,5 +1,4 @@
-pub mod Views
-pub mod Seen
-pub mod Owned
 pub mod Effects
 pub mod Gives
+pub use Rattle.sky_state.specs.Views
+pub use Rattle.sky_state.specs.Seen

@@ -8,24 +8,15 @@
 //! `settle_with`. Nothing here knows a queue, a name of a session, or a byte of a script.
 #![tactic(auto)]
 
-mod allowed;
 mod answer;
-mod attempts;
-mod block;
 mod effect;
 mod gate;
-mod key_shown;
 mod locking;
-mod marks;
 mod own_transaction;
 mod row_db;
 mod row_statements;
-mod session;
-mod sessions;
 mod settling;
 mod statements;
-mod values;
-mod writers;
 
 pub use answer::RowStep;
 pub use effect::{Effect, Effects};

@@ -8,148 +8,129 @@ ghost use Rattle.sky_model.specs.Gates.{gated};
 ghost use Rattle.sky_model.specs.StepLocks.{blocked};
 ghost use Rattle.sky_model.specs.StepRows.{attempts};
 ghost use Rattle.sky_session.specs.Gives.{Ran, Passes};
-ghost use Rattle.sky_session.specs.Seen.{seen};
+ghost use Rattle.sky_state.specs.Seen.{seen};
 
 use crate::answer::Answer;
 use crate::gate::WriteGate;
-use crate::row_db::RowDb;
-use crate::values::with_sets;
-use sky_locks::{LockKey, Taken};
-use sky_model::{Attempt, Refusal, Reply, Sets, Stop, Waiters};
+use crate::row_statements::{check_seen, write_key};
+use sky_fits::with_sets;
+use sky_locks::LockKey;
+use sky_model::{Attempt, Refusal, Reply, Sets, Stop};
+use sky_state::RowState;
 use sky_val::{Row, SessionId};
 
-impl RowDb {
-    /// The session that holds the key, where it is another.
-    fn other_holder(&self, who: SessionId, key: &LockKey) -> Option<SessionId>
-        ensures { result ≡ other_holder (seen self.now).holder who key.now.table key.now.key }
-    {
-        let holder = self.locks.holder(key)?;
-        if holder == who {
-            return None;
-        }
-        Some(holder)
+/// The session waits for the holder of the key, or is refused where it would wait for itself.
+fn wait(
+    state: &mut RowState,
+    who: SessionId,
+    key: &LockKey,
+    attempt: Attempt,
+    holder: SessionId,
+) -> Result<Answer, Stop>
+    requires within { key.now.table < length (seen state.old).tables }
+    requires held { other_holder (seen state.old).holder who key.now.table key.now.key ≡ Some holder }
+    requires awake { is_waiting who (seen state.old).waiting ≡ false }
+    ensures { Ran state.old state.new result (blocked (seen state.old) who key.now.table key.now.key attempt holder) }
+{
+    match state.waits(who, key, attempt)? {
+        None => Ok(Answer::only(state.alloc(), Reply::Waits(holder))),
+        Some(ring) => Err(Stop::Refused(Refusal::Deadlock(ring))),
     }
+}
 
-    /// The session waits for the holder of the key, or is refused where it would wait for itself.
-    fn wait(
-        &mut self,
-        who: SessionId,
-        key: &LockKey,
-        attempt: Attempt,
-        holder: SessionId,
-    ) -> Result<Answer, Stop>
-        requires within { key.now.table < length (seen self.old).tables }
-        requires held { other_holder (seen self.old).holder who key.now.table key.now.key ≡ Some holder }
-        requires awake { is_waiting who (seen self.old).waiting ≡ false }
-        ensures { Ran self.old self.new result (blocked (seen self.old) who key.now.table key.now.key attempt holder) }
-    {
-        match self.locks.try_key(who, key)? {
-            Taken::Got => unreachable!(),
-            Taken::Waits(_) => {
-                self.attempts.set(who, attempt)?;
-                Ok(Answer::only(self.alloc, Reply::Waits(holder)))
-            }
-            Taken::Cycle(ring) => {
-                let waiters = Waiters::new(ring.into_sessions());
-                Err(Stop::Refused(Refusal::Deadlock(waiters)))
-            }
-        }
+/// Puts the row at the key.
+pub fn insert_key<G: WriteGate>(
+    state: &mut RowState,
+    who: SessionId,
+    key: LockKey,
+    row: &Row,
+    gate: &mut G,
+) -> Result<Answer, Stop>
+    requires within { key.table < length (seen state.old).tables }
+    requires awake { is_waiting who (seen state.old).waiting ≡ false }
+    ensures ran { Ran state.old state.new result (gated G.rule gate.old (attempts (seen state.old) ((rows_by (seen state.old)).key who key.table key.key) who key.table key.key (Insertion row.now))) }
+    ensures passes { Passes G.rule gate.old gate.new result (gated G.rule gate.old (attempts (seen state.old) ((rows_by (seen state.old)).key who key.table key.key) who key.table key.key (Insertion row.now))) }
+{
+    if let Some(holder) = state.other_holder(who, &key) {
+        let attempt = Attempt::Insertion(row.copy(state.alloc())?);
+        return wait(state, who, &key, attempt, holder);
     }
-
-    /// Puts the row at the key.
-    pub(crate) fn insert_key<G: WriteGate>(
-        &mut self,
-        who: SessionId,
-        key: LockKey,
-        row: &Row,
-        gate: &mut G,
-    ) -> Result<Answer, Stop>
-        requires within { key.table < length (seen self.old).tables }
-        requires awake { is_waiting who (seen self.old).waiting ≡ false }
-        ensures ran { Ran self.old self.new result (gated G.rule gate.old (attempts (seen self.old) ((rows_by (seen self.old)).key who key.table key.key) who key.table key.key (Insertion row.now))) }
-        ensures passes { Passes G.rule gate.old gate.new result (gated G.rule gate.old (attempts (seen self.old) ((rows_by (seen self.old)).key who key.table key.key) who key.table key.key (Insertion row.now))) }
-    {
-        if let Some(holder) = self.other_holder(who, &key) {
-            let attempt = Attempt::Insertion(row.copy(self.alloc)?);
-            return self.wait(who, &key, attempt, holder);
-        }
-        let now = self.snapshot_now()?;
-        if self.has_standing(who, key.table, &key.key, &now) {
-            return Err(Stop::Refused(Refusal::Duplicate));
-        }
-        let row = row.copy(self.alloc)?;
-        self.write_key(who, key, None, Some(row), gate)
+    let now = state.snapshot_now()?;
+    if state.has_standing(who, key.table, &key.key, &now) {
+        return Err(Stop::Refused(Refusal::Duplicate));
     }
+    let row = row.copy(state.alloc())?;
+    write_key(state, who, key, None, Some(row), gate)
+}
 
-    /// Makes the changes in the row that the session is shown at the key; where there is none, it changes none.
-    pub(crate) fn change_key<G: WriteGate>(
-        &mut self,
-        who: SessionId,
-        key: LockKey,
-        sets: &Sets,
-        gate: &mut G,
-    ) -> Result<Answer, Stop>
-        requires within { key.table < length (seen self.old).tables }
-        requires awake { is_waiting who (seen self.old).waiting ≡ false }
-        ensures ran { Ran self.old self.new result (gated G.rule gate.old (attempts (seen self.old) ((rows_by (seen self.old)).key who key.table key.key) who key.table key.key (Changes sets.now))) }
-        ensures passes { Passes G.rule gate.old gate.new result (gated G.rule gate.old (attempts (seen self.old) ((rows_by (seen self.old)).key who key.table key.key) who key.table key.key (Changes sets.now))) }
-    {
-        let now = self.snapshot_now()?;
-        let Some(old) = self.row_shown(who, key.table, &key.key, &now) else {
-            return Ok(Answer::only(self.alloc, Reply::Number(0)));
-        };
-        if let Some(holder) = self.other_holder(who, &key) {
-            let attempt = Attempt::Changes(sets.copy(self.alloc)?);
-            return self.wait(who, &key, attempt, holder);
-        }
-        self.check_seen(who, key.table, &key.key, &now)?;
-        let columns = self.table_at(key.table).schema().columns();
-        let new = with_sets(self.alloc, columns, sets.as_slice(), old)?;
-        let old = old.copy(self.alloc)?;
-        self.write_key(who, key, Some(old), Some(new), gate)
+/// Makes the changes in the row that the session is shown at the key; where there is none, it changes none.
+pub fn change_key<G: WriteGate>(
+    state: &mut RowState,
+    who: SessionId,
+    key: LockKey,
+    sets: &Sets,
+    gate: &mut G,
+) -> Result<Answer, Stop>
+    requires within { key.table < length (seen state.old).tables }
+    requires awake { is_waiting who (seen state.old).waiting ≡ false }
+    ensures ran { Ran state.old state.new result (gated G.rule gate.old (attempts (seen state.old) ((rows_by (seen state.old)).key who key.table key.key) who key.table key.key (Changes sets.now))) }
+    ensures passes { Passes G.rule gate.old gate.new result (gated G.rule gate.old (attempts (seen state.old) ((rows_by (seen state.old)).key who key.table key.key) who key.table key.key (Changes sets.now))) }
+{
+    let now = state.snapshot_now()?;
+    let Some(old) = state.row_shown(who, key.table, &key.key, &now) else {
+        return Ok(Answer::only(state.alloc(), Reply::Number(0)));
+    };
+    if let Some(holder) = state.other_holder(who, &key) {
+        let attempt = Attempt::Changes(sets.copy(state.alloc())?);
+        return wait(state, who, &key, attempt, holder);
     }
+    check_seen(state, who, key.table, &key.key, &now)?;
+    let columns = state.schema(key.table).columns();
+    let new = with_sets(state.alloc(), columns, sets.as_slice(), old)?;
+    let old = old.copy(state.alloc())?;
+    write_key(state, who, key, Some(old), Some(new), gate)
+}
 
-    /// Deletes the row that the session is shown at the key; where there is none, it deletes none.
-    pub(crate) fn delete_key<G: WriteGate>(
-        &mut self,
-        who: SessionId,
-        key: LockKey,
-        gate: &mut G,
-    ) -> Result<Answer, Stop>
-        requires within { key.table < length (seen self.old).tables }
-        requires awake { is_waiting who (seen self.old).waiting ≡ false }
-        ensures ran { Ran self.old self.new result (gated G.rule gate.old (attempts (seen self.old) ((rows_by (seen self.old)).key who key.table key.key) who key.table key.key Deletion)) }
-        ensures passes { Passes G.rule gate.old gate.new result (gated G.rule gate.old (attempts (seen self.old) ((rows_by (seen self.old)).key who key.table key.key) who key.table key.key Deletion)) }
-    {
-        let now = self.snapshot_now()?;
-        let Some(old) = self.row_shown(who, key.table, &key.key, &now) else {
-            return Ok(Answer::only(self.alloc, Reply::Number(0)));
-        };
-        if let Some(holder) = self.other_holder(who, &key) {
-            return self.wait(who, &key, Attempt::Deletion, holder);
-        }
-        self.check_seen(who, key.table, &key.key, &now)?;
-        let old = old.copy(self.alloc)?;
-        self.write_key(who, key, Some(old), None, gate)
+/// Deletes the row that the session is shown at the key; where there is none, it deletes none.
+pub fn delete_key<G: WriteGate>(
+    state: &mut RowState,
+    who: SessionId,
+    key: LockKey,
+    gate: &mut G,
+) -> Result<Answer, Stop>
+    requires within { key.table < length (seen state.old).tables }
+    requires awake { is_waiting who (seen state.old).waiting ≡ false }
+    ensures ran { Ran state.old state.new result (gated G.rule gate.old (attempts (seen state.old) ((rows_by (seen state.old)).key who key.table key.key) who key.table key.key Deletion)) }
+    ensures passes { Passes G.rule gate.old gate.new result (gated G.rule gate.old (attempts (seen state.old) ((rows_by (seen state.old)).key who key.table key.key) who key.table key.key Deletion)) }
+{
+    let now = state.snapshot_now()?;
+    let Some(old) = state.row_shown(who, key.table, &key.key, &now) else {
+        return Ok(Answer::only(state.alloc(), Reply::Number(0)));
+    };
+    if let Some(holder) = state.other_holder(who, &key) {
+        return wait(state, who, &key, Attempt::Deletion, holder);
     }
+    check_seen(state, who, key.table, &key.key, &now)?;
+    let old = old.copy(state.alloc())?;
+    write_key(state, who, key, Some(old), None, gate)
+}
 
-    /// What the session attempts with the key.
-    pub(crate) fn attempt_key<G: WriteGate>(
-        &mut self,
-        who: SessionId,
-        key: LockKey,
-        attempt: &Attempt,
-        gate: &mut G,
-    ) -> Result<Answer, Stop>
-        requires within { key.table < length (seen self.old).tables }
-        requires awake { is_waiting who (seen self.old).waiting ≡ false }
-        ensures ran { Ran self.old self.new result (gated G.rule gate.old (attempts (seen self.old) ((rows_by (seen self.old)).key who key.table key.key) who key.table key.key attempt.now)) }
-        ensures passes { Passes G.rule gate.old gate.new result (gated G.rule gate.old (attempts (seen self.old) ((rows_by (seen self.old)).key who key.table key.key) who key.table key.key attempt.now)) }
-    {
-        match attempt {
-            Attempt::Insertion(row) => self.insert_key(who, key, row, gate),
-            Attempt::Changes(sets) => self.change_key(who, key, sets, gate),
-            Attempt::Deletion => self.delete_key(who, key, gate),
-        }
+/// What the session attempts with the key.
+pub fn attempt_key<G: WriteGate>(
+    state: &mut RowState,
+    who: SessionId,
+    key: LockKey,
+    attempt: &Attempt,
+    gate: &mut G,
+) -> Result<Answer, Stop>
+    requires within { key.table < length (seen state.old).tables }
+    requires awake { is_waiting who (seen state.old).waiting ≡ false }
+    ensures ran { Ran state.old state.new result (gated G.rule gate.old (attempts (seen state.old) ((rows_by (seen state.old)).key who key.table key.key) who key.table key.key attempt.now)) }
+    ensures passes { Passes G.rule gate.old gate.new result (gated G.rule gate.old (attempts (seen state.old) ((rows_by (seen state.old)).key who key.table key.key) who key.table key.key attempt.now)) }
+{
+    match attempt {
+        Attempt::Insertion(row) => insert_key(state, who, key, row, gate),
+        Attempt::Changes(sets) => change_key(state, who, key, sets, gate),
+        Attempt::Deletion => delete_key(state, who, key, gate),
     }
 }

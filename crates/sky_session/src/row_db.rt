@@ -1,37 +1,34 @@
-ghost use Rattle.std.specs.Prelude.{◌≡◌, ◌↔◌, ◌<◌, ◌≢◌, [], ◌∷◌, true, false, not, ◌==◌, if◌then◌else◌, None, Some, Ok, Err, IfOk, OnOk, OnErr, MatchOption, IsTrue, is_ok, length, unwrap_or};
-ghost use Rattle.std.specs.Option.{option_copied};
-ghost use Rattle.sky_txid.specs.Snapshot.{SnapshotView};
+ghost use Rattle.std.specs.Prelude.{◌≡◌, ◌↔◌, ◌≢◌, [], ◌∷◌, None, Some, Ok, Err, IfOk, OnOk, OnErr, MatchOption, IsTrue, is_ok};
 ghost use Rattle.sky_val.specs.Waits.{is_waiting};
 ghost use Rattle.sky_names.specs.Places.{place_of};
-ghost use Rattle.sky_model.specs.declared.stmt.Where.TheVariants.{WhenReading};
 ghost use Rattle.sky_model.specs.declared.reply.Refusal.TheVariants.{TxidsSpent};
-ghost use Rattle.sky_model.specs.Sessions.{outside, inside, place_of_sight};
+ghost use Rattle.sky_model.specs.InForm.{IsRowInForm};
+ghost use Rattle.sky_model.specs.Sessions.{outside};
 ghost use Rattle.sky_model.specs.State.{part_of, after_part_marks};
 ghost use Rattle.sky_model.specs.ShownRows.{snapshot_now, snapshot_for, least_writer};
-ghost use Rattle.sky_model.specs.Made.{takes_sight};
 ghost use Rattle.sky_model.specs.OwnTransaction.{txid_for, begin_of};
 ghost use Rattle.sky_model.specs.SessionMarks.{Enters, entry, entry_place, failing, taking, ending};
 ghost use Rattle.sky_model.specs.Reader.{part_by_itself};
 ghost use Rattle.sky_model.specs.Gates.{by_gate, passed_all};
 ghost use Rattle.sky_model.specs.Rooms.{any_room, room_of};
-ghost use Rattle.sky_model.specs.RowCalls.{row_entered, row_failed, row_settled, txid_taken, single_ended};
+ghost use Rattle.sky_model.specs.Calls.{row_turn};
+ghost use Rattle.sky_model.specs.RowCalls.{row_stepped, row_entered, row_failed, row_settled, rolled_back, txid_taken, single_ended};
 ghost use Rattle.sky_model.specs.RowSteps.{RowSteps};
 ghost use Rattle.sky_model.specs.Settling.{ready, settling, with_settling};
+ghost use Rattle.sky_session.specs.Effects.{effects_of};
 ghost use Rattle.sky_session.specs.Gives.{GivesTurn};
-ghost use Rattle.sky_session.specs.Seen.{seen, seen_block};
+ghost use Rattle.sky_state.specs.Seen.{seen};
 
 use crate::answer::RowStep;
-use crate::attempts::Attempts;
-use crate::block::Block;
-use crate::effect::{Effect, Effects};
+use crate::effect::Effects;
 use crate::gate::{OpenGate, WriteGate};
-use crate::sessions::Sessions;
-use crate::writers::Writers;
-use sky_locks::Locks;
-use sky_model::{Refusal, Replies, Where};
-use sky_names::Names;
-use sky_rows::Table;
-use sky_trans::{Trans, TransFault};
+use crate::own_transaction::{abort_block, admit, begin_own, commit_alone, txid_for};
+use crate::settling::settle_behind;
+use crate::statements::own_answer;
+use sky_fits::Block;
+use sky_model::{Refusal, Replies, RowStmt, Where};
+use sky_state::RowState;
+use sky_trans::TransFault;
 use sky_txid::Snapshot;
 use sky_val::{NoMemory, Schema, SessionId, Text};
 use std::alloc::Global;
@@ -40,27 +37,15 @@ use std::marker::Model;
 /// The transactions, sessions, tables and rows of one database.
 #[derive(Drop)]
 pub struct RowDb {
-    pub(crate) alloc: Global,
-    pub(crate) trans: Trans,
-    pub(crate) sessions: Sessions,
-    pub(crate) names: Names,
-    pub(crate) tables: Vec<Table>,
-    pub(crate) writers: Writers,
-    pub(crate) locks: Locks,
-    pub(crate) attempts: Attempts,
+    state: RowState,
 }
 
 impl Model for RowDb {
-    ghost use Rattle.std.specs.Prelude.{◌≡◌, ◌≤◌, length};
-    ghost use Rattle.sky_session.specs.Views.{RowDbView};
-    ghost use Rattle.sky_session.specs.Seen.{session_of};
-    ghost use Rattle.sky_session.specs.Owned.{AreOwned, AreWithin};
+    ghost use Rattle.sky_state.specs.Views.{RowStateView};
 
-    ghost Value = { RowDbView };
+    ghost Value = { RowStateView };
 
-    ghost view = { λ d. record { trans = d.trans; sessions = d.sessions; names = d.names; tables = d.tables.items; writers = d.writers; locks = d.locks; attempts = d.attempts } };
-
-    ghost invariant = { λ d. ((length d.tables.items ≡ length d.names) × (length d.names ≤ 64)) × (AreOwned (session_of d.sessions) d.trans.running × AreWithin (length d.tables.items) d.locks.waiting) };
+    ghost view = { λ d. d.state };
 }
 
 impl RowDb {
@@ -69,43 +54,8 @@ impl RowDb {
         ensures { seen result ≡ part_of [] }
     {
         RowDb {
-            alloc,
-            trans: Trans::new(alloc),
-            sessions: Sessions::new(alloc),
-            names: Names::new(alloc),
-            tables: Vec::new(alloc),
-            writers: Writers::new(alloc),
-            locks: Locks::new(alloc),
-            attempts: Attempts::new(alloc),
+            state: RowState::new(alloc),
         }
-    }
-
-    /// Where the session stands.
-    pub(crate) fn block(&self, who: SessionId) -> Block
-        ensures { seen_block result ≡ ((seen self.now).session who).block }
-    {
-        self.sessions.block(who)
-    }
-
-    /// The id of the session's running transaction, if that has got one.
-    pub(crate) fn own_txid(&self, who: SessionId) -> Option<u64>
-        ensures { result ≡ ((seen self.now).session who).txid }
-    {
-        self.sessions.txid(who)
-    }
-
-    /// Whether a statement that reads is to take the session's sight.
-    pub(crate) fn is_first(&self, who: SessionId) -> bool
-        ensures { result ≡ takes_sight WhenReading ((seen self.now).session who).sight }
-    {
-        self.sessions.is_first(who)
-    }
-
-    /// The snapshot by which the session reads, if it doesn't read by that of now.
-    pub(crate) fn place(&self, who: SessionId) -> Option<&Snapshot>
-        ensures { (own : SnapshotView) → place_of_sight own ((seen self.now).session who).sight ≡ unwrap_or (option_copied result) own }
-    {
-        self.sessions.place(who)
     }
 
     /// The table of this name, with its number.
@@ -113,55 +63,43 @@ impl RowDb {
         ensures { MatchOption result (place_of name.now (seen self.now).tables ≡ None) (λ found.
             (place_of name.now (seen self.now).tables ≡ Some found.0) × (found.1.now ≡ (seen self.now).columns found.0)) }
     {
-        let number = self.names.number(name)?;
-        Some((number, self.table_at(number).schema()))
-    }
-
-    /// The table of this number.
-    pub(crate) fn table_at(&self, number: u32) -> &Table
-        requires { number < length (seen self.now).tables }
-        ensures columns { result.now.columns ≡ (seen self.now).columns number }
-        ensures versions { result.now.versions ≡ (seen self.now).versions number }
-    {
-        &self.tables[number as usize]
+        let number = self.state.table_number(name)?;
+        Some((number, self.state.schema(number)))
     }
 
     /// Which transactions have ended where the session's statements read.
     pub fn snapshot(&self, who: SessionId) -> Result<Snapshot, NoMemory>
         ensures { IfOk result (λ snapshot. snapshot ≡ snapshot_for (seen self.now) ((seen self.now).session who)) }
     {
-        match self.place(who) {
-            Some(place) => place.copy(self.alloc),
-            None => self.snapshot_now(),
-        }
+        self.state.snapshot(who)
     }
 
     /// Which transactions have ended.
     pub fn snapshot_now(&self) -> Result<Snapshot, NoMemory>
         ensures { IfOk result (λ snapshot. snapshot ≡ snapshot_now (seen self.now)) }
     {
-        self.trans.snapshot()
+        self.state.snapshot_now()
     }
 
     /// The least running transaction that has written a row of the table.
     pub fn least_writer(&self, table: u32) -> Option<u64>
         ensures { result ≡ least_writer (seen self.now) table }
     {
-        self.writers.first(table, self.trans.ids())
+        self.state.least_writer(table)
     }
 
     /// Whether the session waits for another one's transaction.
     pub fn waits(&self, who: SessionId) -> bool
         ensures { result ≡ is_waiting who (seen self.now).waiting }
     {
-        self.locks.waits_on(who).is_some()
+        self.state.is_waiting(who)
     }
 
     /// Whether the session is in a transaction block, an aborted one too.
     pub fn in_transaction(&self, who: SessionId) -> bool
         ensures { IsTrue result ↔ (((seen self.now).session who).block ≢ outside) }
     {
-        self.block(who) != Block::Outside
+        self.state.block(who) != Block::Outside
     }
 
     /// Lets the session make a statement that isn't on rows, or refuses it. One that may stand `outside` of blocks alone
@@ -172,10 +110,48 @@ impl RowDb {
         ensures steps { OnOk result (RowSteps (seen self.old) (seen self.new) (row_entered who outside) (entry (seen self.old) who (entry_place outside))) }
     {
         if outside {
-            self.admit(who, Where::WhenOutside)
+            admit(&mut self.state, who, Where::WhenOutside)
         } else {
-            self.admit(who, Where::WhenReading)
+            admit(&mut self.state, who, Where::WhenReading)
         }
+    }
+
+    /// Runs a statement of a session that has this database open, and those that it lets go on.
+    pub fn step(&mut self, who: SessionId, stmt: &RowStmt) -> Result<RowStep, NoMemory>
+        requires { IsRowInForm stmt.now }
+        ensures exact { IfOk result (λ step. GivesTurn (seen self.old) (seen self.new) step (row_turn part_by_itself (seen self.old) who stmt.now)) }
+        ensures rests { OnOk result (ready (seen self.new) ≡ None) }
+        ensures steps { OnOk result (RowSteps (seen self.old) (seen self.new) (row_stepped any_room who stmt.now) (row_turn part_by_itself (seen self.old) who stmt.now)) }
+    {
+        let mut gate = OpenGate;
+        let step = self.step_with(who, stmt, &mut gate)?;
+        Ok(step)
+    }
+
+    /// The same with a gate in front of the writes: of the statement's own, and of those of statements that it lets go on.
+    /// The gate is told of them in their order, which is that of the effects. Where it has no room for a statement's write,
+    /// that is refused, if nothing else refuses it.
+    pub fn step_with<G: WriteGate>(
+        &mut self,
+        who: SessionId,
+        stmt: &RowStmt,
+        gate: &mut G,
+    ) -> Result<RowStep, NoMemory>
+        requires { IsRowInForm stmt.now }
+        ensures exact { IfOk result (λ step. GivesTurn (seen self.old) (seen self.new) step (row_turn (by_gate G.rule part_by_itself) (seen self.old, gate.old) who stmt.now)) }
+        ensures passed { OnOk result (gate.new ≡ passed_all G.rule gate.old (row_turn (by_gate G.rule part_by_itself) (seen self.old, gate.old) who stmt.now).marks) }
+        ensures rests { OnOk result (ready (seen self.new) ≡ None) }
+        ensures steps { OnOk result (RowSteps (seen self.old) (seen self.new) (row_stepped (room_of G.rule gate.old) who stmt.now)
+            (row_turn (by_gate G.rule part_by_itself) (seen self.old, gate.old) who stmt.now)) }
+    {
+        let answer = own_answer(&mut self.state, who, stmt, gate)?;
+        let replies = Replies::one(self.state.alloc(), who, answer.reply)?;
+        let mut step = RowStep {
+            replies,
+            effects: answer.effects,
+        };
+        settle_behind(&mut self.state, gate, &mut step)?;
+        Ok(step)
     }
 
     /// Rolls back the session's block, which stays aborted, and runs what this lets go on. Where it is in none, or that
@@ -205,12 +181,12 @@ impl RowDb {
         ensures steps { OnOk result (RowSteps (seen self.old) (seen self.new) (row_failed (room_of G.rule gate.old) who)
             (with_settling (by_gate G.rule part_by_itself) (seen self.old, gate.old) (failing (seen self.old) who))) }
     {
-        let effects = self.roll_back(who)?;
+        let effects = abort_block(&mut self.state, who)?;
         let mut step = RowStep {
-            replies: Replies::new(self.alloc),
+            replies: Replies::new(self.state.alloc()),
             effects,
         };
-        self.settle_behind(gate, &mut step)?;
+        settle_behind(&mut self.state, gate, &mut step)?;
         Ok(step)
     }
 
@@ -223,10 +199,10 @@ impl RowDb {
         ensures steps { OnOk result (RowSteps (seen self.old) (seen self.new) (row_settled (room_of G.rule gate.old)) (settling (by_gate G.rule part_by_itself) (seen self.old, gate.old))) }
     {
         let mut step = RowStep {
-            replies: Replies::new(self.alloc),
-            effects: Effects::new(self.alloc),
+            replies: Replies::new(self.state.alloc()),
+            effects: Effects::new(self.state.alloc()),
         };
-        self.settle_behind(gate, &mut step)?;
+        settle_behind(&mut self.state, gate, &mut step)?;
         Ok(step)
     }
 
@@ -234,7 +210,7 @@ impl RowDb {
     pub fn id_left(&self, who: SessionId) -> bool
         ensures { result ≡ is_ok (txid_for (seen self.now) who) }
     {
-        self.own_txid(who).is_some() || self.trans.id_left()
+        self.state.own_txid(who).is_some() || self.state.id_left()
     }
 
     /// The id of the session's transaction, which gets one where it has none.
@@ -246,11 +222,11 @@ impl RowDb {
         ensures steps { OnOk result (RowSteps (seen self.old) (seen self.new) (txid_taken who) (taking (seen self.old) who)) }
         ensures steps_spent { result ≡ Err TransFault.TxidsSpent → RowSteps (seen self.old) (seen self.new) (txid_taken who) (taking (seen self.old) who) }
     {
-        let txid = match self.txid_for(who) {
+        let txid = match txid_for(&self.state, who) {
             Ok(txid) => txid,
             Err(_) => return Err(TransFault::TxidsSpent),
         };
-        match self.begin_own(who, txid) {
+        match begin_own(&mut self.state, who, txid) {
             Ok(()) => Ok(txid),
             Err(_) => Err(TransFault::NoMemory),
         }
@@ -261,18 +237,16 @@ impl RowDb {
         ensures marks { seen self.new ≡ after_part_marks (seen self.old) (ending (seen self.old) who).marks }
         ensures steps { RowSteps (seen self.old) (seen self.new) (single_ended who) (ending (seen self.old) who) }
     {
-        self.commit_alone(who);
+        commit_alone(&mut self.state, who);
     }
 
-    /// Commits the session's transaction, where it is in no block.
-    fn commit_alone(&mut self, who: SessionId)
-        ensures { seen self.new ≡ after_part_marks (seen self.old) (ending (seen self.old) who).marks }
+    /// Rolls back the transaction of the session's block, and aborts the block, if it is in one that isn't aborted.
+    pub fn roll_back(&mut self, who: SessionId) -> Result<Effects, NoMemory>
+        ensures marks { OnOk result (seen self.new ≡ after_part_marks (seen self.old) (failing (seen self.old) who).marks) }
+        ensures told { IfOk result (λ effects. effects ≡ effects_of (failing (seen self.old) who).marks) }
+        ensures steps { OnOk result (RowSteps (seen self.old) (seen self.new) (rolled_back who) (failing (seen self.old) who)) }
     {
-        if self.block(who) != Block::Outside {
-            return;
-        }
-        if let Some(txid) = self.own_txid(who) {
-            self.committed(who, txid);
-        }
+        let effects = abort_block(&mut self.state, who)?;
+        Ok(effects)
     }
 }

@@ -198,7 +198,7 @@ pub gives-within : (v now : WorldView) (d who : ℕ) (old new : DbView) (stmt : 
     → old ≡ get_or v.stores d old → t ≡ v.now
     → Gives (seen_database old) (seen_database new) replies (database_turn database_by_itself (seen_database old) t who stmt)
     → GivesDeed (seen_world now) (seen_world (record v { stores = slice_set v.stores d new })) replies
-    (deed_in who d false (database_turn (within_database by_world d) (seen_world now) (seen_world now).now who stmt))
+    (deed_in d [] (database_turn (within_database by_world d) (seen_world now) (seen_world now).now who stmt))
 gives-within v now d who old new stmt replies t same lt at is gives = record {
   answered = gives.replied ∙ ap Turn.answers turn_is;
   changed = shown
@@ -241,20 +241,49 @@ gives-within v now d who old new stmt replies t same lt at is gives = record {
       database = λ n. (ap seen_database (get_or-changed v.stores d n new no_database lt_there) ∙ by n (d == n) refl) i;
     }
 
+-- and what it changes outside of databases
+pub gives-moved : (old s new : World) (d : ℕ) (fact : Fact) (replies : List (ℕ × Reply)) (turn : Turn) → GivesDeed old s replies (deed_in d [] turn) → new ≡ after_fact s fact
+    → GivesDeed old new replies (deed_in d (fact ∷ []) turn)
+gives-moved old s new d fact replies turn gives is = record {
+  answered = gives.answered;
+  changed = is ∙ ap (λ w. after_fact w fact) (gives.changed ∙ ap (λ facts. after_facts old facts) (append-nil (map (within d) turn.marks)))
+      ∙ sym (after_facts-append old (map (within d) turn.marks) (fact ∷ []));
+}
+
 -- a statement with which its session stays
-pub gives-stayed : (old new : World) (d who : ℕ) (leaving : Bool) (replies : List (ℕ × Reply)) (turn : Turn) → leaving ≡ false → GivesDeed old new replies (deed_in who d false turn)
-    → GivesDeed old new replies (deed_in who d leaving turn)
-gives-stayed old new d who leaving replies turn stays gives = subst (λ b. GivesDeed old new replies (deed_in who d b turn)) (sym stays) gives
+pub gives-stayed : (old new : World) (d who : ℕ) (leaving : Bool) (replies : List (ℕ × Reply)) (turn : Turn) → leaving ≡ false → GivesDeed old new replies (deed_in d [] turn)
+    → GivesDeed old new replies (deed_in d (left_if who leaving) turn)
+gives-stayed old new d who leaving replies turn stays gives = subst (λ b. GivesDeed old new replies (deed_in d (left_if who b) turn)) (sym stays) gives
 
 -- and one with which it leaves
-pub gives-left : (old s new : World) (d who : ℕ) (leaving : Bool) (replies : List (ℕ × Reply)) (turn : Turn) → leaving ≡ true → GivesDeed old s replies (deed_in who d false turn)
-    → new ≡ after_fact s (left who) → GivesDeed old new replies (deed_in who d leaving turn)
+pub gives-left : (old s new : World) (d who : ℕ) (leaving : Bool) (replies : List (ℕ × Reply)) (turn : Turn) → leaving ≡ true → GivesDeed old s replies (deed_in d [] turn)
+    → new ≡ after_fact s (left who) → GivesDeed old new replies (deed_in d (left_if who leaving) turn)
 gives-left old s new d who leaving replies turn leaves gives is =
-    subst (λ b. GivesDeed old new replies (deed_in who d b turn)) (sym leaves) (record {
-      answered = gives.answered;
-      changed = is ∙ ap (λ w. after_fact w (left who)) (gives.changed ∙ ap (λ facts. after_facts old facts) (append-nil (map (within d) turn.marks)))
-          ∙ sym (after_facts-append old (map (within d) turn.marks) (left who ∷ []));
-    })
+    subst (λ b. GivesDeed old new replies (deed_in d (left_if who b) turn)) (sym leaves) (gives-moved old s new d (left who) replies turn gives is)
+
+-- `open` in a database that is made by it
+pub opens-new : (old s new : World) (who : ℕ) (stmt : Stmt) (name : List ℕ) (replies : List (ℕ × Reply)) → length old.databases < 16 → s ≡ after_fact old (founded name)
+    → GivesDeed s new replies (opens_in by_world who stmt (length old.databases) s) → GivesDeed old new replies (opens by_world old who stmt name None)
+opens-new old s new who stmt name replies room is gives = subst (GivesDeed old new replies) (sym whole) (record { answered = there.answered; changed = there.changed })
+  where
+    there : GivesDeed (after_fact old (founded name)) new replies (opens_in by_world who stmt (length old.databases) (after_fact old (founded name)))
+    there = subst (λ w. GivesDeed w new replies (opens_in by_world who stmt (length old.databases) w)) is gives
+
+    left_over : nat_le 16 (length old.databases) ≡ false
+    left_over = grind (arith, nat_tests)
+
+    whole : opens by_world old who stmt name None ≡ followed by_world old (opens_in by_world who stmt (length old.databases)) (founds name)
+    whole = ap (λ b. if b then refuses who (TooMany Databases) else followed by_world old (opens_in by_world who stmt (length old.databases)) (founds name)) left_over
+
+-- where there is no room for it
+pub opens-full : (old : World) (who : ℕ) (stmt : Stmt) (name : List ℕ) → 16 ≤ length old.databases → GivesDeed old old ((who, Refused (TooMany Databases)) ∷ []) (opens by_world old who stmt name None)
+opens-full old who stmt name full = subst (GivesDeed old old ((who, Refused (TooMany Databases)) ∷ [])) (sym whole) (record { answered = refl; changed = refl })
+  where
+    no_room : nat_le 16 (length old.databases) ≡ true
+    no_room = grind (arith, nat_tests)
+
+    whole : opens by_world old who stmt name None ≡ refuses who (TooMany Databases)
+    whole = ap (λ b. if b then refuses who (TooMany Databases) else followed by_world old (opens_in by_world who stmt (length old.databases)) (founds name)) no_room
 
 -- a call of a session that is known
 pub answers-known : (old new : World) (call : Call) (who : ℕ) (replies : List (ℕ × Reply)) → Some who ≡ place_of call.who old.sessions

@@ -1,4 +1,4 @@
-ghost use Rattle.std.specs.Prelude.{◌≡◌, ◌+◌, ◌<◌, ◌≤◌, [], ◌∷◌, true, false, Some, None, IfOk, OnOk, IfSome, All, length};
+ghost use Rattle.std.specs.Prelude.{◌≡◌, ◌+◌, ◌<◌, ◌≤◌, [], ◌∷◌, true, false, Some, None, IfOk, OnOk, IfSome, All, length, option_copied};
 ghost use Rattle.sky_val.specs.Waits.{is_waiting};
 ghost use Rattle.sky_names.specs.Places.{place_of};
 ghost use Rattle.sky_model.specs.Kinds.{is_name};
@@ -7,7 +7,7 @@ ghost use Rattle.sky_model.specs.History.{appeared, founded, entered, left};
 ghost use Rattle.sky_model.specs.Printed.{HaveMoments, ReplyHasMoments};
 ghost use Rattle.sky_model.specs.World.{world_of, after_fact};
 ghost use Rattle.sky_model.specs.Reader.{within_database, by_world};
-ghost use Rattle.sky_model.specs.Calls.{database_turn, is_leaving, deed_in, opens, unopened, session_does, turn};
+ghost use Rattle.sky_model.specs.Calls.{database_turn, is_leaving, deed_in, opening, unopened, opens_in, opens, outside_does, session_does, turn};
 ghost use Rattle.sky_model.specs.Steps.{Steps, deed_at};
 ghost use Rattle.pgq_db.specs.Seen.{seen_database};
 ghost use Rattle.sky_world.specs.Seen.{seen_world};
@@ -188,10 +188,7 @@ impl World {
     {
         match self.home(who) {
             Some(database) => self.run_in(database, who, stmt),
-            None => {
-                let reply = self.run_unopened(who, stmt)?;
-                Replies::one(self.alloc, who, reply)
-            }
+            None => self.run_outside(who, stmt),
         }
     }
 
@@ -257,11 +254,12 @@ impl World {
         requires database { database < length self.old.stores }
         requires form { IsInForm stmt.now }
         ensures gives { IfOk result (λ replies. GivesDeed (seen_world self.old) (seen_world self.new) replies
-            (deed_in who database false (database_turn (within_database by_world database) (seen_world self.old) (seen_world self.old).now who stmt.now))) }
+            (deed_in database [] (database_turn (within_database by_world database) (seen_world self.old) (seen_world self.old).now who stmt.now))) }
         ensures known { IfOk result (λ replies. All (λ answer. answer.0 < length self.old.homes) replies) }
         ensures moments { IfOk result HaveMoments }
         ensures sessions { OnOk result (self.new.sessions ≡ self.old.sessions) }
         ensures homes { OnOk result (length self.new.homes ≡ length self.old.homes) }
+        ensures stores { OnOk result (length self.new.stores ≡ length self.old.stores) }
     {
         if self.is_cut {
             return Err(AllocError);
@@ -284,50 +282,86 @@ impl World {
         self.homes[who as usize] = None;
     }
 
-    fn run_unopened(&mut self, who: SessionId, stmt: &Stmt) -> Result<Reply, AllocError>
-        requires { who < length self.old.homes }
-        ensures gives { IfOk result (λ reply. GivesDeed (seen_world self.old) (seen_world self.new) ((who, reply) ∷ []) (unopened (seen_world self.old) who stmt.now)) }
-        ensures moments { IfOk result ReplyHasMoments }
+    /// Runs a statement of a session that has no database open.
+    fn run_outside(&mut self, who: SessionId, stmt: &Stmt) -> Result<Replies, AllocError>
+        requires who { who < length self.old.homes }
+        requires form { IsInForm stmt.now }
+        ensures gives { IfOk result (λ replies. GivesDeed (seen_world self.old) (seen_world self.new) replies
+            (outside_does by_world (seen_world self.old) who stmt.now (opening stmt.now))) }
+        ensures known { IfOk result (λ replies. All (λ answer. answer.0 < length self.old.homes) replies) }
+        ensures moments { IfOk result HaveMoments }
         ensures sessions { OnOk result (self.new.sessions ≡ self.old.sessions) }
     {
-        match stmt {
-            Stmt::Row(RowStmt::OpenDb { name }) => self.open_database(who, name),
-            Stmt::Row(RowStmt::Cancel) => Ok(Reply::NotWaiting),
-            _ => Ok(Reply::Refused(Refusal::NotOpen)),
+        match opening(stmt) {
+            Some(name) => self.open_database(who, stmt, name),
+            None => Replies::one(self.alloc, who, unopened(stmt)),
         }
     }
 
-    /// `open NAME` of a session that has none open: the database is made where it is new.
-    fn open_database(&mut self, who: SessionId, name: &Text) -> Result<Reply, AllocError>
-        requires { who < length self.old.homes }
-        ensures gives { IfOk result (λ reply. GivesDeed (seen_world self.old) (seen_world self.new) ((who, reply) ∷ [])
-            (opens (seen_world self.old) who name.now (place_of name.now (seen_world self.old).databases))) }
-        ensures moments { IfOk result ReplyHasMoments }
+    /// Runs `open` of a session that has no database open, in the one of this name, which is made where it is new.
+    fn open_database(
+        &mut self,
+        who: SessionId,
+        stmt: &Stmt,
+        name: &Text,
+    ) -> Result<Replies, AllocError>
+        requires who { who < length self.old.homes }
+        requires form { IsInForm stmt.now }
+        ensures gives { IfOk result (λ replies. GivesDeed (seen_world self.old) (seen_world self.new) replies
+            (opens by_world (seen_world self.old) who stmt.now name.now (place_of name.now (seen_world self.old).databases))) }
+        ensures known { IfOk result (λ replies. All (λ answer. answer.0 < length self.old.homes) replies) }
+        ensures moments { IfOk result HaveMoments }
         ensures sessions { OnOk result (self.new.sessions ≡ self.old.sessions) }
     {
         match self.database_number(name) {
-            Some(database) => {
-                self.enter(who, database);
-                Ok(Reply::Done)
-            }
-            None => self.found_database(who, name),
+            Some(database) => self.open_in(database, who, stmt),
+            None => self.open_new(who, stmt, name),
         }
     }
 
-    fn found_database(&mut self, who: SessionId, name: &Text) -> Result<Reply, AllocError>
+    /// The same where the database is new.
+    fn open_new(
+        &mut self,
+        who: SessionId,
+        stmt: &Stmt,
+        name: &Text,
+    ) -> Result<Replies, AllocError>
         requires who { who < length self.old.homes }
+        requires form { IsInForm stmt.now }
         requires new { place_of name.now self.old.databases ≡ None }
-        ensures gives { IfOk result (λ reply. GivesDeed (seen_world self.old) (seen_world self.new) ((who, reply) ∷ []) (opens (seen_world self.old) who name.now None)) }
-        ensures moments { IfOk result ReplyHasMoments }
+        ensures gives { IfOk result (λ replies. GivesDeed (seen_world self.old) (seen_world self.new) replies (opens by_world (seen_world self.old) who stmt.now name.now None)) }
+        ensures known { IfOk result (λ replies. All (λ answer. answer.0 < length self.old.homes) replies) }
+        ensures moments { IfOk result HaveMoments }
         ensures sessions { OnOk result (self.new.sessions ≡ self.old.sessions) }
     {
         let number = self.database_count();
         if number >= MAX_DATABASES {
-            return Ok(Reply::Refused(Refusal::TooMany(Limit::Databases)));
+            let refused = Reply::Refused(Refusal::TooMany(Limit::Databases));
+            return Replies::one(self.alloc, who, refused);
         }
         self.found(name)?;
-        self.enter(who, number);
-        Ok(Reply::Done)
+        let replies = self.open_in(number, who, stmt)?;
+        Ok(replies)
+    }
+
+    /// The same in the database of this number.
+    fn open_in(
+        &mut self,
+        database: usize,
+        who: SessionId,
+        stmt: &Stmt,
+    ) -> Result<Replies, AllocError>
+        requires who { who < length self.old.homes }
+        requires database { database < length self.old.stores }
+        requires form { IsInForm stmt.now }
+        ensures gives { IfOk result (λ replies. GivesDeed (seen_world self.old) (seen_world self.new) replies (opens_in by_world who stmt.now database (seen_world self.old))) }
+        ensures known { IfOk result (λ replies. All (λ answer. answer.0 < length self.old.homes) replies) }
+        ensures moments { IfOk result HaveMoments }
+        ensures sessions { OnOk result (self.new.sessions ≡ self.old.sessions) }
+    {
+        let replies = self.run_there(database, who, stmt)?;
+        self.enter(who, database);
+        Ok(replies)
     }
 
     fn database_number(&self, name: &Text) -> Option<usize>
@@ -370,5 +404,26 @@ impl World {
         ensures sessions { self.new.sessions ≡ self.old.sessions }
     {
         self.homes[who as usize] = Some(database);
+    }
+}
+
+/// The name of the database that a statement is to open.
+fn opening(stmt: &Stmt) -> Option<&Text>
+    ensures { option_copied result ≡ opening stmt.now }
+{
+    match stmt {
+        Stmt::Row(RowStmt::OpenDb { name }) => Some(name),
+        _ => None,
+    }
+}
+
+/// What is answered to a statement that opens no database, of a session that has none open.
+fn unopened(stmt: &Stmt) -> Reply
+    ensures reply { result ≡ unopened stmt.now }
+    ensures moments { ReplyHasMoments result }
+{
+    match stmt {
+        Stmt::Row(RowStmt::Cancel) => Reply::NotWaiting,
+        _ => Reply::Refused(Refusal::NotOpen),
     }
 }

@@ -19,7 +19,23 @@ impl Database {
         let (who, words) = first_number(words)?;
         match command {
             "step" => self.step(alloc, who, words),
+            "enter" => shown(alloc, self.db.enter(who, false)),
+            "enter_outside" => shown(alloc, self.db.enter(who, true)),
             "fail" => self.fail(alloc, who),
+            _ => self.answer_of_session(alloc, command, who),
+        }
+    }
+
+    // What the database tells of the session.
+    fn answer_of_session(
+        &self,
+        alloc: Global,
+        command: &str,
+        who: SessionId,
+    ) -> anyhow::Result<String> {
+        match command {
+            "waits" => shown(alloc, Ok(self.db.waits(who))),
+            "in_transaction" => shown(alloc, Ok(self.db.in_transaction(who))),
             _ => Err(no_command()),
         }
     }

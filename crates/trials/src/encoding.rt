@@ -1,9 +1,8 @@
-use crate::statements::{line, row_statement};
-use crate::words::{no_command, ok};
+use crate::statements::schema;
+use crate::words::{first_number, no_command, ok};
 use anyhow::{Context, bail};
-use sky_model::RowStmt;
 use sky_urlenc::{decode_row, encode_row};
-use sky_val::{Row, Schema, copy_columns};
+use sky_val::{Row, Schema, Text, copy_columns};
 use std::alloc::Global;
 
 /// Texts that are read as rows of a table.
@@ -20,6 +19,7 @@ impl Encoding {
     pub fn answer(&mut self, alloc: Global, command: &str, text: &str) -> anyhow::Result<String> {
         match command {
             "table" => self.take_table(alloc, text),
+            "name" => self.take_name(alloc, text),
             "decode" => self.decode(alloc, text),
             _ => Err(no_command()),
         }
@@ -31,7 +31,17 @@ impl Encoding {
         ok(alloc)
     }
 
-    // The row of a text, written again, or the text's fault.
+    // Another name for the column at a place. No script can have it.
+    fn take_name(&mut self, alloc: Global, words: &str) -> anyhow::Result<String> {
+        let (place, name) = first_number(words)?;
+        let name = name.replace(alloc, "\\0", "\0")?;
+        let name = name.replace(alloc, "\\t", "\t")?;
+        let schema = self.schema.as_ref().context("no table")?;
+        self.schema = Some(renamed(alloc, schema, place as usize, name.as_str())?);
+        ok(alloc)
+    }
+
+    // The row of a text, written again, and its values; or the text's fault.
     fn decode(&self, alloc: Global, text: &str) -> anyhow::Result<String> {
         let schema = self.schema.as_ref().context("no table")?;
         match decode_row(alloc, schema, text.as_bytes()) {
@@ -43,16 +53,15 @@ impl Encoding {
 
 fn written(alloc: Global, schema: &Schema, row: &Row) -> anyhow::Result<String> {
     let text = encode_row(alloc, schema, row)?;
-    Ok(String::from_str(alloc, text.as_str())?)
+    Ok(format!(in alloc; "{} {row:?}", text.as_str())?)
 }
 
-// The columns of a statement that creates a table.
-fn schema(alloc: Global, text: &str) -> anyhow::Result<Schema> {
-    let line = line(alloc, text)?;
-    match row_statement(&line)? {
-        RowStmt::CreateTable { table: _, columns } => {
-            Ok(Schema::new(copy_columns(alloc, columns.as_slice())?)?)
-        }
-        _ => bail!("no table"),
+// The same columns, with another name at a place.
+fn renamed(alloc: Global, schema: &Schema, place: usize, name: &str) -> anyhow::Result<Schema> {
+    let mut columns = copy_columns(alloc, schema.columns())?;
+    if place >= columns.len() || name.is_empty() {
+        bail!("no name of a column");
     }
+    columns[place].name = Text::from_bytes(alloc, name.as_bytes())?;
+    Ok(Schema::new(columns)?)
 }

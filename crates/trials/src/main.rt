@@ -9,6 +9,7 @@ mod copies;
 mod databases;
 mod encoding;
 mod runs;
+mod scans;
 mod sessions;
 mod statements;
 mod streams;

@@ -28,8 +28,22 @@ impl Sessions {
             "new" => self.renew(alloc, number),
             "step" => self.step(alloc, number, statement),
             "step_with" => self.step_with(alloc, number, statement),
-            "fail" => shown(alloc, self.db.fail(number)),
-            "fail_with" => shown(alloc, self.db.fail_with(number, &mut self.gate)),
+            _ => self.answer_from_outside(alloc, command, number),
+        }
+    }
+
+    // What a call answers that is made for a statement of another kind.
+    fn answer_from_outside(
+        &mut self,
+        alloc: Global,
+        command: &str,
+        who: SessionId,
+    ) -> anyhow::Result<String> {
+        match command {
+            "enter" => shown(alloc, self.db.enter(who, false)),
+            "enter_outside" => shown(alloc, self.db.enter(who, true)),
+            "fail" => shown(alloc, self.db.fail(who)),
+            "fail_with" => shown(alloc, self.db.fail_with(who, &mut self.gate)),
             "settle_with" => shown(alloc, self.db.settle_with(&mut self.gate)),
             _ => Err(no_command()),
         }

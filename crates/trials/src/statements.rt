@@ -4,6 +4,7 @@ ghost use Rattle.sky_model.specs.InForm.{IsInForm, IsLineInForm, IsRowInForm};
 use anyhow::bail;
 use sky_model::{Line, RowStmt, Stmt};
 use sky_script::parse_line;
+use sky_val::{Schema, copy_columns};
 use std::alloc::Global;
 
 /// A script's line of the session `a` with this statement.
@@ -33,5 +34,16 @@ pub fn row_statement(line: &Line) -> anyhow::Result<&RowStmt>
     match line {
         Line::Run(_, Stmt::Row(stmt)) => Ok(stmt),
         _ => bail!("no statement on rows"),
+    }
+}
+
+/// The columns of a statement that creates a table.
+pub fn schema(alloc: Global, statement: &str) -> anyhow::Result<Schema> {
+    let line = line(alloc, statement)?;
+    match row_statement(&line)? {
+        RowStmt::CreateTable { table: _, columns } => {
+            Ok(Schema::new(copy_columns(alloc, columns.as_slice())?)?)
+        }
+        _ => bail!("no table"),
     }
 }

@@ -1,7 +1,7 @@
-use crate::words::first_word;
-use anyhow::bail;
+use crate::words::{first_word, no_command};
 use sky_io::{MemSink, MemSource, Sink, SinkFault, Source, StdSink, StdSource, write_all};
 use std::alloc::{AllocError, Global};
+use std::fmt::Debug;
 use std::io;
 use std::io::{ErrorKind, Read, Write};
 
@@ -11,35 +11,36 @@ type Answers = Vec<Result<(), SinkFault>>;
 /// What a source or a sink gives or takes, call by call.
 pub fn answer(alloc: Global, command: &str, words: &str) -> anyhow::Result<String> {
     match command {
-        "source" => read_memory(alloc, words),
+        "source" => read_memory(alloc, words, 2),
+        "wide_source" => read_memory(alloc, words, 9),
         "std_source" => reads(alloc, StdSource::new(words.as_bytes())),
         "frail_source" => reads(alloc, StdSource::new(Frail { reads: 0 })),
-        "std_sink" => write_list(alloc, words),
         _ => answer_of_sink(alloc, command, words),
     }
 }
 
 fn answer_of_sink(alloc: Global, command: &str, words: &str) -> anyhow::Result<String> {
-    let answers = match command {
-        "sink" => write_memory(alloc, words)?,
-        "narrow_sink" => write_narrowly(alloc, words)?,
-        _ => bail!("no such command"),
-    };
-    Ok(format!(in alloc; "{answers:?}")?)
+    match command {
+        "sink" => write_memory(alloc, words),
+        "std_sink" => write_list(alloc, words),
+        "narrow_sink" => write_narrowly(alloc, words),
+        _ => Err(no_command()),
+    }
 }
 
-// A source that gives two bytes a read, and whose second read fails.
-fn read_memory(alloc: Global, words: &str) -> anyhow::Result<String> {
+// A source that gives at most so many bytes a read, and whose second read fails.
+fn read_memory(alloc: Global, words: &str, most: usize) -> anyhow::Result<String> {
     let bytes = Vec::from_slice(alloc, words.as_bytes())?;
     let failing = Vec::from_array(alloc, [2])?;
-    reads(alloc, MemSource::new(bytes, 2, failing))
+    reads(alloc, MemSource::new(bytes, most.max(1), failing))
 }
 
 // A sink whose second write fails.
-fn write_memory(alloc: Global, words: &str) -> Result<Answers, AllocError> {
+fn write_memory(alloc: Global, words: &str) -> anyhow::Result<String> {
     let failing = Vec::from_array(alloc, [2])?;
     let mut sink = MemSink::new(alloc, failing);
-    writes(alloc, &mut sink, words)
+    let answers = writes(alloc, &mut sink, words)?;
+    told(alloc, &answers, sink.bytes())
 }
 
 // A sink over a list of bytes.
@@ -47,15 +48,17 @@ fn write_list(alloc: Global, words: &str) -> anyhow::Result<String> {
     let mut bytes = Vec::new(alloc);
     let mut sink = StdSink::new(&mut bytes);
     let answers = writes(alloc, &mut sink, words)?;
-    let text = str::from_utf8(&bytes)?;
-    Ok(format!(in alloc; "{answers:?} {text:?}")?)
+    told(alloc, &answers, &bytes)
 }
 
-// A sink over a writer that takes as many bytes a write as the first word has, and whose second flush fails.
-fn write_narrowly(alloc: Global, words: &str) -> Result<Answers, AllocError> {
+// A sink over a writer that takes as many bytes a write as the first word has, and whose second flush fails. How often
+// it was flushed is told too.
+fn write_narrowly(alloc: Global, words: &str) -> anyhow::Result<String> {
     let room = first_word(words).0.len();
-    let mut sink = StdSink::new(Narrow { room, flushes: 0 });
-    writes(alloc, &mut sink, words)
+    let mut narrow = Narrow { room, flushes: 0 };
+    let mut sink = StdSink::new(&mut narrow);
+    let answers = writes(alloc, &mut sink, words)?;
+    Ok(format!(in alloc; "{answers:?} {}", narrow.flushes)?)
 }
 
 // What four reads with room for four bytes answer, and the bytes that they give.
@@ -70,7 +73,12 @@ fn reads<S: Source + Drop>(alloc: Global, mut source: S) -> anyhow::Result<Strin
         }
         answers.push(read)?;
     }
-    let text = str::from_utf8(&bytes)?;
+    told(alloc, &answers, &bytes)
+}
+
+// Answers, and the bytes that were given or taken.
+fn told<T: Debug>(alloc: Global, answers: &T, bytes: &[u8]) -> anyhow::Result<String> {
+    let text = str::from_utf8(bytes)?;
     Ok(format!(in alloc; "{answers:?} {text:?}")?)
 }
 

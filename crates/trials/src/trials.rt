@@ -1,6 +1,7 @@
 use crate::databases::Database;
 use crate::encoding::Encoding;
 use crate::runs::Runs;
+use crate::scans::Scans;
 use crate::sessions::Sessions;
 use crate::words::first_word;
 use crate::{copies, streams};
@@ -11,6 +12,7 @@ use std::alloc::Global;
 #[derive(Drop)]
 pub struct Trials {
     encoding: Encoding,
+    scans: Scans,
     sessions: Sessions,
     database: Database,
     runs: Runs,
@@ -20,6 +22,7 @@ impl Trials {
     pub fn new(alloc: Global) -> Trials {
         Trials {
             encoding: Encoding::new(),
+            scans: Scans::new(),
             sessions: Sessions::new(alloc),
             database: Database::new(alloc),
             runs: Runs::new(alloc),
@@ -32,6 +35,7 @@ impl Trials {
         match table {
             "copies.txt" => copies::answer(alloc, command, rest),
             "encoding.txt" => self.encoding.answer(alloc, command, rest),
+            "scans.txt" => self.scans.answer(alloc, command, rest),
             "streams.txt" => streams::answer(alloc, command, rest),
             "sessions.txt" => self.sessions.answer(alloc, command, rest),
             "databases.txt" => self.database.answer(alloc, command, rest),

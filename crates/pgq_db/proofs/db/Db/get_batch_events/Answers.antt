@@ -1,7 +1,7 @@
 use Rattle.std.proofs.Common.{◌∙◌, ap, subst, sym}
 use Rattle.sky_model.specs.Printed.{EventsHaveMoments}
 use Rattle.sky_model.specs.Selection.{selected}
-use Rattle.sky_session.specs.Seen.{seen}
+use Rattle.sky_state.specs.Seen.{seen}
 use Rattle.pgq_queues.specs.Seen.{seen_batch, batch_at}
 use Rattle.pgq_db.specs.Views.{DbView}
 use Rattle.pgq_db.specs.Seen.{seen_database}

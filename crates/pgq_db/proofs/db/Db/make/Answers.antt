@@ -1,7 +1,7 @@
 use Rattle.std.proofs.Common.{length, [], ◌∷◌}
 use Rattle.std.proofs.lemmas.Result.{on_ok_weaker}
 use Rattle.sky_model.specs.History.{queued, made, ticked}
-use Rattle.sky_session.specs.Seen.{seen}
+use Rattle.sky_state.specs.Seen.{seen}
 use Rattle.pgq_queues.specs.Views.{QueuesView}
 use Rattle.pgq_db.proofs.Databases.{ticked-as}
 use Rattle.pgq_db.proofs.db.Db.make.Goals as goal

@@ -1,6 +1,6 @@
 use Rattle.std.proofs.lemmas.Result.{on_ok_weaker}
 use Rattle.sky_model.specs.History.{opened}
-use Rattle.sky_session.specs.Seen.{seen}
+use Rattle.sky_state.specs.Seen.{seen}
 use Rattle.pgq_queues.specs.Seen.{seen_batch}
 use Rattle.pgq_db.proofs.Databases.{marked-as}
 use Rattle.pgq_db.proofs.db.Db.open_batch.Goals as goal

@@ -1,6 +1,6 @@
 use Rattle.std.proofs.Common.{length, ◌∙◌, ap}
 use Rattle.sky_model.specs.History.{raised}
-use Rattle.sky_session.specs.Seen.{seen}
+use Rattle.sky_state.specs.Seen.{seen}
 use Rattle.pgq_db.specs.Views.{DbView}
 use Rattle.pgq_db.proofs.Databases.{marked-as}
 use Rattle.pgq_db.proofs.db.Db.raise.Goals as goal

@@ -2,7 +2,7 @@ use Rattle.std.proofs.Common.{◌≡◌, Some, sym, subst}
 use Rattle.std.proofs.lemmas.Result.{on_ok_weaker, on_err_weaker}
 use Rattle.sky_names.specs.Places.{place_of}
 use Rattle.sky_model.specs.History.{traced}
-use Rattle.sky_session.specs.Seen.{seen}
+use Rattle.sky_state.specs.Seen.{seen}
 use Rattle.pgq_db.specs.Views.{DbView}
 use Rattle.pgq_db.proofs.Databases.{marked-as, unmarked-as}
 use Rattle.pgq_db.proofs.Tables.{is-table}

@@ -4,7 +4,7 @@ use Rattle.sky_model.specs.SessionMarks.{failing}
 use Rattle.sky_model.proofs.GatedLemmas.{open-with_settling}
 use Rattle.sky_model.proofs.RowCallStanding.{row_fail_from_exact}
 use Rattle.sky_session.specs.Gives.{GivesTurn}
-use Rattle.sky_session.specs.Seen.{seen}
+use Rattle.sky_state.specs.Seen.{seen}
 use Rattle.sky_session.proofs.row_db.RowDb.fail.Goals as goal
 
 pub returns-clause-gives : goal.returns-clause-gives

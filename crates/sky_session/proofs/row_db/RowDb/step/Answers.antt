@@ -1,6 +1,6 @@
 -- The same as with a gate that always has room.
 use Rattle.sky_model.proofs.RowCallStanding.{row_step_from_exact}
-use Rattle.sky_session.specs.Seen.{seen}
+use Rattle.sky_state.specs.Seen.{seen}
 use Rattle.sky_session.proofs.Steps.{gives-open}
 use Rattle.sky_session.proofs.row_db.RowDb.step.Goals as goal
 

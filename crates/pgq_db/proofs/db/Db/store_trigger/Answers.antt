@@ -1,0 +1,44 @@
+use Rattle.std.proofs.Common.{rules, ◌<◌, Some, is_some, length, sym, ap, subst}
+use Rattle.sky_model.specs.Triggers.{TableTrigger}
+use Rattle.sky_state.specs.Seen.{seen}
+use Rattle.pgq_db.specs.Views.{TracedTableView, DbView}
+use Rattle.pgq_db.proofs.TracedLists.{Updated, traced-kept, traced-more, tables-at}
+use Rattle.pgq_db.proofs.db.Db.store_trigger.Goals as goal
+
+pub invariant_of-self-in_err-add-in-Some : goal.invariant_of-self-in_err-add-in-Some
+invariant_of-self-in_err-add-in-Some c =
+    let old = c.self.inside.traced.entries in
+    let new = (c.get_mut.follows.lender c.add.new.self).entries in
+    let updates : Updated old new c.trigger.inside.table (Some c.add.new.self) = ((c.get_mut.follows.holds c.add.new.self).3 (sym (ap is_some c.in-Some.ensures.value))).0 in (
+      c.self.invariant.0,
+      (
+        c.self.invariant.1.0,
+        (
+          traced-kept (length c.self.inside.queues.items) c.reserve.new.self.items c.self.inside.triggers.items old new c.trigger.inside.table c.add.new.self c.in-Some.table.now
+              c.in_ok-reserve.ensures.items updates c.in-Some.ensures.value c.in_err-add-in-Some.ensures.err c.self.invariant.1.1.0,
+          λ e.
+              tables-at (seen c.self.inside.rows) old new c.trigger.inside.table c.add.new.self c.in-Some.table.now updates c.in-Some.ensures.value
+              (ap TracedTableView.name c.in_err-add-in-Some.ensures.err) (ap TracedTableView.columns c.in_err-add-in-Some.ensures.err) (c.self.invariant.1.1.1 e),
+        ),
+      ),
+    )
+
+pub invariant_of-self-2 : goal.invariant_of-self-2
+invariant_of-self-2 c =
+    let old = c.self.inside.traced.entries in
+    let new = (c.get_mut.follows.lender c.add.new.self).entries in
+    let updates : Updated old new c.trigger.inside.table (Some c.add.new.self) = ((c.get_mut.follows.holds c.add.new.self).3 (sym (ap is_some c.in-Some.ensures.value))).0 in
+    let low : c.args.trigger.trigger.queue < length c.self.inside.queues.items = subst (λ (v : DbView). c.args.trigger.trigger.queue < length v.queues) (sym c.self.view_is) c.requires.queue in (
+      c.self.invariant.0,
+      (
+        c.self.invariant.1.0,
+        (
+          traced-more (length c.self.inside.queues.items) c.self.inside.triggers.items c.reserve.new.self.items c.push_reserved.new.self.items c.args.trigger old new c.trigger.inside.table c.len-place.result
+              c.add.new.self c.in-Some.table.now c.in_ok-reserve.ensures.items c.push_reserved.ensures.items updates (sym (ap TableTrigger.table c.trigger.view_is)) c.in-Some.ensures.value c.in_ok-add-in-Some.ensures.ok (search rules) low
+              c.self.invariant.1.1.0,
+          λ e.
+              tables-at (seen c.self.inside.rows) old new c.trigger.inside.table c.add.new.self c.in-Some.table.now updates c.in-Some.ensures.value
+              (ap TracedTableView.name c.in_ok-add-in-Some.ensures.ok) (ap TracedTableView.columns c.in_ok-add-in-Some.ensures.ok) (c.self.invariant.1.1.1 e),
+        ),
+      ),
+    )

@@ -1,0 +1,65 @@
+-- What a source gave in several reads.
+use Rattle.std.proofs.Common.{false, ◌≡◌, ℕ, ◌+◌, ◌-◌, ◌≤◌, List, [], ◌++◌, length, take, drop, refl, sym, ap, ◌∙◌, arith, append_assoc, length-drop}
+use Rattle.std.specs.Prelude.{Option, None, Some}
+use Rattle.std.specs.Io.KnownBytes.{Consumes, IsAtEnd}
+use Rattle.std.proofs.KnownBytes as known
+use borrow.Rule.Slice.PartMut.{put_mid, post_of, same_len_mid}
+use Rattle.std.proofs.lemmas.List.{take-append-le, length-take-le, with_items_is}
+use Rattle.std.specs.Global.{Vec}
+use Rattle.std.specs.Vec.{with_items}
+use Rattle.std.specs.Prelude.{slice_range}
+use Rattle.std.proofs.Math.Seq.{take-append-add}
+use Rattle.sky_lines.specs.Feeds.{is_settled, Grows}
+use Rattle.sky_lines.proofs.FeedLemmas.{unsettled}
+
+-- a piece was got, and then another
+pub Grows-both : (old mid new : List ℕ) (before between after : Option (List ℕ)) → Grows old mid before between → Grows mid new between after → Grows old new before after
+Grows-both old mid new before between after first second = record {
+  got = first.got ++ second.got;
+  consumed = known.Consumes-trans before between after first.got second.got first.consumed second.consumed;
+  new_is = second.new_is ∙ ap (λ front. front ++ second.got) first.new_is ∙ append_assoc old first.got second.got;
+}
+
+-- a piece was read behind the front of a room
+pub take-read : (room piece : List ℕ) (len size count : ℕ) → len ≤ length room → count ≤ length piece → take (len + count) (put_mid len size room piece) ≡ take len room ++ take count piece
+take-read room piece len size count fits few =
+    let front = take len room in
+    let long : length front ≡ len = length-take-le len room fits in
+    ap (λ n. take (n + count) (put_mid len size room piece)) (sym long)
+    ∙ take-append-add front (piece ++ post_of len size room) count
+    ∙ ap (λ more. front ++ more) (take-append-le count piece (post_of len size room) few)
+
+-- the same of a vector's bytes
+pub bytes_read : (bytes : Vec ℕ) (room piece old : List ℕ) (len size count : ℕ) → length room ≡ bytes.len → len + size ≤ length room → length piece ≡ size → count ≤ length piece → take len room ≡ old
+    → slice_range (with_items bytes (put_mid len size room piece)).items 0 (len + count) ≡ old ++ take count piece
+bytes_read bytes room piece old len size count fills fits long few front =
+    let whole : length (put_mid len size room piece) ≡ bytes.len =
+    same_len_mid len size room piece (long ∙ sym (length-take-le size (drop len room) (omega (arith, length-drop len room)))) ∙ fills in
+    let end : len + count - 0 ≡ len + count = omega arith in
+    ap (λ xs. take (len + count - 0) xs) (with_items_is bytes (put_mid len size room piece) whole)
+    ∙ ap (λ n. take n (put_mid len size room piece)) end
+    ∙ take-read room piece len size count (omega arith) few ∙ ap (λ xs. xs ++ take count piece) front
+
+-- how much of a room stands in front of a read
+pub length-front : (items old : List ℕ) (start end : ℕ) → slice_range items start end ≡ old → end ≤ length items → is_settled old ≡ false → end - start ≤ 65536
+length-front items old start end view within unsure =
+    let size : length old ≡ end - start = ap length (sym view) ∙ length-take-le (end - start) (drop start items) (omega (arith, length-drop start items)) in
+    let fits = (unsettled old unsure).1 in
+    omega arith
+
+-- what is left where what was left is told
+pub record Told (left : List ℕ) (after : Option (List ℕ)) (got : List ℕ) : Type 0 where
+  pub rest : List ℕ
+  pub left_is : left ≡ got ++ rest
+  pub after_is : after ≡ Some rest
+
+Consumes-told : (left : List ℕ) (after : Option (List ℕ)) (got : List ℕ) → Consumes (Some left) after got → Told left after got
+Consumes-told left None got consumed = absurd consumed
+Consumes-told left (Some rest) got consumed = record { rest = rest; left_is = consumed; after_is = refl }
+
+pub Told-consumed : (left : List ℕ) (before after : Option (List ℕ)) (got : List ℕ) → before ≡ Some left → Consumes before after got → Told left after got
+Told-consumed left before after got told consumed = let now = rw told at consumed in Consumes-told left after got now
+
+-- a told end has nothing left
+pub nothing_told : (after : Option (List ℕ)) (rest : List ℕ) → after ≡ Some rest → IsAtEnd after → rest ≡ []
+nothing_told after rest told end = rw told at end

@@ -1,0 +1,3 @@
+pub mod FeedLemmas
+pub mod GrowsLemmas
+pub mod ReaderLemmas

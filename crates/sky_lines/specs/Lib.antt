@@ -1,0 +1,3 @@
+pub mod Feeds
+pub mod Room
+pub mod Reader

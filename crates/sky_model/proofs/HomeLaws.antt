@@ -1,0 +1,345 @@
+-- Each session has open the database that is its home, whatever is called.
+use Rattle.std.proofs.Common.{◌≡◌, ◌≢◌, ◌↔◌, ◌⊎◌, inl, inr, ℕ, ℤ, List, [], ◌∷◌, ◌++◌, Bool, true, false, ◌==◌, nat_le, Option, Some, None, Ok, Err, map, length, refl, sym, ◌∙◌, ap, subst, arith, if◌then◌else◌}
+use Rattle.std.proofs.lemmas.Bool.Decides.{nat_tests}
+use Rattle.sky_val.specs.Waits.{is_waiting}
+use Rattle.sky_names.specs.Places.{place_of}
+use Rattle.sky_model.specs.declared.stmt.Stmt.{Stmt}
+use Rattle.sky_model.specs.declared.stmt.Stmt.TheVariants.{Row}
+use Rattle.sky_model.specs.declared.stmt.RowStmt.TheVariants.{OpenDb, Close}
+use Rattle.sky_model.specs.declared.stmt.Where.{Where}
+use Rattle.sky_model.specs.declared.stmt.Where.TheVariants.{Anywhere, WhenOpen}
+use Rattle.sky_model.specs.declared.reply.Refusal.TheVariants.{Busy}
+use Rattle.sky_model.specs.History.{Mark, looked, connected, disconnected, History, Fact, appeared, founded, entered, left, within, Past}
+use Rattle.sky_model.specs.Sessions.{Block, outside, inside, failed, has_open, block, own_txid, session}
+use Rattle.sky_model.specs.Locks.{waiting}
+use Rattle.sky_model.specs.State.{part_of, database_of}
+use Rattle.sky_model.specs.World.{home, history_in, session_names, database_names, on_top, world_of}
+use Rattle.sky_model.specs.Outcome.{Outcome, Checked, settled}
+use Rattle.sky_model.specs.Allowed.{where_of, allowed}
+use Rattle.sky_model.specs.Made.{takes_sight, looking, runs_if}
+use Rattle.sky_model.specs.StepSession.{open_db, close}
+use Rattle.sky_model.specs.Telling.{tells}
+use Rattle.sky_model.specs.Reader.{shown_in, part_by_history, database_by_history, within_part, within_database, by_past, Deed, appears}
+use Rattle.sky_model.specs.Settling.{Turn, marked, behind_marks, settling}
+use Rattle.sky_model.specs.Calls.{form, making, statement, database_turn, deed_in, opening, opens, outside_does, is_leaving, left_if, session_does, turn, Call, called, past_of}
+use Rattle.sky_model.specs.LawsOfHistories.{HomesAreOpen, WaitersHaveOpen, BlocksAreOpen}
+use Rattle.sky_model.proofs.Legal.{Fine, begins_block, fails_block, ends_block, connects, disconnects, Legal, start, next}
+use Rattle.sky_model.proofs.WaitersFit.{waits-open}
+use Rattle.sky_model.proofs.SnapshotLaws.{legal_place}
+use Rattle.sky_model.proofs.Resting.{behind-append}
+use Rattle.sky_model.proofs.PastHistories.{on_top-append, history-marks, AreOutside, history-outside, left-outside}
+use Rattle.sky_model.proofs.Histories.{AllLegal, same-turn-within, legal_past}
+use Rattle.sky_model.proofs.Staying.{Stay, stay-append, open-stays, stay-settled, IsStaying, stays-form, stay-settling}
+
+pub waiters_have_open : WaitersHaveOpen
+waiters_have_open p is who waits = waits-open p (legal_place p is) who waits
+
+-- ---- who is in a block
+
+abbrev InBlock : History → ℕ → Type 0
+InBlock h who = block who h ≢ outside → has_open who h ≡ true
+
+-- a session that opens the database, or closes it
+opened-still : (f o : Bool) → o ≡ true → (if f then true else o) ≡ true
+opened-still true o is = refl
+opened-still false o is = is
+
+block-step : (h : History) (mark : Mark) → Fine h mark → (who : ℕ) → InBlock h who → InBlock (mark ∷ h) who
+block-step h _ (begins_block v e is_open) who ih = of (v == who) refl
+  where
+    of : (f : Bool) → (v == who) ≡ f → (if f then inside else block who h) ≢ outside → has_open who h ≡ true
+    of true e there = let same : v ≡ who = grind (arith, nat_tests) in ap (λ n. has_open n h) (sym same) ∙ is_open
+    of false e there = ih there
+block-step h _ (fails_block v e f) who ih = of (v == who) refl
+  where
+    of : (f : Bool) → (v == who) ≡ f → (if f then failed else block who h) ≢ outside → has_open who h ≡ true
+    of true is there = let same : v ≡ who = grind (arith, nat_tests) in ih (λ out. absurd (let both : inside ≡ outside = sym e ∙ ap (λ n. block n h) same ∙ out in cc))
+    of false is there = ih there
+block-step h _ (ends_block v e) who ih = of (v == who)
+  where
+    of : (f : Bool) → (if f then outside else block who h) ≢ outside → has_open who h ≡ true
+    of true there = absurd (there refl)
+    of false there = ih there
+block-step h _ (connects v e) who ih = λ there. opened-still (v == who) (has_open who h) (ih there)
+block-step h _ (disconnects v quiet away) who ih = of (v == who) refl
+  where
+    of : (f : Bool) → (v == who) ≡ f → block who h ≢ outside → (if f then false else has_open who h) ≡ true
+    of true is there = let same : v ≡ who = grind (arith, nat_tests) in absurd (there (ap (λ n. block n h) (sym same) ∙ away))
+    of false is there = ih there
+block-step h _ _ who ih = ih
+
+block-open : (h : History) → Legal h → (who : ℕ) → InBlock h who
+block-open _ start who there = absurd (there refl)
+block-open _ (next {h = h} {mark = mark} l fine) who there = block-step h mark fine who (block-open h l who) there
+
+pub blocks_are_open : BlocksAreOpen
+blocks_are_open p is who there = block-open p (legal_place p is) who there
+
+-- ---- who has a database open behind a turn
+
+-- behind marks it is open to one session as told, and to the others as before
+abbrev Opens : History → List Mark → ℕ → Bool → Type 0
+Opens h marks who b = (v : ℕ) → has_open v (marked h marks) ≡ (if who == v then b else has_open v h)
+
+-- behind a turn, where it is so behind its statement: those that go on leave it
+turn-opens : (h : History) (now : ℤ) (who : ℕ) (stmt : Stmt) (b : Bool) → Opens h (statement database_by_history h now who stmt).marks who b
+    → Opens h (database_turn database_by_history h now who stmt).marks who b
+turn-opens h now who stmt b own v =
+    let marks : List Mark = (statement database_by_history h now who stmt).marks in
+    let there : History = behind_marks (within_part database_by_history now) h marks in
+    ap (has_open v) (behind-append part_by_history h marks (settling (within_part database_by_history now) there).marks)
+    ∙ open-stays v (marked h marks) (settling (within_part database_by_history now) there).marks (stay-settling there now)
+    ∙ own v
+
+-- nothing changes, where the session had it as told
+stay-opens : (h : History) (marks : List Mark) (who : ℕ) (b : Bool) → Stay marks → has_open who h ≡ b → Opens h marks who b
+stay-opens h marks who b stay is v = open-stays v h marks stay ∙ of (who == v) refl
+  where
+    of : (f : Bool) → (who == v) ≡ f → has_open v h ≡ (if f then b else has_open v h)
+    of true e = let same : v ≡ who = grind (arith, nat_tests) in ap (λ n. has_open n h) same ∙ is
+    of false e = refl
+
+-- a statement that opens no database and closes none
+stay-statement : (h : History) (now : ℤ) (who : ℕ) (stmt : Stmt) (may : Checked (Unit {0})) → IsStaying (has_open who h) stmt
+    → Stay (runs_if (making database_by_history now who stmt) (where_of stmt) who h may).marks
+stay-statement h now who stmt (Err refusal) is = stay-settled who (session h who) (Err refusal) tt
+stay-statement h now who stmt (Ok _) is = of (takes_sight (where_of stmt) (session h who).sight)
+  where
+    at : (g : History) → IsStaying (has_open who g) stmt → Stay (settled who (session g who) (form (database_of g) (shown_in g) now who stmt)).marks
+    at g so = stay-settled who (session g who) (form (database_of g) (shown_in g) now who stmt) (stays-form (database_of g) (shown_in g) now who stmt so)
+
+    of : (b : Bool) → Stay (if b then looking who (settled who (session (looked who ∷ h) who) (form (database_of (looked who ∷ h)) (shown_in (looked who ∷ h)) now who stmt))
+        else settled who (session h who) (form (database_of h) (shown_in h) now who stmt)).marks
+    of true = at (looked who ∷ h) is
+    of false = at h is
+
+-- how a statement is made, by whether it may be
+abbrev made : History → ℤ → ℕ → Stmt → Checked (Unit {0}) → Outcome
+made h now who stmt may = runs_if (making database_by_history now who stmt) (where_of stmt) who h may
+
+allowed-busy : (w o : Bool) (b : Block) → w ≡ true → allowed w o b WhenOpen ≡ Err Busy
+allowed-busy true o b is = refl
+allowed-busy false o b is = absurd (cc)
+
+allowed-close : (w o : Bool) (b : Block) → w ≡ false → o ≡ true → allowed w o b WhenOpen ≡ Ok tt
+allowed-close false true outside quiet is = refl
+allowed-close false true inside quiet is = refl
+allowed-close false true failed quiet is = refl
+allowed-close false false b quiet is = absurd (cc)
+allowed-close true o b quiet is = absurd (cc)
+
+allowed-open : (w o : Bool) (b : Block) → w ≡ false → o ≡ false → allowed w o b Anywhere ≡ Ok tt
+allowed-open false false b quiet is = refl
+allowed-open false true b quiet is = absurd (cc)
+allowed-open true o b quiet is = absurd (cc)
+
+-- `close` of a session that waits is refused
+busy-closes : (h : History) (now : ℤ) (who : ℕ) → is_waiting who (waiting h) ≡ true → Stay (statement database_by_history h now who (Row Close)).marks
+busy-closes h now who waits =
+    subst (λ may. Stay (made h now who (Row Close) may).marks) (sym (allowed-busy (is_waiting who (waiting h)) (has_open who h) (block who h) waits))
+    (stay-settled who (session h who) (Err Busy) tt)
+
+-- else it closes the database
+closes : (h : History) (now : ℤ) (who : ℕ) → is_waiting who (waiting h) ≡ false → has_open who h ≡ true → Opens h (statement database_by_history h now who (Row Close)).marks who false
+closes h now who quiet is =
+    subst (λ may. Opens h (made h now who (Row Close) may).marks who false) (sym (allowed-close (is_waiting who (waiting h)) (has_open who h) (block who h) quiet is))
+    (of (block who h) (own_txid who h))
+  where
+    of : (b : Block) (o : Option ℕ) → Opens h (settled who (session h who) (tells (database_of h) now (close who o b))).marks who false
+    of outside o v = refl
+    of inside None v = refl
+    of inside (Some t) v = refl
+    of failed None v = refl
+    of failed (Some t) v = refl
+
+-- and `open` opens it
+opens-here : (h : History) (now : ℤ) (who : ℕ) (name : List ℕ) → is_waiting who (waiting h) ≡ false → has_open who h ≡ false
+    → Opens h (statement database_by_history h now who (Row (OpenDb name))).marks who true
+opens-here h now who name quiet is =
+    subst (λ may. Opens h (made h now who (Row (OpenDb name)) may).marks who true) (sym (allowed-open (is_waiting who (waiting h)) (has_open who h) (block who h) quiet is))
+    (subst (λ o. Opens h (settled who (session h who) (tells (database_of h) now (open_db who o))).marks who true) (sym is) (λ v. refl))
+
+-- ---- homes
+
+-- whether a session whose home is this has that database open
+abbrev stands : Option ℕ → ℕ → Bool
+stands None d = false
+stands (Some e) d = e == d
+
+abbrev Homed : Past → Type 0
+Homed past = (who d : ℕ) → has_open who (history_in past d) ≡ stands (home past who) d
+
+abbrev home_if : Bool → ℕ → Option ℕ
+home_if true d = Some d
+home_if false d = None
+
+-- marks change no home
+home-marks : (past : Past) (d : ℕ) (marks : List Mark) (v : ℕ) → home (on_top past (map (within d) marks)) v ≡ home past v
+home-marks past d [] v = refl
+home-marks past d (mark ∷ marks) v = home-marks (within d mark ∷ past) d marks v
+
+-- a turn in a database that its session has open then, or hasn't, where it is said so of its home
+homed-turn : (past : Past) → Homed past → (d who : ℕ) (marks : List Mark) (beside : List Fact) (b : Bool) → AreOutside beside
+    → ((v : ℕ) → home (on_top (on_top past (map (within d) marks)) beside) v ≡ (if who == v then home_if b d else home past v))
+    → Opens (history_in past d) marks who b
+    → ((e : ℕ) → (d == e) ≡ false → has_open who (history_in past e) ≡ false)
+    → Homed (on_top past (map (within d) marks ++ beside))
+homed-turn past homed d who marks beside b none homes own elsewhere v e =
+    ap (has_open v) (history-outside past (map (within d) marks) beside e none ∙ history-marks past d marks e)
+    ∙ at (d == e) refl
+    ∙ ap (λ o. stands o e) (sym (ap (λ p. home p v) (on_top-append past (map (within d) marks) beside) ∙ homes v))
+  where
+    here : (f : Bool) → (if f then b else has_open v (history_in past d)) ≡ stands (if f then home_if b d else home past v) d
+    here true = of b
+      where
+        of : (c : Bool) → c ≡ stands (home_if c d) d
+        of true = grind (arith, nat_tests)
+        of false = refl
+    here false = homed v d
+
+    there : (f : Bool) → (who == v) ≡ f → (d == e) ≡ false → has_open v (history_in past e) ≡ stands (if f then home_if b d else home past v) e
+    there true is other =
+        let same : v ≡ who = grind (arith, nat_tests) in
+        ap (λ n. has_open n (history_in past e)) same ∙ elsewhere e other ∙ of b other
+      where
+        of : (c : Bool) → (d == e) ≡ false → false ≡ stands (home_if c d) e
+        of true apart = sym apart
+        of false apart = refl
+    there false is other = homed v e
+
+    at : (c : Bool) → (d == e) ≡ c → has_open v (if c then marked (history_in past e) marks else history_in past e) ≡ stands (if who == v then home_if b d else home past v) e
+    at true is =
+        let one : d ≡ e = grind (arith, nat_tests) in
+        subst (λ n. has_open v (marked (history_in past n) marks) ≡ stands (if who == v then home_if b d else home past v) n) one (own v ∙ here (who == v))
+    at false is = there (who == v) refl is
+
+-- where its home is no other database it has no other open
+elsewhere-none : (past : Past) → Homed past → (d who : ℕ) (at : Option ℕ) → home past who ≡ at → (at ≡ None) ⊎ (at ≡ Some d) → (e : ℕ) → (d == e) ≡ false → has_open who (history_in past e) ≡ false
+elsewhere-none past homed d who at is where_it_is e other =
+    homed who e ∙ ap (λ o. stands o e) is ∙ elim where_it_is [
+      | inl none ↦ ap (λ o. stands o e) none
+      | inr some ↦ ap (λ o. stands o e) some ∙ other
+    ]
+
+-- the same of a deed
+homed-deed : (past : Past) → Homed past → (d who : ℕ) (stmt : Stmt) (beside : List Fact) (b : Bool) → AreOutside beside
+    → ((p : Past) (v : ℕ) → home p v ≡ home past v → home (on_top p beside) v ≡ (if who == v then home_if b d else home past v))
+    → Opens (history_in past d) (statement database_by_history (history_in past d) (world_of past).now who stmt).marks who b
+    → ((e : ℕ) → (d == e) ≡ false → has_open who (history_in past e) ≡ false)
+    → Homed (on_top past (deed_in d beside (database_turn (within_database by_past d) past (world_of past).now who stmt)).facts)
+homed-deed past homed d who stmt beside b none homes own elsewhere =
+    subst (λ (t : Turn). Homed (on_top past (map (within d) t.marks ++ beside))) (sym (same-turn-within past d (world_of past).now who stmt))
+    (homed-turn past homed d who (database_turn database_by_history (history_in past d) (world_of past).now who stmt).marks beside b none
+    (λ v. homes (on_top past (map (within d) (database_turn database_by_history (history_in past d) (world_of past).now who stmt).marks)) v
+    (home-marks past d (database_turn database_by_history (history_in past d) (world_of past).now who stmt).marks v))
+    (turn-opens (history_in past d) (world_of past).now who stmt b own) elsewhere)
+
+-- a session that has none open waits nowhere
+quiet-closed : (past : Past) → AllLegal past → (d who : ℕ) → has_open who (history_in past d) ≡ false → is_waiting who (waiting (history_in past d)) ≡ false
+quiet-closed past all d who closed = of (is_waiting who (waiting (history_in past d))) refl
+  where
+    of : (b : Bool) → is_waiting who (waiting (history_in past d)) ≡ b → b ≡ false
+    of true e = let is : has_open who (history_in past d) ≡ true = waits-open (history_in past d) (all d) who e in absurd (cc)
+    of false e = refl
+
+-- `open` of a session without a home
+opening-name : (stmt : Stmt) (name : List ℕ) → opening stmt ≡ Some name → stmt ≡ Row (OpenDb name)
+opening-name (Row (OpenDb n)) name is = let same : n ≡ name = cc in ap (λ m. Row (OpenDb m)) same
+opening-name _ name is = absurd (cc)
+
+homed-opens_in : (past : Past) → AllLegal past → Homed past → (who d : ℕ) (name : List ℕ) → home past who ≡ None
+    → Homed (on_top past (deed_in d (entered who d ∷ []) (database_turn (within_database by_past d) past (world_of past).now who (Row (OpenDb name)))).facts)
+homed-opens_in past all homed who d name none =
+    homed-deed past homed d who (Row (OpenDb name)) (entered who d ∷ []) true (λ p n. refl)
+    (λ p v same. ap (λ o. if who == v then Some d else o) same)
+    (opens-here (history_in past d) (world_of past).now who name (quiet-closed past all d who closed) closed)
+    (elsewhere-none past homed d who None none (inl refl))
+  where
+    closed : has_open who (history_in past d) ≡ false
+    closed = homed who d ∙ ap (λ o. stands o d) none
+
+homed-if : (past : Past) (b : Bool) (x y : Deed) → Homed (on_top past x.facts) → Homed (on_top past y.facts) → Homed (on_top past (if b then x else y).facts)
+homed-if past true x y homed also = homed
+homed-if past false x y homed also = also
+
+homed-opens : (past : Past) → AllLegal past → Homed past → (who : ℕ) (name : List ℕ) (found : Option ℕ) → home past who ≡ None
+    → Homed (on_top past (opens by_past past who (Row (OpenDb name)) name found).facts)
+homed-opens past all homed who name (Some d) none = homed-opens_in past all homed who d name none
+homed-opens past all homed who name None none =
+    homed-if past (nat_le 16 (length (database_names past))) _ _ homed (homed-opens_in (founded name ∷ past) all homed who (length (database_names past)) name none)
+
+homed-outside : (past : Past) → AllLegal past → Homed past → (who : ℕ) (stmt : Stmt) (name : Option (List ℕ)) → opening stmt ≡ name → home past who ≡ None
+    → Homed (on_top past (outside_does by_past past who stmt name).facts)
+homed-outside past all homed who stmt None is none = homed
+homed-outside past all homed who stmt (Some name) is none =
+    subst (λ (s : Stmt). Homed (on_top past (opens by_past past who s name (place_of name (database_names past))).facts)) (sym (opening-name stmt name is))
+    (homed-opens past all homed who name (place_of name (database_names past)) none)
+
+-- a statement is `close`, or leaves its session where it is
+close-or-stays : (stmt : Stmt) (waits is_open : Bool) → is_open ≡ true → (stmt ≡ Row Close) ⊎ ((is_leaving waits stmt ≡ false) × IsStaying is_open stmt)
+close-or-stays (Row Close) waits is_open is = inl refl
+close-or-stays (Row (OpenDb name)) waits is_open is = inr (refl, is)
+close-or-stays _ waits is_open is = inr (refl, tt)
+
+-- a statement of a session that has a home
+module _ (past : Past) (homed : Homed past) (d who : ℕ) (at_home : home past who ≡ Some d) where
+  h : History
+  h = history_in past d
+
+  abbrev After : Stmt → Bool → Type 0
+  After stmt leaving = Homed (on_top past (deed_in d (left_if who leaving) (database_turn (within_database by_past d) past (world_of past).now who stmt)).facts)
+
+  is_here : has_open who (history_in past d) ≡ true
+  is_here = homed who d ∙ ap (λ o. stands o d) at_home ∙ grind (arith, nat_tests)
+
+  elsewhere : (e : ℕ) → (d == e) ≡ false → has_open who (history_in past e) ≡ false
+  elsewhere = elsewhere-none past homed d who (Some d) at_home (inr refl)
+
+  as-was : (v : ℕ) → home past v ≡ (if who == v then Some d else home past v)
+  as-was v = of (who == v) refl
+    where
+      of : (f : Bool) → (who == v) ≡ f → home past v ≡ (if f then Some d else home past v)
+      of true e = let same : v ≡ who = grind (arith, nat_tests) in ap (home past) same ∙ at_home
+      of false e = refl
+
+  stays-home : (stmt : Stmt) → Stay (statement database_by_history (history_in past d) (world_of past).now who stmt).marks → After stmt false
+  stays-home stmt stay =
+      homed-deed past homed d who stmt [] true (λ p n. refl) (λ p v same. same ∙ as-was v) (stay-opens (history_in past d) (statement database_by_history (history_in past d) (world_of past).now who stmt).marks who true stay is_here) elsewhere
+
+  leaves-home : is_waiting who (waiting (history_in past d)) ≡ false → After (Row Close) true
+  leaves-home quiet =
+      homed-deed past homed d who (Row Close) (left who ∷ []) false (λ p n. refl) (λ p v same. ap (λ o. if who == v then None else o) same)
+      (closes (history_in past d) (world_of past).now who quiet is_here) elsewhere
+
+  pub homed-inside : (stmt : Stmt) → After stmt (is_leaving (is_waiting who (waiting (history_in past d))) stmt)
+  homed-inside stmt = elim (close-or-stays stmt (is_waiting who (waiting (history_in past d))) (has_open who (history_in past d)) is_here) [
+    | inl is ↦ subst (λ s. After s (is_leaving (is_waiting who (waiting (history_in past d))) s)) (sym is) (closing (is_waiting who (waiting (history_in past d))) refl)
+    | inr (not_leaving, stays) ↦ subst (After stmt) (sym not_leaving) (stays-home stmt (stay-statement (history_in past d) (world_of past).now who stmt _ stays))
+  ]
+    where
+      closing : (w : Bool) → is_waiting who (waiting (history_in past d)) ≡ w → After (Row Close) (is_leaving w (Row Close))
+      closing true waits = stays-home (Row Close) (busy-closes (history_in past d) (world_of past).now who waits)
+      closing false quiet = leaves-home quiet
+
+homed-session : (past : Past) → AllLegal past → Homed past → (who : ℕ) (stmt : Stmt) (at : Option ℕ) → home past who ≡ at → Homed (on_top past (session_does by_past past who stmt at).facts)
+homed-session past all homed who stmt None is = homed-outside past all homed who stmt (opening stmt) refl is
+homed-session past all homed who stmt (Some d) is = homed-inside past homed d who is stmt
+
+homed-called : (past : Past) → AllLegal past → Homed past → (call : Call) (found : Option ℕ) → Homed (on_top past (called by_past past call found).facts)
+homed-called past all homed call (Some who) = homed-session past all homed who call.stmt (home past who) refl
+homed-called past all homed call None =
+    let who : ℕ = length (session_names past) in
+    homed-if past (nat_le 256 who) _ _ homed
+    (subst Homed (sym (on_top-append past (appears call.who).facts (turn by_past who call.stmt (appeared call.who ∷ past)).facts))
+    (homed-session (appeared call.who ∷ past) all homed who call.stmt (home past who) refl))
+
+homed-past : (calls : List Call) → Homed (past_of calls)
+homed-past [] = λ who d. refl
+homed-past (call ∷ calls) = homed-called (past_of calls) (legal_past calls) (homed-past calls) call (place_of call.who (session_names (past_of calls)))
+
+pub homes_are_open : HomesAreOpen
+homes_are_open calls who d = (λ is. to (home (past_of calls) who) (sym (homed-past calls who d) ∙ is), λ at. homed-past calls who d ∙ ap (λ o. stands o d) at ∙ grind (arith, nat_tests))
+  where
+    to : (o : Option ℕ) → stands o d ≡ true → o ≡ Some d
+    to None e = absurd (cc)
+    to (Some e) is = let same : e ≡ d = grind (arith, nat_tests) in ap Some same

@@ -1,0 +1,39 @@
+-- What facts make of the histories of databases.
+use Rattle.std.proofs.Common.{◌≡◌, ℕ, List, [], ◌∷◌, ◌++◌, Bool, true, false, map, refl, ◌∙◌, ap, if◌then◌else◌, ◌==◌}
+use Rattle.sky_model.specs.History.{Mark, Fact, within, Past}
+use Rattle.sky_model.specs.World.{history_in, on_top}
+use Rattle.sky_model.specs.Reader.{part_by_history}
+use Rattle.sky_model.specs.Settling.{behind_marks}
+use Rattle.sky_model.specs.Calls.{left_if}
+
+pub on_top-append : (past : Past) (xs ys : List Fact) → on_top past (xs ++ ys) ≡ on_top (on_top past xs) ys
+on_top-append past [] ys = refl
+on_top-append past (x ∷ xs) ys = on_top-append (x ∷ past) xs ys
+
+-- marks within a database are marks in its history
+pub history-marks : (past : Past) (d : ℕ) (marks : List Mark) (n : ℕ)
+    → history_in (on_top past (map (within d) marks)) n ≡ (if d == n then behind_marks part_by_history (history_in past n) marks else history_in past n)
+history-marks past d [] n = of (d == n)
+  where
+    of : (b : Bool) → history_in past n ≡ (if b then history_in past n else history_in past n)
+    of true = refl
+    of false = refl
+history-marks past d (mark ∷ marks) n = history-marks (within d mark ∷ past) d marks n ∙ of (d == n)
+  where
+    of : (b : Bool) → (if b then behind_marks part_by_history (if b then mark ∷ history_in past n else history_in past n) marks else (if b then mark ∷ history_in past n else history_in past n))
+        ≡ (if b then behind_marks part_by_history (mark ∷ history_in past n) marks else history_in past n)
+    of true = refl
+    of false = refl
+
+-- facts that change no history
+abbrev pub AreOutside : List Fact → Type 0
+AreOutside facts = (past : Past) (n : ℕ) → history_in (on_top past facts) n ≡ history_in past n
+
+-- a history is then as they found it
+pub history-outside : (past : Past) (facts outside : List Fact) (n : ℕ) → AreOutside outside → history_in (on_top past (facts ++ outside)) n ≡ history_in (on_top past facts) n
+history-outside past facts outside n none = ap (λ p. history_in p n) (on_top-append past facts outside) ∙ none (on_top past facts) n
+
+-- such is that a session leaves its database
+pub left-outside : (who : ℕ) (leaving : Bool) → AreOutside (left_if who leaving)
+left-outside who true past n = refl
+left-outside who false past n = refl

@@ -1,0 +1,4 @@
+pub mod DayLemmas
+pub mod Doubling
+pub mod MomentLemmas
+pub mod Printing

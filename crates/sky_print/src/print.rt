@@ -1,0 +1,222 @@
+ghost use Rattle.std.specs.Prelude.{◌≡◌, [], ◌∷◌, ◌++◌, map, flat_map, length, codes, OnOk, OnErr};
+ghost use Rattle.std.specs.Fmt.{decimal};
+ghost use Rattle.sky_model.specs.Moment.{HasMoment};
+ghost use Rattle.sky_model.specs.Printed.{event_text, row_text, count_text, name_at, refusal_text, line_text, reply_text, printed, HaveNames, EventsHaveMoments, ReplyHasMoments, HaveMoments};
+ghost use Rattle.sky_txid.specs.SnapshotText.{snapshot_text};
+ghost use Rattle.sky_print.specs.Kept.{Keeps};
+
+use crate::event::append_event;
+use crate::refusal::append_refusal;
+use crate::row::append_row;
+use itoa::Buffer;
+use sky_model::{Refusal, Replies, Reply};
+use sky_txid::Snapshot;
+use sky_val::{Event, NoMemory, Row, SessionId, Text, Val};
+
+/// Appends the lines of these answers, each behind its session's name. A session's number is its
+/// name's place in `names`.
+pub fn print_replies(names: &[Text], replies: &Replies, into: &mut Vec<u8>) -> Result<(), NoMemory>
+    requires named { HaveNames names.now replies.now }
+    requires moments { HaveMoments replies.now }
+    ensures ok { OnOk result (into.new.items ≡ into.old.items ++ printed names.now replies.now) }
+    ensures err { OnErr result (into.new.items ≡ into.old.items) }
+{
+    let start = into.len();
+    let appended = append_replies(names, replies.as_slice(), into);
+    if appended.is_err() {
+        into.truncate(start);
+    }
+    appended
+}
+
+// Each of the following may leave a part of its text where memory is refused, behind all that stood
+// there before.
+
+fn append_replies(
+    names: &[Text],
+    replies: &[(SessionId, Reply)],
+    into: &mut Vec<u8>,
+) -> Result<(), NoMemory>
+    requires named { HaveNames names.now replies.now }
+    requires moments { HaveMoments replies.now }
+    ensures ok { OnOk result (into.new.items ≡ into.old.items ++ printed names.now replies.now) }
+    ensures kept { OnErr result (Keeps into.old.items into.new.items) }
+{
+    for (session, reply) in replies {
+        append_reply(names, names[*session as usize].bytes(), reply, into)?;
+    }
+    Ok(())
+}
+
+// The lines of an answer of the session of this name, where the sessions have these names.
+fn append_reply(
+    names: &[Text],
+    name: &[u8],
+    reply: &Reply,
+    into: &mut Vec<u8>,
+) -> Result<(), NoMemory>
+    requires { ReplyHasMoments reply.now }
+    ensures ok { OnOk result (into.new.items ≡ into.old.items ++ reply_text names.now name.now reply.now) }
+    ensures kept { OnErr result (Keeps into.old.items into.new.items) }
+{
+    match reply {
+        Reply::Done => append_line(name, b"ok", into),
+        Reply::Number(number) => append_line(name, Buffer::new().format(*number).as_bytes(), into),
+        Reply::Null => append_line(name, b"null", into),
+        Reply::Bool(true) => append_line(name, b"true", into),
+        Reply::Bool(false) => append_line(name, b"false", into),
+        Reply::Begin => append_line(name, b"BEGIN", into),
+        Reply::AlreadyInTransaction => {
+            append_line(name, b"WARNING already in a transaction", into)
+        }
+        Reply::Commit => append_line(name, b"COMMIT", into),
+        Reply::Rollback => append_line(name, b"ROLLBACK", into),
+        Reply::NoTransaction => append_line(name, b"WARNING no transaction", into),
+        Reply::NotWaiting => append_line(name, b"not waiting", into),
+        Reply::Waits(holder) => append_waits(name, name_of(names, *holder), into),
+        Reply::Snapshot(snapshot) => append_snapshot(name, snapshot, into),
+        Reply::Events(events) => append_batch(name, events.as_slice(), into),
+        Reply::Row(row) => append_row_line(name, row.values(), into),
+        Reply::NoRow => append_line(name, b"none", into),
+        Reply::Rows(rows) => append_listing(name, rows.as_slice(), into),
+        Reply::Refused(refusal) => append_refused(names, name, refusal, into),
+    }
+}
+
+fn append_line(name: &[u8], line: &[u8], into: &mut Vec<u8>) -> Result<(), NoMemory>
+    ensures ok { OnOk result (into.new.items ≡ into.old.items ++ line_text name.now line.now) }
+    ensures kept { OnErr result (Keeps into.old.items into.new.items) }
+{
+    append_name(name, into)?;
+    into.extend_from_slice(line)?;
+    into.push(b'\n')?;
+    Ok(())
+}
+
+// The wait for the session of the holder's name.
+fn append_waits(name: &[u8], holder: &[u8], into: &mut Vec<u8>) -> Result<(), NoMemory>
+    ensures ok { OnOk result
+        (into.new.items ≡ into.old.items ++ line_text name.now (codes "waits for " ++ holder.now)) }
+    ensures kept { OnErr result (Keeps into.old.items into.new.items) }
+{
+    append_name(name, into)?;
+    into.extend_from_slice(b"waits for ")?;
+    into.extend_from_slice(holder)?;
+    into.push(b'\n')?;
+    Ok(())
+}
+
+fn append_snapshot(name: &[u8], snapshot: &Snapshot, into: &mut Vec<u8>) -> Result<(), NoMemory>
+    ensures ok { OnOk result
+        (into.new.items ≡ into.old.items ++ line_text name.now (snapshot_text snapshot.now)) }
+    ensures kept { OnErr result (Keeps into.old.items into.new.items) }
+{
+    append_name(name, into)?;
+    snapshot.print(into)?;
+    into.push(b'\n')?;
+    Ok(())
+}
+
+// The events of a batch, and how many they are.
+fn append_batch(name: &[u8], events: &[Event], into: &mut Vec<u8>) -> Result<(), NoMemory>
+    requires { EventsHaveMoments events.now }
+    ensures ok { OnOk result (into.new.items ≡ into.old.items
+        ++ flat_map (line_text name.now) (map event_text events.now ++ count_text (length events.now) ∷ [])) }
+    ensures kept { OnErr result (Keeps into.old.items into.new.items) }
+{
+    for event in events {
+        append_event_line(name, event, into)?;
+    }
+    append_count(name, events.len() as u64, into)
+}
+
+fn append_event_line(name: &[u8], event: &Event, into: &mut Vec<u8>) -> Result<(), NoMemory>
+    requires { HasMoment event.now.ev_time }
+    ensures ok { OnOk result
+        (into.new.items ≡ into.old.items ++ line_text name.now (event_text event.now)) }
+    ensures kept { OnErr result (Keeps into.old.items into.new.items) }
+{
+    append_name(name, into)?;
+    append_event(event, into)?;
+    into.push(b'\n')?;
+    Ok(())
+}
+
+// The rows of a table, and how many they are.
+fn append_listing(name: &[u8], rows: &[Row], into: &mut Vec<u8>) -> Result<(), NoMemory>
+    ensures ok { OnOk result (into.new.items ≡ into.old.items
+        ++ flat_map (line_text name.now) (map row_text rows.now ++ count_text (length rows.now) ∷ [])) }
+    ensures kept { OnErr result (Keeps into.old.items into.new.items) }
+{
+    for row in rows {
+        append_row_line(name, row.values(), into)?;
+    }
+    append_count(name, rows.len() as u64, into)
+}
+
+fn append_row_line(name: &[u8], values: &[Val], into: &mut Vec<u8>) -> Result<(), NoMemory>
+    ensures ok { OnOk result
+        (into.new.items ≡ into.old.items ++ line_text name.now (row_text values.now)) }
+    ensures kept { OnErr result (Keeps into.old.items into.new.items) }
+{
+    append_name(name, into)?;
+    append_row(values, into)?;
+    into.push(b'\n')?;
+    Ok(())
+}
+
+fn append_count(name: &[u8], count: u64, into: &mut Vec<u8>) -> Result<(), NoMemory>
+    ensures ok { OnOk result
+        (into.new.items ≡ into.old.items ++ line_text name.now (count_text count)) }
+    ensures kept { OnErr result (Keeps into.old.items into.new.items) }
+{
+    append_name(name, into)?;
+    into.extend_from_slice(b"rows ")?;
+    append_number(count, into)?;
+    into.push(b'\n')?;
+    Ok(())
+}
+
+fn append_refused(
+    names: &[Text],
+    name: &[u8],
+    refusal: &Refusal,
+    into: &mut Vec<u8>,
+) -> Result<(), NoMemory>
+    ensures ok { OnOk result (into.new.items
+        ≡ into.old.items ++ line_text name.now (codes "error " ++ refusal_text names.now refusal.now)) }
+    ensures kept { OnErr result (Keeps into.old.items into.new.items) }
+{
+    append_name(name, into)?;
+    into.extend_from_slice(b"error ")?;
+    append_refusal(names, refusal, into)?;
+    into.push(b'\n')?;
+    Ok(())
+}
+
+// What stands before a line of the session of this name.
+fn append_name(name: &[u8], into: &mut Vec<u8>) -> Result<(), NoMemory>
+    ensures ok { OnOk result (into.new.items ≡ into.old.items ++ (name.now ++ codes ": ")) }
+    ensures kept { OnErr result (Keeps into.old.items into.new.items) }
+{
+    into.extend_from_slice(name)?;
+    into.extend_from_slice(b": ")
+}
+
+/// The name of a session, or no byte where it has none.
+pub(crate) fn name_of(names: &[Text], session: SessionId) -> &[u8]
+    ensures { result.now ≡ name_at names.now session }
+{
+    match names.get(session as usize) {
+        Some(name) => name.bytes(),
+        None => b"",
+    }
+}
+
+/// Appends a number in decimal. At `Err` it appends nothing.
+pub(crate) fn append_number(number: u64, into: &mut Vec<u8>) -> Result<(), NoMemory>
+    ensures ok { OnOk result (into.new.items ≡ into.old.items ++ decimal number) }
+    ensures err { OnErr result (into.new.items ≡ into.old.items) }
+{
+    into.extend_from_slice(Buffer::new().format(number).as_bytes())
+}

@@ -1,9 +1,0 @@
--- The events' lines are printed, and behind them how many they are.
-use Rattle.std.proofs.Common.{arith}
-use Rattle.std.proofs.lemmas.Grind.{common_steps}
-use Rattle.sky_model.specs.Printed.{event_text}
-use Rattle.sky_script.proofs.Printing.{lines-listed}
-use Rattle.sky_script.proofs.print.append_batch.Goals as goal
-
-pub returns-clause-ok : goal.returns-clause-ok
-returns-clause-ok c = grind (arith, common_steps, lines-listed c.args.name.now event_text c.args.events.now)

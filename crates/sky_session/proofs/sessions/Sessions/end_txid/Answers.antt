@@ -1,8 +1,0 @@
-use Rattle.std.proofs.Common.{rules, refl, ap, None}
-use Rattle.sky_model.specs.State.{with_txid}
-use Rattle.sky_session.specs.Seen.{session_of}
-use Rattle.sky_session.proofs.SessionLists.{session-set}
-use Rattle.sky_session.proofs.sessions.Sessions.end_txid.Goals as goal
-
-pub returns-then-who-len : goal.returns-then-who-len
-returns-then-who-len c = session-set _ _ c.args.who c.index_mut.result.now _ (with_txid None) (ap session_of c.self.view_is) (search rules) c.index_mut.ensures.value refl

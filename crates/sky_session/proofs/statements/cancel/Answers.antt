@@ -1,0 +1,10 @@
+-- A session that waits no longer rolls its block back.
+use Rattle.std.proofs.Common.{◌∙◌, sym}
+use Rattle.sky_state.specs.Seen.{seen}
+use Rattle.sky_session.proofs.LockLemmas.{does-cancel}
+use Rattle.sky_session.proofs.statements.cancel.Goals as goal
+
+pub returns : goal.returns
+returns c =
+    does-cancel (seen c.args.state.now) (seen c.waited.new.self) (seen c.abort_block.new.state) c.args.who c.in_ok-undone.undone (sym c.is_waiting.ensures ∙ c.if-not-is_waiting.false)
+    c.waited.ensures.mark c.in_ok-undone.ensures.marks c.in_ok-undone.ensures.told

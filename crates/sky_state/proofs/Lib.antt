@@ -1,0 +1,8 @@
+pub mod SessionLists
+pub mod AttemptLists
+pub mod WriterBits
+pub mod Owning
+pub mod WaitLemmas
+pub mod AloneLemmas
+pub mod ScanLemmas
+pub mod Empty

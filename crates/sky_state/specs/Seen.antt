@@ -1,0 +1,75 @@
+-- The readings of the definitions, in what the code keeps.
+use Rattle.std.specs.Prelude.{ℕ, Bool, false, ◌==◌, List, [], None, slice_index_or}
+use Rattle.std.specs.Int.{bit_at}
+use Rattle.std.specs.Option.{option_map_or}
+use Rattle.std.specs.Map.{lookup}
+use Rattle.std.specs.BTreeMap.{is_at}
+use Rattle.std.specs.Ordering.{nat_cmp}
+use Rattle.sky_val.specs.declared.column.Column.{Column}
+use Rattle.sky_val.specs.Entries.{Entries}
+use Rattle.sky_txid.specs.declared.version.Version.{Version}
+use Rattle.sky_txid.specs.Snapshot.{SnapshotView}
+use Rattle.sky_rows.specs.Table.{TableView}
+use Rattle.sky_locks.specs.Locks.{holder}
+use Rattle.sky_model.specs.declared.stmt.Attempt.{Attempt}
+use Rattle.sky_model.specs.declared.stmt.Attempt.TheVariants.{Deletion}
+use Rattle.sky_model.specs.Sessions as model
+use Rattle.sky_model.specs.State.{RowPart}
+use Rattle.sky_fits.specs.declared.standing.Block.TheVariants.{Outside}
+use Rattle.sky_fits.specs.Blocks.{seen_block}
+use Rattle.sky_state.specs.declared.session.Sight.{Sight}
+use Rattle.sky_state.specs.declared.session.Sight.TheVariants.{AtEach, AtFirst, AtPlace}
+use Rattle.sky_state.specs.declared.session.Session.{Session}
+use Rattle.sky_state.specs.Views.{RowStateView}
+
+abbrev pub seen_sight : Sight → model.Sight SnapshotView
+seen_sight AtEach = model.at_each
+seen_sight AtFirst = model.at_first
+seen_sight (AtPlace snapshot) = model.at_place snapshot
+
+abbrev pub seen_session : Session → model.Session
+seen_session s = record { is_open = s.is_open; block = seen_block s.block; txid = s.txid; sight = seen_sight s.sight }
+
+-- a session that has the database not open, and so is in no transaction
+abbrev pub rest : Session
+rest = record { is_open = false; block = Outside; txid = None; sight = AtEach }
+
+-- the sessions, by number
+abbrev pub session_of : List Session → ℕ → model.Session
+session_of sessions who = seen_session (slice_index_or sessions who rest)
+
+-- a table that isn't made
+abbrev pub no_table : TableView
+no_table = record { columns = []; versions = [] }
+
+-- the tables, by number
+abbrev pub table_of : List TableView → ℕ → TableView
+table_of tables n = slice_index_or tables n no_table
+
+abbrev pub columns_of : List TableView → ℕ → List Column
+columns_of tables n = (table_of tables n).columns
+
+abbrev pub versions_of : List TableView → ℕ → Entries (List Version)
+versions_of tables n = (table_of tables n).versions
+
+-- whether a transaction has written in a table: its bit for the table is set
+abbrev pub wrote_in : List (ℕ × ℕ) → (table t : ℕ) → Bool
+wrote_in writers table t = option_map_or (λ tables. bit_at tables table == 1) (lookup (is_at (nat_cmp t)) writers) false
+
+-- what a session that waits is to do
+abbrev pub attempt_of : List Attempt → ℕ → Attempt
+attempt_of attempts who = slice_index_or attempts who Deletion
+
+abbrev pub seen : RowStateView → RowPart
+seen d = record {
+  next = d.trans.next;
+  running_ids = d.trans.running;
+  session = session_of d.sessions;
+  tables = d.names;
+  columns = columns_of d.tables;
+  versions = versions_of d.tables;
+  wrote_in = wrote_in d.writers;
+  holder = holder d.locks;
+  waiting = d.locks.waiting;
+  attempt = attempt_of d.attempts;
+}

@@ -1,0 +1,96 @@
+//! What a table shows a session, and each key of it. Each part is read by itself, so that a statement reads no more than it
+//! needs.
+
+ghost use Rattle.std.specs.Prelude.{◌≡◌, ◌<◌, IfOk, is_some, length, map};
+ghost use Rattle.std.specs.Option.{option_copied};
+ghost use Rattle.sky_txid.specs.Versions.{versions_at, own_version};
+ghost use Rattle.sky_model.specs.ShownRows.{snapshot_now, snapshot_for, rows_by};
+ghost use Rattle.sky_state.specs.Seen.{seen};
+
+use crate::row_state::RowState;
+use sky_txid::Snapshot;
+use sky_val::{Key, NoMemory, Row, SessionId};
+
+impl RowState {
+    /// The snapshot by which the session reads; `now` is that of now.
+    pub(crate) fn sight<'a>(&'a self, who: SessionId, now: &'a Snapshot) -> &'a Snapshot
+        requires { now.now ≡ snapshot_now (seen self.now) }
+        ensures { result.now ≡ snapshot_for (seen self.now) ((seen self.now).session who) }
+    {
+        match self.place(who) {
+            Some(place) => place,
+            None => now,
+        }
+    }
+
+    /// The key's row at the session's sight, or as its transaction left it.
+    pub fn row_shown(&self, who: SessionId, table: u32, key: &Key, now: &Snapshot) -> Option<&Row>
+        requires within { table < length (seen self.now).tables }
+        requires now { now.now ≡ snapshot_now (seen self.now) }
+        ensures { option_copied result ≡ ((rows_by (seen self.now)).key who table key.now).row }
+    {
+        let sight = self.sight(who, now);
+        self.table_at(table).read(key, sight, self.own_txid(who))
+    }
+
+    /// The table's rows at the session's sight, or as its transaction left them, by key.
+    pub fn rows_shown(
+        &self,
+        who: SessionId,
+        table: u32,
+        now: &Snapshot,
+    ) -> Result<Vec<Row>, NoMemory>
+        requires within { table < length (seen self.now).tables }
+        requires now { now.now ≡ snapshot_now (seen self.now) }
+        ensures { IfOk result (λ rows. rows.items ≡ map (λ e. e.1) ((rows_by (seen self.now)).rows who table)) }
+    {
+        let sight = self.sight(who, now);
+        let own = self.own_txid(who);
+        let rows = self
+            .table_at(table)
+            .scan_from(None, sight, own, usize::MAX)?;
+        Ok(rows)
+    }
+
+    /// Whether the key has a row now, or as the session's transaction left it.
+    pub fn has_standing(&self, who: SessionId, table: u32, key: &Key, now: &Snapshot) -> bool
+        requires within { table < length (seen self.now).tables }
+        requires now { now.now ≡ snapshot_now (seen self.now) }
+        ensures { result ≡ is_some ((rows_by (seen self.now)).key who table key.now).standing }
+    {
+        let standing = self.table_at(table).read(key, now, self.own_txid(who));
+        standing.is_some()
+    }
+
+    /// Whether the session's transaction has written the key.
+    fn has_written(&self, who: SessionId, table: u32, key: &Key) -> bool
+        requires { table < length (seen self.now).tables }
+        ensures { result ≡ is_some (own_version ((seen self.now).session who).txid (versions_at key.now ((seen self.now).versions table))) }
+    {
+        match self.own_txid(who) {
+            Some(txid) => self.table_at(table).has_own(key, txid),
+            None => false,
+        }
+    }
+
+    /// The transaction of the key's newest committed write, where the session doesn't see that and its own transaction
+    /// hasn't written the key.
+    pub fn unseen(&self, who: SessionId, table: u32, key: &Key, now: &Snapshot) -> Option<u64>
+        requires within { table < length (seen self.now).tables }
+        requires now { now.now ≡ snapshot_now (seen self.now) }
+        ensures { result ≡ ((rows_by (seen self.now)).key who table key.now).unseen }
+    {
+        let Some(sight) = self.place(who) else {
+            // It reads by the snapshot of now, which sees all that is committed.
+            return None;
+        };
+        if self.has_written(who, table, key) {
+            return None;
+        }
+        let newest = self.table_at(table).newest_seen(key, now)?;
+        if sight.sees(newest.txid) {
+            return None;
+        }
+        Some(newest.txid)
+    }
+}

@@ -1,0 +1,230 @@
+//! What can happen in a database, each mark by a method of its own, but that a session begins to wait, which stands in
+//! `waiting`. After want of memory the state isn't said.
+
+ghost use Rattle.std.specs.Prelude.{◌≡◌, ◌+◌, ◌-◌, ◌<◌, ◌^◌, [], ◌∷◌, true, false, None, Some, IfOk, OnOk, OnErr, length};
+ghost use Rattle.sky_val.specs.Waits.{other_holder, is_waiting};
+ghost use Rattle.sky_names.specs.Places.{place_of};
+ghost use Rattle.sky_model.specs.History.{of_session, began, ended, block_begun, repeats, looked, block_failed, block_ended, connected, disconnected, tabled, table_made, wrote, waited};
+ghost use Rattle.sky_model.specs.State.{after_part, after_part_marks};
+ghost use Rattle.sky_txid.specs.Versions.{written, forgotten};
+ghost use Rattle.sky_state.specs.Seen.{seen, columns_of, versions_of};
+
+use crate::row_state::RowState;
+use crate::session::Sight;
+use sky_fits::Block;
+use sky_locks::{LockKey, Taken};
+use sky_model::Attempt;
+use sky_rows::Table;
+use sky_trans::TransFault;
+use sky_val::{Key, NoMemory, Row, Schema, SessionId, Text};
+use std::alloc::AllocError;
+
+impl RowState {
+    /// The session opened the database.
+    pub fn connected(&mut self, who: SessionId) -> Result<(), NoMemory>
+        ensures { OnOk result (seen self.new ≡ after_part (seen self.old) (connected who)) }
+    {
+        self.sessions.connect(who)?;
+        Ok(())
+    }
+
+    /// It closed it.
+    pub fn disconnected(&mut self, who: SessionId)
+        ensures { seen self.new ≡ after_part (seen self.old) (disconnected who) }
+    {
+        self.sessions.disconnect(who);
+    }
+
+    /// The session's transaction gets the next id.
+    pub fn began(&mut self, who: SessionId) -> Result<u64, NoMemory>
+        requires { (seen self.old).next < 2 ^ 62 }
+        ensures id { IfOk result (λ txid. txid ≡ (seen self.old).next) }
+        ensures mark { IfOk result (λ txid. seen self.new ≡ after_part (seen self.old) (began (of_session who) txid)) }
+        ensures err { OnErr result (seen self.new ≡ seen self.old) }
+    {
+        self.sessions.make_room(who)?;
+        let txid = match self.trans.assign() {
+            Ok(txid) => txid,
+            Err(TransFault::NoMemory) => return Err(AllocError),
+            Err(TransFault::TxidsSpent) => unreachable!(),
+        };
+        self.sessions.begin_txid(who, txid);
+        Ok(txid)
+    }
+
+    /// The session's transaction commits.
+    pub fn committed(&mut self, who: SessionId, txid: u64)
+        requires { ((seen self.old).session who).txid ≡ Some txid }
+        ensures { seen self.new ≡ after_part (seen self.old) (ended (of_session who) txid true) }
+    {
+        self.sessions.end_txid(who);
+        self.trans.commit(txid);
+        self.writers.end(txid);
+        self.locks.release(who);
+    }
+
+    /// The session's transaction is rolled back.
+    pub fn aborted(&mut self, who: SessionId, txid: u64)
+        requires { ((seen self.old).session who).txid ≡ Some txid }
+        ensures { seen self.new ≡ after_part (seen self.old) (ended (of_session who) txid false) }
+    {
+        self.sessions.end_txid(who);
+        self.trans.abort(txid);
+        forget_all(&mut self.tables, txid);
+        self.writers.end(txid);
+        self.locks.release(who);
+    }
+
+    /// The session begins a block.
+    pub fn block_begun(&mut self, who: SessionId) -> Result<(), NoMemory>
+        ensures { OnOk result (seen self.new ≡ after_part (seen self.old) (block_begun who)) }
+    {
+        self.sessions.set_block(who, Block::Inside)?;
+        Ok(())
+    }
+
+    /// Its block is to read at one place.
+    pub fn repeats(&mut self, who: SessionId) -> Result<(), NoMemory>
+        ensures { OnOk result (seen self.new ≡ after_part (seen self.old) (repeats who)) }
+    {
+        self.sessions.set_sight(who, Sight::AtFirst)?;
+        Ok(())
+    }
+
+    /// The place at which it reads is here.
+    pub fn looked(&mut self, who: SessionId) -> Result<(), NoMemory>
+        ensures ok { OnOk result (seen self.new ≡ after_part (seen self.old) (looked who)) }
+        ensures err { OnErr result (seen self.new ≡ seen self.old) }
+    {
+        let snapshot = self.trans.snapshot()?;
+        self.sessions.set_sight(who, Sight::AtPlace(snapshot))?;
+        Ok(())
+    }
+
+    /// A refusal aborted its block.
+    pub fn block_failed(&mut self, who: SessionId) -> Result<(), NoMemory>
+        ensures { OnOk result (seen self.new ≡ after_part (seen self.old) (block_failed who)) }
+    {
+        self.sessions.fail(who)?;
+        Ok(())
+    }
+
+    /// Its block is over.
+    pub fn block_ended(&mut self, who: SessionId)
+        ensures { seen self.new ≡ after_part (seen self.old) (block_ended who) }
+    {
+        self.sessions.leave(who);
+    }
+
+    /// A table was made.
+    pub fn table_made(&mut self, name: Text, schema: Schema) -> Result<(), NoMemory>
+        requires new { place_of name (seen self.old).tables ≡ None }
+        requires room { length (seen self.old).tables < 64 }
+        ensures { OnOk result (seen self.new ≡ after_part (seen self.old) (tabled (table_made name schema))) }
+    {
+        self.tables.reserve(1)?;
+        self.names.add(name)?;
+        self.tables.push_reserved(Table::new(self.alloc, schema));
+        Ok(())
+    }
+
+    /// The session's transaction wrote a key of a table, which the session holds from then on. The row that the key had
+    /// is no part of what is kept, so here it is none. Of those that have ended nobody asks any more which keys of the
+    /// table they wrote, so that is forgotten.
+    pub fn wrote(
+        &mut self,
+        who: SessionId,
+        txid: u64,
+        key: LockKey,
+        row: Option<Row>,
+    ) -> Result<(), NoMemory>
+        requires within { key.table < length (seen self.old).tables }
+        requires free { other_holder (seen self.old).holder who key.table key.key ≡ None }
+        requires awake { is_waiting who (seen self.old).waiting ≡ false }
+        ensures { OnOk result (seen self.new ≡ after_part (seen self.old) (tabled (wrote (of_session who) txid key.table key.key None row))) }
+    {
+        match self.locks.try_key(who, &key)? {
+            Taken::Got => {}
+            Taken::Waits(_) | Taken::Cycle(_) => unreachable!(),
+        }
+        self.writers.add(key.table, txid)?;
+        let least = self.trans.least().unwrap_or(txid);
+        let table = &mut self.tables[key.table as usize];
+        table.prune(least);
+        table.write(txid, key.key, row)?;
+        Ok(())
+    }
+
+    /// The same in a transaction of its own, which gets the next id and commits with this write. So no lock is taken, and
+    /// nothing is kept of where it wrote: between the write and its end nobody asks for either.
+    pub fn wrote_alone(
+        &mut self,
+        who: SessionId,
+        key: LockKey,
+        row: Option<Row>,
+    ) -> Result<(), NoMemory>
+        requires within { key.table < length (seen self.old).tables }
+        requires free { other_holder (seen self.old).holder who key.table key.key ≡ None }
+        requires single { ((seen self.old).session who).txid ≡ None }
+        requires room { (seen self.old).next < 2 ^ 62 }
+        ensures { let t = (seen self.old).next in
+            OnOk result (seen self.new ≡ after_part_marks (seen self.old) (began (of_session who) t ∷ tabled (wrote (of_session who) t key.table key.key None row) ∷ ended (of_session who) t true ∷ [])) }
+    {
+        let least = self.trans.least();
+        let txid = match self.trans.assign() {
+            Ok(txid) => txid,
+            Err(TransFault::NoMemory) => return Err(AllocError),
+            Err(TransFault::TxidsSpent) => unreachable!(),
+        };
+        put_row(
+            &mut self.tables[key.table as usize],
+            least,
+            txid,
+            key.key,
+            row,
+        )?;
+        self.trans.commit(txid);
+        self.writers.end(txid);
+        self.locks.release(who);
+        Ok(())
+    }
+
+    /// The session waits no longer. The answer is what it was to do.
+    pub fn waited(&mut self, who: SessionId) -> Attempt
+        ensures taken { result ≡ (seen self.old).attempt who }
+        ensures mark { seen self.new ≡ after_part (seen self.old) (tabled (waited who)) }
+    {
+        self.locks.leave(who);
+        self.attempts.take(who)
+    }
+}
+
+/// Writes the row at the key, in a transaction that ends with it; `least` is the least of the others that run.
+fn put_row(
+    table: &mut Table,
+    least: Option<u64>,
+    txid: u64,
+    key: Key,
+    row: Option<Row>,
+) -> Result<(), NoMemory>
+    ensures { OnOk result (table.new ≡ record table.old { versions = written txid key row table.old.versions }) }
+{
+    match least {
+        Some(least) => {
+            table.prune(least);
+            table.write(txid, key, row)
+        }
+        None => table.write_last(txid, key, row),
+    }
+}
+
+/// Takes what the transaction wrote out of all tables.
+fn forget_all(tables: &mut Vec<Table>, txid: u64)
+    ensures count { length tables.new.items ≡ length tables.old.items }
+    ensures columns { columns_of tables.new.items ≡ columns_of tables.old.items }
+    ensures versions { versions_of tables.new.items ≡ (λ n. forgotten txid (versions_of tables.old.items n)) }
+{
+    for table in tables.iter_mut() {
+        table.forget(txid);
+    }
+}

@@ -1,0 +1,71 @@
+//! Which sessions hold keys, which wait for one, and that a session begins to wait.
+
+ghost use Rattle.std.specs.Prelude.{◌≡◌, ◌<◌, ℕ, false, true, IfOk, IfNone, IfSome, Some, is_some, length, option_map};
+ghost use Rattle.sky_val.specs.Waits.{other_holder, is_waiting};
+ghost use Rattle.sky_locks.specs.Locks.{entry};
+ghost use Rattle.sky_model.specs.History.{tabled, waits};
+ghost use Rattle.sky_model.specs.State.{after_part};
+ghost use Rattle.sky_model.specs.Settling.{ready};
+ghost use Rattle.sky_model.specs.StepLocks.{ring};
+ghost use Rattle.sky_state.specs.Seen.{seen};
+
+use crate::row_state::RowState;
+use sky_locks::{LockKey, Taken};
+use sky_model::{Attempt, Waiters};
+use sky_val::{NoMemory, SessionId};
+
+impl RowState {
+    /// The session that holds the key, where it is another.
+    pub fn other_holder(&self, who: SessionId, key: &LockKey) -> Option<SessionId>
+        ensures { result ≡ other_holder (seen self.now).holder who key.now.table key.now.key }
+    {
+        let holder = self.locks.holder(key)?;
+        if holder == who {
+            return None;
+        }
+        Some(holder)
+    }
+
+    /// Whether the session waits for another one's transaction.
+    pub fn is_waiting(&self, who: SessionId) -> bool
+        ensures { result ≡ is_waiting who (seen self.now).waiting }
+    {
+        self.locks.waits_on(who).is_some()
+    }
+
+    /// The first session whose statement may go on, with the key for which it waits.
+    pub fn next_ready(&self) -> Result<Option<(SessionId, LockKey)>, NoMemory>
+        ensures found { IfOk result (λ found. option_map (λ f. entry f.0 f.1) found ≡ ready (seen self.now)) }
+        ensures within { IfOk result (λ found. IfSome found (λ f. f.1.table < length (seen self.now).tables)) }
+    {
+        match self.locks.ready() {
+            Some((who, key)) => Ok(Some((who, key.copy(self.alloc)?))),
+            None => Ok(None),
+        }
+    }
+
+    /// The session waits for the holder of the key, and is to do this when it gets it. Where it would wait for itself,
+    /// nothing happens, and the answer is the ring.
+    pub fn waits(
+        &mut self,
+        who: SessionId,
+        key: &LockKey,
+        attempt: Attempt,
+    ) -> Result<Option<Waiters>, NoMemory>
+        requires within { key.now.table < length (seen self.old).tables }
+        requires held { is_some (other_holder (seen self.old).holder who key.now.table key.now.key) ≡ true }
+        requires awake { is_waiting who (seen self.old).waiting ≡ false }
+        ensures ring { IfOk result (λ closed. (holder : ℕ) → other_holder (seen self.old).holder who key.now.table key.now.key ≡ Some holder → closed ≡ ring (seen self.old) who holder) }
+        ensures mark { IfOk result (λ closed. IfNone closed (seen self.new ≡ after_part (seen self.old) (tabled (waits who key.now.table key.now.key attempt)))) }
+        ensures same { IfOk result (λ closed. IfSome closed (λ ring. seen self.new ≡ seen self.old)) }
+    {
+        match self.locks.try_key(who, key)? {
+            Taken::Got => unreachable!(),
+            Taken::Waits(_) => {
+                self.attempts.set(who, attempt)?;
+                Ok(None)
+            }
+            Taken::Cycle(ring) => Ok(Some(Waiters::new(ring.into_sessions()))),
+        }
+    }
+}
