@@ -1,13 +1,6 @@
 -- What a database shows, after what the code changed in it.
-use Rattle.std.proofs.Common.{Err, is_ok, drop, ◌≡◌, ℕ, suc, zero, ℤ, ◌+◌, ◌<◌, ◌≤◌, ◌^◌, List, [], ◌∷◌, ◌++◌, Bool, true, false, ◌||◌, ◌==◌, nat_le, Option, Some, None, Result, Ok, Vec, Global, IfOk, OnOk, IfSome, IfNone, is_some, length, get_or, slice_set, get_or-set_same, get_or-set_other, ◌≢◌, option_map, filter, nat_cmp, cond, length-append, refl, sym, ◌∙◌, ap, subst, arith, if◌then◌else◌}
+use Rattle.std.proofs.Common.{Err, is_ok, drop, ◌≡◌, ℕ, suc, zero, ℤ, ◌+◌, ◌<◌, ◌≤◌, ◌^◌, List, [], ◌∷◌, ◌++◌, Bool, true, false, ◌==◌, nat_le, Option, Some, None, Result, Ok, IfOk, OnOk, IfSome, IfNone, is_some, length, get_or, option_map, refl, sym, ◌∙◌, ap, subst, arith, if◌then◌else◌}
 use Rattle.std.proofs.lemmas.Bool.Decides.{nat_tests}
-use Rattle.std.proofs.lemmas.List.Elements.{All-filter}
-use Rattle.std.proofs.lemmas.Result.{IfOk-weaker}
-use Rattle.std.specs.declared.alloc.AllocError.{AllocError}
-use Rattle.std.proofs.lemmas.Option.{get_or_from_slice_get, slice_get_read}
-use Rattle.std.specs.BTreeMap.{is_at}
-use Rattle.std.specs.Map.{lookup}
-use Rattle.std.specs.List.{list_any}
 use Rattle.sky_val.specs.declared.event.Event.{Event}
 use Rattle.sky_txid.specs.Snapshot.{SnapshotView}
 use Rattle.sky_names.specs.Places.{place_of}
@@ -20,17 +13,15 @@ use Rattle.sky_model.specs.declared.reply.Reply.TheVariants.{Done, Number, Event
 use Rattle.sky_model.specs.declared.reply.Limit.TheVariants.{Queues, Triggers}
 use Rattle.sky_model.specs.declared.reply.Refusal.{Refusal}
 use Rattle.sky_model.specs.declared.reply.Refusal.TheVariants.{BadColumn, NoTable, TableBusy, TooMany, TriggerExists, NoBatch, EventIdsSpent}
-use Rattle.sky_model.specs.Moment.{HasMoment}
-use Rattle.sky_model.specs.Printed.{EventsHaveMoments}
 use Rattle.sky_model.specs.declared.stmt.Stmt.{Stmt}
 use Rattle.sky_model.specs.declared.stmt.Where.{Where}
 use Rattle.sky_model.specs.History.{Mark, began, ended, block_begun, repeats, looked, block_failed, block_ended, connected, disconnected, tabled, table_made, wrote, waits, waited, queued, QueueMark, made, raised, put, ticked, closed, traced}
 use Rattle.sky_model.specs.Sessions.{Block, outside, inside, failed}
-use Rattle.sky_model.specs.Queues.{queue_number, Tick, tick}
+use Rattle.sky_model.specs.Queues.{queue_number}
 use Rattle.sky_model.specs.Triggers.{triggers_of}
-use Rattle.sky_model.specs.Selection.{snapshot_at, is_selected, selected_in, selected}
+use Rattle.sky_model.specs.Selection.{selected}
 use Rattle.sky_model.specs.StepConsumer.{finish_batch, finishes, get_batch_events}
-use Rattle.sky_model.specs.State.{Queue, with_txid, RowPart, after_part_marks, Database, changed_at, changed_for, with_batch, at_position, after_mark, after_marks}
+use Rattle.sky_model.specs.State.{with_txid, RowPart, after_part_marks, Database, after_mark, after_marks}
 use Rattle.sky_model.specs.ShownRows.{snapshot_now}
 use Rattle.sky_model.specs.Outcome.{Outcome, Checked, ◌>>=◌, ◌>>◌, refused_if, refused_by, found_or, answers, does_marks, end_of, aborts, abort, settled}
 use Rattle.sky_model.specs.OwnTransaction.{own_or_next, txid_for, begin_of, commit_of, written}

@@ -1,15 +1,14 @@
 -- The gate of events keeps what tells a database of writes: so a statement behind it does what it does in the database.
-use Rattle.std.proofs.Common.{◌≡◌, ℕ, ℤ, zero, suc, ◌+◌, ◌<◌, ◌^◌, Bool, true, false, nat_le, ◌==◌, List, [], ◌∷◌, ◌++◌, Option, Some, None, Ok, Err, is_ok, IfSome, map, length, refl, sym, ◌∙◌, ap, subst, arith, if◌then◌else◌}
+use Rattle.std.proofs.Common.{◌≡◌, ℕ, ℤ, suc, ◌+◌, ◌^◌, Bool, true, false, nat_le, ◌==◌, List, [], ◌∷◌, ◌++◌, Option, Some, None, Ok, Err, is_ok, map, refl, sym, ◌∙◌, ap, subst, arith, if◌then◌else◌}
 use Rattle.std.specs.Prelude.{not, ◌&&◌, option_map, slice_get, unwrap_or}
 use Rattle.std.proofs.lemmas.Bool.Decides.{nat_tests}
 use Rattle.sky_val.specs.declared.val.Val.{Val}
-use Rattle.sky_val.specs.declared.column.Column.{Column}
 use Rattle.sky_val.specs.declared.event.Event.{Event}
 use Rattle.sky_urlenc.specs.RowEvents.{RowEvent, events_of}
 use Rattle.sky_model.specs.declared.reply.Refusal.TheVariants.{EventIdsSpent}
 use Rattle.sky_model.specs.History.{Mark, of_session, of_worker, began, ended, block_begun, repeats, looked, block_failed, block_ended, connected, disconnected, tabled, table_made, wrote, waits, waited, queued, raised, put}
 use Rattle.sky_model.specs.Triggers.{TableTrigger, triggers_of}
-use Rattle.sky_model.specs.State.{Queue, RowPart, after_part, after_part_marks, Database, changed_at, after_mark, after_marks}
+use Rattle.sky_model.specs.State.{Queue, RowPart, after_part, Database, changed_at, after_mark, after_marks}
 use Rattle.sky_model.specs.Outcome.{Checked, ◌>>=◌, ◌>>◌, refused_if}
 use Rattle.sky_model.specs.Telling.{events_in, told_event, event_marks, told_by, told_of}
 use Rattle.sky_model.specs.Reader.{part_by_itself, database_by_itself, within_part}

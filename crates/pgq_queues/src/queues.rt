@@ -1,4 +1,4 @@
-ghost use Rattle.std.specs.Prelude.{◌≡◌, ℕ, ◌+◌, ◌<◌, ◌^◌, [], ◌∷◌, ◌++◌, ◌||◌, ◌==◌, true, Some, None, IfOk, OnOk, OnErr, IfSome, IfNone, option_copied, option_map, length, is_some};
+ghost use Rattle.std.specs.Prelude.{◌≡◌, ℕ, ◌+◌, ◌<◌, ◌^◌, [], ◌∷◌, ◌||◌, ◌==◌, true, Some, None, IfOk, OnOk, OnErr, IfSome, IfNone, option_copied, option_map, length, is_some};
 ghost use Rattle.std.specs.List.{All};
 ghost use Rattle.sky_model.specs.History.{queued, made, raised, put, ticked, registered, opened, closed, traced};
 ghost use Rattle.sky_model.specs.Moment.{HasMoment};
@@ -6,7 +6,7 @@ ghost use Rattle.sky_model.specs.Printed.{EventsHaveMoments};
 ghost use Rattle.sky_model.specs.Queues.{queue_number};
 ghost use Rattle.sky_model.specs.Selection.{selected};
 ghost use Rattle.sky_model.specs.ShownRows.{snapshot_now};
-ghost use Rattle.sky_model.specs.State.{RowPart, after_mark, after_marks, changed_at, changed_for, with_batch, at_position};
+ghost use Rattle.sky_model.specs.State.{RowPart, after_mark, after_marks};
 ghost use Rattle.sky_model.specs.StepQueue.{newest_id};
 ghost use Rattle.sky_model.specs.StepTrigger.{has_trigger};
 ghost use Rattle.sky_model.specs.Triggers.{triggers_of};

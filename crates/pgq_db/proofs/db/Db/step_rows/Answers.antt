@@ -1,4 +1,4 @@
-use Rattle.std.proofs.Common.{◌≡◌, List, [], length, refl, ◌∙◌, ap, subst, w64}
+use Rattle.std.proofs.Common.{◌≡◌, [], length, refl, ◌∙◌, ap, subst, w64}
 use Rattle.std.proofs.lemmas.Int.{to_z-of_z}
 use Rattle.sky_model.specs.Reader.{part_by_itself, database_by_itself}
 use Rattle.sky_model.specs.Gates.{by_gate}
