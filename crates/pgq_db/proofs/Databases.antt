@@ -23,7 +23,7 @@ use Rattle.sky_model.specs.Moment.{HasMoment}
 use Rattle.sky_model.specs.Printed.{EventsHaveMoments}
 use Rattle.sky_model.specs.declared.stmt.Stmt.{Stmt}
 use Rattle.sky_model.specs.declared.stmt.Where.{Where}
-use Rattle.sky_model.specs.History.{Mark, began, ended, block_begun, repeats, looked, block_failed, block_ended, tabled, table_made, wrote, waits, waited, queued, made, raised, put, ticked, opened, traced}
+use Rattle.sky_model.specs.History.{Mark, began, ended, block_begun, repeats, looked, block_failed, block_ended, connected, disconnected, tabled, table_made, wrote, waits, waited, queued, made, raised, put, ticked, opened, traced}
 use Rattle.sky_model.specs.Sessions.{Block, outside, inside, failed}
 use Rattle.sky_model.specs.Queues.{queue_number, Tick, tick}
 use Rattle.sky_model.specs.Triggers.{triggers_of}
@@ -48,8 +48,8 @@ use Rattle.sky_session.specs.Effects.{effects_of}
 use Rattle.sky_session.specs.declared.effect.Effect.{Effect}
 use Rattle.sky_session.specs.declared.effect.Effect.TheVariants.{Wrote, Committed, Aborted}
 use Rattle.sky_model.specs.SessionMarks.{look_of, single_end, failure, Enters, entry, entry_place}
-use Rattle.sky_session.specs.Views.{RowStateView}
-use Rattle.sky_session.specs.Seen.{seen}
+use Rattle.sky_state.specs.Views.{RowStateView}
+use Rattle.sky_state.specs.Seen.{seen}
 use Rattle.pgq_db.specs.declared.batch.Batch.{Batch}
 use Rattle.pgq_db.specs.Views.{QueueView, DbView}
 use Rattle.pgq_db.specs.Seen.{seen_queue, no_queue, seen_batch, keeps, numbered, seen_database}
@@ -378,6 +378,8 @@ after-row_marks d (repeats who ∷ marks) rows = after-row_marks (after_mark d (
 after-row_marks d (looked who ∷ marks) rows = after-row_marks (after_mark d (looked who)) marks rows
 after-row_marks d (block_failed who ∷ marks) rows = after-row_marks (after_mark d (block_failed who)) marks rows
 after-row_marks d (block_ended who ∷ marks) rows = after-row_marks (after_mark d (block_ended who)) marks rows
+after-row_marks d (connected who ∷ marks) rows = after-row_marks (after_mark d (connected who)) marks rows
+after-row_marks d (disconnected who ∷ marks) rows = after-row_marks (after_mark d (disconnected who)) marks rows
 after-row_marks d (tabled (table_made name columns) ∷ marks) rows = after-row_marks (after_mark d (tabled (table_made name columns))) marks rows
 after-row_marks d (tabled (wrote who t table key old new) ∷ marks) rows = after-row_marks (after_mark d (tabled (wrote who t table key old new))) marks rows
 after-row_marks d (tabled (waits who table key attempt) ∷ marks) rows = after-row_marks (after_mark d (tabled (waits who table key attempt))) marks rows

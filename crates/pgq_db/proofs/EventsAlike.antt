@@ -7,7 +7,7 @@ use Rattle.sky_val.specs.declared.column.Column.{Column}
 use Rattle.sky_val.specs.declared.event.Event.{Event}
 use Rattle.sky_urlenc.specs.RowEvents.{RowEvent, events_of}
 use Rattle.sky_model.specs.declared.reply.Refusal.TheVariants.{EventIdsSpent}
-use Rattle.sky_model.specs.History.{Mark, of_session, of_worker, began, ended, block_begun, repeats, looked, block_failed, block_ended, tabled, table_made, wrote, waits, waited, queued, raised, put}
+use Rattle.sky_model.specs.History.{Mark, of_session, of_worker, began, ended, block_begun, repeats, looked, block_failed, block_ended, connected, disconnected, tabled, table_made, wrote, waits, waited, queued, raised, put}
 use Rattle.sky_model.specs.Triggers.{TableTrigger, triggers_of}
 use Rattle.sky_model.specs.State.{Queue, RowPart, after_part, after_part_marks, Database, changed_at, after_mark, after_marks}
 use Rattle.sky_model.specs.Outcome.{Checked, ◌>>=◌, ◌>>◌, refused_if}
@@ -66,6 +66,8 @@ table-kept p (repeats who) n t is = is
 table-kept p (looked who) n t is = is
 table-kept p (block_failed who) n t is = is
 table-kept p (block_ended who) n t is = is
+table-kept p (connected who) n t is = is
+table-kept p (disconnected who) n t is = is
 table-kept p (tabled (table_made name columns)) n t is =
     (get-more p.tables (name ∷ []) n t.name is.0, other-columns (length p.tables) n columns p.columns (get-within p.tables n t.name is.0) ∙ is.1)
 table-kept p (tabled (wrote who t' table key old new)) n t is = is
@@ -196,6 +198,8 @@ module _ (now : ℤ) (triggers : List TableTrigger) (traced : List (ℕ × Trace
   beside-other d (looked who) other = (refl, refl)
   beside-other d (block_failed who) other = (refl, refl)
   beside-other d (block_ended who) other = (refl, refl)
+  beside-other d (connected who) other = (refl, refl)
+  beside-other d (disconnected who) other = (refl, refl)
   beside-other d (tabled mark) other = (refl, refl)
   beside-other d (queued mark) other = absurd other
 
@@ -347,6 +351,8 @@ passed-one g (repeats who) = refl
 passed-one g (looked who) = refl
 passed-one g (block_failed who) = refl
 passed-one g (block_ended who) = refl
+passed-one g (connected who) = refl
+passed-one g (disconnected who) = refl
 passed-one g (tabled (table_made name columns)) = refl
 passed-one g (tabled (wrote (of_session who) t table key old new)) = refl
 passed-one g (tabled (wrote of_worker t table key old new)) = refl

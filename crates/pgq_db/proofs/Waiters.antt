@@ -19,7 +19,7 @@ use Rattle.sky_model.specs.declared.reply.Reply.{Reply}
 use Rattle.sky_model.specs.declared.reply.Limit.TheVariants.{Tables, Queues, Consumers, Triggers}
 use Rattle.sky_model.specs.declared.reply.Refusal.{Refusal}
 use Rattle.sky_model.specs.declared.reply.Refusal.TheVariants.{BadColumn, BadRow, BadSnapshot, Canceled, Deadlock, Duplicate, EventIdsSpent, IdsSpent, KeyChange, NoBatch, NoConsumer, NodeConsumer, NoQueue, NoTable, Serialize, TableBusy, TableExists, TooMany, TriggerExists}
-use Rattle.sky_model.specs.History.{Batch, Mark, of_session, began, ended, block_begun, repeats, looked, block_failed, block_ended, tabled, table_made, wrote, waits, waited, queued, made, raised, put, ticked, registered, opened, closed, traced}
+use Rattle.sky_model.specs.History.{Batch, Mark, of_session, began, ended, block_begun, repeats, looked, block_failed, block_ended, connected, disconnected, tabled, table_made, wrote, waits, waited, queued, made, raised, put, ticked, registered, opened, closed, traced}
 use Rattle.sky_model.specs.Consumers.{Subscription}
 use Rattle.sky_model.specs.Queues.{queue_number, Tick, tick}
 use Rattle.sky_model.specs.Triggers.{triggers_of}
@@ -33,7 +33,7 @@ use Rattle.sky_model.specs.Outcome.{Outcome, Checked, ◌>>=◌, ◌>>◌, refus
 use Rattle.sky_model.specs.OwnTransaction.{txid_for, begin_of, commit_of}
 use Rattle.sky_model.specs.StepLocks.{ring, once_free}
 use Rattle.sky_model.specs.StepRows.{schema_refusal, bad_values, bad_sets, is_key_change, with_sets, writes_key, changes, some_row, attempts, row_or_none}
-use Rattle.sky_model.specs.StepSession.{begin, begin_repeatable_read, leaves, commit, rollback, close, cancel}
+use Rattle.sky_model.specs.StepSession.{open_db, begin, begin_repeatable_read, leaves, commit, rollback, close, cancel}
 use Rattle.sky_model.specs.StepQueue.{next_event_id, made_event, forced, newest_id, is_due}
 use Rattle.sky_model.specs.StepConsumer.{has_dot, opens_batch, takes_batch, finishes}
 use Rattle.sky_model.specs.Allowed.{where_of, allowed}
@@ -139,10 +139,18 @@ own-rollback who txid outside = tt
 own-rollback who txid inside = own-left false who txid
 own-rollback who txid failed = own-left false who txid
 
+own-closed : (who : ℕ) (txid : Option ℕ) → OwnWaits who (leaves false who txid ++ disconnected who ∷ [])
+own-closed who None = tt
+own-closed who (Some t) = tt
+
 own-close : (who : ℕ) (txid : Option ℕ) (b : Block) → Own who (close who txid b)
 own-close who txid outside = tt
-own-close who txid inside = own-left false who txid
-own-close who txid failed = own-left false who txid
+own-close who txid inside = own-closed who txid
+own-close who txid failed = own-closed who txid
+
+own-open_db : (who : ℕ) (open_already : Bool) → Own who (open_db who open_already)
+own-open_db who true = tt
+own-open_db who false = tt
 
 own-failed : (who : ℕ) (o : Option ℕ) → OwnWaits who (end_of false who o ++ block_failed who ∷ [])
 own-failed who None = tt
@@ -188,7 +196,7 @@ own-made who t n (Some u) inside name now = tt
 own-made who t n (Some u) failed name now = tt
 
 own-row : (d : RowPart) (shown : RowsShown) (who : ℕ) (stmt : RowStmt) → Own who (row_form d shown who stmt)
-own-row d shown who (OpenDb name) = tt
+own-row d shown who (OpenDb name) = own-open_db who (d.session who).is_open
 own-row d shown who Close = own-close who (d.session who).txid (d.session who).block
 own-row d shown who Cancel = own-cancel who (d.session who).txid (d.session who).block (is_waiting who d.waiting)
 own-row d shown who Begin = own-begin who (d.session who).block
@@ -324,7 +332,7 @@ own-runs d now who stmt (Ok _) = of (takes_sight (where_of stmt) (d.part.session
     of false = own-settled who (d.part.session who) (form d (shown_by d) now who stmt) (own-form d (shown_by d) now who stmt)
 
 own-statement : (d : Database) (now : ℤ) (who : ℕ) (stmt : Stmt) → OwnWaits who (statement database_by_itself d now who stmt).marks
-own-statement d now who stmt = own-runs d now who stmt (allowed (is_waiting who d.part.waiting) (d.part.session who).block (where_of stmt))
+own-statement d now who stmt = own-runs d now who stmt (allowed (is_waiting who d.part.waiting) (d.part.session who).is_open (d.part.session who).block (where_of stmt))
 
 -- ---- so they are of as many as there are sessions
 
@@ -344,6 +352,8 @@ within-behind count who lt d (repeats v ∷ marks) own within = within-behind co
 within-behind count who lt d (looked v ∷ marks) own within = within-behind count who lt (after_mark d (looked v)) marks own within
 within-behind count who lt d (block_failed v ∷ marks) own within = within-behind count who lt (after_mark d (block_failed v)) marks own within
 within-behind count who lt d (block_ended v ∷ marks) own within = within-behind count who lt (after_mark d (block_ended v)) marks own within
+within-behind count who lt d (connected v ∷ marks) own within = within-behind count who lt (after_mark d (connected v)) marks own within
+within-behind count who lt d (disconnected v ∷ marks) own within = within-behind count who lt (after_mark d (disconnected v)) marks own within
 within-behind count who lt d (tabled (table_made name columns) ∷ marks) own within = within-behind count who lt (after_mark d (tabled (table_made name columns))) marks own within
 within-behind count who lt d (tabled (wrote v t table key old new) ∷ marks) own within = within-behind count who lt (after_mark d (tabled (wrote v t table key old new))) marks own within
 within-behind count who lt d (tabled (waits v table key attempt) ∷ marks) own within =

@@ -12,8 +12,8 @@ use Rattle.sky_model.specs.Config.{default_config}
 use Rattle.sky_model.specs.State.{Queue, Database}
 use Rattle.pgq_db.specs.declared.sub.Sub.{Sub}
 use Rattle.pgq_db.specs.declared.batch.Batch.{Batch}
-use Rattle.sky_session.specs.Views.{no_rows}
-use Rattle.sky_session.specs.Seen.{seen}
+use Rattle.sky_state.specs.Views.{no_rows}
+use Rattle.sky_state.specs.Seen.{seen}
 use Rattle.pgq_db.specs.Subs.{consumer_of}
 use Rattle.pgq_db.specs.Views.{QueueView, DbView}
 

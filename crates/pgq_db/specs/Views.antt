@@ -2,7 +2,7 @@
 use Rattle.std.specs.Prelude.{ℕ, List}
 use Rattle.sky_val.specs.declared.column.Column.{Column}
 use Rattle.sky_val.specs.declared.event.Event.{Event}
-use Rattle.sky_session.specs.Views.{RowStateView}
+use Rattle.sky_state.specs.Views.{RowStateView}
 use Rattle.pgq_db.specs.declared.batch.Batch.{Batch}
 use Rattle.sky_model.specs.Queues.{Tick}
 use Rattle.sky_model.specs.Triggers.{TableTrigger}

@@ -23,7 +23,7 @@ ghost use Rattle.sky_model.specs.DatabaseCalls.{entered, failed};
 ghost use Rattle.sky_model.specs.DatabaseSteps.{DatabaseSteps};
 ghost use Rattle.pgq_db.specs.Ticks.{IsTime};
 ghost use Rattle.pgq_db.specs.Seen.{kept, seen_database, seen_queue, seen_batch};
-ghost use Rattle.sky_session.specs.Seen.{seen};
+ghost use Rattle.sky_state.specs.Seen.{seen};
 ghost use Rattle.pgq_db.specs.EventGates.{queues_behind, AreStorable};
 ghost use Rattle.pgq_db.specs.Undone.{undone_by};
 ghost use Rattle.pgq_db.specs.Waiters.{StaysWithin};
@@ -70,7 +70,7 @@ pub struct Db {
 
 impl Model for Db {
     ghost use Rattle.std.specs.Prelude.{◌≡◌, false, length};
-    ghost use Rattle.sky_session.specs.Seen.{seen};
+    ghost use Rattle.sky_state.specs.Seen.{seen};
     ghost use Rattle.pgq_db.specs.Views.{DbView};
     ghost use Rattle.pgq_db.specs.Batches.{BatchesWithin};
     ghost use Rattle.pgq_db.specs.Traced.{TracedWithin, AreTables};

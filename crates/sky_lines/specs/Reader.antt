@@ -5,9 +5,10 @@ use Rattle.sky_lines.specs.Feeds.{has_feed, is_settled}
 use Rattle.sky_lines.specs.declared.reader.LineFault.{LineFault}
 use Rattle.sky_lines.specs.declared.reader.LineFault.TheVariants.{Read, TooLong, Truncated, ScriptTooLong, NoMemory}
 
--- the bytes that were got and stand in no line yet, how many bytes the lines had, and the fault that was given
+-- the bytes that were got and stand in no line yet, the line that was taken last, how many bytes the lines had, and the fault that was given
 pub record Reader : Type 0 where
   pub pending : List ℕ
+  pub line : List ℕ
   pub taken : ℕ
   pub fault : Option LineFault
 

@@ -3,9 +3,16 @@ use Rattle.std.specs.Prelude.{◌≡◌, ℕ, ◌+◌, ◌≤◌, List, length, 
 use Rattle.sky_model.specs.Transcript.{most_in_line}
 use Rattle.sky_lines.specs.Feeds.{IsFirstFeed}
 
--- the bytes from start to end stand in the room, and their first line feed is known
-pub record IsBuffer (bytes : List ℕ) (start end : ℕ) (feed : Option ℕ) : Type 0 where
+-- the bytes that were read and not taken, and the line that was taken last
+pub record Held : Type 0 where
+  pub pending : List ℕ
+  pub line : List ℕ
+
+-- the bytes from start to end stand in the room, and their first line feed is known; the line stands there, too
+pub record IsBuffer (bytes : List ℕ) (start end : ℕ) (feed : Option ℕ) (line_start line_end : ℕ) : Type 0 where
   pub room : length bytes ≡ most_in_line + 65536
   pub in_order : start ≤ end
   pub within : end ≤ length bytes
   pub known : IsFirstFeed (slice_range bytes start end) feed
+  pub line_in_order : line_start ≤ line_end
+  pub line_within : line_end ≤ length bytes

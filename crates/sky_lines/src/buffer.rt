@@ -18,7 +18,8 @@ const PIECE: usize = 65_536;
 /// Room for a piece behind a line that may still go on.
 const ROOM: usize = MOST_IN_LINE + PIECE;
 
-/// The bytes that were read and not taken. Each is moved once at most, and looked at once for a line feed.
+/// The bytes that were read and not taken, and before them the line that was taken last. Each is moved once
+/// at most, and looked at once for a line feed.
 #[derive(Drop)]
 pub struct Buffer {
     // `bytes[start..end]` were read and not taken, and the first line feed stands at the place `feed` among them.
@@ -26,24 +27,26 @@ pub struct Buffer {
     start: usize,
     end: usize,
     feed: Option<usize>,
-    alloc: Global,
+    // `bytes[line_start..line_end]` is the line.
+    line_start: usize,
+    line_end: usize,
 }
 
 impl Model for Buffer {
-    ghost use Rattle.std.specs.Prelude.{ℕ, List, slice_range};
-    ghost use Rattle.sky_lines.specs.Room.{IsBuffer};
+    ghost use Rattle.std.specs.Prelude.{slice_range};
+    ghost use Rattle.sky_lines.specs.Room.{Held, IsBuffer};
 
-    ghost Value = { List ℕ };
+    ghost Value = { Held };
 
-    ghost view = { λ b. slice_range b.bytes.items b.start b.end };
+    ghost view = { λ b. record { pending = slice_range b.bytes.items b.start b.end; line = slice_range b.bytes.items b.line_start b.line_end } };
 
-    ghost invariant = { λ b. IsBuffer b.bytes.items b.start b.end b.feed };
+    ghost invariant = { λ b. IsBuffer b.bytes.items b.start b.end b.feed b.line_start b.line_end };
 }
 
 impl Buffer {
     /// An empty buffer, with all the room that it ever needs.
     pub fn new(alloc: Global) -> Result<Buffer, NoMemory>
-        ensures { IfOk result (λ buffer. buffer ≡ []) }
+        ensures { IfOk result (λ buffer. buffer ≡ record { pending = []; line = [] }) }
     {
         let bytes = vec![in alloc; 0; ROOM]?;
         Ok(Buffer {
@@ -51,53 +54,59 @@ impl Buffer {
             start: 0,
             end: 0,
             feed: None,
-            alloc,
+            line_start: 0,
+            line_end: 0,
         })
     }
 
     /// How many bytes were read and not taken.
     pub fn len(&self) -> usize
-        ensures { result ≡ length self.now }
+        ensures { result ≡ length self.now.pending }
     {
         self.end - self.start
     }
 
     /// How many bytes stand before the first line feed, if there is one.
     pub fn line_len(&self) -> Option<usize>
-        ensures { IsFirstFeed self.now result }
+        ensures { IsFirstFeed self.now.pending result }
     {
         self.feed
     }
 
     /// Whether the first line ends here or is too long already.
     pub fn is_settled(&self) -> bool
-        ensures { result ≡ is_settled self.now }
+        ensures { result ≡ is_settled self.now.pending }
     {
         self.feed.is_some() || self.len() > MOST_IN_LINE
     }
 
     /// Takes the first line, of `len` bytes, and drops its line feed.
-    pub fn take_line(&mut self, len: usize) -> Result<Vec<u8>, NoMemory>
-        requires { FeedsAt self.old len }
-        ensures ok { IfOk result (λ line. self.old ≡ line.items ++ 10 ∷ self.new) }
-        ensures line { IfOk result (λ line. line.items ≡ take len self.old) }
-        ensures err { OnErr result (self.new ≡ self.old) }
+    pub fn take_line(&mut self, len: usize)
+        requires { FeedsAt self.old.pending len }
+        ensures parts { self.old.pending ≡ self.new.line ++ 10 ∷ self.new.pending }
+        ensures line { self.new.line ≡ take len self.old.pending }
     {
-        let feed = self.start + len;
-        let line = Vec::from_slice(self.alloc, &self.bytes[self.start..feed])?;
-        self.start = feed + 1;
+        self.line_start = self.start;
+        self.line_end = self.start + len;
+        self.start = self.line_end + 1;
         self.feed = memchr(b'\n', &self.bytes[self.start..self.end]);
-        Ok(line)
+    }
+
+    /// The line that was taken last, without its line feed. Each read forgets it.
+    pub fn line(&self) -> &[u8]
+        ensures { result.now ≡ self.now.line }
+    {
+        &self.bytes[self.line_start..self.line_end]
     }
 
     /// Reads until the bytes are settled or the source is at its end.
     pub fn gather<S: Source>(&mut self, src: &mut S) -> Result<(), Failed>
-        ensures grows { Grows self.old self.new (S.left src.old) (S.left src.new) }
-        ensures ok { OnOk result ((is_settled self.new ≡ true) ⊎ IsAtEnd (S.left src.new)) }
-        ensures err { OnErr result (is_settled self.new ≡ false) }
+        ensures grows { Grows self.old.pending self.new.pending (S.left src.old) (S.left src.new) }
+        ensures ok { OnOk result ((is_settled self.new.pending ≡ true) ⊎ IsAtEnd (S.left src.new)) }
+        ensures err { OnErr result (is_settled self.new.pending ≡ false) }
         ensures failed { OnErr result (Rose (S.faults src.old) (S.faults src.new)) }
         ensures never_falls { S.faults src.old ≤ S.faults src.new }
-        ensures settled { is_settled self.old ≡ true → IsOk result × (self.new ≡ self.old) × (src.new ≡ src.old) }
+        ensures settled { is_settled self.old.pending ≡ true → IsOk result × (self.new ≡ self.old) × (src.new ≡ src.old) }
     {
         'reads: while !self.is_settled() {
             if self.fill(src)? == 0 {
@@ -107,13 +116,14 @@ impl Buffer {
         Ok(())
     }
 
-    // Reads a piece behind a line that may still go on.
+    // Reads a piece behind a line that may still go on, and forgets the line that was taken.
     fn fill<S: Source>(&mut self, src: &mut S) -> Result<usize, Failed>
-        requires { is_settled self.old ≡ false }
-        ensures grows { Grows self.old self.new (S.left src.old) (S.left src.new) }
-        ensures count { IfOk result (λ count. length self.new ≡ length self.old + count) }
+        requires { is_settled self.old.pending ≡ false }
+        ensures grows { Grows self.old.pending self.new.pending (S.left src.old) (S.left src.new) }
+        ensures count { IfOk result (λ count. length self.new.pending ≡ length self.old.pending + count) }
         ensures end { IfOk result (λ count. count ≡ 0 → IsAtEnd (S.left src.new)) }
-        ensures err { OnErr result (self.new ≡ self.old) }
+        ensures err { OnErr result (self.new.pending ≡ self.old.pending) }
+        ensures forgets { self.new.line ≡ [] }
         ensures failed { OnErr result (Rose (S.faults src.old) (S.faults src.new)) }
         ensures never_falls { S.faults src.old ≤ S.faults src.new }
     {
@@ -121,6 +131,8 @@ impl Buffer {
         move_to_front(&mut self.bytes, self.start, self.end);
         self.start = 0;
         self.end = len;
+        self.line_start = 0;
+        self.line_end = 0;
         let count = src.read(&mut self.bytes[len..len + PIECE])?;
         self.end = len + count;
         self.feed = feed_behind(&self.bytes[..self.end], len);

@@ -32,9 +32,10 @@ pub enum LineFault {
 /// Takes the lines of a script from a source, one at a time.
 #[derive(Drop)]
 pub struct LineReader {
-    pending: Buffer,
+    buffer: Buffer,
     taken: u64,
     fault: Option<LineFault>,
+    alloc: Global,
 }
 
 impl Model for LineReader {
@@ -44,7 +45,7 @@ impl Model for LineReader {
 
     ghost Value = { Reader };
 
-    ghost view = { λ r. record { pending = r.pending; taken = r.taken; fault = r.fault } };
+    ghost view = { λ r. record { pending = r.buffer.pending; line = r.buffer.line; taken = r.taken; fault = r.fault } };
 
     ghost invariant = { λ r. r.taken ≤ most_in_script };
 }
@@ -52,23 +53,75 @@ impl Model for LineReader {
 impl LineReader {
     /// A reader at the start of a script, with the memory that its reads need.
     pub fn new(alloc: Global) -> Result<LineReader, NoMemory>
-        ensures { IfOk result (λ reader. reader ≡ record { pending = []; taken = 0; fault = None }) }
+        ensures { IfOk result (λ reader. reader ≡ record { pending = []; line = []; taken = 0; fault = None }) }
     {
         Ok(LineReader {
-            pending: Buffer::new(alloc)?,
+            buffer: Buffer::new(alloc)?,
             taken: 0,
             fault: None,
+            alloc,
         })
     }
 
-    /// Whether `next_line` would answer without reading the source.
+    /// Whether `advance` would answer without reading the source.
     pub fn is_at_hand(&self) -> bool
         ensures { result ≡ is_at_hand self.now }
     {
-        self.fault.is_some() || self.pending.is_settled()
+        self.fault.is_some() || self.buffer.is_settled()
     }
 
-    /// The next line, without its line feed, or `None` at the end of the script.
+    /// The line that was taken last, without its line feed. It stands where it was read, until the next
+    /// `advance`; where that takes none, what is shown is left open.
+    pub fn line(&self) -> &[u8]
+        ensures { result.now ≡ self.now.line }
+    {
+        self.buffer.line()
+    }
+
+    /// Takes the next line, which `line` shows from then on, or answers `false` at the end of the script.
+    pub fn advance<S: Source>(&mut self, src: &mut S) -> Result<bool, LineFault>
+        ensures line { result ≡ Ok true → (left : List ℕ) → S.left src.old ≡ Some left
+            → TakesLine self.old self.new left (S.left src.new) self.new.line }
+        ensures end { result ≡ Ok false → (left : List ℕ) → S.left src.old ≡ Some left
+            → EndsLines self.old self.new left (S.left src.new) }
+        ensures bad { IfErr result (λ fault.
+            (left : List ℕ) → S.left src.old ≡ Some left → self.old.fault ≡ None
+            → StartsBad fault self.old.taken (self.old.pending ++ left)) }
+
+        // A read that fails loses no byte.
+        ensures read { IsErrOf result LineFault.Read →
+            (left : List ℕ) → S.left src.old ≡ Some left → self.old.fault ≡ None
+            → Kept self.old self.new left (S.left src.new) }
+        ensures rose { IsErrOf result LineFault.Read → self.old.fault ≡ None
+            → Rose (S.faults src.old) (S.faults src.new) }
+        ensures never_falls { S.faults src.old ≤ S.faults src.new }
+
+        // No memory is taken, so none is wanting.
+        ensures takes_no_memory { self.old.fault ≡ None → ¬ (IsErrOf result LineFault.NoMemory) }
+
+        // A fault is given for good.
+        ensures kept { IfErr result (λ fault. self.new.fault ≡ Some fault) }
+        ensures again { IfSome self.old.fault (λ fault.
+            (result ≡ Err fault) × (self.new ≡ self.old) × (src.new ≡ src.old)) }
+
+        // What holds of a source that tells nothing, too.
+        ensures sound { OnOk result (self.new.fault ≡ None) }
+        ensures at_hand { is_at_hand self.old ≡ true → src.new ≡ src.old }
+        ensures counted { result ≡ Ok true → CountsLine self.old self.new self.new.line }
+    {
+        if let Some(fault) = self.fault {
+            return Err(fault);
+        }
+        if self.buffer.gather(src).is_err() {
+            return Err(self.give(LineFault::Read));
+        }
+        match self.answer() {
+            Ok(found) => Ok(found),
+            Err(fault) => Err(self.give(fault)),
+        }
+    }
+
+    /// The next line, without its line feed, or `None` at the end of the script: a copy of what `advance` takes.
     ///
     /// Where memory is wanting for a line, which of its bytes are still pending is left open.
     pub fn next_line<S: Source>(&mut self, src: &mut S) -> Result<Option<Vec<u8>>, LineFault>
@@ -101,26 +154,24 @@ impl LineReader {
         ensures counted { IfOk result (λ answer. IfSome answer (λ line.
             CountsLine self.old self.new line.items)) }
     {
-        if let Some(fault) = self.fault {
-            return Err(fault);
+        if !self.advance(src)? {
+            return Ok(None);
         }
-        if self.pending.gather(src).is_err() {
-            return Err(self.give(LineFault::Read));
-        }
-        match self.answer() {
-            Ok(answer) => Ok(answer),
-            Err(fault) => Err(self.give(fault)),
+        match Vec::from_slice(self.alloc, self.line()) {
+            Ok(line) => Ok(Some(line)),
+            Err(_) => Err(self.give(LineFault::NoMemory)),
         }
     }
 
     // What the pending bytes answer, where they are settled or are the last of the script.
-    fn answer(&mut self) -> Result<Option<Vec<u8>>, LineFault>
-        ensures line { IfOk result (λ answer. IfSome answer (λ line. TakesPending self.old self.new line.items)) }
-        ensures end { IfOk result (λ answer. IfNone answer ((self.old.pending ≡ []) × (self.new ≡ self.old))) }
+    fn answer(&mut self) -> Result<bool, LineFault>
+        ensures line { result ≡ Ok true → TakesPending self.old self.new self.new.line }
+        ensures end { result ≡ Ok false → (self.old.pending ≡ []) × (self.new ≡ self.old) }
         ensures bad { IfErr result (λ fault. StartsBad fault self.old.taken self.old.pending) }
         ensures reads_nothing { ¬ (IsErrOf result LineFault.Read) }
+        ensures takes_no_memory { ¬ (IsErrOf result LineFault.NoMemory) }
     {
-        let Some(len) = self.pending.line_len() else {
+        let Some(len) = self.buffer.line_len() else {
             return self.answer_unended();
         };
         if len > MOST_IN_LINE {
@@ -130,24 +181,21 @@ impl LineReader {
         if taken > MOST_IN_SCRIPT {
             return Err(LineFault::ScriptTooLong);
         }
-        match self.pending.take_line(len) {
-            Ok(line) => {
-                self.taken = taken;
-                Ok(Some(line))
-            }
-            Err(_) => Err(LineFault::NoMemory),
-        }
+        self.buffer.take_line(len);
+        self.taken = taken;
+        Ok(true)
     }
 
     // The same, where no line feed is pending.
-    fn answer_unended(&self) -> Result<Option<Vec<u8>>, LineFault>
+    fn answer_unended(&self) -> Result<bool, LineFault>
         requires { has_feed self.now.pending ≡ false }
-        ensures end { IfOk result (λ answer. (answer ≡ None) × (self.now.pending ≡ [])) }
+        ensures end { IfOk result (λ found. (found ≡ false) × (self.now.pending ≡ [])) }
         ensures bad { IfErr result (λ fault. StartsBad fault self.now.taken self.now.pending) }
         ensures reads_nothing { ¬ (IsErrOf result LineFault.Read) }
+        ensures takes_no_memory { ¬ (IsErrOf result LineFault.NoMemory) }
     {
-        match self.pending.len() {
-            0 => Ok(None),
+        match self.buffer.len() {
+            0 => Ok(false),
             len if len > MOST_IN_LINE => Err(LineFault::TooLong),
             _ => Err(LineFault::Truncated),
         }

@@ -12,7 +12,7 @@ Goes run source first held bytes = GoesOn (seen_world run.world) run.number run.
 -- no line was taken
 pub record IsFresh (run : Run) : Type 0 where
   pub world_is : seen_world run.world ≡ world_of []
-  pub reader_is : run.reader ≡ record { pending = []; taken = 0; fault = None }
+  pub reader_is : run.reader ≡ record { pending = []; line = []; taken = 0; fault = None }
   pub gathered_is : run.gathered.items ≡ []
   pub number_is : run.number ≡ 1
 

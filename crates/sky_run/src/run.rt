@@ -130,23 +130,23 @@ impl Run {
         ensures never_writes { ¬ (IsErrOf result End.Write) }
         ensures never_falls { S.faults src.old ≤ S.faults src.new }
     {
-        match self.reader.next_line(src) {
-            Ok(Some(line)) => self.answer(line.as_slice()),
-            Ok(None) => Err(End::Whole),
+        match self.reader.advance(src) {
+            Ok(true) => self.answer(),
+            Ok(false) => Err(End::Whole),
             Err(fault) => Err(self.end_of(fault)),
         }
     }
 
-    // Answers a line, and counts it.
-    fn answer(&mut self, line: &[u8]) -> Result<(), End>
+    // Answers the line that was taken, where it stands, and counts it.
+    fn answer(&mut self) -> Result<(), End>
         requires { self.old.number ≤ most_in_script }
-        ensures answers { OnOk result (Answers (said_in line.now) (seen_world self.old.world) (seen_world self.new.world) self.old.gathered.items self.new.gathered.items) }
+        ensures answers { OnOk result (Answers (said_in self.old.reader.line) (seen_world self.old.world) (seen_world self.new.world) self.old.gathered.items self.new.gathered.items) }
         ensures number { OnOk result (self.new.number ≡ self.old.number + 1) }
-        ensures bad { IfErr result (λ end. IsBadLine end self.old.number (said_in line.now)) }
+        ensures bad { IfErr result (λ end. IsBadLine end self.old.number (said_in self.old.reader.line)) }
         ensures err { OnErr result (self.new.gathered.items ≡ self.old.gathered.items) }
         ensures reader { self.new.reader ≡ self.old.reader }
     {
-        match parse_line(self.alloc, line) {
+        match parse_line(self.alloc, self.reader.line()) {
             Ok(said) => self.count(&said),
             Err(cause) => Err(self.end_by(cause)),
         }

@@ -1,5 +1,5 @@
 -- What is left of a line while it is read.
-use Rattle.std.specs.Prelude.{ℕ, ◌+◌, List, [], Option, Some, None, length}
+use Rattle.std.specs.Prelude.{◌≡◌, ℕ, ◌+◌, ◌<◌, ◌≤◌, List, [], ◌∷◌, Option, Some, None, length, take, drop, slice_index}
 use Rattle.sky_model.specs.Words.{words}
 
 -- the words that are left, and the number of the first of them
@@ -16,3 +16,10 @@ words_in (Some bytes) = words bytes
 abbrev pub most_in : Option (List ℕ) → ℕ
 most_in None = 0
 most_in (Some bytes) = length bytes + 1
+
+-- a space at this place ends the first word of the bytes, or else the word goes on to their end
+pub record EndsWord (place : ℕ) (bytes : List ℕ) : Type 0 where
+  pub within : place ≤ length bytes
+  pub space : place < length bytes → slice_index bytes place ≡ 32
+  pub parted : place < length bytes → words bytes ≡ take place bytes ∷ words (drop (place + 1) bytes)
+  pub whole : place ≡ length bytes → words bytes ≡ bytes ∷ []

@@ -1,11 +1,10 @@
 //! The tests of single words.
 
-ghost use Rattle.std.specs.Prelude.{◌≡◌, ◌==◌, ◌&&◌, not, false, Some, IsUtf8, IfOk, IfSome, MatchResult, option_map};
+ghost use Rattle.std.specs.Prelude.{◌≡◌, ◌==◌, ◌&&◌, not, false, Some, IfOk, IfSome, option_map, string_bytes};
 ghost use Rattle.std.specs.List.{list_all};
 ghost use Rattle.sky_model.specs.Kinds as kind;
 
-use crate::cause::LineCause;
-use sky_val::{Text, TextFault};
+use sky_val::Text;
 use std::alloc::{AllocError, Global};
 
 /// The most bytes of a name, and of two with a dot between.
@@ -23,6 +22,8 @@ fn continues_name(byte: u8) -> bool
     begins_name(byte) || byte.is_ascii_digit()
 }
 
+// Never inlined, as every loop over bytes here: among other code it would take more steps a byte.
+#[inline(never)]
 fn all_continue_name(bytes: &[u8]) -> bool
     ensures { result ≡ list_all kind.continues_name bytes.now }
 {
@@ -38,10 +39,10 @@ fn is_identifier(word: &[u8]) -> bool
     }
 }
 
-pub(crate) fn is_name(word: &[u8]) -> bool
+pub(crate) fn is_name(word: &str) -> bool
     ensures { result ≡ kind.is_name word.now }
 {
-    word.len() <= LONGEST_NAME && is_identifier(word)
+    word.len() <= LONGEST_NAME && is_identifier(word.as_bytes())
 }
 
 /// The place of the first byte that is this one.
@@ -60,22 +61,10 @@ fn is_one_name_or_two(word: &[u8]) -> bool
     }
 }
 
-pub(crate) fn is_dotted(word: &[u8]) -> bool
+pub(crate) fn is_dotted(word: &str) -> bool
     ensures { result ≡ kind.is_dotted word.now }
 {
-    word.len() <= LONGEST_NAME && is_one_name_or_two(word)
-}
-
-/// The bytes as a text, if they are characters.
-#[tactic(auto, using(crate::proofs::KindLemmas::characters))]
-fn in_characters(alloc: Global, bytes: &[u8]) -> Result<Option<Text>, AllocError>
-    ensures { IfOk result (λ text. text ≡ kind.in_characters (Some bytes.now)) }
-{
-    match Text::from_bytes(alloc, bytes) {
-        Ok(text) => Ok(Some(text)),
-        Err(TextFault::NotUtf8) => Ok(None),
-        Err(TextFault::NoMemory) => Err(AllocError),
-    }
+    word.len() <= LONGEST_NAME && is_one_name_or_two(word.as_bytes())
 }
 
 /// Whether a byte between quotes is itself, and no quote.
@@ -85,6 +74,7 @@ fn stands_for_itself(byte: u8) -> bool
     byte != b'\'' && byte != b'\n' && byte != 0
 }
 
+#[inline(never)]
 fn all_stand_for_themselves(bytes: &[u8]) -> bool
     ensures { result ≡ list_all (λ b. not (b == 39) && kind.is_text_byte b) bytes.now }
 {
@@ -94,26 +84,30 @@ fn all_stand_for_themselves(bytes: &[u8]) -> bool
 /// What stands before the closing quote, where no byte of it stands for another. Most texts are so, and
 /// are taken as they stand.
 #[tactic(auto, using(crate::proofs::KindLemmas::text_from_as_written))]
-fn as_written(inside: &[u8]) -> Option<&[u8]>
+fn as_written(inside: &str) -> Option<&str>
     ensures { IfSome result (λ text. kind.text_from false inside.now ≡ Some text.now) }
 {
-    match inside.split_last() {
-        Some((b'\'', text)) if all_stand_for_themselves(text) => Some(text),
+    match inside.as_bytes().split_last() {
+        Some((b'\'', text)) if all_stand_for_themselves(text) => Some(&inside[..text.len()]),
         _ => None,
     }
 }
 
-/// The bytes of a text from behind its opening quote on, if the word ends with its closing quote.
-fn unquoted(alloc: Global, inside: &[u8]) -> Result<Option<Vec<u8>>, AllocError>
-    ensures { IfOk result (λ text. option_map (λ v. v.items) text ≡ kind.text_from false inside.now) }
+/// The text from behind its opening quote on, if the word ends with its closing quote.
+fn unquoted(alloc: Global, inside: &str) -> Result<Option<String>, AllocError>
+    ensures { IfOk result (λ text. option_map (λ string. string_bytes string) text ≡ kind.text_from false inside.now) }
 {
-    let mut text = Vec::with_capacity(alloc, inside.len())?;
+    let mut text = String::with_capacity(alloc, inside.len())?;
+    // Where the bytes begin that go into the text at the next quote.
+    let mut from = 0;
     // Whether the byte before is a quote: the closing one, or the first of two.
     let mut quote = false;
-    for byte in inside {
+    for (i, byte) in inside.as_bytes().iter().enumerate() {
         if *byte == b'\'' {
             if quote {
-                text.push(b'\'')?;
+                from = i;
+            } else {
+                text.push_str(&inside[from..i])?;
             }
             quote = !quote;
             continue;
@@ -121,35 +115,25 @@ fn unquoted(alloc: Global, inside: &[u8]) -> Result<Option<Vec<u8>>, AllocError>
         if quote || *byte == b'\n' || *byte == 0 {
             return Ok(None);
         }
-        text.push(*byte)?;
     }
     if quote { Ok(Some(text)) } else { Ok(None) }
 }
 
 /// The text of a quoted word, if it is one.
-pub(crate) fn quoted_text(alloc: Global, word: &[u8]) -> Result<Option<Text>, AllocError>
+#[tactic(auto, using(crate::proofs::KindLemmas::in_characters_utf8))]
+pub(crate) fn quoted_text(alloc: Global, word: &str) -> Result<Option<Text>, AllocError>
     ensures { IfOk result (λ text. text ≡ kind.quoted_text word.now) }
 {
-    let Some((b'\'', inside)) = word.split_first() else {
+    let Some((b'\'', _)) = word.as_bytes().split_first() else {
         return Ok(None);
     };
+    let inside = &word[1..];
     if let Some(text) = as_written(inside) {
-        return in_characters(alloc, text);
+        return Ok(Some(Text::from_str(alloc, text)?));
     }
     match unquoted(alloc, inside)? {
-        Some(bytes) => in_characters(alloc, bytes.as_slice()),
+        Some(text) => Ok(Some(Text::from_string(text))),
         None => Ok(None),
-    }
-}
-
-/// The text of a word of letters, digits and the like.
-pub(crate) fn plain_text(alloc: Global, word: &[u8]) -> Result<Text, LineCause>
-    requires { IsUtf8 word.now }
-    ensures { MatchResult result (λ text. text ≡ word.now) (λ cause. cause ≡ LineCause.NoMemory) }
-{
-    match Text::from_bytes(alloc, word) {
-        Ok(text) => Ok(text),
-        Err(_) => Err(LineCause::NoMemory),
     }
 }
 
@@ -160,6 +144,7 @@ fn is_bare(byte: u8) -> bool
     byte.is_ascii_graphic() && byte != b'\''
 }
 
+#[inline(never)]
 fn all_bare(bytes: &[u8]) -> bool
     ensures { result ≡ list_all kind.is_bare bytes.now }
 {
@@ -167,8 +152,8 @@ fn all_bare(bytes: &[u8]) -> bool
 }
 
 /// Whether a word is one without quotes.
-pub(crate) fn is_bare_word(word: &[u8]) -> bool
+pub(crate) fn is_bare_word(word: &str) -> bool
     ensures { result ≡ kind.is_bare_word word.now }
 {
-    !word.is_empty() && all_bare(word)
+    !word.is_empty() && all_bare(word.as_bytes())
 }

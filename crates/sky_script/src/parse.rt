@@ -19,11 +19,11 @@ fn statement(alloc: Global, words: &mut Words) -> Result<Stmt, LineCause>
     let Some(first) = words.next() else {
         return Err(words.missing());
     };
-    read_form(alloc, first, words)
+    read_form(alloc, first.as_bytes(), words)
 }
 
 /// What a line says that is neither empty nor a comment.
-fn run_line(alloc: Global, line: &[u8]) -> Result<Line, LineCause>
+fn run_line(alloc: Global, line: &str) -> Result<Line, LineCause>
     ensures { IsAnswer result (line_of_words (line_words.words line.now)) }
 {
     let mut words = Words::new(line);
@@ -35,17 +35,25 @@ fn run_line(alloc: Global, line: &[u8]) -> Result<Line, LineCause>
     }
 }
 
+/// What a line of characters says.
+fn read_line(alloc: Global, line: &str) -> Result<Line, LineCause>
+    ensures { IsAnswer result (line_of line.now) }
+{
+    match line.as_bytes().first() {
+        None | Some(b'#') => Ok(Line::Blank),
+        Some(_) => run_line(alloc, line),
+    }
+}
+
 /// What a line says; its line feed is not among its bytes.
 pub fn parse_line(alloc: Global, line: &[u8]) -> Result<Line, LineCause>
     ensures not_utf8 { result ≡ Err LineCause.NotUtf8 ↔ ¬ (IsUtf8 line.now) }
     ensures answer { IsUtf8 line.now → IsAnswer result (line_of line.now) }
     ensures in_form { IfOk result (λ says. IsLineInForm says) }
 {
-    if str::from_utf8(line).is_err() {
-        return Err(LineCause::NotUtf8);
-    }
-    match line.first() {
-        None | Some(b'#') => Ok(Line::Blank),
-        Some(_) => run_line(alloc, line),
+    // The one test: what is taken of the line from here on is a text because the line is one.
+    match str::from_utf8(line) {
+        Ok(line) => read_line(alloc, line),
+        Err(_) => Err(LineCause::NotUtf8),
     }
 }

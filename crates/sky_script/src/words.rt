@@ -6,11 +6,11 @@ ghost use Rattle.sky_model.specs.Words.{words};
 ghost use Rattle.sky_model.specs.Kinds.{Kind, Name, Dotted, Number, OptText, Raw, Of, value};
 ghost use Rattle.sky_model.specs.Kinds as kind;
 ghost use Rattle.sky_model.specs.Grammar.{Row, stop, literal, either, many, next, optional, text_of, some_until, line_of_words, run_of, statement_of};
-ghost use Rattle.sky_script.specs.Unread.{words_in};
+ghost use Rattle.sky_script.specs.Unread.{words_in, EndsWord};
 ghost use Rattle.sky_script.specs.Reading.{Answers, IsAnswer, Reads};
 
 use crate::cause::LineCause;
-use crate::kinds::{is_bare_word, is_dotted, is_name, plain_text, quoted_text};
+use crate::kinds::{is_bare_word, is_dotted, is_name, quoted_text};
 use crate::row_words::{column_of, ignore_of, set_of, value_of};
 use sky_model::{ColumnNames, Fixed, Set};
 use sky_val::{Column, Text, Val, number_of};
@@ -21,7 +21,7 @@ use std::marker::Model;
 #[derive(Drop)]
 pub(crate) struct Words<'a> {
     // None behind the last word; an empty rest still has an empty word.
-    rest: Option<&'a [u8]>,
+    rest: Option<&'a str>,
     taken: usize,
 }
 
@@ -37,54 +37,67 @@ impl<'a> Model for Words<'a> {
     ghost invariant = { λ w. w.taken + most_in (option_copied w.rest) ≤ 2 ^ 63 };
 }
 
-/// The word that bytes begin with, and what stands behind the space that ends it.
-fn split_word(bytes: &[u8]) -> (&[u8], Option<&[u8]>)
-    ensures split { words bytes.now ≡ result.0.now ∷ words_in (option_copied result.1) }
-    ensures shorter { IfSome result.1 (λ rest. length rest.now < length bytes.now) }
+/// The place of the space that ends the word which bytes begin with, or else of their end.
+// Never inlined: among other code the loop would take more steps a byte.
+#[inline(never)]
+fn word_end(bytes: &[u8]) -> usize
+    ensures { EndsWord result bytes.now }
 {
     // Most words have no quote, and then each byte is only compared.
     for (i, byte) in bytes.iter().enumerate() {
         if *byte == b' ' {
-            return (&bytes[..i], Some(&bytes[i + 1..]));
+            return i;
         }
         if *byte == b'\'' {
-            return split_quoted(bytes);
+            return quoted_end(bytes);
         }
     }
-    (bytes, None)
+    bytes.len()
 }
 
 /// The same, where quotes may stand in the word.
-fn split_quoted(bytes: &[u8]) -> (&[u8], Option<&[u8]>)
-    ensures split { words bytes.now ≡ result.0.now ∷ words_in (option_copied result.1) }
-    ensures shorter { IfSome result.1 (λ rest. length rest.now < length bytes.now) }
+#[inline(never)]
+fn quoted_end(bytes: &[u8]) -> usize
+    ensures { EndsWord result bytes.now }
 {
     let mut quoted = false;
     for (i, byte) in bytes.iter().enumerate() {
         if *byte == b' ' && !quoted {
-            return (&bytes[..i], Some(&bytes[i + 1..]));
+            return i;
         }
         if *byte == b'\'' {
             quoted = !quoted;
         }
     }
-    (bytes, None)
+    bytes.len()
 }
 
-fn fixed_text(fixed: Fixed) -> &'static [u8]
+/// The word that a text begins with, and what stands behind the space that ends it.
+fn split_word(text: &str) -> (&str, Option<&str>)
+    ensures split { words text.now ≡ result.0.now ∷ words_in (option_copied result.1) }
+    ensures shorter { IfSome result.1 (λ rest. length rest.now < length text.now) }
+{
+    let end = word_end(text.as_bytes());
+    if end == text.len() {
+        return (text, None);
+    }
+    (&text[..end], Some(&text[end + 1..]))
+}
+
+fn fixed_text(fixed: Fixed) -> &'static str
     ensures { result.now ≡ text_of fixed }
 {
     match fixed {
-        Fixed::Repeatable => b"repeatable",
-        Fixed::Read => b"read",
-        Fixed::Table => b"table",
-        Fixed::Set => b"set",
-        Fixed::Backup => b"backup",
+        Fixed::Repeatable => "repeatable",
+        Fixed::Read => "read",
+        Fixed::Table => "table",
+        Fixed::Set => "set",
+        Fixed::Backup => "backup",
     }
 }
 
 impl<'a> Words<'a> {
-    pub(crate) fn new(line: &'a [u8]) -> Words<'a>
+    pub(crate) fn new(line: &'a str) -> Words<'a>
         ensures { result ≡ record { number = 1; left = words line.now } }
     {
         Words {
@@ -94,7 +107,7 @@ impl<'a> Words<'a> {
     }
 
     /// Takes the next word.
-    pub(crate) fn next(&mut self) -> Option<&'a [u8]>
+    pub(crate) fn next(&mut self) -> Option<&'a str>
         ensures word { MatchOption result (self.old.left ≡ [])
             (λ word. (self.old.left ≡ word.now ∷ self.new.left) × (self.new.number ≡ self.old.number + 1)) }
         ensures none { IfNone result (self.new ≡ self.old) }
@@ -206,10 +219,14 @@ impl<'a> Words<'a> {
         let Some(word) = self.next() else {
             return Err(self.missing());
         };
-        match word.strip_suffix(b":") {
-            Some(name) if is_name(name) => plain_text(alloc, name),
-            _ => Err(self.refused()),
+        let Some(name) = word.as_bytes().strip_suffix(b":") else {
+            return Err(self.refused());
+        };
+        let name = &word[..name.len()];
+        if !is_name(name) {
+            return Err(self.refused());
         }
+        Ok(Text::from_str(alloc, name)?)
     }
 
     pub(crate) fn name(&mut self, alloc: Global) -> Result<Text, LineCause>
@@ -221,7 +238,7 @@ impl<'a> Words<'a> {
         if !is_name(word) {
             return Err(self.refused());
         }
-        plain_text(alloc, word)
+        Ok(Text::from_str(alloc, word)?)
     }
 
     pub(crate) fn dotted(&mut self, alloc: Global) -> Result<Text, LineCause>
@@ -233,7 +250,7 @@ impl<'a> Words<'a> {
         if !is_dotted(word) {
             return Err(self.refused());
         }
-        plain_text(alloc, word)
+        Ok(Text::from_str(alloc, word)?)
     }
 
     pub(crate) fn number(&mut self, most: u64) -> Result<u64, LineCause>
@@ -242,7 +259,7 @@ impl<'a> Words<'a> {
         let Some(word) = self.next() else {
             return Err(self.missing());
         };
-        match number_of(word, most) {
+        match number_of(word.as_bytes(), most) {
             Some(number) => Ok(number),
             None => Err(self.refused()),
         }
@@ -254,7 +271,7 @@ impl<'a> Words<'a> {
         let Some(word) = self.next() else {
             return Err(self.missing());
         };
-        if word == b"null".as_slice() {
+        if word == "null" {
             return Ok(None);
         }
         match quoted_text(alloc, word)? {
@@ -270,7 +287,7 @@ impl<'a> Words<'a> {
             return Err(self.missing());
         };
         if is_bare_word(word) {
-            return plain_text(alloc, word);
+            return Ok(Text::from_str(alloc, word)?);
         }
         match quoted_text(alloc, word)? {
             Some(text) => Ok(text),

@@ -80,6 +80,14 @@ impl Model for Text {
 }
 
 impl Text {
+    /// The same text.
+    pub fn from_str(alloc: Global, text: &str) -> Result<Text, AllocError>
+        ensures { IfOk result (λ copy. copy ≡ text.now) }
+    {
+        let kept = Kept::new(alloc, text)?;
+        Ok(Text { kept })
+    }
+
     /// The text that these bytes are.
     pub fn from_bytes(alloc: Global, bytes: &[u8]) -> Result<Text, TextFault>
         ensures ok { IfOk result (λ text. text ≡ bytes.now) }
@@ -89,8 +97,8 @@ impl Text {
         let Ok(text) = std::str::from_utf8(bytes) else {
             return Err(TextFault::NotUtf8);
         };
-        match Kept::new(alloc, text) {
-            Ok(kept) => Ok(Text { kept }),
+        match Text::from_str(alloc, text) {
+            Ok(text) => Ok(text),
             Err(_) => Err(TextFault::NoMemory),
         }
     }

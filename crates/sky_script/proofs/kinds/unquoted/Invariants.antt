@@ -1,5 +1,11 @@
-use Rattle.sky_script.proofs.KindLemmas.{Unquotes}
+use Rattle.std.proofs.Common.{◌≤◌, string_bytes}
+use Rattle.std.specs.Str.{IsCharBoundary}
+use Rattle.sky_script.proofs.KindLemmas.{Unquotes, text_so_far}
 use Rattle.sky_script.proofs.kinds.unquoted.Given as goal
 
-abbrev pub invariant-loop-byte : goal.invariant-loop-byte
-invariant-loop-byte l = Unquotes l.inside l.text.items l.quote l.byte-index
+abbrev pub invariant-loop-i : goal.invariant-loop-i
+invariant-loop-i l = record {
+  text : Unquotes l.inside (text_so_far l.inside (string_bytes l.text) l.quote l.from l.i) l.quote l.i;
+  order : l.from ≤ l.i;
+  cut : IsCharBoundary l.inside l.from;
+}

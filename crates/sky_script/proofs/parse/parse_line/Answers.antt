@@ -1,5 +1,5 @@
 -- What is answered of a line is what the line says, and that is in form.
-use Rattle.std.proofs.Common.{rules, List, ℕ, Result, Ok, Err, IfOk}
+use Rattle.std.proofs.Common.{List, ℕ, Result, Ok, Err, IfOk}
 use Rattle.sky_model.specs.declared.line.Line.{Line}
 use Rattle.sky_model.specs.Grammar.{line_of}
 use Rattle.sky_model.specs.InForm.{IsLineInForm}
@@ -12,7 +12,5 @@ answered : (line : List ℕ) (r : Result Line LineCause) → IsAnswer r (line_of
 answered line (Ok says) so = lines_are_in_form line says so
 answered line (Err cause) so = tt
 
-pub returns-in-Some-clause-in_form : goal.returns-in-Some-clause-in_form
-returns-in-Some-clause-in_form c =
-    let answer : IsAnswer c.run_line.result (line_of c.args.line.now) = search rules in
-    answered c.args.line.now c.run_line.result answer
+pub returns-in-Ok-clause-in_form : goal.returns-in-Ok-clause-in_form
+returns-in-Ok-clause-in_form c = answered c.in-Ok.line.now c.read_line.result c.read_line.ensures

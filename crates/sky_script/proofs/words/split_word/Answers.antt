@@ -1,5 +1,9 @@
-use Rattle.sky_script.proofs.WordLemmas.{reaches_none}
+use Rattle.std.proofs.Common.{◌≡◌, get_or, arith}
+use Rattle.std.proofs.lemmas.Str.{IsCharBoundary-after_ascii}
 use Rattle.sky_script.proofs.words.split_word.Goals as goal
 
-pub loop-i-init : goal.loop-i-init
-loop-i-init c = reaches_none c.args.bytes.now
+pub range_from-requires : goal.range_from-requires
+range_from-requires c = λ _.
+    let found = c.word_end-end.ensures.space (omega (arith, c.word_end-end.ensures.within, c.if-end-text.false)) in
+    let space : get_or c.args.text.now c.word_end-end.result 0 ≡ 32 = cc in
+    IsCharBoundary-after_ascii c.args.text.now c.word_end-end.result c.utf8.text (omega (arith, c.word_end-end.ensures.within, c.if-end-text.false)) (omega (arith, space))

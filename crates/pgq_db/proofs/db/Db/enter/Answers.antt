@@ -2,7 +2,7 @@ use Rattle.std.proofs.Common.{IfOk, subst, ap, if◌then◌else◌}
 use Rattle.sky_model.specs.SessionMarks.{Enters, entry_place}
 use Rattle.pgq_db.specs.Views.{DbView}
 use Rattle.sky_model.specs.declared.stmt.Where.TheVariants.{WhenReading, WhenOutside}
-use Rattle.sky_session.specs.Seen.{seen}
+use Rattle.sky_state.specs.Seen.{seen}
 use Rattle.pgq_db.specs.Seen.{seen_database}
 use Rattle.pgq_db.proofs.TracedLists.{tables-entered}
 use Rattle.pgq_db.proofs.Databases.{entered-steps}

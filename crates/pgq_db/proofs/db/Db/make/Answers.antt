@@ -1,5 +1,5 @@
 use Rattle.std.proofs.Common.{◌≡◌, ℕ, List, false, length, arith, ap, sym, subst, ◌∙◌, ◌++◌, ◌∷◌, []}
-use Rattle.sky_session.specs.Seen.{seen}
+use Rattle.sky_state.specs.Seen.{seen}
 use Rattle.pgq_db.specs.Views.{QueueView}
 use Rattle.pgq_db.specs.Batches.{BatchesWithin}
 use Rattle.pgq_db.specs.Traced.{TracedWithin, AreTables}

@@ -3,7 +3,7 @@ use Rattle.std.proofs.lemmas.Int.{to_z-of_z}
 use Rattle.sky_model.specs.Reader.{part_by_itself, database_by_itself, within_part}
 use Rattle.sky_model.specs.Gates.{by_gate}
 use Rattle.sky_model.specs.Settling.{Turn, settling}
-use Rattle.sky_session.specs.Seen.{seen}
+use Rattle.sky_state.specs.Seen.{seen}
 use Rattle.pgq_db.specs.Views.{QueueView, DbView}
 use Rattle.pgq_db.specs.Seen.{seen_database}
 use Rattle.pgq_db.specs.EventGates.{EventGateView, event_rule, AreStorable}

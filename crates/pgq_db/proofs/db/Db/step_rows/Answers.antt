@@ -5,7 +5,7 @@ use Rattle.sky_model.specs.Gates.{by_gate}
 use Rattle.sky_model.specs.Settling.{Turn}
 use Rattle.sky_model.specs.Calls.{row_turn, database_turn}
 use Rattle.sky_model.specs.declared.stmt.Stmt.TheVariants.{Row}
-use Rattle.sky_session.specs.Seen.{seen}
+use Rattle.sky_state.specs.Seen.{seen}
 use Rattle.pgq_db.specs.Views.{QueueView, DbView}
 use Rattle.pgq_db.specs.Seen.{seen_database}
 use Rattle.pgq_db.specs.EventGates.{EventGateView, event_rule, AreStorable}

@@ -1,6 +1,6 @@
 use Rattle.std.proofs.Common.{rules, ◌<◌, Some, is_some, length, sym, ap, subst}
 use Rattle.sky_model.specs.Triggers.{TableTrigger}
-use Rattle.sky_session.specs.Seen.{seen}
+use Rattle.sky_state.specs.Seen.{seen}
 use Rattle.pgq_db.specs.Views.{TracedTableView, DbView}
 use Rattle.pgq_db.proofs.TracedLists.{Updated, traced-kept, traced-more, tables-at}
 use Rattle.pgq_db.proofs.db.Db.store_trigger.Goals as goal

@@ -1,4 +1,5 @@
-use Rattle.std.proofs.Common.{◌+◌, ◌-◌, ◌∙◌, ap, arith, length, take, drop, length-take}
+use Rattle.std.proofs.Common.{◌≡◌, refl, slice_range, ◌-◌, ap, arith, length, drop, length-take}
+use Rattle.sky_lines.specs.Room.{Held}
 use Rattle.sky_lines.proofs.FeedLemmas.{IsFirstFeed-searched, line_taken}
 use Rattle.sky_lines.proofs.buffer.Buffer.take_line.Goals as goal
 
@@ -7,16 +8,19 @@ invariant_of-self c =
     let buffer = c.self.inside in
     let held = c.self.invariant in
     let size = length-take (buffer.end - buffer.start) (drop buffer.start buffer.bytes.items) in
+    let view : slice_range buffer.bytes.items buffer.start buffer.end ≡ c.args.self.now.pending = ap (λ (h : Held). h.pending) c.self.view_is in
     let within = c.requires.within in
     record {
       room = held.room;
-      in_order = omega (arith, ap length c.self.view_is, size);
+      in_order = omega (arith, ap length view, size);
       within = held.within;
-      known = IsFirstFeed-searched _ _ (rw c.deref-2.ensures.value at c.memchr-self-inside.ensures);
+      known = IsFirstFeed-searched _ _ (rw c.deref.ensures.value at c.memchr-self-inside.ensures);
+      line_in_order = omega arith;
+      line_within = omega (arith, ap length view, size);
     }
 
-pub returns-clause-ok : goal.returns-clause-ok
-returns-clause-ok c =
+pub returns-clause-parts : goal.returns-clause-parts
+returns-clause-parts c =
     let buffer = c.self.inside in
-    line_taken buffer.bytes.items _ _ buffer.start buffer.end c.args.len c.self.view_is c.requires
-    (c.in_ok-line.ensures.items ∙ ap (λ xs. take (buffer.start + c.args.len - buffer.start) (drop buffer.start xs)) c.deref.ensures.value)
+    let view : slice_range buffer.bytes.items buffer.start buffer.end ≡ c.args.self.now.pending = ap (λ (h : Held). h.pending) c.self.view_is in
+    line_taken buffer.bytes.items _ _ buffer.start buffer.end c.args.len view c.requires refl

@@ -1,5 +1,5 @@
 use Rattle.sky_script.proofs.WordLemmas.{Reaches}
-use Rattle.sky_script.proofs.words.split_quoted.Given as goal
+use Rattle.sky_script.proofs.words.quoted_end.Given as goal
 
 abbrev pub invariant-loop-i : goal.invariant-loop-i
 invariant-loop-i l = Reaches l.bytes l.quoted l.i
