@@ -16,13 +16,37 @@ fn begins_name(byte: u8) -> bool
     byte.is_ascii_lowercase() || byte == b'_'
 }
 
+/// Of each byte whether it may stand in a name behind the first. Looking it up takes fewer steps than comparing.
+const CONTINUES_NAME: [bool; 256] = [
+    false, false, false, false, false, false, false, false, false, false, false, false, false,
+    false, false, false, false, false, false, false, false, false, false, false, false, false,
+    false, false, false, false, false, false, false, false, false, false, false, false, false,
+    false, false, false, false, false, false, false, false, false, true, true, true, true, true,
+    true, true, true, true, true, false, false, false, false, false, false, false, false, false,
+    false, false, false, false, false, false, false, false, false, false, false, false, false,
+    false, false, false, false, false, false, false, false, false, false, false, false, false,
+    false, false, true, false, true, true, true, true, true, true, true, true, true, true, true,
+    true, true, true, true, true, true, true, true, true, true, true, true, true, true, true,
+    false, false, false, false, false, false, false, false, false, false, false, false, false,
+    false, false, false, false, false, false, false, false, false, false, false, false, false,
+    false, false, false, false, false, false, false, false, false, false, false, false, false,
+    false, false, false, false, false, false, false, false, false, false, false, false, false,
+    false, false, false, false, false, false, false, false, false, false, false, false, false,
+    false, false, false, false, false, false, false, false, false, false, false, false, false,
+    false, false, false, false, false, false, false, false, false, false, false, false, false,
+    false, false, false, false, false, false, false, false, false, false, false, false, false,
+    false, false, false, false, false, false, false, false, false, false, false, false, false,
+    false, false, false, false, false, false, false, false, false, false, false, false, false,
+    false, false, false,
+];
+
 fn continues_name(byte: u8) -> bool
     ensures { result ≡ kind.continues_name byte }
 {
-    begins_name(byte) || byte.is_ascii_digit()
+    CONTINUES_NAME[byte as usize]
 }
 
-// Never inlined, as every loop over bytes here: among other code it would take more steps a byte.
+// Never inlined, and so are the loops of the tests below: among other code each would take more steps a byte.
 #[inline(never)]
 fn all_continue_name(bytes: &[u8]) -> bool
     ensures { result ≡ list_all kind.continues_name bytes.now }
