@@ -1,4 +1,2 @@
 pub mod Effects
 pub mod Gives
-pub use Rattle.sky_state.specs.Views
-pub use Rattle.sky_state.specs.Seen
