@@ -9,15 +9,15 @@ use Rattle.sky_names.proofs.PlaceLemmas.{place_of_within}
 use Rattle.sky_model.specs.declared.stmt.Stmt.{Stmt}
 use Rattle.sky_model.specs.declared.reply.Reply.TheVariants.{Refused}
 use Rattle.sky_model.specs.declared.reply.Refusal.TheVariants.{TooMany}
-use Rattle.sky_model.specs.declared.reply.Limit.TheVariants.{Sessions}
+use Rattle.sky_model.specs.declared.reply.Limit.TheVariants.{Sessions, Databases}
 use Rattle.sky_model.specs.declared.reply.Reply.{Reply}
 use Rattle.sky_model.specs.History.{Mark, Fact, appeared, founded, entered, left, within}
 use Rattle.sky_model.specs.State.{Database, database_of, changed_at, after_mark, after_marks}
 use Rattle.sky_model.specs.World.{World, world_of, after_fact, after_facts}
 use Rattle.sky_model.specs.Printed.{ReplyHasMoments, HaveMoments}
-use Rattle.sky_model.specs.Reader.{database_by_itself, within_database, by_world, Deed, refuses, appears, joined, followed}
+use Rattle.sky_model.specs.Reader.{database_by_itself, within_database, by_world, Deed, refuses, appears, founds, joined, followed}
 use Rattle.sky_model.specs.Settling.{Turn}
-use Rattle.sky_model.specs.Calls.{Call, database_turn, deed_in, turn, called}
+use Rattle.sky_model.specs.Calls.{Call, database_turn, deed_in, left_if, opens_in, opens, turn, called}
 use Rattle.sky_model.specs.Steps.{Steps, deed_at}
 use Rattle.sky_model.proofs.Standing.{steps_from_exact}
 use Rattle.sky_model.proofs.RowStanding.{turn-within}

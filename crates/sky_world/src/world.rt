@@ -320,12 +320,7 @@ impl World {
     }
 
     /// The same where the database is new.
-    fn open_new(
-        &mut self,
-        who: SessionId,
-        stmt: &Stmt,
-        name: &Text,
-    ) -> Result<Replies, AllocError>
+    fn open_new(&mut self, who: SessionId, stmt: &Stmt, name: &Text) -> Result<Replies, AllocError>
         requires who { who < length self.old.homes }
         requires form { IsInForm stmt.now }
         requires new { place_of name.now self.old.databases ≡ None }
