@@ -191,12 +191,7 @@ fn change_row(alloc: Global, columns: &[Column], set: &Set, row: &mut Row) -> Re
 }
 
 /// The row after the changes, the first one first.
-pub fn with_sets(
-    alloc: Global,
-    columns: &[Column],
-    sets: &[Set],
-    row: &Row,
-) -> Result<Row, Stop>
+pub fn with_sets(alloc: Global, columns: &[Column], sets: &[Set], row: &Row) -> Result<Row, Stop>
     ensures ok { IfOk result (λ new. spec.with_sets columns.now sets.now row.now ≡ Ok new) }
     ensures err { IfErr result (λ stop. StopsAs stop (spec.with_sets columns.now sets.now row.now)) }
 {
