@@ -16,6 +16,11 @@ pub record Outcome : Type 0 where
 abbrev pub Checked : Type 0 → Type 0
 Checked A = Result A Refusal
 
+-- what is answered, or the refusal
+abbrev pub reply_of : Checked Outcome → Reply
+reply_of (Ok outcome) = outcome.reply
+reply_of (Err refusal) = Refused refusal
+
 -- what happened, where nothing is refused
 abbrev pub marks_of : Checked Outcome → List Mark
 marks_of (Ok outcome) = outcome.marks

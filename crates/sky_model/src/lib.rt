@@ -7,12 +7,14 @@
 //! lengthened, and a refusal tells whether it aborts a block. No statement is run here.
 #![tactic(auto)]
 
+mod gate;
 pub mod laws;
 mod line;
 mod reply;
 mod stmt;
 mod stop;
 
+pub use gate::{OpenGate, WriteGate};
 pub use line::{Cause, Fixed, Line};
 pub use reply::{BadRow, Events, Limit, Refusal, Replies, Reply, Rows, Waiters};
 pub use stmt::{

@@ -7,12 +7,6 @@ use Rattle.sky_model.specs.History.{Mark, ended, tabled, wrote}
 use Rattle.sky_session.specs.declared.effect.Effect.{Effect}
 use Rattle.sky_session.specs.declared.effect.Effect.TheVariants.{Wrote, Committed, Aborted}
 
--- what a write did, by the row that it found and the row that it left
-abbrev pub op_of : (old new : Option (List Val)) → Op
-op_of None new = Insert
-op_of (Some row) None = Delete
-op_of (Some row) (Some next) = Update
-
 -- the effects of marks, the first one first
 abbrev pub effects_of : List Mark → List Effect
 effects_of [] = []

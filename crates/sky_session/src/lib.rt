@@ -11,7 +11,6 @@
 
 mod answer;
 mod effect;
-mod gate;
 mod locking;
 mod own_transaction;
 mod row_db;
@@ -21,5 +20,5 @@ mod statements;
 
 pub use answer::RowStep;
 pub use effect::{Effect, Effects};
-pub use gate::WriteGate;
 pub use row_db::RowDb;
+pub use sky_model::WriteGate;

@@ -11,7 +11,6 @@ ghost use Rattle.sky_session.specs.Gives.{Ran, Passes};
 ghost use Rattle.sky_state.specs.Seen.{seen};
 
 use crate::answer::Answer;
-use crate::gate::WriteGate;
 use crate::row_statements::{check_seen, write_key};
 use sky_fits::with_sets;
 use sky_locks::LockKey;

@@ -21,7 +21,6 @@ ghost use Rattle.sky_state.specs.Seen.{seen};
 
 use crate::answer::RowStep;
 use crate::effect::Effects;
-use crate::gate::{OpenGate, WriteGate};
 use crate::own_transaction::{abort_block, admit, begin_own, commit_alone, txid_for};
 use crate::settling::settle_behind;
 use crate::statements::own_answer;

@@ -5,7 +5,7 @@ ghost use Rattle.sky_val.specs.Schemas.{AreNamed};
 ghost use Rattle.sky_val.specs.Waits.{other_holder, is_waiting};
 ghost use Rattle.sky_model.specs.ShownRows.{snapshot_now, rows_by};
 ghost use Rattle.sky_model.specs.StepRows.{table_called, is_seen, writes_key, create_table, insert, update, delete, get, scan};
-ghost use Rattle.sky_session.specs.Effects.{op_of};
+ghost use Rattle.sky_urlenc.specs.RowEvents.{op_of};
 ghost use Rattle.sky_model.specs.Gates.{gated};
 ghost use Rattle.sky_session.specs.Gives.{Ran, Passes};
 ghost use Rattle.sky_model.specs.Stops.{StopsAs};
@@ -13,7 +13,6 @@ ghost use Rattle.sky_state.specs.Seen.{seen};
 
 use crate::answer::Answer;
 use crate::effect::{Effect, Effects};
-use crate::gate::WriteGate;
 use crate::locking::{change_key, delete_key, insert_key};
 use crate::own_transaction::{txid_for, write_own};
 use sky_fits::{key_fits, key_stays, new_schema, row_fits, sets_fit};

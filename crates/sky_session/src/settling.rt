@@ -13,7 +13,6 @@ ghost use Rattle.sky_session.specs.Gives.{Adds, GivesOutcome};
 ghost use Rattle.sky_state.specs.Seen.{seen};
 
 use crate::answer::{Answer, RowStep};
-use crate::gate::WriteGate;
 use crate::locking::attempt_key;
 use crate::statements::refuse;
 use sky_locks::LockKey;

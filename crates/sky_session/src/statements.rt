@@ -21,7 +21,6 @@ ghost use Rattle.sky_state.specs.Seen.{seen};
 
 use crate::answer::Answer;
 use crate::effect::{Effect, Effects};
-use crate::gate::WriteGate;
 use crate::own_transaction::{abort_block, admit, begin_own, commit_own, txid_for};
 use crate::row_statements::{create_table, delete, get, insert, scan, update};
 use sky_fits::{Block, where_of};

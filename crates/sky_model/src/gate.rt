@@ -1,6 +1,6 @@
 ghost use Rattle.std.specs.Prelude.{◌≡◌, true, OnOk, OnErr, option_copied};
+ghost use Rattle.sky_urlenc.specs.RowEvents.{op_of};
 ghost use Rattle.sky_model.specs.Gates.{Gate, open_gate};
-ghost use Rattle.sky_session.specs.Effects.{op_of};
 
 use sky_val::{NoMemory, Op, Row};
 use std::marker::Model;
