@@ -19,3 +19,8 @@ Stops NoMemory old new checked = Unit {0}
 abbrev pub StopsAs : {A : Type 0} → Stop → Checked A → Type 0
 StopsAs (Refused refusal) checked = checked ≡ Err refusal
 StopsAs NoMemory checked = Unit {0}
+
+-- what a refused statement leaves as it was
+abbrev pub Keeps : {A : Type 0} → Stop → A → A → Type 0
+Keeps (Refused refusal) old new = new ≡ old
+Keeps NoMemory old new = Unit {0}

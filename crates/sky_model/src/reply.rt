@@ -369,6 +369,13 @@ impl Replies {
         Ok(())
     }
 
+    /// No answer any more. The memory is kept for the next ones.
+    pub fn clear(&mut self)
+        ensures { self.new ≡ [] }
+    {
+        self.items.clear();
+    }
+
     /// The answers, each with the number of its session, in their order.
     pub fn as_slice(&self) -> &[(SessionId, Reply)]
         ensures { result.now ≡ self.now }
