@@ -1,33 +1,37 @@
-ghost use Rattle.std.specs.Prelude.{◌≡◌, []};
+ghost use Rattle.std.specs.Prelude.{◌≡◌, [], true, false};
 
 use crate::effect::Effects;
-use sky_model::{Replies, Reply};
+use sky_model::Replies;
 use std::alloc::Global;
 
-/// What a statement answers, and what it did.
+/// What statements answer, and what they did.
 #[derive(Debug, Drop)]
 pub struct RowStep {
-    /// Its own answer first, then those of the statements that it let go on.
+    /// A statement's own answer first, then those of the statements that it let go on.
     pub replies: Replies,
     pub effects: Effects,
 }
 
-/// What a statement that isn't refused answers, and what it did.
-#[derive(Debug, Drop)]
-pub struct Answer {
-    pub reply: Reply,
-    pub effects: Effects,
-}
-
-impl Answer {
-    /// An answer that has no effects.
-    pub fn only(alloc: Global, reply: Reply) -> Answer
-        ensures reply { result.reply ≡ reply }
-        ensures effects { result.effects ≡ [] }
+impl RowStep {
+    /// Nothing yet; all effects will stand in it. No memory is taken.
+    pub fn whole(alloc: Global) -> RowStep
+        ensures replies { result.replies ≡ [] }
+        ensures effects { result.effects ≡ record { whole = true; items = [] } }
     {
-        Answer {
-            reply,
-            effects: Effects::new(alloc),
+        RowStep {
+            replies: Replies::new(alloc),
+            effects: Effects::whole(alloc),
+        }
+    }
+
+    /// Nothing yet; of the effects the ends of transactions alone will stand in it. No memory is taken.
+    pub fn ends(alloc: Global) -> RowStep
+        ensures replies { result.replies ≡ [] }
+        ensures effects { result.effects ≡ record { whole = false; items = [] } }
+    {
+        RowStep {
+            replies: Replies::new(alloc),
+            effects: Effects::ends(alloc),
         }
     }
 }

@@ -1,4 +1,4 @@
-ghost use Rattle.std.specs.Prelude.{◌≡◌, [], ◌∷◌, ◌++◌, OnOk};
+ghost use Rattle.std.specs.Prelude.{◌≡◌, [], ◌∷◌, ◌++◌, true, false, OnOk};
 
 use sky_val::{NoMemory, Op, Row};
 use std::alloc::Global;
@@ -39,50 +39,68 @@ impl Drop for Effect {
     }
 }
 
-/// Effects in order, the first one first.
+/// Effects in order, the first one first. A list that is whole has all; one that isn't leaves out the writes, of which a
+/// gate is told.
 #[derive(Debug, Drop)]
 pub struct Effects {
     items: Vec<Effect>,
+    is_whole: bool,
 }
 
 impl Model for Effects {
-    ghost use Rattle.std.specs.Prelude.{List};
-    ghost use Rattle.sky_session.specs.declared.effect.Effect.{Effect};
+    ghost use Rattle.sky_session.specs.Effects.{EffectsView};
 
-    ghost Value = { List Effect };
+    ghost Value = { EffectsView };
 
-    ghost view = { λ e. e.items.items };
+    ghost view = { λ e. record { whole = e.is_whole; items = e.items.items } };
 }
 
 impl Effects {
-    /// No effect. No memory is taken.
-    pub fn new(alloc: Global) -> Effects
-        ensures { result ≡ [] }
+    /// No effect, in a list that is whole. No memory is taken.
+    pub fn whole(alloc: Global) -> Effects
+        ensures { result ≡ record { whole = true; items = [] } }
     {
         Effects {
             items: Vec::new(alloc),
+            is_whole: true,
         }
+    }
+
+    /// No effect, in a list of the ends of transactions alone. No memory is taken.
+    pub fn ends(alloc: Global) -> Effects
+        ensures { result ≡ record { whole = false; items = [] } }
+    {
+        Effects {
+            items: Vec::new(alloc),
+            is_whole: false,
+        }
+    }
+
+    /// Whether writes are among them.
+    pub(crate) fn is_whole(&self) -> bool
+        ensures { result ≡ self.now.whole }
+    {
+        self.is_whole
     }
 
     /// One more effect, at the end.
     pub(crate) fn push(&mut self, effect: Effect) -> Result<(), NoMemory>
-        ensures { OnOk result (self.new ≡ self.old ++ effect ∷ []) }
+        ensures { OnOk result (self.new ≡ record self.old { items = self.old.items ++ effect ∷ [] }) }
     {
         self.items.push(effect)?;
         Ok(())
     }
 
-    /// Further effects, at the end.
-    pub(crate) fn append(&mut self, mut others: Effects) -> Result<(), NoMemory>
-        ensures { OnOk result (self.new ≡ self.old ++ others) }
+    /// No effect any more. The memory is kept for the next ones.
+    pub fn clear(&mut self)
+        ensures { self.new ≡ record self.old { items = [] } }
     {
-        self.items.append(&mut others.items)?;
-        Ok(())
+        self.items.clear();
     }
 
     /// The effects, the first one first.
     pub fn as_slice(&self) -> &[Effect]
-        ensures { result.now ≡ self.now }
+        ensures { result.now ≡ self.now.items }
     {
         self.items.as_slice()
     }

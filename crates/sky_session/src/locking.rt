@@ -14,7 +14,7 @@ use crate::answer::Answer;
 use crate::row_statements::{check_seen, write_key};
 use sky_fits::with_sets;
 use sky_locks::LockKey;
-use sky_model::{Attempt, Refusal, Reply, Sets, Stop};
+use sky_model::{Attempt, Refusal, Reply, Sets, Stop, WriteGate};
 use sky_state::RowState;
 use sky_val::{Row, SessionId};
 

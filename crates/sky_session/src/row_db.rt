@@ -1,4 +1,4 @@
-ghost use Rattle.std.specs.Prelude.{◌≡◌, ◌↔◌, ◌≢◌, [], ◌∷◌, None, Some, Ok, Err, IfOk, OnOk, OnErr, MatchOption, IsTrue, is_ok};
+ghost use Rattle.std.specs.Prelude.{◌≡◌, ◌↔◌, ◌≢◌, true, false, None, Some, Ok, Err, IfOk, OnOk, OnErr, MatchOption, IsTrue, is_ok};
 ghost use Rattle.sky_val.specs.Waits.{is_waiting};
 ghost use Rattle.sky_names.specs.Places.{place_of};
 ghost use Rattle.sky_model.specs.declared.reply.Refusal.TheVariants.{TxidsSpent};
@@ -15,8 +15,8 @@ ghost use Rattle.sky_model.specs.Calls.{row_turn};
 ghost use Rattle.sky_model.specs.RowCalls.{row_stepped, row_entered, row_failed, row_settled, rolled_back, txid_taken, single_ended};
 ghost use Rattle.sky_model.specs.RowSteps.{RowSteps};
 ghost use Rattle.sky_model.specs.Settling.{ready, settling, with_settling};
-ghost use Rattle.sky_session.specs.Effects.{effects_of};
-ghost use Rattle.sky_session.specs.Gives.{GivesTurn};
+ghost use Rattle.sky_session.specs.Effects.{with_effects};
+ghost use Rattle.sky_session.specs.Gives.{Adds, GivesTurn};
 ghost use Rattle.sky_state.specs.Seen.{seen};
 
 use crate::answer::RowStep;
@@ -25,7 +25,7 @@ use crate::own_transaction::{abort_block, admit, begin_own, commit_alone, txid_f
 use crate::settling::settle_behind;
 use crate::statements::own_answer;
 use sky_fits::Block;
-use sky_model::{Refusal, Replies, RowStmt, Where};
+use sky_model::{OpenGate, Refusal, RowStmt, Where, WriteGate};
 use sky_state::RowState;
 use sky_trans::TransFault;
 use sky_txid::Snapshot;
@@ -118,18 +118,19 @@ impl RowDb {
     /// Runs a statement of a session that has this database open, and those that it lets go on.
     pub fn step(&mut self, who: SessionId, stmt: &RowStmt) -> Result<RowStep, NoMemory>
         requires { IsRowInForm stmt.now }
-        ensures exact { IfOk result (λ step. GivesTurn (seen self.old) (seen self.new) step (row_turn part_by_itself (seen self.old) who stmt.now)) }
+        ensures exact { IfOk result (λ step. GivesTurn true (seen self.old) (seen self.new) step (row_turn part_by_itself (seen self.old) who stmt.now)) }
         ensures rests { OnOk result (ready (seen self.new) ≡ None) }
         ensures steps { OnOk result (RowSteps (seen self.old) (seen self.new) (row_stepped any_room who stmt.now) (row_turn part_by_itself (seen self.old) who stmt.now)) }
     {
         let mut gate = OpenGate;
-        let step = self.step_with(who, stmt, &mut gate)?;
+        let mut step = RowStep::whole(self.state.alloc());
+        self.step_into(who, stmt, &mut gate, &mut step)?;
         Ok(step)
     }
 
     /// The same with a gate in front of the writes: of the statement's own, and of those of statements that it lets go on.
-    /// The gate is told of them in their order, which is that of the effects. Where it has no room for a statement's write,
-    /// that is refused, if nothing else refuses it.
+    /// The gate is told of them in their order, so that the effects are the ends of transactions alone. Where it has no room
+    /// for a statement's write, that is refused, if nothing else refuses it.
     pub fn step_with<G: WriteGate>(
         &mut self,
         who: SessionId,
@@ -137,32 +138,48 @@ impl RowDb {
         gate: &mut G,
     ) -> Result<RowStep, NoMemory>
         requires { IsRowInForm stmt.now }
-        ensures exact { IfOk result (λ step. GivesTurn (seen self.old) (seen self.new) step (row_turn (by_gate G.rule part_by_itself) (seen self.old, gate.old) who stmt.now)) }
+        ensures exact { IfOk result (λ step. GivesTurn false (seen self.old) (seen self.new) step (row_turn (by_gate G.rule part_by_itself) (seen self.old, gate.old) who stmt.now)) }
         ensures passed { OnOk result (gate.new ≡ passed_all G.rule gate.old (row_turn (by_gate G.rule part_by_itself) (seen self.old, gate.old) who stmt.now).marks) }
         ensures rests { OnOk result (ready (seen self.new) ≡ None) }
         ensures steps { OnOk result (RowSteps (seen self.old) (seen self.new) (row_stepped (room_of G.rule gate.old) who stmt.now)
             (row_turn (by_gate G.rule part_by_itself) (seen self.old, gate.old) who stmt.now)) }
     {
-        let answer = own_answer(&mut self.state, who, stmt, gate)?;
-        let replies = Replies::one(self.state.alloc(), who, answer.reply)?;
-        let mut step = RowStep {
-            replies,
-            effects: answer.effects,
-        };
-        settle_behind(&mut self.state, gate, &mut step)?;
+        let mut step = RowStep::ends(self.state.alloc());
+        self.step_into(who, stmt, gate, &mut step)?;
         Ok(step)
+    }
+
+    /// The same; its answers and effects are added to what was given before.
+    pub fn step_into<G: WriteGate>(
+        &mut self,
+        who: SessionId,
+        stmt: &RowStmt,
+        gate: &mut G,
+        step: &mut RowStep,
+    ) -> Result<(), NoMemory>
+        requires { IsRowInForm stmt.now }
+        ensures exact { OnOk result (Adds (seen self.old) (seen self.new) step.old step.new (row_turn (by_gate G.rule part_by_itself) (seen self.old, gate.old) who stmt.now)) }
+        ensures passed { OnOk result (gate.new ≡ passed_all G.rule gate.old (row_turn (by_gate G.rule part_by_itself) (seen self.old, gate.old) who stmt.now).marks) }
+        ensures rests { OnOk result (ready (seen self.new) ≡ None) }
+        ensures steps { OnOk result (RowSteps (seen self.old) (seen self.new) (row_stepped (room_of G.rule gate.old) who stmt.now)
+            (row_turn (by_gate G.rule part_by_itself) (seen self.old, gate.old) who stmt.now)) }
+    {
+        own_answer(&mut self.state, who, stmt, gate, step)?;
+        settle_behind(&mut self.state, gate, step)?;
+        Ok(())
     }
 
     /// Rolls back the session's block, which stays aborted, and runs what this lets go on. Where it is in none, or that
     /// is aborted, nothing is rolled back.
     pub fn fail(&mut self, who: SessionId) -> Result<RowStep, NoMemory>
-        ensures gives { IfOk result (λ step. GivesTurn (seen self.old) (seen self.new) step (with_settling part_by_itself (seen self.old) (failing (seen self.old) who))) }
+        ensures gives { IfOk result (λ step. GivesTurn true (seen self.old) (seen self.new) step (with_settling part_by_itself (seen self.old) (failing (seen self.old) who))) }
         ensures rests { OnOk result (ready (seen self.new) ≡ None) }
         ensures steps { OnOk result (RowSteps (seen self.old) (seen self.new) (row_failed any_room who)
             (with_settling part_by_itself (seen self.old) (failing (seen self.old) who))) }
     {
         let mut gate = OpenGate;
-        let step = self.fail_with(who, &mut gate)?;
+        let mut step = RowStep::whole(self.state.alloc());
+        self.fail_into(who, &mut gate, &mut step)?;
         Ok(step)
     }
 
@@ -172,7 +189,7 @@ impl RowDb {
         who: SessionId,
         gate: &mut G,
     ) -> Result<RowStep, NoMemory>
-        ensures gives { IfOk result (λ step. GivesTurn (seen self.old) (seen self.new) step
+        ensures gives { IfOk result (λ step. GivesTurn false (seen self.old) (seen self.new) step
             (with_settling (by_gate G.rule part_by_itself) (seen self.old, gate.old) (failing (seen self.old) who))) }
         ensures passed { OnOk result (gate.new ≡ passed_all G.rule gate.old
             (with_settling (by_gate G.rule part_by_itself) (seen self.old, gate.old) (failing (seen self.old) who)).marks) }
@@ -180,29 +197,45 @@ impl RowDb {
         ensures steps { OnOk result (RowSteps (seen self.old) (seen self.new) (row_failed (room_of G.rule gate.old) who)
             (with_settling (by_gate G.rule part_by_itself) (seen self.old, gate.old) (failing (seen self.old) who))) }
     {
-        let effects = abort_block(&mut self.state, who)?;
-        let mut step = RowStep {
-            replies: Replies::new(self.state.alloc()),
-            effects,
-        };
-        settle_behind(&mut self.state, gate, &mut step)?;
+        let mut step = RowStep::ends(self.state.alloc());
+        self.fail_into(who, gate, &mut step)?;
         Ok(step)
     }
 
-    /// Runs the statements that may go on. Behind `step` and `fail` there is none; behind `roll_back` and `end_single`, by
-    /// which a statement on queues ends a transaction, there may be some. A gate stands in front of their writes.
-    pub fn settle_with<G: WriteGate>(&mut self, gate: &mut G) -> Result<RowStep, NoMemory>
-        ensures gives { IfOk result (λ step. GivesTurn (seen self.old) (seen self.new) step (settling (by_gate G.rule part_by_itself) (seen self.old, gate.old))) }
+    fn fail_into<G: WriteGate>(
+        &mut self,
+        who: SessionId,
+        gate: &mut G,
+        step: &mut RowStep,
+    ) -> Result<(), NoMemory>
+        ensures gives { OnOk result (Adds (seen self.old) (seen self.new) step.old step.new
+            (with_settling (by_gate G.rule part_by_itself) (seen self.old, gate.old) (failing (seen self.old) who))) }
+        ensures passed { OnOk result (gate.new ≡ passed_all G.rule gate.old
+            (with_settling (by_gate G.rule part_by_itself) (seen self.old, gate.old) (failing (seen self.old) who)).marks) }
+        ensures rests { OnOk result (ready (seen self.new) ≡ None) }
+        ensures steps { OnOk result (RowSteps (seen self.old) (seen self.new) (row_failed (room_of G.rule gate.old) who)
+            (with_settling (by_gate G.rule part_by_itself) (seen self.old, gate.old) (failing (seen self.old) who))) }
+    {
+        abort_block(&mut self.state, who, &mut step.effects)?;
+        settle_behind(&mut self.state, gate, step)?;
+        Ok(())
+    }
+
+    /// Runs the statements that may go on; their answers and effects are added to what was given before. Behind `step` and
+    /// `fail` there is none; behind `roll_back` and `end_single`, by which a statement on queues ends a transaction, there may
+    /// be some. A gate stands in front of their writes.
+    pub fn settle_into<G: WriteGate>(
+        &mut self,
+        gate: &mut G,
+        step: &mut RowStep,
+    ) -> Result<(), NoMemory>
+        ensures gives { OnOk result (Adds (seen self.old) (seen self.new) step.old step.new (settling (by_gate G.rule part_by_itself) (seen self.old, gate.old))) }
         ensures passed { OnOk result (gate.new ≡ passed_all G.rule gate.old (settling (by_gate G.rule part_by_itself) (seen self.old, gate.old)).marks) }
         ensures rests { OnOk result (ready (seen self.new) ≡ None) }
         ensures steps { OnOk result (RowSteps (seen self.old) (seen self.new) (row_settled (room_of G.rule gate.old)) (settling (by_gate G.rule part_by_itself) (seen self.old, gate.old))) }
     {
-        let mut step = RowStep {
-            replies: Replies::new(self.state.alloc()),
-            effects: Effects::new(self.state.alloc()),
-        };
-        settle_behind(&mut self.state, gate, &mut step)?;
-        Ok(step)
+        settle_behind(&mut self.state, gate, step)?;
+        Ok(())
     }
 
     /// Whether the session's transaction has an id, or can get one.
@@ -239,13 +272,14 @@ impl RowDb {
         commit_alone(&mut self.state, who);
     }
 
-    /// Rolls back the transaction of the session's block, and aborts the block, if it is in one that isn't aborted.
-    pub fn roll_back(&mut self, who: SessionId) -> Result<Effects, NoMemory>
+    /// Rolls back the transaction of the session's block, and aborts the block, if it is in one that isn't aborted. The
+    /// effect is added to those before.
+    pub fn roll_back(&mut self, who: SessionId, effects: &mut Effects) -> Result<(), NoMemory>
         ensures marks { OnOk result (seen self.new ≡ after_part_marks (seen self.old) (failing (seen self.old) who).marks) }
-        ensures told { IfOk result (λ effects. effects ≡ effects_of (failing (seen self.old) who).marks) }
+        ensures told { OnOk result (effects.new ≡ with_effects effects.old (failing (seen self.old) who).marks) }
         ensures steps { OnOk result (RowSteps (seen self.old) (seen self.new) (rolled_back who) (failing (seen self.old) who)) }
     {
-        let effects = abort_block(&mut self.state, who)?;
-        Ok(effects)
+        abort_block(&mut self.state, who, effects)?;
+        Ok(())
     }
 }

@@ -17,7 +17,7 @@ use crate::locking::{change_key, delete_key, insert_key};
 use crate::own_transaction::{txid_for, write_own};
 use sky_fits::{key_fits, key_stays, new_schema, row_fits, sets_fit};
 use sky_locks::LockKey;
-use sky_model::{Columns, Limit, Refusal, Reply, Rows, Sets, Stop};
+use sky_model::{Columns, Limit, Refusal, Reply, Rows, Sets, Stop, WriteGate};
 use sky_state::RowState;
 use sky_txid::Snapshot;
 use sky_val::{Key, Op, Row, SessionId, Text, copy_row};

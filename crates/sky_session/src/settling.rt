@@ -16,7 +16,7 @@ use crate::answer::{Answer, RowStep};
 use crate::locking::attempt_key;
 use crate::statements::refuse;
 use sky_locks::LockKey;
-use sky_model::{Attempt, Stop};
+use sky_model::{Attempt, Stop, WriteGate};
 use sky_state::RowState;
 use sky_val::{NoMemory, SessionId};
 use std::alloc::AllocError;

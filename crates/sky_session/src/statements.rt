@@ -24,7 +24,7 @@ use crate::effect::{Effect, Effects};
 use crate::own_transaction::{abort_block, admit, begin_own, commit_own, txid_for};
 use crate::row_statements::{create_table, delete, get, insert, scan, update};
 use sky_fits::{Block, where_of};
-use sky_model::{Refusal, Reply, RowStmt, Stop};
+use sky_model::{Refusal, Reply, RowStmt, Stop, WriteGate};
 use sky_state::RowState;
 use sky_txid::{Snapshot, SnapshotFault};
 use sky_val::{NoMemory, SessionId, Text};
