@@ -10,6 +10,7 @@ use Rattle.sky_model.specs.declared.reply.Limit.TheVariants.{Sessions, Databases
 use Rattle.sky_model.specs.declared.reply.Refusal.TheVariants.{TooMany, NotOpen}
 use Rattle.sky_val.specs.Waits.{is_waiting}
 use Rattle.sky_names.specs.Places.{place_of}
+use Rattle.sky_model.specs.Limits.{most_of}
 use Rattle.sky_model.specs.History.{Fact, entered, left, within, Past}
 use Rattle.sky_model.specs.State.{RowPart, Database}
 use Rattle.sky_model.specs.ShownRows.{RowsShown}
@@ -113,7 +114,7 @@ opens_in r who stmt d p = deed_in d (entered who d ∷ []) (database_turn (withi
 abbrev pub opens : {P : Type 0} → Reader P → P → ℕ → Stmt → List ℕ → Option ℕ → Deed
 opens r p who stmt name (Some d) = opens_in r who stmt d p
 opens r p who stmt name None =
-    if nat_le 16 (length (r.world p).databases) then refuses who (TooMany Databases)
+    if nat_le (most_of Databases) (length (r.world p).databases) then refuses who (TooMany Databases)
     else followed r p (opens_in r who stmt (length (r.world p).databases)) (founds name)
 
 -- a statement of a session that has none open, by the name of the one that it is to open
@@ -151,7 +152,7 @@ pub record Call : Type 0 where
 abbrev pub called : {P : Type 0} → Reader P → P → Call → Option ℕ → Deed
 called r p call (Some who) = turn r who call.stmt p
 called r p call None =
-    if nat_le 256 (length (r.world p).sessions) then refuses (length (r.world p).sessions) (TooMany Sessions)
+    if nat_le (most_of Sessions) (length (r.world p).sessions) then refuses (length (r.world p).sessions) (TooMany Sessions)
     else followed r p (turn r (length (r.world p).sessions) call.stmt) (appears call.who)
 
 -- what a call does at a place

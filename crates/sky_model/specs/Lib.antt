@@ -4,6 +4,7 @@ pub mod Grammar
 pub mod InForm
 pub mod LawsOfLines
 pub mod History
+pub mod Limits
 pub mod Transactions
 pub mod Sessions
 pub mod Config

@@ -6,6 +6,7 @@ use Rattle.sky_val.specs.declared.val.Val.{Val}
 use Rattle.sky_val.specs.declared.val.Val.TheVariants as value
 use Rattle.sky_model.specs.declared.reply.Reply.{Reply}
 use Rattle.sky_model.specs.declared.reply.Reply.TheVariants.{Done, Number, Null, Bool, Begin, AlreadyInTransaction, Commit, Rollback, NoTransaction, NotWaiting, Waits, Snapshot, Events, Row, NoRow, Rows, Refused}
+use Rattle.sky_model.specs.Limits.{most_of}
 use Rattle.sky_model.specs.declared.reply.Limit.{Limit}
 use Rattle.sky_model.specs.declared.reply.Limit.TheVariants.{Sessions, Databases, Queues, Consumers, Tables, Columns, Triggers}
 use Rattle.sky_model.specs.declared.reply.BadRow as bad_row
@@ -68,14 +69,17 @@ abbrev pub count_text : ℕ → List ℕ
 count_text n = codes "rows " ++ decimal n
 
 -- what there can be only so many of, and how many
+abbrev pub limit_name : Limit → List ℕ
+limit_name Sessions = codes "sessions"
+limit_name Databases = codes "databases"
+limit_name Queues = codes "queues"
+limit_name Consumers = codes "consumers"
+limit_name Tables = codes "tables"
+limit_name Columns = codes "columns"
+limit_name Triggers = codes "triggers"
+
 abbrev pub limit_text : Limit → List ℕ
-limit_text Sessions = codes "sessions 256"
-limit_text Databases = codes "databases 16"
-limit_text Queues = codes "queues 64"
-limit_text Consumers = codes "consumers 256"
-limit_text Tables = codes "tables 64"
-limit_text Columns = codes "columns 32"
-limit_text Triggers = codes "triggers 8"
+limit_text limit = limit_name limit ++ 32 ∷ decimal (most_of limit)
 
 -- what is wrong with the values of a row
 abbrev pub bad_row_text : bad_row.BadRow → List ℕ

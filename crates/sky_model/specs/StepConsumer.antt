@@ -5,6 +5,7 @@ use Rattle.sky_val.specs.declared.event.Event.{Event}
 use Rattle.sky_model.specs.declared.reply.Reply.TheVariants.{Number, Null, Events}
 use Rattle.sky_model.specs.declared.reply.Limit.TheVariants.{Consumers}
 use Rattle.sky_model.specs.declared.reply.Refusal.TheVariants.{NoBatch, NoConsumer, NodeConsumer, TooMany, IdsSpent}
+use Rattle.sky_model.specs.Limits.{most_of}
 use Rattle.sky_model.specs.History.{Batch, queued, registered, opened, closed}
 use Rattle.sky_model.specs.Queues.{Tick, tick}
 use Rattle.sky_model.specs.Consumers.{Subscription}
@@ -22,7 +23,7 @@ register_consumer d name consumer = do
   queue ← queue_called name d
   refused_if (has_dot consumer) NodeConsumer
   if is_some ((d.queue queue).sub consumer) then answers (Number 0) else (do
-    refused_if (nat_le 256 (length (d.queue queue).members)) (TooMany Consumers)
+    refused_if (nat_le (most_of Consumers) (length (d.queue queue).members)) (TooMany Consumers)
     refused_if (nat_le (2 ^ 64) (d.last_sub_id + 1)) IdsSpent
     does_marks (Number 1) (queued (registered queue consumer (d.last_sub_id + 1) (newest_id (d.queue queue))) ∷ []))
 

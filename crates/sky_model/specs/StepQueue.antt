@@ -5,6 +5,7 @@ use Rattle.sky_model.specs.declared.stmt.Extra.{Extra}
 use Rattle.sky_model.specs.declared.reply.Reply.TheVariants.{Number, Null}
 use Rattle.sky_model.specs.declared.reply.Limit.TheVariants.{Queues}
 use Rattle.sky_model.specs.declared.reply.Refusal.TheVariants.{NoQueue, TooMany, EventIdsSpent, IdsSpent}
+use Rattle.sky_model.specs.Limits.{most_of}
 use Rattle.sky_model.specs.History.{queued, made, raised, put, ticked}
 use Rattle.sky_model.specs.Queues.{queue_number, Tick, newest_tick}
 use Rattle.sky_model.specs.Config.{Config}
@@ -20,7 +21,7 @@ queue_called name d = found_or (queue_number name d.queues) (NoQueue name)
 abbrev pub create_queue : Database → ℤ → ℕ → List ℕ → Checked Outcome
 create_queue d now who name =
     if is_some (queue_number name d.queues) then answers (Number 0) else do
-      refused_if (nat_le 64 (length d.queues)) (TooMany Queues)
+      refused_if (nat_le (most_of Queues) (length d.queues)) (TooMany Queues)
       t ← txid_for d.part who
       does_marks (Number 1)
           (written who t (d.part.session who) (queued (made name) ∷ []) ++ queued (ticked d.queues_made 1 now 0) ∷ [])

@@ -26,6 +26,7 @@ use Rattle.sky_model.specs.declared.reply.Refusal.{Refusal}
 use Rattle.sky_model.specs.declared.reply.Refusal.TheVariants.{BadRow, Duplicate, KeyChange, NoKey, NoTable, OutOfRange, ReservedColumn, Serialize, TableExists, TooMany, TwiceNamed}
 use Rattle.sky_model.specs.declared.stmt.Attempt.{Attempt}
 use Rattle.sky_model.specs.declared.stmt.Attempt.TheVariants.{Insertion, Changes, Deletion}
+use Rattle.sky_model.specs.Limits.{most_of}
 use Rattle.sky_model.specs.History.{of_session, tabled, table_made, wrote}
 use Rattle.sky_model.specs.State.{RowPart}
 use Rattle.sky_model.specs.ShownRows.{KeyShown, RowsShown}
@@ -52,7 +53,7 @@ schema_refusal columns schema.NoKey = NoKey
 abbrev pub create_table : RowPart → List ℕ → List Column → Checked Outcome
 create_table d name columns = do
   refused_if (is_some (place_of name d.tables)) (TableExists name)
-  refused_if (nat_le 64 (length d.tables)) (TooMany Tables)
+  refused_if (nat_le (most_of Tables) (length d.tables)) (TooMany Tables)
   refused_by (option_map (schema_refusal columns) (schema_fault columns))
   does_marks Done (tabled (table_made name columns) ∷ [])
 

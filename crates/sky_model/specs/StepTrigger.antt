@@ -5,6 +5,7 @@ use Rattle.sky_val.specs.declared.column.Column.{Column}
 use Rattle.sky_model.specs.declared.reply.Reply.TheVariants.{Done}
 use Rattle.sky_model.specs.declared.reply.Limit.TheVariants.{Triggers}
 use Rattle.sky_model.specs.declared.reply.Refusal.TheVariants.{BadColumn, TableBusy, TooMany, TriggerExists}
+use Rattle.sky_model.specs.Limits.{most_of}
 use Rattle.sky_model.specs.History.{queued, traced}
 use Rattle.sky_model.specs.Triggers.{TableTrigger, triggers_of}
 use Rattle.sky_model.specs.State.{Database}
@@ -32,7 +33,7 @@ add_trigger d name table_name queue_name backup ignored = do
   table ← table_called table_name d.part
   queue ← queue_called queue_name d
   refused_if (has_trigger name (triggers_of table d.triggers)) (TriggerExists name)
-  refused_if (nat_le 8 (length (triggers_of table d.triggers))) (TooMany Triggers)
+  refused_if (nat_le (most_of Triggers) (length (triggers_of table d.triggers))) (TooMany Triggers)
   refused_by (option_map BadColumn (find (λ column. not (may_ignore (d.part.columns table) column)) ignored))
   refused_by (option_map TableBusy (least_writer d.part table))
   does_marks Done (queued (traced table (Some name) (record { queue = queue; backup = backup; ignored = ignored })) ∷ [])

@@ -8,20 +8,39 @@ use std::marker::Model;
 /// What there can be only so many of.
 #[derive(Clone, Copy, Debug, PartialEq, Eq)]
 pub enum Limit {
-    /// 256 sessions in a script
+    /// Sessions in a script.
     Sessions,
-    /// 16 databases
+    /// Databases.
     Databases,
-    /// 64 queues in a database
+    /// Queues in a database.
     Queues,
-    /// 256 consumers of a queue
+    /// Consumers of a queue.
     Consumers,
-    /// 64 tables in a database
+    /// Tables in a database.
     Tables,
-    /// 32 columns in a table
+    /// Columns in a table.
     Columns,
-    /// 8 triggers of a table
+    /// Triggers of a table.
     Triggers,
+}
+
+impl Limit {
+    ghost use Rattle.sky_model.specs.Limits.{most_of};
+
+    /// How many there can be.
+    pub fn most(self) -> usize
+        ensures { result ≡ most_of self }
+    {
+        match self {
+            Limit::Sessions => 256,
+            Limit::Databases => 16,
+            Limit::Queues => 64,
+            Limit::Consumers => 256,
+            Limit::Tables => 64,
+            Limit::Columns => 32,
+            Limit::Triggers => 8,
+        }
+    }
 }
 
 /// What is wrong with the values of a row, of a key, or of an update's changes.

@@ -1,6 +1,6 @@
 ghost use Rattle.std.specs.Prelude.{◌≡◌, ◌∷◌, ◌++◌, map, codes, OnOk, OnErr};
 ghost use Rattle.std.specs.Fmt.{decimal};
-ghost use Rattle.sky_model.specs.Printed.{spaced, limit_text, bad_row_text, name_at, refusal_text};
+ghost use Rattle.sky_model.specs.Printed.{spaced, limit_name, limit_text, bad_row_text, name_at, refusal_text};
 ghost use Rattle.sky_print.specs.Kept.{Keeps};
 
 use crate::print::{append_number, name_of};
@@ -43,7 +43,7 @@ pub(crate) fn append_refusal(
         Refusal::Serialize(txid) => append_numbered(b"Serialize ", *txid, into),
         Refusal::TableBusy(txid) => append_numbered(b"TableBusy ", *txid, into),
         Refusal::TableExists(name) => append_named(b"TableExists ", name.bytes(), into),
-        Refusal::TooMany(limit) => append_named(b"TooMany ", limit_text(*limit), into),
+        Refusal::TooMany(limit) => append_limit(*limit, into),
         Refusal::TriggerExists(name) => append_named(b"TriggerExists ", name.bytes(), into),
         Refusal::TwiceNamed(column) => append_named(b"TwiceNamed ", column.bytes(), into),
         Refusal::TxidsSpent => into.extend_from_slice(b"TxidsSpent"),
@@ -108,16 +108,25 @@ fn append_numbered(name: &[u8], number: u64, into: &mut Vec<u8>) -> Result<(), N
     append_number(number, into)
 }
 
-fn limit_text(limit: Limit) -> &'static [u8]
-    ensures { result.now ≡ limit_text limit }
+// The refusal that there are as many as there can be.
+fn append_limit(limit: Limit, into: &mut Vec<u8>) -> Result<(), NoMemory>
+    ensures ok { OnOk result (into.new.items ≡ into.old.items ++ (codes "TooMany " ++ limit_text limit)) }
+    ensures kept { OnErr result (Keeps into.old.items into.new.items) }
+{
+    append_named(b"TooMany ", limit_name(limit), into)?;
+    append_numbered(b" ", limit.most() as u64, into)
+}
+
+fn limit_name(limit: Limit) -> &'static [u8]
+    ensures { result.now ≡ limit_name limit }
 {
     match limit {
-        Limit::Sessions => b"sessions 256",
-        Limit::Databases => b"databases 16",
-        Limit::Queues => b"queues 64",
-        Limit::Consumers => b"consumers 256",
-        Limit::Tables => b"tables 64",
-        Limit::Columns => b"columns 32",
-        Limit::Triggers => b"triggers 8",
+        Limit::Sessions => b"sessions",
+        Limit::Databases => b"databases",
+        Limit::Queues => b"queues",
+        Limit::Consumers => b"consumers",
+        Limit::Tables => b"tables",
+        Limit::Columns => b"columns",
+        Limit::Triggers => b"triggers",
     }
 }
