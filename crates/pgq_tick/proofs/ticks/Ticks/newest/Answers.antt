@@ -1,5 +1,5 @@
-use Rattle.pgq_queues.proofs.TickLists.{newest-is, newest-time}
-use Rattle.pgq_queues.proofs.ticks.Ticks.newest.Goals as goal
+use Rattle.pgq_tick.proofs.TickLists.{newest-is, newest-time}
+use Rattle.pgq_tick.proofs.ticks.Ticks.newest.Goals as goal
 
 pub returns-clause-newest : goal.returns-clause-newest
 returns-clause-newest c = newest-is _ _ _ _ c.as_slice-ticks.ensures.value c.self.view_is c.self.invariant.0 c.index-ticks-ticks.is

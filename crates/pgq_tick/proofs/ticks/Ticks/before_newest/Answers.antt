@@ -1,6 +1,6 @@
 use Rattle.std.proofs.Common.{refl, arith}
-use Rattle.pgq_queues.proofs.TickLists.{IfSome-time, last_two-none, last_two-found}
-use Rattle.pgq_queues.proofs.ticks.Ticks.before_newest.Goals as goal
+use Rattle.pgq_tick.proofs.TickLists.{IfSome-time, last_two-none, last_two-found}
+use Rattle.pgq_tick.proofs.ticks.Ticks.before_newest.Goals as goal
 
 pub returns-then-len-lt2-clause-last : goal.returns-then-len-lt2-clause-last
 returns-then-len-lt2-clause-last c = last_two-none _ _ _ c.len-len.ensures.len c.if-len-lt2.true refl

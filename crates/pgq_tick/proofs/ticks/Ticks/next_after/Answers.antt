@@ -1,6 +1,6 @@
 use Rattle.std.proofs.Common.{◌∙◌, arith, inr}
-use Rattle.pgq_queues.proofs.TickLists.{tick-outside, tick-following}
-use Rattle.pgq_queues.proofs.ticks.Ticks.next.Goals as goal
+use Rattle.pgq_tick.proofs.TickLists.{tick-outside, tick-following}
+use Rattle.pgq_tick.proofs.ticks.Ticks.next_after.Goals as goal
 
 pub returns-then-len-id : goal.returns-then-len-id
 returns-then-len-id c = tick-outside _ _ _ c.len-len.ensures.ticks c.len-len.ensures.len (inr (omega arith))

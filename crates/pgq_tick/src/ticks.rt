@@ -1,22 +1,24 @@
-ghost use Rattle.std.specs.Prelude.{◌≡◌, ◌+◌, ◌<◌, ◌≤◌, ◌*ℤ◌, ◌-ℤ◌, ◌||◌, ◌&&◌, not, int_lt, pos, [], ◌∷◌, ◌++◌, Some, None, IfOk, OnOk, OnErr, IfSome, option_map, option_copied, length, slice_get};
+ghost use Rattle.std.specs.Prelude.{◌≡◌, ◌↔◌, ◌+◌, ◌^◌, ◌<◌, ◌≤◌, ◌*ℤ◌, ◌-ℤ◌, ◌||◌, ◌&&◌, not, int_lt, pos, [], ◌∷◌, ◌++◌, Some, None, Err, IfOk, OnOk, OnErr, IfSome, option_map, option_copied, length, slice_get};
 ghost use Rattle.sky_model.specs.Queues.{tick, newest_tick};
 ghost use Rattle.sky_model.specs.StepQueue.{due_of, is_due_after, last_two, id_of};
-ghost use Rattle.sky_model.specs.Config.{default_config};
 ghost use Rattle.sky_txid.specs.Snapshot.{sees};
-ghost use Rattle.pgq_queues.specs.Ticks.{IsTime, IsSpan, AreTicks};
+ghost use Rattle.pgq_tick.specs.Ticks.{IsTime, IsSpan, AreTicks};
 
+use crate::config::QueueConfig;
 use sky_txid::Snapshot;
-use std::alloc::{AllocError, Global};
+use sky_val::NoMemory;
+use std::alloc::Global;
 use std::marker::Model;
+use thiserror::Error;
 
-/// With at least this many new events a tick is due at once.
-pub const MAX_COUNT: u64 = 500;
-
-/// With new events a tick is due after this many microseconds.
-const MAX_LAG: i64 = 3_000_000;
-
-/// Without a new event a tick is due after this many microseconds.
-const IDLE_PERIOD: i64 = 60_000_000;
+/// Why there is no further tick.
+#[derive(Clone, Copy, Debug, PartialEq, Eq, Error)]
+pub enum TickFault {
+    #[error("the last tick id was given")]
+    IdsSpent,
+    #[error("out of memory")]
+    NoMemory,
+}
 
 /// A tick: a moment of a queue, in microseconds since the clock's start, with the snapshot and the
 /// value of the sequence at it.
@@ -61,7 +63,7 @@ pub struct Ticks {
 impl Model for Ticks {
     ghost use Rattle.std.specs.Prelude.{List, ◌<◌, length};
     ghost use Rattle.sky_model.specs.Queues as model;
-    ghost use Rattle.pgq_queues.specs.Ticks.{AreTicks};
+    ghost use Rattle.pgq_tick.specs.Ticks.{AreTicks};
 
     ghost Value = { List model.Tick };
 
@@ -72,7 +74,7 @@ impl Model for Ticks {
 
 impl Ticks {
     /// The ticks of a queue that is made with this tick.
-    pub fn new(alloc: Global, first: Tick) -> Result<Ticks, AllocError>
+    pub fn new(alloc: Global, first: Tick) -> Result<Ticks, NoMemory>
         requires first { first.id ≡ 1 }
         requires time { IsTime first.time }
         ensures { IfOk result (λ ticks. ticks ≡ first ∷ []) }
@@ -103,7 +105,7 @@ impl Ticks {
     }
 
     /// The tick with the id after this one, if there is one.
-    pub fn next(&self, id: u64) -> Option<&Tick>
+    pub fn next_after(&self, id: u64) -> Option<&Tick>
         ensures { option_copied result ≡ tick (id + 1) self.now }
     {
         let len = self.len() as u64;
@@ -113,8 +115,32 @@ impl Ticks {
         self.at(id as usize)
     }
 
-    /// One more tick.
-    pub fn add(&mut self, tick: Tick) -> Result<(), AllocError>
+    /// One more tick, with the next id, which it gives.
+    pub fn add(&mut self, now: i64, snapshot: Snapshot, seq: u64) -> Result<u64, TickFault>
+        requires { IsTime now }
+        ensures id { IfOk result (λ id. id ≡ id_of (newest_tick self.old) + 1) }
+        ensures ok { IfOk result (λ id. self.new ≡ self.old ++ record { id = id; time = now; snapshot = snapshot; seq = seq } ∷ []) }
+        ensures spent { (result ≡ Err TickFault.IdsSpent) ↔ (2 ^ 64 ≤ id_of (newest_tick self.old) + 1) }
+        ensures err { OnErr result (self.new ≡ self.old) }
+    {
+        let newest = self.newest().id();
+        if newest == u64::MAX {
+            return Err(TickFault::IdsSpent);
+        }
+        let id = newest + 1;
+        let tick = Tick {
+            id,
+            time: now,
+            snapshot,
+            seq,
+        };
+        match self.push(tick) {
+            Ok(()) => Ok(id),
+            Err(_) => Err(TickFault::NoMemory),
+        }
+    }
+
+    fn push(&mut self, tick: Tick) -> Result<(), NoMemory>
         requires next { tick.id ≡ id_of (newest_tick self.old) + 1 }
         requires time { IsTime tick.time }
         ensures ok { OnOk result (self.new ≡ self.old ++ tick ∷ []) }
@@ -125,11 +151,11 @@ impl Ticks {
     }
 
     /// Whether a tick is due at this time and this value of the sequence.
-    pub fn is_due(&self, now: i64, seq: u64) -> bool
-        requires time { IsTime now }
-        ensures { result ≡ due_of default_config now seq (last_two None self.now) }
+    pub fn due(&self, cfg: &QueueConfig, now: i64, seq: u64) -> bool
+        requires { IsTime now }
+        ensures { result ≡ due_of cfg.now now seq (last_two None self.now) }
     {
-        is_due_after(self.newest(), self.before_newest(), now, seq)
+        !cfg.ticker_paused() && is_due_after(cfg, self.newest(), self.before_newest(), now, seq)
     }
 
     fn before_newest(&self) -> Option<&Tick>
@@ -158,31 +184,46 @@ impl Ticks {
     }
 }
 
-fn is_due_after(last: &Tick, before: Option<&Tick>, now: i64, seq: u64) -> bool
+fn is_due_after(cfg: &QueueConfig, last: &Tick, before: Option<&Tick>, now: i64, seq: u64) -> bool
     requires now { IsTime now }
     requires last { IsTime last.now.time }
     requires before { IfSome before (λ t. IsTime t.now.time) }
-    ensures { result ≡ is_due_after default_config now seq last.now (option_copied before.entry) }
+    ensures { result ≡ is_due_after cfg.now now seq last.now (option_copied before.entry) }
 {
     let lag = time_between(last.time, now);
     if last.seq < seq {
-        return !(seq - last.seq < MAX_COUNT && lag < MAX_LAG);
+        return !(seq - last.seq < cfg.ticker_max_count() && lag < cfg.ticker_max_lag());
     }
     match before {
         None => true,
-        Some(before) => is_idle_due(lag, time_between(before.time, last.time)),
+        Some(before) => is_idle_due(cfg, lag, time_between(before.time, last.time)),
     }
 }
 
 /// Whether a tick is due without a new event, by the times since the last tick and between the last two.
-fn is_idle_due(lag: i64, gap: i64) -> bool
+fn is_idle_due(cfg: &QueueConfig, lag: i64, gap: i64) -> bool
     requires lag { IsSpan lag }
     requires gap { IsSpan gap }
-    ensures { result ≡ not (int_lt (pos 2 *ℤ lag) (pos 3000000) || (int_lt lag (pos 2 *ℤ gap) && int_lt lag (pos 60000000))) }
+    ensures { result ≡ not (int_lt (pos 2 *ℤ lag) cfg.now.max_lag || (int_lt lag (pos 2 *ℤ gap) && int_lt lag cfg.now.idle_period)) }
 {
-    let is_early = 2 * lag < MAX_LAG;
-    let is_steady = lag < 2 * gap;
-    !(is_early || (is_steady && lag < IDLE_PERIOD))
+    is_idle(lag, gap, cfg.ticker_max_lag(), cfg.ticker_idle_period())
+}
+
+fn is_idle(lag: i64, gap: i64, max_lag: i64, idle_period: i64) -> bool
+    requires lag { IsSpan lag }
+    requires gap { IsSpan gap }
+    ensures { result ≡ not (int_lt (pos 2 *ℤ lag) max_lag || (int_lt lag (pos 2 *ℤ gap) && int_lt lag idle_period)) }
+{
+    let is_early = twice(lag) < max_lag;
+    let is_steady = lag < twice(gap);
+    !(is_early || (is_steady && lag < idle_period))
+}
+
+fn twice(span: i64) -> i64
+    requires { IsSpan span }
+    ensures { result ≡ pos 2 *ℤ span }
+{
+    2 * span
 }
 
 fn time_between(earlier: i64, later: i64) -> i64

@@ -1,7 +1,7 @@
 use Rattle.std.proofs.Common.{◌∙◌, arith, inl, inr}
-use Rattle.pgq_queues.proofs.TickLists.{tick-outside, tick-inside}
-use Rattle.pgq_queues.proofs.ticks.Ticks.get.Goals as goal
-use Rattle.pgq_queues.proofs.ticks.Ticks.get.Goals.{then-id-eq0-via-then-id-eq0, then-id-eq0-via-else-id-eq0+then-len-id}
+use Rattle.pgq_tick.proofs.TickLists.{tick-outside, tick-inside}
+use Rattle.pgq_tick.proofs.ticks.Ticks.get.Goals as goal
+use Rattle.pgq_tick.proofs.ticks.Ticks.get.Goals.{then-id-eq0-via-then-id-eq0, then-id-eq0-via-else-id-eq0+then-len-id}
 
 pub returns-then-id-eq0 : goal.returns-then-id-eq0
 returns-then-id-eq0 c =
