@@ -20,7 +20,7 @@ ghost use Rattle.sky_model.specs.SessionMarks.{Enters, entry, entry_place, faili
 ghost use Rattle.sky_model.specs.DatabaseCalls.{entered, failed};
 ghost use Rattle.sky_model.specs.DatabaseSteps.{DatabaseSteps};
 ghost use Rattle.pgq_queues.specs.Seen.{seen_queue, seen_batch};
-ghost use Rattle.pgq_queues.specs.Ticks.{IsTime};
+ghost use Rattle.pgq_tick.specs.Ticks.{IsTime};
 ghost use Rattle.pgq_db.specs.Seen.{seen_database};
 ghost use Rattle.pgq_db.specs.Waiters.{StaysWithin};
 ghost use Rattle.pgq_db.specs.Gives.{Gives};

@@ -23,7 +23,7 @@ ghost use Rattle.sky_model.specs.Settling.{ready};
 ghost use Rattle.sky_model.specs.Calls.{form, statement, database_turn};
 ghost use Rattle.sky_model.specs.DatabaseCalls.{stepped};
 ghost use Rattle.sky_model.specs.DatabaseSteps.{DatabaseSteps};
-ghost use Rattle.pgq_queues.specs.Ticks.{IsTime};
+ghost use Rattle.pgq_tick.specs.Ticks.{IsTime};
 ghost use Rattle.pgq_db.specs.Seen.{seen_database};
 ghost use Rattle.pgq_db.specs.Waiters.{StaysWithin};
 ghost use Rattle.pgq_db.specs.Gives.{is_row, Gives, GivesReply, Does, Ran};

@@ -1,4 +1,3 @@
-pub mod TickLists
 pub mod SubLists
 pub mod NumberedQueues
 pub mod Marked

@@ -1,7 +1,8 @@
 -- What queues show after what the code changed in them.
-use Rattle.std.proofs.Common.{◌≡◌, ℕ, suc, zero, ◌+◌, ◌<◌, List, [], ◌∷◌, ◌++◌, Bool, true, false, ◌||◌, ◌==◌, Option, Some, None, Result, Ok, Err, OnErr, Vec, Global, IfOk, length, get_or, slice_set, get_or-set_same, get_or-set_other, ◌≢◌, option_map, filter, nat_cmp, cond, length-append, refl, sym, ◌∙◌, ap, subst, arith, if◌then◌else◌}
+use Rattle.std.proofs.Common.{◌≡◌, ℕ, ℤ, suc, zero, ◌+◌, ◌<◌, List, [], ◌∷◌, ◌++◌, Bool, true, false, ◌||◌, ◌==◌, Option, Some, None, Result, Ok, Err, OnErr, Vec, Global, IfOk, length, get_or, slice_set, get_or-set_same, get_or-set_other, ◌≢◌, option_map, filter, nat_cmp, cond, length-append, refl, sym, ◌∙◌, ap, subst, arith, if◌then◌else◌}
 use Rattle.std.proofs.lemmas.Bool.Decides.{nat_tests}
 use Rattle.std.proofs.lemmas.List.Elements.{All-filter}
+use Rattle.std.proofs.lemmas.List.{set-get_or}
 use Rattle.std.proofs.lemmas.Result.{IfOk-weaker}
 use Rattle.std.specs.declared.alloc.AllocError.{AllocError}
 use Rattle.std.proofs.lemmas.Option.{get_or_from_slice_get, slice_get_read}
@@ -9,6 +10,7 @@ use Rattle.std.specs.BTreeMap.{is_at}
 use Rattle.std.specs.Map.{lookup}
 use Rattle.std.specs.List.{list_any}
 use Rattle.sky_val.specs.declared.event.Event.{Event}
+use Rattle.sky_txid.specs.Snapshot.{SnapshotView}
 use Rattle.sky_model.specs.Moment.{HasMoment}
 use Rattle.sky_model.specs.Printed.{EventsHaveMoments}
 use Rattle.sky_model.specs.History.{queued, made, ticked, registered, opened, closed, traced}
@@ -173,6 +175,19 @@ ticked-as v now i old new t same lt at is part snap =
     ∙ ap (λ x. record (seen_with part now) {
       queue = changed_at i (λ q. record q { tick_list = q.tick_list ++ record { id = t.id; time = t.time; snapshot = x; seq = t.seq } ∷ [] }) (queue_at now);
     }) snap
+
+-- so is one with the value of the sequence
+pub ticked-next : (v now : QueuesView) (i id : ℕ) (time : ℤ) (snapshot : SnapshotView) (old new : QueueView) → v ≡ now → i < length now.queues → old ≡ get_or v.queues i old
+    → new ≡ record old { ticks = old.ticks ++ record { id = id; time = time; snapshot = snapshot; seq = old.seq } ∷ [] }
+    → (part : RowPart) → snapshot ≡ snapshot_now part → seen_with part (record v { queues = slice_set v.queues i new }) ≡ after_mark (seen_with part now) (queued (ticked i id time (queue_at now i).seq))
+ticked-next v now i id time snapshot old new same lt at is part snap =
+    ticked-as v now i old new (record { id = id; time = time; snapshot = snapshot; seq = old.seq }) same lt at is part snap
+    ∙ ap (λ (q : Queue). after_mark (seen_with part now) (queued (ticked i id time q.seq))) (queue-at v now i old same lt at)
+
+-- nothing changes where a queue stays as it was
+pub queue-kept : (v now : QueuesView) (i : ℕ) (old new : QueueView) → v ≡ now → old ≡ get_or v.queues i old → new ≡ old → (part : RowPart) → seen_with part (record v { queues = slice_set v.queues i new }) ≡ seen_with part now
+queue-kept v now i old new same at is part =
+    ap (λ (qs : List QueueView). seen_with part (record v { queues = qs })) (ap (slice_set v.queues i) (is ∙ at) ∙ set-get_or v.queues i old) ∙ ap (seen_with part) same
 
 -- a queue that is made has its first tick, with the snapshot as it was
 pub made-as : (v now : QueuesView) (names : List (List ℕ)) (queues : List QueueView) (q : QueueView) (name : List ℕ) (t : Tick) → v ≡ now

@@ -1,4 +1,3 @@
-pub mod Ticks
 pub mod Subs
 pub mod Views
 pub mod Seen

@@ -6,9 +6,9 @@ ghost use Rattle.sky_model.specs.Selection.{snapshot_at, is_selected};
 ghost use Rattle.pgq_queues.specs.Seen.{keeps};
 
 use crate::stored::Stored;
-use crate::ticks::Tick;
-use sky_val::{Event, Text};
-use std::alloc::{AllocError, Global};
+use pgq_tick::Tick;
+use sky_val::{Event, NoMemory, Text};
+use std::alloc::Global;
 use std::collections::BTreeSet;
 
 /// The first transaction id: those below it had ended before anything happened.
@@ -52,7 +52,7 @@ pub(crate) fn select(
     cur: Option<&Tick>,
     undone: &BTreeSet<u64>,
     sub: u64,
-) -> Result<Vec<Event>, AllocError>
+) -> Result<Vec<Event>, NoMemory>
     ensures selected { IfOk result (λ selected. selected.items
         ≡ filter (is_selected (keeps undone.now.keys) (snapshot_at (option_copied prev.entry)) (snapshot_at (option_copied cur.entry)) sub) events.now) }
 {

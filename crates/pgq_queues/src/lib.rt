@@ -14,7 +14,6 @@ mod stored;
 mod sub;
 mod subs;
 mod subscription;
-mod ticks;
 mod traced;
 
 pub use batch::Batch;
@@ -22,5 +21,4 @@ pub use gate::EVENT_ID_END;
 pub use queue::Queue;
 pub use queues::Queues;
 pub use subscription::Subscription;
-pub use ticks::{MAX_COUNT, Tick, Ticks};
 pub use traced::{TableTrigger, Traced};

@@ -1,10 +1,10 @@
-ghost use Rattle.std.specs.Prelude.{◌≡◌, ℕ, ℤ, ◌+◌, ◌<◌, ◌^◌, [], ◌∷◌, ◌++◌, Some, None, IfOk, OnOk, OnErr, IfSome, option_copied, option_map, length};
+ghost use Rattle.std.specs.Prelude.{◌≡◌, ℕ, ℤ, ◌+◌, ◌<◌, ◌^◌, [], ◌∷◌, ◌++◌, Some, None, IfOk, OnOk, OnErr, IfSome, option_copied, option_map, length, ◌↔◌, ◌≤◌, Err};
 ghost use Rattle.sky_names.specs.Places.{place_of, named};
 ghost use Rattle.sky_model.specs.Queues.{newest_tick};
 ghost use Rattle.sky_model.specs.Selection.{selected_in};
 ghost use Rattle.sky_model.specs.State.{changed_for, with_batch, at_position};
-ghost use Rattle.sky_model.specs.StepQueue.{id_of};
-ghost use Rattle.pgq_queues.specs.Ticks.{IsTime};
+ghost use Rattle.sky_model.specs.StepQueue.{id_of, is_due};
+ghost use Rattle.pgq_tick.specs.Ticks.{IsTime};
 ghost use Rattle.pgq_queues.specs.Seen.{keeps, seen_queue, seen_batch};
 ghost use Rattle.sky_model.specs.Moment.{HasMoment};
 ghost use Rattle.sky_model.specs.Printed.{EventsHaveMoments};
@@ -19,16 +19,18 @@ use crate::stored::Stored;
 use crate::sub::Sub;
 use crate::subs::Subs;
 use crate::subscription::Subscription;
-use crate::ticks::{Tick, Ticks};
+use pgq_tick::{QueueConfig, Tick, TickFault, Ticks};
+use sky_txid::Snapshot;
 use sky_urlenc::RowEvent;
-use sky_val::{Event, Text};
-use std::alloc::{AllocError, Global};
+use sky_val::{Event, NoMemory, Text};
+use std::alloc::Global;
 use std::collections::BTreeSet;
 use std::marker::Model;
 
-/// A queue: its sequence, its events, its ticks and its consumers.
+/// A queue: how its ticker is set, its sequence, its events, its ticks and its consumers.
 #[derive(Drop)]
 pub struct Queue {
+    config: QueueConfig,
     seq: u64,
     events: Vec<Stored>,
     ticks: Ticks,
@@ -36,25 +38,33 @@ pub struct Queue {
 }
 
 impl Model for Queue {
+    ghost use Rattle.std.specs.Prelude.{◌≡◌};
+    ghost use Rattle.sky_model.specs.Config.{default_config};
     ghost use Rattle.sky_model.specs.Printed.{EventsHaveMoments};
     ghost use Rattle.pgq_queues.specs.Views.{QueueView};
 
     ghost Value = { QueueView };
 
-    ghost invariant = { λ q. EventsHaveMoments q.events.items };
+    ghost invariant = { λ q. (q.config ≡ default_config) × EventsHaveMoments q.events.items };
 
     ghost view = { λ q. record { seq = q.seq; events = q.events.items; ticks = q.ticks; subs = q.subs } };
 }
 
 impl Queue {
     /// A queue with its first tick.
-    pub(crate) fn new(alloc: Global, first: Tick) -> Result<Queue, AllocError>
-        requires first { first.id ≡ 1 }
-        requires time { IsTime first.time }
-        ensures { IfOk result (λ queue. queue ≡ record { seq = 0; events = []; ticks = first ∷ []; subs = [] }) }
+    pub(crate) fn new(alloc: Global, now: i64, snapshot: Snapshot) -> Result<Queue, NoMemory>
+        requires { IsTime now }
+        ensures { IfOk result (λ queue. queue ≡ record { seq = 0; events = []; ticks = record { id = 1; time = now; snapshot = snapshot; seq = 0 } ∷ []; subs = [] }) }
     {
+        let first = Tick {
+            id: 1,
+            time: now,
+            snapshot,
+            seq: 0,
+        };
         let ticks = Ticks::new(alloc, first)?;
         Ok(Queue {
+            config: QueueConfig::new(),
             seq: 0,
             events: Vec::new(alloc),
             ticks,
@@ -67,6 +77,21 @@ impl Queue {
         ensures { result ≡ self.now.seq }
     {
         self.seq
+    }
+
+    /// How its ticker is set.
+    pub fn config(&self) -> &QueueConfig
+        ensures { result.now ≡ (seen_queue self.now).config }
+    {
+        &self.config
+    }
+
+    /// Whether a tick is due at this time.
+    pub fn is_due(&self, now: i64) -> bool
+        requires { IsTime now }
+        ensures { result ≡ is_due now (seen_queue self.now) }
+    {
+        self.ticks.due(&self.config, now, self.seq)
     }
 
     /// The ticks, of which there is at least one.
@@ -99,7 +124,7 @@ impl Queue {
     }
 
     /// Stores an event.
-    pub(crate) fn put(&mut self, event: Event) -> Result<(), AllocError>
+    pub(crate) fn put(&mut self, event: Event) -> Result<(), NoMemory>
         requires { HasMoment event.ev_time }
         ensures { OnOk result (self.new ≡ record self.old { events = self.old.events ++ event ∷ [] }) }
     {
@@ -109,7 +134,7 @@ impl Queue {
     }
 
     /// Stores one more event of a trigger, which takes the next id.
-    pub(crate) fn tell(&mut self, now: i64, txid: u64, event: RowEvent) -> Result<(), AllocError>
+    pub(crate) fn tell(&mut self, now: i64, txid: u64, event: RowEvent) -> Result<(), NoMemory>
         requires time { HasMoment now }
         requires id { self.old.seq + 1 < 2 ^ 62 }
         ensures ok { OnOk result (self.new ≡ telling now txid event self.old) }
@@ -131,14 +156,15 @@ impl Queue {
         self.seq -= 1;
     }
 
-    /// One more tick.
-    pub(crate) fn tick(&mut self, tick: Tick) -> Result<(), AllocError>
-        requires next { tick.id ≡ id_of (newest_tick self.old.ticks) + 1 }
-        requires time { IsTime tick.time }
-        ensures { OnOk result (self.new ≡ record self.old { ticks = self.old.ticks ++ tick ∷ [] }) }
+    /// One more tick, with the next id, which it gives.
+    pub(crate) fn tick(&mut self, now: i64, snapshot: Snapshot) -> Result<u64, TickFault>
+        requires { IsTime now }
+        ensures id { IfOk result (λ id. id ≡ id_of (newest_tick self.old.ticks) + 1) }
+        ensures ok { IfOk result (λ id. self.new ≡ record self.old { ticks = self.old.ticks ++ record { id = id; time = now; snapshot = snapshot; seq = self.old.seq } ∷ [] }) }
+        ensures spent { (result ≡ Err TickFault.IdsSpent) ↔ (2 ^ 64 ≤ id_of (newest_tick self.old.ticks) + 1) }
+        ensures err { OnErr result (self.new ≡ self.old) }
     {
-        self.ticks.add(tick)?;
-        Ok(())
+        self.ticks.add(now, snapshot, self.seq)
     }
 
     /// Registers a new consumer as a subscription that stands at a tick.
@@ -148,7 +174,7 @@ impl Queue {
         consumer: &Text,
         id: u64,
         position: u64,
-    ) -> Result<(), AllocError>
+    ) -> Result<(), NoMemory>
         requires new { named consumer_of consumer.now self.old.subs ≡ None }
         requires room { length (seen_queue self.old).members < 256 }
         ensures { OnOk result (seen_queue self.new ≡ record (seen_queue self.old) {
@@ -186,7 +212,7 @@ impl Queue {
         alloc: Global,
         undone: &BTreeSet<u64>,
         batch: &Batch,
-    ) -> Result<Vec<Event>, AllocError>
+    ) -> Result<Vec<Event>, NoMemory>
         ensures events { (id : ℕ) → IfOk result (λ events. events.items ≡ selected_in (keeps undone.now.keys) (seen_queue self.now) (seen_batch id batch.now)) }
         ensures moments { IfOk result (λ events. EventsHaveMoments events.items) }
     {

@@ -1,4 +1,4 @@
-ghost use Rattle.std.specs.Prelude.{◌≡◌, ℕ, ◌+◌, ◌<◌, ◌^◌, [], ◌∷◌, ◌||◌, ◌==◌, true, Some, None, IfOk, OnOk, OnErr, IfSome, IfNone, option_copied, option_map, length, is_some};
+ghost use Rattle.std.specs.Prelude.{◌≡◌, ℕ, ◌+◌, ◌<◌, ◌^◌, [], ◌∷◌, ◌||◌, ◌==◌, true, Some, None, IfOk, OnOk, OnErr, IfSome, IfNone, option_copied, option_map, length, is_some, ◌↔◌, ◌≤◌, Err};
 ghost use Rattle.std.specs.List.{All};
 ghost use Rattle.sky_model.specs.History.{queued, made, raised, put, ticked, registered, opened, closed, traced};
 ghost use Rattle.sky_model.specs.Moment.{HasMoment};
@@ -11,16 +11,17 @@ ghost use Rattle.sky_model.specs.StepQueue.{newest_id};
 ghost use Rattle.sky_model.specs.StepTrigger.{has_trigger};
 ghost use Rattle.sky_model.specs.Triggers.{triggers_of};
 ghost use Rattle.pgq_queues.specs.Seen.{kept, seen_with, seen_queue, seen_batch, queues_of, queue_at, batch_at, no_queues};
-ghost use Rattle.pgq_queues.specs.Ticks.{IsTime};
+ghost use Rattle.pgq_tick.specs.Ticks.{IsTime};
 ghost use Rattle.pgq_queues.specs.Traced.{traced_at, IsTable, AreTables};
 
 use crate::batch::Batch;
 use crate::queue::Queue;
-use crate::ticks::Tick;
 use crate::traced::{TableTrigger, Traced, TracedTable};
+use pgq_tick::TickFault;
 use sky_names::Names;
-use sky_val::{Event, Schema, Text};
-use std::alloc::{AllocError, Global};
+use sky_txid::Snapshot;
+use sky_val::{Event, NoMemory, Schema, Text};
+use std::alloc::Global;
 use std::collections::{BTreeMap, BTreeSet};
 use std::marker::Model;
 
@@ -144,7 +145,7 @@ impl Queues {
     }
 
     /// The events of a batch, without those of the transactions that were rolled back.
-    pub fn batch_events(&self, batch: &Batch) -> Result<Vec<Event>, AllocError>
+    pub fn batch_events(&self, batch: &Batch) -> Result<Vec<Event>, NoMemory>
         requires { batch.now.queue < length self.now.queues }
         ensures events { (part : RowPart) (id : ℕ) → IfOk result (λ events. events.items ≡ selected (seen_with part self.now) (seen_batch id batch.now)) }
         ensures moments { IfOk result (λ events. EventsHaveMoments events.items) }
@@ -184,7 +185,7 @@ impl Queues {
     }
 
     /// Notes that a transaction was rolled back.
-    pub fn undo(&mut self, txid: u64) -> Result<(), AllocError>
+    pub fn undo(&mut self, txid: u64) -> Result<(), NoMemory>
         ensures noted { OnOk result ((part : RowPart) → seen_with part self.new
             ≡ record (seen_with part self.old) { undone = λ u. u == txid || (seen_with part self.old).undone u }) }
         ensures queues { length self.new.queues ≡ length self.old.queues }
@@ -195,17 +196,15 @@ impl Queues {
     }
 
     /// A queue of a new name, with its first tick, which has the snapshot as it is now.
-    pub fn make(&mut self, name: Text, first: Tick) -> Result<(), AllocError>
+    pub fn make(&mut self, name: Text, now: i64, snapshot: Snapshot) -> Result<(), NoMemory>
         requires new { queue_number name (queues_of self.old) ≡ None }
         requires room { length (queues_of self.old) < 64 }
-        requires first { first.id ≡ 1 }
-        requires time { IsTime first.time }
-        requires seq { first.seq ≡ 0 }
-        ensures marks { OnOk result ((part : RowPart) → first.snapshot ≡ snapshot_now part → seen_with part self.new
-            ≡ after_marks (seen_with part self.old) (queued (made name) ∷ queued (ticked (length self.old.names) 1 first.time 0) ∷ [])) }
+        requires time { IsTime now }
+        ensures marks { OnOk result ((part : RowPart) → snapshot ≡ snapshot_now part → seen_with part self.new
+            ≡ after_marks (seen_with part self.old) (queued (made name) ∷ queued (ticked (length self.old.names) 1 now 0) ∷ [])) }
         ensures tables { (part : RowPart) → AreTables part self.old → AreTables part self.new }
     {
-        let queue = Queue::new(self.alloc, first)?;
+        let queue = Queue::new(self.alloc, now, snapshot)?;
         self.queues.reserve(1)?;
         self.names.add(name)?;
         self.queues.push_reserved(queue);
@@ -223,7 +222,7 @@ impl Queues {
     }
 
     /// Stores an event in a queue, whether its transaction commits or not.
-    pub fn put(&mut self, queue: usize, event: Event) -> Result<(), AllocError>
+    pub fn put(&mut self, queue: usize, event: Event) -> Result<(), NoMemory>
         requires queue { queue < length self.old.queues }
         requires time { HasMoment event.ev_time }
         ensures mark { OnOk result ((part : RowPart) → seen_with part self.new ≡ after_mark (seen_with part self.old) (queued (put queue event))) }
@@ -234,21 +233,22 @@ impl Queues {
         Ok(())
     }
 
-    /// One more tick of a queue, with the snapshot as it is now.
-    pub fn tick(&mut self, queue: usize, tick: Tick) -> Result<(), AllocError>
+    /// One more tick of a queue, with the snapshot as it is now and the next id, which it gives.
+    pub fn tick(&mut self, queue: usize, now: i64, snapshot: Snapshot) -> Result<u64, TickFault>
         requires queue { queue < length self.old.queues }
-        requires next { tick.id ≡ newest_id (queue_at self.old queue) + 1 }
-        requires time { IsTime tick.time }
-        ensures mark { OnOk result ((part : RowPart) → tick.snapshot ≡ snapshot_now part → seen_with part self.new
-            ≡ after_mark (seen_with part self.old) (queued (ticked queue tick.id tick.time tick.seq))) }
+        requires time { IsTime now }
+        ensures id { IfOk result (λ id. id ≡ newest_id (queue_at self.old queue) + 1) }
+        ensures mark { IfOk result (λ id. (part : RowPart) → snapshot ≡ snapshot_now part → seen_with part self.new
+            ≡ after_mark (seen_with part self.old) (queued (ticked queue id now (queue_at self.old queue).seq))) }
+        ensures spent { (result ≡ Err TickFault.IdsSpent) ↔ (2 ^ 64 ≤ newest_id (queue_at self.old queue) + 1) }
+        ensures err { OnErr result ((part : RowPart) → seen_with part self.new ≡ seen_with part self.old) }
         ensures tables { (part : RowPart) → AreTables part self.old → AreTables part self.new }
     {
-        self.queues[queue].tick(tick)?;
-        Ok(())
+        self.queues[queue].tick(now, snapshot)
     }
 
     /// Registers a new consumer, with the next subscription id, which stands at the newest tick.
-    pub fn register(&mut self, queue: usize, consumer: &Text) -> Result<(), AllocError>
+    pub fn register(&mut self, queue: usize, consumer: &Text) -> Result<(), NoMemory>
         requires queue { queue < length self.old.queues }
         requires new { (queue_at self.old queue).sub consumer.now ≡ None }
         requires room { length (queue_at self.old queue).members < 256 }
@@ -264,7 +264,7 @@ impl Queues {
     }
 
     /// The batch is active from now on, is its consumer's, and is the last that was made.
-    pub fn open_batch(&mut self, id: u64, batch: Batch) -> Result<(), AllocError>
+    pub fn open_batch(&mut self, id: u64, batch: Batch) -> Result<(), NoMemory>
         requires { batch.queue < length self.old.queues }
         ensures mark { OnOk result ((part : RowPart) → seen_with part self.new ≡ after_mark (seen_with part self.old) (queued (opened (seen_batch id batch)))) }
         ensures tables { (part : RowPart) → AreTables part self.old → AreTables part self.new }
@@ -293,7 +293,7 @@ impl Queues {
         name: &Text,
         schema: &Schema,
         trigger: TableTrigger,
-    ) -> Result<(), AllocError>
+    ) -> Result<(), NoMemory>
         requires { trigger.trigger.queue < length self.old.queues }
         ensures ok { OnOk result ((part : RowPart) → seen_with part self.new
             ≡ after_mark (seen_with part self.old) (queued (traced trigger.table trigger.name trigger.trigger))) }
@@ -306,7 +306,7 @@ impl Queues {
     }
 
     /// Keeps what events say of a table, where that isn't kept yet.
-    fn keep_table(&mut self, name: &Text, schema: &Schema, number: u32) -> Result<(), AllocError>
+    fn keep_table(&mut self, name: &Text, schema: &Schema, number: u32) -> Result<(), NoMemory>
         ensures same { (part : RowPart) → seen_with part self.new ≡ seen_with part self.old }
         ensures queues { length self.new.queues ≡ length self.old.queues }
         ensures kept { OnOk result (is_some (kept self.new.traced number) ≡ true) }
@@ -321,7 +321,7 @@ impl Queues {
     }
 
     /// One more trigger of a table of which is kept what events say of it.
-    fn store_trigger(&mut self, trigger: TableTrigger) -> Result<(), AllocError>
+    fn store_trigger(&mut self, trigger: TableTrigger) -> Result<(), NoMemory>
         requires table { is_some (kept self.old.traced trigger.table) ≡ true }
         requires queue { trigger.trigger.queue < length self.old.queues }
         ensures ok { OnOk result ((part : RowPart) → seen_with part self.new

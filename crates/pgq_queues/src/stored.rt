@@ -1,7 +1,7 @@
 ghost use Rattle.std.specs.Prelude.{◌≡◌, true, None, IfOk};
 
-use sky_val::{Event, Text, copy_option};
-use std::alloc::{AllocError, Global};
+use sky_val::{Event, NoMemory, Text, copy_option};
+use std::alloc::Global;
 use std::marker::Model;
 
 /// An event as a queue keeps it: what most events lack is apart, and takes no room where it is missing.
@@ -64,7 +64,7 @@ impl Rest {
 
 impl Stored {
     /// Takes an event's texts over.
-    pub fn new(alloc: Global, event: Event) -> Result<Stored, AllocError>
+    pub fn new(alloc: Global, event: Event) -> Result<Stored, NoMemory>
         ensures { IfOk result (λ stored. stored ≡ event) }
     {
         let rest = Rest {
@@ -108,7 +108,7 @@ impl Stored {
     }
 
     /// An equal event.
-    pub fn event(&self, alloc: Global) -> Result<Event, AllocError>
+    pub fn event(&self, alloc: Global) -> Result<Event, NoMemory>
         ensures { IfOk result (λ event. event ≡ self.now) }
     {
         let mut event = Event {

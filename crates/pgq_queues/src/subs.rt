@@ -5,8 +5,8 @@ ghost use Rattle.pgq_queues.specs.Subs.{consumer_of, having, standing};
 
 use crate::sub::Sub;
 use sky_names::Names;
-use sky_val::Text;
-use std::alloc::{AllocError, Global};
+use sky_val::{NoMemory, Text};
+use std::alloc::Global;
 use std::marker::Model;
 
 /// The subscriptions of a queue in the order of registering, each found by its consumer.
@@ -68,7 +68,7 @@ impl Subs {
     }
 
     /// One more subscription, of a new consumer.
-    pub fn add(&mut self, alloc: Global, sub: Sub) -> Result<(), AllocError>
+    pub fn add(&mut self, alloc: Global, sub: Sub) -> Result<(), NoMemory>
         requires new { named consumer_of sub.consumer self.old ≡ None }
         requires room { length (map consumer_of self.old) < 256 }
         ensures ok { OnOk result (self.new ≡ self.old ++ sub ∷ []) }

@@ -43,7 +43,7 @@ pub struct World {
 impl Model for World {
     ghost use Rattle.std.specs.Prelude.{◌≡◌, ◌≤◌, false, length};
     ghost use Rattle.sky_world.specs.Views.{WorldView};
-    ghost use Rattle.pgq_queues.specs.Ticks.{IsTime};
+    ghost use Rattle.pgq_tick.specs.Ticks.{IsTime};
     ghost use Rattle.sky_world.specs.Homes.{HomesWithin};
     ghost use Rattle.sky_world.specs.Waiters.{AllWaitersWithin};
 

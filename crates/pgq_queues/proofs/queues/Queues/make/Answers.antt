@@ -1,4 +1,5 @@
-use Rattle.std.proofs.Common.{ℕ, List, length, arith, ap, sym, subst, ◌∙◌, ◌++◌, ◌∷◌, []}
+use Rattle.std.proofs.Common.{refl, ℕ, ℤ, w64, List, length, arith, ap, sym, subst, ◌∙◌, ◌++◌, ◌∷◌, []}
+use Rattle.std.proofs.lemmas.Int.{to_z-of_z}
 use Rattle.pgq_queues.specs.Views.{QueueView}
 use Rattle.pgq_queues.proofs.Marked.{made-as, tables-kept}
 use Rattle.pgq_queues.proofs.TracedLists.{AreWithin, lengths, batches-more, within-more}
@@ -7,9 +8,10 @@ use Rattle.pgq_queues.proofs.queues.Queues.make.Goals as goal
 
 pub returns-clause-marks : goal.returns-clause-marks
 returns-clause-marks c =
-    made-as _ _ _ _ c.in_ok-queue.queue _ c.args.first c.self.view_is c.in_ok-add.ensures.added
+    made-as _ _ _ _ c.in_ok-queue.queue _ (record { id = 1; time = c.args.now; snapshot = c.args.snapshot; seq = 0 }) c.self.view_is c.in_ok-add.ensures.added
     (c.push_reserved.ensures.items ∙ ap (λ queues. queues ++ c.in_ok-queue.queue ∷ []) c.in_ok-reserve.ensures.items)
-    c.in_ok-queue.ensures c.self.invariant.0.1 c.requires.first c.requires.seq
+    (c.in_ok-queue.ensures ∙ ap (λ (t : ℤ). record { seq = 0; events = []; ticks = record { id = 1; time = t; snapshot = c.args.snapshot; seq = 0 } ∷ []; subs = [] }) (to_z-of_z w64 c.args.now c.ranges.now))
+    c.self.invariant.0.1 refl refl
 
 pub invariant_of-self-2 : goal.invariant_of-self-2
 invariant_of-self-2 c =
