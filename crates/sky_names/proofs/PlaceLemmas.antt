@@ -1,5 +1,5 @@
 -- What holds of the place of a name, and of two names that are equal by their bytes.
-use Rattle.std.proofs.Common.{◌≡◌, ◌≢◌, ℕ, ◌+◌, ◌<◌, suc, zero, Bool, true, false, cond, if◌then◌else◌, List, [], ◌∷◌, ◌++◌, length, Option, Some, None, option_map, position, slice_get, get_or, bytes_eq, is_some, not, ltb, ◌||◌, ◌⊎◌, refl, sym, ap, ◌∙◌, inl, inr, arith}
+use Rattle.std.proofs.Common.{◌≡◌, ◌≢◌, ℕ, ◌+◌, ◌<◌, suc, zero, Bool, true, false, cond, if◌then◌else◌, List, [], ◌∷◌, ◌++◌, length, Option, Some, None, IfSome, option_map, position, slice_get, get_or, bytes_eq, is_some, not, ltb, ◌||◌, ◌⊎◌, refl, sym, ap, ◌∙◌, inl, inr, arith}
 use Rattle.std.specs.List.{IsDistinct, list_any, position_or_len}
 use Rattle.std.specs.Option.{option_or}
 use Rattle.std.proofs.lemmas.Bool.Decides.{nat_tests}
@@ -48,6 +48,11 @@ place_of_within key (first ∷ names) place is =
       | inl head ↦ omega arith
       | inr (_, (before, at, later)) ↦ omega (arith, place_of_within key names before at)
     ]
+
+-- so that what is found is a place within it
+pub found_within : (key : List ℕ) (names : List (List ℕ)) (found : Option ℕ) → found ≡ place_of key names → IfSome found (λ place. place < length names)
+found_within key names None is = tt
+found_within key names (Some place) is = place_of_within key names place (sym is)
 
 -- and the name stands there
 pub slice_get-place_of : (key : List ℕ) (names : List (List ℕ)) (place : ℕ) → place_of key names ≡ Some place → slice_get names place ≡ Some key

@@ -4,6 +4,8 @@
 //! counted from 0, and never changes, since names are only added, at the end.
 #![tactic(auto)]
 
+mod named;
 mod names;
 
+pub use named::Named;
 pub use names::Names;

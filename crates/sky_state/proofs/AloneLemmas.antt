@@ -91,9 +91,9 @@ gone-again old table t n u = by (t == u) (table == n)
 -- a transaction of one write
 pub alone-as : (v now : RowStateView) (trans : TransView) (tables : List TableView) (writers : List (ℕ × ℕ)) (locks : LocksView) (who table : ℕ) (key : List Val) (row : Option (List Val)) → v ≡ now → ((seen now).session who).txid ≡ None
     → other_holder (seen now).holder who table key ≡ None → trans ≡ record { next = v.trans.next + 1; running = filter (λ u. not (u == v.trans.next)) (v.trans.running ++ v.trans.next ∷ []) }
-    → columns_of tables ≡ columns_of v.tables → versions_of tables ≡ changed_at table (written v.trans.next key row) (versions_of v.tables)
+    → columns_of tables ≡ columns_of v.tables.values → versions_of tables ≡ changed_at table (written v.trans.next key row) (versions_of v.tables.values)
     → wrote_in writers ≡ (λ n u. not (v.trans.next == u) && wrote_in v.writers n u) → holder locks ≡ released who (holder v.locks) → locks.waiting ≡ v.locks.waiting
-    → seen (record v { trans = trans; tables = tables; writers = writers; locks = locks })
+    → seen (record v { trans = trans; tables = record v.tables { values = tables }; writers = writers; locks = locks })
     ≡ after_part_marks (seen now) (began (of_session who) (seen now).next ∷ tabled (wrote (of_session who) (seen now).next table key None row) ∷ ended (of_session who) (seen now).next true ∷ [])
 alone-as v now trans tables writers locks who table key row same none free passed columns versions gone keys waits =
     (λ i. record (seen v) {

@@ -1,9 +1,10 @@
 -- Lists of sessions and of tables, read by number.
-use Rattle.std.proofs.Common.{◌≡◌, ℕ, zero, suc, ◌+◌, ◌<◌, ◌≤◌, List, [], ◌∷◌, ◌++◌, Bool, true, false, not, ◌&&◌, ◌||◌, ◌==◌, filter, Option, None, nat_lt, take, length, get_or, slice_set, get_or-set_same, get_or-set_other, ◌≢◌, refl, sym, ◌∙◌, ap, arith, if◌then◌else◌}
+use Rattle.std.proofs.Common.{◌≡◌, ℕ, zero, suc, ◌+◌, ◌<◌, ◌≤◌, List, [], ◌∷◌, ◌++◌, Bool, true, false, not, ◌&&◌, ◌||◌, ◌==◌, filter, Option, None, nat_lt, length, get_or, slice_set, get_or-set_same, get_or-set_other, ◌≢◌, refl, sym, ◌∙◌, ap, arith, if◌then◌else◌}
 use Rattle.std.proofs.lemmas.Bool.Decides.{nat_tests}
 use Rattle.std.proofs.lemmas.Option.{get_or_from_slice_get, slice_get_read}
 use Rattle.std.proofs.lemmas.List.{get_or_past}
 use Rattle.sky_val.specs.declared.val.Val.{Val}
+use Rattle.sky_names.specs.Named.{NamedView}
 use Rattle.sky_txid.specs.Versions.{written, forgotten}
 use Rattle.sky_trans.specs.Trans.{TransView}
 use Rattle.sky_rows.specs.Table.{TableView}
@@ -75,7 +76,7 @@ forgot-versions t n count tables le = by (nat_lt n count) refl
         ap (λ (v : TableView). v.versions) none ∙ ap (λ (v : TableView). forgotten t v.versions) (sym none)
 
 -- one more has forgotten
-pub forgets-next : (t i : ℕ) (now was : List TableView) (old new : TableView) → i < length now → old ≡ get_or now i old → new ≡ forgetting t true (get_or now i old)
+pub forgets-next : (t i : ℕ) (now was : List TableView) (old new : TableView) → i < length now → old ≡ get_or now i old → new ≡ forgetting t true old
     → ((n : ℕ) → table_of now n ≡ forgetting t (nat_lt n i) (table_of was n)) → (n : ℕ) → table_of (slice_set now i new) n ≡ forgetting t (nat_lt n (i + 1)) (table_of was n)
 forgets-next t i now was old new lt at is all n = set-at now i n new no_table lt ∙ by (i == n) refl
   where
@@ -88,17 +89,10 @@ forgets-next t i now was old new lt at is all n = set-at now i n new no_table lt
     by true e =
         let one : i ≡ n = grind (arith, nat_tests) in
         let within : true ≡ nat_lt n (i + 1) = grind (arith, nat_tests) in
-        is ∙ ap (forgetting t true) (sym at) ∙ at_once ∙ ap (λ m. forgetting t true (table_of was m)) one ∙ ap (λ b. forgetting t b (table_of was n)) within
+        is ∙ at_once ∙ ap (λ m. forgetting t true (table_of was m)) one ∙ ap (λ b. forgetting t b (table_of was n)) within
     by false e =
         let same : nat_lt n i ≡ nat_lt n (i + 1) = grind (arith, nat_tests) in
         all n ∙ ap (λ b. forgetting t b (table_of was n)) same
-
--- a list that was changed in place is there again
-pub written-back : {A : Type 0} → (n : ℕ) (xs ys : List A) → length xs ≡ n → take n (xs ++ ys) ≡ xs
-written-back zero [] ys e = refl
-written-back zero (x ∷ xs) ys e = absurd (omega arith)
-written-back (suc n) [] ys e = absurd (omega arith)
-written-back (suc n) (x ∷ xs) ys e = ap (λ rest. x ∷ rest) (written-back n xs ys (omega arith))
 
 -- one more item
 read-pushed : {A : Type 0} → (xs : List A) (x d : A) (n : ℕ) → get_or (xs ++ x ∷ []) n d ≡ (if length xs == n then x else get_or xs n d)
@@ -130,25 +124,23 @@ versions-made tables columns = λ i n. (ap (λ (v : TableView). v.versions) (rea
     by n false e = refl
 
 -- a table that is made has its columns, and no row
-pub made-as : (v now : RowStateView) (names : List (List ℕ)) (tables : List TableView) (table : TableView) (name : List ℕ) (columns : List Column) → v ≡ now → names ≡ v.names ++ name ∷ []
-    → tables ≡ v.tables ++ table ∷ [] → table ≡ made columns → length v.tables ≡ length v.names
-    → seen (record v { names = names; tables = tables }) ≡ after_part (seen now) (tabled (table_made name columns))
-made-as v now names tables table name columns same more one new count =
-    (λ i. record (seen v) {
-      tables = more i;
-      columns = (ap columns_of whole ∙ columns-made v.tables columns ∙ ap (λ n. changed_at n (λ _. columns) (columns_of v.tables)) count) i;
-      versions = (ap versions_of whole ∙ versions-made v.tables columns) i;
+pub made-as : (v now : RowStateView) (tables : NamedView TableView) (table : TableView) (name : List ℕ) (columns : List Column) → v ≡ now
+    → tables ≡ record { names = v.tables.names ++ name ∷ []; values = v.tables.values ++ table ∷ [] } → table ≡ made columns → length v.tables.values ≡ length v.tables.names
+    → seen (record v { tables = tables }) ≡ after_part (seen now) (tabled (table_made name columns))
+made-as v now tables table name columns same more new count =
+    ap (λ (ts : NamedView TableView). seen (record v { tables = ts })) (more ∙ ap (λ t. record { names = v.tables.names ++ name ∷ []; values = v.tables.values ++ t ∷ [] }) new)
+    ∙ (λ i. record (seen v) {
+      tables = v.tables.names ++ name ∷ [];
+      columns = (columns-made v.tables.values columns ∙ ap (λ n. changed_at n (λ _. columns) (columns_of v.tables.values)) count) i;
+      versions = versions-made v.tables.values columns i;
     })
     ∙ ap (λ (w : RowStateView). after_part (seen w) (tabled (table_made name columns))) same
-  where
-    whole : tables ≡ v.tables ++ made columns ∷ []
-    whole = one ∙ ap (λ t. v.tables ++ t ∷ []) new
 
 -- a write takes its key, and its transaction counts as one that has written in the table
 pub wrote-as : (v now : RowStateView) (tables : List TableView) (writers : List (ℕ × ℕ)) (locks : LocksView) (who t table : ℕ) (key : List Val) (row : Option (List Val)) → v ≡ now
-    → columns_of tables ≡ columns_of v.tables → versions_of tables ≡ changed_at table (written t key row) (versions_of v.tables)
+    → columns_of tables ≡ columns_of v.tables.values → versions_of tables ≡ changed_at table (written t key row) (versions_of v.tables.values)
     → wrote_in writers ≡ (λ n u. (table == n && t == u) || wrote_in v.writers n u) → holder locks ≡ taken who table key (holder v.locks) → locks.waiting ≡ v.locks.waiting
-    → seen (record v { tables = tables; writers = writers; locks = locks }) ≡ after_part (seen now) (tabled (wrote (of_session who) t table key None row))
+    → seen (record v { tables = record v.tables { values = tables }; writers = writers; locks = locks }) ≡ after_part (seen now) (tabled (wrote (of_session who) t table key None row))
 wrote-as v now tables writers locks who t table key row same columns versions writes keys waits =
     (λ i. record (seen v) { columns = columns i; versions = versions i; wrote_in = writes i; holder = keys i; waiting = waits i })
     ∙ ap (λ (w : RowStateView). after_part (seen w) (tabled (wrote (of_session who) t table key None row))) same
@@ -163,11 +155,11 @@ committed-as v now trans sessions writers locks who t same less free gone keys w
     ∙ ap (λ (w : RowStateView). after_part (seen w) (ended (of_session who) t true)) same
 
 -- so it is with one that was rolled back, which has no version either
-pub aborted-as : (v now : RowStateView) (trans : TransView) (sessions : List Session) (tables : List TableView) (writers : List (ℕ × ℕ)) (locks : LocksView) (who t : ℕ) → v ≡ now
+pub aborted-as : (v now : RowStateView) (trans : TransView) (sessions : List Session) (tables : NamedView TableView) (writers : List (ℕ × ℕ)) (locks : LocksView) (who t : ℕ) → v ≡ now
     → trans ≡ record { next = v.trans.next; running = filter (λ u. not (u == t)) v.trans.running } → session_of sessions ≡ changed_at who (with_txid None) (session_of v.sessions)
-    → columns_of tables ≡ columns_of v.tables → versions_of tables ≡ (λ n. forgotten t (versions_of v.tables n))
+    → tables.names ≡ v.tables.names → columns_of tables.values ≡ columns_of v.tables.values → versions_of tables.values ≡ (λ n. forgotten t (versions_of v.tables.values n))
     → wrote_in writers ≡ (λ n u. not (t == u) && wrote_in v.writers n u) → holder locks ≡ released who (holder v.locks) → locks.waiting ≡ v.locks.waiting
     → seen (record v { trans = trans; sessions = sessions; tables = tables; writers = writers; locks = locks }) ≡ after_part (seen now) (ended (of_session who) t false)
-aborted-as v now trans sessions tables writers locks who t same less free columns versions gone keys waits =
-    (λ i. record (seen v) { next = (less i).next; running_ids = (less i).running; session = free i; columns = columns i; versions = versions i; wrote_in = gone i; holder = keys i; waiting = waits i })
+aborted-as v now trans sessions tables writers locks who t same less free names columns versions gone keys waits =
+    (λ i. record (seen v) { next = (less i).next; running_ids = (less i).running; session = free i; tables = names i; columns = columns i; versions = versions i; wrote_in = gone i; holder = keys i; waiting = waits i })
     ∙ ap (λ (w : RowStateView). after_part (seen w) (ended (of_session who) t false)) same

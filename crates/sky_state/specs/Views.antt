@@ -1,5 +1,6 @@
 -- What contracts see of the transactions, sessions, tables and locks of a database, as the code keeps them.
 use Rattle.std.specs.Prelude.{ℕ, List, []}
+use Rattle.sky_names.specs.Named.{NamedView}
 use Rattle.sky_trans.specs.Trans.{TransView}
 use Rattle.sky_rows.specs.Table.{TableView}
 use Rattle.sky_locks.specs.Locks.{LocksView}
@@ -10,9 +11,7 @@ pub record RowStateView : Type 0 where
   pub trans : TransView
   -- each session at its number; further ones are at rest
   pub sessions : List Session
-  -- the names of the tables, and the tables, each at its number
-  pub names : List (List ℕ)
-  pub tables : List TableView
+  pub tables : NamedView TableView
   -- the transactions that have written, each with a number that has a bit for each table, at its number
   pub writers : List (ℕ × ℕ)
   pub locks : LocksView
@@ -21,4 +20,4 @@ pub record RowStateView : Type 0 where
 
 -- those of a database in which nothing has happened
 abbrev pub no_rows : RowStateView
-no_rows = record { trans = record { next = 3; running = [] }; sessions = []; names = []; tables = []; writers = []; locks = record { held = []; waiting = [] }; attempts = [] }
+no_rows = record { trans = record { next = 3; running = [] }; sessions = []; tables = record { names = []; values = [] }; writers = []; locks = record { held = []; waiting = [] }; attempts = [] }

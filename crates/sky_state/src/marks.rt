@@ -14,6 +14,7 @@ use crate::session::Sight;
 use sky_fits::Block;
 use sky_locks::{LockKey, Taken};
 use sky_model::Attempt;
+use sky_names::Named;
 use sky_rows::Table;
 use sky_trans::TransFault;
 use sky_val::{Key, NoMemory, Row, Schema, SessionId, Text};
@@ -122,9 +123,8 @@ impl RowState {
         requires room { length (seen self.old).tables < 64 }
         ensures { OnOk result (seen self.new ≡ after_part (seen self.old) (tabled (table_made name schema))) }
     {
-        self.tables.reserve(1)?;
-        self.names.add(name)?;
-        self.tables.push_reserved(Table::new(self.alloc, schema));
+        let table = Table::new(self.alloc, schema);
+        self.tables.add(name, table)?;
         Ok(())
     }
 
@@ -149,7 +149,7 @@ impl RowState {
         }
         self.writers.add(key.table, txid)?;
         let least = self.trans.least().unwrap_or(txid);
-        let table = &mut self.tables[key.table as usize];
+        let table = self.tables.get_mut(key.table as usize);
         table.prune(least);
         table.write(txid, key.key, row)?;
         Ok(())
@@ -177,7 +177,7 @@ impl RowState {
             Err(TransFault::TxidsSpent) => unreachable!(),
         };
         put_row(
-            &mut self.tables[key.table as usize],
+            self.tables.get_mut(key.table as usize),
             least,
             txid,
             key.key,
@@ -219,12 +219,12 @@ fn put_row(
 }
 
 /// Takes what the transaction wrote out of all tables.
-fn forget_all(tables: &mut Vec<Table>, txid: u64)
-    ensures count { length tables.new.items ≡ length tables.old.items }
-    ensures columns { columns_of tables.new.items ≡ columns_of tables.old.items }
-    ensures versions { versions_of tables.new.items ≡ (λ n. forgotten txid (versions_of tables.old.items n)) }
+fn forget_all(tables: &mut Named<Table>, txid: u64)
+    ensures names { tables.new.names ≡ tables.old.names }
+    ensures columns { columns_of tables.new.values ≡ columns_of tables.old.values }
+    ensures versions { versions_of tables.new.values ≡ (λ n. forgotten txid (versions_of tables.old.values n)) }
 {
-    for table in tables.iter_mut() {
-        table.forget(txid);
+    for number in 0..tables.len() {
+        tables.get_mut(number).forget(txid);
     }
 }

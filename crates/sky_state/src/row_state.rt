@@ -15,7 +15,7 @@ use crate::sessions::Sessions;
 use crate::writers::Writers;
 use sky_fits::{Block, Standing};
 use sky_locks::Locks;
-use sky_names::Names;
+use sky_names::Named;
 use sky_rows::Table;
 use sky_trans::Trans;
 use sky_txid::Snapshot;
@@ -29,24 +29,23 @@ pub struct RowState {
     pub(crate) alloc: Global,
     pub(crate) trans: Trans,
     pub(crate) sessions: Sessions,
-    pub(crate) names: Names,
-    pub(crate) tables: Vec<Table>,
+    pub(crate) tables: Named<Table>,
     pub(crate) writers: Writers,
     pub(crate) locks: Locks,
     pub(crate) attempts: Attempts,
 }
 
 impl Model for RowState {
-    ghost use Rattle.std.specs.Prelude.{◌≡◌, ◌≤◌, length};
+    ghost use Rattle.std.specs.Prelude.{◌≤◌, length};
     ghost use Rattle.sky_state.specs.Views.{RowStateView};
     ghost use Rattle.sky_state.specs.Seen.{session_of};
     ghost use Rattle.sky_state.specs.Owned.{AreOwned, AreWithin};
 
     ghost Value = { RowStateView };
 
-    ghost view = { λ d. record { trans = d.trans; sessions = d.sessions; names = d.names; tables = d.tables.items; writers = d.writers; locks = d.locks; attempts = d.attempts } };
+    ghost view = { λ d. record { trans = d.trans; sessions = d.sessions; tables = d.tables; writers = d.writers; locks = d.locks; attempts = d.attempts } };
 
-    ghost invariant = { λ d. ((length d.tables.items ≡ length d.names) × (length d.names ≤ 64)) × (AreOwned (session_of d.sessions) d.trans.running × AreWithin (length d.tables.items) d.locks.waiting) };
+    ghost invariant = { λ d. (length d.tables.names ≤ 64) × (AreOwned (session_of d.sessions) d.trans.running × AreWithin (length d.tables.names) d.locks.waiting) };
 }
 
 impl RowState {
@@ -58,8 +57,7 @@ impl RowState {
             alloc,
             trans: Trans::new(alloc),
             sessions: Sessions::new(alloc),
-            names: Names::new(alloc),
-            tables: Vec::new(alloc),
+            tables: Named::new(alloc),
             writers: Writers::new(alloc),
             locks: Locks::new(alloc),
             attempts: Attempts::new(alloc),
@@ -142,7 +140,7 @@ impl RowState {
     pub fn table_count(&self) -> usize
         ensures { result ≡ length (seen self.now).tables }
     {
-        self.names.len()
+        self.tables.len()
     }
 
     /// The number of the table of this name.
@@ -150,7 +148,7 @@ impl RowState {
         ensures number { result ≡ place_of name.now (seen self.now).tables }
         ensures within { IfSome result (λ number. number < length (seen self.now).tables) }
     {
-        self.names.number(name)
+        self.tables.number(name)
     }
 
     /// The columns of the table of this number.
@@ -167,7 +165,7 @@ impl RowState {
         ensures columns { result.now.columns ≡ (seen self.now).columns number }
         ensures versions { result.now.versions ≡ (seen self.now).versions number }
     {
-        &self.tables[number as usize]
+        self.tables.get(number as usize)
     }
 
     /// The least running transaction that has written a row of the table.

@@ -1,4 +1,4 @@
-use Rattle.std.proofs.Common.{◌≡◌, Some, ap, sym, subst, ◌∙◌}
+use Rattle.std.proofs.Common.{◌≡◌, ◌≤◌, Some, length, ap, sym, subst}
 use Rattle.sky_trans.specs.Trans.{TransView}
 use Rattle.sky_state.specs.Views.{RowStateView}
 use Rattle.sky_state.specs.Seen.{seen}
@@ -8,14 +8,14 @@ use Rattle.sky_state.proofs.row_state.RowState.aborted.Goals as goal
 
 pub invariant_of-self : goal.invariant_of-self
 invariant_of-self c = (
-  (c.forget_all.ensures.count ∙ c.self.invariant.0.0, c.self.invariant.0.1),
+  subst (λ names. length names ≤ 64) (sym c.forget_all.ensures.names) c.self.invariant.0,
   (
     owned-end _ _ _ _ c.args.who c.args.txid c.end_txid.ensures (ap (λ (v : TransView). v.running) c.abort.ensures)
         (subst (λ (d : RowStateView). ((seen d).session c.args.who).txid ≡ Some c.args.txid) (sym c.self.view_is) c.requires) c.self.invariant.1.0,
-    within-kept _ _ _ _ c.forget_all.ensures.count c.release.ensures.waiting c.self.invariant.1.1,
+    within-kept _ _ _ _ (ap length c.forget_all.ensures.names) c.release.ensures.waiting c.self.invariant.1.1,
   ),
 )
 
 pub returns : goal.returns
-returns c = aborted-as _ _ c.abort.new.self _ _ c.end.new.self c.release.new.self c.args.who c.args.txid c.self.view_is c.abort.ensures c.end_txid.ensures c.forget_all.ensures.columns c.forget_all.ensures.versions
+returns c = aborted-as _ _ c.abort.new.self _ _ c.end.new.self c.release.new.self c.args.who c.args.txid c.self.view_is c.abort.ensures c.end_txid.ensures c.forget_all.ensures.names c.forget_all.ensures.columns c.forget_all.ensures.versions
     c.end.ensures c.release.ensures.held c.release.ensures.waiting

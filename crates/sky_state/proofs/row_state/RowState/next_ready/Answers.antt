@@ -11,7 +11,6 @@ pub returns-in_ok-copy-in-Some-clause-within : goal.returns-in_ok-copy-in-Some-c
 returns-in_ok-copy-in-Some-clause-within c =
     let found : ready (holder c.self.inside.locks) c.self.inside.locks.waiting ≡ Some (entry c.in-Some.who c.in-Some.key.now)
     = sym c.ready.ensures ∙ ap (option_map (λ f. entry f.0 f.1.now)) c.in-Some.is in
-    let within : c.in-Some.key.now.table < length c.self.inside.tables.items = within-ready _ (holder c.self.inside.locks) _ _ c.self.invariant.1.1 found in
-    subst (λ (v : RowStateView). c.in_ok-copy-in-Some.field-0.table < length v.names) c.self.view_is
-    (subst (λ n. c.in_ok-copy-in-Some.field-0.table < n) c.self.invariant.0.0
-    (subst (λ (key : LockKey). key.table < length c.self.inside.tables.items) (sym c.in_ok-copy-in-Some.ensures) within))
+    let within : c.in-Some.key.now.table < length c.self.inside.tables.names = within-ready _ (holder c.self.inside.locks) _ _ c.self.invariant.1.1 found in
+    subst (λ (v : RowStateView). c.in_ok-copy-in-Some.field-0.table < length v.tables.names) c.self.view_is
+    (subst (λ (key : LockKey). key.table < length c.self.inside.tables.names) (sym c.in_ok-copy-in-Some.ensures) within)

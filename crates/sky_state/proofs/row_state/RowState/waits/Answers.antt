@@ -16,16 +16,14 @@ pub invariant_of-self-in_err-set-in-Waits : goal.invariant_of-self-in_err-set-in
 invariant_of-self-in_err-set-in-Waits c =
     let w : WaitsForKey c.self.inside.locks c.args.who c.args.key.now.table c.args.key.now.key c.in-Waits.field-0 c.try_key.new.self
     = subst (λ taken. Takes c.self.inside.locks c.args.who c.args.key.now.table c.args.key.now.key taken c.try_key.new.self) c.in-Waits.is c.in_ok-try_key.ensures.ok in
-    let within : c.args.key.now.table < length c.self.inside.tables.items
-    = subst (λ n. c.args.key.now.table < n) (sym c.self.invariant.0.0) (subst (λ (v : RowStateView). c.args.key.now.table < length v.names) (sym c.self.view_is) c.requires.within) in
+    let within = subst (λ (v : RowStateView). c.args.key.now.table < length v.tables.names) (sym c.self.view_is) c.requires.within in
     (c.self.invariant.0, (c.self.invariant.1.0, within-kept _ _ _ _ refl w.waiting (within-push _ _ _ within c.self.invariant.1.1)))
 
 pub invariant_of-self-in-Waits : goal.invariant_of-self-in-Waits
 invariant_of-self-in-Waits c =
     let w : WaitsForKey c.self.inside.locks c.args.who c.args.key.now.table c.args.key.now.key c.in-Waits.field-0 c.try_key.new.self
     = subst (λ taken. Takes c.self.inside.locks c.args.who c.args.key.now.table c.args.key.now.key taken c.try_key.new.self) c.in-Waits.is c.in_ok-try_key.ensures.ok in
-    let within : c.args.key.now.table < length c.self.inside.tables.items
-    = subst (λ n. c.args.key.now.table < n) (sym c.self.invariant.0.0) (subst (λ (v : RowStateView). c.args.key.now.table < length v.names) (sym c.self.view_is) c.requires.within) in
+    let within = subst (λ (v : RowStateView). c.args.key.now.table < length v.tables.names) (sym c.self.view_is) c.requires.within in
     (c.self.invariant.0, (c.self.invariant.1.0, within-kept _ _ _ _ refl w.waiting (within-push _ _ _ within c.self.invariant.1.1)))
 
 pub returns-in_ok-set-in-Waits-clause-ring : goal.returns-in_ok-set-in-Waits-clause-ring

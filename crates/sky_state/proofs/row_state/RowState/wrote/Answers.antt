@@ -1,8 +1,7 @@
-use Rattle.std.proofs.Common.{◌≡◌, ◌<◌, ◌∙◌, length, ap, subst, arith}
+use Rattle.std.proofs.Common.{◌∙◌, ap, subst}
 use Rattle.sky_txid.specs.Versions.{written}
 use Rattle.sky_rows.specs.Table.{TableView}
 use Rattle.sky_locks.specs.Locks.{Takes, TakesKey}
-use Rattle.sky_state.specs.Views.{RowStateView}
 use Rattle.sky_state.proofs.SessionLists.{wrote-as}
 use Rattle.sky_state.proofs.AloneLemmas.{version-written}
 use Rattle.sky_state.proofs.row_state.RowState.wrote.Goals as goal
@@ -10,10 +9,8 @@ use Rattle.sky_state.proofs.row_state.RowState.wrote.Goals as goal
 pub returns : goal.returns
 returns c =
     let v = c.self.inside in
-    let named : length v.names ≡ length c.args.self.now.names = ap (λ (d : RowStateView). length d.names) c.self.view_is in
-    let lt : c.args.key.table < length v.tables.items = omega (arith, c.requires.within, c.self.invariant.0.0, named) in
     let taken : TakesKey v.locks c.args.who c.args.key.table c.args.key.key c.try_key.new.self
     = subst (λ taken. Takes v.locks c.args.who c.args.key.table c.args.key.key taken c.try_key.new.self) c.in-Got.is c.in_ok-try_key.ensures.ok in
-    let tables = version-written v.tables.items c.args.key.table c.args.txid c.args.key.key c.args.row c.index_mut-table.result.now c.write.new.self lt c.index_mut-table.ensures.value
+    let tables = version-written v.tables.values c.args.key.table c.args.txid c.args.key.key c.args.row c.get_mut-table.result.now c.write.new.self c.get_mut-table.ensures.within c.get_mut-table.ensures.value
     (c.in_ok-write.ensures.ok ∙ ap (λ (t : TableView). record t { versions = written c.args.txid c.args.key.key c.args.row t.versions }) c.prune.ensures) in
     wrote-as _ _ _ c.add.new.self c.try_key.new.self c.args.who c.args.txid c.args.key.table c.args.key.key c.args.row c.self.view_is tables.0 tables.1 c.in_ok-add.ensures.ok taken.held taken.waiting

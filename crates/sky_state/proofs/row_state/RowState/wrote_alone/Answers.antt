@@ -1,12 +1,10 @@
 -- A transaction of one write, of which no session has the id in the end.
-use Rattle.std.proofs.Common.{◌≡◌, ◌∙◌, ◌++◌, ◌∷◌, [], ◌||◌, ◌&&◌, ◌==◌, ◌<◌, not, filter, List, ℕ, Bool, true, false, length, refl, ap, sym, subst, arith}
+use Rattle.std.proofs.Common.{◌≡◌, ◌∙◌, ◌++◌, ◌∷◌, [], ◌||◌, ◌&&◌, ◌==◌, not, filter, List, ℕ, Bool, true, false, refl, ap, sym, subst, arith}
 use Rattle.sky_state.specs.Owned.{AreOwned}
-use Rattle.sky_state.specs.Views.{RowStateView}
 use Rattle.sky_state.specs.Seen.{session_of, versions_of, wrote_in}
 use Rattle.sky_txid.specs.Versions.{written}
 use Rattle.sky_model.specs.State.{changed_at}
 use Rattle.std.proofs.lemmas.Bool.Decides.{nat_tests}
-use Rattle.std.proofs.lemmas.List.{length-set}
 use Rattle.sky_txid.specs.Ids.{contains}
 use Rattle.sky_txid.proofs.Rising.{contains-push}
 use Rattle.sky_trans.specs.Trans.{TransView}
@@ -16,11 +14,8 @@ use Rattle.sky_state.proofs.row_state.RowState.wrote_alone.Goals as goal
 
 pub invariant_of-self-in_err-put_row : goal.invariant_of-self-in_err-put_row
 invariant_of-self-in_err-put_row c = (
-  (length-set c.self.inside.tables.items c.args.key.table c.put_row.new.table ∙ c.self.invariant.0.0, c.self.invariant.0.1),
-  (
-    owned-more _ _ _ _ c.self.inside.trans.next refl (ap (λ (v : TransView). v.running) c.in-Ok.ensures.ok) c.self.invariant.1.0,
-    within-kept _ _ _ _ (length-set c.self.inside.tables.items c.args.key.table c.put_row.new.table) refl c.self.invariant.1.1,
-  ),
+  c.self.invariant.0,
+  (owned-more _ _ _ _ c.self.inside.trans.next refl (ap (λ (v : TransView). v.running) c.in-Ok.ensures.ok) c.self.invariant.1.0, c.self.invariant.1.1),
 )
 
 or-true : (b : Bool) → (b || true) ≡ true
@@ -40,10 +35,10 @@ invariant_of-self-2 c =
     let left : c.commit.new.self.running ≡ ids
     = ap (λ (v : TransView). v.running) c.commit.ensures
     ∙ ap (filter (λ u. not (u == t))) (ap (λ (v : TransView). v.running) c.in-Ok.ensures.ok ∙ ap (λ u. ids ++ u ∷ []) (sym c.in-Ok.ensures.id)) ∙ others-run t ids c.in-Ok.ensures.fresh in (
-      (length-set c.self.inside.tables.items c.args.key.table c.put_row.new.table ∙ c.self.invariant.0.0, c.self.invariant.0.1),
+      c.self.invariant.0,
       (
         subst (AreOwned (session_of c.self.inside.sessions)) (sym left) c.self.invariant.1.0,
-        within-kept _ _ _ _ (length-set c.self.inside.tables.items c.args.key.table c.put_row.new.table) c.release.ensures.waiting c.self.invariant.1.1,
+        within-kept _ _ _ _ refl c.release.ensures.waiting c.self.invariant.1.1,
       ),
     )
 
@@ -51,9 +46,7 @@ pub returns : goal.returns
 returns c =
     let v = c.self.inside in
     let t = c.in-Ok.txid in
-    let named : length v.names ≡ length c.args.self.now.names = ap (λ (d : RowStateView). length d.names) c.self.view_is in
-    let lt : c.args.key.table < length v.tables.items = omega (arith, c.requires.within, c.self.invariant.0.0, named) in
-    let tables = version-written v.tables.items c.args.key.table t c.args.key.key c.args.row c.index_mut.result.now c.put_row.new.table lt c.index_mut.ensures.value c.in_ok-put_row.ensures in
+    let tables = version-written v.tables.values c.args.key.table t c.args.key.key c.args.row c.get_mut.result.now c.put_row.new.table c.get_mut.ensures.within c.get_mut.ensures.value c.in_ok-put_row.ensures in
     alone-as _ _ c.commit.new.self _ c.end.new.self c.release.new.self c.args.who c.args.key.table c.args.key.key c.args.row c.self.view_is c.requires.single c.requires.free
     (c.commit.ensures ∙ (λ i. record { next = (c.in-Ok.ensures.ok i).next; running = filter (λ u. not (u == c.in-Ok.ensures.id i)) (c.in-Ok.ensures.ok i).running }))
-    tables.0 (tables.1 ∙ ap (λ u. changed_at c.args.key.table (written u c.args.key.key c.args.row) (versions_of v.tables.items)) c.in-Ok.ensures.id) (c.end.ensures ∙ ap (λ u n m. not (u == m) && wrote_in v.writers n m) c.in-Ok.ensures.id) c.release.ensures.held c.release.ensures.waiting
+    tables.0 (tables.1 ∙ ap (λ u. changed_at c.args.key.table (written u c.args.key.key c.args.row) (versions_of v.tables.values)) c.in-Ok.ensures.id) (c.end.ensures ∙ ap (λ u n m. not (u == m) && wrote_in v.writers n m) c.in-Ok.ensures.id) c.release.ensures.held c.release.ensures.waiting
