@@ -1,5 +1,5 @@
 -- What a database shows, after what the code changed in it.
-use Rattle.std.proofs.Common.{Err, is_ok, drop, ◌≡◌, ℕ, suc, zero, ℤ, ◌+◌, ◌<◌, ◌≤◌, ◌^◌, List, [], ◌∷◌, ◌++◌, Bool, true, false, ◌==◌, nat_le, Option, Some, None, Result, Ok, IfOk, OnOk, IfSome, IfNone, is_some, length, get_or, option_map, refl, sym, ◌∙◌, ap, subst, arith, if◌then◌else◌}
+use Rattle.std.proofs.Common.{Err, is_ok, drop, ◌≡◌, ℕ, suc, zero, ℤ, ◌+◌, ◌<◌, ◌≤◌, ◌^◌, List, [], ◌∷◌, ◌++◌, Bool, true, false, ◌==◌, nat_le, Option, Some, None, Result, Ok, IfOk, OnOk, IfSome, IfNone, is_some, length, append_assoc, get_or, option_map, refl, sym, ◌∙◌, ap, subst, arith, if◌then◌else◌}
 use Rattle.std.proofs.lemmas.Bool.Decides.{nat_tests}
 use Rattle.sky_val.specs.declared.event.Event.{Event}
 use Rattle.sky_txid.specs.Snapshot.{SnapshotView}
@@ -21,9 +21,10 @@ use Rattle.sky_model.specs.Queues.{queue_number}
 use Rattle.sky_model.specs.Triggers.{triggers_of}
 use Rattle.sky_model.specs.Selection.{selected}
 use Rattle.sky_model.specs.StepConsumer.{finish_batch, finishes, get_batch_events}
+use Rattle.sky_model.specs.Printed.{EventsHaveMoments, ReplyHasMoments}
 use Rattle.sky_model.specs.State.{with_txid, RowPart, after_part_marks, Database, after_mark, after_marks}
 use Rattle.sky_model.specs.ShownRows.{snapshot_now}
-use Rattle.sky_model.specs.Outcome.{Outcome, Checked, ◌>>=◌, ◌>>◌, refused_if, refused_by, found_or, answers, does_marks, end_of, aborts, abort, settled}
+use Rattle.sky_model.specs.Outcome.{Outcome, Checked, ◌>>=◌, ◌>>◌, refused_if, refused_by, found_or, answers, does_marks, reply_of, end_of, aborts, abort, settled}
 use Rattle.sky_model.specs.OwnTransaction.{own_or_next, txid_for, begin_of, commit_of, written}
 use Rattle.sky_model.specs.StepQueue.{create_queue, insert_event, queue_called, next_event_id, made_event}
 use Rattle.sky_model.specs.Allowed.{where_of}
@@ -32,10 +33,9 @@ use Rattle.sky_model.specs.Reader.{database_by_itself, within_part, shown_by}
 use Rattle.sky_model.specs.Settling.{Turn, turn_of, behind_marks, settling, with_settling}
 use Rattle.sky_model.specs.Calls.{form, making, statement, database_turn}
 use Rattle.sky_model.specs.DatabaseCalls as call
-use Rattle.sky_model.specs.DatabaseCalls.{stepped}
 use Rattle.sky_model.specs.DatabaseSteps.{DatabaseSteps}
 use Rattle.sky_model.proofs.RowOutcomes.{RowMarks}
-use Rattle.sky_model.proofs.DatabaseStanding.{after_marks-append, behind-all, database_steps_from_exact, database_enter_from_exact}
+use Rattle.sky_model.proofs.DatabaseStanding.{after_marks-append, behind-all, database_enter_from_exact}
 use Rattle.sky_session.specs.Effects.{effects_of}
 use Rattle.sky_session.specs.declared.effect.Effect.{Effect}
 use Rattle.sky_session.specs.declared.effect.Effect.TheVariants.{Wrote, Committed, Aborted}
@@ -48,7 +48,7 @@ use Rattle.pgq_queues.specs.Seen.{seen_batch, batch_at, seen_with}
 use Rattle.pgq_db.specs.Views.{DbView}
 use Rattle.pgq_db.specs.Seen.{seen_database}
 use Rattle.pgq_db.specs.Undone.{undone_by}
-use Rattle.pgq_db.specs.Gives.{Gives, GivesReply, Does}
+use Rattle.pgq_db.specs.Gives.{Gives, Adds, Answers, Does}
 use Rattle.sky_model.specs.Stops.{Refuses}
 
 -- marks of the queues are marks of the database
@@ -82,21 +82,26 @@ event-written d who t (Some own) outside q id event = refl
 event-written d who t (Some own) inside q id event = refl
 event-written d who t (Some own) failed q id event = refl
 
+-- what a form gives that isn't refused
+abbrev Runs : Database → Database → (before after : List (ℕ × Reply)) → ℕ → Checked Outcome → Type 0
+Runs old new before after who checked = Does old new before after who checked × ReplyHasMoments (reply_of checked)
+
 -- what an inserted event gives
-pub gives-event : (d s1 s2 s3 : Database) (now time : ℤ) (who : ℕ) (name : List ℕ) (ev_type ev_data : Option (List ℕ)) (extra : Option Extra) (q seq t : ℕ) (event : Event)
+pub gives-event : (d s1 s2 s3 : Database) (now time : ℤ) (who : ℕ) (name : List ℕ) (ev_type ev_data : Option (List ℕ)) (extra : Option Extra) (q seq t : ℕ) (event : Event) (before after : List (ℕ × Reply))
     → queue_called name d ≡ Ok q → txid_for d.part who ≡ Ok t → seq ≡ (d.queue q).seq → seq + 1 < 2 ^ 62 → time ≡ now
     → event ≡ made_event (seq + 1) time t ev_type ev_data extra
     → s1 ≡ after_marks d (begin_of who t (d.part.session who).txid ++ commit_of who t (d.part.session who).block)
     → s2 ≡ after_mark s1 (queued (raised q (seq + 1))) → s3 ≡ after_mark s2 (queued (put q event))
-    → Does d s3 (Number (seq + 1)) (insert_event d now who name ev_type ev_data extra)
-gives-event d s1 s2 s3 now time who name ev_type ev_data extra q seq t event place txid is room at made_is m1 m2 m3 =
-    subst (Does d s3 (Number (seq + 1))) (sym whole) (record {
+    → after ≡ before ++ (who, Number (seq + 1)) ∷ [] → Runs d s3 before after who (insert_event d now who name ev_type ev_data extra)
+gives-event d s1 s2 s3 now time who name ev_type ev_data extra q seq t event before after place txid is room at made_is m1 m2 m3 pushed =
+    subst (Runs d s3 before after who) (sym whole) (record {
       accepted = refl;
+      replied = pushed;
       changed = m3 ∙ ap (λ s. after_mark s (queued (put q event))) (m2 ∙ ap (λ s. after_mark s (queued (raised q (seq + 1)))) m1)
           ∙ event-written d who t (d.part.session who).txid (d.part.session who).block q (seq + 1) event
           ∙ ap (λ e. after_marks d (written who t (d.part.session who) (queued (raised q (seq + 1)) ∷ queued (put q e) ∷ [])))
           (made_is ∙ ap (λ x. made_event (seq + 1) x t ev_type ev_data extra) at);
-    })
+    }, tt)
   where
     unspent : nat_le (2 ^ 62) ((d.queue q).seq + 1) ≡ false
     unspent = grind (arith, nat_tests)
@@ -114,32 +119,31 @@ gives-event d s1 s2 s3 now time who name ev_type ev_data extra q seq t event pla
         ∙ ap (λ n. result (n + 1)) (sym is)
 
 -- what a batch gives that is finished, and one that there isn't
-pub gives-finish : (v now : DbView) (queues : QueuesView) (id : ℕ) (found : Option Batch) (reply : Reply) → v ≡ now → option_map (seen_batch id) found ≡ batch_at v.queues id
+pub gives-finish : (v now : DbView) (queues : QueuesView) (who id : ℕ) (found : Option Batch) (count : ℕ) (before after : List (ℕ × Reply)) → v ≡ now
+    → option_map (seen_batch id) found ≡ batch_at v.queues id
     → IfSome found (λ b. (part : RowPart) → seen_with part queues ≡ after_mark (seen_with part v.queues) (queued (closed (seen_batch id b))))
     → IfNone found ((part : RowPart) → seen_with part queues ≡ seen_with part v.queues)
-    → reply ≡ Number (if is_some found then 1 else 0) → Does (seen_database now) (seen_database (record v { queues = queues })) reply (finish_batch (seen_database now) id)
-gives-finish v now queues id found reply same batch over nothing is =
-    subst (λ (w : DbView). Does (seen_database w) after reply (finish_batch (seen_database w) id)) same
-    (subst (λ o. Does (seen_database v) after reply (finishes o)) batch
-    (subst (λ r. Does (seen_database v) after r (finishes (option_map (seen_batch id) found))) (sym is) (of found over nothing)))
+    → after ≡ before ++ (who, Number count) ∷ [] → count ≡ (if is_some found then 1 else 0)
+    → Runs (seen_database now) (seen_database (record v { queues = queues })) before after who (finish_batch (seen_database now) id)
+gives-finish v now queues who id found count before after same batch over nothing pushed is =
+    subst (λ (w : DbView). Runs (seen_database w) left before after who (finish_batch (seen_database w) id)) same
+    (subst (λ o. Runs (seen_database v) left before after who (finishes o)) batch (of found over nothing is))
   where
-    after : Database
-    after = seen_database (record v { queues = queues })
+    left : Database
+    left = seen_database (record v { queues = queues })
 
     of : (o : Option Batch) → IfSome o (λ b. (part : RowPart) → seen_with part queues ≡ after_mark (seen_with part v.queues) (queued (closed (seen_batch id b))))
-        → IfNone o ((part : RowPart) → seen_with part queues ≡ seen_with part v.queues)
-        → Does (seen_database v) after (Number (if is_some o then 1 else 0)) (finishes (option_map (seen_batch id) o))
-    of None over nothing = record { accepted = refl; changed = nothing (seen v.rows) }
-    of (Some b) over nothing = record { accepted = refl; changed = over (seen v.rows) }
+        → IfNone o ((part : RowPart) → seen_with part queues ≡ seen_with part v.queues) → count ≡ (if is_some o then 1 else 0)
+        → Runs (seen_database v) left before after who (finishes (option_map (seen_batch id) o))
+    of None over nothing is = (record { accepted = refl; replied = pushed ∙ ap (λ n. before ++ (who, Number n) ∷ []) is; changed = nothing (seen v.rows) }, tt)
+    of (Some b) over nothing is = (record { accepted = refl; replied = pushed ∙ ap (λ n. before ++ (who, Number n) ∷ []) is; changed = over (seen v.rows) }, tt)
 
 -- what a query for a batch's events gives
-pub gives-events : (d : Database) (id : ℕ) (batch : Batch) (events : List Event) → Some (seen_batch id batch) ≡ d.batch id → events ≡ selected d (seen_batch id batch)
-    → Does d d (Events events) (get_batch_events d (selected d) id)
-gives-events d id batch events there is =
-    subst (λ found. Does d d (Events events) (found_or found NoBatch >>= (λ b. answers (Events (selected d b))))) there (record {
-      accepted = ap (λ es. Ok (record { reply = Events es; marks = [] })) (sym is);
-      changed = refl;
-    })
+pub gives-events : (d : Database) (who id : ℕ) (batch : Batch) (events : List Event) (before after : List (ℕ × Reply)) → Some (seen_batch id batch) ≡ d.batch id
+    → events ≡ selected d (seen_batch id batch) → EventsHaveMoments events → after ≡ before ++ (who, Events events) ∷ [] → Runs d d before after who (get_batch_events d (selected d) id)
+gives-events d who id batch events before after there is have pushed =
+    subst (λ found. Runs d d before after who (found_or found NoBatch >>= (λ b. answers (Events (selected d b))))) there
+    (record { accepted = refl; replied = pushed ∙ ap (λ es. before ++ (who, Events es) ∷ []) is; changed = refl }, subst EventsHaveMoments is have)
 
 queue-written : (d : Database) (who t : ℕ) (o : Option ℕ) (b : Block) (n : ℕ) (name : List ℕ) (time : ℤ)
     → after_marks (after_marks d (begin_of who t o ++ commit_of who t b)) (queued (made name) ∷ queued (ticked n 1 time 0) ∷ [])
@@ -164,10 +168,10 @@ made-queue d s1 s2 now time who t count name copied same names at m1 m2 =
     ∙ ap (λ x. after_marks d (written who t (d.part.session who) (queued (made name) ∷ []) ++ queued (ticked d.queues_made 1 x 0) ∷ [])) at
 
 -- what a queue that is made gives
-pub gives-queue : (d s : Database) (now : ℤ) (who t : ℕ) (name : List ℕ) → queue_number name d.queues ≡ None → length d.queues < 64 → txid_for d.part who ≡ Ok t
+pub gives-queue : (d s : Database) (now : ℤ) (who t : ℕ) (name : List ℕ) (before after : List (ℕ × Reply)) → queue_number name d.queues ≡ None → length d.queues < 64 → txid_for d.part who ≡ Ok t
     → s ≡ after_marks d (written who t (d.part.session who) (queued (made name) ∷ []) ++ queued (ticked d.queues_made 1 now 0) ∷ [])
-    → Does d s (Number 1) (create_queue d now who name)
-gives-queue d s now who t name new room txid is = subst (Does d s (Number 1)) (sym whole) (record { accepted = refl; changed = is })
+    → after ≡ before ++ (who, Number 1) ∷ [] → Runs d s before after who (create_queue d now who name)
+gives-queue d s now who t name before after new room txid is pushed = subst (Runs d s before after who) (sym whole) (record { accepted = refl; replied = pushed; changed = is }, tt)
   where
     few : nat_le 64 (length d.queues) ≡ false
     few = grind (arith, nat_tests)
@@ -266,13 +270,13 @@ abort-nothing who txid outside refusal is = refl
 abort-nothing who txid inside refusal is = ap (λ b. if b then end_of false who txid ++ block_failed who ∷ [] else []) is
 abort-nothing who txid failed refusal is = refl
 
--- what a statement gives that came in
-pub gives-entered : (d s1 s2 : Database) (time now : ℤ) (who : ℕ) (stmt : Stmt) (place : Where) (reply : Reply) → time ≡ now → place ≡ where_of stmt
+-- what a statement answers that came in
+pub answers-entered : (d s1 s2 : Database) (time now : ℤ) (who : ℕ) (stmt : Stmt) (place : Where) (before after : List (ℕ × Reply)) → time ≡ now → place ≡ where_of stmt
     → Enters d.part s1.part who place None → s1 ≡ record d { part = s1.part }
-    → GivesReply s1 s2 reply (settled who (s1.part.session who) (form s1 (shown_by s1) time who stmt))
-    → GivesReply d s2 reply (statement database_by_itself d now who stmt)
-gives-entered d s1 s2 time now who stmt place reply at is enters but gives =
-    subst (GivesReply d s2 reply) (sym whole) (of (takes_sight (where_of stmt) (d.part.session who).sight) behind)
+    → Answers s1 s2 before after who (settled who (s1.part.session who) (form s1 (shown_by s1) time who stmt))
+    → Answers d s2 before after who (statement database_by_itself d now who stmt)
+answers-entered d s1 s2 time now who stmt place before after at is enters but gives =
+    subst (Answers d s2 before after who) (sym whole) (of (takes_sight (where_of stmt) (d.part.session who).sight) behind)
   where
     m : Making Database
     m = making database_by_itself now who stmt
@@ -286,51 +290,48 @@ gives-entered d s1 s2 time now who stmt place reply at is enters but gives =
     behind : s1 ≡ record d { part = after_part_marks d.part (look_of who (takes_sight (where_of stmt) (d.part.session who).sight)) }
     behind = but ∙ ap (λ part. record d { part = part }) entered.1
 
-    then_gives : (x : Database) → s1 ≡ x → GivesReply x s2 reply (settled who (x.part.session who) (form x (shown_by x) now who stmt))
-    then_gives x e =
-        subst (λ (y : Database). GivesReply y s2 reply (settled who (y.part.session who) (form y (shown_by y) now who stmt))) e
-        (subst (λ t. GivesReply s1 s2 reply (settled who (s1.part.session who) (form s1 (shown_by s1) t who stmt))) at gives)
+    there : (x : Database) → s1 ≡ x → Answers x s2 before after who (settled who (x.part.session who) (form x (shown_by x) now who stmt))
+    there x e =
+        subst (λ (y : Database). Answers y s2 before after who (settled who (y.part.session who) (form y (shown_by y) now who stmt))) e
+        (subst (λ t. Answers s1 s2 before after who (settled who (s1.part.session who) (form s1 (shown_by s1) t who stmt))) at gives)
 
     of : (b : Bool) → s1 ≡ record d { part = after_part_marks d.part (look_of who b) }
-        → GivesReply d s2 reply (if b then looking who (runs m who (after_mark d (looked who))) else runs m who d)
-    of true e = (let g = then_gives (after_mark d (looked who)) e in record { replied = g.replied; changed = g.changed })
-    of false e = then_gives d e
+        → Answers d s2 before after who (if b then looking who (runs m who (after_mark d (looked who))) else runs m who d)
+    of true e = (let g = there (after_mark d (looked who)) e in (record { replied = g.0.replied; changed = g.0.changed }, g.1))
+    of false e = there d e
 
 -- and one that was refused at the door
-pub gives-turned_away : (d s1 s2 : Database) (now : ℤ) (who : ℕ) (stmt : Stmt) (place : Where) (reply : Reply) (refusal : Refusal) → place ≡ where_of stmt
-    → Enters d.part s1.part who place (Some refusal) → s1 ≡ record d { part = s1.part } → reply ≡ Refused refusal
-    → s2 ≡ after_marks s1 (abort who (s1.part.session who).block (s1.part.session who).txid refusal)
-    → GivesReply d s2 reply (statement database_by_itself d now who stmt)
-gives-turned_away d s1 s2 now who stmt place reply refusal is enters but replied marks =
-    subst (GivesReply d s2 reply) (sym (ap (runs_if (making database_by_itself now who stmt) (where_of stmt) who d) turned.0)) (record {
-      replied = replied;
-      changed = marks ∙ ap (λ (s : Database). after_marks s (abort who (s.part.session who).block (s.part.session who).txid refusal))
-          (but ∙ ap (λ part. record d { part = part }) turned.1);
-    })
+pub answers-turned_away : (d s1 s2 : Database) (now : ℤ) (who : ℕ) (stmt : Stmt) (place : Where) (before after : List (ℕ × Reply)) (refusal : Refusal) → place ≡ where_of stmt
+    → Enters d.part s1.part who place (Some refusal) → s1 ≡ record d { part = s1.part }
+    → Answers s1 s2 before after who (settled who (s1.part.session who) (Err refusal)) → Answers d s2 before after who (statement database_by_itself d now who stmt)
+answers-turned_away d s1 s2 now who stmt place before after refusal is enters but answers =
+    subst (Answers d s2 before after who) (sym (ap (runs_if (making database_by_itself now who stmt) (where_of stmt) who d) turned.0))
+    (subst (λ (x : Database). Answers x s2 before after who (settled who (x.part.session who) (Err refusal))) (but ∙ ap (λ part. record d { part = part }) turned.1) answers)
   where
     turned : Enters d.part s1.part who (where_of stmt) (Some refusal)
     turned = subst (λ p. Enters d.part s1.part who p (Some refusal)) is enters
 
--- what a statement gives that isn't refused, and one that is
-pub replies-done : (d s : Database) (who : ℕ) (reply : Reply) (checked : Checked Outcome) → Does d s reply checked → GivesReply d s reply (settled who (d.part.session who) checked)
-replies-done d s who reply checked does =
-    subst (λ c. GivesReply d s reply (settled who (d.part.session who) c)) (sym does.accepted) (record { replied = refl; changed = does.changed })
+-- what a statement answers that isn't refused, and one that is
+pub answers-done : (d s : Database) (before after : List (ℕ × Reply)) (who : ℕ) (checked : Checked Outcome) → Runs d s before after who checked
+    → Answers d s before after who (settled who (d.part.session who) checked)
+answers-done d s before after who (Ok outcome) runs = (record { replied = runs.0.replied; changed = runs.0.changed }, runs.1)
+answers-done d s before after who (Err refusal) runs = (let accepted = runs.0.accepted in absurd (cc))
 
-pub replies-refused : (d s1 s2 : Database) (who : ℕ) (refusal : Refusal) (reply : Reply) (checked : Checked Outcome) → Refuses d s1 refusal checked → reply ≡ Refused refusal
-    → s2 ≡ after_marks s1 (abort who (s1.part.session who).block (s1.part.session who).txid refusal) → GivesReply d s2 reply (settled who (d.part.session who) checked)
-replies-refused d s1 s2 who refusal reply checked refuses replied is =
-    subst (λ c. GivesReply d s2 reply (settled who (d.part.session who) c)) (sym refuses.refused) (record {
-      replied = replied;
-      changed = is ∙ ap (λ (s : Database). after_marks s (abort who (s.part.session who).block (s.part.session who).txid refusal)) refuses.same;
-    })
+pub answers-refused : (d s1 s2 : Database) (before between after : List (ℕ × Reply)) (who : ℕ) (refusal : Refusal) (checked : Checked Outcome) → Refuses d s1 refusal checked → between ≡ before
+    → Answers s1 s2 between after who (settled who (s1.part.session who) (Err refusal)) → Answers d s2 before after who (settled who (d.part.session who) checked)
+answers-refused d s1 s2 before between after who refusal checked refuses kept answers =
+    subst (λ c. Answers d s2 before after who (settled who (d.part.session who) c)) (sym refuses.refused)
+    (subst (λ (x : Database). Answers x s2 before after who (settled who (x.part.session who) (Err refusal))) refuses.same
+    (subst (λ xs. Answers s1 s2 xs after who (settled who (s1.part.session who) (Err refusal))) kept answers))
 
 -- what was done, and then what is done by the statements that go on
-pub gives-then : (now : ℤ) (d s1 s2 : Database) (turn : Turn) (own resumed all : List (ℕ × Reply)) → own ≡ turn.answers → s1 ≡ after_marks d turn.marks
-    → Gives s1 s2 resumed (settling (within_part database_by_itself now) s1) → all ≡ own ++ resumed
-    → Gives d s2 all (with_settling (within_part database_by_itself now) d turn)
-gives-then now d s1 s2 turn own resumed all one marks later is = record {
-  replied = is ∙ ap (λ xs. xs ++ resumed) one
-      ∙ ap (λ xs. turn.answers ++ xs) (later.replied ∙ ap (λ x. (settling (within_part database_by_itself now) x).answers) there);
+pub adds-then : (now : ℤ) (d s1 s2 : Database) (turn : Turn) (before between after : List (ℕ × Reply)) → Adds d s1 before between turn
+    → Adds s1 s2 between after (settling (within_part database_by_itself now) s1) → Adds d s2 before after (with_settling (within_part database_by_itself now) d turn)
+adds-then now d s1 s2 turn before between after first later = record {
+  replied = later.replied
+      ∙ ap (λ xs. xs ++ (settling (within_part database_by_itself now) s1).answers) first.replied
+      ∙ append_assoc before turn.answers (settling (within_part database_by_itself now) s1).answers
+      ∙ ap (λ x. before ++ (turn.answers ++ (settling (within_part database_by_itself now) x).answers)) there;
   changed = later.changed
       ∙ ap (λ x. after_marks x (settling (within_part database_by_itself now) x).marks) there
       ∙ ap (λ x. after_marks x (settling (within_part database_by_itself now) place).marks) (behind-all now d turn.marks)
@@ -341,14 +342,11 @@ gives-then now d s1 s2 turn own resumed all one marks later is = record {
     place = behind_marks (within_part database_by_itself now) d turn.marks
 
     there : s1 ≡ place
-    there = marks ∙ sym (behind-all now d turn.marks)
+    there = first.changed ∙ sym (behind-all now d turn.marks)
 
--- a reply of its own, and then those of the statements that go on
-pub gives-settled : (now : ℤ) (d s1 s2 : Database) (who : ℕ) (reply : Reply) (own resumed all : List (ℕ × Reply)) (outcome : Outcome) → GivesReply d s1 reply outcome
-    → own ≡ (who, reply) ∷ [] → Gives s1 s2 resumed (settling (within_part database_by_itself now) s1) → all ≡ own ++ resumed
-    → Gives d s2 all (with_settling (within_part database_by_itself now) d (turn_of who outcome))
-gives-settled now d s1 s2 who reply own resumed all outcome gives one =
-    gives-then now d s1 s2 (turn_of who outcome) own resumed all (one ∙ ap (λ r. (who, r) ∷ []) gives.replied) gives.changed
+-- the same in a new list
+pub gives-added : (d s : Database) (before after : List (ℕ × Reply)) (turn : Turn) → before ≡ [] → Adds d s before after turn → Gives d s after turn
+gives-added d s before after turn none adds = record { replied = adds.replied ∙ ap (λ xs. xs ++ turn.answers) none; changed = adds.changed }
 
 -- ids that are spent keep an event from being made
 pub spent-events : (d : Database) (now : ℤ) (who : ℕ) (name : List ℕ) (ev_type ev_data : Option (List ℕ)) (extra : Option Extra) (q seq : ℕ) → queue_called name d ≡ Ok q
@@ -408,12 +406,6 @@ took d taken left who t id begins ends =
     joined (Some u) outside = refl
     joined (Some u) inside = refl
     joined (Some u) failed = refl
-
--- a statement keeps its promise
-pub steps-given : (d s : Database) (time now : ℤ) (who : ℕ) (stmt : Stmt) (replies : List (ℕ × Reply)) → time ≡ now
-    → Gives d s replies (database_turn database_by_itself d time who stmt) → DatabaseSteps d s (stepped who stmt now) (database_turn database_by_itself d now who stmt)
-steps-given d s time now who stmt replies at gives =
-    subst (λ t. DatabaseSteps d s (stepped who stmt t) (database_turn database_by_itself d t who stmt)) at (database_steps_from_exact d s (stepped who stmt time) gives.changed)
 
 -- a session that entered, or was refused, keeps its promise
 pub entered-steps : {E : Type 0} (d s : Database) (who : ℕ) (alone : Bool) (r : Result (Option Refusal) E) → IfOk r (λ refusal. Enters d.part s.part who (entry_place alone) refusal)

@@ -44,9 +44,8 @@ use Rattle.sky_model.specs.Calls.{row_form, form, making, statement, database_tu
 use Rattle.sky_model.proofs.Resting.{is-ready, KeepsPart, waiting-resumed, behind-append}
 use Rattle.sky_model.proofs.DatabaseResting.{database-keeps}
 use Rattle.sky_model.proofs.DatabaseStanding.{after_marks-append, behind-all}
-use Rattle.sky_model.specs.SessionMarks.{failure}
+use Rattle.sky_model.specs.SessionMarks.{failure, failing}
 use Rattle.pgq_db.specs.Waiters.{WaitersWithin, AnswersWithin, StaysWithin}
-use Rattle.pgq_db.specs.Gives.{Gives}
 
 -- none of the marks begins a wait of another session
 abbrev OwnWaits : ℕ → List Mark → Type 0
@@ -433,24 +432,22 @@ then-within count now d who turn lt known own within = record {
     later = settling-within count now place
         (subst (λ (x : Database). WaitersWithin count x.part.waiting) (sym (behind-all now d turn.marks)) (within-behind count who lt d turn.marks own within))
 
-gives-within : (now : ℤ) (d s : Database) (who : ℕ) (turn : Turn) (replies : List (ℕ × Reply)) → ((count : ℕ) → who < count → AnswersWithin count turn.answers) → OwnWaits who turn.marks
-    → Gives d s replies (with_settling (within_part database_by_itself now) d turn) → StaysWithin d s who replies
-gives-within now d s who turn replies known own gives = record {
-  answers = λ count lt within. subst (AnswersWithin count) (sym gives.replied) (then-within count now d who turn lt (known count lt) own within).answers;
-  waiters = λ count lt within. subst (λ (x : Database). WaitersWithin count x.part.waiting) (sym gives.changed) (then-within count now d who turn lt (known count lt) own within).waiting;
+stays-within : (now : ℤ) (d s : Database) (who : ℕ) (turn : Turn) → ((count : ℕ) → who < count → AnswersWithin count turn.answers) → OwnWaits who turn.marks
+    → s ≡ after_marks d (with_settling (within_part database_by_itself now) d turn).marks → StaysWithin d s who (with_settling (within_part database_by_itself now) d turn).answers
+stays-within now d s who turn known own is = record {
+  answers = λ count lt within. (then-within count now d who turn lt (known count lt) own within).answers;
+  waiters = λ count lt within. subst (λ (x : Database). WaitersWithin count x.part.waiting) (sym is) (then-within count now d who turn lt (known count lt) own within).waiting;
 }
 
 -- a statement
-pub statement-within : (d s : Database) (now : ℤ) (who : ℕ) (stmt : Stmt) (replies : List (ℕ × Reply)) → Gives d s replies (database_turn database_by_itself d now who stmt)
-    → StaysWithin d s who replies
-statement-within d s now who stmt replies =
-    gives-within now d s who (turn_of who (statement database_by_itself d now who stmt)) replies
+pub statement-within : (d s : Database) (now : ℤ) (who : ℕ) (stmt : Stmt) → s ≡ after_marks d (database_turn database_by_itself d now who stmt).marks
+    → StaysWithin d s who (database_turn database_by_itself d now who stmt).answers
+statement-within d s now who stmt =
+    stays-within now d s who (turn_of who (statement database_by_itself d now who stmt))
     (λ count lt. All-cons (IsKnown count) _ [] lt (λ k a at. absurd (omega arith))) (own-statement d now who stmt)
 
 -- and a failure
-pub failure-within : (now : ℤ) (d s : Database) (who : ℕ) (replies : List (ℕ × Reply))
-    → Gives d s replies (with_settling (within_part database_by_itself now) d (record { answers = []; marks = failure who (d.part.session who).txid (d.part.session who).block }))
-    → StaysWithin d s who replies
-failure-within now d s who replies =
-    gives-within now d s who (record { answers = []; marks = failure who (d.part.session who).txid (d.part.session who).block }) replies
-    (λ count lt k a at. absurd (omega arith)) (own-failure who (d.part.session who).txid (d.part.session who).block)
+pub failure-within : (now : ℤ) (d s : Database) (who : ℕ) → s ≡ after_marks d (with_settling (within_part database_by_itself now) d (failing d.part who)).marks
+    → StaysWithin d s who (with_settling (within_part database_by_itself now) d (failing d.part who)).answers
+failure-within now d s who =
+    stays-within now d s who (failing d.part who) (λ count lt k a at. absurd (omega arith)) (own-failure who (d.part.session who).txid (d.part.session who).block)

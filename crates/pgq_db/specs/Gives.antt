@@ -8,7 +8,7 @@ use Rattle.sky_model.specs.Outcome.{Outcome, Checked, reply_of, marks_of}
 use Rattle.sky_model.specs.Stops.{Stops, Keeps}
 use Rattle.sky_model.specs.Printed.{ReplyHasMoments}
 use Rattle.sky_model.specs.State.{Database, after_marks}
-use Rattle.sky_model.specs.Settling.{Turn}
+use Rattle.sky_model.specs.Settling.{Turn, turn_of}
 use Rattle.pgq_db.specs.Views.{DbView}
 use Rattle.pgq_db.specs.Seen.{seen_database}
 
@@ -26,6 +26,10 @@ pub record Gives (old new : Database) (replies : List (ℕ × Reply)) (turn : Tu
 pub record Adds (old new : Database) (before after : List (ℕ × Reply)) (turn : Turn) : Type 0 where
   pub replied : after ≡ before ++ turn.answers
   pub changed : new ≡ after_marks old turn.marks
+
+-- a statement answers as its outcome says, with times that are printed
+abbrev pub Answers : (old new : Database) (before after : List (ℕ × Reply)) → ℕ → Outcome → Type 0
+Answers old new before after who outcome = Adds old new before after (turn_of who outcome) × ReplyHasMoments outcome.reply
 
 -- a statement isn't refused: its answer stands behind those before, and the database is then as after its marks
 pub record Does (old new : Database) (before after : List (ℕ × Reply)) (who : ℕ) (checked : Checked Outcome) : Type 0 where

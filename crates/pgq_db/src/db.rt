@@ -23,7 +23,7 @@ ghost use Rattle.pgq_queues.specs.Seen.{seen_queue, seen_batch};
 ghost use Rattle.pgq_tick.specs.Ticks.{IsTime};
 ghost use Rattle.pgq_db.specs.Seen.{seen_database};
 ghost use Rattle.pgq_db.specs.Waiters.{StaysWithin};
-ghost use Rattle.pgq_db.specs.Gives.{Gives};
+ghost use Rattle.pgq_db.specs.Gives.{Gives, Adds};
 
 use crate::gate::EventGate;
 use crate::noting::{note_all, undo_aborted};
@@ -170,8 +170,9 @@ impl Db {
         ensures steps { let d = seen_database self.old in
             OnOk result (DatabaseSteps d (seen_database self.new) (failed who now) (with_settling (within_part database_by_itself now) d (failing d.part who))) }
     {
+        let mut replies = Replies::new(self.alloc);
         self.roll_back(who)?;
-        let replies = self.settle(now)?;
+        self.settle(now, &mut replies)?;
         Ok(replies)
     }
 
@@ -181,13 +182,14 @@ impl Db {
         now: i64,
         who: SessionId,
         stmt: &RowStmt,
-    ) -> Result<Replies, AllocError>
+        replies: &mut Replies,
+    ) -> Result<(), AllocError>
         requires time { IsTime now }
         requires form { IsRowInForm stmt.now }
-        ensures gives { IfOk result (λ replies. Gives (seen_database self.old) (seen_database self.new) replies
+        ensures adds { OnOk result (Adds (seen_database self.old) (seen_database self.new) replies.old replies.new
             (database_turn database_by_itself (seen_database self.old) now who (Row stmt.now))) }
         ensures rests { OnOk result (ready (seen_database self.new).part ≡ None) }
-        ensures moments { IfOk result HaveMoments }
+        ensures moments { OnOk result (HaveMoments (database_turn database_by_itself (seen_database self.old) now who (Row stmt.now)).answers) }
     {
         if self.is_cut {
             return Err(AllocError);
@@ -207,11 +209,11 @@ impl Db {
     }
 
     /// Runs the statements that may go on. Events tell of their writes.
-    pub(crate) fn settle(&mut self, now: i64) -> Result<Replies, AllocError>
+    pub(crate) fn settle(&mut self, now: i64, replies: &mut Replies) -> Result<(), AllocError>
         requires { IsTime now }
-        ensures gives { IfOk result (λ replies. Gives (seen_database self.old) (seen_database self.new) replies (settling (within_part database_by_itself now) (seen_database self.old))) }
+        ensures adds { OnOk result (Adds (seen_database self.old) (seen_database self.new) replies.old replies.new (settling (within_part database_by_itself now) (seen_database self.old))) }
         ensures rests { OnOk result (ready (seen_database self.new).part ≡ None) }
-        ensures moments { IfOk result HaveMoments }
+        ensures moments { OnOk result (HaveMoments (settling (within_part database_by_itself now) (seen_database self.old)).answers) }
     {
         if self.is_cut {
             return Err(AllocError);

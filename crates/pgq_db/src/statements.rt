@@ -1,15 +1,14 @@
 //! The statements, each in the database that its session has open. A refusal changes nothing there but
 //! that it may abort the session's block.
 
-ghost use Rattle.std.specs.Prelude.{◌≡◌, ◌+◌, ◌<◌, [], ◌∷◌, ◌++◌, true, false, if◌then◌else◌, None, Some, Ok, IfOk, IfErr, OnOk, length, is_ok};
+ghost use Rattle.std.specs.Prelude.{◌≡◌, ◌+◌, ◌<◌, [], ◌∷◌, ◌++◌, true, false, if◌then◌else◌, None, Some, Ok, Err, IfOk, IfErr, OnOk, length, is_ok};
 ghost use Rattle.sky_names.specs.Places.{place_of};
 ghost use Rattle.sky_model.specs.declared.stmt.Where.TheVariants.{WhenReading, WhenOutside};
-ghost use Rattle.sky_model.specs.declared.reply.Reply.TheVariants.{Refused};
 ghost use Rattle.sky_model.specs.Queues.{queue_number, tick};
 ghost use Rattle.sky_model.specs.History.{queued, made, ticked};
 ghost use Rattle.sky_model.specs.State.{after_marks};
-ghost use Rattle.sky_model.specs.Outcome.{abort, settled};
-ghost use Rattle.sky_model.specs.Printed.{HaveMoments, ReplyHasMoments};
+ghost use Rattle.sky_model.specs.Outcome.{settled};
+ghost use Rattle.sky_model.specs.Printed.{HaveMoments};
 ghost use Rattle.sky_model.specs.OwnTransaction.{txid_for, written};
 ghost use Rattle.sky_model.specs.StepQueue.{queue_called, create_queue, insert_event, ticker, force_tick, made_event};
 ghost use Rattle.sky_model.specs.StepRows.{table_called};
@@ -26,7 +25,7 @@ ghost use Rattle.sky_model.specs.DatabaseSteps.{DatabaseSteps};
 ghost use Rattle.pgq_tick.specs.Ticks.{IsTime};
 ghost use Rattle.pgq_db.specs.Seen.{seen_database};
 ghost use Rattle.pgq_db.specs.Waiters.{StaysWithin};
-ghost use Rattle.pgq_db.specs.Gives.{is_row, Gives, GivesReply, Does, Ran};
+ghost use Rattle.pgq_db.specs.Gives.{is_row, Gives, Adds, Answers, Ran};
 ghost use Rattle.sky_model.specs.Stops.{StopsAs};
 
 use crate::db::Db;
@@ -63,22 +62,54 @@ impl Db {
         ensures steps { OnOk result (DatabaseSteps (seen_database self.old) (seen_database self.new) (stepped who stmt.now now)
             (database_turn database_by_itself (seen_database self.old) now who stmt.now)) }
     {
-        let replies = self.run(now, who, stmt)?;
+        let mut replies = Replies::new(self.alloc);
+        self.step_into(who, stmt, now, &mut replies)?;
         Ok(replies)
     }
 
-    /// Runs a statement, be it on rows or on queues, and those that it lets go on.
-    fn run(&mut self, now: i64, who: SessionId, stmt: &Stmt) -> Result<Replies, AllocError>
+    /// The same; the answers are added to those that were given before.
+    pub fn step_into(
+        &mut self,
+        who: SessionId,
+        stmt: &Stmt,
+        now: i64,
+        replies: &mut Replies,
+    ) -> Result<(), NoMemory>
         requires time { IsTime now }
         requires form { IsInForm stmt.now }
-        ensures gives { IfOk result (λ replies. Gives (seen_database self.old) (seen_database self.new) replies
-            (database_turn database_by_itself (seen_database self.old) now who stmt.now)) }
+        ensures exact { OnOk result (Adds (seen_database self.old) (seen_database self.new) replies.old replies.new (database_turn database_by_itself (seen_database self.old) now who stmt.now)) }
         ensures rests { OnOk result (ready (seen_database self.new).part ≡ None) }
-        ensures moments { IfOk result HaveMoments }
+        ensures moments { OnOk result (HaveMoments (database_turn database_by_itself (seen_database self.old) now who stmt.now).answers) }
+        ensures within { OnOk result (StaysWithin (seen_database self.old) (seen_database self.new) who (database_turn database_by_itself (seen_database self.old) now who stmt.now).answers) }
+        ensures steps { OnOk result (DatabaseSteps (seen_database self.old) (seen_database self.new) (stepped who stmt.now now) (database_turn database_by_itself (seen_database self.old) now who stmt.now)) }
+    {
+        self.run(now, who, stmt, replies)?;
+        Ok(())
+    }
+
+    /// Runs a statement, be it on rows or on queues, and those that it lets go on.
+    fn run(
+        &mut self,
+        now: i64,
+        who: SessionId,
+        stmt: &Stmt,
+        replies: &mut Replies,
+    ) -> Result<(), AllocError>
+        requires time { IsTime now }
+        requires form { IsInForm stmt.now }
+        ensures adds { OnOk result (Adds (seen_database self.old) (seen_database self.new) replies.old replies.new (database_turn database_by_itself (seen_database self.old) now who stmt.now)) }
+        ensures rests { OnOk result (ready (seen_database self.new).part ≡ None) }
+        ensures moments { OnOk result (HaveMoments (database_turn database_by_itself (seen_database self.old) now who stmt.now).answers) }
     {
         match stmt {
-            Stmt::Row(stmt) => self.step_rows(now, who, stmt),
-            _ => self.run_on_queues(now, who, stmt),
+            Stmt::Row(stmt) => {
+                self.step_rows(now, who, stmt, replies)?;
+                Ok(())
+            }
+            _ => {
+                self.run_on_queues(now, who, stmt, replies)?;
+                Ok(())
+            }
         }
     }
 
@@ -88,98 +119,116 @@ impl Db {
         now: i64,
         who: SessionId,
         stmt: &Stmt,
-    ) -> Result<Replies, AllocError>
+        replies: &mut Replies,
+    ) -> Result<(), AllocError>
         requires time { IsTime now }
         requires kind { is_row stmt.now ≡ false }
-        ensures gives { IfOk result (λ replies. Gives (seen_database self.old) (seen_database self.new) replies
-            (database_turn database_by_itself (seen_database self.old) now who stmt.now)) }
+        ensures adds { OnOk result (Adds (seen_database self.old) (seen_database self.new) replies.old replies.new (database_turn database_by_itself (seen_database self.old) now who stmt.now)) }
         ensures rests { OnOk result (ready (seen_database self.new).part ≡ None) }
-        ensures moments { IfOk result HaveMoments }
+        ensures moments { OnOk result (HaveMoments (database_turn database_by_itself (seen_database self.old) now who stmt.now).answers) }
     {
-        let reply = self.run_or_refuse(now, who, stmt)?;
-        let mut replies = Replies::one(self.alloc, who, reply)?;
-        let resumed = self.settle(now)?;
-        replies.append(resumed)?;
-        Ok(replies)
+        self.run_or_refuse(now, who, stmt, replies)?;
+        self.settle(now, replies)?;
+        Ok(())
     }
 
     /// Runs a statement on queues, if its session may make it where it stands.
-    fn run_or_refuse(&mut self, now: i64, who: SessionId, stmt: &Stmt) -> Result<Reply, AllocError>
+    fn run_or_refuse(
+        &mut self,
+        now: i64,
+        who: SessionId,
+        stmt: &Stmt,
+        replies: &mut Replies,
+    ) -> Result<(), AllocError>
         requires time { IsTime now }
         requires kind { is_row stmt.now ≡ false }
-        ensures gives { IfOk result (λ reply. GivesReply (seen_database self.old) (seen_database self.new) reply
-            (statement database_by_itself (seen_database self.old) now who stmt.now)) }
-        ensures moments { IfOk result ReplyHasMoments }
+        ensures { OnOk result (Answers (seen_database self.old) (seen_database self.new) replies.old replies.new who (statement database_by_itself (seen_database self.old) now who stmt.now)) }
     {
         match self.enter(who, is_outside(stmt))? {
             None => {
-                let reply = self.run_entered(now, who, stmt)?;
-                Ok(reply)
+                self.run_entered(now, who, stmt, replies)?;
+                Ok(())
             }
             Some(refusal) => {
-                let reply = self.refuse(who, refusal)?;
-                Ok(reply)
+                self.refuse(who, refusal, replies)?;
+                Ok(())
             }
         }
     }
 
     /// Runs a statement that its session may make.
-    fn run_entered(&mut self, now: i64, who: SessionId, stmt: &Stmt) -> Result<Reply, AllocError>
+    fn run_entered(
+        &mut self,
+        now: i64,
+        who: SessionId,
+        stmt: &Stmt,
+        replies: &mut Replies,
+    ) -> Result<(), AllocError>
         requires time { IsTime now }
         requires kind { is_row stmt.now ≡ false }
-        ensures gives { IfOk result (λ reply. GivesReply (seen_database self.old) (seen_database self.new) reply
+        ensures { OnOk result (Answers (seen_database self.old) (seen_database self.new) replies.old replies.new who
             (settled who ((seen_database self.old).part.session who) (form (seen_database self.old) (shown_by (seen_database self.old)) now who stmt.now))) }
-        ensures moments { IfOk result ReplyHasMoments }
     {
-        match self.run_form(now, who, stmt) {
-            Ok(reply) => Ok(reply),
+        match self.run_form(now, who, stmt, replies) {
+            Ok(()) => Ok(()),
             Err(Stop::Refused(refusal)) => {
-                let reply = self.refuse(who, refusal)?;
-                Ok(reply)
+                self.refuse(who, refusal, replies)?;
+                Ok(())
             }
             Err(Stop::NoMemory) => Err(AllocError),
         }
     }
 
     /// Answers with a refusal, which may abort the session's block.
-    fn refuse(&mut self, who: SessionId, refusal: Refusal) -> Result<Reply, AllocError>
-        ensures reply { IfOk result (λ reply. reply ≡ Refused refusal) }
-        ensures marks { OnOk result (seen_database self.new ≡ after_marks (seen_database self.old)
-            (abort who ((seen_database self.old).part.session who).block ((seen_database self.old).part.session who).txid refusal)) }
+    fn refuse(
+        &mut self,
+        who: SessionId,
+        refusal: Refusal,
+        replies: &mut Replies,
+    ) -> Result<(), AllocError>
+        ensures { OnOk result (Answers (seen_database self.old) (seen_database self.new) replies.old replies.new who (settled who ((seen_database self.old).part.session who) (Err refusal))) }
     {
         if refusal.aborts() {
             self.roll_back(who)?;
         }
-        Ok(Reply::Refused(refusal))
+        replies.push(who, Reply::Refused(refusal))
     }
 
-    fn run_form(&mut self, now: i64, who: SessionId, stmt: &Stmt) -> Result<Reply, Stop>
+    fn run_form(
+        &mut self,
+        now: i64,
+        who: SessionId,
+        stmt: &Stmt,
+        replies: &mut Replies,
+    ) -> Result<(), Stop>
         requires time { IsTime now }
         requires kind { is_row stmt.now ≡ false }
-        ensures ran { Ran self.old self.new result (form (seen_database self.old) (shown_by (seen_database self.old)) now who stmt.now) }
+        ensures ran { Ran self.old self.new replies.old replies.new who result (form (seen_database self.old) (shown_by (seen_database self.old)) now who stmt.now) }
     {
         match stmt {
             Stmt::Row(_) => unreachable!(),
-            Stmt::CreateQueue { queue } => self.create_queue(now, who, queue),
+            Stmt::CreateQueue { queue } => self.create_queue(now, who, queue, replies),
             Stmt::InsertEvent {
                 queue,
                 ev_type,
                 ev_data,
                 extra,
-            } => self.insert_event(now, who, queue, ev_type, ev_data, extra),
-            Stmt::Ticker { queue } => self.ticker(now, queue),
-            Stmt::ForceTick { queue } => self.force_tick(queue),
-            Stmt::RegisterConsumer { queue, consumer } => self.register_consumer(queue, consumer),
-            Stmt::NextBatch { queue, consumer } => self.next_batch(queue, consumer),
-            Stmt::GetBatchEvents { batch } => self.get_batch_events(*batch),
-            Stmt::FinishBatch { batch } => Ok(self.finish_batch(*batch)),
+            } => self.insert_event(now, who, queue, ev_type, ev_data, extra, replies),
+            Stmt::Ticker { queue } => self.ticker(now, who, queue, replies),
+            Stmt::ForceTick { queue } => self.force_tick(who, queue, replies),
+            Stmt::RegisterConsumer { queue, consumer } => {
+                self.register_consumer(who, queue, consumer, replies)
+            }
+            Stmt::NextBatch { queue, consumer } => self.next_batch(who, queue, consumer, replies),
+            Stmt::GetBatchEvents { batch } => self.get_batch_events(who, *batch, replies),
+            Stmt::FinishBatch { batch } => self.finish_batch(who, *batch, replies),
             Stmt::AddTrigger {
                 name,
                 table,
                 queue,
                 backup,
                 ignored,
-            } => self.add_trigger(name, table, queue, *backup, ignored),
+            } => self.add_trigger(who, name, table, queue, *backup, ignored, replies),
         }
     }
 
@@ -196,19 +245,27 @@ impl Db {
     }
 
     /// `create_queue NAME`: the first tick is made when the transaction has ended.
-    fn create_queue(&mut self, now: i64, who: SessionId, name: &Text) -> Result<Reply, Stop>
+    fn create_queue(
+        &mut self,
+        now: i64,
+        who: SessionId,
+        name: &Text,
+        replies: &mut Replies,
+    ) -> Result<(), Stop>
         requires time { IsTime now }
-        ensures { Ran self.old self.new result (create_queue (seen_database self.old) now who name.now) }
+        ensures { Ran self.old self.new replies.old replies.new who result (create_queue (seen_database self.old) now who name.now) }
     {
         if self.queues.number(name).is_some() {
-            return Ok(Reply::Number(0));
+            replies.push(who, Reply::Number(0))?;
+            return Ok(());
         }
         if self.queues.count() >= MAX_QUEUES {
             return Err(Stop::Refused(Refusal::TooMany(Limit::Queues)));
         }
         self.id_left(who)?;
         self.new_queue(now, who, name)?;
-        Ok(Reply::Number(1))
+        replies.push(who, Reply::Number(1))?;
+        Ok(())
     }
 
     fn new_queue(&mut self, now: i64, who: SessionId, name: &Text) -> Result<u64, AllocError>
@@ -241,9 +298,10 @@ impl Db {
         ev_type: &Option<Text>,
         ev_data: &Option<Text>,
         extra: &Option<BoxedExtra>,
-    ) -> Result<Reply, Stop>
+        replies: &mut Replies,
+    ) -> Result<(), Stop>
         requires time { IsTime now }
-        ensures { Ran self.old self.new result (insert_event (seen_database self.old) now who name.now ev_type.now ev_data.now extra.now) }
+        ensures { Ran self.old self.new replies.old replies.new who result (insert_event (seen_database self.old) now who name.now ev_type.now ev_data.now extra.now) }
     {
         let queue = self.queue_called(name)?;
         self.id_left(who)?;
@@ -256,18 +314,26 @@ impl Db {
         let event = made_event(self.alloc, id, now, txid, ev_type, ev_data, extra)?;
         self.raise(queue, id);
         self.put(queue, event)?;
-        Ok(Reply::Number(id))
+        replies.push(who, Reply::Number(id))?;
+        Ok(())
     }
 
     /// `ticker NAME`: a tick where one is due.
-    fn ticker(&mut self, now: i64, name: &Text) -> Result<Reply, Stop>
+    fn ticker(
+        &mut self,
+        now: i64,
+        who: SessionId,
+        name: &Text,
+        replies: &mut Replies,
+    ) -> Result<(), Stop>
         requires { IsTime now }
-        ensures { Ran self.old self.new result (ticker (seen_database self.old) now name.now) }
+        ensures { Ran self.old self.new replies.old replies.new who result (ticker (seen_database self.old) now name.now) }
     {
         let queue = self.queue_called(name)?;
         let seq = self.queue(queue).seq();
         if !self.queue(queue).ticks().is_due(now, seq) {
-            return Ok(Reply::Null);
+            replies.push(who, Reply::Null)?;
+            return Ok(());
         }
         let newest = self.queue(queue).ticks().newest().id();
         if newest == u64::MAX {
@@ -280,12 +346,18 @@ impl Db {
             seq,
         };
         self.tick(queue, tick)?;
-        Ok(Reply::Number(newest + 1))
+        replies.push(who, Reply::Number(newest + 1))?;
+        Ok(())
     }
 
     /// `force_tick NAME`: the sequence rises so far that a tick is due.
-    fn force_tick(&mut self, name: &Text) -> Result<Reply, Stop>
-        ensures { Ran self.old self.new result (force_tick (seen_database self.old) name.now) }
+    fn force_tick(
+        &mut self,
+        who: SessionId,
+        name: &Text,
+        replies: &mut Replies,
+    ) -> Result<(), Stop>
+        ensures { Ran self.old self.new replies.old replies.new who result (force_tick (seen_database self.old) name.now) }
     {
         let queue = self.queue_called(name)?;
         let seq = self.queue(queue).seq();
@@ -294,19 +366,27 @@ impl Db {
         }
         let newest = self.queue(queue).ticks().newest().id();
         self.raise(queue, seq + FORCED);
-        Ok(Reply::Number(newest))
+        replies.push(who, Reply::Number(newest))?;
+        Ok(())
     }
 
     /// `register_consumer NAME CONSUMER`: a subscription that stands at the newest tick.
-    fn register_consumer(&mut self, name: &Text, consumer: &Text) -> Result<Reply, Stop>
-        ensures { Ran self.old self.new result (register_consumer (seen_database self.old) name.now consumer.now) }
+    fn register_consumer(
+        &mut self,
+        who: SessionId,
+        name: &Text,
+        consumer: &Text,
+        replies: &mut Replies,
+    ) -> Result<(), Stop>
+        ensures { Ran self.old self.new replies.old replies.new who result (register_consumer (seen_database self.old) name.now consumer.now) }
     {
         let queue = self.queue_called(name)?;
         if has_dot(consumer) {
             return Err(Stop::Refused(Refusal::NodeConsumer));
         }
         if self.subscription(queue, consumer).is_some() {
-            return Ok(Reply::Number(0));
+            replies.push(who, Reply::Number(0))?;
+            return Ok(());
         }
         if self.queue(queue).consumer_count() >= MAX_CONSUMERS {
             return Err(Stop::Refused(Refusal::TooMany(Limit::Consumers)));
@@ -315,12 +395,19 @@ impl Db {
             return Err(Stop::Refused(Refusal::IdsSpent));
         }
         self.register(queue, consumer)?;
-        Ok(Reply::Number(1))
+        replies.push(who, Reply::Number(1))?;
+        Ok(())
     }
 
     /// `next_batch NAME CONSUMER`: the active batch, else a new one to the next tick, where that is made.
-    fn next_batch(&mut self, name: &Text, consumer: &Text) -> Result<Reply, Stop>
-        ensures { Ran self.old self.new result (next_batch (seen_database self.old) name.now consumer.now) }
+    fn next_batch(
+        &mut self,
+        who: SessionId,
+        name: &Text,
+        consumer: &Text,
+        replies: &mut Replies,
+    ) -> Result<(), Stop>
+        ensures { Ran self.old self.new replies.old replies.new who result (next_batch (seen_database self.old) name.now consumer.now) }
     {
         let queue = self.queue_called(name)?;
         if has_dot(consumer) {
@@ -331,22 +418,28 @@ impl Db {
             return Err(Stop::Refused(Refusal::NoConsumer(consumer)));
         };
         match sub.active() {
-            Some(batch) => Ok(Reply::Number(batch)),
-            None => self.new_batch(queue, consumer, &sub),
+            Some(batch) => {
+                replies.push(who, Reply::Number(batch))?;
+                Ok(())
+            }
+            None => self.new_batch(who, queue, consumer, &sub, replies),
         }
     }
 
     fn new_batch(
         &mut self,
+        who: SessionId,
         queue: usize,
         consumer: &Text,
         sub: &Subscription,
-    ) -> Result<Reply, Stop>
+        replies: &mut Replies,
+    ) -> Result<(), Stop>
         requires { queue < length self.old.queues.queues }
-        ensures { Ran self.old self.new result (opens_batch (seen_database self.old) queue consumer.now sub.now (tick (sub.now.position + 1) ((seen_database self.old).queue queue).tick_list)) }
+        ensures { Ran self.old self.new replies.old replies.new who result (opens_batch (seen_database self.old) queue consumer.now sub.now (tick (sub.now.position + 1) ((seen_database self.old).queue queue).tick_list)) }
     {
         let Some(next) = self.queue(queue).ticks().next(sub.position()) else {
-            return Ok(Reply::Null);
+            replies.push(who, Reply::Null)?;
+            return Ok(());
         };
         let cur = next.id();
         if self.last_batch() == u64::MAX {
@@ -361,28 +454,42 @@ impl Db {
             cur,
         };
         self.open_batch(id, batch)?;
-        Ok(Reply::Number(id))
+        replies.push(who, Reply::Number(id))?;
+        Ok(())
     }
 
     /// `get_batch_events N`: the events of an active batch.
-    fn get_batch_events(&self, id: u64) -> Result<Reply, Stop>
-        ensures { Ran self.now self.now result (get_batch_events (seen_database self.now) (selected (seen_database self.now)) id) }
+    fn get_batch_events(
+        &self,
+        who: SessionId,
+        id: u64,
+        replies: &mut Replies,
+    ) -> Result<(), Stop>
+        ensures { Ran self.now self.now replies.old replies.new who result (get_batch_events (seen_database self.now) (selected (seen_database self.now)) id) }
     {
         let Some(batch) = self.queues.batch(id) else {
             return Err(Stop::Refused(Refusal::NoBatch));
         };
-        Ok(Reply::Events(Events::new(self.queues.batch_events(batch)?)))
+        let events = Events::new(self.queues.batch_events(batch)?);
+        replies.push(who, Reply::Events(events))?;
+        Ok(())
     }
 
     /// `finish_batch N`: the consumer stands at the batch's closing tick.
-    fn finish_batch(&mut self, id: u64) -> Reply
-        ensures does { Does (seen_database self.old) (seen_database self.new) result (finish_batch (seen_database self.old) id) }
-        ensures moments { ReplyHasMoments result }
+    fn finish_batch(
+        &mut self,
+        who: SessionId,
+        id: u64,
+        replies: &mut Replies,
+    ) -> Result<(), Stop>
+        ensures { Ran self.old self.new replies.old replies.new who result (finish_batch (seen_database self.old) id) }
     {
-        match self.queues.close_batch(id) {
-            Some(_) => Reply::Number(1),
-            None => Reply::Number(0),
-        }
+        let count = match self.queues.close_batch(id) {
+            Some(_) => 1,
+            None => 0,
+        };
+        replies.push(who, Reply::Number(count))?;
+        Ok(())
     }
 
     /// The number of the table of this name.
@@ -399,13 +506,15 @@ impl Db {
     /// `add_trigger NAME TABLE NAME`: from now on events of the queue tell of the table's writes.
     fn add_trigger(
         &mut self,
+        who: SessionId,
         name: &Text,
         table: &Text,
         queue: &Text,
         backup: bool,
         ignored: &ColumnNames,
-    ) -> Result<Reply, Stop>
-        ensures { Ran self.old self.new result (add_trigger (seen_database self.old) name.now table.now queue.now backup ignored.now) }
+        replies: &mut Replies,
+    ) -> Result<(), Stop>
+        ensures { Ran self.old self.new replies.old replies.new who result (add_trigger (seen_database self.old) name.now table.now queue.now backup ignored.now) }
     {
         let number = self.table_called(table)?;
         let queue = self.queue_called(queue)?;
@@ -425,7 +534,8 @@ impl Db {
         }
         let trigger = new_trigger(self.alloc, number, name, queue, backup, ignored.as_slice())?;
         self.trace(table, trigger)?;
-        Ok(Reply::Done)
+        replies.push(who, Reply::Done)?;
+        Ok(())
     }
 }
 

@@ -1,4 +1,4 @@
-use Rattle.std.proofs.Common.{◌∙◌, ap, subst, sym}
+use Rattle.std.proofs.Common.{◌∙◌, ◌++◌, ◌∷◌, [], ap, subst, sym}
 use Rattle.sky_model.specs.Printed.{EventsHaveMoments}
 use Rattle.sky_model.specs.Selection.{selected}
 use Rattle.sky_state.specs.Seen.{seen}
@@ -9,8 +9,7 @@ use Rattle.pgq_db.proofs.Databases.{gives-events}
 use Rattle.pgq_db.proofs.db.Db.get_batch_events.Goals as goal
 
 pub returns : goal.returns
-returns c = (
-  gives-events (seen_database c.args.self.now) c.args.id c.in-Some.batch.now _ (c.in-Some.ensures.batch ∙ ap (λ (v : DbView). batch_at v.queues c.args.id) c.self.view_is)
-      (c.new.ensures ∙ c.in_ok-batch_events.ensures.events (seen c.self.inside.rows) c.args.id ∙ ap (λ (v : DbView). selected (seen_database v) (seen_batch c.args.id c.in-Some.batch.now)) c.self.view_is),
-  subst EventsHaveMoments (sym c.new.ensures) c.in_ok-batch_events.ensures.moments,
-)
+returns c =
+    gives-events (seen_database c.args.self.now) c.args.who c.args.id c.in-Some.batch.now c.new-events.result _ _ (c.in-Some.ensures.batch ∙ ap (λ (v : DbView). batch_at v.queues c.args.id) c.self.view_is)
+    (c.new-events.ensures ∙ c.in_ok-batch_events.ensures.events (seen c.self.inside.rows) c.args.id ∙ ap (λ (v : DbView). selected (seen_database v) (seen_batch c.args.id c.in-Some.batch.now)) c.self.view_is)
+    (subst EventsHaveMoments (sym c.new-events.ensures) c.in_ok-batch_events.ensures.moments) c.in_ok-push.ensures.ok

@@ -5,9 +5,7 @@ use Rattle.pgq_db.proofs.Databases.{gives-event}
 use Rattle.pgq_db.proofs.db.Db.insert_event.Goals as goal
 
 pub returns : goal.returns
-returns c = (
-  gives-event _ _ _ _ c.args.now _ c.args.who _ _ _ c.args.extra.now c.in_ok-queue.queue c.seq-seq.result c.in_ok-txid.txid c.in_ok-event.event
-      c.in_ok-queue.ensures.ok c.in_ok-txid.ensures.id (c.seq-seq.ensures ∙ ap (λ (q : Queue). q.seq) c.queue.ensures) (omega arith)
-      (to_z-of_z w64 c.args.now c.ranges.now) c.in_ok-event.ensures c.in_ok-txid.ensures.marks c.raise.ensures.mark c.in_ok-put.ensures,
-  tt,
-)
+returns c =
+    gives-event _ _ _ _ c.args.now _ c.args.who _ _ _ c.args.extra.now c.in_ok-queue.queue c.seq-seq.result c.in_ok-txid.txid c.in_ok-event.event _ _
+    c.in_ok-queue.ensures.ok c.in_ok-txid.ensures.id (c.seq-seq.ensures ∙ ap (λ (q : Queue). q.seq) c.queue.ensures) (omega arith)
+    (to_z-of_z w64 c.args.now c.ranges.now) c.in_ok-event.ensures c.in_ok-txid.ensures.marks c.raise.ensures.mark c.in_ok-put.ensures c.in_ok-push.ensures.ok

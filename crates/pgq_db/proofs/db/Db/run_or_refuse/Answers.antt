@@ -3,18 +3,18 @@ use Rattle.sky_model.specs.declared.stmt.Where.TheVariants.{WhenReading, WhenOut
 use Rattle.std.proofs.lemmas.Int.{to_z-of_z}
 use Rattle.sky_model.specs.SessionMarks.{Enters}
 use Rattle.pgq_db.specs.Seen.{seen_database}
-use Rattle.pgq_db.proofs.Databases.{gives-entered, gives-turned_away}
+use Rattle.pgq_db.proofs.Databases.{answers-entered, answers-turned_away}
 use Rattle.pgq_db.proofs.db.Db.run_or_refuse.Goals as goal
 
-pub returns-in_ok-reply-in-None-clause-gives : goal.returns-in_ok-reply-in-None-clause-gives
-returns-in_ok-reply-in-None-clause-gives c =
-    gives-entered (seen_database c.args.self.now) (seen_database c.enter.new.self) _ _ c.args.now c.args.who c.args.stmt.now _ _
+pub returns-in_ok-run_entered-in-None : goal.returns-in_ok-run_entered-in-None
+returns-in_ok-run_entered-in-None c =
+    answers-entered (seen_database c.args.self.now) (seen_database c.enter.new.self) _ _ c.args.now c.args.who c.args.stmt.now _ _ _
     (to_z-of_z w64 c.args.now c.ranges.now) c.is_outside.ensures
     (subst (λ o. Enters (seen_database c.args.self.now).part (seen_database c.enter.new.self).part c.args.who (if c.is_outside.result then WhenOutside else WhenReading) o) c.in-None.is c.in_ok-enter.ensures.enters)
-    c.in_ok-enter.ensures.but c.in_ok-reply-in-None.ensures.gives
+    c.in_ok-enter.ensures.but c.in_ok-run_entered-in-None.ensures
 
-pub returns-in_ok-reply-in-Some-clause-gives : goal.returns-in_ok-reply-in-Some-clause-gives
-returns-in_ok-reply-in-Some-clause-gives c =
-    gives-turned_away (seen_database c.args.self.now) (seen_database c.enter.new.self) _ c.args.now c.args.who c.args.stmt.now _ _ c.in-Some.refusal c.is_outside.ensures
+pub returns-in_ok-refuse-in-Some : goal.returns-in_ok-refuse-in-Some
+returns-in_ok-refuse-in-Some c =
+    answers-turned_away (seen_database c.args.self.now) (seen_database c.enter.new.self) _ c.args.now c.args.who c.args.stmt.now _ _ _ c.in-Some.refusal c.is_outside.ensures
     (subst (λ o. Enters (seen_database c.args.self.now).part (seen_database c.enter.new.self).part c.args.who (if c.is_outside.result then WhenOutside else WhenReading) o) c.in-Some.is c.in_ok-enter.ensures.enters)
-    c.in_ok-enter.ensures.but c.in_ok-reply-in-Some.ensures.reply c.in_ok-reply-in-Some.ensures.marks
+    c.in_ok-enter.ensures.but c.in_ok-refuse-in-Some.ensures

@@ -1,13 +1,19 @@
-use Rattle.std.proofs.Common.{w64}
+use Rattle.std.proofs.Common.{sym, subst, w64}
 use Rattle.std.proofs.lemmas.Int.{to_z-of_z}
+use Rattle.sky_model.specs.Reader.{database_by_itself}
+use Rattle.sky_model.specs.Calls.{database_turn}
 use Rattle.pgq_db.specs.Seen.{seen_database}
-use Rattle.pgq_db.proofs.Databases.{steps-given}
-use Rattle.pgq_db.proofs.Waiters.{statement-within}
+use Rattle.pgq_db.specs.Waiters.{StaysWithin}
+use Rattle.pgq_db.proofs.Databases.{gives-added}
+use Rattle.pgq_db.proofs.Moments.{same-moments}
 use Rattle.pgq_db.proofs.db.Db.step.Goals as goal
 
-pub returns-clause-steps : goal.returns-clause-steps
-returns-clause-steps c =
-    steps-given (seen_database c.args.self.now) (seen_database c.run.new.self) _ c.args.now c.args.who c.args.stmt.now c.in_ok-replies.replies (to_z-of_z w64 c.args.now c.ranges.now) c.in_ok-replies.ensures.gives
+pub returns-clause-exact : goal.returns-clause-exact
+returns-clause-exact c = rw (sym (to_z-of_z w64 c.args.now c.ranges.now)) (gives-added _ _ _ _ _ c.new-replies.ensures c.in_ok-step_into.ensures.exact)
+
+pub returns-clause-moments : goal.returns-clause-moments
+returns-clause-moments c = same-moments _ _ (gives-added _ _ _ _ _ c.new-replies.ensures c.in_ok-step_into.ensures.exact).replied c.in_ok-step_into.ensures.moments
 
 pub returns-clause-within : goal.returns-clause-within
-returns-clause-within c = statement-within _ _ _ c.args.who c.args.stmt.now _ c.in_ok-replies.ensures.gives
+returns-clause-within c =
+    subst (StaysWithin (seen_database c.args.self.now) (seen_database c.step_into.new.self) c.args.who) (sym (gives-added _ _ _ _ _ c.new-replies.ensures c.in_ok-step_into.ensures.exact).replied) c.in_ok-step_into.ensures.within
