@@ -23,4 +23,4 @@ pub use queue::Queue;
 pub use queues::Queues;
 pub use subscription::Subscription;
 pub use ticks::{MAX_COUNT, Tick, Ticks};
-pub use traced::{TableTrigger, Traced};
+pub use traced::TableTrigger;
