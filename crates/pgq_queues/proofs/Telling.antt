@@ -2,9 +2,10 @@
 use Rattle.std.proofs.Common.{◌≡◌, ℕ, ℤ, ◌+◌, ◌-◌, ◌<◌, ◌≤◌, ◌^◌, Bool, true, false, nat_le, ◌==◌, List, [], ◌∷◌, ◌++◌, Option, Some, Result, Ok, Err, OnOk, OnErr, map, filter, length, take, drop, get_or, slice_set, refl, sym, ◌∙◌, ap, subst, arith, if◌then◌else◌}
 use Rattle.std.specs.Prelude.{◌≢◌, not, ◌&&◌}
 use Rattle.std.proofs.lemmas.Bool.Decides.{nat_tests}
-use Rattle.std.proofs.lemmas.List.{take_more, drop_more, drop_all, append-nil, set-set, set-get_or, get_or_read, get_or-set_same, length-set}
+use Rattle.std.proofs.lemmas.List.{take_more, drop_more, append-nil, map-append, set-set, set-get_or, get_or_read, get_or-set_same, length-set}
+use Rattle.std.proofs.lemmas.List.Elements.{filter-append}
 use Rattle.sky_val.specs.declared.val.Val.{Val}
-use Rattle.sky_urlenc.specs.RowEvents.{Write, RowEvent, leaves_out, event_of}
+use Rattle.sky_urlenc.specs.RowEvents.{Write, Trigger, RowEvent, leaves_out, event_of}
 use Rattle.sky_model.specs.Triggers.{TableTrigger}
 use Rattle.sky_model.specs.State.{changed_at}
 use Rattle.pgq_queues.specs.Views.{QueueView, TracedView, QueuesView}
@@ -41,10 +42,6 @@ raised-more seq es e = λ i n. pointwise n i
 pub room-for : (seq before s b : ℕ) → seq ≡ s → before ≡ b → (2 ^ 62 - 1 ≤ seq → ⊥) → (2 ^ 62 - 1 - seq ≤ before → ⊥) → s + b + 1 < 2 ^ 62
 room-for seq before s b one other low also = omega (arith, one, other, low, also)
 
-and-first : (b c : Bool) → (not b && c) ≡ true → b ≡ false
-and-first true c e = absurd (cc)
-and-first false c e = refl
-
 and-second : (b c : Bool) → (not b && c) ≡ true → c ≡ true
 and-second true c e = absurd (cc)
 and-second false c e = e
@@ -52,12 +49,19 @@ and-second false c e = e
 -- ---- the triggers of a table
 
 module _ (t : TracedView) (old new : Option (List Val)) where
+  abbrev write : Write
+  write = record { table = t.name; columns = t.columns; old = old; new = new }
+
+  -- whether a trigger tells of the write
+  abbrev tells : Trigger → Bool
+  tells x = not (leaves_out x t.columns old new)
+
   -- the trigger at a place, and its event
   abbrev pub trigger_at : ℕ → TableTrigger
   trigger_at i = get_or t.triggers i no_trigger
 
   abbrev pub event_at : ℕ → RowEvent
-  event_at i = event_of (record { table = t.name; columns = t.columns; old = old; new = new }) (trigger_at i).trigger
+  event_at i = event_of write (trigger_at i).trigger
 
   -- whether it leaves the write out
   abbrev pub out_at : ℕ → Bool
@@ -70,40 +74,26 @@ module _ (t : TracedView) (old new : Option (List Val)) where
   abbrev pub from : ℕ → List RowEvent
   from i = events_by t old new (drop i t.triggers)
 
-  one_more : (x : TableTrigger) (xs : List TableTrigger) (out : Bool) → leaves_out x.trigger t.columns old new ≡ out → events_by t old new (x ∷ xs)
-      ≡ (if not out then event_of (record { table = t.name; columns = t.columns; old = old; new = new }) x.trigger ∷ events_by t old new xs else events_by t old new xs)
+  one_more : (x : TableTrigger) (xs : List TableTrigger) (out : Bool) → leaves_out x.trigger t.columns old new ≡ out
+      → events_by t old new (x ∷ xs) ≡ (if not out then event_of write x.trigger ∷ events_by t old new xs else events_by t old new xs)
   one_more x xs out e = ap told e ∙ by out
     where
-      write : Write
-      write = record { table = t.name; columns = t.columns; old = old; new = new }
-
       told : Bool → List RowEvent
-      told b = map (event_of write) (if not b then x.trigger ∷ filter (λ y. not (leaves_out y t.columns old new)) (map TableTrigger.trigger xs)
-          else filter (λ y. not (leaves_out y t.columns old new)) (map TableTrigger.trigger xs))
+      told b = map (event_of write) (if not b then x.trigger ∷ filter tells (map TableTrigger.trigger xs) else filter tells (map TableTrigger.trigger xs))
 
       by : (b : Bool) → told b ≡ (if not b then event_of write x.trigger ∷ events_by t old new xs else events_by t old new xs)
       by true = refl
       by false = refl
 
   events-append : (xs ys : List TableTrigger) → events_by t old new (xs ++ ys) ≡ events_by t old new xs ++ events_by t old new ys
-  events-append [] ys = refl
-  events-append (x ∷ xs) ys = by (leaves_out x.trigger t.columns old new) refl (events-append xs ys)
-    where
-      by : (out : Bool) → leaves_out x.trigger t.columns old new ≡ out → events_by t old new (xs ++ ys) ≡ events_by t old new xs ++ events_by t old new ys
-          → events_by t old new (x ∷ (xs ++ ys)) ≡ events_by t old new (x ∷ xs) ++ events_by t old new ys
-      by true e ih = one_more x (xs ++ ys) true e ∙ ih ∙ ap (λ es. es ++ events_by t old new ys) (sym (one_more x xs true e))
-      by false e ih = one_more x (xs ++ ys) false e ∙ ap (λ es. event_of (record { table = t.name; columns = t.columns; old = old; new = new }) x.trigger ∷ es) ih
-          ∙ ap (λ es. es ++ events_by t old new ys) (sym (one_more x xs false e))
+  events-append xs ys =
+      ap (λ zs. map (event_of write) (filter tells zs)) (map-append TableTrigger.trigger xs ys)
+      ∙ ap (map (event_of write)) (filter-append tells (map TableTrigger.trigger xs) (map TableTrigger.trigger ys))
+      ∙ map-append (event_of write) (filter tells (map TableTrigger.trigger xs)) (filter tells (map TableTrigger.trigger ys))
 
-  -- a trigger that leaves the write out, and one that tells of it
-  pub from-left_out : (i : ℕ) → i < length t.triggers → out_at i ≡ true → from i ≡ from (i + 1)
-  from-left_out i lt out = ap (events_by t old new) (drop_more t.triggers i no_trigger lt) ∙ one_more (trigger_at i) (drop (i + 1) t.triggers) true out
-
+  -- a trigger that tells of the write, and one that leaves it out
   pub from-told : (i : ℕ) → i < length t.triggers → out_at i ≡ false → from i ≡ event_at i ∷ from (i + 1)
   from-told i lt out = ap (events_by t old new) (drop_more t.triggers i no_trigger lt) ∙ one_more (trigger_at i) (drop (i + 1) t.triggers) false out
-
-  pub from-none : (i : ℕ) → length t.triggers ≤ i → from i ≡ []
-  from-none i le = ap (events_by t old new) (drop_all i t.triggers le)
 
   upto-next : (i : ℕ) → i < length t.triggers → upto (i + 1) ≡ upto i ++ events_by t old new (trigger_at i ∷ [])
   upto-next i lt = ap (events_by t old new) (take_more t.triggers i no_trigger lt) ∙ events-append (take i t.triggers) (trigger_at i ∷ [])
@@ -144,44 +134,16 @@ module _ (t : TracedView) (old new : Option (List Val)) where
   abbrev pub ids_from : (ℕ → ℕ) → ℕ → Bool
   ids_from seq i = ids_left (λ n. seq n + count_of n (upto i)) (from i)
 
-  pub ids-first : (seq : ℕ → ℕ) → ids_from seq 0 ≡ ids_left seq (table_events t old new)
-  ids-first seq = ap (λ f. ids_left f (table_events t old new)) (λ i n. same n i)
-    where
-      same : (n : ℕ) → seq n + 0 ≡ seq n
-      same n = omega arith
-
-  pub ids-none : (seq : ℕ → ℕ) (i : ℕ) → length t.triggers ≤ i → ids_from seq i ≡ true
-  ids-none seq i le = ap (ids_left (λ n. seq n + count_of n (upto i))) (from-none i le)
-
-  pub ids-left_out : (seq : ℕ → ℕ) (i : ℕ) → i < length t.triggers → out_at i ≡ true → ids_from seq i ≡ ids_from seq (i + 1)
-  ids-left_out seq i lt out =
-      ap (ids_left (λ n. seq n + count_of n (upto i))) (from-left_out i lt out)
-      ∙ ap (λ es. ids_left (λ n. seq n + count_of n es) (from (i + 1))) (sym (upto-left_out i lt out))
-
-  ids-next : (seq : ℕ → ℕ) (i : ℕ) (b : Bool) → i < length t.triggers → out_at i ≡ false → nat_le (2 ^ 62) (seq (trigger_at i).trigger.queue + count_of (trigger_at i).trigger.queue (upto i) + 1) ≡ b
-      → ids_from seq i ≡ (not b && ids_from seq (i + 1))
-  ids-next seq i b lt out few =
-      ap (ids_left (λ n. seq n + count_of n (upto i))) (from-told i lt out)
-      ∙ ap (λ c. not c && ids_left (changed_at (event_at i).queue (λ n. n + 1) (λ n. seq n + count_of n (upto i))) (from (i + 1))) few
-      ∙ ap (λ f. not b && ids_left f (from (i + 1))) (raised-more seq (upto i) (event_at i))
-      ∙ ap (λ es. not b && ids_left (λ n. seq n + count_of n es) (from (i + 1))) (sym (upto-told i lt out))
-
-  -- one that tells of the write, with an id and with none
   pub ids-told : (seq : ℕ → ℕ) (i : ℕ) → i < length t.triggers → out_at i ≡ false → seq (trigger_at i).trigger.queue + count_of (trigger_at i).trigger.queue (upto i) + 1 < 2 ^ 62
       → ids_from seq i ≡ ids_from seq (i + 1)
-  ids-told seq i lt out room = ids-next seq i false lt out (grind (arith, nat_tests))
-
-  pub ids-spent : (seq : ℕ → ℕ) (i : ℕ) → i < length t.triggers → out_at i ≡ false → 2 ^ 62 ≤ seq (trigger_at i).trigger.queue + count_of (trigger_at i).trigger.queue (upto i) + 1
-      → ids_from seq i ≡ false
-  ids-spent seq i lt out over = ids-next seq i true lt out (grind (arith, nat_tests))
+  ids-told seq i lt out room =
+      let few : nat_le (2 ^ 62) (seq (trigger_at i).trigger.queue + count_of (trigger_at i).trigger.queue (upto i) + 1) ≡ false = grind (arith, nat_tests) in
+      ap (ids_left (λ n. seq n + count_of n (upto i))) (from-told i lt out)
+      ∙ ap (λ b. not b && ids_left (changed_at (event_at i).queue (λ n. n + 1) (λ n. seq n + count_of n (upto i))) (from (i + 1))) few
+      ∙ ap (λ f. ids_left f (from (i + 1))) (raised-more seq (upto i) (event_at i))
+      ∙ ap (λ es. ids_left (λ n. seq n + count_of n es) (from (i + 1))) (sym (upto-told i lt out))
 
 -- ---- events stored
-
--- where there are ids for events, the first one has one
-pub has-id : (seq : ℕ → ℕ) (e : RowEvent) (es : List RowEvent) → ids_left seq (e ∷ es) ≡ true → seq e.queue + 1 < 2 ^ 62
-has-id seq e es ids =
-    let few : nat_le (2 ^ 62) (seq e.queue + 1) ≡ false = and-first _ _ ids in
-    grind (arith, nat_tests)
 
 -- behind it there are ids for the rest
 pub ids-rest : (queues : List QueueView) (now : ℤ) (txid : ℕ) (e : RowEvent) (es : List RowEvent) → e.queue < length queues → ids_left (sequences queues) (e ∷ es) ≡ true
@@ -197,7 +159,7 @@ ids-rest queues now txid e es lt ids = ap (λ f. ids_left f es) (λ i n. pointwi
     pointwise n = ap QueueView.seq (get_or-slice_set queues e.queue n (telling now txid e (get_or queues e.queue no_queue)) lt) ∙ by n (e.queue == n) refl
 
 -- a queue that takes its event back is as it was
-pub taken-back : (queues : List QueueView) (i : ℕ) (x : QueueView) → slice_set (slice_set queues i x) i (get_or queues i no_queue) ≡ queues
+taken-back : (queues : List QueueView) (i : ℕ) (x : QueueView) → slice_set (slice_set queues i x) i (get_or queues i no_queue) ≡ queues
 taken-back queues i x = set-set queues i x (get_or queues i no_queue) ∙ set-get_or queues i no_queue
 
 -- the queue at a place

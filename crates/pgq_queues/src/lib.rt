@@ -21,4 +21,4 @@ pub use gate::EVENT_ID_END;
 pub use queue::Queue;
 pub use queues::Queues;
 pub use subscription::Subscription;
-pub use traced::{TableTrigger, Traced};
+pub use traced::TableTrigger;

@@ -155,7 +155,7 @@ impl Queues {
     }
 
     /// A table with its triggers, if anything is kept of it.
-    pub fn traced(&self, table: u32) -> Option<Traced<'_>>
+    pub(crate) fn traced(&self, table: u32) -> Option<Traced<'_>>
         ensures traced { result ≡ traced_at self.now table }
         ensures within { IfSome result (λ t. All (λ x. x.trigger.queue < length self.now.queues) t.triggers) }
         ensures none { IfNone result (triggers_of table self.now.triggers ≡ []) }
