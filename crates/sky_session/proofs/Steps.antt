@@ -1,38 +1,37 @@
 -- What a step gives, part by part.
-use Rattle.std.proofs.Common.{◌≡◌, ℕ, List, [], ◌∷◌, ◌++◌, Bool, true, false, Option, Some, None, Result, Ok, Err, IfOk, OnOk, refl, sym, ◌∙◌, ap, subst, eq-eqb, if◌then◌else◌}
-use Rattle.sky_model.specs.declared.reply.Reply.TheVariants.{Number, Refused}
+use Rattle.std.proofs.Common.{◌≡◌, ℕ, List, [], ◌∷◌, ◌++◌, Bool, true, false, Option, Some, None, Result, Ok, Err, IfOk, OnOk, is_ok, refl, sym, ◌∙◌, ap, subst, append_assoc, eq-eqb, if◌then◌else◌}
+use Rattle.sky_model.specs.declared.reply.Reply.TheVariants.{Number}
 use Rattle.sky_model.specs.declared.reply.Refusal.{Refusal}
 use Rattle.sky_model.specs.declared.stmt.RowStmt.{RowStmt}
 use Rattle.sky_model.specs.declared.stmt.Where.{Where}
 use Rattle.sky_model.specs.declared.stmt.Where.TheVariants.{WhenReading}
+use Rattle.sky_urlenc.specs.RowEvents.{op_of}
 use Rattle.sky_val.specs.Waits.{is_waiting}
 use Rattle.sky_model.specs.History.{Mark, began, ended, block_begun, repeats, looked, block_failed, block_ended, connected, disconnected, tabled, table_made, wrote, waits, waited, queued}
 use Rattle.sky_model.specs.State.{RowPart, with_txid, after_part, after_part_marks}
 use Rattle.sky_model.specs.ShownRows.{rows_by}
-use Rattle.sky_model.specs.Outcome.{Outcome, Checked, ◌>>=◌, does_marks, abort, settled}
+use Rattle.sky_model.specs.Outcome.{Outcome, Checked, ◌>>=◌, does_marks, settled}
 use Rattle.sky_model.specs.Allowed.{where_of_row, allowed}
 use Rattle.sky_model.specs.Made.{Making, takes_sight, runs, looking, runs_if}
 use Rattle.sky_model.specs.OwnTransaction.{own_or_next, txid_for, begin_of, commit_of, written}
 use Rattle.sky_model.specs.StepSession.{txid_current}
 use Rattle.sky_model.specs.Reader.{part_by_itself}
-use Rattle.sky_model.specs.Gates.{Gate, passed_all, gated, by_gate, open_gate}
-use Rattle.sky_model.specs.Calls.{row_form, row_making, row_statement, row_turn}
-use Rattle.sky_model.specs.Settling.{Turn, turn_of, behind_marks, settling, with_settling}
-use Rattle.sky_model.proofs.GatedLemmas.{gated-behind, passed-append, passed-abort, passed-none, gated-none, PlainOutcome, open-turn}
-use Rattle.sky_session.specs.declared.answer.Answer.{Answer}
+use Rattle.sky_model.specs.Gates.{Gate, passed_all, gated, by_gate}
+use Rattle.sky_model.specs.Calls.{row_form, row_making, row_statement}
+use Rattle.sky_model.specs.Settling.{Turn, turn_of, joined, behind_marks, settling, with_settling}
+use Rattle.sky_model.proofs.GatedLemmas.{gated-behind, passed-append, passed-abort, passed-none, gated-none, PlainOutcome}
 use Rattle.sky_session.specs.declared.answer.RowStep.{RowStep}
-use Rattle.sky_session.specs.declared.effect.Effect.{Effect}
 use Rattle.sky_session.specs.declared.effect.Effect.TheVariants.{Wrote, Committed, Aborted}
-use Rattle.sky_session.specs.Effects.{op_of, effects_of}
+use Rattle.sky_session.specs.Effects.{EffectsView, effects_by, with_effects}
 use Rattle.sky_state.specs.Views.{RowStateView}
 use Rattle.sky_model.specs.declared.stop.Stop.{Stop}
 use Rattle.sky_model.specs.declared.stop.Stop.TheVariants as stop
-use Rattle.sky_model.specs.Sessions.{Block, outside, inside, failed}
+use Rattle.sky_model.specs.Sessions.{Block, outside, inside, failed, Session}
 use Rattle.sky_model.specs.SessionMarks.{look_of, sight_marks, failure, Enters, entry, entry_place}
 use Rattle.sky_model.specs.RowCalls.{row_entered}
 use Rattle.sky_model.specs.RowSteps.{RowSteps}
 use Rattle.sky_model.proofs.RowCallStanding.{row_enter_from_exact}
-use Rattle.sky_session.specs.Gives.{GivesTurn, GivesOutcome, Adds, Does, Ran, Passes}
+use Rattle.sky_session.specs.Gives.{GivesTurn, Adds, Does, Ran, Passes}
 use Rattle.sky_model.specs.Stops.{Refuses}
 use Rattle.sky_model.specs.Outcome.{marks_of}
 
@@ -40,6 +39,30 @@ use Rattle.sky_model.specs.Outcome.{marks_of}
 pub after-append : (d : RowPart) (xs ys : List Mark) → after_part_marks d (xs ++ ys) ≡ after_part_marks (after_part_marks d xs) ys
 after-append d [] ys = refl
 after-append d (x ∷ xs) ys = after-append (after_part d x) xs ys
+
+-- the effects of two lists of marks, one after the other
+pub effects-append : (w : Bool) (xs ys : List Mark) → effects_by w (xs ++ ys) ≡ effects_by w xs ++ effects_by w ys
+effects-append w [] ys = refl
+effects-append w (began who t ∷ xs) ys = effects-append w xs ys
+effects-append w (ended who t true ∷ xs) ys = ap (λ es. Committed t ∷ es) (effects-append w xs ys)
+effects-append w (ended who t false ∷ xs) ys = ap (λ es. Aborted t ∷ es) (effects-append w xs ys)
+effects-append w (block_begun who ∷ xs) ys = effects-append w xs ys
+effects-append w (repeats who ∷ xs) ys = effects-append w xs ys
+effects-append w (looked who ∷ xs) ys = effects-append w xs ys
+effects-append w (block_failed who ∷ xs) ys = effects-append w xs ys
+effects-append w (block_ended who ∷ xs) ys = effects-append w xs ys
+effects-append w (connected who ∷ xs) ys = effects-append w xs ys
+effects-append w (disconnected who ∷ xs) ys = effects-append w xs ys
+effects-append w (tabled (table_made name columns) ∷ xs) ys = effects-append w xs ys
+effects-append true (tabled (wrote who t table key old new) ∷ xs) ys = ap (λ es. Wrote t table (op_of old new) old new ∷ es) (effects-append true xs ys)
+effects-append false (tabled (wrote who t table key old new) ∷ xs) ys = effects-append false xs ys
+effects-append w (tabled (waits who table key attempt) ∷ xs) ys = effects-append w xs ys
+effects-append w (tabled (waited who) ∷ xs) ys = effects-append w xs ys
+effects-append w (queued mark ∷ xs) ys = effects-append w xs ys
+
+pub with-append : (e : EffectsView) (xs ys : List Mark) → with_effects (with_effects e xs) ys ≡ with_effects e (xs ++ ys)
+with-append e xs ys =
+    ap (λ items. record e { items = items }) (append_assoc e.items (effects_by e.whole xs) (effects_by e.whole ys) ∙ ap (λ es. e.items ++ es) (sym (effects-append e.whole xs ys)))
 
 -- the id that was found, or 0
 abbrev found_id : Checked ℕ → ℕ
@@ -59,27 +82,70 @@ pub begun-block : (d : RowPart) (who t : ℕ) (o : Option ℕ) → ((after_part_
 begun-block d who t None = ap (λ b. (if b then with_txid (Some t) (d.session who) else d.session who).block) (eq-eqb who who refl)
 begun-block d who t (Some own) = refl
 
-begun-told : (who t : ℕ) (o : Option ℕ) (last : List Mark) → effects_of ((begin_of who t o ++ []) ++ last) ≡ effects_of last
-begun-told who t None last = refl
-begun-told who t (Some own) last = refl
+-- what is done in it, and its end where it is of one statement
+pub part-written : (d one two three : RowPart) (who t : ℕ) (marks : List Mark) → one ≡ after_part_marks d (begin_of who t (d.session who).txid) → two ≡ after_part_marks one marks
+    → (two.session who).block ≡ (d.session who).block → three ≡ after_part_marks two (commit_of who t (two.session who).block) → three ≡ after_part_marks d (written who t (d.session who) marks)
+part-written d one two three who t marks first second same third =
+    third ∙ ap (λ block. after_part_marks two (commit_of who t block)) same
+    ∙ ap (λ p. after_part_marks p ends) (second ∙ ap (λ p. after_part_marks p marks) first ∙ sym (after-append d begins marks))
+    ∙ sym (after-append d (begins ++ marks) ends)
+  where
+    begins : List Mark
+    begins = begin_of who t (d.session who).txid
+
+    ends : List Mark
+    ends = commit_of who t (d.session who).block
+
+pub begun-told : (e : EffectsView) (who t : ℕ) (own : Option ℕ) (marks ends : List Mark) → with_effects e (begin_of who t own ++ marks ++ ends) ≡ with_effects e (marks ++ ends)
+begun-told e who t None marks ends = refl
+begun-told e who t (Some own) marks ends = refl
 
 -- a transaction gets its id, and commits where it is of one statement
-pub does-take : (d begun new : RowPart) (who t : ℕ) (effects : List Effect) → txid_for d who ≡ Ok t → begun ≡ after_part_marks d (begin_of who t (d.session who).txid)
-    → new ≡ after_part_marks begun (commit_of who t (begun.session who).block) → effects ≡ effects_of (commit_of who t (begun.session who).block)
-    → Does d new (record { reply = Number t; effects = effects }) (txid_current d who)
-does-take d begun new who t effects is begin end told =
-    subst (λ checked. Does d new (record { reply = Number t; effects = effects }) (checked >>= (λ u. does_marks (Number u) (written who u (d.session who) [])))) (sym is) (record {
+pub does-take : (d begun new : RowPart) (before after : RowStep) (who t : ℕ) → txid_for d who ≡ Ok t → begun ≡ after_part_marks d (begin_of who t (d.session who).txid)
+    → new ≡ after_part_marks begun (commit_of who t (begun.session who).block) → after.replies ≡ before.replies ++ (who, Number t) ∷ []
+    → after.effects ≡ with_effects before.effects (commit_of who t (begun.session who).block) → Does d new before after who (txid_current d who)
+does-take d begun new before after who t is begin end replied told =
+    subst (λ checked. Does d new before after who (checked >>= (λ u. does_marks (Number u) (written who u (d.session who) [])))) (sym is) (record {
       accepted = refl;
-      told = told ∙ ap (λ b. effects_of (commit_of who t b)) blocks ∙ sym (begun-told who t (d.session who).txid last);
-      changed = end ∙ ap (λ b. after_part_marks begun (commit_of who t b)) blocks
-          ∙ ap (λ p. after_part_marks p last) (begin ∙ sym (after-append d (begin_of who t (d.session who).txid) [])) ∙ sym (after-append d (begin_of who t (d.session who).txid ++ []) last);
+      replied = replied;
+      told = told ∙ ap (λ b. with_effects before.effects (commit_of who t b)) blocks ∙ sym (begun-told before.effects who t (d.session who).txid [] (commit_of who t (d.session who).block));
+      changed = part-written d begun begun new who t [] begin refl blocks end;
     })
   where
-    last : List Mark
-    last = commit_of who t (d.session who).block
-
     blocks : (begun.session who).block ≡ (d.session who).block
     blocks = ap (λ (p : RowPart). (p.session who).block) begin ∙ begun-block d who t (d.session who).txid
+
+-- a turn is added behind another
+pub adds-behind : (d mid new : RowPart) (before middle after : RowStep) (turn rest : Turn) → Adds d mid before middle turn → Adds mid new middle after rest → Adds d new before after (joined turn rest)
+adds-behind d mid new before middle after turn rest first second = record {
+  replied = second.replied ∙ ap (λ rs. rs ++ rest.answers) first.replied ∙ append_assoc before.replies turn.answers rest.answers;
+  told = second.told ∙ ap (λ e. with_effects e rest.marks) first.told ∙ with-append before.effects turn.marks rest.marks;
+  changed = second.changed ∙ ap (λ p. after_part_marks p rest.marks) first.changed ∙ sym (after-append d turn.marks rest.marks);
+}
+
+-- and so are those that it lets go on
+pub adds-settled : {G : Type 0} (gate : Gate G) (g g' : G) (d mid new : RowPart) (before middle after : RowStep) (turn : Turn) → Adds d mid before middle turn → g' ≡ passed_all gate g turn.marks
+    → Adds mid new middle after (settling (by_gate gate part_by_itself) (mid, g')) → Adds d new before after (with_settling (by_gate gate part_by_itself) (d, g) turn)
+adds-settled gate g g' d mid new before middle after turn first told rest =
+    adds-behind d mid new before middle after turn _ first
+    (subst (λ p. Adds mid new middle after (settling (by_gate gate part_by_itself) p)) ((λ i. (first.changed i, told i)) ∙ sym (gated-behind gate d g turn.marks)) rest)
+
+-- and the gate has been told of both
+pub passed-settled : {G : Type 0} (gate : Gate G) (g g' last : G) (d mid : RowPart) (turn : Turn) → mid ≡ after_part_marks d turn.marks → g' ≡ passed_all gate g turn.marks
+    → last ≡ passed_all gate g' (settling (by_gate gate part_by_itself) (mid, g')).marks → last ≡ passed_all gate g (with_settling (by_gate gate part_by_itself) (d, g) turn).marks
+passed-settled gate g g' last d mid turn is told rest =
+    rest ∙ ap (λ p. passed_all gate g' (settling (by_gate gate part_by_itself) p).marks) ((λ i. (is i, told i)) ∙ sym (gated-behind gate d g turn.marks))
+    ∙ ap (λ x. passed_all gate x (settling (by_gate gate part_by_itself) (behind_marks (by_gate gate part_by_itself) (d, g) turn.marks)).marks) told
+    ∙ sym (passed-append gate g turn.marks (settling (by_gate gate part_by_itself) (behind_marks (by_gate gate part_by_itself) (d, g) turn.marks)).marks)
+
+-- all that was added to nothing is given
+pub gives-all : (whole : Bool) (d new : RowPart) (before after : RowStep) (turn : Turn) → before.replies ≡ [] → before.effects ≡ record { whole = whole; items = [] } → Adds d new before after turn
+    → GivesTurn whole d new after turn
+gives-all whole d new before after turn none silent adds = record {
+  replied = adds.replied ∙ ap (λ rs. rs ++ turn.answers) none;
+  told = adds.told ∙ ap (λ e. with_effects e turn.marks) silent;
+  changed = adds.changed;
+}
 
 -- what holds holds where nothing fails, and so does what follows from that
 pub on-ok : {A E P : Type 0} (r : Result A E) → P → OnOk r P
@@ -95,20 +161,18 @@ pub entered : (d mid : RowPart) (who : ℕ) (place there : Where) (found r : Opt
 entered d mid who place there found r same is enters = subst (λ p. Enters d mid who p r) same (subst (λ o. Enters d mid who place o) is enters)
 
 -- a statement that its session may not make is refused
-pub gives-barred : {G : Type 0} (gate : Gate G) (g : G) (d mid new : RowPart) (answer : Answer) (who : ℕ) (stmt : RowStmt) (refusal : Refusal) → allowed (is_waiting who d.waiting) (d.session who).is_open (d.session who).block (where_of_row stmt) ≡ Err refusal
-    → mid ≡ d → GivesOutcome mid new answer (record { reply = Refused refusal; marks = abort who (mid.session who).block (mid.session who).txid refusal })
-    → GivesOutcome d new answer (row_statement (by_gate gate part_by_itself) (d, g) who stmt)
-gives-barred gate g d mid new answer who stmt refusal is same gives =
-    subst (λ checked. GivesOutcome d new answer (runs_if (row_making (by_gate gate part_by_itself) who stmt) (where_of_row stmt) who (d, g) checked)) (sym is)
-    (subst (λ (p : RowPart). GivesOutcome p new answer (record { reply = Refused refusal; marks = abort who (p.session who).block (p.session who).txid refusal })) same gives)
+pub adds-barred : {G : Type 0} (gate : Gate G) (g : G) (d mid new : RowPart) (before after : RowStep) (who : ℕ) (stmt : RowStmt) (refusal : Refusal) → allowed (is_waiting who d.waiting) (d.session who).is_open (d.session who).block (where_of_row stmt) ≡ Err refusal
+    → mid ≡ d → Adds mid new before after (turn_of who (settled who (mid.session who) (Err refusal))) → Adds d new before after (turn_of who (row_statement (by_gate gate part_by_itself) (d, g) who stmt))
+adds-barred gate g d mid new before after who stmt refusal is same adds =
+    subst (λ checked. Adds d new before after (turn_of who (runs_if (row_making (by_gate gate part_by_itself) who stmt) (where_of_row stmt) who (d, g) checked))) (sym is)
+    (subst (λ (p : RowPart). Adds p new before after (turn_of who (settled who (p.session who) (Err refusal)))) same adds)
 
 -- one that is refused where it is run aborts its session's block
-pub gives-refused : (d mid new : RowPart) (answer : Answer) (who : ℕ) (refusal : Refusal) (checked : Checked Outcome) → Refuses d mid refusal checked
-    → GivesOutcome mid new answer (record { reply = Refused refusal; marks = abort who (mid.session who).block (mid.session who).txid refusal })
-    → GivesOutcome d new answer (settled who (d.session who) checked)
-gives-refused d mid new answer who refusal checked refuses gives =
-    subst (λ o. GivesOutcome d new answer (settled who (d.session who) o)) (sym refuses.refused)
-    (subst (λ (p : RowPart). GivesOutcome p new answer (record { reply = Refused refusal; marks = abort who (p.session who).block (p.session who).txid refusal })) refuses.same gives)
+pub adds-refused : (d mid new : RowPart) (before middle after : RowStep) (who : ℕ) (refusal : Refusal) (checked : Checked Outcome) → Refuses d mid refusal checked × (middle ≡ before)
+    → Adds mid new middle after (turn_of who (settled who (mid.session who) (Err refusal))) → Adds d new before after (turn_of who (settled who (d.session who) checked))
+adds-refused d mid new before middle after who refusal checked stops adds =
+    subst (λ o. Adds d new before after (turn_of who (settled who (d.session who) o))) (sym stops.0.refused)
+    (subst (λ (p : RowPart × RowStep). Adds p.0 new p.1 after (turn_of who (settled who (p.0.session who) (Err refusal)))) (λ i. (stops.0.same i, stops.1 i)) adds)
 
 -- its gate is told of nothing
 pub passed-refused : {G : Type 0} (gate : Gate G) (g g' : G) (d mid : RowPart) (who : ℕ) (refusal : Refusal) (checked : Checked Outcome) → Refuses d mid refusal checked → g' ≡ g
@@ -124,34 +188,34 @@ passed-barred gate g d who stmt refusal is =
     ∙ passed-abort gate g who (d.session who).block (d.session who).txid refusal)
 
 -- and one that isn't refused does what its outcome says
-pub gives-done : (d new : RowPart) (who : ℕ) (answer : Answer) (checked : Checked Outcome) → Does d new answer checked → GivesOutcome d new answer (settled who (d.session who) checked)
-gives-done d new who answer checked does = record {
-  replied = ap (λ o. (settled who (d.session who) o).reply) (sym does.accepted);
-  told = does.told ∙ ap effects_of marks;
-  changed = does.changed ∙ ap (after_part_marks d) marks;
-}
-  where
-    marks : marks_of checked ≡ (settled who (d.session who) checked).marks
-    marks = ap (λ o. (settled who (d.session who) o).marks) (sym does.accepted)
+pub adds-done : (d new : RowPart) (before after : RowStep) (who : ℕ) (checked : Checked Outcome) → Does d new before after who checked → Adds d new before after (turn_of who (settled who (d.session who) checked))
+adds-done d new before after who (Ok outcome) does = record { replied = does.replied; told = does.told; changed = does.changed }
+adds-done d new before after who (Err refusal) does = absurd (cc)
+
+-- of which its gate is told
+pub passed-done : {G : Type 0} (gate : Gate G) (g g' : G) (who : ℕ) (s : Session) (checked : Checked Outcome) → is_ok checked ≡ true → g' ≡ passed_all gate g (marks_of checked)
+    → g' ≡ passed_all gate g (settled who s checked).marks
+passed-done gate g g' who s (Ok outcome) accepted told = told
+passed-done gate g g' who s (Err refusal) accepted told = absurd (cc)
 
 -- a statement that is made where its sight was taken in front
-pub gives-made : {G : Type 0} (gate : Gate G) (g : G) (d mid new : RowPart) (answer : Answer) (who : ℕ) (stmt : RowStmt) → allowed (is_waiting who d.waiting) (d.session who).is_open (d.session who).block (where_of_row stmt) ≡ Ok tt
-    → mid ≡ after_part_marks d (sight_marks d who (where_of_row stmt)) → GivesOutcome mid new answer (settled who (mid.session who) (gated gate g (row_form mid (rows_by mid) who stmt)))
-    → GivesOutcome d new answer (row_statement (by_gate gate part_by_itself) (d, g) who stmt)
-gives-made {G} gate g d mid new answer who stmt is look gives =
-    subst (λ checked. GivesOutcome d new answer (runs_if making (where_of_row stmt) who (d, g) checked)) (sym is)
+pub adds-made : {G : Type 0} (gate : Gate G) (g : G) (d mid new : RowPart) (before after : RowStep) (who : ℕ) (stmt : RowStmt) → allowed (is_waiting who d.waiting) (d.session who).is_open (d.session who).block (where_of_row stmt) ≡ Ok tt
+    → mid ≡ after_part_marks d (sight_marks d who (where_of_row stmt)) → Adds mid new before after (turn_of who (settled who (mid.session who) (gated gate g (row_form mid (rows_by mid) who stmt))))
+    → Adds d new before after (turn_of who (row_statement (by_gate gate part_by_itself) (d, g) who stmt))
+adds-made {G} gate g d mid new before after who stmt is look adds =
+    subst (λ checked. Adds d new before after (turn_of who (runs_if making (where_of_row stmt) who (d, g) checked))) (sym is)
     (by (takes_sight (where_of_row stmt) (d.session who).sight) look)
   where
     making : Making (RowPart × G)
     making = row_making (by_gate gate part_by_itself) who stmt
 
     there : RowPart → Type 0
-    there p = GivesOutcome p new answer (runs making who (p, g))
+    there p = Adds p new before after (turn_of who (runs making who (p, g)))
 
     by : (b : Bool) → mid ≡ after_part_marks d (look_of who b)
-        → GivesOutcome d new answer (if b then looking who (runs making who (after_part d (looked who), g)) else runs making who (d, g))
-    by true e = let behind : there (after_part d (looked who)) = subst there e gives in record { replied = behind.replied; told = behind.told; changed = behind.changed }
-    by false e = subst there e gives
+        → Adds d new before after (turn_of who (if b then looking who (runs making who (after_part d (looked who), g)) else runs making who (d, g)))
+    by true e = let behind : there (after_part d (looked who)) = subst there e adds in record { replied = behind.replied; told = behind.told; changed = behind.changed }
+    by false e = subst there e adds
 
 -- and its gate is told of what is done
 pub passed-made : {G : Type 0} (gate : Gate G) (g g' : G) (d mid : RowPart) (who : ℕ) (stmt : RowStmt) → allowed (is_waiting who d.waiting) (d.session who).is_open (d.session who).block (where_of_row stmt) ≡ Ok tt
@@ -173,15 +237,16 @@ passed-made {G} gate g g' d mid who stmt is look told =
     by false e = subst there e told
 
 -- what writes nothing is done as without the gate
-pub ran-plain : {G : Type 0} (gate : Gate G) (g : G) (old new : RowStateView) (result : Result Answer Stop) (checked : Checked Outcome) → PlainOutcome checked → Ran old new result checked → Ran old new result (gated gate g checked)
-ran-plain gate g old new result checked plain ran = subst (Ran old new result) (sym (gated-none gate g checked plain)) ran
+pub ran-plain : {G : Type 0} (gate : Gate G) (g : G) (old new : RowStateView) (before after : RowStep) (who : ℕ) (result : Result (Unit {0}) Stop) (checked : Checked Outcome) → PlainOutcome checked
+    → Ran old new before after who result checked → Ran old new before after who result (gated gate g checked)
+ran-plain gate g old new before after who result checked plain ran = subst (Ran old new before after who result) (sym (gated-none gate g checked plain)) ran
 
 -- which is told of nothing
-pub passes-plain : {G : Type 0} (gate : Gate G) (g : G) (result : Result Answer Stop) (checked : Checked Outcome) → PlainOutcome checked → Passes gate g g result (gated gate g checked)
+pub passes-plain : {G : Type 0} (gate : Gate G) (g : G) (result : Result (Unit {0}) Stop) (checked : Checked Outcome) → PlainOutcome checked → Passes gate g g result (gated gate g checked)
 passes-plain gate g result checked plain = subst (Passes gate g g result) (sym (gated-none gate g checked plain)) (of result)
   where
-    of : (r : Result Answer Stop) → Passes gate g g r checked
-    of (Ok answer) = sym (passed-none gate g (marks_of checked) plain)
+    of : (r : Result (Unit {0}) Stop) → Passes gate g g r checked
+    of (Ok _) = sym (passed-none gate g (marks_of checked) plain)
     of (Err (stop.Refused refusal)) = refl
     of (Err stop.NoMemory) = tt
 
@@ -198,62 +263,6 @@ awake-made d mid who place may look reads =
     awake : (b : Bool) → is_waiting who d.waiting ≡ b → allowed b (d.session who).is_open (d.session who).block WhenReading ≡ Ok tt → is_waiting who d.waiting ≡ false
     awake true is may = absurd (cc)
     awake false is may = is
-
--- the effects of two lists of marks, one after the other
-pub effects-append : (xs ys : List Mark) → effects_of (xs ++ ys) ≡ effects_of xs ++ effects_of ys
-effects-append [] ys = refl
-effects-append (began who t ∷ xs) ys = effects-append xs ys
-effects-append (ended who t true ∷ xs) ys = ap (λ es. Committed t ∷ es) (effects-append xs ys)
-effects-append (ended who t false ∷ xs) ys = ap (λ es. Aborted t ∷ es) (effects-append xs ys)
-effects-append (block_begun who ∷ xs) ys = effects-append xs ys
-effects-append (repeats who ∷ xs) ys = effects-append xs ys
-effects-append (looked who ∷ xs) ys = effects-append xs ys
-effects-append (block_failed who ∷ xs) ys = effects-append xs ys
-effects-append (block_ended who ∷ xs) ys = effects-append xs ys
-effects-append (connected who ∷ xs) ys = effects-append xs ys
-effects-append (disconnected who ∷ xs) ys = effects-append xs ys
-effects-append (tabled (table_made name columns) ∷ xs) ys = effects-append xs ys
-effects-append (tabled (wrote who t table key old new) ∷ xs) ys = ap (λ es. Wrote t table (op_of old new) old new ∷ es) (effects-append xs ys)
-effects-append (tabled (waits who table key attempt) ∷ xs) ys = effects-append xs ys
-effects-append (tabled (waited who) ∷ xs) ys = effects-append xs ys
-effects-append (queued mark ∷ xs) ys = effects-append xs ys
-
--- a turn, and those that it lets go on
-pub gives-settled : {G : Type 0} (gate : Gate G) (g g' : G) (d mid new : RowPart) (before after : RowStep) (turn : Turn) → GivesTurn d mid before turn → g' ≡ passed_all gate g turn.marks
-    → Adds mid new before after (settling (by_gate gate part_by_itself) (mid, g')) → GivesTurn d new after (with_settling (by_gate gate part_by_itself) (d, g) turn)
-gives-settled gate g g' d mid new before after turn gives told adds = record {
-  replied = adds.replied ∙ ap (λ rs. rs ++ (settling (by_gate gate part_by_itself) (mid, g')).answers) gives.replied ∙ ap (λ p. turn.answers ++ (settling (by_gate gate part_by_itself) p).answers) behind;
-  told = adds.told ∙ ap (λ es. es ++ effects_of (settling (by_gate gate part_by_itself) (mid, g')).marks) gives.told
-      ∙ ap (λ p. effects_of turn.marks ++ effects_of (settling (by_gate gate part_by_itself) p).marks) behind ∙ sym (effects-append turn.marks rest);
-  changed = adds.changed ∙ ap (λ p. after_part_marks mid (settling (by_gate gate part_by_itself) p).marks) behind ∙ ap (λ p. after_part_marks p rest) gives.changed ∙ sym (after-append d turn.marks rest);
-}
-  where
-    behind : (mid, g') ≡ behind_marks (by_gate gate part_by_itself) (d, g) turn.marks
-    behind = (λ i. (gives.changed i, told i)) ∙ sym (gated-behind gate d g turn.marks)
-
-    rest : List Mark
-    rest = (settling (by_gate gate part_by_itself) (behind_marks (by_gate gate part_by_itself) (d, g) turn.marks)).marks
-
--- and the gate has been told of both
-pub passed-settled : {G : Type 0} (gate : Gate G) (g g' last : G) (d mid : RowPart) (turn : Turn) → mid ≡ after_part_marks d turn.marks → g' ≡ passed_all gate g turn.marks
-    → last ≡ passed_all gate g' (settling (by_gate gate part_by_itself) (mid, g')).marks → last ≡ passed_all gate g (with_settling (by_gate gate part_by_itself) (d, g) turn).marks
-passed-settled gate g g' last d mid turn is told rest =
-    rest ∙ ap (λ p. passed_all gate g' (settling (by_gate gate part_by_itself) p).marks) ((λ i. (is i, told i)) ∙ sym (gated-behind gate d g turn.marks))
-    ∙ ap (λ x. passed_all gate x (settling (by_gate gate part_by_itself) (behind_marks (by_gate gate part_by_itself) (d, g) turn.marks)).marks) told
-    ∙ sym (passed-append gate g turn.marks (settling (by_gate gate part_by_itself) (behind_marks (by_gate gate part_by_itself) (d, g) turn.marks)).marks)
-
--- an answer alone is a turn
-pub gives-turn : (d new : RowPart) (answer : Answer) (step : RowStep) (who : ℕ) (outcome : Outcome) → GivesOutcome d new answer outcome → step.replies ≡ (who, answer.reply) ∷ []
-    → step.effects ≡ answer.effects → GivesTurn d new step (turn_of who outcome)
-gives-turn d new answer step who outcome gives replied told = record {
-  replied = replied ∙ ap (λ reply. (who, reply) ∷ []) gives.replied;
-  told = told ∙ gives.told;
-  changed = gives.changed;
-}
-
--- one whose gate always has room is given without a gate
-pub gives-open : (d new : RowPart) (step : RowStep) (who : ℕ) (stmt : RowStmt) → GivesTurn d new step (row_turn (by_gate open_gate part_by_itself) (d, tt) who stmt) → GivesTurn d new step (row_turn part_by_itself d who stmt)
-gives-open d new step who stmt gives = subst (GivesTurn d new step) (open-turn d who stmt) gives
 
 -- a session that entered, or was refused, keeps its promise
 pub entered-steps : {E : Type 0} (old new : RowPart) (who : ℕ) (alone : Bool) (r : Result (Option Refusal) E) → IfOk r (λ refusal. Enters old new who (entry_place alone) refusal)

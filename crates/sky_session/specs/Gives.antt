@@ -1,6 +1,5 @@
 -- What a method of the code gives, by what the database showed.
 use Rattle.std.specs.Prelude.{◌≡◌, ℕ, Bool, true, [], ◌∷◌, ◌++◌, Result, Ok, Err, is_ok}
-use Rattle.sky_model.specs.History.{Mark}
 use Rattle.sky_model.specs.State.{RowPart, after_part_marks}
 use Rattle.sky_model.specs.declared.stop.Stop.{Stop}
 use Rattle.sky_model.specs.Outcome.{Outcome, Checked, reply_of, marks_of}

@@ -1,7 +1,9 @@
-ghost use Rattle.std.specs.Prelude.{◌≡◌, [], true, false};
+ghost use Rattle.std.specs.Prelude.{◌≡◌, [], ◌∷◌, ◌++◌, true, false, OnOk};
+ghost use Rattle.sky_session.specs.Effects.{with_effects};
 
 use crate::effect::Effects;
-use sky_model::Replies;
+use sky_model::{Replies, Reply};
+use sky_val::{NoMemory, SessionId};
 use std::alloc::Global;
 
 /// What statements answer, and what they did.
@@ -33,5 +35,15 @@ impl RowStep {
             replies: Replies::new(alloc),
             effects: Effects::ends(alloc),
         }
+    }
+
+    /// One more answer, at the end; no effect comes with it.
+    pub(crate) fn answer(&mut self, who: SessionId, reply: Reply) -> Result<(), NoMemory>
+        ensures replied { OnOk result (self.new.replies ≡ self.old.replies ++ (who, reply) ∷ []) }
+        ensures same { OnOk result (self.new.effects ≡ self.old.effects) }
+        ensures told { OnOk result (self.new.effects ≡ with_effects self.old.effects []) }
+    {
+        self.replies.push(who, reply)?;
+        Ok(())
     }
 }

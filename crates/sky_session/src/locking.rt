@@ -10,7 +10,7 @@ ghost use Rattle.sky_model.specs.StepRows.{attempts};
 ghost use Rattle.sky_session.specs.Gives.{Ran, Passes};
 ghost use Rattle.sky_state.specs.Seen.{seen};
 
-use crate::answer::Answer;
+use crate::answer::RowStep;
 use crate::row_statements::{check_seen, write_key};
 use sky_fits::with_sets;
 use sky_locks::LockKey;
@@ -25,14 +25,15 @@ fn wait(
     key: &LockKey,
     attempt: Attempt,
     holder: SessionId,
-) -> Result<Answer, Stop>
+    step: &mut RowStep,
+) -> Result<(), Stop>
     requires within { key.now.table < length (seen state.old).tables }
     requires held { other_holder (seen state.old).holder who key.now.table key.now.key ≡ Some holder }
     requires awake { is_waiting who (seen state.old).waiting ≡ false }
-    ensures { Ran state.old state.new result (blocked (seen state.old) who key.now.table key.now.key attempt holder) }
+    ensures { Ran state.old state.new step.old step.new who result (blocked (seen state.old) who key.now.table key.now.key attempt holder) }
 {
     match state.waits(who, key, attempt)? {
-        None => Ok(Answer::only(state.alloc(), Reply::Waits(holder))),
+        None => Ok(step.answer(who, Reply::Waits(holder))?),
         Some(ring) => Err(Stop::Refused(Refusal::Deadlock(ring))),
     }
 }
@@ -44,22 +45,23 @@ pub fn insert_key<G: WriteGate>(
     key: LockKey,
     row: &Row,
     gate: &mut G,
-) -> Result<Answer, Stop>
+    step: &mut RowStep,
+) -> Result<(), Stop>
     requires within { key.table < length (seen state.old).tables }
     requires awake { is_waiting who (seen state.old).waiting ≡ false }
-    ensures ran { Ran state.old state.new result (gated G.rule gate.old (attempts (seen state.old) ((rows_by (seen state.old)).key who key.table key.key) who key.table key.key (Insertion row.now))) }
+    ensures ran { Ran state.old state.new step.old step.new who result (gated G.rule gate.old (attempts (seen state.old) ((rows_by (seen state.old)).key who key.table key.key) who key.table key.key (Insertion row.now))) }
     ensures passes { Passes G.rule gate.old gate.new result (gated G.rule gate.old (attempts (seen state.old) ((rows_by (seen state.old)).key who key.table key.key) who key.table key.key (Insertion row.now))) }
 {
     if let Some(holder) = state.other_holder(who, &key) {
         let attempt = Attempt::Insertion(row.copy(state.alloc())?);
-        return wait(state, who, &key, attempt, holder);
+        return wait(state, who, &key, attempt, holder, step);
     }
     let now = state.snapshot_now()?;
     if state.has_standing(who, key.table, &key.key, &now) {
         return Err(Stop::Refused(Refusal::Duplicate));
     }
     let row = row.copy(state.alloc())?;
-    write_key(state, who, key, None, Some(row), gate)
+    write_key(state, who, key, None, Some(row), gate, step)
 }
 
 /// Makes the changes in the row that the session is shown at the key; where there is none, it changes none.
@@ -69,25 +71,26 @@ pub fn change_key<G: WriteGate>(
     key: LockKey,
     sets: &Sets,
     gate: &mut G,
-) -> Result<Answer, Stop>
+    step: &mut RowStep,
+) -> Result<(), Stop>
     requires within { key.table < length (seen state.old).tables }
     requires awake { is_waiting who (seen state.old).waiting ≡ false }
-    ensures ran { Ran state.old state.new result (gated G.rule gate.old (attempts (seen state.old) ((rows_by (seen state.old)).key who key.table key.key) who key.table key.key (Changes sets.now))) }
+    ensures ran { Ran state.old state.new step.old step.new who result (gated G.rule gate.old (attempts (seen state.old) ((rows_by (seen state.old)).key who key.table key.key) who key.table key.key (Changes sets.now))) }
     ensures passes { Passes G.rule gate.old gate.new result (gated G.rule gate.old (attempts (seen state.old) ((rows_by (seen state.old)).key who key.table key.key) who key.table key.key (Changes sets.now))) }
 {
     let now = state.snapshot_now()?;
     let Some(old) = state.row_shown(who, key.table, &key.key, &now) else {
-        return Ok(Answer::only(state.alloc(), Reply::Number(0)));
+        return Ok(step.answer(who, Reply::Number(0))?);
     };
     if let Some(holder) = state.other_holder(who, &key) {
         let attempt = Attempt::Changes(sets.copy(state.alloc())?);
-        return wait(state, who, &key, attempt, holder);
+        return wait(state, who, &key, attempt, holder, step);
     }
     check_seen(state, who, key.table, &key.key, &now)?;
     let columns = state.schema(key.table).columns();
     let new = with_sets(state.alloc(), columns, sets.as_slice(), old)?;
     let old = old.copy(state.alloc())?;
-    write_key(state, who, key, Some(old), Some(new), gate)
+    write_key(state, who, key, Some(old), Some(new), gate, step)
 }
 
 /// Deletes the row that the session is shown at the key; where there is none, it deletes none.
@@ -96,22 +99,23 @@ pub fn delete_key<G: WriteGate>(
     who: SessionId,
     key: LockKey,
     gate: &mut G,
-) -> Result<Answer, Stop>
+    step: &mut RowStep,
+) -> Result<(), Stop>
     requires within { key.table < length (seen state.old).tables }
     requires awake { is_waiting who (seen state.old).waiting ≡ false }
-    ensures ran { Ran state.old state.new result (gated G.rule gate.old (attempts (seen state.old) ((rows_by (seen state.old)).key who key.table key.key) who key.table key.key Deletion)) }
+    ensures ran { Ran state.old state.new step.old step.new who result (gated G.rule gate.old (attempts (seen state.old) ((rows_by (seen state.old)).key who key.table key.key) who key.table key.key Deletion)) }
     ensures passes { Passes G.rule gate.old gate.new result (gated G.rule gate.old (attempts (seen state.old) ((rows_by (seen state.old)).key who key.table key.key) who key.table key.key Deletion)) }
 {
     let now = state.snapshot_now()?;
     let Some(old) = state.row_shown(who, key.table, &key.key, &now) else {
-        return Ok(Answer::only(state.alloc(), Reply::Number(0)));
+        return Ok(step.answer(who, Reply::Number(0))?);
     };
     if let Some(holder) = state.other_holder(who, &key) {
-        return wait(state, who, &key, Attempt::Deletion, holder);
+        return wait(state, who, &key, Attempt::Deletion, holder, step);
     }
     check_seen(state, who, key.table, &key.key, &now)?;
     let old = old.copy(state.alloc())?;
-    write_key(state, who, key, Some(old), None, gate)
+    write_key(state, who, key, Some(old), None, gate, step)
 }
 
 /// What the session attempts with the key.
@@ -121,15 +125,16 @@ pub fn attempt_key<G: WriteGate>(
     key: LockKey,
     attempt: &Attempt,
     gate: &mut G,
-) -> Result<Answer, Stop>
+    step: &mut RowStep,
+) -> Result<(), Stop>
     requires within { key.table < length (seen state.old).tables }
     requires awake { is_waiting who (seen state.old).waiting ≡ false }
-    ensures ran { Ran state.old state.new result (gated G.rule gate.old (attempts (seen state.old) ((rows_by (seen state.old)).key who key.table key.key) who key.table key.key attempt.now)) }
+    ensures ran { Ran state.old state.new step.old step.new who result (gated G.rule gate.old (attempts (seen state.old) ((rows_by (seen state.old)).key who key.table key.key) who key.table key.key attempt.now)) }
     ensures passes { Passes G.rule gate.old gate.new result (gated G.rule gate.old (attempts (seen state.old) ((rows_by (seen state.old)).key who key.table key.key) who key.table key.key attempt.now)) }
 {
     match attempt {
-        Attempt::Insertion(row) => insert_key(state, who, key, row, gate),
-        Attempt::Changes(sets) => change_key(state, who, key, sets, gate),
-        Attempt::Deletion => delete_key(state, who, key, gate),
+        Attempt::Insertion(row) => insert_key(state, who, key, row, gate, step),
+        Attempt::Changes(sets) => change_key(state, who, key, sets, gate, step),
+        Attempt::Deletion => delete_key(state, who, key, gate, step),
     }
 }

@@ -8,7 +8,7 @@ ghost use Rattle.sky_model.specs.Outcome.{end_of};
 ghost use Rattle.sky_model.specs.Sessions.{outside};
 ghost use Rattle.sky_model.specs.State.{after_part_marks};
 ghost use Rattle.sky_model.specs.OwnTransaction.{txid_for, begin_of, commit_of, written};
-ghost use Rattle.sky_session.specs.Effects.{effects_of};
+ghost use Rattle.sky_session.specs.Effects.{with_effects};
 ghost use Rattle.sky_model.specs.SessionMarks.{Enters, failing, ending};
 ghost use Rattle.sky_state.specs.Seen.{seen};
 
@@ -81,7 +81,7 @@ pub fn commit_own(
 ) -> Result<(), NoMemory>
     requires { ((seen state.old).session who).txid ≡ Some txid }
     ensures marks { OnOk result (seen state.new ≡ after_part_marks (seen state.old) (commit_of who txid ((seen state.old).session who).block)) }
-    ensures told { OnOk result (effects.new ≡ effects.old ++ effects_of (commit_of who txid ((seen state.old).session who).block)) }
+    ensures told { OnOk result (effects.new ≡ with_effects effects.old (commit_of who txid ((seen state.old).session who).block)) }
 {
     if state.block(who) == Block::Outside {
         state.committed(who, txid);
@@ -106,7 +106,7 @@ pub fn write_own(
     requires awake { is_waiting who (seen state.old).waiting ≡ false }
     ensures marks { OnOk result (seen state.new ≡ after_part_marks (seen state.old)
         (written who txid ((seen state.old).session who) (tabled (wrote (of_session who) txid key.table key.key None row) ∷ []))) }
-    ensures told { OnOk result (effects.new ≡ effects.old ++ effects_of (commit_of who txid ((seen state.old).session who).block)) }
+    ensures told { OnOk result (effects.new ≡ with_effects effects.old (commit_of who txid ((seen state.old).session who).block)) }
 {
     if is_alone(state, who) {
         state.wrote_alone(who, key, row)?;
@@ -120,19 +120,23 @@ pub fn write_own(
 }
 
 /// Rolls back the transaction of the session's block, and aborts the block, if it is in one that isn't aborted.
-pub fn abort_block(state: &mut RowState, who: SessionId) -> Result<Effects, NoMemory>
+pub fn abort_block(
+    state: &mut RowState,
+    who: SessionId,
+    effects: &mut Effects,
+) -> Result<(), NoMemory>
     ensures marks { OnOk result (seen state.new ≡ after_part_marks (seen state.old) (failing (seen state.old) who).marks) }
-    ensures told { IfOk result (λ effects. effects ≡ effects_of (failing (seen state.old) who).marks) }
+    ensures told { OnOk result (effects.new ≡ with_effects effects.old (failing (seen state.old) who).marks) }
 {
-    let mut effects = Effects::new(state.alloc());
-    if state.block(who) == Block::Inside {
-        if let Some(txid) = state.own_txid(who) {
-            state.aborted(who, txid);
-            effects.push(Effect::Aborted(txid))?;
-        }
-        state.block_failed(who)?;
+    if state.block(who) != Block::Inside {
+        return Ok(());
     }
-    Ok(effects)
+    if let Some(txid) = state.own_txid(who) {
+        state.aborted(who, txid);
+        effects.push(Effect::Aborted(txid))?;
+    }
+    state.block_failed(who)?;
+    Ok(())
 }
 
 /// Commits the session's transaction, where it is in no block.

@@ -1,4 +1,4 @@
-ghost use Rattle.std.specs.Prelude.{◌≡◌, ◌↔◌, ◌≢◌, true, false, None, Some, Ok, Err, IfOk, OnOk, OnErr, MatchOption, IsTrue, is_ok};
+ghost use Rattle.std.specs.Prelude.{◌≡◌, ◌↔◌, ◌≢◌, [], true, false, None, Some, Ok, Err, IfOk, OnOk, OnErr, MatchOption, IsTrue, is_ok};
 ghost use Rattle.sky_val.specs.Waits.{is_waiting};
 ghost use Rattle.sky_names.specs.Places.{place_of};
 ghost use Rattle.sky_model.specs.declared.reply.Refusal.TheVariants.{TxidsSpent};

@@ -1,17 +1,20 @@
 //! The statements on tables and rows. A refusal changes nothing here, so all tests stand in front of the first change.
 
-ghost use Rattle.std.specs.Prelude.{◌≡◌, ◌<◌, false, None, Some, Ok, Err, IfOk, IfErr, OnOk, length};
+ghost use Rattle.std.specs.Prelude.{◌≡◌, ◌<◌, ℕ, List, [], ◌∷◌, false, None, Some, Ok, Err, IfOk, IfErr, OnOk, length};
 ghost use Rattle.sky_val.specs.Schemas.{AreNamed};
 ghost use Rattle.sky_val.specs.Waits.{other_holder, is_waiting};
 ghost use Rattle.sky_model.specs.ShownRows.{snapshot_now, rows_by};
 ghost use Rattle.sky_model.specs.StepRows.{table_called, is_seen, writes_key, create_table, insert, update, delete, get, scan};
 ghost use Rattle.sky_urlenc.specs.RowEvents.{op_of};
 ghost use Rattle.sky_model.specs.Gates.{gated};
+ghost use Rattle.sky_model.specs.History.{of_session, tabled, wrote};
+ghost use Rattle.sky_val.specs.declared.val.Val.{Val};
+ghost use Rattle.sky_session.specs.Effects.{with_effects};
 ghost use Rattle.sky_session.specs.Gives.{Ran, Passes};
 ghost use Rattle.sky_model.specs.Stops.{StopsAs};
 ghost use Rattle.sky_state.specs.Seen.{seen};
 
-use crate::answer::Answer;
+use crate::answer::RowStep;
 use crate::effect::{Effect, Effects};
 use crate::locking::{change_key, delete_key, insert_key};
 use crate::own_transaction::{txid_for, write_own};
@@ -20,7 +23,8 @@ use sky_locks::LockKey;
 use sky_model::{Columns, Limit, Refusal, Reply, Rows, Sets, Stop, WriteGate};
 use sky_state::RowState;
 use sky_txid::Snapshot;
-use sky_val::{Key, Op, Row, SessionId, Text, copy_row};
+use sky_val::{Key, NoMemory, Op, Row, SessionId, Text, copy_row};
+use std::alloc::Global;
 
 /// How many tables a database may have.
 const MOST_TABLES: usize = 64;
@@ -68,6 +72,33 @@ pub fn check_seen(
     }
 }
 
+/// The effect of a write is added, where the list is whole. Copies of rows are kept for it alone.
+fn tell_write(
+    alloc: Global,
+    txid: u64,
+    table: u32,
+    op: Op,
+    old: Option<Row>,
+    new: &Option<Row>,
+    effects: &mut Effects,
+) -> Result<(), NoMemory>
+    requires { op ≡ op_of old new.now }
+    ensures { (who : ℕ) (key : List Val) → OnOk result (effects.new ≡ with_effects effects.old (tabled (wrote (of_session who) txid table key old new.now) ∷ [])) }
+{
+    if !effects.is_whole() {
+        return Ok(());
+    }
+    let new = copy_row(alloc, new)?;
+    effects.push(Effect::Wrote {
+        txid,
+        table,
+        op,
+        old,
+        new,
+    })?;
+    Ok(())
+}
+
 /// Writes the key, which no other session holds, in the session's transaction, where the gate has room for that.
 pub fn write_key<G: WriteGate>(
     state: &mut RowState,
@@ -76,11 +107,12 @@ pub fn write_key<G: WriteGate>(
     old: Option<Row>,
     new: Option<Row>,
     gate: &mut G,
-) -> Result<Answer, Stop>
+    step: &mut RowStep,
+) -> Result<(), Stop>
     requires within { key.table < length (seen state.old).tables }
     requires free { other_holder (seen state.old).holder who key.table key.key ≡ None }
     requires awake { is_waiting who (seen state.old).waiting ≡ false }
-    ensures ran { Ran state.old state.new result (gated G.rule gate.old (writes_key (seen state.old) who key.table key.key old new)) }
+    ensures ran { Ran state.old state.new step.old step.new who result (gated G.rule gate.old (writes_key (seen state.old) who key.table key.key old new)) }
     ensures passes { Passes G.rule gate.old gate.new result (gated G.rule gate.old (writes_key (seen state.old) who key.table key.key old new)) }
 {
     let txid = txid_for(state, who)?;
@@ -90,26 +122,21 @@ pub fn write_key<G: WriteGate>(
         return Err(Stop::Refused(Refusal::EventIdsSpent));
     }
     gate.wrote(txid, table, op, old.as_ref(), new.as_ref())?;
-    let stored = copy_row(state.alloc(), &new)?;
-    let mut effects = Effects::new(state.alloc());
-    effects.push(Effect::Wrote {
-        txid,
-        table,
-        op,
-        old,
-        new,
-    })?;
-    write_own(state, who, txid, key, stored, &mut effects)?;
-    Ok(Answer {
-        reply: Reply::Number(1),
-        effects,
-    })
+    tell_write(state.alloc(), txid, table, op, old, &new, &mut step.effects)?;
+    write_own(state, who, txid, key, new, &mut step.effects)?;
+    Ok(step.answer(who, Reply::Number(1))?)
 }
 
 /// `create table TABLE COL..`
-pub fn create_table(state: &mut RowState, name: &Text, columns: &Columns) -> Result<Answer, Stop>
+pub fn create_table(
+    state: &mut RowState,
+    who: SessionId,
+    name: &Text,
+    columns: &Columns,
+    step: &mut RowStep,
+) -> Result<(), Stop>
     requires { AreNamed columns.now }
-    ensures { Ran state.old state.new result (create_table (seen state.old) name.now columns.now) }
+    ensures { Ran state.old state.new step.old step.new who result (create_table (seen state.old) name.now columns.now) }
 {
     if state.table_number(name).is_some() {
         return Err(Stop::Refused(Refusal::TableExists(name.copy(state.alloc())?)));
@@ -120,7 +147,7 @@ pub fn create_table(state: &mut RowState, name: &Text, columns: &Columns) -> Res
     let schema = new_schema(state.alloc(), columns)?;
     let name = name.copy(state.alloc())?;
     state.table_made(name, schema)?;
-    Ok(Answer::only(state.alloc(), Reply::Done))
+    Ok(step.answer(who, Reply::Done)?)
 }
 
 /// `insert TABLE VAL..`
@@ -130,16 +157,17 @@ pub fn insert<G: WriteGate>(
     table: &Text,
     row: &Row,
     gate: &mut G,
-) -> Result<Answer, Stop>
+    step: &mut RowStep,
+) -> Result<(), Stop>
     requires { is_waiting who (seen state.old).waiting ≡ false }
-    ensures ran { Ran state.old state.new result (gated G.rule gate.old (insert (seen state.old) (rows_by (seen state.old)) who table.now row.now)) }
+    ensures ran { Ran state.old state.new step.old step.new who result (gated G.rule gate.old (insert (seen state.old) (rows_by (seen state.old)) who table.now row.now)) }
     ensures passes { Passes G.rule gate.old gate.new result (gated G.rule gate.old (insert (seen state.old) (rows_by (seen state.old)) who table.now row.now)) }
 {
     let table = table_called(state, table)?;
     let schema = state.schema(table);
     row_fits(state.alloc(), schema.columns(), row)?;
     let key = schema.key_of(row)?;
-    insert_key(state, who, LockKey { table, key }, row, gate)
+    insert_key(state, who, LockKey { table, key }, row, gate, step)
 }
 
 /// `update TABLE VAL.. set SET..`
@@ -150,9 +178,10 @@ pub fn update<G: WriteGate>(
     key: &Key,
     sets: &Sets,
     gate: &mut G,
-) -> Result<Answer, Stop>
+    step: &mut RowStep,
+) -> Result<(), Stop>
     requires { is_waiting who (seen state.old).waiting ≡ false }
-    ensures ran { Ran state.old state.new result (gated G.rule gate.old (update (seen state.old) (rows_by (seen state.old)) who table.now key.now sets.now)) }
+    ensures ran { Ran state.old state.new step.old step.new who result (gated G.rule gate.old (update (seen state.old) (rows_by (seen state.old)) who table.now key.now sets.now)) }
     ensures passes { Passes G.rule gate.old gate.new result (gated G.rule gate.old (update (seen state.old) (rows_by (seen state.old)) who table.now key.now sets.now)) }
 {
     let table = table_called(state, table)?;
@@ -161,7 +190,7 @@ pub fn update<G: WriteGate>(
     sets_fit(state.alloc(), columns, sets.as_slice())?;
     key_stays(state.alloc(), columns, sets.as_slice())?;
     let key = key.copy(state.alloc())?;
-    change_key(state, who, LockKey { table, key }, sets, gate)
+    change_key(state, who, LockKey { table, key }, sets, gate, step)
 }
 
 /// `delete TABLE VAL..`
@@ -171,20 +200,27 @@ pub fn delete<G: WriteGate>(
     table: &Text,
     key: &Key,
     gate: &mut G,
-) -> Result<Answer, Stop>
+    step: &mut RowStep,
+) -> Result<(), Stop>
     requires { is_waiting who (seen state.old).waiting ≡ false }
-    ensures ran { Ran state.old state.new result (gated G.rule gate.old (delete (seen state.old) (rows_by (seen state.old)) who table.now key.now)) }
+    ensures ran { Ran state.old state.new step.old step.new who result (gated G.rule gate.old (delete (seen state.old) (rows_by (seen state.old)) who table.now key.now)) }
     ensures passes { Passes G.rule gate.old gate.new result (gated G.rule gate.old (delete (seen state.old) (rows_by (seen state.old)) who table.now key.now)) }
 {
     let table = table_called(state, table)?;
     key_fits(state.alloc(), state.schema(table).columns(), key)?;
     let key = key.copy(state.alloc())?;
-    delete_key(state, who, LockKey { table, key }, gate)
+    delete_key(state, who, LockKey { table, key }, gate, step)
 }
 
 /// `get TABLE VAL..`
-pub fn get(state: &RowState, who: SessionId, table: &Text, key: &Key) -> Result<Answer, Stop>
-    ensures { Ran state.now state.now result (get (seen state.now) (rows_by (seen state.now)) who table.now key.now) }
+pub fn get(
+    state: &RowState,
+    who: SessionId,
+    table: &Text,
+    key: &Key,
+    step: &mut RowStep,
+) -> Result<(), Stop>
+    ensures { Ran state.now state.now step.old step.new who result (get (seen state.now) (rows_by (seen state.now)) who table.now key.now) }
 {
     let table = table_called(state, table)?;
     key_fits(state.alloc(), state.schema(table).columns(), key)?;
@@ -193,15 +229,15 @@ pub fn get(state: &RowState, who: SessionId, table: &Text, key: &Key) -> Result<
         Some(row) => Reply::Row(row.copy(state.alloc())?),
         None => Reply::NoRow,
     };
-    Ok(Answer::only(state.alloc(), reply))
+    Ok(step.answer(who, reply)?)
 }
 
 /// `scan TABLE`: the rows by key.
-pub fn scan(state: &RowState, who: SessionId, table: &Text) -> Result<Answer, Stop>
-    ensures { Ran state.now state.now result (scan (seen state.now) (rows_by (seen state.now)) who table.now) }
+pub fn scan(state: &RowState, who: SessionId, table: &Text, step: &mut RowStep) -> Result<(), Stop>
+    ensures { Ran state.now state.now step.old step.new who result (scan (seen state.now) (rows_by (seen state.now)) who table.now) }
 {
     let table = table_called(state, table)?;
     let now = state.snapshot_now()?;
     let rows = state.rows_shown(who, table, &now)?;
-    Ok(Answer::only(state.alloc(), Reply::Rows(Rows::new(rows))))
+    Ok(step.answer(who, Reply::Rows(Rows::new(rows)))?)
 }

@@ -8,11 +8,11 @@ ghost use Rattle.sky_model.specs.Outcome.{settled};
 ghost use Rattle.sky_model.specs.StepRows.{attempts};
 ghost use Rattle.sky_model.specs.Reader.{part_by_itself};
 ghost use Rattle.sky_model.specs.Gates.{gated, by_gate, passed_all};
-ghost use Rattle.sky_model.specs.Settling.{ready, resumed, settling};
-ghost use Rattle.sky_session.specs.Gives.{Adds, GivesOutcome};
+ghost use Rattle.sky_model.specs.Settling.{turn_of, ready, resumed, settling};
+ghost use Rattle.sky_session.specs.Gives.{Adds};
 ghost use Rattle.sky_state.specs.Seen.{seen};
 
-use crate::answer::{Answer, RowStep};
+use crate::answer::RowStep;
 use crate::locking::attempt_key;
 use crate::statements::refuse;
 use sky_locks::LockKey;
@@ -21,31 +21,32 @@ use sky_state::RowState;
 use sky_val::{NoMemory, SessionId};
 use std::alloc::AllocError;
 
-/// The answer of what the session attempts with the key, be it a refusal.
+/// Answers what the session attempts with the key, be it by a refusal.
 fn run_attempt<G: WriteGate>(
     state: &mut RowState,
     who: SessionId,
     key: LockKey,
     attempt: &Attempt,
     gate: &mut G,
-) -> Result<Answer, NoMemory>
+    step: &mut RowStep,
+) -> Result<(), NoMemory>
     requires within { key.table < length (seen state.old).tables }
     requires awake { is_waiting who (seen state.old).waiting ≡ false }
-    ensures gives { let shown = (rows_by (seen state.old)).key who key.table key.key in
+    ensures adds { let shown = (rows_by (seen state.old)).key who key.table key.key in
         let outcome = settled who ((seen state.old).session who) (gated G.rule gate.old (attempts (seen state.old) shown who key.table key.key attempt.now)) in
-        IfOk result (λ answer. GivesOutcome (seen state.old) (seen state.new) answer outcome) }
+        OnOk result (Adds (seen state.old) (seen state.new) step.old step.new (turn_of who outcome)) }
     ensures passed { let shown = (rows_by (seen state.old)).key who key.table key.key in
         let outcome = settled who ((seen state.old).session who) (gated G.rule gate.old (attempts (seen state.old) shown who key.table key.key attempt.now)) in
         OnOk result (gate.new ≡ passed_all G.rule gate.old outcome.marks) }
 {
-    match attempt_key(state, who, key, attempt, gate) {
-        Ok(answer) => Ok(answer),
-        Err(Stop::Refused(refusal)) => refuse(state, who, refusal),
+    match attempt_key(state, who, key, attempt, gate, step) {
+        Ok(()) => Ok(()),
+        Err(Stop::Refused(refusal)) => refuse(state, who, refusal, step),
         Err(Stop::NoMemory) => Err(AllocError),
     }
 }
 
-/// Runs the statement of a session that may go on. The answer and the effects are added.
+/// Runs the statement of a session that may go on.
 fn resume<G: WriteGate>(
     state: &mut RowState,
     who: SessionId,
@@ -59,13 +60,11 @@ fn resume<G: WriteGate>(
     ensures passed { OnOk result (gate.new ≡ passed_all G.rule gate.old (resumed (by_gate G.rule part_by_itself) (seen state.old, gate.old) (entry who key)).marks) }
 {
     let attempt = state.waited(who);
-    let answer = run_attempt(state, who, key, &attempt, gate)?;
-    step.replies.push(who, answer.reply)?;
-    step.effects.append(answer.effects)?;
+    run_attempt(state, who, key, &attempt, gate, step)?;
     Ok(())
 }
 
-/// Runs the statements that may go on. Their answers and effects are added.
+/// Runs the statements that may go on.
 pub fn settle_behind<G: WriteGate>(
     state: &mut RowState,
     gate: &mut G,

@@ -1,25 +1,25 @@
 //! A statement of a session, and those on sessions and transactions. A refusal changes nothing in them: it is `refuse`
 //! that aborts the block that its session is in.
 
-ghost use Rattle.std.specs.Prelude.{◌≡◌, [], ◌∷◌, true, false, Ok, IfOk, OnOk};
+ghost use Rattle.std.specs.Prelude.{◌≡◌, [], ◌∷◌, true, false, Err, OnOk};
 ghost use Rattle.sky_val.specs.Waits.{is_waiting};
-ghost use Rattle.sky_model.specs.declared.reply.Reply.TheVariants.{Refused};
 ghost use Rattle.sky_model.specs.declared.stmt.Where.TheVariants.{WhenReading};
 ghost use Rattle.sky_model.specs.InForm.{IsRowInForm};
 ghost use Rattle.sky_model.specs.Allowed.{where_of_row};
 ghost use Rattle.sky_model.specs.Sessions.{outside};
 ghost use Rattle.sky_model.specs.State.{after_part_marks};
 ghost use Rattle.sky_model.specs.ShownRows.{rows_by};
-ghost use Rattle.sky_model.specs.Outcome.{abort, settled};
+ghost use Rattle.sky_model.specs.Outcome.{settled};
 ghost use Rattle.sky_model.specs.StepSession.{open_db, begin, begin_repeatable_read, commit, rollback, close, cancel, leaves, txid_current, txid_current_snapshot, txid_visible_in_snapshot};
 ghost use Rattle.sky_model.specs.Calls.{row_form, row_statement};
 ghost use Rattle.sky_model.specs.Reader.{part_by_itself};
+ghost use Rattle.sky_model.specs.Settling.{turn_of};
 ghost use Rattle.sky_model.specs.Gates.{gated, by_gate, passed_all};
-ghost use Rattle.sky_session.specs.Effects.{effects_of};
-ghost use Rattle.sky_session.specs.Gives.{GivesOutcome, Ran, Passes};
+ghost use Rattle.sky_session.specs.Effects.{with_effects};
+ghost use Rattle.sky_session.specs.Gives.{Adds, Ran, Passes};
 ghost use Rattle.sky_state.specs.Seen.{seen};
 
-use crate::answer::Answer;
+use crate::answer::RowStep;
 use crate::effect::{Effect, Effects};
 use crate::own_transaction::{abort_block, admit, begin_own, commit_own, txid_for};
 use crate::row_statements::{create_table, delete, get, insert, scan, update};
@@ -36,14 +36,15 @@ pub fn own_answer<G: WriteGate>(
     who: SessionId,
     stmt: &RowStmt,
     gate: &mut G,
-) -> Result<Answer, NoMemory>
+    step: &mut RowStep,
+) -> Result<(), NoMemory>
     requires { IsRowInForm stmt.now }
-    ensures gives { IfOk result (λ answer. GivesOutcome (seen state.old) (seen state.new) answer (row_statement (by_gate G.rule part_by_itself) (seen state.old, gate.old) who stmt.now)) }
+    ensures adds { OnOk result (Adds (seen state.old) (seen state.new) step.old step.new (turn_of who (row_statement (by_gate G.rule part_by_itself) (seen state.old, gate.old) who stmt.now))) }
     ensures passed { OnOk result (gate.new ≡ passed_all G.rule gate.old (row_statement (by_gate G.rule part_by_itself) (seen state.old, gate.old) who stmt.now).marks) }
 {
     match admit(state, who, where_of(stmt))? {
-        Some(refusal) => refuse(state, who, refusal),
-        None => run(state, who, stmt, gate),
+        Some(refusal) => refuse(state, who, refusal, step),
+        None => run(state, who, stmt, gate, step),
     }
 }
 
@@ -53,34 +54,37 @@ fn run<G: WriteGate>(
     who: SessionId,
     stmt: &RowStmt,
     gate: &mut G,
-) -> Result<Answer, NoMemory>
+    step: &mut RowStep,
+) -> Result<(), NoMemory>
     requires form { IsRowInForm stmt.now }
     requires admitted { where_of_row stmt.now ≡ WhenReading → is_waiting who (seen state.old).waiting ≡ false }
-    ensures gives { let outcome = settled who ((seen state.old).session who) (gated G.rule gate.old (row_form (seen state.old) (rows_by (seen state.old)) who stmt.now)) in
-        IfOk result (λ answer. GivesOutcome (seen state.old) (seen state.new) answer outcome) }
+    ensures adds { let outcome = settled who ((seen state.old).session who) (gated G.rule gate.old (row_form (seen state.old) (rows_by (seen state.old)) who stmt.now)) in
+        OnOk result (Adds (seen state.old) (seen state.new) step.old step.new (turn_of who outcome)) }
     ensures passed { let outcome = settled who ((seen state.old).session who) (gated G.rule gate.old (row_form (seen state.old) (rows_by (seen state.old)) who stmt.now)) in
         OnOk result (gate.new ≡ passed_all G.rule gate.old outcome.marks) }
 {
-    match run_form(state, who, stmt, gate) {
-        Ok(answer) => Ok(answer),
-        Err(Stop::Refused(refusal)) => refuse(state, who, refusal),
+    match run_form(state, who, stmt, gate, step) {
+        Ok(()) => Ok(()),
+        Err(Stop::Refused(refusal)) => refuse(state, who, refusal, step),
         Err(Stop::NoMemory) => Err(AllocError),
     }
 }
 
 /// Answers with a refusal, which aborts the block that its session is in.
-pub fn refuse(state: &mut RowState, who: SessionId, refusal: Refusal) -> Result<Answer, NoMemory>
-    ensures { let marks = abort who ((seen state.old).session who).block ((seen state.old).session who).txid refusal in
-        IfOk result (λ answer. GivesOutcome (seen state.old) (seen state.new) answer (record { reply = Refused refusal; marks = marks })) }
+pub fn refuse(
+    state: &mut RowState,
+    who: SessionId,
+    refusal: Refusal,
+    step: &mut RowStep,
+) -> Result<(), NoMemory>
+    ensures { let outcome = settled who ((seen state.old).session who) (Err refusal) in
+        OnOk result (Adds (seen state.old) (seen state.new) step.old step.new (turn_of who outcome)) }
 {
-    if !refusal.aborts() {
-        return Ok(Answer::only(state.alloc(), Reply::Refused(refusal)));
+    if refusal.aborts() {
+        abort_block(state, who, &mut step.effects)?;
     }
-    let effects = abort_block(state, who)?;
-    Ok(Answer {
-        reply: Reply::Refused(refusal),
-        effects,
-    })
+    step.answer(who, Reply::Refused(refusal))?;
+    Ok(())
 }
 
 fn run_form<G: WriteGate>(
@@ -88,193 +92,187 @@ fn run_form<G: WriteGate>(
     who: SessionId,
     stmt: &RowStmt,
     gate: &mut G,
-) -> Result<Answer, Stop>
+    step: &mut RowStep,
+) -> Result<(), Stop>
     requires form { IsRowInForm stmt.now }
     requires admitted { where_of_row stmt.now ≡ WhenReading → is_waiting who (seen state.old).waiting ≡ false }
-    ensures ran { Ran state.old state.new result (gated G.rule gate.old (row_form (seen state.old) (rows_by (seen state.old)) who stmt.now)) }
+    ensures ran { Ran state.old state.new step.old step.new who result (gated G.rule gate.old (row_form (seen state.old) (rows_by (seen state.old)) who stmt.now)) }
     ensures passes { Passes G.rule gate.old gate.new result (gated G.rule gate.old (row_form (seen state.old) (rows_by (seen state.old)) who stmt.now)) }
 {
     match stmt {
-        RowStmt::OpenDb { name: _ } => open_db(state, who),
-        RowStmt::Close => close(state, who),
-        RowStmt::Cancel => cancel(state, who),
-        RowStmt::Begin => begin(state, who),
-        RowStmt::BeginRepeatableRead => begin_repeatable_read(state, who),
-        RowStmt::Commit => commit(state, who),
-        RowStmt::Rollback => rollback(state, who),
-        RowStmt::TxidCurrent => txid_current(state, who),
-        RowStmt::TxidCurrentSnapshot => txid_current_snapshot(state, who),
+        RowStmt::OpenDb { name: _ } => open_db(state, who, step),
+        RowStmt::Close => close(state, who, step),
+        RowStmt::Cancel => cancel(state, who, step),
+        RowStmt::Begin => begin(state, who, step),
+        RowStmt::BeginRepeatableRead => begin_repeatable_read(state, who, step),
+        RowStmt::Commit => commit(state, who, step),
+        RowStmt::Rollback => rollback(state, who, step),
+        RowStmt::TxidCurrent => txid_current(state, who, step),
+        RowStmt::TxidCurrentSnapshot => txid_current_snapshot(state, who, step),
         RowStmt::TxidVisibleInSnapshot { txid, snapshot } => {
-            txid_visible_in_snapshot(state, *txid, snapshot)
+            txid_visible_in_snapshot(state, who, *txid, snapshot, step)
         }
-        RowStmt::CreateTable { table, columns } => create_table(state, table, columns),
-        RowStmt::Insert { table, row } => insert(state, who, table, row, gate),
-        RowStmt::Update { table, key, sets } => update(state, who, table, key, sets, gate),
-        RowStmt::Delete { table, key } => delete(state, who, table, key, gate),
-        RowStmt::Get { table, key } => get(state, who, table, key),
-        RowStmt::Scan { table } => scan(state, who, table),
+        RowStmt::CreateTable { table, columns } => create_table(state, who, table, columns, step),
+        RowStmt::Insert { table, row } => insert(state, who, table, row, gate, step),
+        RowStmt::Update { table, key, sets } => update(state, who, table, key, sets, gate, step),
+        RowStmt::Delete { table, key } => delete(state, who, table, key, gate, step),
+        RowStmt::Get { table, key } => get(state, who, table, key, step),
+        RowStmt::Scan { table } => scan(state, who, table, step),
     }
 }
 
 /// `open`
-fn open_db(state: &mut RowState, who: SessionId) -> Result<Answer, Stop>
-    ensures { Ran state.old state.new result (open_db who ((seen state.old).session who).is_open) }
+fn open_db(state: &mut RowState, who: SessionId, step: &mut RowStep) -> Result<(), Stop>
+    ensures { Ran state.old state.new step.old step.new who result (open_db who ((seen state.old).session who).is_open) }
 {
     if state.standing(who).is_open {
         return Err(Stop::Refused(Refusal::AlreadyOpen));
     }
     state.connected(who)?;
-    Ok(Answer::only(state.alloc(), Reply::Done))
+    Ok(step.answer(who, Reply::Done)?)
 }
 
 /// `close`: a block is rolled back.
-fn close(state: &mut RowState, who: SessionId) -> Result<Answer, Stop>
-    ensures { Ran state.old state.new result (close who ((seen state.old).session who).txid ((seen state.old).session who).block) }
+fn close(state: &mut RowState, who: SessionId, step: &mut RowStep) -> Result<(), Stop>
+    ensures { Ran state.old state.new step.old step.new who result (close who ((seen state.old).session who).txid ((seen state.old).session who).block) }
 {
     if state.block(who) == Block::Outside {
         state.disconnected(who);
-        return Ok(Answer::only(state.alloc(), Reply::Done));
+        return Ok(step.answer(who, Reply::Done)?);
     }
-    let effects = roll_back_block(state, who)?;
+    roll_back_block(state, who, &mut step.effects)?;
     state.disconnected(who);
-    Ok(Answer {
-        reply: Reply::Done,
-        effects,
-    })
+    Ok(step.answer(who, Reply::Done)?)
 }
 
 /// `cancel`: the session waits no longer, and its block is rolled back.
-fn cancel(state: &mut RowState, who: SessionId) -> Result<Answer, Stop>
+fn cancel(state: &mut RowState, who: SessionId, step: &mut RowStep) -> Result<(), Stop>
     ensures { let s = (seen state.old).session who in
-        Ran state.old state.new result (cancel who s.txid s.block (is_waiting who (seen state.old).waiting)) }
+        Ran state.old state.new step.old step.new who result (cancel who s.txid s.block (is_waiting who (seen state.old).waiting)) }
 {
     if !state.is_waiting(who) {
-        return Ok(Answer::only(state.alloc(), Reply::NotWaiting));
+        return Ok(step.answer(who, Reply::NotWaiting)?);
     }
     state.waited(who);
-    let undone = abort_block(state, who)?;
-    Ok(Answer {
-        reply: Reply::Refused(Refusal::Canceled),
-        effects: undone,
-    })
+    abort_block(state, who, &mut step.effects)?;
+    Ok(step.answer(who, Reply::Refused(Refusal::Canceled))?)
 }
 
 /// `begin`
-fn begin(state: &mut RowState, who: SessionId) -> Result<Answer, Stop>
-    ensures { Ran state.old state.new result (begin who ((seen state.old).session who).block) }
+fn begin(state: &mut RowState, who: SessionId, step: &mut RowStep) -> Result<(), Stop>
+    ensures { Ran state.old state.new step.old step.new who result (begin who ((seen state.old).session who).block) }
 {
     if state.block(who) != Block::Outside {
-        return Ok(Answer::only(state.alloc(), Reply::AlreadyInTransaction));
+        return Ok(step.answer(who, Reply::AlreadyInTransaction)?);
     }
     state.block_begun(who)?;
-    Ok(Answer::only(state.alloc(), Reply::Begin))
+    Ok(step.answer(who, Reply::Begin)?)
 }
 
 /// `begin repeatable read`: the sight is taken later, by the first statement that reads.
-fn begin_repeatable_read(state: &mut RowState, who: SessionId) -> Result<Answer, Stop>
-    ensures { Ran state.old state.new result (begin_repeatable_read who ((seen state.old).session who).block) }
+fn begin_repeatable_read(
+    state: &mut RowState,
+    who: SessionId,
+    step: &mut RowStep,
+) -> Result<(), Stop>
+    ensures { Ran state.old state.new step.old step.new who result (begin_repeatable_read who ((seen state.old).session who).block) }
 {
     if state.block(who) != Block::Outside {
-        return Ok(Answer::only(state.alloc(), Reply::AlreadyInTransaction));
+        return Ok(step.answer(who, Reply::AlreadyInTransaction)?);
     }
     state.block_begun(who)?;
     state.repeats(who)?;
-    Ok(Answer::only(state.alloc(), Reply::Begin))
+    Ok(step.answer(who, Reply::Begin)?)
 }
 
 /// `commit`: an aborted block is rolled back.
-fn commit(state: &mut RowState, who: SessionId) -> Result<Answer, Stop>
-    ensures { Ran state.old state.new result (commit who ((seen state.old).session who).txid ((seen state.old).session who).block) }
+fn commit(state: &mut RowState, who: SessionId, step: &mut RowStep) -> Result<(), Stop>
+    ensures { Ran state.old state.new step.old step.new who result (commit who ((seen state.old).session who).txid ((seen state.old).session who).block) }
 {
     match state.block(who) {
-        Block::Outside => Ok(Answer::only(state.alloc(), Reply::NoTransaction)),
+        Block::Outside => Ok(step.answer(who, Reply::NoTransaction)?),
         Block::Inside => {
-            let effects = commit_block(state, who)?;
-            Ok(Answer {
-                reply: Reply::Commit,
-                effects,
-            })
+            commit_block(state, who, &mut step.effects)?;
+            Ok(step.answer(who, Reply::Commit)?)
         }
         Block::Failed => {
-            let effects = roll_back_block(state, who)?;
-            Ok(Answer {
-                reply: Reply::Rollback,
-                effects,
-            })
+            roll_back_block(state, who, &mut step.effects)?;
+            Ok(step.answer(who, Reply::Rollback)?)
         }
     }
 }
 
 /// `rollback`
-fn rollback(state: &mut RowState, who: SessionId) -> Result<Answer, Stop>
-    ensures { Ran state.old state.new result (rollback who ((seen state.old).session who).txid ((seen state.old).session who).block) }
+fn rollback(state: &mut RowState, who: SessionId, step: &mut RowStep) -> Result<(), Stop>
+    ensures { Ran state.old state.new step.old step.new who result (rollback who ((seen state.old).session who).txid ((seen state.old).session who).block) }
 {
     if state.block(who) == Block::Outside {
-        return Ok(Answer::only(state.alloc(), Reply::NoTransaction));
+        return Ok(step.answer(who, Reply::NoTransaction)?);
     }
-    let effects = roll_back_block(state, who)?;
-    Ok(Answer {
-        reply: Reply::Rollback,
-        effects,
-    })
+    roll_back_block(state, who, &mut step.effects)?;
+    Ok(step.answer(who, Reply::Rollback)?)
 }
 
 /// The session's block ends, and its transaction commits, if it has got an id.
-fn commit_block(state: &mut RowState, who: SessionId) -> Result<Effects, NoMemory>
+fn commit_block(state: &mut RowState, who: SessionId, effects: &mut Effects) -> Result<(), NoMemory>
     ensures marks { OnOk result (seen state.new ≡ after_part_marks (seen state.old) (leaves true who ((seen state.old).session who).txid)) }
-    ensures told { IfOk result (λ effects. effects ≡ effects_of (leaves true who ((seen state.old).session who).txid)) }
+    ensures told { OnOk result (effects.new ≡ with_effects effects.old (leaves true who ((seen state.old).session who).txid)) }
 {
-    let mut effects = Effects::new(state.alloc());
     if let Some(txid) = state.own_txid(who) {
         state.committed(who, txid);
         effects.push(Effect::Committed(txid))?;
     }
     state.block_ended(who);
-    Ok(effects)
+    Ok(())
 }
 
 /// The session's block ends, and its transaction is rolled back, if it has got an id.
-fn roll_back_block(state: &mut RowState, who: SessionId) -> Result<Effects, NoMemory>
+fn roll_back_block(
+    state: &mut RowState,
+    who: SessionId,
+    effects: &mut Effects,
+) -> Result<(), NoMemory>
     ensures marks { OnOk result (seen state.new ≡ after_part_marks (seen state.old) (leaves false who ((seen state.old).session who).txid)) }
-    ensures told { IfOk result (λ effects. effects ≡ effects_of (leaves false who ((seen state.old).session who).txid)) }
+    ensures told { OnOk result (effects.new ≡ with_effects effects.old (leaves false who ((seen state.old).session who).txid)) }
 {
-    let mut effects = Effects::new(state.alloc());
     if let Some(txid) = state.own_txid(who) {
         state.aborted(who, txid);
         effects.push(Effect::Aborted(txid))?;
     }
     state.block_ended(who);
-    Ok(effects)
+    Ok(())
 }
 
 /// `txid_current`: the transaction gets its id, where it has none.
-fn txid_current(state: &mut RowState, who: SessionId) -> Result<Answer, Stop>
-    ensures { Ran state.old state.new result (txid_current (seen state.old) who) }
+fn txid_current(state: &mut RowState, who: SessionId, step: &mut RowStep) -> Result<(), Stop>
+    ensures { Ran state.old state.new step.old step.new who result (txid_current (seen state.old) who) }
 {
     let txid = txid_for(state, who)?;
     begin_own(state, who, txid)?;
-    let mut effects = Effects::new(state.alloc());
-    commit_own(state, who, txid, &mut effects)?;
-    Ok(Answer {
-        reply: Reply::Number(txid),
-        effects,
-    })
+    commit_own(state, who, txid, &mut step.effects)?;
+    Ok(step.answer(who, Reply::Number(txid))?)
 }
 
 /// `txid_current_snapshot`: the snapshot of the statement's sight.
-fn txid_current_snapshot(state: &RowState, who: SessionId) -> Result<Answer, Stop>
-    ensures { Ran state.now state.now result (txid_current_snapshot (seen state.now) who) }
+fn txid_current_snapshot(state: &RowState, who: SessionId, step: &mut RowStep) -> Result<(), Stop>
+    ensures { Ran state.now state.now step.old step.new who result (txid_current_snapshot (seen state.now) who) }
 {
     let snapshot = state.snapshot(who)?;
-    Ok(Answer::only(state.alloc(), Reply::Snapshot(snapshot)))
+    Ok(step.answer(who, Reply::Snapshot(snapshot))?)
 }
 
 /// `txid_visible_in_snapshot N RAW`
-fn txid_visible_in_snapshot(state: &RowState, txid: u64, text: &Text) -> Result<Answer, Stop>
-    ensures { Ran state.now state.now result (txid_visible_in_snapshot txid text.now) }
+fn txid_visible_in_snapshot(
+    state: &RowState,
+    who: SessionId,
+    txid: u64,
+    text: &Text,
+    step: &mut RowStep,
+) -> Result<(), Stop>
+    ensures { Ran state.now state.now step.old step.new who result (txid_visible_in_snapshot txid text.now) }
 {
     match Snapshot::parse(state.alloc(), text.bytes()) {
-        Ok(snapshot) => Ok(Answer::only(state.alloc(), Reply::Bool(snapshot.sees(txid)))),
+        Ok(snapshot) => Ok(step.answer(who, Reply::Bool(snapshot.sees(txid)))?),
         Err(SnapshotFault::BadSnapshot) => Err(Stop::Refused(Refusal::BadSnapshot)),
         Err(SnapshotFault::NoMemory) => Err(Stop::NoMemory),
     }

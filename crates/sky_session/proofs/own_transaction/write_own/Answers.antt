@@ -1,11 +1,13 @@
 -- A write in a session's transaction, mark by mark, or in one of its own.
-use Rattle.std.proofs.Common.{◌∙◌, ap, None, ◌++◌}
+use Rattle.std.proofs.Common.{[], ◌∷◌, ◌∙◌, ap, None}
 use Rattle.sky_val.specs.Waits.{other_holder}
+use Rattle.sky_model.specs.History.{of_session, tabled, wrote}
 use Rattle.sky_model.specs.State.{RowPart}
 use Rattle.sky_model.specs.OwnTransaction.{commit_of}
-use Rattle.sky_session.specs.Effects.{effects_of}
+use Rattle.sky_session.specs.Effects.{with_effects}
 use Rattle.sky_state.specs.Seen.{seen}
-use Rattle.sky_session.proofs.WrittenLemmas.{holder-begun, owns-written, part-written, in_block}
+use Rattle.sky_session.proofs.Steps.{part-written}
+use Rattle.sky_session.proofs.WrittenLemmas.{holder-begun, owns-written, in_block}
 use Rattle.sky_session.proofs.own_transaction.write_own.Goals as goal
 
 pub wrote-requires-clause-free : goal.wrote-requires-clause-free
@@ -21,11 +23,13 @@ commit_own-requires c =
 
 pub returns-clause-marks : goal.returns-clause-marks
 returns-clause-marks c =
-    part-written (seen c.args.state.now) (seen c.begin_own.new.state) (seen c.wrote.new.self) (seen c.commit_own.new.state) c.args.who c.args.txid c.args.key.table c.args.key.key None c.args.row
-    c.in_ok-begin_own.ensures.ok c.in_ok-wrote.ensures c.in_ok-commit_own.ensures.marks
+    part-written (seen c.args.state.now) (seen c.begin_own.new.state) (seen c.wrote.new.self) (seen c.commit_own.new.state) c.args.who c.args.txid
+    (tabled (wrote (of_session c.args.who) c.args.txid c.args.key.table c.args.key.key None c.args.row) ∷ []) c.in_ok-begin_own.ensures.ok c.in_ok-wrote.ensures
+    (in_block (seen c.args.state.now) (seen c.begin_own.new.state) (seen c.wrote.new.self) c.args.who c.args.txid c.args.key.table c.args.key.key None c.args.row c.in_ok-begin_own.ensures.ok c.in_ok-wrote.ensures)
+    c.in_ok-commit_own.ensures.marks
 
 pub returns-clause-told : goal.returns-clause-told
 returns-clause-told c =
     c.in_ok-commit_own.ensures.told
-    ∙ ap (λ block. c.args.effects.now ++ effects_of (commit_of c.args.who c.args.txid block))
+    ∙ ap (λ block. with_effects c.args.effects.now (commit_of c.args.who c.args.txid block))
     (in_block (seen c.args.state.now) (seen c.begin_own.new.state) (seen c.wrote.new.self) c.args.who c.args.txid c.args.key.table c.args.key.key None c.args.row c.in_ok-begin_own.ensures.ok c.in_ok-wrote.ensures)

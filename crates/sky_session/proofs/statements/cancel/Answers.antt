@@ -6,5 +6,5 @@ use Rattle.sky_session.proofs.statements.cancel.Goals as goal
 
 pub returns : goal.returns
 returns c =
-    does-cancel (seen c.args.state.now) (seen c.waited.new.self) (seen c.abort_block.new.state) c.args.who c.in_ok-undone.undone (sym c.is_waiting.ensures ∙ c.if-not-is_waiting.false)
-    c.waited.ensures.mark c.in_ok-undone.ensures.marks c.in_ok-undone.ensures.told
+    does-cancel (seen c.args.state.now) (seen c.waited.new.self) (seen c.abort_block.new.state) c.args.step.now c.answer-2.new.self c.args.who (sym c.is_waiting.ensures ∙ c.if-not-is_waiting.false)
+    c.waited.ensures.mark c.in_ok-abort_block.ensures.marks c.in_ok-answer-2.ensures.replied (c.in_ok-answer-2.ensures.same ∙ c.in_ok-abort_block.ensures.told)

@@ -15,8 +15,8 @@ use Rattle.sky_session.proofs.statements.run_form.Goals as goal
 pub returns-in-Get-clause-ran : goal.returns-in-Get-clause-ran
 returns-in-Get-clause-ran g c =
     let d = seen c.args.state.now in
-    subst (λ stmt. Ran c.args.state.now c.args.state.now c.get.result (gated g.G.WriteGate.rule c.args.gate.now (row_form d (rows_by d) c.args.who stmt))) (sym c.in-Get.is)
-    (ran-plain g.G.WriteGate.rule c.args.gate.now c.args.state.now c.args.state.now c.get.result (get d (rows_by d) c.args.who c.in-Get.table c.in-Get.key)
+    subst (λ stmt. Ran c.args.state.now c.args.state.now c.args.step.now c.get.new.step c.args.who c.get.result (gated g.G.WriteGate.rule c.args.gate.now (row_form d (rows_by d) c.args.who stmt))) (sym c.in-Get.is)
+    (ran-plain g.G.WriteGate.rule c.args.gate.now c.args.state.now c.args.state.now c.args.step.now c.get.new.step c.args.who c.get.result (get d (rows_by d) c.args.who c.in-Get.table c.in-Get.key)
     (plain-get d (rows_by d) c.args.who c.in-Get.table c.in-Get.key) c.get.ensures)
 
 pub returns-in-Get-clause-passes : goal.returns-in-Get-clause-passes

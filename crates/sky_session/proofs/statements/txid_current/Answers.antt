@@ -1,6 +1,4 @@
-use Rattle.std.proofs.Common.{◌++◌, ap, ◌∙◌}
-use Rattle.sky_model.specs.OwnTransaction.{commit_of}
-use Rattle.sky_session.specs.Effects.{effects_of}
+use Rattle.std.proofs.Common.{◌∙◌}
 use Rattle.sky_state.specs.Seen.{seen}
 use Rattle.sky_session.proofs.Steps.{begun-txid, does-take}
 use Rattle.sky_session.proofs.statements.txid_current.Goals as goal
@@ -10,5 +8,5 @@ commit_own-requires c = begun-txid (seen c.args.state.now) (seen c.begin_own.new
 
 pub returns : goal.returns
 returns c =
-    does-take (seen c.args.state.now) (seen c.begin_own.new.state) (seen c.commit_own.new.state) c.args.who c.in_ok-txid.txid _ c.in_ok-txid.ensures.ok c.in_ok-begin_own.ensures.ok c.in_ok-commit_own.ensures.marks
-    (c.in_ok-commit_own.ensures.told ∙ ap (λ es. es ++ effects_of (commit_of c.args.who c.in_ok-txid.txid ((seen c.begin_own.new.state).session c.args.who).block)) c.new-effects.ensures)
+    does-take (seen c.args.state.now) (seen c.begin_own.new.state) (seen c.commit_own.new.state) c.args.step.now c.answer.new.self c.args.who c.in_ok-txid.txid c.in_ok-txid.ensures.ok c.in_ok-begin_own.ensures.ok c.in_ok-commit_own.ensures.marks
+    c.in_ok-answer.ensures.replied (c.in_ok-answer.ensures.same ∙ c.in_ok-commit_own.ensures.told)

@@ -8,7 +8,7 @@ use Rattle.sky_model.specs.Settling.{settling}
 use Rattle.sky_model.proofs.RowCallStanding.{gated_settle_from_exact}
 use Rattle.sky_state.specs.Views.{RowStateView}
 use Rattle.sky_state.specs.Seen.{seen}
-use Rattle.sky_session.proofs.row_db.RowDb.settle_with.Goals as goal
+use Rattle.sky_session.proofs.row_db.RowDb.settle_into.Goals as goal
 
 pub returns-clause-steps : goal.returns-clause-steps
 returns-clause-steps g c =
