@@ -96,20 +96,8 @@ PlainOutcome c = WritesNone (marks_of c)
 
 none-told : {G : Type 0} (gate : Gate G) (g : G) (marks : List Mark) → WritesNone marks → (takes_all gate g marks ≡ true) × (passed_all gate g marks ≡ g)
 none-told gate g [] plain = (refl, refl)
-none-told gate g (began who t ∷ marks) plain = none-told gate g marks plain
-none-told gate g (ended who t committed ∷ marks) plain = none-told gate g marks plain
-none-told gate g (block_begun who ∷ marks) plain = none-told gate g marks plain
-none-told gate g (repeats who ∷ marks) plain = none-told gate g marks plain
-none-told gate g (looked who ∷ marks) plain = none-told gate g marks plain
-none-told gate g (block_failed who ∷ marks) plain = none-told gate g marks plain
-none-told gate g (block_ended who ∷ marks) plain = none-told gate g marks plain
-none-told gate g (connected who ∷ marks) plain = none-told gate g marks plain
-none-told gate g (disconnected who ∷ marks) plain = none-told gate g marks plain
-none-told gate g (tabled (table_made name columns) ∷ marks) plain = none-told gate g marks plain
 none-told gate g (tabled (wrote who t table key old new) ∷ marks) plain = absurd plain
-none-told gate g (tabled (waits who table key attempt) ∷ marks) plain = none-told gate g marks plain
-none-told gate g (tabled (waited who) ∷ marks) plain = none-told gate g marks plain
-none-told gate g (queued mark ∷ marks) plain = none-told gate g marks plain
+none-told gate g (mark ∷ marks) plain = none-told gate g marks plain
 
 -- without a write a gate has room
 pub takes-none : {G : Type 0} (gate : Gate G) (g : G) (marks : List Mark) → WritesNone marks → takes_all gate g marks ≡ true
@@ -340,21 +328,8 @@ passed-abort gate g who b txid refusal = passed-none gate g (abort who b txid re
 -- ---- the gate that always has room
 
 open-mark : (g : Unit {0}) (mark : Mark) → takes open_gate g mark ≡ true
-open-mark g (began who t) = refl
-open-mark g (ended who t committed) = refl
-open-mark g (block_begun who) = refl
-open-mark g (repeats who) = refl
-open-mark g (looked who) = refl
-open-mark g (block_failed who) = refl
-open-mark g (block_ended who) = refl
-open-mark g (connected who) = refl
-open-mark g (disconnected who) = refl
-open-mark g (tabled (table_made name columns)) = refl
 open-mark g (tabled (wrote (of_session who) t table key old new)) = refl
-open-mark g (tabled (wrote of_worker t table key old new)) = refl
-open-mark g (tabled (waits who table key attempt)) = refl
-open-mark g (tabled (waited who)) = refl
-open-mark g (queued mark) = refl
+open-mark g mark = refl
 
 open-takes : (g : Unit {0}) (marks : List Mark) → takes_all open_gate g marks ≡ true
 open-takes g [] = refl

@@ -101,21 +101,10 @@ settled-quiet who s (Err refusal) quiet = of s.block s.txid
 
 waiting-quiet : (d : RowPart) (marks : List Mark) → NoWaits marks → (behind_marks part_by_itself d marks).waiting ≡ d.waiting
 waiting-quiet d [] quiet = refl
-waiting-quiet d (began who t ∷ marks) quiet = waiting-quiet (after_part d (began who t)) marks quiet
-waiting-quiet d (ended who t true ∷ marks) quiet = waiting-quiet (after_part d (ended who t true)) marks quiet
-waiting-quiet d (ended who t false ∷ marks) quiet = waiting-quiet (after_part d (ended who t false)) marks quiet
-waiting-quiet d (block_begun who ∷ marks) quiet = waiting-quiet (after_part d (block_begun who)) marks quiet
-waiting-quiet d (repeats who ∷ marks) quiet = waiting-quiet (after_part d (repeats who)) marks quiet
-waiting-quiet d (looked who ∷ marks) quiet = waiting-quiet (after_part d (looked who)) marks quiet
-waiting-quiet d (block_failed who ∷ marks) quiet = waiting-quiet (after_part d (block_failed who)) marks quiet
-waiting-quiet d (block_ended who ∷ marks) quiet = waiting-quiet (after_part d (block_ended who)) marks quiet
-waiting-quiet d (connected who ∷ marks) quiet = waiting-quiet (after_part d (connected who)) marks quiet
-waiting-quiet d (disconnected who ∷ marks) quiet = waiting-quiet (after_part d (disconnected who)) marks quiet
-waiting-quiet d (tabled (table_made name columns) ∷ marks) quiet = waiting-quiet (after_part d (tabled (table_made name columns))) marks quiet
-waiting-quiet d (tabled (wrote who t table key old new) ∷ marks) quiet = waiting-quiet (after_part d (tabled (wrote who t table key old new))) marks quiet
 waiting-quiet d (tabled (waits_mark who table key attempt) ∷ marks) quiet = absurd quiet
 waiting-quiet d (tabled (waited who) ∷ marks) quiet = absurd quiet
-waiting-quiet d (queued mark ∷ marks) quiet = waiting-quiet (after_part d (queued mark)) marks quiet
+waiting-quiet d (ended who t true ∷ marks) quiet = waiting-quiet (after_part d (ended who t true)) marks quiet
+waiting-quiet d (mark ∷ marks) quiet = waiting-quiet (after_part d mark) marks quiet
 
 -- one that is ready waits, for a key that nobody holds
 pub record IsReady (d : RowPart) (w : Waiting) : Type 0 where
