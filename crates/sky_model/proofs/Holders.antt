@@ -97,24 +97,7 @@ holder-step h _ (writes v t n at_key old new mine free stands) l table key who i
         }
     of true here false tie e = before e
     of false there b tie e = before e
-holder-step h _ (begins_block v x is_open) l table key who ih e = let w : HasWritten h table key who = ih e in record { txid = w.txid; runs = w.runs; wrote = w.wrote }
-holder-step h _ (fails_block v x f) l table key who ih e = let w : HasWritten h table key who = ih e in record { txid = w.txid; runs = w.runs; wrote = w.wrote }
-holder-step h _ (ends_block v x) l table key who ih e = let w : HasWritten h table key who = ih e in record { txid = w.txid; runs = w.runs; wrote = w.wrote }
-holder-step h _ (connects v x) l table key who ih e = let w : HasWritten h table key who = ih e in record { txid = w.txid; runs = w.runs; wrote = w.wrote }
-holder-step h _ (disconnects v quiet away) l table key who ih e = let w : HasWritten h table key who = ih e in record { txid = w.txid; runs = w.runs; wrote = w.wrote }
-holder-step h _ (repeats_block v) l table key who ih e = let w : HasWritten h table key who = ih e in record { txid = w.txid; runs = w.runs; wrote = w.wrote }
-holder-step h _ (looks v) l table key who ih e = let w : HasWritten h table key who = ih e in record { txid = w.txid; runs = w.runs; wrote = w.wrote }
-holder-step h _ (makes_table name columns x) l table key who ih e = let w : HasWritten h table key who = ih e in record { txid = w.txid; runs = w.runs; wrote = w.wrote }
-holder-step h _ (begins_waiting v n at_key attempt fits) l table key who ih e = let w : HasWritten h table key who = ih e in record { txid = w.txid; runs = w.runs; wrote = w.wrote }
-holder-step h _ (ends_waiting v) l table key who ih e = let w : HasWritten h table key who = ih e in record { txid = w.txid; runs = w.runs; wrote = w.wrote }
-holder-step h _ (makes name x) l table key who ih e = let w : HasWritten h table key who = ih e in record { txid = w.txid; runs = w.runs; wrote = w.wrote }
-holder-step h _ (raises q v i le) l table key who ih e = let w : HasWritten h table key who = ih e in record { txid = w.txid; runs = w.runs; wrote = w.wrote }
-holder-step h _ (puts v q x i n o newest) l table key who ih e = let w : HasWritten h table key who = ih e in record { txid = w.txid; runs = w.runs; wrote = w.wrote }
-holder-step h _ (ticks_next q id time seq i le) l table key who ih e = let w : HasWritten h table key who = ih e in record { txid = w.txid; runs = w.runs; wrote = w.wrote }
-holder-step h _ (registers q name sub tick i x f le) l table key who ih e = let w : HasWritten h table key who = ih e in record { txid = w.txid; runs = w.runs; wrote = w.wrote }
-holder-step h _ (opens batch x) l table key who ih e = let w : HasWritten h table key who = ih e in record { txid = w.txid; runs = w.runs; wrote = w.wrote }
-holder-step h _ (closes batch x) l table key who ih e = let w : HasWritten h table key who = ih e in record { txid = w.txid; runs = w.runs; wrote = w.wrote }
-holder-step h _ (traces n name trigger below is new) l table key who ih e = let w : HasWritten h table key who = ih e in record { txid = w.txid; runs = w.runs; wrote = w.wrote }
+holder-step h _ _ l table key who ih e = let w : HasWritten h table key who = ih e in record { txid = w.txid; runs = w.runs; wrote = w.wrote }
 
 pub holder-written : (h : History) → Legal h → (table : ℕ) (key : List Val) (who : ℕ) → holder table key h ≡ Some who → HasWritten h table key who
 holder-written _ start table key who e = absurd (cc)
@@ -165,24 +148,7 @@ held-step h _ (writes v t n at_key old new mine free stands) l table key ih =
     of who u runs true here false tie true same wrote_it = ih who u runs (pushed u tie wrote_it)
     of who u runs true here false tie false other wrote_it = ih who u runs wrote_it
     of who u runs false there b tie c is wrote_it = ih who u runs wrote_it
-held-step h _ (begins_block v x is_open) l table key ih = ih
-held-step h _ (fails_block v x f) l table key ih = ih
-held-step h _ (ends_block v x) l table key ih = ih
-held-step h _ (connects v x) l table key ih = ih
-held-step h _ (disconnects v quiet away) l table key ih = ih
-held-step h _ (repeats_block v) l table key ih = ih
-held-step h _ (looks v) l table key ih = ih
-held-step h _ (makes_table name columns x) l table key ih = ih
-held-step h _ (begins_waiting v n at_key attempt fits) l table key ih = ih
-held-step h _ (ends_waiting v) l table key ih = ih
-held-step h _ (makes name x) l table key ih = ih
-held-step h _ (raises q v i le) l table key ih = ih
-held-step h _ (puts v q x i n o newest) l table key ih = ih
-held-step h _ (ticks_next q id time seq i le) l table key ih = ih
-held-step h _ (registers q name sub tick i x f le) l table key ih = ih
-held-step h _ (opens batch x) l table key ih = ih
-held-step h _ (closes batch x) l table key ih = ih
-held-step h _ (traces n name trigger below is new) l table key ih = ih
+held-step h _ _ l table key ih = ih
 
 held : (h : History) → Legal h → (table : ℕ) (key : List Val) → Held h table key
 held _ start table key = λ who u runs wrote_it. absurd (cc)
@@ -232,24 +198,7 @@ owner-step h _ (writes v t n at_key old new mine free stands) table key ih = λ 
     of u unended true true same wrote_it = (let one : t ≡ u = grind (arith, nat_tests) in record { who = v; owns = mine ∙ ap Some one })
     of u unended true false same wrote_it = later u (ih u unended wrote_it)
     of u unended false c same wrote_it = later u (ih u unended wrote_it)
-owner-step h _ (begins_block v x is_open) table key ih = λ u unended wrote_it. let o : Owner h u = ih u unended wrote_it in record { who = o.who; owns = o.owns }
-owner-step h _ (fails_block v x f) table key ih = λ u unended wrote_it. let o : Owner h u = ih u unended wrote_it in record { who = o.who; owns = o.owns }
-owner-step h _ (ends_block v x) table key ih = λ u unended wrote_it. let o : Owner h u = ih u unended wrote_it in record { who = o.who; owns = o.owns }
-owner-step h _ (connects v x) table key ih = λ u unended wrote_it. let o : Owner h u = ih u unended wrote_it in record { who = o.who; owns = o.owns }
-owner-step h _ (disconnects v quiet away) table key ih = λ u unended wrote_it. let o : Owner h u = ih u unended wrote_it in record { who = o.who; owns = o.owns }
-owner-step h _ (repeats_block v) table key ih = λ u unended wrote_it. let o : Owner h u = ih u unended wrote_it in record { who = o.who; owns = o.owns }
-owner-step h _ (looks v) table key ih = λ u unended wrote_it. let o : Owner h u = ih u unended wrote_it in record { who = o.who; owns = o.owns }
-owner-step h _ (makes_table name columns x) table key ih = λ u unended wrote_it. let o : Owner h u = ih u unended wrote_it in record { who = o.who; owns = o.owns }
-owner-step h _ (begins_waiting v n at_key attempt fits) table key ih = λ u unended wrote_it. let o : Owner h u = ih u unended wrote_it in record { who = o.who; owns = o.owns }
-owner-step h _ (ends_waiting v) table key ih = λ u unended wrote_it. let o : Owner h u = ih u unended wrote_it in record { who = o.who; owns = o.owns }
-owner-step h _ (makes name x) table key ih = λ u unended wrote_it. let o : Owner h u = ih u unended wrote_it in record { who = o.who; owns = o.owns }
-owner-step h _ (raises q v i le) table key ih = λ u unended wrote_it. let o : Owner h u = ih u unended wrote_it in record { who = o.who; owns = o.owns }
-owner-step h _ (puts v q x i n o newest) table key ih = λ u unended wrote_it. let o : Owner h u = ih u unended wrote_it in record { who = o.who; owns = o.owns }
-owner-step h _ (ticks_next q id time seq i le) table key ih = λ u unended wrote_it. let o : Owner h u = ih u unended wrote_it in record { who = o.who; owns = o.owns }
-owner-step h _ (registers q name sub tick i x f le) table key ih = λ u unended wrote_it. let o : Owner h u = ih u unended wrote_it in record { who = o.who; owns = o.owns }
-owner-step h _ (opens batch x) table key ih = λ u unended wrote_it. let o : Owner h u = ih u unended wrote_it in record { who = o.who; owns = o.owns }
-owner-step h _ (closes batch x) table key ih = λ u unended wrote_it. let o : Owner h u = ih u unended wrote_it in record { who = o.who; owns = o.owns }
-owner-step h _ (traces n name trigger below is new) table key ih = λ u unended wrote_it. let o : Owner h u = ih u unended wrote_it in record { who = o.who; owns = o.owns }
+owner-step h _ _ table key ih = λ u unended wrote_it. let o : Owner h u = ih u unended wrote_it in record { who = o.who; owns = o.owns }
 
 owners : (h : History) → Legal h → (table : ℕ) (key : List Val) → Owners h table key
 owners _ start table key = λ u unended wrote_it. absurd (cc)

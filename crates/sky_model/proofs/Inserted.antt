@@ -49,17 +49,7 @@ beside d = record { part = d.part; undone = d.undone; last_batch_id = d.last_bat
 
 -- a mark changes it alike
 beside-mark : (d e : Database) (mark : Mark) → beside d ≡ beside e → beside (after_mark d mark) ≡ beside (after_mark e mark)
-beside-mark d e (began who t) same = λ i. record (same i) { part = after_part (same i).part (began who t) }
-beside-mark d e (ended who t true) same = λ i. record (same i) { part = after_part (same i).part (ended who t true) }
 beside-mark d e (ended who t false) same = λ i. record (same i) { part = after_part (same i).part (ended who t false); undone = λ u. u == t || (same i).undone u }
-beside-mark d e (block_begun who) same = λ i. record (same i) { part = after_part (same i).part (block_begun who) }
-beside-mark d e (repeats who) same = λ i. record (same i) { part = after_part (same i).part (repeats who) }
-beside-mark d e (looked who) same = λ i. record (same i) { part = after_part (same i).part (looked who) }
-beside-mark d e (block_failed who) same = λ i. record (same i) { part = after_part (same i).part (block_failed who) }
-beside-mark d e (block_ended who) same = λ i. record (same i) { part = after_part (same i).part (block_ended who) }
-beside-mark d e (connected who) same = λ i. record (same i) { part = after_part (same i).part (connected who) }
-beside-mark d e (disconnected who) same = λ i. record (same i) { part = after_part (same i).part (disconnected who) }
-beside-mark d e (tabled mark) same = λ i. record (same i) { part = after_part (same i).part (tabled mark) }
 beside-mark d e (queued (made name)) same = λ i. record (same i) {
   queues_made = (same i).queues_made + 1;
   queues = (same i).queues ++ record { number = (same i).queues_made; name = name } ∷ [];
@@ -73,6 +63,7 @@ beside-mark d e (queued (closed b)) same = λ i. record (same i) { batch = chang
 beside-mark d e (queued (traced table name trigger)) same = λ i. record (same i) {
   triggers = (same i).triggers ++ record { table = table; name = name; trigger = trigger } ∷ [];
 }
+beside-mark d e mark same = λ i. record (same i) { part = after_part (same i).part mark }
 
 beside-alike : (d e : Database) {xs ys : List Mark} → Inserted xs ys → beside d ≡ beside e → beside (after_marks d ys) ≡ beside (after_marks e xs)
 beside-alike d e none same = same

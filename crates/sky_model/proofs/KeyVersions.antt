@@ -241,25 +241,7 @@ key_step : (h : History) (mark : Mark) → Fine h mark → Legal h → (table : 
 key_step h _ (ends who t true e) l table key k = key_committed h l who t (own-unended h l who t e) table key k
 key_step h _ (ends who t false e) l table key k = key_rolled_back h l who t (own-unended h l who t e) table key k
 key_step h _ (writes who t n at_key old new e free stands) l table key k = key_written h l who t n at_key old new e free table key k
-key_step h _ (begins who e) l table key k = record { newest = k.newest; writer = k.writer; own = k.own; only = k.only }
-key_step h _ (begins_block who e is_open) l table key k = record { newest = k.newest; writer = k.writer; own = k.own; only = k.only }
-key_step h _ (fails_block who e f) l table key k = record { newest = k.newest; writer = k.writer; own = k.own; only = k.only }
-key_step h _ (ends_block who e) l table key k = record { newest = k.newest; writer = k.writer; own = k.own; only = k.only }
-key_step h _ (connects who e) l table key k = record { newest = k.newest; writer = k.writer; own = k.own; only = k.only }
-key_step h _ (disconnects who quiet away) l table key k = record { newest = k.newest; writer = k.writer; own = k.own; only = k.only }
-key_step h _ (repeats_block who) l table key k = record { newest = k.newest; writer = k.writer; own = k.own; only = k.only }
-key_step h _ (looks who) l table key k = record { newest = k.newest; writer = k.writer; own = k.own; only = k.only }
-key_step h _ (makes_table name columns e) l table key k = record { newest = k.newest; writer = k.writer; own = k.own; only = k.only }
-key_step h _ (begins_waiting who n at_key attempt fits) l table key k = record { newest = k.newest; writer = k.writer; own = k.own; only = k.only }
-key_step h _ (ends_waiting who) l table key k = record { newest = k.newest; writer = k.writer; own = k.own; only = k.only }
-key_step h _ (makes name e) l table key k = record { newest = k.newest; writer = k.writer; own = k.own; only = k.only }
-key_step h _ (raises q v i le) l table key k = record { newest = k.newest; writer = k.writer; own = k.own; only = k.only }
-key_step h _ (puts who q e i n o newest) l table key k = record { newest = k.newest; writer = k.writer; own = k.own; only = k.only }
-key_step h _ (ticks_next q id time seq i le) l table key k = record { newest = k.newest; writer = k.writer; own = k.own; only = k.only }
-key_step h _ (registers q name sub tick i e f le) l table key k = record { newest = k.newest; writer = k.writer; own = k.own; only = k.only }
-key_step h _ (opens batch e) l table key k = record { newest = k.newest; writer = k.writer; own = k.own; only = k.only }
-key_step h _ (closes batch e) l table key k = record { newest = k.newest; writer = k.writer; own = k.own; only = k.only }
-key_step h _ (traces n name trigger below is new) l table key k = record { newest = k.newest; writer = k.writer; own = k.own; only = k.only }
+key_step h _ _ l table key k = record { newest = k.newest; writer = k.writer; own = k.own; only = k.only }
 
 pub key_holds : (h : History) → Legal h → (table : ℕ) (key : List Val) → KeyHolds h table key
 key_holds _ start table key = record { newest = refl; writer = refl; own = λ t e. refl; only = tt }

@@ -58,22 +58,7 @@ active_batch-id (queued (closed b) ∷ h) id batch is = of (b.id == id) is (acti
     of : (c : Bool) → (if c then None else active_batch id h) ≡ Some batch → (active_batch id h ≡ Some batch → batch.id ≡ id) → batch.id ≡ id
     of true e ih = absurd (cc)
     of false e ih = ih e
-active_batch-id (began who t ∷ h) id batch is = active_batch-id h id batch is
-active_batch-id (ended who t c ∷ h) id batch is = active_batch-id h id batch is
-active_batch-id (block_begun who ∷ h) id batch is = active_batch-id h id batch is
-active_batch-id (block_failed who ∷ h) id batch is = active_batch-id h id batch is
-active_batch-id (block_ended who ∷ h) id batch is = active_batch-id h id batch is
-active_batch-id (connected who ∷ h) id batch is = active_batch-id h id batch is
-active_batch-id (disconnected who ∷ h) id batch is = active_batch-id h id batch is
-active_batch-id (repeats who ∷ h) id batch is = active_batch-id h id batch is
-active_batch-id (looked who ∷ h) id batch is = active_batch-id h id batch is
-active_batch-id (tabled mark ∷ h) id batch is = active_batch-id h id batch is
-active_batch-id (queued (made name) ∷ h) id batch is = active_batch-id h id batch is
-active_batch-id (queued (raised q value) ∷ h) id batch is = active_batch-id h id batch is
-active_batch-id (queued (put q event) ∷ h) id batch is = active_batch-id h id batch is
-active_batch-id (queued (ticked q n time seq) ∷ h) id batch is = active_batch-id h id batch is
-active_batch-id (queued (registered q name sub tick) ∷ h) id batch is = active_batch-id h id batch is
-active_batch-id (queued (traced table name trigger) ∷ h) id batch is = active_batch-id h id batch is
+active_batch-id (_ ∷ h) id batch is = active_batch-id h id batch is
 
 good_create_queue : (h : History) → Legal h → (now : ℤ) (who : ℕ) (name : List ℕ) → Good h who (create_queue (database_of h) now who name)
 good_create_queue h l now who name =

@@ -134,14 +134,12 @@ part_of-mark h (began (of_session who) t) = λ i. record (part_of h) {
   running_ids = running h ++ t ∷ [];
   session = λ n. txid_at (who == n) (session h n) (Some t) i;
 }
-part_of-mark h (began of_worker t) = refl
 part_of-mark h (ended (of_session who) t true) = λ i. record (part_of h) {
   running_ids = filter (λ u. not (u == t)) (running h);
   session = λ n. txid_at (who == n) (session h n) None i;
   wrote_in = λ n u. not (t == u) && (part_of h).wrote_in n u;
   holder = released who (part_of h).holder;
 }
-part_of-mark h (ended of_worker t true) = refl
 part_of-mark h (ended (of_session who) t false) = λ i. record (part_of h) {
   running_ids = filter (λ u. not (u == t)) (running h);
   session = λ n. txid_at (who == n) (session h n) None i;
@@ -149,7 +147,6 @@ part_of-mark h (ended (of_session who) t false) = λ i. record (part_of h) {
   wrote_in = λ n u. not (t == u) && (part_of h).wrote_in n u;
   holder = released who (part_of h).holder;
 }
-part_of-mark h (ended of_worker t false) = refl
 part_of-mark h (block_begun who) = λ i. record (part_of h) { session = λ n. block_at (who == n) (session h n) inside i }
 part_of-mark h (repeats who) = λ i. record (part_of h) { session = λ n. sight_at (who == n) (session h n) (sight n h) at_first refl i }
 part_of-mark h (looked who) = λ i. record (part_of h) { session = λ n. sight_at (who == n) (session h n) (sight n h) (at_place h) refl i }
@@ -157,27 +154,15 @@ part_of-mark h (block_failed who) = λ i. record (part_of h) { session = λ n. o
 part_of-mark h (block_ended who) = λ i. record (part_of h) { session = λ n. over_at (who == n) (session h n) (sight n h) outside refl i }
 part_of-mark h (connected who) = λ i. record (part_of h) { session = λ n. open_at (who == n) (session h n) true i }
 part_of-mark h (disconnected who) = λ i. record (part_of h) { session = λ n. open_at (who == n) (session h n) false i }
-part_of-mark h (tabled (table_made name columns)) = refl
-part_of-mark h (tabled (wrote (of_session who) t table key old new)) = refl
+part_of-mark h (ended of_worker t true) = refl
 part_of-mark h (tabled (wrote of_worker t table key old new)) = refl
-part_of-mark h (tabled (waits who table key attempt)) = refl
-part_of-mark h (tabled (waited who)) = refl
-part_of-mark h (queued mark) = refl
+part_of-mark h _ = refl
 
 -- and a database as `after_mark` says
 pub database_of-mark : (h : History) (mark : Mark) → database_of (mark ∷ h) ≡ after_mark (database_of h) mark
-database_of-mark h (began who t) = λ i. record (database_of h) { part = part_of-mark h (began who t) i }
-database_of-mark h (ended who t true) = λ i. record (database_of h) { part = part_of-mark h (ended who t true) i }
 database_of-mark h (ended who t false) = λ i. record (database_of h) { part = part_of-mark h (ended who t false) i; undone = λ u. u == t || has_rolled_back h u }
-database_of-mark h (block_begun who) = λ i. record (database_of h) { part = part_of-mark h (block_begun who) i }
-database_of-mark h (repeats who) = λ i. record (database_of h) { part = part_of-mark h (repeats who) i }
-database_of-mark h (looked who) = λ i. record (database_of h) { part = part_of-mark h (looked who) i }
-database_of-mark h (block_failed who) = λ i. record (database_of h) { part = part_of-mark h (block_failed who) i }
-database_of-mark h (block_ended who) = λ i. record (database_of h) { part = part_of-mark h (block_ended who) i }
-database_of-mark h (connected who) = λ i. record (database_of h) { part = part_of-mark h (connected who) i }
-database_of-mark h (disconnected who) = λ i. record (database_of h) { part = part_of-mark h (disconnected who) i }
-database_of-mark h (tabled mark) = λ i. record (database_of h) { part = part_of-mark h (tabled mark) i }
 database_of-mark h (queued mark) = database_of-queue_mark h mark
+database_of-mark h mark = λ i. record (database_of h) { part = part_of-mark h mark i }
 
 -- marks one after the other do so too
 pub database_of-marks : (h : History) (marks : List Mark) → database_of (marked h marks) ≡ after_marks (database_of h) marks

@@ -22,19 +22,7 @@ is_in_order-versions table (tabled (wrote who t n key old new) ∷ h) = of (n ==
     of true e = is_in_order-written t key new (versions table h) e
     of false e = e
 is_in_order-versions table (ended who t false ∷ h) = is_in_order-forgotten t (versions table h) (is_in_order-versions table h)
-is_in_order-versions table (ended who t true ∷ h) = is_in_order-versions table h
-is_in_order-versions table (began who t ∷ h) = is_in_order-versions table h
-is_in_order-versions table (block_begun who ∷ h) = is_in_order-versions table h
-is_in_order-versions table (repeats who ∷ h) = is_in_order-versions table h
-is_in_order-versions table (looked who ∷ h) = is_in_order-versions table h
-is_in_order-versions table (block_failed who ∷ h) = is_in_order-versions table h
-is_in_order-versions table (block_ended who ∷ h) = is_in_order-versions table h
-is_in_order-versions table (connected who ∷ h) = is_in_order-versions table h
-is_in_order-versions table (disconnected who ∷ h) = is_in_order-versions table h
-is_in_order-versions table (tabled (table_made name columns) ∷ h) = is_in_order-versions table h
-is_in_order-versions table (tabled (waits who n key attempt) ∷ h) = is_in_order-versions table h
-is_in_order-versions table (tabled (waited who) ∷ h) = is_in_order-versions table h
-is_in_order-versions table (queued mark ∷ h) = is_in_order-versions table h
+is_in_order-versions table (_ ∷ h) = is_in_order-versions table h
 
 -- who has committed has ended
 pub contains-last-of : (t u : ℕ) (ts : List ℕ) → contains t (ts ++ u ∷ []) ≡ (contains t ts || (t == u))
@@ -62,16 +50,7 @@ committed-ended (ended who u false ∷ h) t e = of (t == u) (committed-ended h t
     of : (c : Bool) → has_ended h t ≡ true → (c || has_ended h t) ≡ true
     of true ih = refl
     of false ih = ih
-committed-ended (began who u ∷ h) t e = committed-ended h t e
-committed-ended (block_begun who ∷ h) t e = committed-ended h t e
-committed-ended (repeats who ∷ h) t e = committed-ended h t e
-committed-ended (looked who ∷ h) t e = committed-ended h t e
-committed-ended (block_failed who ∷ h) t e = committed-ended h t e
-committed-ended (block_ended who ∷ h) t e = committed-ended h t e
-committed-ended (connected who ∷ h) t e = committed-ended h t e
-committed-ended (disconnected who ∷ h) t e = committed-ended h t e
-committed-ended (tabled mark ∷ h) t e = committed-ended h t e
-committed-ended (queued mark ∷ h) t e = committed-ended h t e
+committed-ended (_ ∷ h) t e = committed-ended h t e
 
 -- a transaction that hasn't begun has written nothing
 abbrev pub Begun : History → Type 0
@@ -92,25 +71,7 @@ begun_step h _ (writes who t n key old new e free stands) l b = λ table u le. o
         runs_below false is e = absurd (cc)
     of table u true false is le = b table u le
     of table u false d is le = b table u le
-begun_step h _ (ends who t committed e) l b = b
-begun_step h _ (begins_block who e is_open) l b = b
-begun_step h _ (fails_block who e f) l b = b
-begun_step h _ (ends_block who e) l b = b
-begun_step h _ (connects who e) l b = b
-begun_step h _ (disconnects who quiet away) l b = b
-begun_step h _ (repeats_block who) l b = b
-begun_step h _ (looks who) l b = b
-begun_step h _ (makes_table name columns e) l b = b
-begun_step h _ (begins_waiting who n at_key attempt fits) l b = b
-begun_step h _ (ends_waiting who) l b = b
-begun_step h _ (makes name e) l b = b
-begun_step h _ (raises q v i le) l b = b
-begun_step h _ (puts who q e i n o newest) l b = b
-begun_step h _ (ticks_next q id time seq i le) l b = b
-begun_step h _ (registers q name sub tick i e f le) l b = b
-begun_step h _ (opens batch e) l b = b
-begun_step h _ (closes batch e) l b = b
-begun_step h _ (traces n name trigger below is new) l b = b
+begun_step h _ _ l b = b
 
 pub begun : (h : History) → Legal h → Begun h
 begun _ start = λ table t le. refl

@@ -252,17 +252,8 @@ pub record TurnOfRows (turn : Turn) : Type 0 where
 
 rows-append : (xs ys : List Mark) → RowMarks xs → RowMarks ys → RowMarks (xs ++ ys)
 rows-append [] ys rows also = also
-rows-append (began who t ∷ xs) ys rows also = rows-append xs ys rows also
-rows-append (ended who t c ∷ xs) ys rows also = rows-append xs ys rows also
-rows-append (block_begun who ∷ xs) ys rows also = rows-append xs ys rows also
-rows-append (repeats who ∷ xs) ys rows also = rows-append xs ys rows also
-rows-append (looked who ∷ xs) ys rows also = rows-append xs ys rows also
-rows-append (block_failed who ∷ xs) ys rows also = rows-append xs ys rows also
-rows-append (block_ended who ∷ xs) ys rows also = rows-append xs ys rows also
-rows-append (connected who ∷ xs) ys rows also = rows-append xs ys rows also
-rows-append (disconnected who ∷ xs) ys rows also = rows-append xs ys rows also
-rows-append (tabled mark ∷ xs) ys rows also = rows-append xs ys rows also
 rows-append (queued mark ∷ xs) ys rows also = absurd rows
+rows-append (_ ∷ xs) ys rows also = rows-append xs ys rows also
 
 moments-append : (xs ys : List (ℕ × Reply)) → HaveMoments xs → HaveMoments ys → HaveMoments (xs ++ ys)
 moments-append [] ys have also = also

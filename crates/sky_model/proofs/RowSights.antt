@@ -41,38 +41,19 @@ ended-behind h (ended who u c) t e = of (t == u) e
     of : (b : Bool) → has_ended h t ≡ true → (b || has_ended h t) ≡ true
     of true e = refl
     of false e = e
-ended-behind h (began who u) t e = e
-ended-behind h (block_begun who) t e = e
-ended-behind h (repeats who) t e = e
-ended-behind h (looked who) t e = e
-ended-behind h (block_failed who) t e = e
-ended-behind h (block_ended who) t e = e
-ended-behind h (connected who) t e = e
-ended-behind h (disconnected who) t e = e
-ended-behind h (tabled mark) t e = e
-ended-behind h (queued mark) t e = e
+ended-behind h _ t e = e
 
 pub ended-since : {k h : History} → Since k h → (t : ℕ) → has_ended k t ≡ true → has_ended h t ≡ true
 ended-since here t e = e
 ended-since (later {h = h} {mark = mark} since) t e = ended-behind h mark t (ended-since since t e)
 
 rolled_back-behind : (h : History) (mark : Mark) (t : ℕ) → has_rolled_back h t ≡ true → has_rolled_back (mark ∷ h) t ≡ true
-rolled_back-behind h (ended who u true) t e = e
 rolled_back-behind h (ended who u false) t e = of (t == u) e
   where
     of : (b : Bool) → has_rolled_back h t ≡ true → (b || has_rolled_back h t) ≡ true
     of true e = refl
     of false e = e
-rolled_back-behind h (began who u) t e = e
-rolled_back-behind h (block_begun who) t e = e
-rolled_back-behind h (repeats who) t e = e
-rolled_back-behind h (looked who) t e = e
-rolled_back-behind h (block_failed who) t e = e
-rolled_back-behind h (block_ended who) t e = e
-rolled_back-behind h (connected who) t e = e
-rolled_back-behind h (disconnected who) t e = e
-rolled_back-behind h (tabled mark) t e = e
-rolled_back-behind h (queued mark) t e = e
+rolled_back-behind h _ t e = e
 
 rolled_back-since : {k h : History} → Since k h → (t : ℕ) → has_rolled_back k t ≡ true → has_rolled_back h t ≡ true
 rolled_back-since here t e = e
@@ -101,13 +82,7 @@ sight-since (block_ended w ∷ h) who k is = of (w == who) is (sight-since h who
     of : (b : Bool) → (if b then at_each else sight who h) ≡ at_place k → (sight who h ≡ at_place k → Since k h) → Since k (block_ended w ∷ h)
     of true e ih = absurd (cc)
     of false e ih = later (ih e)
-sight-since (connected w ∷ h) who k is = later (sight-since h who k is)
-sight-since (disconnected w ∷ h) who k is = later (sight-since h who k is)
-sight-since (began w t ∷ h) who k is = later (sight-since h who k is)
-sight-since (ended w t c ∷ h) who k is = later (sight-since h who k is)
-sight-since (block_begun w ∷ h) who k is = later (sight-since h who k is)
-sight-since (tabled mark ∷ h) who k is = later (sight-since h who k is)
-sight-since (queued mark ∷ h) who k is = later (sight-since h who k is)
+sight-since (_ ∷ h) who k is = later (sight-since h who k is)
 
 abbrev pub place : History → ℕ → History
 place h who = place_of_sight h (sight who h)
@@ -139,7 +114,6 @@ unended-at {k = k} since t runs = of (has_ended k t) refl
 
 newest-behind : (k h : History) → Since k h → Legal h → (mark : Mark) → Fine h mark → (table : ℕ) (key : List Val)
     → newest_by (has_ended k) (kept (mark ∷ h) table key) ≡ newest_by (has_ended k) (kept h table key)
-newest-behind k h since l _ (ends who t true e) table key = refl
 newest-behind k h since l _ (ends who t false e) table key =
     ap (newest_by (has_ended k)) (versions_at-forgotten t key (versions table h) (is_in_order-versions table h))
     ∙ newest_without (has_ended k) t (kept h table key) (unended-at since t (own-unended h l who t e))
@@ -149,25 +123,7 @@ newest-behind k h since l _ (writes who t n at_key old new e free stands) table 
     of : (b : Bool) → newest_by (has_ended k) (if b then with_version t new (kept h table key) else kept h table key) ≡ newest_by (has_ended k) (kept h table key)
     of true = newest_with (has_ended k) t new (kept h table key) (unended-at since t (own-unended h l who t e))
     of false = refl
-newest-behind k h since l _ (begins who e) table key = refl
-newest-behind k h since l _ (begins_block who e is_open) table key = refl
-newest-behind k h since l _ (fails_block who e f) table key = refl
-newest-behind k h since l _ (ends_block who e) table key = refl
-newest-behind k h since l _ (connects who e) table key = refl
-newest-behind k h since l _ (disconnects who quiet away) table key = refl
-newest-behind k h since l _ (repeats_block who) table key = refl
-newest-behind k h since l _ (looks who) table key = refl
-newest-behind k h since l _ (makes_table name columns e) table key = refl
-newest-behind k h since l _ (begins_waiting who n at_key attempt fits) table key = refl
-newest-behind k h since l _ (ends_waiting who) table key = refl
-newest-behind k h since l _ (makes name e) table key = refl
-newest-behind k h since l _ (raises q v i le) table key = refl
-newest-behind k h since l _ (puts who q e i n o newest) table key = refl
-newest-behind k h since l _ (ticks_next q id time seq i le) table key = refl
-newest-behind k h since l _ (registers q name sub tick i e f le) table key = refl
-newest-behind k h since l _ (opens batch e) table key = refl
-newest-behind k h since l _ (closes batch e) table key = refl
-newest-behind k h since l _ (traces n name trigger below is new) table key = refl
+newest-behind k h since l _ _ table key = refl
 
 -- the newest version that has ended at a place is the row there
 pub row-at : {k h : History} → Since k h → Legal h → (table : ℕ) (key : List Val) → row_of (newest_by (has_ended k) (kept h table key)) ≡ at key (rows table k)
@@ -214,17 +170,7 @@ committed-has (ended who u true ∷ h) t e = of (contains t (committed h)) (t ==
     of b true e ih = refl
     of true false e ih = ih refl
     of false false e ih = absurd (cc)
-committed-has (ended who u false ∷ h) t e = committed-has h t e
-committed-has (began who u ∷ h) t e = committed-has h t e
-committed-has (block_begun who ∷ h) t e = committed-has h t e
-committed-has (repeats who ∷ h) t e = committed-has h t e
-committed-has (looked who ∷ h) t e = committed-has h t e
-committed-has (block_failed who ∷ h) t e = committed-has h t e
-committed-has (block_ended who ∷ h) t e = committed-has h t e
-committed-has (connected who ∷ h) t e = committed-has h t e
-committed-has (disconnected who ∷ h) t e = committed-has h t e
-committed-has (tabled mark ∷ h) t e = committed-has h t e
-committed-has (queued mark ∷ h) t e = committed-has h t e
+committed-has (_ ∷ h) t e = committed-has h t e
 
 -- one that has committed had committed at a place where it had ended
 committed-at : {k h : History} → Since k h → Legal h → (t : ℕ) → has_committed h t ≡ true → has_ended k t ≡ has_committed k t

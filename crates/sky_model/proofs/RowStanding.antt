@@ -36,25 +36,9 @@ part_of-marks h (mark ∷ marks) = part_of-marks (mark ∷ h) marks ∙ ap (λ d
 
 -- the row part of a database behind a mark
 pub part-behind : (d : Database) (mark : Mark) → (after_mark d mark).part ≡ after_part d.part mark
-part-behind d (began who t) = refl
 part-behind d (ended who t true) = refl
-part-behind d (ended who t false) = refl
-part-behind d (block_begun who) = refl
-part-behind d (repeats who) = refl
-part-behind d (looked who) = refl
-part-behind d (block_failed who) = refl
-part-behind d (block_ended who) = refl
-part-behind d (connected who) = refl
-part-behind d (disconnected who) = refl
-part-behind d (tabled mark) = refl
 part-behind d (queued (made name)) = refl
-part-behind d (queued (raised q value)) = refl
-part-behind d (queued (put q event)) = refl
-part-behind d (queued (ticked q id time seq)) = refl
-part-behind d (queued (registered q name sub tick)) = refl
-part-behind d (queued (opened batch)) = refl
-part-behind d (queued (closed batch)) = refl
-part-behind d (queued (traced table name trigger)) = refl
+part-behind d _ = refl
 
 -- within the world a statement is one of the database
 pub statement-within : (w : World) (d : ℕ) (now : ℤ) (who : ℕ) (stmt : Stmt) → statement (within_database by_world d) w now who stmt ≡ statement database_by_itself (w.database d) now who stmt

@@ -17,38 +17,21 @@ use Rattle.sky_model.proofs.Ticks.{snapshot-at_tick, legal-at_tick}
 -- what had ended at a tick has ended
 ended-at_tick : (h : History) (q id t : ℕ) → has_ended (at_tick q id h) t ≡ true → has_ended h t ≡ true
 ended-at_tick [] q id t e = e
-ended-at_tick (began who u ∷ h) q id t e = ended-at_tick h q id t e
 ended-at_tick (ended who u committed ∷ h) q id t e = of (t == u) (ended-at_tick h q id t e)
   where
     of : (b : Bool) → has_ended h t ≡ true → (b || has_ended h t) ≡ true
     of true ih = refl
     of false ih = ih
-ended-at_tick (block_begun who ∷ h) q id t e = ended-at_tick h q id t e
-ended-at_tick (block_failed who ∷ h) q id t e = ended-at_tick h q id t e
-ended-at_tick (block_ended who ∷ h) q id t e = ended-at_tick h q id t e
-ended-at_tick (connected who ∷ h) q id t e = ended-at_tick h q id t e
-ended-at_tick (disconnected who ∷ h) q id t e = ended-at_tick h q id t e
-ended-at_tick (repeats who ∷ h) q id t e = ended-at_tick h q id t e
-ended-at_tick (looked who ∷ h) q id t e = ended-at_tick h q id t e
-ended-at_tick (tabled mark ∷ h) q id t e = ended-at_tick h q id t e
-ended-at_tick (queued (made name) ∷ h) q id t e = ended-at_tick h q id t e
-ended-at_tick (queued (raised p value) ∷ h) q id t e = ended-at_tick h q id t e
-ended-at_tick (queued (put p event) ∷ h) q id t e = ended-at_tick h q id t e
 ended-at_tick (queued (ticked p m time seq) ∷ h) q id t e = of (p == q && m == id) (ended-at_tick h q id t) e
   where
     of : (b : Bool) → (has_ended (at_tick q id h) t ≡ true → has_ended h t ≡ true) → has_ended (if b then h else at_tick q id h) t ≡ true → has_ended h t ≡ true
     of true ih e = e
     of false ih e = ih e
-ended-at_tick (queued (registered p name sub tick) ∷ h) q id t e = ended-at_tick h q id t e
-ended-at_tick (queued (opened b) ∷ h) q id t e = ended-at_tick h q id t e
-ended-at_tick (queued (closed b) ∷ h) q id t e = ended-at_tick h q id t e
-ended-at_tick (queued (traced table name trigger) ∷ h) q id t e = ended-at_tick h q id t e
+ended-at_tick (_ ∷ h) q id t e = ended-at_tick h q id t e
 
 -- what had committed at a tick is what had ended there and hasn't rolled back
 committed-at_tick : (h : History) → Legal h → (q id t : ℕ) → has_committed (at_tick q id h) t ≡ (has_ended (at_tick q id h) t && not (has_rolled_back h t))
 committed-at_tick [] start q id t = has_committed-ended [] start t
-committed-at_tick _ (next {h = h} l (begins who e)) q id t = committed-at_tick h l q id t
-committed-at_tick _ (next {h = h} l (ends who u true mine)) q id t = committed-at_tick h l q id t
 committed-at_tick _ (next {h = h} l (ends who u false mine)) q id t = of (t == u) refl (has_ended (at_tick q id h) t) refl (committed-at_tick h l q id t)
   where
     of : (b : Bool) → (t == u) ≡ b → (e : Bool) → has_ended (at_tick q id h) t ≡ e → has_committed (at_tick q id h) t ≡ (e && not (has_rolled_back h t))
@@ -60,30 +43,13 @@ committed-at_tick _ (next {h = h} l (ends who u false mine)) q id t = of (t == u
         absurd (cc)
     of true same false was ih = ih
     of false same e was ih = ih
-committed-at_tick _ (next {h = h} l (begins_block who e is_open)) q id t = committed-at_tick h l q id t
-committed-at_tick _ (next {h = h} l (fails_block who e f)) q id t = committed-at_tick h l q id t
-committed-at_tick _ (next {h = h} l (ends_block who e)) q id t = committed-at_tick h l q id t
-committed-at_tick _ (next {h = h} l (connects who e)) q id t = committed-at_tick h l q id t
-committed-at_tick _ (next {h = h} l (disconnects who quiet away)) q id t = committed-at_tick h l q id t
-committed-at_tick _ (next {h = h} l (repeats_block who)) q id t = committed-at_tick h l q id t
-committed-at_tick _ (next {h = h} l (looks who)) q id t = committed-at_tick h l q id t
-committed-at_tick _ (next {h = h} l (makes_table name columns e)) q id t = committed-at_tick h l q id t
-committed-at_tick _ (next {h = h} l (begins_waiting who n at_key attempt fits)) q id t = committed-at_tick h l q id t
-committed-at_tick _ (next {h = h} l (ends_waiting who)) q id t = committed-at_tick h l q id t
-committed-at_tick _ (next {h = h} l (writes who u table key old new e free stands)) q id t = committed-at_tick h l q id t
-committed-at_tick _ (next {h = h} l (makes name new)) q id t = committed-at_tick h l q id t
-committed-at_tick _ (next {h = h} l (raises p v i e)) q id t = committed-at_tick h l q id t
-committed-at_tick _ (next {h = h} l (puts who p e i s o newest)) q id t = committed-at_tick h l q id t
 committed-at_tick _ (next {h = h} l (ticks_next p m time seq i e)) q id t = of (p == q && m == id) (committed-at_tick h l q id t)
   where
     of : (b : Bool) → has_committed (at_tick q id h) t ≡ (has_ended (at_tick q id h) t && not (has_rolled_back h t))
         → has_committed (if b then h else at_tick q id h) t ≡ (has_ended (if b then h else at_tick q id h) t && not (has_rolled_back h t))
     of true ih = has_committed-ended h l t
     of false ih = ih
-committed-at_tick _ (next {h = h} l (registers p name sub tick i e f g)) q id t = committed-at_tick h l q id t
-committed-at_tick _ (next {h = h} l (opens b e)) q id t = committed-at_tick h l q id t
-committed-at_tick _ (next {h = h} l (closes b e)) q id t = committed-at_tick h l q id t
-committed-at_tick _ (next {h = h} l (traces table name trigger below is new)) q id t = committed-at_tick h l q id t
+committed-at_tick _ (next {h = h} l _) q id t = committed-at_tick h l q id t
 
 -- what had committed at a tick is what the tick's snapshot sees and hasn't rolled back
 pub committed_at_tick : (h : History) → Legal h → (q id t : ℕ) → has_committed (at_tick q id h) t ≡ (sees (snapshot_at (tick id (ticks q h))) t && not (has_rolled_back h t))
@@ -120,20 +86,6 @@ IsNumbered n es = Ordered 0 es × UpTo n es
 -- events are stored by ids that don't fall, up to the value of the sequence
 pub numbered : (h : History) → Legal h → (q : ℕ) → IsNumbered (sequence q h) (events q h)
 numbered [] start q = (tt, tt)
-numbered _ (next {h = h} l (begins who e)) q = numbered h l q
-numbered _ (next {h = h} l (ends who t committed mine)) q = numbered h l q
-numbered _ (next {h = h} l (begins_block who e is_open)) q = numbered h l q
-numbered _ (next {h = h} l (fails_block who e f)) q = numbered h l q
-numbered _ (next {h = h} l (ends_block who e)) q = numbered h l q
-numbered _ (next {h = h} l (connects who e)) q = numbered h l q
-numbered _ (next {h = h} l (disconnects who quiet away)) q = numbered h l q
-numbered _ (next {h = h} l (repeats_block who)) q = numbered h l q
-numbered _ (next {h = h} l (looks who)) q = numbered h l q
-numbered _ (next {h = h} l (makes_table name columns e)) q = numbered h l q
-numbered _ (next {h = h} l (begins_waiting who n at_key attempt fits)) q = numbered h l q
-numbered _ (next {h = h} l (ends_waiting who)) q = numbered h l q
-numbered _ (next {h = h} l (writes who u table key old new e free stands)) q = numbered h l q
-numbered _ (next {h = h} l (makes name new)) q = numbered h l q
 numbered _ (next {h = h} l (raises p v i le)) q = of (p == q) refl (numbered h l q)
   where
     of : (b : Bool) → (p == q) ≡ b → IsNumbered (sequence q h) (events q h) → IsNumbered (if b then v else sequence q h) (events q h)
@@ -153,11 +105,7 @@ numbered _ (next {h = h} l (puts who p event i is o newest)) q = of (p == q) ref
           UpTo-push (sequence q h) (events q h) event n.1 (omega arith),
         )
     of false e n = n
-numbered _ (next {h = h} l (ticks_next p id time seq i e)) q = numbered h l q
-numbered _ (next {h = h} l (registers p name sub tick i e f g)) q = numbered h l q
-numbered _ (next {h = h} l (opens b e)) q = numbered h l q
-numbered _ (next {h = h} l (closes b e)) q = numbered h l q
-numbered _ (next {h = h} l (traces table name trigger below is new)) q = numbered h l q
+numbered _ (next {h = h} l _) q = numbered h l q
 
 below-next : (n : ℕ) (es : List Event) → UpTo n es → All (λ e. e.ev_id < n + 1) es
 below-next n [] u = All-nil (λ e. e.ev_id < n + 1)

@@ -225,25 +225,7 @@ sound_ended h who t committed mine s = record {
 sound_step : (h : History) (mark : Mark) → Fine h mark → Sound h → Sound (mark ∷ h)
 sound_step h _ (begins who e) s = sound_began h who s
 sound_step h _ (ends who t committed mine) s = sound_ended h who t committed mine s
-sound_step h _ (begins_block who e is_open) s = record { first = s.first; runs = s.runs; ended_below = s.ended_below; rising = s.rising; below = s.below; owns = s.owns; once = s.once }
-sound_step h _ (fails_block who e f) s = record { first = s.first; runs = s.runs; ended_below = s.ended_below; rising = s.rising; below = s.below; owns = s.owns; once = s.once }
-sound_step h _ (ends_block who e) s = record { first = s.first; runs = s.runs; ended_below = s.ended_below; rising = s.rising; below = s.below; owns = s.owns; once = s.once }
-sound_step h _ (connects who e) s = record { first = s.first; runs = s.runs; ended_below = s.ended_below; rising = s.rising; below = s.below; owns = s.owns; once = s.once }
-sound_step h _ (disconnects who quiet away) s = record { first = s.first; runs = s.runs; ended_below = s.ended_below; rising = s.rising; below = s.below; owns = s.owns; once = s.once }
-sound_step h _ (repeats_block who) s = record { first = s.first; runs = s.runs; ended_below = s.ended_below; rising = s.rising; below = s.below; owns = s.owns; once = s.once }
-sound_step h _ (looks who) s = record { first = s.first; runs = s.runs; ended_below = s.ended_below; rising = s.rising; below = s.below; owns = s.owns; once = s.once }
-sound_step h _ (makes_table name columns e) s = record { first = s.first; runs = s.runs; ended_below = s.ended_below; rising = s.rising; below = s.below; owns = s.owns; once = s.once }
-sound_step h _ (begins_waiting who n at_key attempt fits) s = record { first = s.first; runs = s.runs; ended_below = s.ended_below; rising = s.rising; below = s.below; owns = s.owns; once = s.once }
-sound_step h _ (ends_waiting who) s = record { first = s.first; runs = s.runs; ended_below = s.ended_below; rising = s.rising; below = s.below; owns = s.owns; once = s.once }
-sound_step h _ (writes who u table key old new e free stands) s = record { first = s.first; runs = s.runs; ended_below = s.ended_below; rising = s.rising; below = s.below; owns = s.owns; once = s.once }
-sound_step h _ (makes name e) s = record { first = s.first; runs = s.runs; ended_below = s.ended_below; rising = s.rising; below = s.below; owns = s.owns; once = s.once }
-sound_step h _ (raises q v i l) s = record { first = s.first; runs = s.runs; ended_below = s.ended_below; rising = s.rising; below = s.below; owns = s.owns; once = s.once }
-sound_step h _ (puts who q e i n o newest) s = record { first = s.first; runs = s.runs; ended_below = s.ended_below; rising = s.rising; below = s.below; owns = s.owns; once = s.once }
-sound_step h _ (ticks_next q id time seq i l) s = record { first = s.first; runs = s.runs; ended_below = s.ended_below; rising = s.rising; below = s.below; owns = s.owns; once = s.once }
-sound_step h _ (registers q name sub tick i e f l) s = record { first = s.first; runs = s.runs; ended_below = s.ended_below; rising = s.rising; below = s.below; owns = s.owns; once = s.once }
-sound_step h _ (opens b e) s = record { first = s.first; runs = s.runs; ended_below = s.ended_below; rising = s.rising; below = s.below; owns = s.owns; once = s.once }
-sound_step h _ (closes b e) s = record { first = s.first; runs = s.runs; ended_below = s.ended_below; rising = s.rising; below = s.below; owns = s.owns; once = s.once }
-sound_step h _ (traces n name trigger below is new) s = record { first = s.first; runs = s.runs; ended_below = s.ended_below; rising = s.rising; below = s.below; owns = s.owns; once = s.once }
+sound_step h _ _ s = record { first = s.first; runs = s.runs; ended_below = s.ended_below; rising = s.rising; below = s.below; owns = s.owns; once = s.once }
 
 pub sound : (h : History) → Legal h → Sound h
 sound [] start = record {
@@ -295,27 +277,17 @@ own-unended h l who t mine = let s : Sound h = sound h l in runs-unended h s t (
 -- what has rolled back has ended
 ended-rolled_back : (h : History) (t : ℕ) → has_rolled_back h t ≡ true → has_ended h t ≡ true
 ended-rolled_back [] t e = absurd (cc)
-ended-rolled_back (began who u ∷ h) t e = ended-rolled_back h t e
 ended-rolled_back (ended who u true ∷ h) t e = or-right (t == u) (has_ended h t) (ended-rolled_back h t e)
 ended-rolled_back (ended who u false ∷ h) t e = of (t == u) (ended-rolled_back h t) e
   where
     of : (b : Bool) → (has_rolled_back h t ≡ true → has_ended h t ≡ true) → (b || has_rolled_back h t) ≡ true → (b || has_ended h t) ≡ true
     of true ih e = refl
     of false ih e = ih e
-ended-rolled_back (block_begun who ∷ h) t e = ended-rolled_back h t e
-ended-rolled_back (block_failed who ∷ h) t e = ended-rolled_back h t e
-ended-rolled_back (block_ended who ∷ h) t e = ended-rolled_back h t e
-ended-rolled_back (connected who ∷ h) t e = ended-rolled_back h t e
-ended-rolled_back (disconnected who ∷ h) t e = ended-rolled_back h t e
-ended-rolled_back (repeats who ∷ h) t e = ended-rolled_back h t e
-ended-rolled_back (looked who ∷ h) t e = ended-rolled_back h t e
-ended-rolled_back (tabled mark ∷ h) t e = ended-rolled_back h t e
-ended-rolled_back (queued mark ∷ h) t e = ended-rolled_back h t e
+ended-rolled_back (_ ∷ h) t e = ended-rolled_back h t e
 
 -- what has committed is what has ended and hasn't rolled back
 pub has_committed-ended : (h : History) → Legal h → (t : ℕ) → has_committed h t ≡ (has_ended h t && not (has_rolled_back h t))
 has_committed-ended [] start t = and-true (nat_lt t 3)
-has_committed-ended _ (next {h = h} l (begins who e)) t = has_committed-ended h l t
 has_committed-ended _ (next {h = h} l (ends who u true mine)) t = of (t == u) refl (has_ended h t) (has_rolled_back h t) refl (ended-rolled_back h t) (has_committed-ended h l t)
   where
     of : (b : Bool) → (t == u) ≡ b → (e r : Bool) → has_ended h t ≡ e → (r ≡ true → has_ended h t ≡ true) → has_committed h t ≡ (e && not r)
@@ -333,22 +305,4 @@ has_committed-ended _ (next {h = h} l (ends who u false mine)) t = of (t == u) r
         let one : t ≡ u = grind (arith, nat_tests) in
         ih ∙ ap (λ e. e && not (has_rolled_back h t)) (ap (has_ended h) one ∙ own-unended h l who u mine)
     of false same ih = ih
-has_committed-ended _ (next {h = h} l (begins_block who e is_open)) t = has_committed-ended h l t
-has_committed-ended _ (next {h = h} l (fails_block who e f)) t = has_committed-ended h l t
-has_committed-ended _ (next {h = h} l (ends_block who e)) t = has_committed-ended h l t
-has_committed-ended _ (next {h = h} l (connects who e)) t = has_committed-ended h l t
-has_committed-ended _ (next {h = h} l (disconnects who quiet away)) t = has_committed-ended h l t
-has_committed-ended _ (next {h = h} l (repeats_block who)) t = has_committed-ended h l t
-has_committed-ended _ (next {h = h} l (looks who)) t = has_committed-ended h l t
-has_committed-ended _ (next {h = h} l (makes_table name columns e)) t = has_committed-ended h l t
-has_committed-ended _ (next {h = h} l (begins_waiting who n at_key attempt fits)) t = has_committed-ended h l t
-has_committed-ended _ (next {h = h} l (ends_waiting who)) t = has_committed-ended h l t
-has_committed-ended _ (next {h = h} l (writes who u table key old new e free stands)) t = has_committed-ended h l t
-has_committed-ended _ (next {h = h} l (makes name e)) t = has_committed-ended h l t
-has_committed-ended _ (next {h = h} l (raises q v i le)) t = has_committed-ended h l t
-has_committed-ended _ (next {h = h} l (puts who q e i n o newest)) t = has_committed-ended h l t
-has_committed-ended _ (next {h = h} l (ticks_next q id time seq i le)) t = has_committed-ended h l t
-has_committed-ended _ (next {h = h} l (registers q name sub tick i e f g)) t = has_committed-ended h l t
-has_committed-ended _ (next {h = h} l (opens b e)) t = has_committed-ended h l t
-has_committed-ended _ (next {h = h} l (closes b e)) t = has_committed-ended h l t
-has_committed-ended _ (next {h = h} l (traces n name trigger below is new)) t = has_committed-ended h l t
+has_committed-ended _ (next {h = h} l _) t = has_committed-ended h l t

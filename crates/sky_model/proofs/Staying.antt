@@ -57,15 +57,7 @@ pub open-stays : (v : ℕ) (h : History) (marks : List Mark) → Stay marks → 
 open-stays v h [] stay = refl
 open-stays v h (connected who ∷ marks) stay = absurd stay
 open-stays v h (disconnected who ∷ marks) stay = absurd stay
-open-stays v h (began whose t ∷ marks) stay = open-stays v (began whose t ∷ h) marks stay
-open-stays v h (ended whose t committed ∷ marks) stay = open-stays v (ended whose t committed ∷ h) marks stay
-open-stays v h (block_begun who ∷ marks) stay = open-stays v (block_begun who ∷ h) marks stay
-open-stays v h (repeats who ∷ marks) stay = open-stays v (repeats who ∷ h) marks stay
-open-stays v h (looked who ∷ marks) stay = open-stays v (looked who ∷ h) marks stay
-open-stays v h (block_failed who ∷ marks) stay = open-stays v (block_failed who ∷ h) marks stay
-open-stays v h (block_ended who ∷ marks) stay = open-stays v (block_ended who ∷ h) marks stay
-open-stays v h (tabled mark ∷ marks) stay = open-stays v (tabled mark ∷ h) marks stay
-open-stays v h (queued mark ∷ marks) stay = open-stays v (queued mark ∷ h) marks stay
+open-stays v h (mark ∷ marks) stay = open-stays v (mark ∷ h) marks stay
 
 -- the same of what a statement does, where it isn't refused
 abbrev pub Stays : Checked Outcome → Type 0

@@ -96,11 +96,6 @@ fit-step h _ (ends_waiting who) all = each-without (EntryFits h) (EntryFits (tab
     still w apart is =
         let turned : (who == w.who) ≡ false = grind (arith, nat_tests) in
         record { within = is.within; fits = subst (AttemptFits (columns_of w.table h) w.key) (sym (ap (λ b. if b then Deletion else attempt w.who h) turned)) is.fits; is_open = is.is_open }
-fit-step h _ (begins who e) all = each-map (EntryFits h) (EntryFits (began (of_session who) (next_txid h) ∷ h)) (waiting h) (λ w is. record { within = is.within; fits = is.fits; is_open = is.is_open }) all
-fit-step h _ (ends who t c e) all = each-map (EntryFits h) (EntryFits (ended (of_session who) t c ∷ h)) (waiting h) (λ w is. record { within = is.within; fits = is.fits; is_open = is.is_open }) all
-fit-step h _ (begins_block who e is_open) all = each-map (EntryFits h) (EntryFits (block_begun who ∷ h)) (waiting h) (λ w is. record { within = is.within; fits = is.fits; is_open = is.is_open }) all
-fit-step h _ (fails_block who e f) all = each-map (EntryFits h) (EntryFits (block_failed who ∷ h)) (waiting h) (λ w is. record { within = is.within; fits = is.fits; is_open = is.is_open }) all
-fit-step h _ (ends_block who e) all = each-map (EntryFits h) (EntryFits (block_ended who ∷ h)) (waiting h) (λ w is. record { within = is.within; fits = is.fits; is_open = is.is_open }) all
 fit-step h _ (connects who e) all = each-map (EntryFits h) (EntryFits (connected who ∷ h)) (waiting h) (λ w is. record { within = is.within; fits = is.fits; is_open = still (who == w.who) (has_open w.who h) is.is_open }) all
   where
     still : (b o : Bool) → o ≡ true → (if b then true else o) ≡ true
@@ -112,17 +107,7 @@ fit-step h _ (disconnects who quiet away) all = each-other (EntryFits h) (EntryF
     still w apart is =
         let turned : (who == w.who) ≡ false = grind (arith, nat_tests) in
         record { within = is.within; fits = is.fits; is_open = ap (λ b. if b then false else has_open w.who h) turned ∙ is.is_open }
-fit-step h _ (repeats_block who) all = each-map (EntryFits h) (EntryFits (repeats who ∷ h)) (waiting h) (λ w is. record { within = is.within; fits = is.fits; is_open = is.is_open }) all
-fit-step h _ (looks who) all = each-map (EntryFits h) (EntryFits (looked who ∷ h)) (waiting h) (λ w is. record { within = is.within; fits = is.fits; is_open = is.is_open }) all
-fit-step h _ (writes who t n at_key old new e free stands) all = each-map (EntryFits h) (EntryFits (tabled (wrote (of_session who) t n at_key old new) ∷ h)) (waiting h) (λ w is. record { within = is.within; fits = is.fits; is_open = is.is_open }) all
-fit-step h _ (makes name e) all = each-map (EntryFits h) (EntryFits (queued (made name) ∷ h)) (waiting h) (λ w is. record { within = is.within; fits = is.fits; is_open = is.is_open }) all
-fit-step h _ (raises q v i le) all = each-map (EntryFits h) (EntryFits (queued (raised q v) ∷ h)) (waiting h) (λ w is. record { within = is.within; fits = is.fits; is_open = is.is_open }) all
-fit-step h _ (puts who q e i n o newest) all = each-map (EntryFits h) (EntryFits (queued (put q e) ∷ h)) (waiting h) (λ w is. record { within = is.within; fits = is.fits; is_open = is.is_open }) all
-fit-step h _ (ticks_next q id time seq i le) all = each-map (EntryFits h) (EntryFits (queued (ticked q id time seq) ∷ h)) (waiting h) (λ w is. record { within = is.within; fits = is.fits; is_open = is.is_open }) all
-fit-step h _ (registers q name sub tick i e f le) all = each-map (EntryFits h) (EntryFits (queued (registered q name sub tick) ∷ h)) (waiting h) (λ w is. record { within = is.within; fits = is.fits; is_open = is.is_open }) all
-fit-step h _ (opens batch e) all = each-map (EntryFits h) (EntryFits (queued (opened batch) ∷ h)) (waiting h) (λ w is. record { within = is.within; fits = is.fits; is_open = is.is_open }) all
-fit-step h _ (closes batch e) all = each-map (EntryFits h) (EntryFits (queued (closed batch) ∷ h)) (waiting h) (λ w is. record { within = is.within; fits = is.fits; is_open = is.is_open }) all
-fit-step h _ (traces n name trigger below is new) all = each-map (EntryFits h) (EntryFits (queued (traced n name trigger) ∷ h)) (waiting h) (λ w is. record { within = is.within; fits = is.fits; is_open = is.is_open }) all
+fit-step h mark _ all = each-map (EntryFits h) (EntryFits (mark ∷ h)) (waiting h) (λ w is. record { within = is.within; fits = is.fits; is_open = is.is_open }) all
 
 all-fit : (h : History) → Legal h → AllFit h
 all-fit _ start = tt

@@ -320,10 +320,7 @@ whole-value Ignore w v so = whole-ignore_of w v so
 
 whole-text_of : (f : Fixed) → whole false (text_of f) ≡ true
 whole-text_of fixed.Repeatable = refl
-whole-text_of fixed.Read = refl
-whole-text_of fixed.Table = refl
-whole-text_of fixed.Set = refl
-whole-text_of fixed.Backup = refl
+whole-text_of _ = refl
 
 -- a word behind which a row goes on is whole
 whole-when : (k : Kind) (w : List ℕ) (v : Option (Of k)) (f : Of k → Row) (row : Row) (rows : List Row) → value k w ≡ v → when v f ≡ row ∷ rows → whole false w ≡ true

@@ -42,20 +42,9 @@ now-written h table t n u runs ih = of (n == table) (u == t) refl
     of false b same e = ih e
 
 runs-step : (h : History) (mark : Mark) → Fine h mark → Legal h → (table t : ℕ) → (wrote_in table t h ≡ true → has_ended h t ≡ false) → wrote_in table t (mark ∷ h) ≡ true → has_ended (mark ∷ h) t ≡ false
-runs-step h (began whose u) fine l table t ih = ih
 runs-step h (ended whose u c) fine l table t ih = others-end t u (wrote_in table t h) (has_ended h t) ih
-runs-step h (block_begun who) fine l table t ih = ih
-runs-step h (repeats who) fine l table t ih = ih
-runs-step h (looked who) fine l table t ih = ih
-runs-step h (block_failed who) fine l table t ih = ih
-runs-step h (block_ended who) fine l table t ih = ih
-runs-step h (connected who) fine l table t ih = ih
-runs-step h (disconnected who) fine l table t ih = ih
-runs-step h (tabled (table_made name columns)) fine l table t ih = ih
 runs-step h (tabled (wrote whose u n key old new)) fine l table t ih = now-written h table t n u (writer-runs h l fine) ih
-runs-step h (tabled (waits who n key attempt)) fine l table t ih = ih
-runs-step h (tabled (waited who)) fine l table t ih = ih
-runs-step h (queued mark) fine l table t ih = ih
+runs-step h _ fine l table t ih = ih
 
 runs : (h : History) → Legal h → (table t : ℕ) → wrote_in table t h ≡ true → has_ended h t ≡ false
 runs _ start table t e = absurd (cc)
@@ -72,20 +61,9 @@ has-more true c ws w ih e = some-pushed ws w
 has-more false c ws w ih e = ih e
 
 has-step : (h : History) (mark : Mark) (table t : ℕ) → (wrote_in table t h ≡ true → writes_of table t h ≢ []) → wrote_in table t (mark ∷ h) ≡ true → writes_of table t (mark ∷ h) ≢ []
-has-step h (began who u) table t ih = ih
 has-step h (ended who u c) table t ih = λ e. ih (and_parts (not (u == t)) (wrote_in table t h) e).1
-has-step h (block_begun who) table t ih = ih
-has-step h (repeats who) table t ih = ih
-has-step h (looked who) table t ih = ih
-has-step h (block_failed who) table t ih = ih
-has-step h (block_ended who) table t ih = ih
-has-step h (connected who) table t ih = ih
-has-step h (disconnected who) table t ih = ih
-has-step h (tabled (table_made name columns)) table t ih = ih
 has-step h (tabled (wrote v u n key old new)) table t ih = has-more (n == table && u == t) (wrote_in table t h) (writes_of table t h) (record { key = key; row = new }) ih
-has-step h (tabled (waits who n key attempt)) table t ih = ih
-has-step h (tabled (waited who)) table t ih = ih
-has-step h (queued mark) table t ih = ih
+has-step h _ table t ih = ih
 
 has : (h : History) (table t : ℕ) → wrote_in table t h ≡ true → writes_of table t h ≢ []
 has [] table t e = absurd (cc)
@@ -109,20 +87,9 @@ abbrev Back : History → ℕ → ℕ → Type 0
 Back h table t = has_ended h t ≡ false → writes_of table t h ≢ [] → wrote_in table t h ≡ true
 
 back-step : (h : History) (mark : Mark) (table t : ℕ) → Back h table t → Back (mark ∷ h) table t
-back-step h (began who u) table t ih = ih
 back-step h (ended who u c) table t ih = λ e some. back-ended t u (wrote_in table t h) (has_ended h t) (λ unended. ih unended some) e
-back-step h (block_begun who) table t ih = ih
-back-step h (repeats who) table t ih = ih
-back-step h (looked who) table t ih = ih
-back-step h (block_failed who) table t ih = ih
-back-step h (block_ended who) table t ih = ih
-back-step h (connected who) table t ih = ih
-back-step h (disconnected who) table t ih = ih
-back-step h (tabled (table_made name columns)) table t ih = ih
 back-step h (tabled (wrote v u n key old new)) table t ih = λ e. back-more (n == table && u == t) (wrote_in table t h) (writes_of table t h) (record { key = key; row = new }) (ih e)
-back-step h (tabled (waits who n key attempt)) table t ih = ih
-back-step h (tabled (waited who)) table t ih = ih
-back-step h (queued mark) table t ih = ih
+back-step h _ table t ih = ih
 
 back : (h : History) (table t : ℕ) → Back h table t
 back [] table t = λ e some. absurd (some refl)
