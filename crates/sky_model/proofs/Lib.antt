@@ -26,6 +26,7 @@ pub mod SeenRows
 pub mod WaitersFit
 pub mod WrittenRows
 pub mod LawfulRows
+pub mod StatementMarks
 pub mod RowOutcomes
 pub mod LawfulTelling
 pub mod MadeAt
