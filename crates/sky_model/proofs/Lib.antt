@@ -66,7 +66,6 @@ pub mod LockLaws
 pub mod Writers
 pub mod WriteOrder
 pub mod EventIds
-pub mod QueueOutcomes
 pub mod WritesTold
 pub mod IdsFollowWrites
 mod WorkedWrites

@@ -23,8 +23,8 @@ use Rattle.sky_model.specs.DatabaseCalls.{DatabaseCall, stepped, entered, failed
 use Rattle.sky_model.specs.LawsOfWrites.{IsTold, WritesAreTold}
 use Rattle.sky_model.proofs.Marks.{database_of-mark, database_of-marks}
 use Rattle.sky_model.proofs.Lawful.{database-reads, past-behind}
-use Rattle.sky_model.proofs.GatedLemmas.{WritesNone, plain-abort, plain-settled}
-use Rattle.sky_model.proofs.QueueOutcomes.{plain-form}
+use Rattle.sky_model.proofs.StatementMarks.{each-first, each-rest, AnyReply, gives-map, Kinds, no_more, may_leave, kinds, gives-form, given-settled}
+use Rattle.sky_model.proofs.GatedLemmas.{is_no_write, WritesNone, plain-if, plain-abort}
 use Rattle.sky_model.proofs.Resting.{behind-append}
 use Rattle.sky_model.proofs.Inserted.{Inserted, none, with_raised, with_put}
 use Rattle.sky_model.proofs.Telling.{EventMarks, told_by-events}
@@ -37,14 +37,6 @@ first mark (x ∷ xs) = x
 abbrev pub rest : List Mark → List Mark
 rest [] = []
 rest (x ∷ xs) = xs
-
-first-plain : (mark : Mark) (marks : List Mark) → WritesNone (mark ∷ marks) → WritesNone (mark ∷ [])
-first-plain (tabled (wrote whose t table key old new)) marks plain = absurd plain
-first-plain _ marks plain = tt
-
-rest-plain : (mark : Mark) (marks : List Mark) → WritesNone (mark ∷ marks) → WritesNone marks
-rest-plain (tabled (wrote whose t table key old new)) marks plain = absurd plain
-rest-plain _ marks plain = plain
 
 -- each write of a history is told of in another one, which has it below
 abbrev ToldIn : History → History → Type 0
@@ -75,7 +67,8 @@ told-push k h mark plain told (x ∷ later) p whose t table key old new e = told
 
 told-behind : (k h : History) (marks : List Mark) → WritesNone marks → ToldIn k h → ToldIn k (marked h marks)
 told-behind k h [] plain told = told
-told-behind k h (mark ∷ marks) plain told = told-behind k (mark ∷ h) marks (rest-plain mark marks plain) (told-push k h mark (first-plain mark marks plain) told)
+told-behind k h (mark ∷ marks) plain told =
+    told-behind k (mark ∷ h) marks (each-rest is_no_write mark marks plain) (told-push k h mark (each-first is_no_write mark marks [] plain tt) told)
 
 plain-told : (h : History) (marks : List Mark) → WritesNone marks → AllTold h → AllTold (marked h marks)
 plain-told h marks plain told = told-behind (marked h marks) h marks plain (told-later h h marks told)
@@ -141,8 +134,10 @@ tells-told h told now who s (Ok o) = of (with_told (database_of h) now o.marks) 
 form-told : (h : History) → AllTold h → (now : ℤ) (who : ℕ) (stmt : Stmt) → AllTold (marked h (settled who (session h who) (form (database_of h) (shown_in h) now who stmt)).marks)
 form-told h told now who (Row stmt) = tells-told h told now who (session h who) (row_form (part_of h) (rows_in h) who stmt)
 form-told h told now who stmt =
+    let k : Kinds = kinds (has_open who h) stmt in
     plain-told h (settled who (session h who) (form (database_of h) (shown_in h) now who stmt)).marks
-    (plain-settled who (session h who) (form (database_of h) (shown_in h) now who stmt) (plain-form (database_of h) (shown_in h) now who stmt tt)) told
+    (given-settled AnyReply is_no_write (λ _. tt) (plain-if no_more refl) who (session h who) _
+    (gives-map AnyReply AnyReply (may_leave k who) is_no_write (λ reply any. any) (plain-if k refl who) _ (gives-form who (database_of h) (shown_in h) now stmt))).1 told
 
 runs-told : (h : History) → AllTold h → (now : ℤ) (who : ℕ) (stmt : Stmt) (may : Checked (Unit {0})) → AllTold (marked h (runs_if (making database_by_history now who stmt) (where_of stmt) who h may).marks)
 runs-told h told now who stmt (Err refusal) = plain-told h (abort who (session h who).block (session h who).txid refusal) (plain-abort who (session h who).block (session h who).txid refusal) told
