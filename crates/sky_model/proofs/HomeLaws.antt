@@ -1,5 +1,6 @@
 -- Each session has open the database that is its home, whatever is called.
 use Rattle.std.proofs.Common.{◌≡◌, ◌≢◌, ◌↔◌, ◌⊎◌, inl, inr, ℕ, ℤ, List, [], ◌∷◌, ◌++◌, Bool, true, false, ◌==◌, nat_le, Option, Some, None, Ok, Err, map, length, refl, sym, ◌∙◌, ap, subst, arith, if◌then◌else◌}
+use Rattle.std.specs.Prelude.{not}
 use Rattle.std.proofs.lemmas.Bool.Decides.{nat_tests}
 use Rattle.sky_val.specs.Waits.{is_waiting}
 use Rattle.sky_names.specs.Places.{place_of}
@@ -29,7 +30,8 @@ use Rattle.sky_model.proofs.SnapshotLaws.{legal_place}
 use Rattle.sky_model.proofs.Resting.{behind-append}
 use Rattle.sky_model.proofs.PastHistories.{on_top-append, history-marks, AreOutside, history-outside, left-outside}
 use Rattle.sky_model.proofs.Histories.{AllLegal, same-turn-within, legal_past}
-use Rattle.sky_model.proofs.Staying.{Stay, stay-append, open-stays, stay-settled, IsStaying, stays-form, stay-settling}
+use Rattle.sky_model.proofs.StatementMarks.{AnyReply, no_more, each-abort, given-runs}
+use Rattle.sky_model.proofs.Staying.{is_staying, Stay, open-stays, stays-if, IsStaying, stays-form, stay-settling}
 
 pub waiters_have_open : WaitersHaveOpen
 waiters_have_open p is who waits = waits-open p (legal_place p is) who waits
@@ -102,16 +104,9 @@ stay-opens h marks who b stay is v = open-stays v h marks stay ∙ of (who == v)
 -- a statement that opens no database and closes none
 stay-statement : (h : History) (now : ℤ) (who : ℕ) (stmt : Stmt) (may : Checked (Unit {0})) → IsStaying (has_open who h) stmt
     → Stay (runs_if (making database_by_history now who stmt) (where_of stmt) who h may).marks
-stay-statement h now who stmt (Err refusal) is = stay-settled who (session h who) (Err refusal) tt
-stay-statement h now who stmt (Ok _) is = of (takes_sight (where_of stmt) (session h who).sight)
-  where
-    at : (g : History) → IsStaying (has_open who g) stmt → Stay (settled who (session g who) (form (database_of g) (shown_in g) now who stmt)).marks
-    at g so = stay-settled who (session g who) (form (database_of g) (shown_in g) now who stmt) (stays-form (database_of g) (shown_in g) now who stmt so)
-
-    of : (b : Bool) → Stay (if b then looking who (settled who (session (looked who ∷ h) who) (form (database_of (looked who ∷ h)) (shown_in (looked who ∷ h)) now who stmt))
-        else settled who (session h who) (form (database_of h) (shown_in h) now who stmt)).marks
-    of true = at (looked who ∷ h) is
-    of false = at h is
+stay-statement h now who stmt may is =
+    (given-runs AnyReply is_staying (λ _. tt) (stays-if no_more refl) (making database_by_history now who stmt) (where_of stmt) who h may
+    (stays-form (database_of h) (shown_in h) now who stmt is) (stays-form (database_of (looked who ∷ h)) (shown_in (looked who ∷ h)) now who stmt is)).1
 
 -- how a statement is made, by whether it may be
 abbrev made : History → ℤ → ℕ → Stmt → Checked (Unit {0}) → Outcome
@@ -137,7 +132,7 @@ allowed-open true o b quiet is = absurd (cc)
 busy-closes : (h : History) (now : ℤ) (who : ℕ) → is_waiting who (waiting h) ≡ true → Stay (statement database_by_history h now who (Row Close)).marks
 busy-closes h now who waits =
     subst (λ may. Stay (made h now who (Row Close) may).marks) (sym (allowed-busy (is_waiting who (waiting h)) (has_open who h) (block who h) waits))
-    (stay-settled who (session h who) (Err Busy) tt)
+    (each-abort AnyReply is_staying (λ _. tt) (stays-if no_more refl) who (block who h) (own_txid who h) Busy)
 
 -- else it closes the database
 closes : (h : History) (now : ℤ) (who : ℕ) → is_waiting who (waiting h) ≡ false → has_open who h ≡ true → Opens h (statement database_by_history h now who (Row Close)).marks who false
@@ -278,8 +273,8 @@ homed-outside past all homed who stmt (Some name) is none =
 -- a statement is `close`, or leaves its session where it is
 close-or-stays : (stmt : Stmt) (waits is_open : Bool) → is_open ≡ true → (stmt ≡ Row Close) ⊎ ((is_leaving waits stmt ≡ false) × IsStaying is_open stmt)
 close-or-stays (Row Close) waits is_open is = inl refl
-close-or-stays (Row (OpenDb name)) waits is_open is = inr (refl, is)
-close-or-stays _ waits is_open is = inr (refl, tt)
+close-or-stays (Row (OpenDb name)) waits is_open is = inr (refl, ap not is)
+close-or-stays _ waits is_open is = inr (refl, refl)
 
 -- a statement of a session that has a home
 module _ (past : Past) (homed : Homed past) (d who : ℕ) (at_home : home past who ≡ Some d) where
