@@ -1,33 +1,23 @@
 -- What a gate in front of writes does: it is told of each write, refuses those that it has no room for, and leaves all else.
-use Rattle.std.proofs.Common.{◌≡◌, ℕ, ◌^◌, Bool, true, false, nat_le, List, [], ◌∷◌, ◌++◌, Option, Some, None, Ok, Err, option_map, length, is_some, refl, ◌∙◌, ap, if◌then◌else◌}
+use Rattle.std.proofs.Common.{◌≡◌, ℕ, Bool, true, false, List, [], ◌∷◌, ◌++◌, Option, Ok, Err, option_map, length, refl, ◌∙◌, ap}
 use Rattle.std.specs.Prelude.{not, ◌&&◌}
 use Rattle.sky_val.specs.declared.val.Val.{Val}
-use Rattle.sky_val.specs.declared.column.Column.{Column}
-use Rattle.sky_val.specs.Schemas.{schema_fault, row_fault, key_columns}
-use Rattle.sky_val.specs.Waits.{is_waiting}
-use Rattle.sky_names.specs.Places.{place_of}
-use Rattle.sky_txid.specs.SnapshotText.{parse_snapshot}
 use Rattle.sky_model.specs.declared.stmt.Attempt.{Attempt}
 use Rattle.sky_model.specs.declared.stmt.RowStmt.{RowStmt}
-use Rattle.sky_model.specs.declared.stmt.RowStmt.TheVariants.{OpenDb, Close, Cancel, Begin, BeginRepeatableRead, Commit, Rollback, TxidCurrent, TxidCurrentSnapshot, TxidVisibleInSnapshot, CreateTable, Insert, Update, Delete, Get, Scan}
-use Rattle.sky_model.specs.declared.reply.Reply.{Reply}
-use Rattle.sky_model.specs.declared.reply.Reply.TheVariants.{Number}
-use Rattle.sky_model.specs.declared.reply.Limit.TheVariants.{Tables}
+use Rattle.sky_model.specs.declared.stmt.RowStmt.TheVariants.{Get}
 use Rattle.sky_model.specs.declared.reply.Refusal.{Refusal}
-use Rattle.sky_model.specs.declared.reply.Refusal.TheVariants.{BadSnapshot, Canceled, Deadlock, EventIdsSpent, NoTable, TableExists, TooMany, TxidsSpent}
-use Rattle.sky_model.specs.History.{Mark, of_session, of_worker, began, ended, block_begun, repeats, looked, block_failed, block_ended, connected, disconnected, tabled, table_made, wrote, waits, waited, queued}
-use Rattle.sky_model.specs.Sessions.{Block, outside, inside, failed, Session}
+use Rattle.sky_model.specs.declared.reply.Refusal.TheVariants.{Deadlock, EventIdsSpent}
+use Rattle.sky_model.specs.History.{Mark, of_session, tabled, wrote}
+use Rattle.sky_model.specs.Sessions.{Block}
 use Rattle.sky_model.specs.State.{RowPart, after_part, after_part_marks}
 use Rattle.sky_model.specs.ShownRows.{RowsShown, rows_by}
-use Rattle.sky_model.specs.Outcome.{Outcome, Checked, marks_of, ◌>>=◌, ◌>>◌, refused_if, refused_by, found_or, does_marks, end_of, aborts, abort, settled}
-use Rattle.sky_model.specs.OwnTransaction.{own_or_next, txid_for, begin_of, commit_of, written}
-use Rattle.sky_model.specs.StepLocks.{ring, blocked, once_free}
-use Rattle.sky_model.specs.StepSession.{open_db, begin, begin_repeatable_read, leaves, commit, rollback, close, cancel, txid_current, txid_current_snapshot, txid_visible_in_snapshot}
-use Rattle.sky_model.specs.StepRows.{schema_refusal, create_table, bad_values, writes_key, row_or_none, get, scan}
+use Rattle.sky_model.specs.Outcome.{Outcome, Checked, marks_of, ◌>>◌, refused_if, refused_by, abort}
+use Rattle.sky_model.specs.StepLocks.{ring, blocked}
+use Rattle.sky_model.specs.StepRows.{get}
 use Rattle.sky_model.specs.Reader.{part_by_itself}
 use Rattle.sky_model.specs.Gates.{Gate, takes, passed, takes_all, passed_all, gated, by_gate, open_gate}
 use Rattle.sky_model.specs.Settling.{Turn, behind_marks, settling, with_settling}
-use Rattle.sky_model.specs.Calls.{row_form, row_statement, row_turn}
+use Rattle.sky_model.specs.Calls.{row_statement, row_turn}
 use Rattle.sky_model.specs.Printed.{ReplyHasMoments}
 use Rattle.sky_model.proofs.StatementMarks.{EachMark, each-map, AnyReply, each-given, after, Kinds, no_more, may_leave, gives-row_form, each-abort}
 use Rattle.sky_model.proofs.Turns.{ReadAlike, same-settles, same-with_settling, alike-statement, alike-turn, Any, each-any}

@@ -15,7 +15,7 @@ use Rattle.sky_model.specs.Sessions.{own_txid}
 use Rattle.sky_model.specs.Rows.{Write, writes as writes_of, has_written}
 use Rattle.sky_model.specs.Locks.{holder}
 use Rattle.sky_model.specs.LawsOfLocks.{HasWritten}
-use Rattle.sky_model.proofs.Legal.{Fine, begins, ends, begins_block, fails_block, ends_block, connects, disconnects, repeats_block, looks, makes_table, writes, begins_waiting, ends_waiting, makes, raises, puts, ticks_next, registers, opens, closes, traces, Legal, start, next}
+use Rattle.sky_model.proofs.Legal.{Fine, begins, ends, writes, Legal, start, next}
 use Rattle.sky_model.proofs.Snapshots.{sound}
 use Rattle.sky_model.proofs.RowKeys.{begun}
 

@@ -1,5 +1,5 @@
 -- Each session has open the database that is its home, whatever is called.
-use Rattle.std.proofs.Common.{◌≡◌, ◌≢◌, ◌↔◌, ◌⊎◌, inl, inr, ℕ, ℤ, List, [], ◌∷◌, ◌++◌, Bool, true, false, ◌==◌, nat_le, Option, Some, None, Ok, Err, map, length, refl, sym, ◌∙◌, ap, subst, arith, if◌then◌else◌}
+use Rattle.std.proofs.Common.{◌≡◌, ◌≢◌, ◌⊎◌, inl, inr, ℕ, ℤ, List, [], ◌∷◌, ◌++◌, Bool, true, false, ◌==◌, nat_le, Option, Some, None, Ok, Err, map, length, refl, sym, ◌∙◌, ap, subst, arith, if◌then◌else◌}
 use Rattle.std.specs.Prelude.{not}
 use Rattle.std.proofs.lemmas.Bool.Decides.{nat_tests}
 use Rattle.sky_val.specs.Waits.{is_waiting}
@@ -7,28 +7,27 @@ use Rattle.sky_names.specs.Places.{place_of}
 use Rattle.sky_model.specs.declared.stmt.Stmt.{Stmt}
 use Rattle.sky_model.specs.declared.stmt.Stmt.TheVariants.{Row}
 use Rattle.sky_model.specs.declared.stmt.RowStmt.TheVariants.{OpenDb, Close}
-use Rattle.sky_model.specs.declared.stmt.Where.{Where}
 use Rattle.sky_model.specs.declared.stmt.Where.TheVariants.{Anywhere, WhenOpen}
 use Rattle.sky_model.specs.declared.reply.Refusal.TheVariants.{Busy}
-use Rattle.sky_model.specs.History.{Mark, looked, connected, disconnected, History, Fact, appeared, founded, entered, left, within, Past}
+use Rattle.sky_model.specs.History.{Mark, looked, History, Fact, appeared, founded, entered, left, within, Past}
 use Rattle.sky_model.specs.Sessions.{Block, outside, inside, failed, has_open, block, own_txid, session}
 use Rattle.sky_model.specs.Locks.{waiting}
-use Rattle.sky_model.specs.State.{part_of, database_of}
+use Rattle.sky_model.specs.State.{database_of}
 use Rattle.sky_model.specs.World.{home, history_in, session_names, database_names, on_top, world_of}
 use Rattle.sky_model.specs.Outcome.{Outcome, Checked, settled}
 use Rattle.sky_model.specs.Allowed.{where_of, allowed}
-use Rattle.sky_model.specs.Made.{takes_sight, looking, runs_if}
+use Rattle.sky_model.specs.Made.{runs_if}
 use Rattle.sky_model.specs.StepSession.{open_db, close}
 use Rattle.sky_model.specs.Telling.{tells}
 use Rattle.sky_model.specs.Reader.{shown_in, part_by_history, database_by_history, within_part, within_database, by_past, Deed, appears}
 use Rattle.sky_model.specs.Settling.{Turn, marked, behind_marks, settling}
-use Rattle.sky_model.specs.Calls.{form, making, statement, database_turn, deed_in, opening, opens, outside_does, is_leaving, left_if, session_does, turn, Call, called, past_of}
+use Rattle.sky_model.specs.Calls.{making, statement, database_turn, deed_in, opening, opens, outside_does, is_leaving, left_if, session_does, turn, Call, called, past_of}
 use Rattle.sky_model.specs.LawsOfHistories.{HomesAreOpen, WaitersHaveOpen, BlocksAreOpen}
 use Rattle.sky_model.proofs.Legal.{Fine, begins_block, fails_block, ends_block, connects, disconnects, Legal, start, next}
 use Rattle.sky_model.proofs.WaitersFit.{waits-open}
 use Rattle.sky_model.proofs.SnapshotLaws.{legal_place}
 use Rattle.sky_model.proofs.Resting.{behind-append}
-use Rattle.sky_model.proofs.PastHistories.{on_top-append, history-marks, AreOutside, history-outside, left-outside}
+use Rattle.sky_model.proofs.PastHistories.{on_top-append, history-marks, AreOutside, history-outside}
 use Rattle.sky_model.proofs.Histories.{AllLegal, same-turn-within, legal_past}
 use Rattle.sky_model.proofs.StatementMarks.{AnyReply, no_more, each-abort, given-runs}
 use Rattle.sky_model.proofs.Staying.{is_staying, Stay, open-stays, stays-if, IsStaying, stays-form, stay-settling}

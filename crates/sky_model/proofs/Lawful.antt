@@ -11,7 +11,7 @@ use Rattle.sky_model.specs.declared.reply.Limit.TheVariants.{Queues, Triggers}
 use Rattle.sky_model.specs.declared.reply.Refusal.TheVariants.{BadColumn, NoQueue, NoTable, TableBusy, TooMany, TriggerExists, TxidsSpent, EventIdsSpent, NoConsumer}
 use Rattle.sky_val.specs.Waits.{Waiting, is_waiting}
 use Rattle.sky_names.specs.Places.{place_of}
-use Rattle.sky_model.specs.History.{Batch, Mark, of_session, began, ended, block_begun, block_failed, block_ended, connected, disconnected, repeats, looked, tabled, waited, queued, made, raised, put, ticked, registered, opened, closed, traced, History}
+use Rattle.sky_model.specs.History.{Batch, Mark, of_session, began, ended, looked, tabled, waited, queued, made, raised, put, ticked, opened, closed, History}
 use Rattle.sky_model.specs.Transactions.{next_txid}
 use Rattle.sky_model.specs.Sessions.{Block, outside, inside, failed, has_open, block, own_txid, session}
 use Rattle.sky_model.specs.Rows.{table_names, columns_of}
@@ -34,7 +34,7 @@ use Rattle.sky_model.specs.Gates.{Gate, takes_all, gated, by_gate}
 use Rattle.sky_model.specs.Made.{takes_sight, looking, runs_if}
 use Rattle.sky_model.specs.Settling.{Turn, turn_of, behind_marks, and_then, ready, attempted, resumed, goes_on, settles, settling, with_settling}
 use Rattle.sky_model.specs.Calls.{row_form, form, row_making, making, row_statement, row_turn, statement, database_turn, turn}
-use Rattle.sky_model.proofs.Legal.{MayWait, Fine, IsAmong, IsQueue, begins, ends, looks, ends_waiting, makes, raises, puts, ticks_next, registers, opens as opens_fine, closes, traces, Chain, done, more, Legal, next}
+use Rattle.sky_model.proofs.Legal.{MayWait, IsAmong, IsQueue, begins, ends, looks, ends_waiting, makes, raises, puts, ticks_next, registers, opens as opens_fine, closes, traces, Chain, done, more, Legal, next}
 use Rattle.sky_model.proofs.Good.{MayStand, Good, same-session, good_test, good_test_then, good_found, good_if, good_refused, good_refused_by, good_commits}
 use Rattle.sky_model.proofs.RowOutcomes.{OfRows, attempts-rows, form-rows}
 use Rattle.sky_model.proofs.LawfulTelling.{good_append, legal_behind, good_tells}

@@ -1,26 +1,19 @@
 -- When those that a statement lets go on have been run, none is ready, and no more are run than wait.
-use Rattle.std.proofs.Common.{◌≡◌, ℕ, zero, suc, ◌<◌, ◌≤◌, ◌^◌, Bool, true, false, ◌==◌, nat_le, List, [], ◌∷◌, ◌++◌, Option, Some, None, Ok, Err, option_map, length, is_some, refl, sym, ◌∙◌, ap, subst, arith, if◌then◌else◌}
-use Rattle.std.specs.Prelude.{is_none, not, ◌&&◌, ◌||◌}
+use Rattle.std.proofs.Common.{◌≡◌, ℕ, zero, suc, ◌<◌, ◌≤◌, Bool, true, false, ◌==◌, List, [], ◌∷◌, ◌++◌, Option, Some, None, length, is_some, refl, sym, ◌∙◌, ap, subst, arith, if◌then◌else◌}
+use Rattle.std.specs.Prelude.{is_none, ◌&&◌, ◌||◌}
 use Rattle.std.proofs.lemmas.Bool.Decides.{nat_tests}
 use Rattle.sky_val.specs.declared.val.Val.{Val}
 use Rattle.sky_val.specs.Waits as waits
 use Rattle.sky_val.specs.Waits.{Holders, other_than, other_holder, Waiting, is_waiting, without}
 use Rattle.sky_val.proofs.WaitLemmas.{without_shorter}
-use Rattle.sky_model.specs.declared.reply.Reply.TheVariants.{Number}
-use Rattle.sky_model.specs.declared.reply.Refusal.{Refusal}
-use Rattle.sky_model.specs.declared.reply.Refusal.TheVariants.{Duplicate, EventIdsSpent, Serialize, TxidsSpent}
 use Rattle.sky_model.specs.declared.stmt.Attempt.{Attempt}
-use Rattle.sky_model.specs.declared.stmt.Attempt.TheVariants.{Insertion, Changes, Deletion}
-use Rattle.sky_model.specs.History.{Mark, of_session, began, ended, block_begun, repeats, looked, block_failed, block_ended, connected, disconnected, tabled, table_made, wrote, waits as waits_mark, waited, queued}
-use Rattle.sky_model.specs.Sessions.{Block, outside, inside, failed, Session}
+use Rattle.sky_model.specs.History.{Mark, ended, tabled, waits as waits_mark, waited}
 use Rattle.sky_model.specs.State.{RowPart, after_part}
 use Rattle.sky_model.specs.ShownRows.{KeyShown}
-use Rattle.sky_model.specs.Outcome.{Outcome, Checked, ◌>>=◌, ◌>>◌, refused_if, refused_by, does_marks, end_of, aborts, abort, settled}
-use Rattle.sky_model.specs.OwnTransaction.{own_or_next, begin_of, commit_of}
-use Rattle.sky_model.specs.StepLocks.{once_free}
-use Rattle.sky_model.specs.StepRows.{with_sets, writes_key, changes, some_row, attempts}
+use Rattle.sky_model.specs.Outcome.{Outcome, Checked}
+use Rattle.sky_model.specs.StepRows.{attempts}
 use Rattle.sky_model.specs.Reader.{PartReader, part_by_itself}
-use Rattle.sky_model.specs.Gates.{Gate, takes_all, gated, by_gate}
+use Rattle.sky_model.specs.Gates.{Gate, by_gate}
 use Rattle.sky_model.specs.Settling.{Turn, rests, behind_marks, joined, and_then, ready, attempted, resumed, goes_on, settles, settling}
 use Rattle.sky_model.specs.Printed.{ReplyHasMoments}
 use Rattle.sky_model.proofs.StatementMarks.{EachMark, Gives, gives-map, Kinds, no_more, may_leave, attempt_kinds, gives-attempts, gives-gated, given-settled}

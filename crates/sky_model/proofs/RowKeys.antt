@@ -6,11 +6,11 @@ use Rattle.sky_val.specs.Entries.{is_in_order}
 use Rattle.sky_txid.specs.Ids.{contains}
 use Rattle.sky_txid.specs.Versions.{written}
 use Rattle.sky_txid.proofs.EntryLemmas.{is_in_order-written, is_in_order-forgotten}
-use Rattle.sky_model.specs.History.{Mark, began, ended, block_begun, repeats, looked, block_failed, block_ended, connected, disconnected, tabled, table_made, wrote, waits, waited, queued, History}
+use Rattle.sky_model.specs.History.{Mark, ended, tabled, wrote, History}
 use Rattle.sky_model.specs.Transactions.{next_txid, running, has_ended}
 use Rattle.sky_model.specs.Rows.{committed, writes as writes_of}
 use Rattle.sky_model.specs.Versions.{versions}
-use Rattle.sky_model.proofs.Legal.{Fine, begins, ends, begins_block, fails_block, ends_block, connects, disconnects, repeats_block, looks, makes_table, writes, begins_waiting, ends_waiting, makes, raises, puts, ticks_next, registers, opens, closes, traces, Legal, start, next}
+use Rattle.sky_model.proofs.Legal.{Fine, begins, writes, Legal, start, next}
 use Rattle.sky_model.proofs.Snapshots.{sound}
 
 -- the versions of a table stand in the order of their keys

@@ -3,7 +3,6 @@ use Rattle.std.proofs.Common.{◌≡◌, ℕ, zero, suc, ℤ, ◌+◌, List, [],
 use Rattle.std.specs.Prelude.{not, ◌&&◌}
 use Rattle.std.proofs.lemmas.List.Elements.{All-cons, All-append}
 use Rattle.sky_val.specs.declared.val.Val.{Val}
-use Rattle.sky_val.specs.Schemas.{key_of}
 use Rattle.sky_val.specs.Waits.{Waiting, other_holder, is_waiting}
 use Rattle.sky_urlenc.specs.RowEvents.{RowEvent}
 use Rattle.sky_model.specs.declared.stmt.Attempt.{Attempt}
@@ -17,24 +16,25 @@ use Rattle.sky_model.specs.declared.reply.Reply.{Reply}
 use Rattle.sky_model.specs.declared.reply.Reply.TheVariants.{Refused}
 use Rattle.sky_model.specs.declared.reply.Refusal.{Refusal}
 use Rattle.sky_model.specs.declared.reply.Refusal.TheVariants.{Canceled}
-use Rattle.sky_model.specs.History.{Batch, Mark, QueueMark, of_session, began, connected, disconnected, looked, block_failed, tabled, wrote, waits, waited, queued, raised, put}
+use Rattle.sky_model.specs.History.{Batch, Mark, QueueMark, of_session, connected, disconnected, looked, block_failed, tabled, wrote, waits, waited, queued, raised, put}
 use Rattle.sky_model.specs.Queues.{Tick, tick}
 use Rattle.sky_model.specs.Consumers.{Subscription}
 use Rattle.sky_model.specs.Sessions.{Block, outside, inside, failed, Session}
 use Rattle.sky_model.specs.State.{RowPart, Database, after_mark, after_marks}
 use Rattle.sky_model.specs.ShownRows.{KeyShown, RowsShown}
-use Rattle.sky_model.specs.Outcome.{Outcome, Checked, marks_of, ◌>>=◌, ◌>>◌, refused_if, does_marks, end_of, aborts, abort, settled}
+use Rattle.sky_model.specs.Outcome.{Outcome, Checked, marks_of, ◌>>=◌, ◌>>◌, does_marks, end_of, aborts, abort, settled}
 use Rattle.sky_model.specs.OwnTransaction.{begin_of, commit_of, written}
 use Rattle.sky_model.specs.StepLocks.{once_free}
 use Rattle.sky_model.specs.StepSession.{open_db, begin, begin_repeatable_read, leaves, commit, rollback, close, cancel}
-use Rattle.sky_model.specs.StepRows.{with_sets, writes_key, changes, some_row, attempts, row_or_none}
+use Rattle.sky_model.specs.SessionMarks.{failure}
+use Rattle.sky_model.specs.StepRows.{writes_key, changes, attempts, row_or_none}
 use Rattle.sky_model.specs.StepQueue.{next_event_id}
 use Rattle.sky_model.specs.StepConsumer.{opens_batch, takes_batch, finishes}
 use Rattle.sky_model.specs.Telling.{events_in, told_event, event_marks, told_by, told_of, with_told, tells}
 use Rattle.sky_model.specs.Printed.{ReplyHasMoments, HaveMoments}
 use Rattle.sky_model.specs.Made.{Making, takes_sight, looking, runs_if}
 use Rattle.sky_model.specs.Reader.{Shown, PartReader}
-use Rattle.sky_model.specs.Gates.{Gate, takes_all, gated, by_gate}
+use Rattle.sky_model.specs.Gates.{Gate, gated}
 use Rattle.sky_model.specs.Settling.{Turn, turn_of, behind_marks, and_then, ready, attempted, resumed, goes_on, settles, settling}
 use Rattle.sky_model.specs.Calls.{row_form, form}
 use Rattle.sky_model.proofs.Good.{same-session}
@@ -64,6 +64,10 @@ each-append p (x ∷ xs) ys all also = when-map (p x) (p x) (λ e. e) (λ rest. 
 -- with a mark in front
 each-front : (p : Mark → Bool) (mark : Mark) (marks : List Mark) → p mark ≡ true → EachMark p marks → EachMark p (mark ∷ marks)
 each-front p mark marks e all = subst (λ b. When b (EachMark p marks)) (sym e) all
+
+pub when-true : (T : Type 0) (b : Bool) → When b T → b ≡ true
+when-true T true t = refl
+when-true T false t = absurd t
 
 -- with others behind it
 pub each-first : (p : Mark → Bool) (mark : Mark) (marks later : List Mark) → EachMark p (mark ∷ marks) → EachMark p later → EachMark p (mark ∷ later)
@@ -380,6 +384,11 @@ module _ (who : ℕ) where
 module _ (R : Reply → Type 0) (p : Mark → Bool) (refuses : (refusal : Refusal) → R (Refused refusal)) (plain : (who : ℕ) (mark : Mark) → may_leave no_more who mark ≡ true → p mark ≡ true) where
   pub each-abort : (who : ℕ) (b : Block) (txid : Option ℕ) (refusal : Refusal) → EachMark p (abort who b txid refusal)
   each-abort who b txid refusal = each-map (may_leave no_more who) p (plain who) (abort who b txid refusal) (left-abort no_more who b txid refusal)
+
+  pub each-failure : (who : ℕ) (txid : Option ℕ) (b : Block) → EachMark p (failure who txid b)
+  each-failure who txid outside = tt
+  each-failure who txid inside = each-abort who inside txid Canceled
+  each-failure who txid failed = tt
 
   pub given-settled : (who : ℕ) (s : Session) (c : Checked Outcome) → Gives R p c → Given R p (settled who s c)
   given-settled who s (Ok o) given = given

@@ -4,9 +4,8 @@ use Rattle.sky_model.specs.declared.stmt.Stmt.{Stmt}
 use Rattle.sky_model.specs.History.{Mark, connected, disconnected, History}
 use Rattle.sky_model.specs.Sessions.{has_open}
 use Rattle.sky_model.specs.State.{Database, database_of}
-use Rattle.sky_model.specs.Outcome.{Outcome, Checked}
 use Rattle.sky_model.specs.Printed.{ReplyHasMoments}
-use Rattle.sky_model.specs.Reader.{Shown, part_by_history, database_by_history, within_part}
+use Rattle.sky_model.specs.Reader.{Shown, database_by_history, within_part}
 use Rattle.sky_model.specs.Settling.{marked, settling}
 use Rattle.sky_model.specs.Calls.{form}
 use Rattle.sky_model.proofs.StatementMarks.{EachMark, Gives, AnyReply, gives-map, Kinds, may_leave, attempt_kinds, kinds, gives-tells, gives-form, settling-gives}

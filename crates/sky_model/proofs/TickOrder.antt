@@ -1,11 +1,11 @@
 -- Ticks are in order: what had committed at one had committed at each later one.
 use Rattle.std.proofs.Common.{◌≡◌, ℕ, ◌<◌, List, [], ◌∷◌, ◌++◌, Bool, true, false, ◌&&◌, ◌||◌, ◌==◌, Some, None, is_some, refl, sym, ◌∙◌, ap, subst, arith, if◌then◌else◌}
 use Rattle.std.proofs.lemmas.Bool.Decides.{nat_tests}
-use Rattle.sky_model.specs.History.{began, ended, block_begun, block_failed, block_ended, connected, disconnected, repeats, looked, tabled, queued, made, raised, put, ticked, registered, opened, closed, traced, History}
+use Rattle.sky_model.specs.History.{ended, queued, ticked, History}
 use Rattle.sky_model.specs.Transactions.{has_committed, snapshot}
 use Rattle.sky_model.specs.Queues.{Tick, ticks, tick, newest_tick, at_tick}
 use Rattle.sky_model.specs.StepQueue.{id_of}
-use Rattle.sky_model.proofs.Legal.{begins, ends, begins_block, fails_block, ends_block, connects, disconnects, repeats_block, looks, makes_table, writes, begins_waiting, ends_waiting, makes, raises, puts, ticks_next, registers, opens, closes, traces, Legal, start, next}
+use Rattle.sky_model.proofs.Legal.{ticks_next, Legal, start, next}
 use Rattle.sky_model.proofs.Ticks.{none_above}
 
 -- a queue's tick is made

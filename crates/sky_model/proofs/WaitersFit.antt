@@ -6,15 +6,14 @@ use Rattle.sky_val.specs.declared.column.Column.{Column}
 use Rattle.sky_val.specs.Waits.{Waiting, is_waiting, without}
 use Rattle.sky_val.proofs.WaitLemmas.{is_waiting-without}
 use Rattle.sky_model.specs.declared.stmt.Attempt.TheVariants.{Deletion}
-use Rattle.sky_model.specs.History.{Mark, of_session, began, ended, block_begun, repeats, looked, block_failed, block_ended, connected, disconnected, tabled, table_made, wrote, waits, waited, queued, made, raised, put, ticked, registered, opened, closed, traced, History}
-use Rattle.sky_model.specs.Transactions.{next_txid}
+use Rattle.sky_model.specs.History.{Mark, connected, disconnected, tabled, table_made, waits, waited, History}
 use Rattle.sky_model.specs.Sessions.{has_open}
 use Rattle.sky_model.specs.Rows.{table_names, columns_of}
 use Rattle.sky_model.specs.Locks.{waiting, attempt}
 use Rattle.sky_model.specs.State.{part_of}
 use Rattle.sky_model.specs.Settling.{ready}
 use Rattle.sky_model.proofs.Good.{same-session}
-use Rattle.sky_model.proofs.Legal.{AttemptFits, MayWait, Fine, begins, ends, begins_block, fails_block, ends_block, connects, disconnects, repeats_block, looks, makes_table, writes, begins_waiting, ends_waiting, makes, raises, puts, ticks_next, registers, opens, closes, traces, Legal, start, next}
+use Rattle.sky_model.proofs.Legal.{AttemptFits, MayWait, Fine, connects, disconnects, makes_table, begins_waiting, ends_waiting, Legal, start, next}
 
 -- ---- each entry of a list
 

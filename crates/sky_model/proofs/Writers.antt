@@ -4,7 +4,7 @@ use Rattle.std.specs.Prelude.{◌||◌, ◌&&◌, ◌==◌}
 use Rattle.std.proofs.lemmas.Bool.{and_parts}
 use Rattle.std.proofs.lemmas.Bool.Decides.{nat_tests}
 use Rattle.sky_val.specs.declared.val.Val.{Val}
-use Rattle.sky_model.specs.History.{Whose, Mark, began, ended, block_begun, repeats, looked, block_failed, block_ended, connected, disconnected, tabled, table_made, wrote, waits, waited, queued, History}
+use Rattle.sky_model.specs.History.{Whose, Mark, ended, tabled, wrote, History}
 use Rattle.sky_model.specs.Transactions.{has_ended}
 use Rattle.sky_model.specs.Rows.{Write, writes as writes_of, wrote_in}
 use Rattle.sky_model.specs.LawsOfLocks.{WritersHaveWritten}

@@ -5,7 +5,7 @@ use Rattle.sky_val.specs.Waits.{Waiting, is_waiting}
 use Rattle.sky_model.specs.declared.stmt.Stmt.{Stmt}
 use Rattle.sky_model.specs.declared.stmt.Stmt.TheVariants.{Row}
 use Rattle.sky_model.specs.History.{Mark, Whose, of_session, of_worker, looked, tabled, wrote, waited, History}
-use Rattle.sky_model.specs.Sessions.{Block, outside, inside, failed, Session, session, has_open, block, own_txid}
+use Rattle.sky_model.specs.Sessions.{Session, session, has_open, block, own_txid}
 use Rattle.sky_model.specs.Locks.{waiting}
 use Rattle.sky_model.specs.State.{part_of, database_of, after_mark, after_marks}
 use Rattle.sky_model.specs.ShownRows.{rows_in}
@@ -23,7 +23,7 @@ use Rattle.sky_model.specs.DatabaseCalls.{DatabaseCall, stepped, entered, failed
 use Rattle.sky_model.specs.LawsOfWrites.{IsTold, WritesAreTold}
 use Rattle.sky_model.proofs.Marks.{database_of-mark, database_of-marks}
 use Rattle.sky_model.proofs.Lawful.{database-reads, past-behind}
-use Rattle.sky_model.proofs.StatementMarks.{each-first, each-rest, AnyReply, gives-map, Kinds, no_more, may_leave, kinds, gives-form, given-settled}
+use Rattle.sky_model.proofs.StatementMarks.{each-first, each-rest, AnyReply, gives-map, Kinds, no_more, may_leave, kinds, gives-form, each-failure, given-settled}
 use Rattle.sky_model.proofs.GatedLemmas.{is_no_write, WritesNone, plain-if, plain-abort}
 use Rattle.sky_model.proofs.Resting.{behind-append}
 use Rattle.sky_model.proofs.Inserted.{Inserted, none, with_raised, with_put}
@@ -187,18 +187,12 @@ enters-told h told who true (Ok _) = plain-told h (looked who ∷ []) tt told
 enters-told h told who false (Ok _) = told
 enters-told h told who sight (Err refusal) = told
 
-fails-plain : (who : ℕ) (o : Option ℕ) (b : Block) → WritesNone (failure who o b)
-fails-plain who None inside = tt
-fails-plain who (Some t) inside = tt
-fails-plain who o outside = tt
-fails-plain who o failed = tt
-
 does-told : (h : History) → AllTold h → (call : DatabaseCall) → AllTold (marked h (database_does database_by_history h call).marks)
 does-told h told (stepped who stmt now) = with_settling-told now h (turn_of who (statement database_by_history h now who stmt)) (statement-told h told now who stmt)
 does-told h told (entered who alone) =
     enters-told h told who (takes_sight (entry_place alone) (session h who).sight) (allowed (is_waiting who (waiting h)) (has_open who h) (block who h) (entry_place alone))
 does-told h told (failed_call who now) =
-    with_settling-told now h (failing (part_of h) who) (plain-told h (failure who (own_txid who h) (block who h)) (fails-plain who (own_txid who h) (block who h)) told)
+    with_settling-told now h (failing (part_of h) who) (plain-told h (failure who (own_txid who h) (block who h)) (each-failure AnyReply is_no_write (λ _. tt) (plain-if no_more refl) who (own_txid who h) (block who h)) told)
 
 told_calls : (calls : List DatabaseCall) → AllTold (after_all database_part calls)
 told_calls [] = none-told []

@@ -12,15 +12,15 @@ use Rattle.sky_txid.specs.declared.version.Version.{Version}
 use Rattle.sky_txid.specs.Versions.{with_version, without, version_of, newest_from, newest_by, own_version, row_of}
 use Rattle.sky_txid.specs.Snapshot.{sees}
 use Rattle.sky_txid.proofs.EntryLemmas.{key_ties-is, versions_at-forgotten}
-use Rattle.sky_model.specs.History.{Mark, Whose, of_session, began, ended, block_begun, repeats, looked, block_failed, block_ended, connected, disconnected, tabled, table_made, wrote, waits, waited, queued, made, raised, put, ticked, registered, opened, closed, traced, History}
-use Rattle.sky_model.specs.Transactions.{next_txid, has_ended}
+use Rattle.sky_model.specs.History.{Mark, Whose, of_session, ended, tabled, table_made, wrote, History}
+use Rattle.sky_model.specs.Transactions.{has_ended}
 use Rattle.sky_model.specs.Sessions.{own_txid}
 use Rattle.sky_model.specs.Rows.{table_names, columns_of, rows_standing}
 use Rattle.sky_model.specs.Versions.{versions}
 use Rattle.sky_model.specs.State.{part_of}
 use Rattle.sky_model.specs.ShownRows.{RowsShown, rows_by, snapshot_now}
 use Rattle.sky_model.specs.LawsOfWrites.{IsRowOf, WritesNameWhatStands, WrittenRowsFit, StandingRowsFit}
-use Rattle.sky_model.proofs.Legal.{Replaces, Fine, begins, ends, begins_block, fails_block, ends_block, connects, disconnects, repeats_block, looks, makes_table, writes, begins_waiting, ends_waiting, makes, raises, puts, ticks_next, registers, opens, closes, traces, Legal, start, next}
+use Rattle.sky_model.proofs.Legal.{Replaces, Fine, ends, makes_table, writes, Legal, start, next}
 use Rattle.sky_model.proofs.SnapshotLaws.{legal_place, legal-below_mark, fine_mark}
 use Rattle.sky_model.proofs.RowKeys.{is_in_order-versions}
 use Rattle.sky_model.proofs.KeyVersions.{kept, key_holds, kept-wrote}
