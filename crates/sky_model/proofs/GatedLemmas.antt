@@ -1,5 +1,5 @@
 -- What a gate in front of writes does: it is told of each write, refuses those that it has no room for, and leaves all else.
-use Rattle.std.proofs.Common.{◌≡◌, ℕ, Bool, true, false, List, [], ◌∷◌, ◌++◌, Option, Ok, Err, option_map, length, refl, ◌∙◌, ap}
+use Rattle.std.proofs.Common.{◌≡◌, ℕ, Bool, true, false, List, [], ◌∷◌, ◌++◌, Option, Ok, Err, option_map, refl, ◌∙◌, ap}
 use Rattle.std.specs.Prelude.{not, ◌&&◌}
 use Rattle.sky_val.specs.declared.val.Val.{Val}
 use Rattle.sky_model.specs.declared.stmt.Attempt.{Attempt}
@@ -16,11 +16,11 @@ use Rattle.sky_model.specs.StepLocks.{ring, blocked}
 use Rattle.sky_model.specs.StepRows.{get}
 use Rattle.sky_model.specs.Reader.{part_by_itself}
 use Rattle.sky_model.specs.Gates.{Gate, takes, passed, takes_all, passed_all, gated, by_gate, open_gate}
-use Rattle.sky_model.specs.Settling.{Turn, behind_marks, settling, with_settling}
-use Rattle.sky_model.specs.Calls.{row_statement, row_turn}
+use Rattle.sky_model.specs.Settling.{Turn, behind_marks, with_settling}
+use Rattle.sky_model.specs.Calls.{row_turn}
 use Rattle.sky_model.specs.Printed.{ReplyHasMoments}
 use Rattle.sky_model.proofs.StatementMarks.{EachMark, each-map, AnyReply, each-given, after, Kinds, no_more, may_leave, gives-row_form, each-abort}
-use Rattle.sky_model.proofs.Turns.{ReadAlike, same-settles, same-with_settling, alike-statement, alike-turn, Any, each-any}
+use Rattle.sky_model.proofs.Turns.{ReadAlike, same-with_settling, alike-turn, Any, each-any}
 
 -- a place behind marks is the part behind them, and the gate behind them
 pub gated-behind : {G : Type 0} (gate : Gate G) (d : RowPart) (g : G) (marks : List Mark)
@@ -107,10 +107,6 @@ open-told : (g : Unit {0}) (c : Checked Outcome) → gated open_gate g c ≡ c
 open-told g (Err refusal) = refl
 open-told g (Ok o) = ap (λ b. refused_if (not b) EventIdsSpent >> Ok o) (open-takes g o.marks)
 
--- all is done behind it as without it
-pub open-tells : (c : Checked Outcome) → gated open_gate tt c ≡ c
-open-tells c = open-told tt c
-
 as-open : ReadAlike (by_gate open_gate part_by_itself) part_by_itself Any (λ p d. p.0 ≡ d)
 as-open = record {
   parts = λ p d is. is;
@@ -118,16 +114,6 @@ as-open = record {
   tells = λ p d is. λ i c. open-told p.1 c i;
   behind = λ p d mark is _. ap (λ x. after_part x mark) is;
 }
-
--- a statement
-pub open-statement : (d : RowPart) (who : ℕ) (stmt : RowStmt) → row_statement (by_gate open_gate part_by_itself) (d, tt) who stmt ≡ row_statement part_by_itself d who stmt
-open-statement d who stmt = alike-statement (by_gate open_gate part_by_itself) part_by_itself Any (λ p x. p.0 ≡ x) as-open (d, tt) d who stmt refl tt
-
--- those that go on
-pub open-settling : (d : RowPart) → settling (by_gate open_gate part_by_itself) (d, tt) ≡ settling part_by_itself d
-open-settling d =
-    same-settles (by_gate open_gate part_by_itself) part_by_itself Any (λ p x. p.0 ≡ x) as-open (length d.waiting) (d, tt) d refl
-    (each-any (by_gate open_gate part_by_itself) (d, tt) _)
 
 -- a turn, with those that it lets go on
 pub open-with_settling : (d : RowPart) (turn : Turn) → with_settling (by_gate open_gate part_by_itself) (d, tt) turn ≡ with_settling part_by_itself d turn

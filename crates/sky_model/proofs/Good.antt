@@ -72,11 +72,6 @@ pub good_test_then : {A : Type 0} (h : History) (who : ℕ) (b : Bool) (refusal 
 good_test_then h who true refusal a c good = good_refused h who refusal
 good_test_then h who false refusal a c good = good
 
--- a statement that its session may not make
-pub good_allowed : (h : History) (who : ℕ) (may : Checked (Unit {0})) (c : Checked Outcome) → Good h who c → Good h who (may >> c)
-good_allowed h who (Err refusal) c good = good_refused h who refusal
-good_allowed h who (Ok _) c good = good
-
 -- what may be refused on the way
 pub good_refused_by : (h : History) (who : ℕ) (o : Option Refusal) (c : Checked Outcome) → (o ≡ None → Good h who c) → Good h who (refused_by o >> c)
 good_refused_by h who None c good = good refl

@@ -1,12 +1,11 @@
 -- Marks with marks of events among them: what they leave of a database beside its queues.
-use Rattle.std.proofs.Common.{◌≡◌, ℕ, ◌+◌, Bool, false, List, [], ◌∷◌, ◌++◌, Option, Some, None, refl, ◌∙◌, ap}
+use Rattle.std.proofs.Common.{◌≡◌, ℕ, ◌+◌, Bool, false, List, [], ◌∷◌, ◌++◌, Option, Some, None, refl}
 use Rattle.std.specs.Prelude.{◌||◌, ◌==◌}
 use Rattle.sky_val.specs.declared.event.Event.{Event}
 use Rattle.sky_model.specs.History.{Batch, Mark, ended, queued, made, raised, put, ticked, registered, opened, closed, traced}
 use Rattle.sky_model.specs.Triggers.{TableTrigger}
 use Rattle.sky_model.specs.Queues.{NamedQueue}
-use Rattle.sky_model.specs.State.{RowPart, after_part, after_part_marks, Database, changed_at, after_mark, after_marks}
-use Rattle.sky_model.proofs.RowStanding.{part-behind}
+use Rattle.sky_model.specs.State.{RowPart, after_part, Database, changed_at, after_mark, after_marks}
 
 -- the second marks are the first ones with ids taken and events stored in between
 pub data Inserted : List Mark → List Mark → Type 0 where
@@ -25,13 +24,6 @@ inserted-append none also = also
 inserted-append (kept mark more) also = kept mark (inserted-append more also)
 inserted-append (with_raised queue value more) also = with_raised queue value (inserted-append more also)
 inserted-append (with_put queue event more) also = with_put queue event (inserted-append more also)
-
--- the row part is the same behind both
-pub inserted-part : (d : Database) {xs ys : List Mark} → Inserted xs ys → (after_marks d ys).part ≡ after_part_marks d.part xs
-inserted-part d none = refl
-inserted-part d (kept {xs = xs} mark more) = inserted-part (after_mark d mark) more ∙ ap (λ part. after_part_marks part xs) (part-behind d mark)
-inserted-part d (with_raised queue value more) = inserted-part (after_mark d (queued (raised queue value))) more
-inserted-part d (with_put queue event more) = inserted-part (after_mark d (queued (put queue event))) more
 
 -- what a database keeps beside its queues
 pub record BesideQueues : Type 0 where

@@ -1,5 +1,5 @@
 -- Answers whose sessions, and those that they speak of, have names.
-use Rattle.std.proofs.Common.{◌≡◌, ℕ, zero, suc, true, ◌<◌, ◌≤◌, List, [], ◌∷◌, ◌++◌, map, length, unwrap_or, refl, ap, ◌∙◌, arith, length-append, codes}
+use Rattle.std.proofs.Common.{◌≡◌, ℕ, zero, suc, true, ◌<◌, List, [], ◌∷◌, ◌++◌, map, length, unwrap_or, refl, ap, ◌∙◌, arith, codes}
 use Rattle.std.specs.List.{All, slice_get, flat_map}
 use Rattle.sky_model.specs.declared.reply.Reply.{Reply}
 use Rattle.sky_model.specs.declared.reply.Reply.TheVariants as reply
@@ -32,7 +32,3 @@ printed-named names more (answer ∷ replies) named =
     let first : (answer.0 < length names) × All (λ who. who < length names) (sessions_in answer.1) = named zero answer (omega arith) in
     (λ i. flat_map (line_text (name_at-front names more answer.0 first.0 i)) (lines-named names more answer.1 first.1 i) ++ printed (names ++ more) replies)
     ∙ ap (λ rest. reply_text names (name_at names answer.0) answer.1 ++ rest) (printed-named names more replies (λ k d within. named (suc k) d (omega arith)))
-
--- the sessions up to the next one have names, where the next name is added
-pub named-next : (names : List (List ℕ)) (name : List ℕ) (replies : List (ℕ × Reply)) → All (λ answer. answer.0 ≤ length names) replies → All (λ answer. answer.0 < length (names ++ name ∷ [])) replies
-named-next names name replies numbered = λ k d within. omega (arith, length-append names (name ∷ []), numbered k d within)

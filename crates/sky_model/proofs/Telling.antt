@@ -319,24 +319,11 @@ module _ {G : Type 0} (gate : Gate G) (now : ℤ) (related : Database → RowPar
       subst (λ (e : RowPart). Turns d p g (settling (by_gate gate part_by_itself) (p, g)) (settles (within_part database_by_itself now) (length e.waiting) d)) (sym (alike.part d p g is))
       (told-settles (length p.waiting) d p g is)
 
-  -- also behind a turn that needs no gate, where all stands alike behind it
-  pub settling-behind : (d : Database) (turn : Turn) (p : RowPart) (g : G) → related (after_marks d turn.marks) p g
-      → SameTold gate related (after_marks d turn.marks) p g (settling (by_gate gate part_by_itself) (p, g))
-      (settling (within_part database_by_itself now) (behind_marks (within_part database_by_itself now) d turn.marks))
-  settling-behind d turn p g is =
-      subst (λ e. SameTold gate related (after_marks d turn.marks) p g (settling (by_gate gate part_by_itself) (p, g)) (settling (within_part database_by_itself now) e))
-      (sym (behind-all now d turn.marks)) (settling-told (after_marks d turn.marks) p g is)
-
   -- so does a turn with those that it lets go on
   pub with_settling-told : (d : Database) (p : RowPart) (g : G) (turn turn' : Turn) → SameTold gate related d p g turn turn'
       → SameTold gate related d p g (with_settling (by_gate gate part_by_itself) (p, g) turn) (with_settling (within_part database_by_itself now) d turn')
   with_settling-told d p g turn turn' same =
       told-then d p g turn turn' (settling (by_gate gate part_by_itself)) (settling (within_part database_by_itself now)) same settling-told
-
-  -- and the same turn on both sides
-  pub same_turn-told : (d : Database) (p : RowPart) (g : G) (turn : Turn) → related (after_marks d turn.marks) (after_part_marks p turn.marks) (passed_all gate g turn.marks)
-      → SameTold gate related d p g (with_settling (by_gate gate part_by_itself) (p, g) turn) (with_settling (within_part database_by_itself now) d turn)
-  same_turn-told d p g turn is = with_settling-told d p g turn turn (record { answers = refl; inserted = inserted-same turn.marks; stands = is })
 
   -- and a statement on rows
   pub row_turn-told : (d : Database) (p : RowPart) (g : G) (who : ℕ) (stmt : RowStmt) → related d p g
