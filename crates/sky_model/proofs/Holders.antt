@@ -24,16 +24,8 @@ turned x y = (eq_by_cmp_equiv key_cmp-IsTotalOrder).symm x y
 
 -- one write more
 pub has_written-push : (key : List Val) (ws : List Write) (w : Write) → has_written key (ws ++ w ∷ []) ≡ (has_written key ws || eq_by_cmp key_cmp key w.key)
-has_written-push key [] w = of (eq_by_cmp key_cmp key w.key)
-  where
-    of : (b : Bool) → (b || false) ≡ (false || b)
-    of true = refl
-    of false = refl
-has_written-push key (x ∷ ws) w = ap (λ b. eq_by_cmp key_cmp key x.key || b) (has_written-push key ws w) ∙ joined (eq_by_cmp key_cmp key x.key) (has_written key ws) (eq_by_cmp key_cmp key w.key)
-  where
-    joined : (a b c : Bool) → (a || (b || c)) ≡ ((a || b) || c)
-    joined true b c = refl
-    joined false b c = refl
+has_written-push key [] w = grind arith
+has_written-push key (x ∷ ws) w = grind (arith, has_written-push key ws w)
 
 -- who holds a key, but a session, is another than it
 unless-another : (who w : ℕ) (o : Option ℕ) → other_than who o ≡ Some w → (o ≡ Some w) × ((who == w) ≡ false)
@@ -125,12 +117,10 @@ held-step h _ (writes v t n at_key old new mine free stands) l table key ih =
     λ who u runs wrote_it. of who u runs (n == table) refl (eq_by_cmp key_cmp at_key key) refl (t == u) refl wrote_it
   where
     pushed : (u : ℕ) → eq_by_cmp key_cmp at_key key ≡ false → has_written key (writes_of table u h ++ record { key = at_key; row = new } ∷ []) ≡ true → has_written key (writes_of table u h) ≡ true
-    pushed u tie e = sym (or_false (has_written key (writes_of table u h))) ∙ sym (ap (λ b. has_written key (writes_of table u h) || b) (turned key at_key ∙ tie))
-        ∙ sym (has_written-push key (writes_of table u h) (record { key = at_key; row = new })) ∙ e
-      where
-        or_false : (b : Bool) → (b || false) ≡ b
-        or_false true = refl
-        or_false false = refl
+    pushed u tie e =
+        let other : eq_by_cmp key_cmp key at_key ≡ false = turned key at_key ∙ tie in
+        let either : (has_written key (writes_of table u h) || eq_by_cmp key_cmp key at_key) ≡ true = sym (has_written-push key (writes_of table u h) (record { key = at_key; row = new })) ∙ e in
+        grind arith
 
     of : (who u : ℕ) → own_txid who h ≡ Some u → (a : Bool) → (n == table) ≡ a → (b : Bool) → eq_by_cmp key_cmp at_key key ≡ b → (c : Bool) → (t == u) ≡ c
         → has_written key (if a && c then writes_of table u h ++ record { key = at_key; row = new } ∷ [] else writes_of table u h) ≡ true

@@ -41,10 +41,6 @@ abbrev InBlock : History → ℕ → Type 0
 InBlock h who = block who h ≢ outside → has_open who h ≡ true
 
 -- a session that opens the database, or closes it
-opened-still : (f o : Bool) → o ≡ true → (if f then true else o) ≡ true
-opened-still true o is = refl
-opened-still false o is = is
-
 block-step : (h : History) (mark : Mark) → Fine h mark → (who : ℕ) → InBlock h who → InBlock (mark ∷ h) who
 block-step h _ (begins_block v e is_open) who ih = of (v == who) refl
   where
@@ -61,7 +57,7 @@ block-step h _ (ends_block v e) who ih = of (v == who)
     of : (f : Bool) → (if f then outside else block who h) ≢ outside → has_open who h ≡ true
     of true there = absurd (there refl)
     of false there = ih there
-block-step h _ (connects v e) who ih = λ there. opened-still (v == who) (has_open who h) (ih there)
+block-step h _ (connects v e) who ih = λ there. grind (arith, ih there)
 block-step h _ (disconnects v quiet away) who ih = of (v == who) refl
   where
     of : (f : Bool) → (v == who) ≡ f → block who h ≢ outside → (if f then false else has_open who h) ≡ true

@@ -3,6 +3,7 @@ use Rattle.std.proofs.Common.{◌≡◌, ℕ, Bool, true, false, List, [], ◌�
 use Rattle.std.specs.Prelude.{◌||◌, ◌&&◌, ◌==◌, cond}
 use Rattle.std.specs.Option.{option_or}
 use Rattle.std.specs.Ordering.{eq_by_cmp}
+use Rattle.std.proofs.lemmas.Bool.{or_parts, or_right}
 use Rattle.std.proofs.lemmas.Bool.Decides.{nat_tests}
 use Rattle.sky_val.specs.declared.val.Val.{Val}
 use Rattle.sky_val.specs.Order.{key_cmp}
@@ -51,24 +52,7 @@ version_of-txid t (w ∷ vs) v e = of (t == w.txid) refl e (version_of-txid t vs
 
 -- the end of a transaction, as a test on others
 ended-or : (h : History) (t u : ℕ) → ((u == t) || has_ended h u) ≡ ((t == u) || has_ended h u)
-ended-or h t u = (let turned : (u == t) ≡ (t == u) = of (u == t) refl in ap (λ b. b || has_ended h u) turned)
-  where
-    of : (b : Bool) → (u == t) ≡ b → (u == t) ≡ (t == u)
-    of true e = (let other : (t == u) ≡ true = grind (arith, nat_tests) in e ∙ sym other)
-    of false e = (let other : (t == u) ≡ false = grind (arith, nat_tests) in e ∙ sym other)
-
-still-ended : (b c : Bool) → c ≡ true → (b || c) ≡ true
-still-ended true c e = refl
-still-ended false c e = e
-
--- who hasn't ended behind the end of another hadn't before, and is another
-unended-before : (b c : Bool) → (b || c) ≡ false → c ≡ false
-unended-before true c e = absurd (cc)
-unended-before false c e = e
-
-another : (b c : Bool) → (b || c) ≡ false → b ≡ false
-another true c e = absurd (cc)
-another false c e = refl
+ended-or h t u = grind (arith, nat_tests)
 
 -- a commit makes a transaction's last write the row
 row-committed : (left : Option Version) (before : Option Version) (last : Option (Option (List Val))) → option_map Version.row left ≡ last → row_of (option_or left before) ≡ over last (row_of before)
@@ -92,8 +76,8 @@ key_committed h l who t unended table key k = record {
       (version_of-txid t (kept h table key)) k.writer
       ∙ ap (λ b. if b then Some t else last_writer key (λ u. writes_of table u h) None (committed h)) (sym (has_written-last_of key (writes_of table t h)))
       ∙ sym (last_writer-push key (λ u. writes_of table u h) (committed h) t);
-  own = λ u e. k.own u (unended-before (u == t) (has_ended h u) e);
-  only = only_more (has_ended h) (has_ended (ended (of_session who) t true ∷ h)) (kept h table key) (λ u e. still-ended (u == t) (has_ended h u) e) k.only;
+  own = λ u e. k.own u ((or_parts (u == t) (has_ended h u) e).1);
+  only = only_more (has_ended h) (has_ended (ended (of_session who) t true ∷ h)) (kept h table key) (λ u e. or_right (u == t) (has_ended h u) e) k.only;
 }
   where
     newer : newest_by (has_ended (ended (of_session who) t true ∷ h)) (kept h table key) ≡ option_or (version_of t (kept h table key)) (newest_by (has_ended h) (kept h table key))
@@ -104,10 +88,10 @@ key_rolled_back h l who t unended table key k = record {
   newest = ap row_of same ∙ k.newest;
   writer = ap (option_map Version.txid) same ∙ k.writer;
   own = λ u e. ap (λ vs. option_map Version.row (version_of u vs)) gone
-      ∙ ap (option_map Version.row) (version_of-without u t (kept h table key) ∙ ap (λ b. cond b None (version_of u (kept h table key))) (another (u == t) (has_ended h u) e))
-      ∙ k.own u (unended-before (u == t) (has_ended h u) e);
+      ∙ ap (option_map Version.row) (version_of-without u t (kept h table key) ∙ ap (λ b. cond b None (version_of u (kept h table key))) ((or_parts (u == t) (has_ended h u) e).0))
+      ∙ k.own u ((or_parts (u == t) (has_ended h u) e).1);
   only = subst (OnlyLast (has_ended (ended (of_session who) t false ∷ h))) (sym gone) (only_more (has_ended h) (has_ended (ended (of_session who) t false ∷ h)) (without t (kept h table key))
-      (λ u e. still-ended (u == t) (has_ended h u) e) (only_without (has_ended h) t (kept h table key) k.only));
+      (λ u e. or_right (u == t) (has_ended h u) e) (only_without (has_ended h) t (kept h table key) k.only));
 }
   where
     gone : kept (ended (of_session who) t false ∷ h) table key ≡ without t (kept h table key)

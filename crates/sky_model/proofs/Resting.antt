@@ -1,5 +1,6 @@
 -- When those that a statement lets go on have been run, none is ready, and no more are run than wait.
 use Rattle.std.proofs.Common.{◌≡◌, ℕ, zero, suc, ◌<◌, ◌≤◌, Bool, true, false, ◌==◌, List, [], ◌∷◌, ◌++◌, Option, Some, None, length, is_some, refl, sym, ◌∙◌, ap, subst, arith, if◌then◌else◌}
+use Rattle.std.proofs.lemmas.Bool.{or_right}
 use Rattle.std.specs.Prelude.{is_none, ◌&&◌, ◌||◌}
 use Rattle.std.proofs.lemmas.Bool.Decides.{nat_tests}
 use Rattle.sky_val.specs.declared.val.Val.{Val}
@@ -63,10 +64,6 @@ ready-found holder (x ∷ ws) w e = of (is_none (holder x.table x.key)) refl e (
     none None e = refl
     none (Some v) e = absurd (cc)
 
-    later : (b : Bool) → is_waiting w.who ws ≡ true → (b || is_waiting w.who ws) ≡ true
-    later true e = refl
-    later false e = e
-
     of : (b : Bool) → is_none (holder x.table x.key) ≡ b → (if b then Some x else waits.ready holder ws) ≡ Some w
         → (waits.ready holder ws ≡ Some w → (is_waiting w.who ws ≡ true) × (holder w.table w.key ≡ None))
         → (((x.who == w.who) || is_waiting w.who ws) ≡ true) × (holder w.table w.key ≡ None)
@@ -75,7 +72,7 @@ ready-found holder (x ∷ ws) w e = of (is_none (holder x.table x.key)) refl e (
         let who_is : x.who ≡ w.who = ap Waiting.who one in
         let same : (x.who == w.who) ≡ true = grind (arith, nat_tests) in
         (ap (λ b. b || is_waiting w.who ws) same, (λ i. holder (sym one i).table (sym one i).key) ∙ none (holder x.table x.key) is)
-    of false is e ih = let found : (is_waiting w.who ws ≡ true) × (holder w.table w.key ≡ None) = ih e in (later (x.who == w.who) found.0, found.1)
+    of false is e ih = let found : (is_waiting w.who ws ≡ true) × (holder w.table w.key ≡ None) = ih e in (or_right (x.who == w.who) (is_waiting w.who ws) found.0, found.1)
 
 pub is-ready : (d : RowPart) (w : Waiting) → ready d ≡ Some w → IsReady d w
 is-ready d w e = let found : (is_waiting w.who d.waiting ≡ true) × (d.holder w.table w.key ≡ None) = ready-found d.holder d.waiting w e in record { there = found.0; free = found.1 }

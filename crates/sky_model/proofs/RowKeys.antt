@@ -1,5 +1,6 @@
 -- What the versions of a key say of its rows, at each place of a legal history.
-use Rattle.std.proofs.Common.{◌≡◌, ℕ, ◌<◌, ◌≤◌, Bool, true, false, not, List, [], ◌∷◌, ◌++◌, refl, sym, ◌∙◌, ap, arith, if◌then◌else◌}
+use Rattle.std.proofs.Common.{◌≡◌, ℕ, ◌<◌, ◌≤◌, Bool, true, false, not, [], ◌∷◌, ◌++◌, refl, sym, ◌∙◌, arith, if◌then◌else◌}
+use Rattle.std.proofs.lemmas.Bool.{or_right}
 use Rattle.std.specs.Prelude.{◌||◌, ◌&&◌, ◌==◌, nat_lt}
 use Rattle.std.proofs.lemmas.Bool.Decides.{nat_tests}
 use Rattle.sky_val.specs.Entries.{is_in_order}
@@ -11,7 +12,7 @@ use Rattle.sky_model.specs.Transactions.{next_txid, running, has_ended}
 use Rattle.sky_model.specs.Rows.{committed, writes as writes_of}
 use Rattle.sky_model.specs.Versions.{versions}
 use Rattle.sky_model.proofs.Legal.{Fine, begins, writes, Legal, start, next}
-use Rattle.sky_model.proofs.Snapshots.{sound}
+use Rattle.sky_model.proofs.Snapshots.{contains-push, sound}
 
 -- the versions of a table stand in the order of their keys
 pub is_in_order-versions : (table : ℕ) (h : History) → is_in_order (versions table h) ≡ true
@@ -25,31 +26,12 @@ is_in_order-versions table (ended who t false ∷ h) = is_in_order-forgotten t (
 is_in_order-versions table (_ ∷ h) = is_in_order-versions table h
 
 -- who has committed has ended
-pub contains-last-of : (t u : ℕ) (ts : List ℕ) → contains t (ts ++ u ∷ []) ≡ (contains t ts || (t == u))
-contains-last-of t u [] = none (t == u)
-  where
-    none : (b : Bool) → (b || false) ≡ (false || b)
-    none true = refl
-    none false = refl
-contains-last-of t u (x ∷ ts) = ap (λ b. (t == x) || b) (contains-last-of t u ts) ∙ joined (t == x) (contains t ts) (t == u)
-  where
-    joined : (a b c : Bool) → (a || (b || c)) ≡ ((a || b) || c)
-    joined true b c = refl
-    joined false b c = refl
-
 pub committed-ended : (h : History) (t : ℕ) → contains t (committed h) ≡ true → has_ended h t ≡ true
 committed-ended [] t e = absurd (cc)
-committed-ended (ended who u true ∷ h) t e = of (contains t (committed h)) (t == u) (sym (contains-last-of t u (committed h)) ∙ e) (committed-ended h t)
-  where
-    of : (b c : Bool) → (b || c) ≡ true → (b ≡ true → has_ended h t ≡ true) → (c || has_ended h t) ≡ true
-    of b true e ih = refl
-    of true false e ih = ih refl
-    of false false e ih = absurd (cc)
-committed-ended (ended who u false ∷ h) t e = of (t == u) (committed-ended h t e)
-  where
-    of : (c : Bool) → has_ended h t ≡ true → (c || has_ended h t) ≡ true
-    of true ih = refl
-    of false ih = ih
+committed-ended (ended who u true ∷ h) t e =
+    let either : (contains t (committed h) || t == u) ≡ true = sym (contains-push t u (committed h)) ∙ e in
+    grind (arith, committed-ended h t)
+committed-ended (ended who u false ∷ h) t e = or_right (t == u) (has_ended h t) (committed-ended h t e)
 committed-ended (_ ∷ h) t e = committed-ended h t e
 
 -- a transaction that hasn't begun has written nothing

@@ -1,5 +1,6 @@
 -- What the versions that are kept show at a sight is what the history shows there.
-use Rattle.std.proofs.Common.{◌≡◌, ℕ, Bool, true, false, not, List, [], ◌∷◌, Option, Some, None, option_map, is_some, refl, sym, ◌∙◌, ap, subst, if◌then◌else◌}
+use Rattle.std.proofs.Common.{◌≡◌, ℕ, Bool, true, false, not, List, [], ◌∷◌, Option, Some, None, option_map, is_some, refl, sym, ◌∙◌, ap, subst, arith, if◌then◌else◌}
+use Rattle.std.proofs.lemmas.Bool.{or_right}
 use Rattle.std.specs.Prelude.{◌||◌, ◌&&◌, ◌==◌}
 use Rattle.std.specs.Option.{option_or}
 use Rattle.std.specs.Ordering.{eq_by_cmp}
@@ -21,9 +22,9 @@ use Rattle.sky_model.specs.Versions.{versions}
 use Rattle.sky_model.specs.State.{part_of}
 use Rattle.sky_model.specs.ShownRows.{rows_in, rows_by, unseen_in}
 use Rattle.sky_model.proofs.Legal.{Fine, ends, writes, Legal, next}
-use Rattle.sky_model.proofs.Snapshots.{sees-snapshot, own-unended, has_committed-ended}
+use Rattle.sky_model.proofs.Snapshots.{contains-push, sees-snapshot, own-unended, has_committed-ended}
 use Rattle.sky_model.proofs.RowWrites.{over, last_of, at-put_all, is_in_order-put_all, is_in_order-in_turn, has_written-last_of, last_writer-has}
-use Rattle.sky_model.proofs.RowKeys.{is_in_order-versions, contains-last-of}
+use Rattle.sky_model.proofs.RowKeys.{is_in_order-versions}
 use Rattle.sky_model.proofs.KeyVersions.{kept, key_holds, kept-wrote}
 
 -- a history goes on from another
@@ -36,11 +37,7 @@ legal-since here l = l
 legal-since (later since) (next l fine) = legal-since since l
 
 pub ended-behind : (h : History) (mark : Mark) (t : ℕ) → has_ended h t ≡ true → has_ended (mark ∷ h) t ≡ true
-ended-behind h (ended who u c) t e = of (t == u) e
-  where
-    of : (b : Bool) → has_ended h t ≡ true → (b || has_ended h t) ≡ true
-    of true e = refl
-    of false e = e
+ended-behind h (ended who u c) t e = or_right (t == u) (has_ended h t) e
 ended-behind h _ t e = e
 
 pub ended-since : {k h : History} → Since k h → (t : ℕ) → has_ended k t ≡ true → has_ended h t ≡ true
@@ -48,11 +45,7 @@ ended-since here t e = e
 ended-since (later {h = h} {mark = mark} since) t e = ended-behind h mark t (ended-since since t e)
 
 rolled_back-behind : (h : History) (mark : Mark) (t : ℕ) → has_rolled_back h t ≡ true → has_rolled_back (mark ∷ h) t ≡ true
-rolled_back-behind h (ended who u false) t e = of (t == u) e
-  where
-    of : (b : Bool) → has_rolled_back h t ≡ true → (b || has_rolled_back h t) ≡ true
-    of true e = refl
-    of false e = e
+rolled_back-behind h (ended who u false) t e = or_right (t == u) (has_rolled_back h t) e
 rolled_back-behind h _ t e = e
 
 rolled_back-since : {k h : History} → Since k h → (t : ℕ) → has_rolled_back k t ≡ true → has_rolled_back h t ≡ true
@@ -164,12 +157,9 @@ rows-at h l who table =
 -- who stands among the committed has committed
 committed-has : (h : History) (t : ℕ) → contains t (committed h) ≡ true → has_committed h t ≡ true
 committed-has [] t e = absurd (cc)
-committed-has (ended who u true ∷ h) t e = of (contains t (committed h)) (t == u) (sym (contains-last-of t u (committed h)) ∙ e) (committed-has h t)
-  where
-    of : (b c : Bool) → (b || c) ≡ true → (b ≡ true → has_committed h t ≡ true) → (c || has_committed h t) ≡ true
-    of b true e ih = refl
-    of true false e ih = ih refl
-    of false false e ih = absurd (cc)
+committed-has (ended who u true ∷ h) t e =
+    let either : (contains t (committed h) || t == u) ≡ true = sym (contains-push t u (committed h)) ∙ e in
+    grind (arith, committed-has h t)
 committed-has (_ ∷ h) t e = committed-has h t e
 
 -- one that has committed had committed at a place where it had ended
@@ -178,16 +168,8 @@ committed-at {k = k} {h = h} since l t e =
     of (has_rolled_back k t) refl (has_rolled_back h t) refl ∙ sym (has_committed-ended k (legal-since since l) t)
   where
     of : (b : Bool) → has_rolled_back k t ≡ b → (c : Bool) → has_rolled_back h t ≡ c → has_ended k t ≡ (has_ended k t && not (has_rolled_back k t))
-    of false stays c is = sym (ap (λ b. has_ended k t && not b) stays ∙ and_true (has_ended k t))
-      where
-        and_true : (b : Bool) → (b && true) ≡ b
-        and_true true = refl
-        and_true false = refl
-    of true gone true is = absurd (cc (sym e ∙ has_committed-ended h l t ∙ ap (λ b. has_ended h t && not b) is ∙ and_false (has_ended h t)))
-      where
-        and_false : (b : Bool) → (b && false) ≡ false
-        and_false true = refl
-        and_false false = refl
+    of false stays c is = grind arith
+    of true gone true is = (let over : has_committed h t ≡ (has_ended h t && not (has_rolled_back h t)) = has_committed-ended h l t in absurd (grind arith))
     of true gone false is = absurd (cc (sym (rolled_back-since since t gone) ∙ is))
 
 -- the newest committed write that a sight doesn't have

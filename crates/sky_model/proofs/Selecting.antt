@@ -1,5 +1,6 @@
 -- The events of a batch are those that its two ticks' snapshots select.
 use Rattle.std.proofs.Common.{◌≡◌, ℕ, ◌+◌, ◌<◌, ◌≤◌, All, List, [], ◌∷◌, ◌++◌, Bool, true, false, not, ◌&&◌, ◌||◌, ◌==◌, nat_lt, filter, refl, sym, ◌∙◌, ap, arith, subst, append-nil, append_assoc, if◌then◌else◌}
+use Rattle.std.proofs.lemmas.Bool.{or_right}
 use Rattle.std.proofs.lemmas.Bool.Decides.{nat_tests}
 use Rattle.std.proofs.lemmas.List.Elements.{All-nil, All-cons}
 use Rattle.sky_val.specs.declared.event.Event.{Event}
@@ -17,11 +18,7 @@ use Rattle.sky_model.proofs.Ticks.{snapshot-at_tick, legal-at_tick}
 -- what had ended at a tick has ended
 ended-at_tick : (h : History) (q id t : ℕ) → has_ended (at_tick q id h) t ≡ true → has_ended h t ≡ true
 ended-at_tick [] q id t e = e
-ended-at_tick (ended who u committed ∷ h) q id t e = of (t == u) (ended-at_tick h q id t e)
-  where
-    of : (b : Bool) → has_ended h t ≡ true → (b || has_ended h t) ≡ true
-    of true ih = refl
-    of false ih = ih
+ended-at_tick (ended who u committed ∷ h) q id t e = or_right (t == u) (has_ended h t) (ended-at_tick h q id t e)
 ended-at_tick (queued (ticked p m time seq) ∷ h) q id t e = of (p == q && m == id) (ended-at_tick h q id t) e
   where
     of : (b : Bool) → (has_ended (at_tick q id h) t ≡ true → has_ended h t ≡ true) → has_ended (if b then h else at_tick q id h) t ≡ true → has_ended h t ≡ true
@@ -150,11 +147,7 @@ by_id-ordered es o = by_id_onto-ordered [] es 0 tt o
 
 -- of what was seen at a tick and hasn't rolled back
 between : (to from undone own : Bool) → ((to && not undone) && not (from && not undone) && own) ≡ (to && not from && not undone && own)
-between false from undone own = refl
-between true true true own = refl
-between true true false own = refl
-between true false true own = refl
-between true false false own = refl
+between to from undone own = grind arith
 
 -- the events of a batch, by places, are those that the snapshots of its ticks select
 pub batch_events-by_id : (h : History) → Legal h → (b : Batch) → batch_events h b ≡ by_id (selected (database_of h) b)

@@ -1,5 +1,6 @@
 -- Ticks are in order: what had committed at one had committed at each later one.
 use Rattle.std.proofs.Common.{◌≡◌, ℕ, ◌<◌, List, [], ◌∷◌, ◌++◌, Bool, true, false, ◌&&◌, ◌||◌, ◌==◌, Some, None, is_some, refl, sym, ◌∙◌, ap, subst, arith, if◌then◌else◌}
+use Rattle.std.proofs.lemmas.Bool.{or_right}
 use Rattle.std.proofs.lemmas.Bool.Decides.{nat_tests}
 use Rattle.sky_model.specs.History.{ended, queued, ticked, History}
 use Rattle.sky_model.specs.Transactions.{has_committed, snapshot}
@@ -24,11 +25,7 @@ tick-push id (u ∷ ts) t = of (u.id == id) (tick-push id ts t)
   where
     of : (b : Bool) → is_some (tick id (ts ++ t ∷ [])) ≡ (t.id == id || is_some (tick id ts))
         → is_some (if b then Some u else tick id (ts ++ t ∷ [])) ≡ (t.id == id || is_some (if b then Some u else tick id ts))
-    of true ih = or_true (t.id == id)
-      where
-        or_true : (b : Bool) → true ≡ (b || true)
-        or_true true = refl
-        or_true false = refl
+    of true ih = grind arith
     of false ih = ih
 
 -- so it is among the queue's ticks
@@ -52,11 +49,7 @@ unmade_above h l q id above = sym (is_made-tick h q id) ∙ ap is_some (none_abo
 -- what had committed at a tick has committed
 pub committed_since : (h : History) (q id t : ℕ) → has_committed (at_tick q id h) t ≡ true → has_committed h t ≡ true
 committed_since [] q id t e = e
-committed_since (ended who u true ∷ h) q id t e = of (t == u) (committed_since h q id t e)
-  where
-    of : (b : Bool) → has_committed h t ≡ true → (b || has_committed h t) ≡ true
-    of true ih = refl
-    of false ih = ih
+committed_since (ended who u true ∷ h) q id t e = or_right (t == u) (has_committed h t) (committed_since h q id t e)
 committed_since (queued (ticked p m time seq) ∷ h) q id t e = of (p == q && m == id) (committed_since h q id t) e
   where
     of : (b : Bool) → (has_committed (at_tick q id h) t ≡ true → has_committed h t ≡ true) → has_committed (if b then h else at_tick q id h) t ≡ true → has_committed h t ≡ true

@@ -95,11 +95,7 @@ fit-step h _ (ends_waiting who) all = each-without (EntryFits h) (EntryFits (tab
     still w apart is =
         let turned : (who == w.who) ≡ false = grind (arith, nat_tests) in
         record { within = is.within; fits = subst (AttemptFits (columns_of w.table h) w.key) (sym (ap (λ b. if b then Deletion else attempt w.who h) turned)) is.fits; is_open = is.is_open }
-fit-step h _ (connects who e) all = each-map (EntryFits h) (EntryFits (connected who ∷ h)) (waiting h) (λ w is. record { within = is.within; fits = is.fits; is_open = still (who == w.who) (has_open w.who h) is.is_open }) all
-  where
-    still : (b o : Bool) → o ≡ true → (if b then true else o) ≡ true
-    still true o is = refl
-    still false o is = is
+fit-step h _ (connects who e) all = each-map (EntryFits h) (EntryFits (connected who ∷ h)) (waiting h) (λ w is. record { within = is.within; fits = is.fits; is_open = grind (arith, is.is_open) }) all
 fit-step h _ (disconnects who quiet away) all = each-other (EntryFits h) (EntryFits (disconnected who ∷ h)) who (waiting h) quiet still all
   where
     still : (w : Waiting) → (w.who == who) ≡ false → EntryFits h w → EntryFits (disconnected who ∷ h) w

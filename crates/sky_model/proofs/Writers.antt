@@ -16,18 +16,7 @@ use Rattle.sky_model.proofs.SnapshotLaws.{legal_place}
 
 -- the end of one leaves the others
 others-end : (t u : ℕ) (in_it over : Bool) → (in_it ≡ true → over ≡ false) → (not (u == t) && in_it) ≡ true → (t == u || over) ≡ false
-others-end t u in_it over ih e = of (t == u) refl
-  where
-    parts : (not (u == t) ≡ true) × (in_it ≡ true)
-    parts = and_parts (not (u == t)) in_it e
-
-    apart : (b : Bool) → (u == t) ≡ b → not b ≡ true → (t == u) ≡ false
-    apart true same isnt = absurd (cc)
-    apart false same isnt = grind (arith, nat_tests)
-
-    of : (b : Bool) → (t == u) ≡ b → (b || over) ≡ false
-    of true same = absurd (cc (sym same ∙ apart (u == t) refl parts.0))
-    of false same = ih parts.1
+others-end t u in_it over ih e = grind (arith, nat_tests)
 
 -- nor has the one that writes
 writer-runs : (h : History) → Legal h → {whose : Whose} {u n : ℕ} {key : List Val} {old new : Option (List Val)} → Fine h (tabled (wrote whose u n key old new)) → has_ended h u ≡ false
