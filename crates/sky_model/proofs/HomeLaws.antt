@@ -1,5 +1,5 @@
 -- Each session has open the database that is its home, whatever is called.
-use Rattle.std.proofs.Common.{◌≡◌, ◌≢◌, ◌⊎◌, inl, inr, ℕ, ℤ, List, [], ◌∷◌, ◌++◌, Bool, true, false, ◌==◌, nat_le, Option, Some, None, Ok, Err, map, length, refl, sym, ◌∙◌, ap, subst, arith, if◌then◌else◌}
+use Rattle.std.proofs.Common.{◌≡◌, ◌≢◌, ◌⊎◌, inl, inr, ℕ, ℤ, List, [], ◌∷◌, ◌++◌, Bool, true, false, ◌==◌, nat_le, Option, Some, None, Ok, map, length, refl, sym, ◌∙◌, ap, subst, arith, if◌then◌else◌}
 use Rattle.std.specs.Prelude.{not}
 use Rattle.std.proofs.lemmas.Bool.Decides.{nat_tests}
 use Rattle.sky_val.specs.Waits.{is_waiting}
@@ -107,32 +107,21 @@ stay-statement h now who stmt may is =
 abbrev made : History → ℤ → ℕ → Stmt → Checked (Unit {0}) → Outcome
 made h now who stmt may = runs_if (making database_by_history now who stmt) (where_of stmt) who h may
 
-allowed-busy : (w o : Bool) (b : Block) → w ≡ true → allowed w o b WhenOpen ≡ Err Busy
-allowed-busy true o b is = refl
-allowed-busy false o b is = absurd (cc)
-
-allowed-close : (w o : Bool) (b : Block) → w ≡ false → o ≡ true → allowed w o b WhenOpen ≡ Ok tt
-allowed-close false true outside quiet is = refl
-allowed-close false true inside quiet is = refl
-allowed-close false true failed quiet is = refl
-allowed-close false false b quiet is = absurd (cc)
-allowed-close true o b quiet is = absurd (cc)
-
-allowed-open : (w o : Bool) (b : Block) → w ≡ false → o ≡ false → allowed w o b Anywhere ≡ Ok tt
-allowed-open false false b quiet is = refl
-allowed-open false true b quiet is = absurd (cc)
-allowed-open true o b quiet is = absurd (cc)
+allowed-close : (b : Block) → allowed false true b WhenOpen ≡ Ok tt
+allowed-close outside = refl
+allowed-close inside = refl
+allowed-close failed = refl
 
 -- `close` of a session that waits is refused
 busy-closes : (h : History) (now : ℤ) (who : ℕ) → is_waiting who (waiting h) ≡ true → Stay (statement database_by_history h now who (Row Close)).marks
 busy-closes h now who waits =
-    subst (λ may. Stay (made h now who (Row Close) may).marks) (sym (allowed-busy (is_waiting who (waiting h)) (has_open who h) (block who h) waits))
+    subst (λ may. Stay (made h now who (Row Close) may).marks) (sym (ap (λ b. allowed b (has_open who h) (block who h) WhenOpen) waits))
     (each-abort AnyReply is_staying (λ _. tt) (stays-if no_more refl) who (block who h) (own_txid who h) Busy)
 
 -- else it closes the database
 closes : (h : History) (now : ℤ) (who : ℕ) → is_waiting who (waiting h) ≡ false → has_open who h ≡ true → Opens h (statement database_by_history h now who (Row Close)).marks who false
 closes h now who quiet is =
-    subst (λ may. Opens h (made h now who (Row Close) may).marks who false) (sym (allowed-close (is_waiting who (waiting h)) (has_open who h) (block who h) quiet is))
+    subst (λ may. Opens h (made h now who (Row Close) may).marks who false) (sym ((λ i. allowed (quiet i) (is i) (block who h) WhenOpen) ∙ allowed-close (block who h)))
     (of (block who h) (own_txid who h))
   where
     of : (b : Block) (o : Option ℕ) → Opens h (settled who (session h who) (tells (database_of h) now (close who o b))).marks who false
@@ -146,7 +135,7 @@ closes h now who quiet is =
 opens-here : (h : History) (now : ℤ) (who : ℕ) (name : List ℕ) → is_waiting who (waiting h) ≡ false → has_open who h ≡ false
     → Opens h (statement database_by_history h now who (Row (OpenDb name))).marks who true
 opens-here h now who name quiet is =
-    subst (λ may. Opens h (made h now who (Row (OpenDb name)) may).marks who true) (sym (allowed-open (is_waiting who (waiting h)) (has_open who h) (block who h) quiet is))
+    subst (λ may. Opens h (made h now who (Row (OpenDb name)) may).marks who true) (λ i. allowed (sym quiet i) (sym is i) (block who h) Anywhere)
     (subst (λ o. Opens h (settled who (session h who) (tells (database_of h) now (open_db who o))).marks who true) (sym is) (λ v. refl))
 
 -- ---- homes
