@@ -84,5 +84,4 @@ good_checked h who (Ok a) c good = good a refl
 -- a transaction that is running may commit where its statement stands outside a block
 pub good_commits : (h : History) (who t : ℕ) (b : Block) → own_txid who h ≡ Some t → Chain h (commit_of who t b)
 good_commits h who t outside mine = more (ends who t true mine) done
-good_commits h who t inside mine = done
-good_commits h who t failed mine = done
+good_commits h who t _ mine = done

@@ -1,5 +1,6 @@
 -- A session holds a key exactly where its running transaction has written it.
 use Rattle.std.proofs.Common.{◌≡◌, ℕ, ◌≤◌, Bool, true, false, List, [], ◌∷◌, ◌++◌, Option, Some, None, refl, sym, ◌∙◌, ap, arith, if◌then◌else◌}
+use Rattle.std.proofs.lemmas.Bool.{or_right}
 use Rattle.std.specs.Prelude.{◌||◌, ◌&&◌, ◌==◌}
 use Rattle.std.specs.Ordering.{eq_by_cmp}
 use Rattle.std.specs.Cmp.{eq_by_cmp_equiv}
@@ -71,10 +72,6 @@ holder-step h _ (writes v t n at_key old new mine free stands) l table key who i
     before : holder table key h ≡ Some who → HasWritten (tabled (wrote (of_session v) t n at_key old new) ∷ h) table key who
     before e = let w : HasWritten h table key who = ih e in record { txid = w.txid; runs = w.runs; wrote = grown w.txid (n == table && t == w.txid) w.wrote }
 
-    last : (b : Bool) → (b || true) ≡ true
-    last true = refl
-    last false = refl
-
     of : (a : Bool) → (n == table) ≡ a → (b : Bool) → eq_by_cmp key_cmp at_key key ≡ b → (if a && b then Some v else holder table key h) ≡ Some who
         → HasWritten (tabled (wrote (of_session v) t n at_key old new) ∷ h) table key who
     of true here true tie e =
@@ -85,7 +82,7 @@ holder-step h _ (writes v t n at_key old new mine free stands) l table key who i
           runs = ap (λ x. own_txid x h) (sym one) ∙ mine;
           wrote = ap (λ b. has_written key (if b then writes_of table t h ++ record { key = at_key; row = new } ∷ [] else writes_of table t h)) (λ i. here i && same i)
               ∙ has_written-push key (writes_of table t h) (record { key = at_key; row = new }) ∙ ap (λ b. has_written key (writes_of table t h) || b) (turned key at_key ∙ tie)
-              ∙ last (has_written key (writes_of table t h));
+              ∙ or_right (has_written key (writes_of table t h)) true refl;
         }
     of true here false tie e = before e
     of false there b tie e = before e

@@ -40,7 +40,6 @@ waiters_have_open p is who waits = waits-open p (legal_place p is) who waits
 abbrev InBlock : History → ℕ → Type 0
 InBlock h who = block who h ≢ outside → has_open who h ≡ true
 
--- a session that opens the database, or closes it
 block-step : (h : History) (mark : Mark) → Fine h mark → (who : ℕ) → InBlock h who → InBlock (mark ∷ h) who
 block-step h _ (begins_block v e is_open) who ih = of (v == who) refl
   where

@@ -13,7 +13,7 @@ use Rattle.sky_val.specs.Waits.{Waiting, is_waiting}
 use Rattle.sky_names.specs.Places.{place_of}
 use Rattle.sky_model.specs.History.{Batch, Mark, of_session, began, ended, looked, tabled, waited, queued, made, raised, put, ticked, opened, closed, History}
 use Rattle.sky_model.specs.Transactions.{next_txid}
-use Rattle.sky_model.specs.Sessions.{Block, outside, inside, failed, has_open, block, own_txid, session}
+use Rattle.sky_model.specs.Sessions.{Block, outside, has_open, block, own_txid, session}
 use Rattle.sky_model.specs.Rows.{table_names, columns_of}
 use Rattle.sky_model.specs.Triggers.{triggers, triggers_of}
 use Rattle.sky_model.specs.StepTrigger.{has_trigger, may_ignore, add_trigger}
@@ -76,8 +76,7 @@ good_create_queue h l now who name =
     body : (g : History) (t : ℕ) (b : Block) → queue_number name (queues h) ≡ None → own_txid who g ≡ Some t → queues g ≡ queues h → queues_made g ≡ count → ticks count g ≡ []
         → Chain g (queued (made name) ∷ commit_of who t b ++ queued (ticked count 1 now 0) ∷ [])
     body g t outside new mine names many none = more (makes name (ap (queue_number name) names ∙ new)) (more (ends who t true mine) (ticks_first (ended (of_session who) t true ∷ queued (made name) ∷ g) (λ i. names i ++ record { number = many i; name = name } ∷ []) none))
-    body g t inside new mine names many none = more (makes name (ap (queue_number name) names ∙ new)) (ticks_first (queued (made name) ∷ g) (λ i. names i ++ record { number = many i; name = name } ∷ []) none)
-    body g t failed new mine names many none = more (makes name (ap (queue_number name) names ∙ new)) (ticks_first (queued (made name) ∷ g) (λ i. names i ++ record { number = many i; name = name } ∷ []) none)
+    body g t _ new mine names many none = more (makes name (ap (queue_number name) names ∙ new)) (ticks_first (queued (made name) ∷ g) (λ i. names i ++ record { number = many i; name = name } ∷ []) none)
 
     none_yet : ticks count h ≡ []
     none_yet = ticks_beyond h l count (omega arith)

@@ -39,8 +39,7 @@ use Rattle.sky_model.proofs.Good.{MayStand, Good, same-session, good_refused, go
 
 good_begin : (h : History) (who : ℕ) (b : Block) → block who h ≡ b → has_open who h ≡ true → Good h who (begin who b)
 good_begin h who outside is is_open = more (begins_block who is is_open) done
-good_begin h who inside is is_open = done
-good_begin h who failed is is_open = done
+good_begin h who _ is is_open = done
 
 good_leaves : (h : History) (who : ℕ) (committed : Bool) (o : Option ℕ) → own_txid who h ≡ o → Chain h (leaves committed who o)
 good_leaves h who committed None none = more (ends_block who none) done
@@ -53,8 +52,7 @@ good_commit h who failed = good_leaves h who false (own_txid who h) refl
 
 good_rollback : (h : History) (who : ℕ) (b : Block) → Good h who (rollback who (own_txid who h) b)
 good_rollback h who outside = done
-good_rollback h who inside = good_leaves h who false (own_txid who h) refl
-good_rollback h who failed = good_leaves h who false (own_txid who h) refl
+good_rollback h who _ = good_leaves h who false (own_txid who h) refl
 
 good_open_db : (h : History) (who : ℕ) (b : Bool) → has_open who h ≡ b → Good h who (open_db who b)
 good_open_db h who true is = good_refused h who AlreadyOpen
@@ -70,8 +68,7 @@ good_closes h who (Some t) mine quiet =
 
 good_close : (h : History) (who : ℕ) (b : Block) → block who h ≡ b → is_waiting who (waiting h) ≡ false → Good h who (close who (own_txid who h) b)
 good_close h who outside is quiet = more (disconnects who quiet is) done
-good_close h who inside is quiet = good_closes h who (own_txid who h) refl quiet
-good_close h who failed is quiet = good_closes h who (own_txid who h) refl quiet
+good_close h who _ is quiet = good_closes h who (own_txid who h) refl quiet
 
 good_cancel : (h : History) (who : ℕ) (waits : Bool) → Good h who (cancel who (own_txid who h) (block who h) waits)
 good_cancel h who false = done
@@ -79,8 +76,7 @@ good_cancel h who true = more (ends_waiting who) (good_refused (tabled (waited w
 
 good_begin_repeatable_read : (h : History) (who : ℕ) (b : Block) → block who h ≡ b → has_open who h ≡ true → Good h who (begin_repeatable_read who b)
 good_begin_repeatable_read h who outside is is_open = more (begins_block who is is_open) (more (repeats_block who) done)
-good_begin_repeatable_read h who inside is is_open = done
-good_begin_repeatable_read h who failed is is_open = done
+good_begin_repeatable_read h who _ is is_open = done
 
 good_txid_current : (h : History) (who : ℕ) (o : Option ℕ) → own_txid who h ≡ o
     → Good h who (own_or_next (part_of h) o >>= (λ t. does_marks (Number t) (begin_of who t o ++ [] ++ commit_of who t (block who h))))

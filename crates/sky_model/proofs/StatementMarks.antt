@@ -166,8 +166,7 @@ kinds is_open _ = record no_more { queues = true }
 
 left-committed : (k : Kinds) (who t : ℕ) (b : Block) → EachMark (may_leave k who) (commit_of who t b)
 left-committed k who t outside = tt
-left-committed k who t inside = tt
-left-committed k who t failed = tt
+left-committed k who t _ = tt
 
 left-written : (k : Kinds) (who t : ℕ) (s : Session) (marks : List Mark) → EachMark (may_leave k who) marks → EachMark (may_leave k who) (written who t s marks)
 left-written k who t s marks all = of s.txid (each-append (may_leave k who) marks (commit_of who t s.block) all (left-committed k who t s.block))

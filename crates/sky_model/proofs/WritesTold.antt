@@ -75,7 +75,7 @@ plain-told h marks plain told = told-behind (marked h marks) h marks plain (told
 
 -- ---- a write, and what is told of it
 
-events-plain : (marks : List Mark) → Inserted [] marks → WritesNone marks
+pub events-plain : (marks : List Mark) → Inserted [] marks → WritesNone marks
 events-plain _ none = tt
 events-plain _ (with_raised {ys = ys} queue value more) = events-plain ys more
 events-plain _ (with_put {ys = ys} queue event more) = events-plain ys more
