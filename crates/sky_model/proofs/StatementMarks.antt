@@ -65,6 +65,7 @@ each-append p (x ∷ xs) ys all also = when-map (p x) (p x) (λ e. e) (λ rest. 
 each-front : (p : Mark → Bool) (mark : Mark) (marks : List Mark) → p mark ≡ true → EachMark p marks → EachMark p (mark ∷ marks)
 each-front p mark marks e all = subst (λ b. When b (EachMark p marks)) (sym e) all
 
+-- where it is so at all, the test holds
 pub when-true : (T : Type 0) (b : Bool) → When b T → b ≡ true
 when-true T true t = refl
 when-true T false t = absurd t
@@ -193,33 +194,33 @@ left-abort k who failed txid refusal = tt
 
 module _ (who : ℕ) where
   -- a statement may leave such marks, and no event is its answer
-  abbrev Row_gives : Kinds → Checked Outcome → Type 0
-  Row_gives k c = Gives ReplyHasMoments (may_leave k who) c
+  abbrev RowGives : Kinds → Checked Outcome → Type 0
+  RowGives k c = Gives ReplyHasMoments (may_leave k who) c
 
-  gives-writes : (held : Bool) (d : RowPart) (table : ℕ) (key : List Val) (old new : Option (List Val)) → Row_gives (attempt_kinds held) (writes_key d who table key old new)
+  gives-writes : (held : Bool) (d : RowPart) (table : ℕ) (key : List Val) (old new : Option (List Val)) → RowGives (attempt_kinds held) (writes_key d who table key old new)
   gives-writes held d table key old new = search (checked, left-written)
 
   gives-once_free : (d : RowPart) (table : ℕ) (key : List Val) (attempt : Attempt) (other : Option ℕ) (c : Checked Outcome)
-      → Row_gives (attempt_kinds (is_some other)) c → Row_gives (attempt_kinds (is_some other)) (once_free d who table key attempt other c)
+      → RowGives (attempt_kinds (is_some other)) c → RowGives (attempt_kinds (is_some other)) (once_free d who table key attempt other c)
   gives-once_free d table key attempt None c gives = gives
   gives-once_free d table key attempt (Some holder) c gives =
       let own : When (who == who) (Unit {0}) = subst (λ b. When b (Unit {0})) (sym (same-session who)) tt in
       search (after)
 
   gives-changes : (d : RowPart) (shown : KeyShown) (table : ℕ) (key : List Val) (attempt : Attempt) (new_of : List Val → Checked (Option (List Val))) (row : Option (List Val))
-      → Row_gives (attempt_kinds (is_some (other_holder d.holder who table key))) (changes d shown who table key attempt new_of row)
+      → RowGives (attempt_kinds (is_some (other_holder d.holder who table key))) (changes d shown who table key attempt new_of row)
   gives-changes d shown table key attempt new_of None = (tt, tt)
   gives-changes d shown table key attempt new_of (Some row) = search (gives-once_free, after, checked, gives-writes)
 
   -- an attempt with a key
   pub gives-attempts : (d : RowPart) (shown : KeyShown) (table : ℕ) (key : List Val) (attempt : Attempt)
-      → Row_gives (attempt_kinds (is_some (other_holder d.holder who table key))) (attempts d shown who table key attempt)
+      → RowGives (attempt_kinds (is_some (other_holder d.holder who table key))) (attempts d shown who table key attempt)
   gives-attempts d shown table key (Insertion row) = search (gives-once_free, after, gives-writes)
   gives-attempts d shown table key (Changes sets) = search (gives-changes)
   gives-attempts d shown table key Deletion = search (gives-changes)
 
   -- where it isn't known whether another session holds it
-  pub gives-attempt : (d : RowPart) (shown : KeyShown) (table : ℕ) (key : List Val) (attempt : Attempt) → Row_gives (attempt_kinds true) (attempts d shown who table key attempt)
+  pub gives-attempt : (d : RowPart) (shown : KeyShown) (table : ℕ) (key : List Val) (attempt : Attempt) → RowGives (attempt_kinds true) (attempts d shown who table key attempt)
   gives-attempt d shown table key attempt =
       gives-map ReplyHasMoments ReplyHasMoments (may_leave (attempt_kinds held) who) (may_leave (attempt_kinds true) who) (λ reply has. has) (also held) _ (gives-attempts d shown table key attempt)
     where
@@ -231,42 +232,42 @@ module _ (who : ℕ) where
       also false (tabled (waits v n at attempt)) e = absurd (cc)
       also false mark e = e
 
-  gives-row_or_none : (k : Kinds) (row : Option (List Val)) → Row_gives k (row_or_none row)
+  gives-row_or_none : (k : Kinds) (row : Option (List Val)) → RowGives k (row_or_none row)
   gives-row_or_none k None = (tt, tt)
   gives-row_or_none k (Some row) = (tt, tt)
 
-  gives-begin : (k : Kinds) (b : Block) → Row_gives k (begin who b)
+  gives-begin : (k : Kinds) (b : Block) → RowGives k (begin who b)
   gives-begin k outside = (tt, tt)
   gives-begin k _ = (tt, tt)
 
-  gives-begin_repeatable_read : (k : Kinds) (b : Block) → Row_gives k (begin_repeatable_read who b)
+  gives-begin_repeatable_read : (k : Kinds) (b : Block) → RowGives k (begin_repeatable_read who b)
   gives-begin_repeatable_read k outside = (tt, tt)
   gives-begin_repeatable_read k _ = (tt, tt)
 
-  gives-commit : (k : Kinds) (txid : Option ℕ) (b : Block) → Row_gives k (commit who txid b)
+  gives-commit : (k : Kinds) (txid : Option ℕ) (b : Block) → RowGives k (commit who txid b)
   gives-commit k txid outside = (tt, tt)
   gives-commit k txid inside = (tt, left-block k true who txid)
   gives-commit k txid failed = (tt, left-block k false who txid)
 
-  gives-rollback : (k : Kinds) (txid : Option ℕ) (b : Block) → Row_gives k (rollback who txid b)
+  gives-rollback : (k : Kinds) (txid : Option ℕ) (b : Block) → RowGives k (rollback who txid b)
   gives-rollback k txid outside = (tt, tt)
   gives-rollback k txid _ = (tt, left-block k false who txid)
 
-  gives-close : (txid : Option ℕ) (b : Block) → Row_gives (row_kinds true Close) (close who txid b)
+  gives-close : (txid : Option ℕ) (b : Block) → RowGives (row_kinds true Close) (close who txid b)
   gives-close txid outside = (tt, tt)
   gives-close None _ = (tt, tt)
   gives-close (Some t) _ = (tt, tt)
 
-  gives-cancel : (txid : Option ℕ) (b : Block) (waits : Bool) → Row_gives (row_kinds true Cancel) (cancel who txid b waits)
+  gives-cancel : (txid : Option ℕ) (b : Block) (waits : Bool) → RowGives (row_kinds true Cancel) (cancel who txid b waits)
   gives-cancel txid b false = (tt, tt)
   gives-cancel txid b true = (tt, left-abort (row_kinds true Cancel) who b txid Canceled)
 
-  gives-open_db : (is_open : Bool) → Row_gives (record no_more { moves = not is_open }) (open_db who is_open)
+  gives-open_db : (is_open : Bool) → RowGives (record no_more { moves = not is_open }) (open_db who is_open)
   gives-open_db true = tt
   gives-open_db false = (tt, tt)
 
   -- a statement on rows
-  pub gives-row_form : (d : RowPart) (shown : RowsShown) (stmt : RowStmt) → Row_gives (row_kinds (d.session who).is_open stmt) (row_form d shown who stmt)
+  pub gives-row_form : (d : RowPart) (shown : RowsShown) (stmt : RowStmt) → RowGives (row_kinds (d.session who).is_open stmt) (row_form d shown who stmt)
   gives-row_form d shown (OpenDb name) = gives-open_db (d.session who).is_open
   gives-row_form d shown Close = gives-close (d.session who).txid (d.session who).block
   gives-row_form d shown Cancel = gives-cancel (d.session who).txid (d.session who).block (is_waiting who d.waiting)
@@ -340,18 +341,18 @@ gives-gated R p gate g (Ok o) given = search (after)
 -- ---- statements on queues
 
 module _ (who : ℕ) where
-  abbrev Queue_gives : Checked Outcome → Type 0
-  Queue_gives c = Gives AnyReply (may_leave (record no_more { queues = true }) who) c
+  abbrev QueueGives : Checked Outcome → Type 0
+  QueueGives c = Gives AnyReply (may_leave (record no_more { queues = true }) who) c
 
-  gives-opens : (d : Database) (q : ℕ) (consumer : List ℕ) (sub : Subscription) (o : Option Tick) → Queue_gives (opens_batch d q consumer sub o)
+  gives-opens : (d : Database) (q : ℕ) (consumer : List ℕ) (sub : Subscription) (o : Option Tick) → QueueGives (opens_batch d q consumer sub o)
   gives-opens d q consumer sub None = (tt, tt)
   gives-opens d q consumer sub (Some t) = search (after)
 
-  gives-takes : (d : Database) (q : ℕ) (consumer : List ℕ) (sub : Subscription) (o : Option ℕ) → Queue_gives (takes_batch d q consumer sub o)
+  gives-takes : (d : Database) (q : ℕ) (consumer : List ℕ) (sub : Subscription) (o : Option ℕ) → QueueGives (takes_batch d q consumer sub o)
   gives-takes d q consumer sub (Some batch) = (tt, tt)
   gives-takes d q consumer sub None = gives-opens d q consumer sub (tick (sub.position + 1) (d.queue q).tick_list)
 
-  gives-finishes : (o : Option Batch) → Queue_gives (finishes o)
+  gives-finishes : (o : Option Batch) → QueueGives (finishes o)
   gives-finishes None = (tt, tt)
   gives-finishes (Some batch) = (tt, tt)
 
