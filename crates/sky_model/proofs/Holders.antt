@@ -41,11 +41,7 @@ unless-kept : (who w : ℕ) → (who == w) ≡ false → other_than who (Some w)
 unless-kept who w other = (let turned : (w == who) ≡ false = grind (arith, nat_tests) in ap (λ b. if b then None else Some w) turned)
 
 unless-own : (who w : ℕ) → other_than who (Some w) ≡ None → who ≡ w
-unless-own who w e = of (w == who) refl e
-  where
-    of : (b : Bool) → (w == who) ≡ b → (if b then None else Some w) ≡ None → who ≡ w
-    of true is e = grind (arith, nat_tests)
-    of false is e = absurd (cc)
+unless-own who w e = grind (arith, nat_tests)
 
 -- the holder's transaction has written the key
 holder-step : (h : History) (mark : Mark) → Fine h mark → Legal h → (table : ℕ) (key : List Val) (who : ℕ)

@@ -97,16 +97,12 @@ key_rolled_back h l who t unended table key k = record {
     gone : kept (ended (of_session who) t false ∷ h) table key ≡ without t (kept h table key)
     gone = versions_at-forgotten t key (versions table h) (is_in_order-versions table h)
 
-    none : (b : Bool) (o : Option Version) → b ≡ true → cond b None o ≡ None
-    none true o e = refl
-    none false o e = absurd (cc)
-
     same : newest_by (has_ended (ended (of_session who) t false ∷ h)) (kept (ended (of_session who) t false ∷ h) table key) ≡ newest_by (has_ended h) (kept h table key)
     same =
         let mine : (t == t) ≡ true = grind (arith, nat_tests) in
         ap (newest_by (has_ended (ended (of_session who) t false ∷ h))) gone
         ∙ newest_more (has_ended h) (has_ended (ended (of_session who) t false ∷ h)) t (without t (kept h table key)) (only_without (has_ended h) t (kept h table key) k.only) unended (ended-or h t)
-        ∙ ap (λ o. option_or o (newest_by (has_ended h) (without t (kept h table key)))) (version_of-without t t (kept h table key) ∙ none (t == t) (version_of t (kept h table key)) mine)
+        ∙ ap (λ o. option_or o (newest_by (has_ended h) (without t (kept h table key)))) (version_of-without t t (kept h table key) ∙ ap (λ b. cond b None (version_of t (kept h table key))) mine)
         ∙ newest_without (has_ended h) t (kept h table key) unended
 
 -- where no other transaction that hasn't ended has a version, all others' pass
@@ -123,11 +119,7 @@ others-from p t (v ∷ vs) none = (of (t == v.txid) refl (p v.txid) refl, others
         absurd (cc (sym (ap (λ b. if b then Some v else version_of v.txid vs) itself) ∙ there))
 
     later : (u : ℕ) → (if u == v.txid then Some v else version_of u vs) ≡ None → version_of u vs ≡ None
-    later u e = by (u == v.txid) e
-      where
-        by : (b : Bool) → (if b then Some v else version_of u vs) ≡ None → version_of u vs ≡ None
-        by true e = absurd (cc)
-        by false e = e
+    later u e = grind arith
 
 module _ (h : History) (l : Legal h) (who t n : ℕ) (at_key : List Val) (old new : Option (List Val)) (mine : own_txid who h ≡ Some t) (free : other_than who (holder n at_key h) ≡ None) where
   abbrev g : History

@@ -53,11 +53,7 @@ active_batch-id (queued (opened b) ∷ h) id batch is = of (b.id == id) refl is 
     of : (c : Bool) → (b.id == id) ≡ c → (if c then Some b else active_batch id h) ≡ Some batch → (active_batch id h ≡ Some batch → batch.id ≡ id) → batch.id ≡ id
     of true same e ih = let one : b ≡ batch = ap (λ o. unwrap_or o b) e in ap Batch.id (sym one) ∙ grind (arith, nat_tests)
     of false same e ih = ih e
-active_batch-id (queued (closed b) ∷ h) id batch is = of (b.id == id) is (active_batch-id h id batch)
-  where
-    of : (c : Bool) → (if c then None else active_batch id h) ≡ Some batch → (active_batch id h ≡ Some batch → batch.id ≡ id) → batch.id ≡ id
-    of true e ih = absurd (cc)
-    of false e ih = ih e
+active_batch-id (queued (closed b) ∷ h) id batch is = grind (arith, active_batch-id h id batch)
 active_batch-id (_ ∷ h) id batch is = active_batch-id h id batch is
 
 good_create_queue : (h : History) → Legal h → (now : ℤ) (who : ℕ) (name : List ℕ) → Good h who (create_queue (database_of h) now who name)

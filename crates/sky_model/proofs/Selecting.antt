@@ -19,11 +19,7 @@ use Rattle.sky_model.proofs.Ticks.{snapshot-at_tick, legal-at_tick}
 ended-at_tick : (h : History) (q id t : ℕ) → has_ended (at_tick q id h) t ≡ true → has_ended h t ≡ true
 ended-at_tick [] q id t e = e
 ended-at_tick (ended who u committed ∷ h) q id t e = or_right (t == u) (has_ended h t) (ended-at_tick h q id t e)
-ended-at_tick (queued (ticked p m time seq) ∷ h) q id t e = of (p == q && m == id) (ended-at_tick h q id t) e
-  where
-    of : (b : Bool) → (has_ended (at_tick q id h) t ≡ true → has_ended h t ≡ true) → has_ended (if b then h else at_tick q id h) t ≡ true → has_ended h t ≡ true
-    of true ih e = e
-    of false ih e = ih e
+ended-at_tick (queued (ticked p m time seq) ∷ h) q id t e = grind (arith, ended-at_tick h q id t)
 ended-at_tick (_ ∷ h) q id t e = ended-at_tick h q id t e
 
 -- what had committed at a tick is what had ended there and hasn't rolled back
@@ -40,12 +36,7 @@ committed-at_tick _ (next {h = h} l (ends who u false mine)) q id t = of (t == u
         absurd (cc)
     of true same false was ih = ih
     of false same e was ih = ih
-committed-at_tick _ (next {h = h} l (ticks_next p m time seq i e)) q id t = of (p == q && m == id) (committed-at_tick h l q id t)
-  where
-    of : (b : Bool) → has_committed (at_tick q id h) t ≡ (has_ended (at_tick q id h) t && not (has_rolled_back h t))
-        → has_committed (if b then h else at_tick q id h) t ≡ (has_ended (if b then h else at_tick q id h) t && not (has_rolled_back h t))
-    of true ih = has_committed-ended h l t
-    of false ih = ih
+committed-at_tick _ (next {h = h} l (ticks_next p m time seq i e)) q id t = grind (arith, committed-at_tick h l q id t, has_committed-ended h l t)
 committed-at_tick _ (next {h = h} l _) q id t = committed-at_tick h l q id t
 
 -- what had committed at a tick is what the tick's snapshot sees and hasn't rolled back

@@ -1,5 +1,5 @@
 -- A row that changes that fit have changed is one of the table under the same key, if it was one before.
-use Rattle.std.proofs.Common.{◌≡◌, ℕ, suc, ℤ, ◌+◌, Bool, true, false, not, List, [], ◌∷◌, Option, Some, None, Ok, Err, IfSome, length, bytes_eq, option_map, refl, sym, ◌∙◌, ap, subst, if◌then◌else◌}
+use Rattle.std.proofs.Common.{◌≡◌, ℕ, suc, ℤ, ◌+◌, Bool, true, false, not, List, [], ◌∷◌, Option, Some, None, Ok, Err, IfSome, length, bytes_eq, option_map, refl, sym, ◌∙◌, ap, subst, if◌then◌else◌, arith}
 use Rattle.std.specs.Prelude.{find, ◌||◌, ◌&&◌, ◌==◌, ◌+ℤ◌}
 use Rattle.std.specs.List.{list_any}
 use Rattle.std.specs.Option.{option_or}
@@ -27,11 +27,7 @@ use Rattle.sky_model.proofs.Legal.{ChangesFit}
 in_range-kind : (n : ℤ) (w : Val) → in_range n ≡ Some w → is_of_kind kind.Int w ≡ true
 in_range-kind n value.Null e = refl
 in_range-kind n (value.Int m) e = refl
-in_range-kind n (value.Text t) e = absurd (no_text _ e)
-  where
-    no_text : (b : Bool) → (if b then Some (value.Int n) else None) ≡ Some (value.Text t) → ⊥
-    no_text true e = cc
-    no_text false e = cc
+in_range-kind n (value.Text t) e = grind arith
 
 -- a value after a change of its kind is of the kind, if it was before
 changed-kind : (k : ColKind) (change : Change) (v w : Val) → is_of_kind k v ≡ true → is_change_of k change ≡ true → changed change v ≡ Some w → is_of_kind k w ≡ true
@@ -42,11 +38,7 @@ changed-kind kind.Int (Add n) (value.Text t) w was may e = absurd (cc)
 changed-kind kind.Text (Add n) v w was may e = absurd (cc)
 
 value-kind : (place : ℕ) (column : Column) (v : Val) → value_fault place column v ≡ None → is_of_kind column.kind v ≡ true
-value-kind place column v e = of (is_of_kind column.kind v) e
-  where
-    of : (b : Bool) → (if not b then Some (fault.Kind place) else if column.key && is_null v then Some (fault.NullKey place) else None) ≡ None → b ≡ true
-    of true e = refl
-    of false e = absurd (cc)
+value-kind place column v e = grind arith
 
 value-fits : (place : ℕ) (column : Column) (w : Val) → is_of_kind column.kind w ≡ true → column.key ≡ false → value_fault place column w ≡ None
 value-fits place column w kind_is plain =

@@ -1,5 +1,5 @@
 -- Ticks are in order: what had committed at one had committed at each later one.
-use Rattle.std.proofs.Common.{◌≡◌, ℕ, ◌<◌, List, [], ◌∷◌, ◌++◌, Bool, true, false, ◌&&◌, ◌||◌, ◌==◌, Some, None, is_some, refl, sym, ◌∙◌, ap, subst, arith, if◌then◌else◌}
+use Rattle.std.proofs.Common.{◌≡◌, ℕ, ◌<◌, List, [], ◌∷◌, ◌++◌, Bool, true, false, ◌&&◌, ◌||◌, ◌==◌, is_some, refl, sym, ◌∙◌, ap, subst, arith, if◌then◌else◌}
 use Rattle.std.proofs.lemmas.Bool.{or_right}
 use Rattle.std.proofs.lemmas.Bool.Decides.{nat_tests}
 use Rattle.sky_model.specs.History.{ended, queued, ticked, History}
@@ -16,17 +16,8 @@ is_made q id (queued (ticked p m time seq) ∷ h) = (p == q && m == id) || is_ma
 is_made q id (_ ∷ h) = is_made q id h
 
 tick-push : (id : ℕ) (ts : List Tick) (t : Tick) → is_some (tick id (ts ++ t ∷ [])) ≡ (t.id == id || is_some (tick id ts))
-tick-push id [] t = of (t.id == id)
-  where
-    of : (b : Bool) → is_some (if b then Some t else None) ≡ (b || false)
-    of true = refl
-    of false = refl
-tick-push id (u ∷ ts) t = of (u.id == id) (tick-push id ts t)
-  where
-    of : (b : Bool) → is_some (tick id (ts ++ t ∷ [])) ≡ (t.id == id || is_some (tick id ts))
-        → is_some (if b then Some u else tick id (ts ++ t ∷ [])) ≡ (t.id == id || is_some (if b then Some u else tick id ts))
-    of true ih = grind arith
-    of false ih = ih
+tick-push id [] t = grind arith
+tick-push id (u ∷ ts) t = grind (arith, tick-push id ts t)
 
 -- so it is among the queue's ticks
 pub is_made-tick : (h : History) (q id : ℕ) → is_some (tick id (ticks q h)) ≡ is_made q id h
@@ -50,11 +41,7 @@ unmade_above h l q id above = sym (is_made-tick h q id) ∙ ap is_some (none_abo
 pub committed_since : (h : History) (q id t : ℕ) → has_committed (at_tick q id h) t ≡ true → has_committed h t ≡ true
 committed_since [] q id t e = e
 committed_since (ended who u true ∷ h) q id t e = or_right (t == u) (has_committed h t) (committed_since h q id t e)
-committed_since (queued (ticked p m time seq) ∷ h) q id t e = of (p == q && m == id) (committed_since h q id t) e
-  where
-    of : (b : Bool) → (has_committed (at_tick q id h) t ≡ true → has_committed h t ≡ true) → has_committed (if b then h else at_tick q id h) t ≡ true → has_committed h t ≡ true
-    of true ih e = e
-    of false ih e = ih e
+committed_since (queued (ticked p m time seq) ∷ h) q id t e = grind (arith, committed_since h q id t)
 committed_since (_ ∷ h) q id t e = committed_since h q id t e
 
 -- a transaction that had committed at one tick had committed at another

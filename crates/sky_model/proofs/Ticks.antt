@@ -28,22 +28,12 @@ newest_tick-push (u ∷ v ∷ ts) t = newest_tick-push (v ∷ ts) t
 -- a tick that is there is there in a list with one more
 tick-push_found : (id : ℕ) (ts : List Tick) (t u : Tick) → tick id ts ≡ Some u → tick id (ts ++ t ∷ []) ≡ Some u
 tick-push_found id [] t u e = cc
-tick-push_found id (v ∷ ts) t u e = of (v.id == id) e (tick-push_found id ts t u)
-  where
-    of : (b : Bool) → (if b then Some v else tick id ts) ≡ Some u → (tick id ts ≡ Some u → tick id (ts ++ t ∷ []) ≡ Some u)
-        → (if b then Some v else tick id (ts ++ t ∷ [])) ≡ Some u
-    of true e ih = e
-    of false e ih = ih e
+tick-push_found id (v ∷ ts) t u e = grind (arith, tick-push_found id ts t u)
 
 -- one that isn't is the one more, or none
 tick-push_none : (id : ℕ) (ts : List Tick) (t : Tick) → tick id ts ≡ None → tick id (ts ++ t ∷ []) ≡ (if t.id == id then Some t else None)
 tick-push_none id [] t e = refl
-tick-push_none id (v ∷ ts) t e = of (v.id == id) e (tick-push_none id ts t)
-  where
-    of : (b : Bool) → (if b then Some v else tick id ts) ≡ None → (tick id ts ≡ None → tick id (ts ++ t ∷ []) ≡ (if t.id == id then Some t else None))
-        → (if b then Some v else tick id (ts ++ t ∷ [])) ≡ (if t.id == id then Some t else None)
-    of true e ih = cc
-    of false e ih = ih e
+tick-push_none id (v ∷ ts) t e = grind (arith, tick-push_none id ts t)
 
 -- no tick has an id above the newest one's
 abbrev pub NoneAbove : List Tick → Type 0
