@@ -99,11 +99,7 @@ snapshot-place h who = of (sight who h)
 
 -- a mark of one that hasn't ended at a place changes nothing that has
 unended-at : {k h : History} → Since k h → (t : ℕ) → has_ended h t ≡ false → has_ended k t ≡ false
-unended-at {k = k} since t runs = of (has_ended k t) refl
-  where
-    of : (b : Bool) → has_ended k t ≡ b → b ≡ false
-    of true e = absurd (cc (sym (ended-since since t e) ∙ runs))
-    of false e = refl
+unended-at since t runs = grind (arith, ended-since since t)
 
 newest-behind : (k h : History) → Since k h → Legal h → (mark : Mark) → Fine h mark → (table : ℕ) (key : List Val)
     → newest_by (has_ended k) (kept (mark ∷ h) table key) ≡ newest_by (has_ended k) (kept h table key)

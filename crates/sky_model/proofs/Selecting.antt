@@ -1,5 +1,5 @@
 -- The events of a batch are those that its two ticks' snapshots select.
-use Rattle.std.proofs.Common.{◌≡◌, ℕ, ◌+◌, ◌<◌, ◌≤◌, All, List, [], ◌∷◌, ◌++◌, Bool, true, false, not, ◌&&◌, ◌||◌, ◌==◌, nat_lt, filter, refl, sym, ◌∙◌, ap, arith, subst, append-nil, append_assoc, if◌then◌else◌}
+use Rattle.std.proofs.Common.{◌≡◌, ℕ, ◌+◌, ◌<◌, ◌≤◌, All, List, [], ◌∷◌, ◌++◌, Bool, true, false, not, ◌&&◌, ◌==◌, nat_lt, filter, refl, sym, ◌∙◌, ap, arith, subst, append-nil, append_assoc, if◌then◌else◌}
 use Rattle.std.proofs.lemmas.Bool.{or_right}
 use Rattle.std.proofs.lemmas.Bool.Decides.{nat_tests}
 use Rattle.std.proofs.lemmas.List.Elements.{All-nil, All-cons}
@@ -25,17 +25,7 @@ ended-at_tick (_ ∷ h) q id t e = ended-at_tick h q id t e
 -- what had committed at a tick is what had ended there and hasn't rolled back
 committed-at_tick : (h : History) → Legal h → (q id t : ℕ) → has_committed (at_tick q id h) t ≡ (has_ended (at_tick q id h) t && not (has_rolled_back h t))
 committed-at_tick [] start q id t = has_committed-ended [] start t
-committed-at_tick _ (next {h = h} l (ends who u false mine)) q id t = of (t == u) refl (has_ended (at_tick q id h) t) refl (committed-at_tick h l q id t)
-  where
-    of : (b : Bool) → (t == u) ≡ b → (e : Bool) → has_ended (at_tick q id h) t ≡ e → has_committed (at_tick q id h) t ≡ (e && not (has_rolled_back h t))
-        → has_committed (at_tick q id h) t ≡ (e && not (b || has_rolled_back h t))
-    of true same true was ih =
-        let one : t ≡ u = grind (arith, nat_tests) in
-        let open_still : has_ended h t ≡ false = ap (has_ended h) one ∙ own-unended h l who u mine in
-        let over : has_ended h t ≡ true = ended-at_tick h q id t was in
-        absurd (cc)
-    of true same false was ih = ih
-    of false same e was ih = ih
+committed-at_tick _ (next {h = h} l (ends who u false mine)) q id t = grind (arith, nat_tests, committed-at_tick h l q id t, ended-at_tick h q id t, own-unended h l who u mine)
 committed-at_tick _ (next {h = h} l (ticks_next p m time seq i e)) q id t = grind (arith, committed-at_tick h l q id t, has_committed-ended h l t)
 committed-at_tick _ (next {h = h} l _) q id t = committed-at_tick h l q id t
 

@@ -82,11 +82,7 @@ with_set-keeps place (column ∷ columns) set (v ∷ row) next may plain fits e 
         }
 
     change_may : (if is_change_of column.kind set.change then None else Some (badly.Type set.column)) ≡ None → is_change_of column.kind set.change ≡ true
-    change_may = by (is_change_of column.kind set.change)
-      where
-        by : (b : Bool) → (if b then None else Some (badly.Type set.column)) ≡ None → b ≡ true
-        by true e = refl
-        by false e = absurd (cc)
+    change_may e = grind arith
 
     there : (o : Option (List Val)) → ((rest : List Val) → o ≡ Some rest → Kept (place + 1) columns row rest) → option_map (λ rest. v ∷ rest) o ≡ Some next → Kept place (column ∷ columns) (v ∷ row) next
     there None kept e = absurd (cc)
@@ -171,12 +167,7 @@ none-fits columns key (Some row) e = absurd (cc)
 
 apart : (before : List (List ℕ)) (set : Set) (o : Option Column) → bad_set before set o ≡ None → bad_set [] set o ≡ None
 apart before set None e = absurd (cc)
-apart before set (Some column) e = of (list_any (bytes_eq set.column) before) e
-  where
-    of : (b : Bool) → (if b then Some (badly.Twice set.column) else if is_change_of column.kind set.change then None else Some (badly.Type set.column)) ≡ None
-        → (if is_change_of column.kind set.change then None else Some (badly.Type set.column)) ≡ None
-    of true e = absurd (cc)
-    of false e = e
+apart before set (Some column) e = grind arith
 
 -- those of which none is bad, and none is of the key
 pub changes-fit : (columns : List Column) (before : List (List ℕ)) (sets : List Set) → bad_sets columns before sets ≡ None → find (is_key_change columns) sets ≡ None → ChangesFit columns sets

@@ -34,12 +34,7 @@ contains-push t x (y ∷ ys) = grind (arith, contains-push t x ys)
 
 pub contains-filter : (t x : ℕ) (xs : List ℕ) → contains t (filter (λ u. not (u == x)) xs) ≡ (contains t xs && not (t == x))
 contains-filter t x [] = refl
-contains-filter t x (y ∷ ys) = of (y == x) refl (contains-filter t x ys)
-  where
-    of : (b : Bool) → (y == x) ≡ b → contains t (filter (λ u. not (u == x)) ys) ≡ (contains t ys && not (t == x))
-        → contains t (if not b then y ∷ filter (λ u. not (u == x)) ys else filter (λ u. not (u == x)) ys) ≡ ((t == y || contains t ys) && not (t == x))
-    of true e ih = ih ∙ grind (arith, nat_tests)
-    of false e ih = ap (λ b. t == y || b) ih ∙ grind (arith, nat_tests)
+contains-filter t x (y ∷ ys) = grind (arith, nat_tests, contains-filter t x ys)
 
 -- the last of a list is contained
 pub contains-last : (t : ℕ) (xs : List ℕ) → contains t (xs ++ t ∷ []) ≡ true
@@ -245,21 +240,6 @@ ended-rolled_back (_ ∷ h) t e = ended-rolled_back h t e
 -- what has committed is what has ended and hasn't rolled back
 pub has_committed-ended : (h : History) → Legal h → (t : ℕ) → has_committed h t ≡ (has_ended h t && not (has_rolled_back h t))
 has_committed-ended [] start t = grind arith
-has_committed-ended _ (next {h = h} l (ends who u true mine)) t = of (t == u) refl (has_ended h t) (has_rolled_back h t) refl (ended-rolled_back h t) (has_committed-ended h l t)
-  where
-    of : (b : Bool) → (t == u) ≡ b → (e r : Bool) → has_ended h t ≡ e → (r ≡ true → has_ended h t ≡ true) → has_committed h t ≡ (e && not r)
-        → (b || has_committed h t) ≡ ((b || e) && not r)
-    of true same e true is back ih =
-        let one : t ≡ u = grind (arith, nat_tests) in
-        absurd (cc (sym (back refl) ∙ ap (has_ended h) one ∙ own-unended h l who u mine))
-    of true same e false is back ih = refl
-    of false same e r is back ih = ih
-has_committed-ended _ (next {h = h} l (ends who u false mine)) t = of (t == u) refl (has_committed-ended h l t)
-  where
-    of : (b : Bool) → (t == u) ≡ b → has_committed h t ≡ (has_ended h t && not (has_rolled_back h t))
-        → has_committed h t ≡ ((b || has_ended h t) && not (b || has_rolled_back h t))
-    of true same ih =
-        let one : t ≡ u = grind (arith, nat_tests) in
-        ih ∙ ap (λ e. e && not (has_rolled_back h t)) (ap (has_ended h) one ∙ own-unended h l who u mine)
-    of false same ih = ih
+has_committed-ended _ (next {h = h} l (ends who u true mine)) t = grind (arith, nat_tests, has_committed-ended h l t, ended-rolled_back h t, own-unended h l who u mine)
+has_committed-ended _ (next {h = h} l (ends who u false mine)) t = grind (arith, nat_tests, has_committed-ended h l t, own-unended h l who u mine)
 has_committed-ended _ (next {h = h} l _) t = has_committed-ended h l t

@@ -13,11 +13,7 @@ use Rattle.sky_model.proofs.QueueNumbers.{queue-below}
 pub ticks_beyond : (h : History) → Legal h → (q : ℕ) → queues_made h ≤ q → ticks q h ≡ []
 ticks_beyond [] start q le = refl
 ticks_beyond _ (next {h = h} l (makes name new)) q le = ticks_beyond h l q (omega (arith, le))
-ticks_beyond _ (next {h = h} l (ticks_next p id time seq i e)) q le = of (p == q) refl (ticks_beyond h l q le)
-  where
-    of : (b : Bool) → (p == q) ≡ b → ticks q h ≡ [] → (if b then ticks q h ++ record { id = id; time = time; snapshot = snapshot h; seq = seq } ∷ [] else ticks q h) ≡ []
-    of true e ih = let lt : p < queues_made h = queue-below h p i in absurd (grind (arith, nat_tests))
-    of false e ih = ih
+ticks_beyond _ (next {h = h} l (ticks_next p id time seq i e)) q le = grind (arith, nat_tests, ticks_beyond h l q le, queue-below h p i)
 ticks_beyond _ (next {h = h} l _) q le = ticks_beyond h l q le
 
 pub newest_tick-push : (ts : List Tick) (t : Tick) → newest_tick (ts ++ t ∷ []) ≡ Some t

@@ -41,14 +41,7 @@ is_before-none t u (x ∷ xs) none = grind (arith, is_before-none t u xs)
 -- of two in a list that are apart one stands before the other
 one-before : (t u : ℕ) (xs : List ℕ) → (t == u) ≡ false → contains t xs ≡ true → contains u xs ≡ true → is_before u t xs ≡ false → is_before t u xs ≡ true
 one-before t u [] other has_t has_u isnt = absurd (cc)
-one-before t u (x ∷ xs) other has_t has_u isnt = of (t == x) refl (u == x) refl has_t has_u isnt (one-before t u xs other)
-  where
-    of : (a : Bool) → (t == x) ≡ a → (b : Bool) → (u == x) ≡ b → (a || contains t xs) ≡ true → (b || contains u xs) ≡ true → ((b && contains t xs) || is_before u t xs) ≡ false
-        → (contains t xs ≡ true → contains u xs ≡ true → is_before u t xs ≡ false → is_before t u xs ≡ true) → ((a && contains u xs) || is_before t u xs) ≡ true
-    of true is true also has_t has_u isnt ih = absurd (grind (arith, nat_tests))
-    of true is false also has_t has_u isnt ih = ap (λ b. b || is_before t u xs) has_u
-    of false is true also has_t has_u isnt ih = absurd (cc (sym isnt ∙ ap (λ b. b || is_before u t xs) has_t))
-    of false is false also has_t has_u isnt ih = ih has_t has_u isnt
+one-before t u (x ∷ xs) other has_t has_u isnt = grind (arith, nat_tests, one-before t u xs other)
 
 -- ---- who has written a key
 
