@@ -5,7 +5,7 @@ use Rattle.sky_names.proofs.PlaceLemmas.{bytes_eq_refl, same_name}
 use Rattle.sky_model.specs.History.{Batch, History}
 use Rattle.sky_model.specs.Queues.{Tick, tick, ticks}
 use Rattle.sky_model.specs.Consumers.{subscription_id, position, active, Subscription, active_batch}
-use Rattle.sky_model.proofs.Legal.{Opens, begins, ends, begins_block, fails_block, ends_block, connects, disconnects, repeats_block, looks, makes_table, writes, begins_waiting, ends_waiting, makes, raises, puts, ticks_next, registers, opens, closes, traces, Legal, start, next}
+use Rattle.sky_model.proofs.Legal.{Opens, ticks_next, registers, opens, closes, Legal, start, next}
 use Rattle.sky_model.proofs.TickOrder.{is_made, is_made-tick}
 
 and-true : (a b : Bool) → (a && b) ≡ true → (a ≡ true) × (b ≡ true)
@@ -78,23 +78,6 @@ new_batch h b o =
 
 pub active_batches : (h : History) → Legal h → (id : ℕ) (b : Batch) → active_batch id h ≡ Some b → IsActive h id b
 active_batches [] start id b is = absurd (cc)
-active_batches _ (next {h = h} l (begins who e)) id b is = active_batches h l id b is
-active_batches _ (next {h = h} l (ends who t c mine)) id b is = active_batches h l id b is
-active_batches _ (next {h = h} l (begins_block who e is_open)) id b is = active_batches h l id b is
-active_batches _ (next {h = h} l (fails_block who e f)) id b is = active_batches h l id b is
-active_batches _ (next {h = h} l (ends_block who e)) id b is = active_batches h l id b is
-active_batches _ (next {h = h} l (connects who e)) id b is = active_batches h l id b is
-active_batches _ (next {h = h} l (disconnects who quiet away)) id b is = active_batches h l id b is
-active_batches _ (next {h = h} l (repeats_block who)) id b is = active_batches h l id b is
-active_batches _ (next {h = h} l (looks who)) id b is = active_batches h l id b is
-active_batches _ (next {h = h} l (makes_table name columns e)) id b is = active_batches h l id b is
-active_batches _ (next {h = h} l (begins_waiting who n at_key attempt fits)) id b is = active_batches h l id b is
-active_batches _ (next {h = h} l (ends_waiting who)) id b is = active_batches h l id b is
-active_batches _ (next {h = h} l (writes who u table key old new e free stands)) id b is = active_batches h l id b is
-active_batches _ (next {h = h} l (makes name new)) id b is = active_batches h l id b is
-active_batches _ (next {h = h} l (raises p v i e)) id b is = active_batches h l id b is
-active_batches _ (next {h = h} l (puts who p e i s o newest)) id b is = active_batches h l id b is
-active_batches _ (next {h = h} l (traces table name trigger below queue new)) id b is = active_batches h l id b is
 active_batches _ (next {h = h} l (ticks_next p m time seq i e)) id b is =
     let a : IsActive h id b = active_batches h l id b is in
     record { named = a.named; owned = a.owned; alone = a.alone; begins = a.begins; ends = a.ends; closing = or-right (p == b.queue && m == b.cur) (is_made b.queue b.cur h) a.closing }
@@ -148,3 +131,4 @@ active_batches _ (next {h = h} l (closes last e)) id b is = of (last.id == id) r
         (if last.queue == b.queue && bytes_eq b.consumer last.consumer then last.cur else position b.queue b.consumer h) (is_made b.queue b.cur h) id b
     of true test ih c is = absurd (cc)
     of false test ih c is = old (last.queue == b.queue && bytes_eq b.consumer last.consumer) refl test (ih is) c
+active_batches _ (next {h = h} l _) id b is = active_batches h l id b is

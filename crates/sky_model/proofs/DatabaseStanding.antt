@@ -28,7 +28,6 @@ use Rattle.sky_model.proofs.Lawful.{database-reads, good_turn}
 use Rattle.sky_model.proofs.Histories.{good_does, legal_calls}
 use Rattle.sky_model.proofs.Promised.{promised}
 use Rattle.sky_model.proofs.Entering.{entered-part}
-use Rattle.sky_model.proofs.RowStanding.{part-behind}
 use Rattle.sky_model.proofs.GatedStanding.{each-past}
 
 -- marks one after the other
@@ -39,11 +38,6 @@ after_marks-append d (x ∷ xs) ys = after_marks-append (after_mark d x) xs ys
 pub behind-all : (now : ℤ) (d : Database) (marks : List Mark) → behind_marks (within_part database_by_itself now) d marks ≡ after_marks d marks
 behind-all now d [] = refl
 behind-all now d (mark ∷ marks) = behind-all now (after_mark d mark) marks
-
--- the row part behind them
-pub part-behind_all : (d : Database) (marks : List Mark) → (after_marks d marks).part ≡ after_part_marks d.part marks
-part-behind_all d [] = refl
-part-behind_all d (mark ∷ marks) = part-behind_all (after_mark d mark) marks ∙ ap (λ part. after_part_marks part marks) (part-behind d mark)
 
 -- a legal history shows a statement what its database keeps
 same-shown : (h : History) → Legal h → shown_in h ≡ shown_by (database_of h)

@@ -26,18 +26,10 @@ length-kept false b bs = omega arith
 -- what stands between two ticks stands before a tick between them, or behind it
 tally-split : (from mid to own : Bool) → (from ≡ true → mid ≡ true) → (mid ≡ true → to ≡ true)
     → tally (mid && not from && own) + tally (to && not mid && own) ≡ tally (to && not from && own)
-tally-split true true true own up on = refl
-tally-split true false to own up on = absurd (let e : false ≡ true = up refl in cc)
-tally-split from true false own up on = absurd (let e : false ≡ true = on refl in cc)
-tally-split false true true true up on = refl
-tally-split false true true false up on = refl
-tally-split false false true true up on = refl
-tally-split false false true false up on = refl
-tally-split false false false own up on = refl
+tally-split from mid to own up on = grind arith
 
 none-between : (b own : Bool) → false ≡ (b && not b && own)
-none-between true own = refl
-none-between false own = refl
+none-between b own = grind arith
 
 module _ (h : History) (l : Legal h) (queue : ℕ) (consumer : List ℕ) (sub : ℕ) where
   abbrev Leads : ℕ → List Batch → ℕ → Type 0

@@ -3,7 +3,7 @@ use Rattle.std.proofs.Common.{◌≡◌, ℕ, ◌+◌, List, [], ◌∷◌, ◌+
 use Rattle.sky_model.specs.History.{Batch, History}
 use Rattle.sky_model.specs.Consumers.{subscription_id, position}
 use Rattle.sky_model.specs.LawsOfBatches.{first_tick, finished, Lead, BatchesAreConsecutive}
-use Rattle.sky_model.proofs.Legal.{begins, ends, begins_block, fails_block, ends_block, connects, disconnects, repeats_block, looks, makes_table, writes, begins_waiting, ends_waiting, makes, raises, puts, ticks_next, registers, opens, closes, traces, Legal, start, next}
+use Rattle.sky_model.proofs.Legal.{ticks_next, registers, closes, Legal, start, next}
 use Rattle.sky_model.proofs.SnapshotLaws.{legal_place}
 use Rattle.sky_model.proofs.TickOrder.{is_made, is_made-tick}
 use Rattle.sky_model.proofs.ActiveBatches.{or-right, same_consumer, IsActive, active_batches}
@@ -43,22 +43,6 @@ FinishedLead h queue consumer =
 
 pub finished_lead : (h : History) → Legal h → (queue : ℕ) (consumer : List ℕ) → FinishedLead h queue consumer
 finished_lead [] start queue consumer = refl
-finished_lead _ (next {h = h} l (begins who e)) queue consumer = finished_lead h l queue consumer
-finished_lead _ (next {h = h} l (ends who t c mine)) queue consumer = finished_lead h l queue consumer
-finished_lead _ (next {h = h} l (begins_block who e is_open)) queue consumer = finished_lead h l queue consumer
-finished_lead _ (next {h = h} l (fails_block who e f)) queue consumer = finished_lead h l queue consumer
-finished_lead _ (next {h = h} l (ends_block who e)) queue consumer = finished_lead h l queue consumer
-finished_lead _ (next {h = h} l (connects who e)) queue consumer = finished_lead h l queue consumer
-finished_lead _ (next {h = h} l (disconnects who quiet away)) queue consumer = finished_lead h l queue consumer
-finished_lead _ (next {h = h} l (repeats_block who)) queue consumer = finished_lead h l queue consumer
-finished_lead _ (next {h = h} l (looks who)) queue consumer = finished_lead h l queue consumer
-finished_lead _ (next {h = h} l (makes_table name columns e)) queue consumer = finished_lead h l queue consumer
-finished_lead _ (next {h = h} l (begins_waiting who n at_key attempt fits)) queue consumer = finished_lead h l queue consumer
-finished_lead _ (next {h = h} l (ends_waiting who)) queue consumer = finished_lead h l queue consumer
-finished_lead _ (next {h = h} l (writes who u table key old new e free stands)) queue consumer = finished_lead h l queue consumer
-finished_lead _ (next {h = h} l (makes name new)) queue consumer = finished_lead h l queue consumer
-finished_lead _ (next {h = h} l (raises p v i e)) queue consumer = finished_lead h l queue consumer
-finished_lead _ (next {h = h} l (puts who p e i s o newest)) queue consumer = finished_lead h l queue consumer
 finished_lead _ (next {h = h} l (ticks_next p m time seq i e)) queue consumer =
     LeadFor-more queue consumer (subscription_id queue consumer h) (λ t. is_made queue t h) (λ t. (p == queue && m == t) || is_made queue t h)
     (λ t. or-right (p == queue && m == t) (is_made queue t h)) (first_tick queue consumer h) (finished queue consumer h) (position queue consumer h)
@@ -70,8 +54,6 @@ finished_lead _ (next {h = h} l (registers p name sub t i none f g)) queue consu
         (if x then t else first_tick queue consumer h) (if x then [] else finished queue consumer h) (if x then t else position queue consumer h)
     of true ih = refl
     of false ih = ih
-finished_lead _ (next {h = h} l (opens b o)) queue consumer = finished_lead h l queue consumer
-finished_lead _ (next {h = h} l (traces table name trigger below is new)) queue consumer = finished_lead h l queue consumer
 finished_lead _ (next {h = h} l (closes b e)) queue consumer =
     of (b.queue == queue && bytes_eq consumer b.consumer) refl (finished_lead h l queue consumer)
   where
@@ -90,6 +72,7 @@ finished_lead _ (next {h = h} l (closes b e)) queue consumer =
       closing = same_consumer (λ q c. is_made q b.cur h) b.queue queue b.consumer consumer test ∙ a.closing;
     })
     of false test ih = ih
+finished_lead _ (next {h = h} l _) queue consumer = finished_lead h l queue consumer
 
 lead_of : (p : History) (queue : ℕ) (consumer : List ℕ) (from : ℕ) (bs : List Batch) (to : ℕ)
     → LeadFor queue consumer (subscription_id queue consumer p) (λ t. is_made queue t p) from bs to → Lead p queue consumer from bs to

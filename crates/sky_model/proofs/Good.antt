@@ -72,11 +72,6 @@ pub good_test_then : {A : Type 0} (h : History) (who : ℕ) (b : Bool) (refusal 
 good_test_then h who true refusal a c good = good_refused h who refusal
 good_test_then h who false refusal a c good = good
 
--- a statement that its session may not make
-pub good_allowed : (h : History) (who : ℕ) (may : Checked (Unit {0})) (c : Checked Outcome) → Good h who c → Good h who (may >> c)
-good_allowed h who (Err refusal) c good = good_refused h who refusal
-good_allowed h who (Ok _) c good = good
-
 -- what may be refused on the way
 pub good_refused_by : (h : History) (who : ℕ) (o : Option Refusal) (c : Checked Outcome) → (o ≡ None → Good h who c) → Good h who (refused_by o >> c)
 good_refused_by h who None c good = good refl
@@ -89,5 +84,4 @@ good_checked h who (Ok a) c good = good a refl
 -- a transaction that is running may commit where its statement stands outside a block
 pub good_commits : (h : History) (who t : ℕ) (b : Block) → own_txid who h ≡ Some t → Chain h (commit_of who t b)
 good_commits h who t outside mine = more (ends who t true mine) done
-good_commits h who t inside mine = done
-good_commits h who t failed mine = done
+good_commits h who t _ mine = done

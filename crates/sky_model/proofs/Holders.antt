@@ -1,5 +1,6 @@
 -- A session holds a key exactly where its running transaction has written it.
 use Rattle.std.proofs.Common.{◌≡◌, ℕ, ◌≤◌, Bool, true, false, List, [], ◌∷◌, ◌++◌, Option, Some, None, refl, sym, ◌∙◌, ap, arith, if◌then◌else◌}
+use Rattle.std.proofs.lemmas.Bool.{or_right}
 use Rattle.std.specs.Prelude.{◌||◌, ◌&&◌, ◌==◌}
 use Rattle.std.specs.Ordering.{eq_by_cmp}
 use Rattle.std.specs.Cmp.{eq_by_cmp_equiv}
@@ -15,7 +16,7 @@ use Rattle.sky_model.specs.Sessions.{own_txid}
 use Rattle.sky_model.specs.Rows.{Write, writes as writes_of, has_written}
 use Rattle.sky_model.specs.Locks.{holder}
 use Rattle.sky_model.specs.LawsOfLocks.{HasWritten}
-use Rattle.sky_model.proofs.Legal.{Fine, begins, ends, begins_block, fails_block, ends_block, connects, disconnects, repeats_block, looks, makes_table, writes, begins_waiting, ends_waiting, makes, raises, puts, ticks_next, registers, opens, closes, traces, Legal, start, next}
+use Rattle.sky_model.proofs.Legal.{Fine, begins, ends, writes, Legal, start, next}
 use Rattle.sky_model.proofs.Snapshots.{sound}
 use Rattle.sky_model.proofs.RowKeys.{begun}
 
@@ -24,16 +25,8 @@ turned x y = (eq_by_cmp_equiv key_cmp-IsTotalOrder).symm x y
 
 -- one write more
 pub has_written-push : (key : List Val) (ws : List Write) (w : Write) → has_written key (ws ++ w ∷ []) ≡ (has_written key ws || eq_by_cmp key_cmp key w.key)
-has_written-push key [] w = of (eq_by_cmp key_cmp key w.key)
-  where
-    of : (b : Bool) → (b || false) ≡ (false || b)
-    of true = refl
-    of false = refl
-has_written-push key (x ∷ ws) w = ap (λ b. eq_by_cmp key_cmp key x.key || b) (has_written-push key ws w) ∙ joined (eq_by_cmp key_cmp key x.key) (has_written key ws) (eq_by_cmp key_cmp key w.key)
-  where
-    joined : (a b c : Bool) → (a || (b || c)) ≡ ((a || b) || c)
-    joined true b c = refl
-    joined false b c = refl
+has_written-push key [] w = grind arith
+has_written-push key (x ∷ ws) w = grind (arith, has_written-push key ws w)
 
 -- who holds a key, but a session, is another than it
 unless-another : (who w : ℕ) (o : Option ℕ) → other_than who o ≡ Some w → (o ≡ Some w) × ((who == w) ≡ false)
@@ -48,11 +41,7 @@ unless-kept : (who w : ℕ) → (who == w) ≡ false → other_than who (Some w)
 unless-kept who w other = (let turned : (w == who) ≡ false = grind (arith, nat_tests) in ap (λ b. if b then None else Some w) turned)
 
 unless-own : (who w : ℕ) → other_than who (Some w) ≡ None → who ≡ w
-unless-own who w e = of (w == who) refl e
-  where
-    of : (b : Bool) → (w == who) ≡ b → (if b then None else Some w) ≡ None → who ≡ w
-    of true is e = grind (arith, nat_tests)
-    of false is e = absurd (cc)
+unless-own who w e = grind (arith, nat_tests)
 
 -- the holder's transaction has written the key
 holder-step : (h : History) (mark : Mark) → Fine h mark → Legal h → (table : ℕ) (key : List Val) (who : ℕ)
@@ -79,10 +68,6 @@ holder-step h _ (writes v t n at_key old new mine free stands) l table key who i
     before : holder table key h ≡ Some who → HasWritten (tabled (wrote (of_session v) t n at_key old new) ∷ h) table key who
     before e = let w : HasWritten h table key who = ih e in record { txid = w.txid; runs = w.runs; wrote = grown w.txid (n == table && t == w.txid) w.wrote }
 
-    last : (b : Bool) → (b || true) ≡ true
-    last true = refl
-    last false = refl
-
     of : (a : Bool) → (n == table) ≡ a → (b : Bool) → eq_by_cmp key_cmp at_key key ≡ b → (if a && b then Some v else holder table key h) ≡ Some who
         → HasWritten (tabled (wrote (of_session v) t n at_key old new) ∷ h) table key who
     of true here true tie e =
@@ -93,28 +78,11 @@ holder-step h _ (writes v t n at_key old new mine free stands) l table key who i
           runs = ap (λ x. own_txid x h) (sym one) ∙ mine;
           wrote = ap (λ b. has_written key (if b then writes_of table t h ++ record { key = at_key; row = new } ∷ [] else writes_of table t h)) (λ i. here i && same i)
               ∙ has_written-push key (writes_of table t h) (record { key = at_key; row = new }) ∙ ap (λ b. has_written key (writes_of table t h) || b) (turned key at_key ∙ tie)
-              ∙ last (has_written key (writes_of table t h));
+              ∙ or_right (has_written key (writes_of table t h)) true refl;
         }
     of true here false tie e = before e
     of false there b tie e = before e
-holder-step h _ (begins_block v x is_open) l table key who ih e = let w : HasWritten h table key who = ih e in record { txid = w.txid; runs = w.runs; wrote = w.wrote }
-holder-step h _ (fails_block v x f) l table key who ih e = let w : HasWritten h table key who = ih e in record { txid = w.txid; runs = w.runs; wrote = w.wrote }
-holder-step h _ (ends_block v x) l table key who ih e = let w : HasWritten h table key who = ih e in record { txid = w.txid; runs = w.runs; wrote = w.wrote }
-holder-step h _ (connects v x) l table key who ih e = let w : HasWritten h table key who = ih e in record { txid = w.txid; runs = w.runs; wrote = w.wrote }
-holder-step h _ (disconnects v quiet away) l table key who ih e = let w : HasWritten h table key who = ih e in record { txid = w.txid; runs = w.runs; wrote = w.wrote }
-holder-step h _ (repeats_block v) l table key who ih e = let w : HasWritten h table key who = ih e in record { txid = w.txid; runs = w.runs; wrote = w.wrote }
-holder-step h _ (looks v) l table key who ih e = let w : HasWritten h table key who = ih e in record { txid = w.txid; runs = w.runs; wrote = w.wrote }
-holder-step h _ (makes_table name columns x) l table key who ih e = let w : HasWritten h table key who = ih e in record { txid = w.txid; runs = w.runs; wrote = w.wrote }
-holder-step h _ (begins_waiting v n at_key attempt fits) l table key who ih e = let w : HasWritten h table key who = ih e in record { txid = w.txid; runs = w.runs; wrote = w.wrote }
-holder-step h _ (ends_waiting v) l table key who ih e = let w : HasWritten h table key who = ih e in record { txid = w.txid; runs = w.runs; wrote = w.wrote }
-holder-step h _ (makes name x) l table key who ih e = let w : HasWritten h table key who = ih e in record { txid = w.txid; runs = w.runs; wrote = w.wrote }
-holder-step h _ (raises q v i le) l table key who ih e = let w : HasWritten h table key who = ih e in record { txid = w.txid; runs = w.runs; wrote = w.wrote }
-holder-step h _ (puts v q x i n o newest) l table key who ih e = let w : HasWritten h table key who = ih e in record { txid = w.txid; runs = w.runs; wrote = w.wrote }
-holder-step h _ (ticks_next q id time seq i le) l table key who ih e = let w : HasWritten h table key who = ih e in record { txid = w.txid; runs = w.runs; wrote = w.wrote }
-holder-step h _ (registers q name sub tick i x f le) l table key who ih e = let w : HasWritten h table key who = ih e in record { txid = w.txid; runs = w.runs; wrote = w.wrote }
-holder-step h _ (opens batch x) l table key who ih e = let w : HasWritten h table key who = ih e in record { txid = w.txid; runs = w.runs; wrote = w.wrote }
-holder-step h _ (closes batch x) l table key who ih e = let w : HasWritten h table key who = ih e in record { txid = w.txid; runs = w.runs; wrote = w.wrote }
-holder-step h _ (traces n name trigger below is new) l table key who ih e = let w : HasWritten h table key who = ih e in record { txid = w.txid; runs = w.runs; wrote = w.wrote }
+holder-step h _ _ l table key who ih e = let w : HasWritten h table key who = ih e in record { txid = w.txid; runs = w.runs; wrote = w.wrote }
 
 pub holder-written : (h : History) → Legal h → (table : ℕ) (key : List Val) (who : ℕ) → holder table key h ≡ Some who → HasWritten h table key who
 holder-written _ start table key who e = absurd (cc)
@@ -142,12 +110,10 @@ held-step h _ (writes v t n at_key old new mine free stands) l table key ih =
     λ who u runs wrote_it. of who u runs (n == table) refl (eq_by_cmp key_cmp at_key key) refl (t == u) refl wrote_it
   where
     pushed : (u : ℕ) → eq_by_cmp key_cmp at_key key ≡ false → has_written key (writes_of table u h ++ record { key = at_key; row = new } ∷ []) ≡ true → has_written key (writes_of table u h) ≡ true
-    pushed u tie e = sym (or_false (has_written key (writes_of table u h))) ∙ sym (ap (λ b. has_written key (writes_of table u h) || b) (turned key at_key ∙ tie))
-        ∙ sym (has_written-push key (writes_of table u h) (record { key = at_key; row = new })) ∙ e
-      where
-        or_false : (b : Bool) → (b || false) ≡ b
-        or_false true = refl
-        or_false false = refl
+    pushed u tie e =
+        let other : eq_by_cmp key_cmp key at_key ≡ false = turned key at_key ∙ tie in
+        let either : (has_written key (writes_of table u h) || eq_by_cmp key_cmp key at_key) ≡ true = sym (has_written-push key (writes_of table u h) (record { key = at_key; row = new })) ∙ e in
+        grind arith
 
     of : (who u : ℕ) → own_txid who h ≡ Some u → (a : Bool) → (n == table) ≡ a → (b : Bool) → eq_by_cmp key_cmp at_key key ≡ b → (c : Bool) → (t == u) ≡ c
         → has_written key (if a && c then writes_of table u h ++ record { key = at_key; row = new } ∷ [] else writes_of table u h) ≡ true
@@ -165,24 +131,7 @@ held-step h _ (writes v t n at_key old new mine free stands) l table key ih =
     of who u runs true here false tie true same wrote_it = ih who u runs (pushed u tie wrote_it)
     of who u runs true here false tie false other wrote_it = ih who u runs wrote_it
     of who u runs false there b tie c is wrote_it = ih who u runs wrote_it
-held-step h _ (begins_block v x is_open) l table key ih = ih
-held-step h _ (fails_block v x f) l table key ih = ih
-held-step h _ (ends_block v x) l table key ih = ih
-held-step h _ (connects v x) l table key ih = ih
-held-step h _ (disconnects v quiet away) l table key ih = ih
-held-step h _ (repeats_block v) l table key ih = ih
-held-step h _ (looks v) l table key ih = ih
-held-step h _ (makes_table name columns x) l table key ih = ih
-held-step h _ (begins_waiting v n at_key attempt fits) l table key ih = ih
-held-step h _ (ends_waiting v) l table key ih = ih
-held-step h _ (makes name x) l table key ih = ih
-held-step h _ (raises q v i le) l table key ih = ih
-held-step h _ (puts v q x i n o newest) l table key ih = ih
-held-step h _ (ticks_next q id time seq i le) l table key ih = ih
-held-step h _ (registers q name sub tick i x f le) l table key ih = ih
-held-step h _ (opens batch x) l table key ih = ih
-held-step h _ (closes batch x) l table key ih = ih
-held-step h _ (traces n name trigger below is new) l table key ih = ih
+held-step h _ _ l table key ih = ih
 
 held : (h : History) → Legal h → (table : ℕ) (key : List Val) → Held h table key
 held _ start table key = λ who u runs wrote_it. absurd (cc)
@@ -232,24 +181,7 @@ owner-step h _ (writes v t n at_key old new mine free stands) table key ih = λ 
     of u unended true true same wrote_it = (let one : t ≡ u = grind (arith, nat_tests) in record { who = v; owns = mine ∙ ap Some one })
     of u unended true false same wrote_it = later u (ih u unended wrote_it)
     of u unended false c same wrote_it = later u (ih u unended wrote_it)
-owner-step h _ (begins_block v x is_open) table key ih = λ u unended wrote_it. let o : Owner h u = ih u unended wrote_it in record { who = o.who; owns = o.owns }
-owner-step h _ (fails_block v x f) table key ih = λ u unended wrote_it. let o : Owner h u = ih u unended wrote_it in record { who = o.who; owns = o.owns }
-owner-step h _ (ends_block v x) table key ih = λ u unended wrote_it. let o : Owner h u = ih u unended wrote_it in record { who = o.who; owns = o.owns }
-owner-step h _ (connects v x) table key ih = λ u unended wrote_it. let o : Owner h u = ih u unended wrote_it in record { who = o.who; owns = o.owns }
-owner-step h _ (disconnects v quiet away) table key ih = λ u unended wrote_it. let o : Owner h u = ih u unended wrote_it in record { who = o.who; owns = o.owns }
-owner-step h _ (repeats_block v) table key ih = λ u unended wrote_it. let o : Owner h u = ih u unended wrote_it in record { who = o.who; owns = o.owns }
-owner-step h _ (looks v) table key ih = λ u unended wrote_it. let o : Owner h u = ih u unended wrote_it in record { who = o.who; owns = o.owns }
-owner-step h _ (makes_table name columns x) table key ih = λ u unended wrote_it. let o : Owner h u = ih u unended wrote_it in record { who = o.who; owns = o.owns }
-owner-step h _ (begins_waiting v n at_key attempt fits) table key ih = λ u unended wrote_it. let o : Owner h u = ih u unended wrote_it in record { who = o.who; owns = o.owns }
-owner-step h _ (ends_waiting v) table key ih = λ u unended wrote_it. let o : Owner h u = ih u unended wrote_it in record { who = o.who; owns = o.owns }
-owner-step h _ (makes name x) table key ih = λ u unended wrote_it. let o : Owner h u = ih u unended wrote_it in record { who = o.who; owns = o.owns }
-owner-step h _ (raises q v i le) table key ih = λ u unended wrote_it. let o : Owner h u = ih u unended wrote_it in record { who = o.who; owns = o.owns }
-owner-step h _ (puts v q x i n o newest) table key ih = λ u unended wrote_it. let o : Owner h u = ih u unended wrote_it in record { who = o.who; owns = o.owns }
-owner-step h _ (ticks_next q id time seq i le) table key ih = λ u unended wrote_it. let o : Owner h u = ih u unended wrote_it in record { who = o.who; owns = o.owns }
-owner-step h _ (registers q name sub tick i x f le) table key ih = λ u unended wrote_it. let o : Owner h u = ih u unended wrote_it in record { who = o.who; owns = o.owns }
-owner-step h _ (opens batch x) table key ih = λ u unended wrote_it. let o : Owner h u = ih u unended wrote_it in record { who = o.who; owns = o.owns }
-owner-step h _ (closes batch x) table key ih = λ u unended wrote_it. let o : Owner h u = ih u unended wrote_it in record { who = o.who; owns = o.owns }
-owner-step h _ (traces n name trigger below is new) table key ih = λ u unended wrote_it. let o : Owner h u = ih u unended wrote_it in record { who = o.who; owns = o.owns }
+owner-step h _ _ table key ih = λ u unended wrote_it. let o : Owner h u = ih u unended wrote_it in record { who = o.who; owns = o.owns }
 
 owners : (h : History) → Legal h → (table : ℕ) (key : List Val) → Owners h table key
 owners _ start table key = λ u unended wrote_it. absurd (cc)

@@ -1,35 +1,36 @@
 -- Each session has open the database that is its home, whatever is called.
-use Rattle.std.proofs.Common.{◌≡◌, ◌≢◌, ◌↔◌, ◌⊎◌, inl, inr, ℕ, ℤ, List, [], ◌∷◌, ◌++◌, Bool, true, false, ◌==◌, nat_le, Option, Some, None, Ok, Err, map, length, refl, sym, ◌∙◌, ap, subst, arith, if◌then◌else◌}
+use Rattle.std.proofs.Common.{◌≡◌, ◌≢◌, ◌⊎◌, inl, inr, ℕ, ℤ, List, [], ◌∷◌, ◌++◌, Bool, true, false, ◌==◌, nat_le, Option, Some, None, Ok, map, length, refl, sym, ◌∙◌, ap, subst, arith, if◌then◌else◌}
+use Rattle.std.specs.Prelude.{not}
 use Rattle.std.proofs.lemmas.Bool.Decides.{nat_tests}
 use Rattle.sky_val.specs.Waits.{is_waiting}
 use Rattle.sky_names.specs.Places.{place_of}
 use Rattle.sky_model.specs.declared.stmt.Stmt.{Stmt}
 use Rattle.sky_model.specs.declared.stmt.Stmt.TheVariants.{Row}
 use Rattle.sky_model.specs.declared.stmt.RowStmt.TheVariants.{OpenDb, Close}
-use Rattle.sky_model.specs.declared.stmt.Where.{Where}
 use Rattle.sky_model.specs.declared.stmt.Where.TheVariants.{Anywhere, WhenOpen}
 use Rattle.sky_model.specs.declared.reply.Refusal.TheVariants.{Busy}
-use Rattle.sky_model.specs.History.{Mark, looked, connected, disconnected, History, Fact, appeared, founded, entered, left, within, Past}
+use Rattle.sky_model.specs.History.{Mark, looked, History, Fact, appeared, founded, entered, left, within, Past}
 use Rattle.sky_model.specs.Sessions.{Block, outside, inside, failed, has_open, block, own_txid, session}
 use Rattle.sky_model.specs.Locks.{waiting}
-use Rattle.sky_model.specs.State.{part_of, database_of}
+use Rattle.sky_model.specs.State.{database_of}
 use Rattle.sky_model.specs.World.{home, history_in, session_names, database_names, on_top, world_of}
 use Rattle.sky_model.specs.Outcome.{Outcome, Checked, settled}
 use Rattle.sky_model.specs.Allowed.{where_of, allowed}
-use Rattle.sky_model.specs.Made.{takes_sight, looking, runs_if}
+use Rattle.sky_model.specs.Made.{runs_if}
 use Rattle.sky_model.specs.StepSession.{open_db, close}
 use Rattle.sky_model.specs.Telling.{tells}
 use Rattle.sky_model.specs.Reader.{shown_in, part_by_history, database_by_history, within_part, within_database, by_past, Deed, appears}
 use Rattle.sky_model.specs.Settling.{Turn, marked, behind_marks, settling}
-use Rattle.sky_model.specs.Calls.{form, making, statement, database_turn, deed_in, opening, opens, outside_does, is_leaving, left_if, session_does, turn, Call, called, past_of}
+use Rattle.sky_model.specs.Calls.{making, statement, database_turn, deed_in, opening, opens, outside_does, is_leaving, left_if, session_does, turn, Call, called, past_of}
 use Rattle.sky_model.specs.LawsOfHistories.{HomesAreOpen, WaitersHaveOpen, BlocksAreOpen}
 use Rattle.sky_model.proofs.Legal.{Fine, begins_block, fails_block, ends_block, connects, disconnects, Legal, start, next}
 use Rattle.sky_model.proofs.WaitersFit.{waits-open}
 use Rattle.sky_model.proofs.SnapshotLaws.{legal_place}
 use Rattle.sky_model.proofs.Resting.{behind-append}
-use Rattle.sky_model.proofs.PastHistories.{on_top-append, history-marks, AreOutside, history-outside, left-outside}
+use Rattle.sky_model.proofs.PastHistories.{on_top-append, history-marks, AreOutside, history-outside}
 use Rattle.sky_model.proofs.Histories.{AllLegal, same-turn-within, legal_past}
-use Rattle.sky_model.proofs.Staying.{Stay, stay-append, open-stays, stay-settled, IsStaying, stays-form, stay-settling}
+use Rattle.sky_model.proofs.StatementMarks.{AnyReply, no_more, each-abort, given-runs}
+use Rattle.sky_model.proofs.Staying.{is_staying, Stay, open-stays, stays-if, IsStaying, stays-form, stay-settling}
 
 pub waiters_have_open : WaitersHaveOpen
 waiters_have_open p is who waits = waits-open p (legal_place p is) who waits
@@ -38,11 +39,6 @@ waiters_have_open p is who waits = waits-open p (legal_place p is) who waits
 
 abbrev InBlock : History → ℕ → Type 0
 InBlock h who = block who h ≢ outside → has_open who h ≡ true
-
--- a session that opens the database, or closes it
-opened-still : (f o : Bool) → o ≡ true → (if f then true else o) ≡ true
-opened-still true o is = refl
-opened-still false o is = is
 
 block-step : (h : History) (mark : Mark) → Fine h mark → (who : ℕ) → InBlock h who → InBlock (mark ∷ h) who
 block-step h _ (begins_block v e is_open) who ih = of (v == who) refl
@@ -60,7 +56,7 @@ block-step h _ (ends_block v e) who ih = of (v == who)
     of : (f : Bool) → (if f then outside else block who h) ≢ outside → has_open who h ≡ true
     of true there = absurd (there refl)
     of false there = ih there
-block-step h _ (connects v e) who ih = λ there. opened-still (v == who) (has_open who h) (ih there)
+block-step h _ (connects v e) who ih = λ there. grind (arith, ih there)
 block-step h _ (disconnects v quiet away) who ih = of (v == who) refl
   where
     of : (f : Bool) → (v == who) ≡ f → block who h ≢ outside → (if f then false else has_open who h) ≡ true
@@ -102,47 +98,29 @@ stay-opens h marks who b stay is v = open-stays v h marks stay ∙ of (who == v)
 -- a statement that opens no database and closes none
 stay-statement : (h : History) (now : ℤ) (who : ℕ) (stmt : Stmt) (may : Checked (Unit {0})) → IsStaying (has_open who h) stmt
     → Stay (runs_if (making database_by_history now who stmt) (where_of stmt) who h may).marks
-stay-statement h now who stmt (Err refusal) is = stay-settled who (session h who) (Err refusal) tt
-stay-statement h now who stmt (Ok _) is = of (takes_sight (where_of stmt) (session h who).sight)
-  where
-    at : (g : History) → IsStaying (has_open who g) stmt → Stay (settled who (session g who) (form (database_of g) (shown_in g) now who stmt)).marks
-    at g so = stay-settled who (session g who) (form (database_of g) (shown_in g) now who stmt) (stays-form (database_of g) (shown_in g) now who stmt so)
-
-    of : (b : Bool) → Stay (if b then looking who (settled who (session (looked who ∷ h) who) (form (database_of (looked who ∷ h)) (shown_in (looked who ∷ h)) now who stmt))
-        else settled who (session h who) (form (database_of h) (shown_in h) now who stmt)).marks
-    of true = at (looked who ∷ h) is
-    of false = at h is
+stay-statement h now who stmt may is =
+    (given-runs AnyReply is_staying (λ _. tt) (stays-if no_more refl) (making database_by_history now who stmt) (where_of stmt) who h may
+    (stays-form (database_of h) (shown_in h) now who stmt is) (stays-form (database_of (looked who ∷ h)) (shown_in (looked who ∷ h)) now who stmt is)).1
 
 -- how a statement is made, by whether it may be
 abbrev made : History → ℤ → ℕ → Stmt → Checked (Unit {0}) → Outcome
 made h now who stmt may = runs_if (making database_by_history now who stmt) (where_of stmt) who h may
 
-allowed-busy : (w o : Bool) (b : Block) → w ≡ true → allowed w o b WhenOpen ≡ Err Busy
-allowed-busy true o b is = refl
-allowed-busy false o b is = absurd (cc)
-
-allowed-close : (w o : Bool) (b : Block) → w ≡ false → o ≡ true → allowed w o b WhenOpen ≡ Ok tt
-allowed-close false true outside quiet is = refl
-allowed-close false true inside quiet is = refl
-allowed-close false true failed quiet is = refl
-allowed-close false false b quiet is = absurd (cc)
-allowed-close true o b quiet is = absurd (cc)
-
-allowed-open : (w o : Bool) (b : Block) → w ≡ false → o ≡ false → allowed w o b Anywhere ≡ Ok tt
-allowed-open false false b quiet is = refl
-allowed-open false true b quiet is = absurd (cc)
-allowed-open true o b quiet is = absurd (cc)
+allowed-close : (b : Block) → allowed false true b WhenOpen ≡ Ok tt
+allowed-close outside = refl
+allowed-close inside = refl
+allowed-close failed = refl
 
 -- `close` of a session that waits is refused
 busy-closes : (h : History) (now : ℤ) (who : ℕ) → is_waiting who (waiting h) ≡ true → Stay (statement database_by_history h now who (Row Close)).marks
 busy-closes h now who waits =
-    subst (λ may. Stay (made h now who (Row Close) may).marks) (sym (allowed-busy (is_waiting who (waiting h)) (has_open who h) (block who h) waits))
-    (stay-settled who (session h who) (Err Busy) tt)
+    subst (λ may. Stay (made h now who (Row Close) may).marks) (sym (ap (λ b. allowed b (has_open who h) (block who h) WhenOpen) waits))
+    (each-abort AnyReply is_staying (λ _. tt) (stays-if no_more refl) who (block who h) (own_txid who h) Busy)
 
 -- else it closes the database
 closes : (h : History) (now : ℤ) (who : ℕ) → is_waiting who (waiting h) ≡ false → has_open who h ≡ true → Opens h (statement database_by_history h now who (Row Close)).marks who false
 closes h now who quiet is =
-    subst (λ may. Opens h (made h now who (Row Close) may).marks who false) (sym (allowed-close (is_waiting who (waiting h)) (has_open who h) (block who h) quiet is))
+    subst (λ may. Opens h (made h now who (Row Close) may).marks who false) (sym ((λ i. allowed (quiet i) (is i) (block who h) WhenOpen) ∙ allowed-close (block who h)))
     (of (block who h) (own_txid who h))
   where
     of : (b : Block) (o : Option ℕ) → Opens h (settled who (session h who) (tells (database_of h) now (close who o b))).marks who false
@@ -156,7 +134,7 @@ closes h now who quiet is =
 opens-here : (h : History) (now : ℤ) (who : ℕ) (name : List ℕ) → is_waiting who (waiting h) ≡ false → has_open who h ≡ false
     → Opens h (statement database_by_history h now who (Row (OpenDb name))).marks who true
 opens-here h now who name quiet is =
-    subst (λ may. Opens h (made h now who (Row (OpenDb name)) may).marks who true) (sym (allowed-open (is_waiting who (waiting h)) (has_open who h) (block who h) quiet is))
+    subst (λ may. Opens h (made h now who (Row (OpenDb name)) may).marks who true) (λ i. allowed (sym quiet i) (sym is i) (block who h) Anywhere)
     (subst (λ o. Opens h (settled who (session h who) (tells (database_of h) now (open_db who o))).marks who true) (sym is) (λ v. refl))
 
 -- ---- homes
@@ -278,8 +256,8 @@ homed-outside past all homed who stmt (Some name) is none =
 -- a statement is `close`, or leaves its session where it is
 close-or-stays : (stmt : Stmt) (waits is_open : Bool) → is_open ≡ true → (stmt ≡ Row Close) ⊎ ((is_leaving waits stmt ≡ false) × IsStaying is_open stmt)
 close-or-stays (Row Close) waits is_open is = inl refl
-close-or-stays (Row (OpenDb name)) waits is_open is = inr (refl, is)
-close-or-stays _ waits is_open is = inr (refl, tt)
+close-or-stays (Row (OpenDb name)) waits is_open is = inr (refl, ap not is)
+close-or-stays _ waits is_open is = inr (refl, refl)
 
 -- a statement of a session that has a home
 module _ (past : Past) (homed : Homed past) (d who : ℕ) (at_home : home past who ≡ Some d) where

@@ -11,9 +11,11 @@ use Rattle.sky_model.specs.Telling.{events_in, told_of}
 use Rattle.sky_model.specs.Settling.{marked}
 use Rattle.sky_model.specs.HistoryPlaces.{IsPlace}
 use Rattle.sky_model.specs.LawsOfWrites.{IsToldBy, EventIdsFollowWrites}
-use Rattle.sky_model.proofs.Inserted.{Inserted, none, with_raised, with_put}
+use Rattle.sky_model.proofs.Inserted.{none}
 use Rattle.sky_model.proofs.Telling.{EventMarks, told_by-events}
-use Rattle.sky_model.proofs.WritesTold.{first, rest}
+use Rattle.sky_model.proofs.StatementMarks.{each-append, each-first, each-rest}
+use Rattle.sky_model.proofs.GatedLemmas.{is_no_write, WritesNone}
+use Rattle.sky_model.proofs.WritesTold.{first, rest, events-plain}
 use Rattle.sky_model.proofs.EventIds.{event_ids_rise}
 
 -- ---- what is told of a mark
@@ -22,18 +24,9 @@ abbrev IsWrite : Mark → Type 0
 IsWrite (tabled (wrote who t table key old new)) = Unit {0}
 IsWrite _ = ⊥
 
-abbrev HasNoWrite : List Mark → Type 0
-HasNoWrite [] = Unit {0}
-HasNoWrite (mark ∷ marks) = (IsWrite mark → ⊥) × HasNoWrite marks
-
-no_write-push : (marks : List Mark) (mark : Mark) → HasNoWrite marks → (IsWrite mark → ⊥) → HasNoWrite (marks ++ mark ∷ [])
-no_write-push [] mark plain isnt = (isnt, tt)
-no_write-push (x ∷ marks) mark plain isnt = (plain.0, no_write-push marks mark plain.1 isnt)
-
-no_write-events : (marks : List Mark) → Inserted [] marks → HasNoWrite marks
-no_write-events _ none = tt
-no_write-events _ (with_raised {ys = ys} queue value more) = (λ is. is, no_write-events ys more)
-no_write-events _ (with_put {ys = ys} queue event more) = (λ is. is, no_write-events ys more)
+not-both : (mark : Mark) (marks : List Mark) → IsWrite mark → WritesNone (mark ∷ marks) → ⊥
+not-both (tabled (wrote who t table key old new)) marks is plain = plain
+not-both _ marks is plain = absurd is
 
 told_of-events : (d : Database) (now : ℤ) (mark : Mark) → EventMarks (told_of d now mark)
 told_of-events d now (tabled (wrote (of_session who) t table key old new)) = told_by-events d now t (events_in d table old new)
@@ -56,14 +49,14 @@ none-has mark (k, less, is) = absurd (omega (arith, less))
 -- on top of it stand marks of which none is a write
 record IsOnTop (h q : History) : Type 0 where
   marks : List Mark
-  plain : HasNoWrite marks
+  plain : WritesNone marks
   is : h ≡ marks ++ q
 
-on_top : (q : History) (marks : List Mark) → HasNoWrite marks → IsOnTop (marked q marks) q
+on_top : (q : History) (marks : List Mark) → WritesNone marks → IsOnTop (marked q marks) q
 on_top q [] plain = record { marks = []; plain = tt; is = refl }
 on_top q (mark ∷ marks) plain =
-    let top : IsOnTop (marked (mark ∷ q) marks) (mark ∷ q) = on_top (mark ∷ q) marks plain.1 in
-    record { marks = top.marks ++ mark ∷ []; plain = no_write-push top.marks mark top.plain plain.0; is = top.is ∙ sym (append_assoc top.marks (mark ∷ []) q) }
+    let top : IsOnTop (marked (mark ∷ q) marks) (mark ∷ q) = on_top (mark ∷ q) marks (each-rest is_no_write mark marks plain) in
+    record { marks = top.marks ++ mark ∷ []; plain = each-append is_no_write top.marks (mark ∷ []) top.plain (each-first is_no_write mark marks [] plain tt); is = top.is ∙ sym (append_assoc top.marks (mark ∷ []) q) }
 
 -- on top of it stands this mark, among others
 record StandsOnTop (mark : Mark) (h q : History) : Type 0 where
@@ -96,14 +89,14 @@ above-or-below (x ∷ xs) a [] s b e = inr (xs, sym (ap rest e))
 above-or-below (x ∷ xs) a (y ∷ ys) s b e = above-or-below xs a ys s b (ap rest e)
 
 -- where none of the marks on top of a history is a write, no write stands on top of it
-no-write-among : (marks : List Mark) → HasNoWrite marks → (q : History) (z : List Mark) (s : Mark) (middle : List Mark) → IsWrite s → marks ++ q ≡ z ++ s ∷ (middle ++ q) → ⊥
+no-write-among : (marks : List Mark) → WritesNone marks → (q : History) (z : List Mark) (s : Mark) (middle : List Mark) → IsWrite s → marks ++ q ≡ z ++ s ∷ (middle ++ q) → ⊥
 no-write-among [] plain q z s middle is e = absurd (omega (arith, ap length e, length-append z (s ∷ (middle ++ q)), length-append middle q))
-no-write-among (x ∷ marks) plain q [] s middle is e = plain.0 (subst IsWrite (sym (ap (first x) e)) is)
-no-write-among (x ∷ marks) plain q (y ∷ z) s middle is e = no-write-among marks plain.1 q z s middle is (ap rest e)
+no-write-among (x ∷ marks) plain q [] s middle is e = not-both x marks (subst IsWrite (sym (ap (first x) e)) is) plain
+no-write-among (x ∷ marks) plain q (y ∷ z) s middle is e = no-write-among marks (each-rest is_no_write x marks plain) q z s middle is (ap rest e)
 
 -- so what is told of a write stands below a later one
 below-later : (h : History) (later : List Mark) (s : Mark) (middle : List Mark) (q : History) → IsWrite s → h ≡ later ++ s ∷ (middle ++ q)
-    → (above told : List Mark) → HasNoWrite told → h ≡ above ++ marked q told → (z : List Mark) × (middle ++ q ≡ z ++ marked q told)
+    → (above told : List Mark) → WritesNone told → h ≡ above ++ marked q told → (z : List Mark) × (middle ++ q ≡ z ++ marked q told)
 below-later h later s middle q write e above told plain stands = of (above-or-below above (marked q told) later s (middle ++ q) (sym stands ∙ e))
   where
     top : IsOnTop (marked q told) q
@@ -162,7 +155,7 @@ follow h place later middle p first second queue e f same one other write =
     lower : (z : List Mark) × (k ≡ z ++ marked q one.is_told.events)
     lower =
         below-later h later second middle q write same one.is_told.later one.is_told.events
-        (no_write-events one.is_told.events (subst EventMarks one.is_told.told (told_of-events (database_of q) one.is_told.time first))) one.is_told.stands
+        (events-plain one.is_told.events (subst EventMarks one.is_told.told (told_of-events (database_of q) one.is_told.time first))) one.is_told.stands
 
     at_place : IsPlace (queued (put queue f) ∷ (at_f.below ++ second ∷ k))
     at_place = record {

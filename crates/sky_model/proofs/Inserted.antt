@@ -1,12 +1,11 @@
 -- Marks with marks of events among them: what they leave of a database beside its queues.
-use Rattle.std.proofs.Common.{◌≡◌, ℕ, ◌+◌, Bool, true, false, List, [], ◌∷◌, ◌++◌, Option, Some, None, refl, ◌∙◌, ap}
+use Rattle.std.proofs.Common.{◌≡◌, ℕ, ◌+◌, Bool, false, List, [], ◌∷◌, ◌++◌, Option, Some, None, refl}
 use Rattle.std.specs.Prelude.{◌||◌, ◌==◌}
 use Rattle.sky_val.specs.declared.event.Event.{Event}
-use Rattle.sky_model.specs.History.{Batch, Mark, began, ended, block_begun, repeats, looked, block_failed, block_ended, connected, disconnected, tabled, queued, made, raised, put, ticked, registered, opened, closed, traced}
+use Rattle.sky_model.specs.History.{Batch, Mark, ended, queued, made, raised, put, ticked, registered, opened, closed, traced}
 use Rattle.sky_model.specs.Triggers.{TableTrigger}
 use Rattle.sky_model.specs.Queues.{NamedQueue}
-use Rattle.sky_model.specs.State.{RowPart, after_part, after_part_marks, Database, changed_at, after_mark, after_marks}
-use Rattle.sky_model.proofs.RowStanding.{part-behind}
+use Rattle.sky_model.specs.State.{RowPart, after_part, Database, changed_at, after_mark, after_marks}
 
 -- the second marks are the first ones with ids taken and events stored in between
 pub data Inserted : List Mark → List Mark → Type 0 where
@@ -26,13 +25,6 @@ inserted-append (kept mark more) also = kept mark (inserted-append more also)
 inserted-append (with_raised queue value more) also = with_raised queue value (inserted-append more also)
 inserted-append (with_put queue event more) also = with_put queue event (inserted-append more also)
 
--- the row part is the same behind both
-pub inserted-part : (d : Database) {xs ys : List Mark} → Inserted xs ys → (after_marks d ys).part ≡ after_part_marks d.part xs
-inserted-part d none = refl
-inserted-part d (kept {xs = xs} mark more) = inserted-part (after_mark d mark) more ∙ ap (λ part. after_part_marks part xs) (part-behind d mark)
-inserted-part d (with_raised queue value more) = inserted-part (after_mark d (queued (raised queue value))) more
-inserted-part d (with_put queue event more) = inserted-part (after_mark d (queued (put queue event))) more
-
 -- what a database keeps beside its queues
 pub record BesideQueues : Type 0 where
   pub part : RowPart
@@ -49,17 +41,7 @@ beside d = record { part = d.part; undone = d.undone; last_batch_id = d.last_bat
 
 -- a mark changes it alike
 beside-mark : (d e : Database) (mark : Mark) → beside d ≡ beside e → beside (after_mark d mark) ≡ beside (after_mark e mark)
-beside-mark d e (began who t) same = λ i. record (same i) { part = after_part (same i).part (began who t) }
-beside-mark d e (ended who t true) same = λ i. record (same i) { part = after_part (same i).part (ended who t true) }
 beside-mark d e (ended who t false) same = λ i. record (same i) { part = after_part (same i).part (ended who t false); undone = λ u. u == t || (same i).undone u }
-beside-mark d e (block_begun who) same = λ i. record (same i) { part = after_part (same i).part (block_begun who) }
-beside-mark d e (repeats who) same = λ i. record (same i) { part = after_part (same i).part (repeats who) }
-beside-mark d e (looked who) same = λ i. record (same i) { part = after_part (same i).part (looked who) }
-beside-mark d e (block_failed who) same = λ i. record (same i) { part = after_part (same i).part (block_failed who) }
-beside-mark d e (block_ended who) same = λ i. record (same i) { part = after_part (same i).part (block_ended who) }
-beside-mark d e (connected who) same = λ i. record (same i) { part = after_part (same i).part (connected who) }
-beside-mark d e (disconnected who) same = λ i. record (same i) { part = after_part (same i).part (disconnected who) }
-beside-mark d e (tabled mark) same = λ i. record (same i) { part = after_part (same i).part (tabled mark) }
 beside-mark d e (queued (made name)) same = λ i. record (same i) {
   queues_made = (same i).queues_made + 1;
   queues = (same i).queues ++ record { number = (same i).queues_made; name = name } ∷ [];
@@ -73,6 +55,7 @@ beside-mark d e (queued (closed b)) same = λ i. record (same i) { batch = chang
 beside-mark d e (queued (traced table name trigger)) same = λ i. record (same i) {
   triggers = (same i).triggers ++ record { table = table; name = name; trigger = trigger } ∷ [];
 }
+beside-mark d e mark same = λ i. record (same i) { part = after_part (same i).part mark }
 
 beside-alike : (d e : Database) {xs ys : List Mark} → Inserted xs ys → beside d ≡ beside e → beside (after_marks d ys) ≡ beside (after_marks e xs)
 beside-alike d e none same = same

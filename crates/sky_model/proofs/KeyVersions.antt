@@ -3,6 +3,7 @@ use Rattle.std.proofs.Common.{◌≡◌, ℕ, Bool, true, false, List, [], ◌�
 use Rattle.std.specs.Prelude.{◌||◌, ◌&&◌, ◌==◌, cond}
 use Rattle.std.specs.Option.{option_or}
 use Rattle.std.specs.Ordering.{eq_by_cmp}
+use Rattle.std.proofs.lemmas.Bool.{or_parts, or_right}
 use Rattle.std.proofs.lemmas.Bool.Decides.{nat_tests}
 use Rattle.sky_val.specs.declared.val.Val.{Val}
 use Rattle.sky_val.specs.Order.{key_cmp}
@@ -19,7 +20,7 @@ use Rattle.sky_model.specs.Sessions.{own_txid}
 use Rattle.sky_model.specs.Rows.{committed, writes as writes_of, rows, last_writer}
 use Rattle.sky_model.specs.Versions.{versions}
 use Rattle.sky_model.specs.Locks.{holder}
-use Rattle.sky_model.proofs.Legal.{Fine, begins, ends, begins_block, fails_block, ends_block, connects, disconnects, repeats_block, looks, makes_table, writes, begins_waiting, ends_waiting, makes, raises, puts, ticks_next, registers, opens, closes, traces, Legal, start, next}
+use Rattle.sky_model.proofs.Legal.{Fine, ends, writes, Legal, start, next}
 use Rattle.sky_model.proofs.Snapshots.{own-unended}
 use Rattle.sky_model.proofs.RowWrites.{over, last_of, at-put_all, last_of-push, has_written-last_of, in_turn-push, in_turn-same, last_writer-push, last_writer-same}
 use Rattle.sky_model.proofs.RowKeys.{is_in_order-versions, committed-ended}
@@ -51,24 +52,7 @@ version_of-txid t (w ∷ vs) v e = of (t == w.txid) refl e (version_of-txid t vs
 
 -- the end of a transaction, as a test on others
 ended-or : (h : History) (t u : ℕ) → ((u == t) || has_ended h u) ≡ ((t == u) || has_ended h u)
-ended-or h t u = (let turned : (u == t) ≡ (t == u) = of (u == t) refl in ap (λ b. b || has_ended h u) turned)
-  where
-    of : (b : Bool) → (u == t) ≡ b → (u == t) ≡ (t == u)
-    of true e = (let other : (t == u) ≡ true = grind (arith, nat_tests) in e ∙ sym other)
-    of false e = (let other : (t == u) ≡ false = grind (arith, nat_tests) in e ∙ sym other)
-
-still-ended : (b c : Bool) → c ≡ true → (b || c) ≡ true
-still-ended true c e = refl
-still-ended false c e = e
-
--- who hasn't ended behind the end of another hadn't before, and is another
-unended-before : (b c : Bool) → (b || c) ≡ false → c ≡ false
-unended-before true c e = absurd (cc)
-unended-before false c e = e
-
-another : (b c : Bool) → (b || c) ≡ false → b ≡ false
-another true c e = absurd (cc)
-another false c e = refl
+ended-or h t u = grind (arith, nat_tests)
 
 -- a commit makes a transaction's last write the row
 row-committed : (left : Option Version) (before : Option Version) (last : Option (Option (List Val))) → option_map Version.row left ≡ last → row_of (option_or left before) ≡ over last (row_of before)
@@ -92,8 +76,8 @@ key_committed h l who t unended table key k = record {
       (version_of-txid t (kept h table key)) k.writer
       ∙ ap (λ b. if b then Some t else last_writer key (λ u. writes_of table u h) None (committed h)) (sym (has_written-last_of key (writes_of table t h)))
       ∙ sym (last_writer-push key (λ u. writes_of table u h) (committed h) t);
-  own = λ u e. k.own u (unended-before (u == t) (has_ended h u) e);
-  only = only_more (has_ended h) (has_ended (ended (of_session who) t true ∷ h)) (kept h table key) (λ u e. still-ended (u == t) (has_ended h u) e) k.only;
+  own = λ u e. k.own u ((or_parts (u == t) (has_ended h u) e).1);
+  only = only_more (has_ended h) (has_ended (ended (of_session who) t true ∷ h)) (kept h table key) (λ u e. or_right (u == t) (has_ended h u) e) k.only;
 }
   where
     newer : newest_by (has_ended (ended (of_session who) t true ∷ h)) (kept h table key) ≡ option_or (version_of t (kept h table key)) (newest_by (has_ended h) (kept h table key))
@@ -104,25 +88,21 @@ key_rolled_back h l who t unended table key k = record {
   newest = ap row_of same ∙ k.newest;
   writer = ap (option_map Version.txid) same ∙ k.writer;
   own = λ u e. ap (λ vs. option_map Version.row (version_of u vs)) gone
-      ∙ ap (option_map Version.row) (version_of-without u t (kept h table key) ∙ ap (λ b. cond b None (version_of u (kept h table key))) (another (u == t) (has_ended h u) e))
-      ∙ k.own u (unended-before (u == t) (has_ended h u) e);
+      ∙ ap (option_map Version.row) (version_of-without u t (kept h table key) ∙ ap (λ b. cond b None (version_of u (kept h table key))) ((or_parts (u == t) (has_ended h u) e).0))
+      ∙ k.own u ((or_parts (u == t) (has_ended h u) e).1);
   only = subst (OnlyLast (has_ended (ended (of_session who) t false ∷ h))) (sym gone) (only_more (has_ended h) (has_ended (ended (of_session who) t false ∷ h)) (without t (kept h table key))
-      (λ u e. still-ended (u == t) (has_ended h u) e) (only_without (has_ended h) t (kept h table key) k.only));
+      (λ u e. or_right (u == t) (has_ended h u) e) (only_without (has_ended h) t (kept h table key) k.only));
 }
   where
     gone : kept (ended (of_session who) t false ∷ h) table key ≡ without t (kept h table key)
     gone = versions_at-forgotten t key (versions table h) (is_in_order-versions table h)
-
-    none : (b : Bool) (o : Option Version) → b ≡ true → cond b None o ≡ None
-    none true o e = refl
-    none false o e = absurd (cc)
 
     same : newest_by (has_ended (ended (of_session who) t false ∷ h)) (kept (ended (of_session who) t false ∷ h) table key) ≡ newest_by (has_ended h) (kept h table key)
     same =
         let mine : (t == t) ≡ true = grind (arith, nat_tests) in
         ap (newest_by (has_ended (ended (of_session who) t false ∷ h))) gone
         ∙ newest_more (has_ended h) (has_ended (ended (of_session who) t false ∷ h)) t (without t (kept h table key)) (only_without (has_ended h) t (kept h table key) k.only) unended (ended-or h t)
-        ∙ ap (λ o. option_or o (newest_by (has_ended h) (without t (kept h table key)))) (version_of-without t t (kept h table key) ∙ none (t == t) (version_of t (kept h table key)) mine)
+        ∙ ap (λ o. option_or o (newest_by (has_ended h) (without t (kept h table key)))) (version_of-without t t (kept h table key) ∙ ap (λ b. cond b None (version_of t (kept h table key))) mine)
         ∙ newest_without (has_ended h) t (kept h table key) unended
 
 -- where no other transaction that hasn't ended has a version, all others' pass
@@ -139,11 +119,7 @@ others-from p t (v ∷ vs) none = (of (t == v.txid) refl (p v.txid) refl, others
         absurd (cc (sym (ap (λ b. if b then Some v else version_of v.txid vs) itself) ∙ there))
 
     later : (u : ℕ) → (if u == v.txid then Some v else version_of u vs) ≡ None → version_of u vs ≡ None
-    later u e = by (u == v.txid) e
-      where
-        by : (b : Bool) → (if b then Some v else version_of u vs) ≡ None → version_of u vs ≡ None
-        by true e = absurd (cc)
-        by false e = e
+    later u e = grind arith
 
 module _ (h : History) (l : Legal h) (who t n : ℕ) (at_key : List Val) (old new : Option (List Val)) (mine : own_txid who h ≡ Some t) (free : other_than who (holder n at_key h) ≡ None) where
   abbrev g : History
@@ -241,25 +217,7 @@ key_step : (h : History) (mark : Mark) → Fine h mark → Legal h → (table : 
 key_step h _ (ends who t true e) l table key k = key_committed h l who t (own-unended h l who t e) table key k
 key_step h _ (ends who t false e) l table key k = key_rolled_back h l who t (own-unended h l who t e) table key k
 key_step h _ (writes who t n at_key old new e free stands) l table key k = key_written h l who t n at_key old new e free table key k
-key_step h _ (begins who e) l table key k = record { newest = k.newest; writer = k.writer; own = k.own; only = k.only }
-key_step h _ (begins_block who e is_open) l table key k = record { newest = k.newest; writer = k.writer; own = k.own; only = k.only }
-key_step h _ (fails_block who e f) l table key k = record { newest = k.newest; writer = k.writer; own = k.own; only = k.only }
-key_step h _ (ends_block who e) l table key k = record { newest = k.newest; writer = k.writer; own = k.own; only = k.only }
-key_step h _ (connects who e) l table key k = record { newest = k.newest; writer = k.writer; own = k.own; only = k.only }
-key_step h _ (disconnects who quiet away) l table key k = record { newest = k.newest; writer = k.writer; own = k.own; only = k.only }
-key_step h _ (repeats_block who) l table key k = record { newest = k.newest; writer = k.writer; own = k.own; only = k.only }
-key_step h _ (looks who) l table key k = record { newest = k.newest; writer = k.writer; own = k.own; only = k.only }
-key_step h _ (makes_table name columns e) l table key k = record { newest = k.newest; writer = k.writer; own = k.own; only = k.only }
-key_step h _ (begins_waiting who n at_key attempt fits) l table key k = record { newest = k.newest; writer = k.writer; own = k.own; only = k.only }
-key_step h _ (ends_waiting who) l table key k = record { newest = k.newest; writer = k.writer; own = k.own; only = k.only }
-key_step h _ (makes name e) l table key k = record { newest = k.newest; writer = k.writer; own = k.own; only = k.only }
-key_step h _ (raises q v i le) l table key k = record { newest = k.newest; writer = k.writer; own = k.own; only = k.only }
-key_step h _ (puts who q e i n o newest) l table key k = record { newest = k.newest; writer = k.writer; own = k.own; only = k.only }
-key_step h _ (ticks_next q id time seq i le) l table key k = record { newest = k.newest; writer = k.writer; own = k.own; only = k.only }
-key_step h _ (registers q name sub tick i e f le) l table key k = record { newest = k.newest; writer = k.writer; own = k.own; only = k.only }
-key_step h _ (opens batch e) l table key k = record { newest = k.newest; writer = k.writer; own = k.own; only = k.only }
-key_step h _ (closes batch e) l table key k = record { newest = k.newest; writer = k.writer; own = k.own; only = k.only }
-key_step h _ (traces n name trigger below is new) l table key k = record { newest = k.newest; writer = k.writer; own = k.own; only = k.only }
+key_step h _ _ l table key k = record { newest = k.newest; writer = k.writer; own = k.own; only = k.only }
 
 pub key_holds : (h : History) → Legal h → (table : ℕ) (key : List Val) → KeyHolds h table key
 key_holds _ start table key = record { newest = refl; writer = refl; own = λ t e. refl; only = tt }

@@ -11,9 +11,9 @@ use Rattle.sky_model.specs.declared.reply.Limit.TheVariants.{Queues, Triggers}
 use Rattle.sky_model.specs.declared.reply.Refusal.TheVariants.{BadColumn, NoQueue, NoTable, TableBusy, TooMany, TriggerExists, TxidsSpent, EventIdsSpent, NoConsumer}
 use Rattle.sky_val.specs.Waits.{Waiting, is_waiting}
 use Rattle.sky_names.specs.Places.{place_of}
-use Rattle.sky_model.specs.History.{Batch, Mark, of_session, began, ended, block_begun, block_failed, block_ended, connected, disconnected, repeats, looked, tabled, waited, queued, made, raised, put, ticked, registered, opened, closed, traced, History}
+use Rattle.sky_model.specs.History.{Batch, Mark, of_session, began, ended, looked, tabled, waited, queued, made, raised, put, ticked, opened, closed, History}
 use Rattle.sky_model.specs.Transactions.{next_txid}
-use Rattle.sky_model.specs.Sessions.{Block, outside, inside, failed, has_open, block, own_txid, session}
+use Rattle.sky_model.specs.Sessions.{Block, outside, has_open, block, own_txid, session}
 use Rattle.sky_model.specs.Rows.{table_names, columns_of}
 use Rattle.sky_model.specs.Triggers.{triggers, triggers_of}
 use Rattle.sky_model.specs.StepTrigger.{has_trigger, may_ignore, add_trigger}
@@ -34,7 +34,7 @@ use Rattle.sky_model.specs.Gates.{Gate, takes_all, gated, by_gate}
 use Rattle.sky_model.specs.Made.{takes_sight, looking, runs_if}
 use Rattle.sky_model.specs.Settling.{Turn, turn_of, behind_marks, and_then, ready, attempted, resumed, goes_on, settles, settling, with_settling}
 use Rattle.sky_model.specs.Calls.{row_form, form, row_making, making, row_statement, row_turn, statement, database_turn, turn}
-use Rattle.sky_model.proofs.Legal.{MayWait, Fine, IsAmong, IsQueue, begins, ends, looks, ends_waiting, makes, raises, puts, ticks_next, registers, opens as opens_fine, closes, traces, Chain, done, more, Legal, next}
+use Rattle.sky_model.proofs.Legal.{MayWait, IsAmong, IsQueue, begins, ends, looks, ends_waiting, makes, raises, puts, ticks_next, registers, opens as opens_fine, closes, traces, Chain, done, more, Legal, next}
 use Rattle.sky_model.proofs.Good.{MayStand, Good, same-session, good_test, good_test_then, good_found, good_if, good_refused, good_refused_by, good_commits}
 use Rattle.sky_model.proofs.RowOutcomes.{OfRows, attempts-rows, form-rows}
 use Rattle.sky_model.proofs.LawfulTelling.{good_append, legal_behind, good_tells}
@@ -53,27 +53,8 @@ active_batch-id (queued (opened b) ∷ h) id batch is = of (b.id == id) refl is 
     of : (c : Bool) → (b.id == id) ≡ c → (if c then Some b else active_batch id h) ≡ Some batch → (active_batch id h ≡ Some batch → batch.id ≡ id) → batch.id ≡ id
     of true same e ih = let one : b ≡ batch = ap (λ o. unwrap_or o b) e in ap Batch.id (sym one) ∙ grind (arith, nat_tests)
     of false same e ih = ih e
-active_batch-id (queued (closed b) ∷ h) id batch is = of (b.id == id) is (active_batch-id h id batch)
-  where
-    of : (c : Bool) → (if c then None else active_batch id h) ≡ Some batch → (active_batch id h ≡ Some batch → batch.id ≡ id) → batch.id ≡ id
-    of true e ih = absurd (cc)
-    of false e ih = ih e
-active_batch-id (began who t ∷ h) id batch is = active_batch-id h id batch is
-active_batch-id (ended who t c ∷ h) id batch is = active_batch-id h id batch is
-active_batch-id (block_begun who ∷ h) id batch is = active_batch-id h id batch is
-active_batch-id (block_failed who ∷ h) id batch is = active_batch-id h id batch is
-active_batch-id (block_ended who ∷ h) id batch is = active_batch-id h id batch is
-active_batch-id (connected who ∷ h) id batch is = active_batch-id h id batch is
-active_batch-id (disconnected who ∷ h) id batch is = active_batch-id h id batch is
-active_batch-id (repeats who ∷ h) id batch is = active_batch-id h id batch is
-active_batch-id (looked who ∷ h) id batch is = active_batch-id h id batch is
-active_batch-id (tabled mark ∷ h) id batch is = active_batch-id h id batch is
-active_batch-id (queued (made name) ∷ h) id batch is = active_batch-id h id batch is
-active_batch-id (queued (raised q value) ∷ h) id batch is = active_batch-id h id batch is
-active_batch-id (queued (put q event) ∷ h) id batch is = active_batch-id h id batch is
-active_batch-id (queued (ticked q n time seq) ∷ h) id batch is = active_batch-id h id batch is
-active_batch-id (queued (registered q name sub tick) ∷ h) id batch is = active_batch-id h id batch is
-active_batch-id (queued (traced table name trigger) ∷ h) id batch is = active_batch-id h id batch is
+active_batch-id (queued (closed b) ∷ h) id batch is = grind (arith, active_batch-id h id batch)
+active_batch-id (_ ∷ h) id batch is = active_batch-id h id batch is
 
 good_create_queue : (h : History) → Legal h → (now : ℤ) (who : ℕ) (name : List ℕ) → Good h who (create_queue (database_of h) now who name)
 good_create_queue h l now who name =
@@ -91,8 +72,7 @@ good_create_queue h l now who name =
     body : (g : History) (t : ℕ) (b : Block) → queue_number name (queues h) ≡ None → own_txid who g ≡ Some t → queues g ≡ queues h → queues_made g ≡ count → ticks count g ≡ []
         → Chain g (queued (made name) ∷ commit_of who t b ++ queued (ticked count 1 now 0) ∷ [])
     body g t outside new mine names many none = more (makes name (ap (queue_number name) names ∙ new)) (more (ends who t true mine) (ticks_first (ended (of_session who) t true ∷ queued (made name) ∷ g) (λ i. names i ++ record { number = many i; name = name } ∷ []) none))
-    body g t inside new mine names many none = more (makes name (ap (queue_number name) names ∙ new)) (ticks_first (queued (made name) ∷ g) (λ i. names i ++ record { number = many i; name = name } ∷ []) none)
-    body g t failed new mine names many none = more (makes name (ap (queue_number name) names ∙ new)) (ticks_first (queued (made name) ∷ g) (λ i. names i ++ record { number = many i; name = name } ∷ []) none)
+    body g t _ new mine names many none = more (makes name (ap (queue_number name) names ∙ new)) (ticks_first (queued (made name) ∷ g) (λ i. names i ++ record { number = many i; name = name } ∷ []) none)
 
     none_yet : ticks count h ≡ []
     none_yet = ticks_beyond h l count (omega arith)

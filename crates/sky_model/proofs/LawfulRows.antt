@@ -1,5 +1,5 @@
 -- The statements on sessions, transactions, tables and rows leave a legal history legal.
-use Rattle.std.proofs.Common.{◌≡◌, ℕ, ◌^◌, ◌<◌, List, [], ◌∷◌, ◌++◌, Bool, true, false, nat_le, Option, Some, None, Ok, is_ok, IfSome, option_map, length, is_some, refl, sym, ◌∙◌, ap, if◌then◌else◌}
+use Rattle.std.proofs.Common.{◌≡◌, ℕ, ◌^◌, ◌<◌, List, [], ◌∷◌, ◌++◌, Bool, true, false, nat_le, Option, Some, None, Ok, IfSome, option_map, length, is_some, refl, sym, ◌∙◌, ap, arith, if◌then◌else◌}
 use Rattle.std.specs.Prelude.{find}
 use Rattle.sky_val.specs.declared.val.Val.{Val}
 use Rattle.sky_val.specs.declared.column.Column.{Column}
@@ -28,7 +28,7 @@ use Rattle.sky_model.specs.StepLocks.{ring, once_free}
 use Rattle.sky_model.specs.StepRows.{schema_refusal, create_table, bad_values, bad_sets, is_key_change, writes_key, changes, attempts, insert, update, delete, row_or_none, get}
 use Rattle.sky_model.specs.StepSession.{open_db, begin, begin_repeatable_read, leaves, commit, rollback, close, cancel}
 use Rattle.sky_model.specs.Calls.{row_form}
-use Rattle.sky_model.specs.Allowed.{where_of_row, allowed}
+use Rattle.sky_model.specs.Allowed.{where_of_row}
 use Rattle.sky_model.specs.LawsOfWrites.{IsRowOf}
 use Rattle.sky_model.specs.declared.stmt.Where.TheVariants.{WhenOpen, WhenSound, WhenReading}
 use Rattle.sky_names.proofs.PlaceLemmas.{place_of_within}
@@ -39,8 +39,7 @@ use Rattle.sky_model.proofs.Good.{MayStand, Good, same-session, good_refused, go
 
 good_begin : (h : History) (who : ℕ) (b : Block) → block who h ≡ b → has_open who h ≡ true → Good h who (begin who b)
 good_begin h who outside is is_open = more (begins_block who is is_open) done
-good_begin h who inside is is_open = done
-good_begin h who failed is is_open = done
+good_begin h who _ is is_open = done
 
 good_leaves : (h : History) (who : ℕ) (committed : Bool) (o : Option ℕ) → own_txid who h ≡ o → Chain h (leaves committed who o)
 good_leaves h who committed None none = more (ends_block who none) done
@@ -53,8 +52,7 @@ good_commit h who failed = good_leaves h who false (own_txid who h) refl
 
 good_rollback : (h : History) (who : ℕ) (b : Block) → Good h who (rollback who (own_txid who h) b)
 good_rollback h who outside = done
-good_rollback h who inside = good_leaves h who false (own_txid who h) refl
-good_rollback h who failed = good_leaves h who false (own_txid who h) refl
+good_rollback h who _ = good_leaves h who false (own_txid who h) refl
 
 good_open_db : (h : History) (who : ℕ) (b : Bool) → has_open who h ≡ b → Good h who (open_db who b)
 good_open_db h who true is = good_refused h who AlreadyOpen
@@ -70,8 +68,7 @@ good_closes h who (Some t) mine quiet =
 
 good_close : (h : History) (who : ℕ) (b : Block) → block who h ≡ b → is_waiting who (waiting h) ≡ false → Good h who (close who (own_txid who h) b)
 good_close h who outside is quiet = more (disconnects who quiet is) done
-good_close h who inside is quiet = good_closes h who (own_txid who h) refl quiet
-good_close h who failed is quiet = good_closes h who (own_txid who h) refl quiet
+good_close h who _ is quiet = good_closes h who (own_txid who h) refl quiet
 
 good_cancel : (h : History) (who : ℕ) (waits : Bool) → Good h who (cancel who (own_txid who h) (block who h) waits)
 good_cancel h who false = done
@@ -79,8 +76,7 @@ good_cancel h who true = more (ends_waiting who) (good_refused (tabled (waited w
 
 good_begin_repeatable_read : (h : History) (who : ℕ) (b : Block) → block who h ≡ b → has_open who h ≡ true → Good h who (begin_repeatable_read who b)
 good_begin_repeatable_read h who outside is is_open = more (begins_block who is is_open) (more (repeats_block who) done)
-good_begin_repeatable_read h who inside is is_open = done
-good_begin_repeatable_read h who failed is is_open = done
+good_begin_repeatable_read h who _ is is_open = done
 
 good_txid_current : (h : History) (who : ℕ) (o : Option ℕ) → own_txid who h ≡ o
     → Good h who (own_or_next (part_of h) o >>= (λ t. does_marks (Number t) (begin_of who t o ++ [] ++ commit_of who t (block who h))))
@@ -91,37 +87,19 @@ good_txid_current h who (Some t) mine = good_commits h who t (block who h) mine
 
 -- a statement that may stand where only one that reads may is made by a session that doesn't wait
 quiet-reading : (h : History) (who : ℕ) → MayStand h who WhenReading → is_waiting who (waiting h) ≡ false
-quiet-reading h who may = of (is_waiting who (waiting h)) may
-  where
-    of : (b : Bool) → is_ok (allowed b (has_open who h) (block who h) WhenReading) ≡ true → b ≡ false
-    of true e = absurd (cc)
-    of false e = refl
+quiet-reading h who may = grind arith
 
 -- and that has the database open
 open-reading : (h : History) (who : ℕ) → MayStand h who WhenReading → has_open who h ≡ true
-open-reading h who may = of (is_waiting who (waiting h)) (has_open who h) may
-  where
-    of : (b o : Bool) → is_ok (allowed b o (block who h) WhenReading) ≡ true → o ≡ true
-    of true o e = absurd (cc)
-    of false false e = absurd (cc)
-    of false true e = refl
+open-reading h who may = grind arith
 
 -- so is one that may begin a block
 open-beginning : (h : History) (who : ℕ) → MayStand h who WhenSound → has_open who h ≡ true
-open-beginning h who may = of (is_waiting who (waiting h)) (has_open who h) may
-  where
-    of : (b o : Bool) → is_ok (allowed b o (block who h) WhenSound) ≡ true → o ≡ true
-    of true o e = absurd (cc)
-    of false false e = absurd (cc)
-    of false true e = refl
+open-beginning h who may = grind arith
 
 -- and `close` is made by one that doesn't wait
 quiet-closing : (h : History) (who : ℕ) → MayStand h who WhenOpen → is_waiting who (waiting h) ≡ false
-quiet-closing h who may = of (is_waiting who (waiting h)) may
-  where
-    of : (b : Bool) → is_ok (allowed b (has_open who h) (block who h) WhenOpen) ≡ true → b ≡ false
-    of true e = absurd (cc)
-    of false e = refl
+quiet-closing h who may = grind arith
 
 -- a write in a table that there is, over the row that stands; if that is one of the table, so is the new one
 good_writes_key : (h : History) → Legal h → (who table : ℕ) (key : List Val) (old new : Option (List Val)) → other_than who (holder table key h) ≡ None → table < length (table_names h)

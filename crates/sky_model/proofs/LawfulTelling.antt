@@ -21,7 +21,8 @@ use Rattle.sky_model.proofs.QueueNumbers.{among-before}
 use Rattle.sky_model.proofs.Marks.{part_of-mark, database_of-mark, database_of-marks}
 use Rattle.sky_model.proofs.Selecting.{events_below-next}
 use Rattle.sky_model.proofs.Good.{Good, same-session, good_refused}
-use Rattle.sky_model.proofs.RowOutcomes.{RowMarks, rows-rest, OfRows}
+use Rattle.sky_model.proofs.StatementMarks.{each-rest}
+use Rattle.sky_model.proofs.RowOutcomes.{is_of_rows, RowMarks, OfRows}
 
 -- marks that may come next, and behind them more that may
 pub good_append : (h : History) (xs ys : List Mark) → Chain h xs → Chain (behind_marks part_by_history h xs) ys → Chain h (xs ++ ys)
@@ -165,7 +166,7 @@ chain-alike : (h g : History) → part_of h ≡ part_of g → (marks : List Mark
 chain-alike h g same [] rows done = done
 chain-alike h g same (mark ∷ marks) rows (more fine chain) =
     more (fine-alike h g same mark marks rows fine)
-    (chain-alike (mark ∷ h) (mark ∷ g) (part_of-mark h mark ∙ ap (λ d. after_part d mark) same ∙ sym (part_of-mark g mark)) marks (rows-rest mark marks rows) chain)
+    (chain-alike (mark ∷ h) (mark ∷ g) (part_of-mark h mark ∙ ap (λ d. after_part d mark) same ∙ sym (part_of-mark g mark)) marks (each-rest is_of_rows mark marks rows) chain)
 
 -- ---- what a statement does
 
@@ -179,7 +180,7 @@ with_told-well h l now [] rows chain = done
 with_told-well h l now (mark ∷ marks) rows (more fine chain) =
     of (told_of (after_mark (database_of h) mark) now mark)
     (subst (λ d. ToldWell (mark ∷ h) (told_of d now mark)) (database_of-mark h mark) (told_of-well h l now mark fine))
-    (λ g legal. with_told-well g legal now marks (rows-rest mark marks rows))
+    (λ g legal. with_told-well g legal now marks (each-rest is_of_rows mark marks rows))
   where
     joined : (told : List Mark) → Chain (mark ∷ h) told → (x : Checked (List Mark)) → ChainOf (marked (mark ∷ h) told) x → ChainOf h (x >>= (λ rest. Ok (mark ∷ told ++ rest)))
     joined told well (Err refusal) also = tt
@@ -191,12 +192,12 @@ with_told-well h l now (mark ∷ marks) rows (more fine chain) =
     of (Ok told) well ih =
         joined told well.0 (with_told (after_marks (database_of h) (mark ∷ told)) now marks)
         (subst (λ d. ChainOf (marked (mark ∷ h) told) (with_told d now marks)) (database_of-marks h (mark ∷ told))
-        (ih (marked (mark ∷ h) told) (legal_behind (mark ∷ h) told (next l fine) well.0) (chain-alike (mark ∷ h) (marked (mark ∷ h) told) (sym well.1) marks (rows-rest mark marks rows) chain)))
+        (ih (marked (mark ∷ h) told) (legal_behind (mark ∷ h) told (next l fine) well.0) (chain-alike (mark ∷ h) (marked (mark ∷ h) told) (sym well.1) marks (each-rest is_of_rows mark marks rows) chain)))
 
 -- so what a statement on rows does may come where it might, once its writes are told of
 pub good_tells : (h : History) → Legal h → (now : ℤ) (who : ℕ) (c : Checked Outcome) → OfRows c → Good h who c → Good h who (tells (database_of h) now c)
 good_tells h l now who (Err refusal) rows good = good
-good_tells h l now who (Ok o) rows good = of (with_told (database_of h) now o.marks) (with_told-well h l now o.marks rows.marks good)
+good_tells h l now who (Ok o) rows good = of (with_told (database_of h) now o.marks) (with_told-well h l now o.marks rows.1 good)
   where
     of : (x : Checked (List Mark)) → ChainOf h x → Good h who (x >>= (λ marks. does_marks o.reply marks))
     of (Err refusal) chain = good_refused h who refusal

@@ -68,10 +68,7 @@ sample Ignore = record { word = codes "ignore=a"; worth = codes "a" ∷ []; is =
 
 same_text : (f : Fixed) → bytes_eq (text_of f) (text_of f) ≡ true
 same_text fixed.Repeatable = refl
-same_text fixed.Read = refl
-same_text fixed.Table = refl
-same_text fixed.Set = refl
-same_text fixed.Backup = refl
+same_text _ = refl
 
 or_else_assoc : (a b c : Option Stmt) → or_else (or_else a b) c ≡ or_else a (or_else b c)
 or_else_assoc None b c = refl

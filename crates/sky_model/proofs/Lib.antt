@@ -26,6 +26,7 @@ pub mod SeenRows
 pub mod WaitersFit
 pub mod WrittenRows
 pub mod LawfulRows
+pub mod StatementMarks
 pub mod RowOutcomes
 pub mod LawfulTelling
 pub mod MadeAt
@@ -65,7 +66,6 @@ pub mod LockLaws
 pub mod Writers
 pub mod WriteOrder
 pub mod EventIds
-pub mod QueueOutcomes
 pub mod WritesTold
 pub mod IdsFollowWrites
 mod WorkedWrites

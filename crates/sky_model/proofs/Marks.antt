@@ -1,29 +1,20 @@
 -- What a database and the world show changes by marks and facts alone.
 use Rattle.std.proofs.Common.{◌≡◌, ℕ, ◌+◌, List, [], ◌∷◌, ◌++◌, Bool, true, false, not, ◌&&◌, ◌||◌, ◌==◌, filter, Option, Some, None, refl, sym, ◌∙◌, ap, bytes_eq, option_map, if◌then◌else◌}
-use Rattle.sky_val.specs.declared.event.Event.{Event}
 use Rattle.sky_val.specs.Waits.{released}
 use Rattle.sky_txid.specs.Versions.{forgotten}
-use Rattle.sky_model.specs.History.{Mark, of_session, of_worker, began, ended, block_begun, repeats, looked, block_failed, block_ended, connected, disconnected, tabled, table_made, wrote, waits, waited, queued, QueueMark, made, raised, put, ticked, registered, opened, closed, traced, History, Fact, appeared, founded, entered, left, within, Past}
+use Rattle.sky_model.specs.History.{Mark, of_session, of_worker, began, ended, block_begun, repeats, looked, block_failed, block_ended, connected, disconnected, tabled, wrote, queued, QueueMark, made, raised, put, ticked, registered, opened, closed, traced, History, Fact, appeared, founded, entered, left, within, Past}
 use Rattle.sky_model.specs.Consumers.{Subscription, subscription_id, position, active}
 use Rattle.sky_model.specs.Transactions.{next_txid, running, has_rolled_back, snapshot}
-use Rattle.sky_model.specs.Sessions.{Block, outside, inside, failed, Sight, at_each, at_first, at_place, sight, sight_by, Session, session}
-use Rattle.sky_model.specs.Queues.{Tick}
+use Rattle.sky_model.specs.Sessions.{outside, inside, failed, at_each, at_first, at_place, sight, sight_by, session}
 use Rattle.sky_model.specs.Versions.{versions}
-use Rattle.sky_model.specs.State.{Queue, queue_of, part_of, database_of, changed_at, changed_for, with_batch, at_position, after_queue_mark, with_txid, with_sight, with_block, with_open, without_sight, after_part, after_mark, after_marks}
+use Rattle.sky_model.specs.State.{Queue, queue_of, part_of, database_of, changed_at, changed_for, with_batch, at_position, after_queue_mark, after_part, after_mark, after_marks}
 use Rattle.sky_model.specs.Settling.{marked}
 use Rattle.sky_model.specs.World.{world_of, history_in, after_fact, after_facts, on_top}
 
-raised_at : (b : Bool) (x : Queue) (v : ℕ) → record x { seq = if b then v else x.seq } ≡ (if b then record x { seq = v } else x)
-raised_at true x v = refl
-raised_at false x v = refl
-
-put_at : (b : Bool) (x : Queue) (e : Event) → record x { stored = if b then x.stored ++ e ∷ [] else x.stored } ≡ (if b then record x { stored = x.stored ++ e ∷ [] } else x)
-put_at true x e = refl
-put_at false x e = refl
-
-ticked_at : (b : Bool) (x : Queue) (t : Tick) → record x { tick_list = if b then x.tick_list ++ t ∷ [] else x.tick_list } ≡ (if b then record x { tick_list = x.tick_list ++ t ∷ [] } else x)
-ticked_at true x t = refl
-ticked_at false x t = refl
+-- what something is in each case, by cases
+by_case : {A : Type 0} (b : Bool) (f : Bool → A) → f b ≡ (if b then f true else f false)
+by_case true f = refl
+by_case false f = refl
 
 -- a subscription of these parts
 abbrev sub_of : Option ℕ → ℕ → Option ℕ → Option Subscription
@@ -85,10 +76,12 @@ closed_at false x name id position active tick e = λ i. record x { sub = sym e 
 
 pub database_of-queue_mark : (h : History) (mark : QueueMark) → database_of (queued mark ∷ h) ≡ after_queue_mark (database_of h) mark
 database_of-queue_mark h (made name) = refl
-database_of-queue_mark h (raised q value) = λ i. record (database_of h) { queue = λ n. raised_at (q == n) (queue_of h n) value i }
-database_of-queue_mark h (put q event) = λ i. record (database_of h) { queue = λ n. put_at (q == n) (queue_of h n) event i }
+database_of-queue_mark h (raised q value) = λ i. record (database_of h) { queue = λ n. by_case (q == n) (λ b. record (queue_of h n) { seq = if b then value else (queue_of h n).seq }) i }
+database_of-queue_mark h (put q event) = λ i. record (database_of h) { queue = λ n. by_case (q == n) (λ b. record (queue_of h n) { stored = if b then (queue_of h n).stored ++ event ∷ [] else (queue_of h n).stored }) i }
 database_of-queue_mark h (ticked q id time seq) = λ i. record (database_of h) {
-  queue = λ n. ticked_at (q == n) (queue_of h n) (record { id = id; time = time; snapshot = snapshot h; seq = seq }) i;
+  queue = λ n. by_case (q == n) (λ b. record (queue_of h n) {
+    tick_list = if b then (queue_of h n).tick_list ++ record { id = id; time = time; snapshot = snapshot h; seq = seq } ∷ [] else (queue_of h n).tick_list;
+  }) i;
 }
 database_of-queue_mark h (registered q name sub tick) = λ i. record (database_of h) {
   last_sub_id = sub;
@@ -105,79 +98,42 @@ database_of-queue_mark h (closed b) = λ i. record (database_of h) {
 }
 database_of-queue_mark h (traced table name trigger) = refl
 
-txid_at : (b : Bool) (s : Session) (own : Option ℕ) → record s { txid = if b then own else s.txid } ≡ (if b then with_txid own s else s)
-txid_at true s own = refl
-txid_at false s own = refl
-
-block_at : (b : Bool) (s : Session) (to : Block) → record s { block = if b then to else s.block } ≡ (if b then with_block to s else s)
-block_at true s to = refl
-block_at false s to = refl
-
-open_at : (b : Bool) (s : Session) (to : Bool) → record s { is_open = if b then to else s.is_open } ≡ (if b then with_open to s else s)
-open_at true s to = refl
-open_at false s to = refl
-
-sight_at : (b : Bool) (s : Session) (old new : Sight History) → s.sight ≡ sight_by snapshot old
-    → record s { sight = sight_by snapshot (if b then new else old) } ≡ (if b then with_sight (sight_by snapshot new) s else s)
-sight_at true s old new e = refl
-sight_at false s old new e = λ i. record s { sight = sym e i }
-
-over_at : (b : Bool) (s : Session) (old : Sight History) (to : Block) → s.sight ≡ sight_by snapshot old
-    → record s { block = if b then to else s.block; sight = sight_by snapshot (if b then at_each else old) } ≡ (if b then without_sight to s else s)
-over_at true s old to e = refl
-over_at false s old to e = λ i. record s { sight = sym e i }
-
 -- a mark changes transactions, sessions and tables as `after_part` says
 pub part_of-mark : (h : History) (mark : Mark) → part_of (mark ∷ h) ≡ after_part (part_of h) mark
 part_of-mark h (began (of_session who) t) = λ i. record (part_of h) {
   next = next_txid h + 1;
   running_ids = running h ++ t ∷ [];
-  session = λ n. txid_at (who == n) (session h n) (Some t) i;
+  session = λ n. by_case (who == n) (λ b. record (session h n) { txid = if b then Some t else (session h n).txid }) i;
 }
-part_of-mark h (began of_worker t) = refl
 part_of-mark h (ended (of_session who) t true) = λ i. record (part_of h) {
   running_ids = filter (λ u. not (u == t)) (running h);
-  session = λ n. txid_at (who == n) (session h n) None i;
+  session = λ n. by_case (who == n) (λ b. record (session h n) { txid = if b then None else (session h n).txid }) i;
   wrote_in = λ n u. not (t == u) && (part_of h).wrote_in n u;
   holder = released who (part_of h).holder;
 }
-part_of-mark h (ended of_worker t true) = refl
 part_of-mark h (ended (of_session who) t false) = λ i. record (part_of h) {
   running_ids = filter (λ u. not (u == t)) (running h);
-  session = λ n. txid_at (who == n) (session h n) None i;
+  session = λ n. by_case (who == n) (λ b. record (session h n) { txid = if b then None else (session h n).txid }) i;
   versions = λ n. forgotten t (versions n h);
   wrote_in = λ n u. not (t == u) && (part_of h).wrote_in n u;
   holder = released who (part_of h).holder;
 }
-part_of-mark h (ended of_worker t false) = refl
-part_of-mark h (block_begun who) = λ i. record (part_of h) { session = λ n. block_at (who == n) (session h n) inside i }
-part_of-mark h (repeats who) = λ i. record (part_of h) { session = λ n. sight_at (who == n) (session h n) (sight n h) at_first refl i }
-part_of-mark h (looked who) = λ i. record (part_of h) { session = λ n. sight_at (who == n) (session h n) (sight n h) (at_place h) refl i }
-part_of-mark h (block_failed who) = λ i. record (part_of h) { session = λ n. over_at (who == n) (session h n) (sight n h) failed refl i }
-part_of-mark h (block_ended who) = λ i. record (part_of h) { session = λ n. over_at (who == n) (session h n) (sight n h) outside refl i }
-part_of-mark h (connected who) = λ i. record (part_of h) { session = λ n. open_at (who == n) (session h n) true i }
-part_of-mark h (disconnected who) = λ i. record (part_of h) { session = λ n. open_at (who == n) (session h n) false i }
-part_of-mark h (tabled (table_made name columns)) = refl
-part_of-mark h (tabled (wrote (of_session who) t table key old new)) = refl
+part_of-mark h (block_begun who) = λ i. record (part_of h) { session = λ n. by_case (who == n) (λ b. record (session h n) { block = if b then inside else (session h n).block }) i }
+part_of-mark h (repeats who) = λ i. record (part_of h) { session = λ n. by_case (who == n) (λ b. record (session h n) { sight = sight_by snapshot (if b then at_first else sight n h) }) i }
+part_of-mark h (looked who) = λ i. record (part_of h) { session = λ n. by_case (who == n) (λ b. record (session h n) { sight = sight_by snapshot (if b then (at_place h) else sight n h) }) i }
+part_of-mark h (block_failed who) = λ i. record (part_of h) { session = λ n. by_case (who == n) (λ b. record (session h n) { block = if b then failed else (session h n).block; sight = sight_by snapshot (if b then at_each else sight n h) }) i }
+part_of-mark h (block_ended who) = λ i. record (part_of h) { session = λ n. by_case (who == n) (λ b. record (session h n) { block = if b then outside else (session h n).block; sight = sight_by snapshot (if b then at_each else sight n h) }) i }
+part_of-mark h (connected who) = λ i. record (part_of h) { session = λ n. by_case (who == n) (λ b. record (session h n) { is_open = if b then true else (session h n).is_open }) i }
+part_of-mark h (disconnected who) = λ i. record (part_of h) { session = λ n. by_case (who == n) (λ b. record (session h n) { is_open = if b then false else (session h n).is_open }) i }
+part_of-mark h (ended of_worker t true) = refl
 part_of-mark h (tabled (wrote of_worker t table key old new)) = refl
-part_of-mark h (tabled (waits who table key attempt)) = refl
-part_of-mark h (tabled (waited who)) = refl
-part_of-mark h (queued mark) = refl
+part_of-mark h _ = refl
 
 -- and a database as `after_mark` says
 pub database_of-mark : (h : History) (mark : Mark) → database_of (mark ∷ h) ≡ after_mark (database_of h) mark
-database_of-mark h (began who t) = λ i. record (database_of h) { part = part_of-mark h (began who t) i }
-database_of-mark h (ended who t true) = λ i. record (database_of h) { part = part_of-mark h (ended who t true) i }
 database_of-mark h (ended who t false) = λ i. record (database_of h) { part = part_of-mark h (ended who t false) i; undone = λ u. u == t || has_rolled_back h u }
-database_of-mark h (block_begun who) = λ i. record (database_of h) { part = part_of-mark h (block_begun who) i }
-database_of-mark h (repeats who) = λ i. record (database_of h) { part = part_of-mark h (repeats who) i }
-database_of-mark h (looked who) = λ i. record (database_of h) { part = part_of-mark h (looked who) i }
-database_of-mark h (block_failed who) = λ i. record (database_of h) { part = part_of-mark h (block_failed who) i }
-database_of-mark h (block_ended who) = λ i. record (database_of h) { part = part_of-mark h (block_ended who) i }
-database_of-mark h (connected who) = λ i. record (database_of h) { part = part_of-mark h (connected who) i }
-database_of-mark h (disconnected who) = λ i. record (database_of h) { part = part_of-mark h (disconnected who) i }
-database_of-mark h (tabled mark) = λ i. record (database_of h) { part = part_of-mark h (tabled mark) i }
 database_of-mark h (queued mark) = database_of-queue_mark h mark
+database_of-mark h mark = λ i. record (database_of h) { part = part_of-mark h mark i }
 
 -- marks one after the other do so too
 pub database_of-marks : (h : History) (marks : List Mark) → database_of (marked h marks) ≡ after_marks (database_of h) marks

@@ -1,5 +1,5 @@
 -- Answers whose sessions, and those that they speak of, have names.
-use Rattle.std.proofs.Common.{◌≡◌, ℕ, zero, suc, true, false, ◌<◌, ◌≤◌, List, [], ◌∷◌, ◌++◌, map, length, unwrap_or, refl, ap, ◌∙◌, arith, length-append, codes}
+use Rattle.std.proofs.Common.{◌≡◌, ℕ, zero, suc, true, ◌<◌, List, [], ◌∷◌, ◌++◌, map, length, unwrap_or, refl, ap, ◌∙◌, arith, codes}
 use Rattle.std.specs.List.{All, slice_get, flat_map}
 use Rattle.sky_model.specs.declared.reply.Reply.{Reply}
 use Rattle.sky_model.specs.declared.reply.Reply.TheVariants as reply
@@ -22,50 +22,8 @@ names_at-front names more (n ∷ ns) named = λ i.
 lines-named : (names more : List (List ℕ)) (r : Reply) → All (λ who. who < length names) (sessions_in r) → reply_lines (names ++ more) r ≡ reply_lines names r
 lines-named names more (reply.Waits holder) named = ap (λ name. (codes "waits for " ++ name) ∷ []) (name_at-front names more holder (named zero holder (omega arith)))
 lines-named names more (reply.Refused (refusal.Deadlock waiters)) named = ap (λ words. (codes "error " ++ codes "Deadlock" ++ spaced words) ∷ []) (names_at-front names more waiters named)
-lines-named names more reply.Done named = refl
-lines-named names more (reply.Number n) named = refl
-lines-named names more reply.Null named = refl
 lines-named names more (reply.Bool true) named = refl
-lines-named names more (reply.Bool false) named = refl
-lines-named names more reply.Begin named = refl
-lines-named names more reply.AlreadyInTransaction named = refl
-lines-named names more reply.Commit named = refl
-lines-named names more reply.Rollback named = refl
-lines-named names more reply.NoTransaction named = refl
-lines-named names more reply.NotWaiting named = refl
-lines-named names more (reply.Snapshot s) named = refl
-lines-named names more (reply.Events events) named = refl
-lines-named names more (reply.Row row) named = refl
-lines-named names more reply.NoRow named = refl
-lines-named names more (reply.Rows rows) named = refl
-lines-named names more (reply.Refused refusal.Aborted) named = refl
-lines-named names more (reply.Refused refusal.AlreadyOpen) named = refl
-lines-named names more (reply.Refused (refusal.BadColumn column)) named = refl
-lines-named names more (reply.Refused (refusal.BadRow why)) named = refl
-lines-named names more (reply.Refused refusal.BadSnapshot) named = refl
-lines-named names more (reply.Refused refusal.Busy) named = refl
-lines-named names more (reply.Refused refusal.Canceled) named = refl
-lines-named names more (reply.Refused refusal.Duplicate) named = refl
-lines-named names more (reply.Refused refusal.EventIdsSpent) named = refl
-lines-named names more (reply.Refused refusal.IdsSpent) named = refl
-lines-named names more (reply.Refused refusal.InTransaction) named = refl
-lines-named names more (reply.Refused (refusal.KeyChange column)) named = refl
-lines-named names more (reply.Refused refusal.NoBatch) named = refl
-lines-named names more (reply.Refused (refusal.NoConsumer name)) named = refl
-lines-named names more (reply.Refused refusal.NodeConsumer) named = refl
-lines-named names more (reply.Refused refusal.NoKey) named = refl
-lines-named names more (reply.Refused (refusal.NoQueue name)) named = refl
-lines-named names more (reply.Refused (refusal.NoTable name)) named = refl
-lines-named names more (reply.Refused refusal.NotOpen) named = refl
-lines-named names more (reply.Refused (refusal.OutOfRange column)) named = refl
-lines-named names more (reply.Refused (refusal.ReservedColumn column)) named = refl
-lines-named names more (reply.Refused (refusal.Serialize txid)) named = refl
-lines-named names more (reply.Refused (refusal.TableBusy txid)) named = refl
-lines-named names more (reply.Refused (refusal.TableExists name)) named = refl
-lines-named names more (reply.Refused (refusal.TooMany limit)) named = refl
-lines-named names more (reply.Refused (refusal.TriggerExists name)) named = refl
-lines-named names more (reply.Refused (refusal.TwiceNamed column)) named = refl
-lines-named names more (reply.Refused refusal.TxidsSpent) named = refl
+lines-named names more _ named = refl
 
 -- further names change nothing for answers whose sessions have one, and that speak of none without one
 pub printed-named : (names more : List (List ℕ)) (replies : List (ℕ × Reply)) → AllNamed names replies → printed (names ++ more) replies ≡ printed names replies
@@ -74,7 +32,3 @@ printed-named names more (answer ∷ replies) named =
     let first : (answer.0 < length names) × All (λ who. who < length names) (sessions_in answer.1) = named zero answer (omega arith) in
     (λ i. flat_map (line_text (name_at-front names more answer.0 first.0 i)) (lines-named names more answer.1 first.1 i) ++ printed (names ++ more) replies)
     ∙ ap (λ rest. reply_text names (name_at names answer.0) answer.1 ++ rest) (printed-named names more replies (λ k d within. named (suc k) d (omega arith)))
-
--- the sessions up to the next one have names, where the next name is added
-pub named-next : (names : List (List ℕ)) (name : List ℕ) (replies : List (ℕ × Reply)) → All (λ answer. answer.0 ≤ length names) replies → All (λ answer. answer.0 < length (names ++ name ∷ [])) replies
-named-next names name replies numbered = λ k d within. omega (arith, length-append names (name ∷ []), numbered k d within)

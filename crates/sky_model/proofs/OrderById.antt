@@ -58,11 +58,7 @@ with_id-with_event id low e (x ∷ xs) o = of (nat_lt e.ev_id x.ev_id) refl (wit
     of false test ih = later (x.ev_id == id) ih
 
 with_id-first : (id : ℕ) (e : Event) (es : List Event) → with_id id (e ∷ []) ++ with_id id es ≡ with_id id (e ∷ es)
-with_id-first id e es = of (e.ev_id == id)
-  where
-    of : (b : Bool) → (if b then e ∷ [] else []) ++ with_id id es ≡ (if b then e ∷ with_id id es else with_id id es)
-    of true = refl
-    of false = refl
+with_id-first id e es = grind arith
 
 with_id-by_id_onto : (id : ℕ) (sorted es : List Event) → Ordered 0 sorted → with_id id (by_id_onto sorted es) ≡ with_id id sorted ++ with_id id es
 with_id-by_id_onto id sorted [] o = sym (append-nil (with_id id sorted))

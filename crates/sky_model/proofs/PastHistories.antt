@@ -1,5 +1,5 @@
 -- What facts make of the histories of databases.
-use Rattle.std.proofs.Common.{◌≡◌, ℕ, List, [], ◌∷◌, ◌++◌, Bool, true, false, map, refl, ◌∙◌, ap, if◌then◌else◌, ◌==◌}
+use Rattle.std.proofs.Common.{◌≡◌, ℕ, List, [], ◌∷◌, ◌++◌, Bool, true, false, map, refl, ◌∙◌, ap, if◌then◌else◌, ◌==◌, arith}
 use Rattle.sky_model.specs.History.{Mark, Fact, within, Past}
 use Rattle.sky_model.specs.World.{history_in, on_top}
 use Rattle.sky_model.specs.Reader.{part_by_history}
@@ -13,17 +13,8 @@ on_top-append past (x ∷ xs) ys = on_top-append (x ∷ past) xs ys
 -- marks within a database are marks in its history
 pub history-marks : (past : Past) (d : ℕ) (marks : List Mark) (n : ℕ)
     → history_in (on_top past (map (within d) marks)) n ≡ (if d == n then behind_marks part_by_history (history_in past n) marks else history_in past n)
-history-marks past d [] n = of (d == n)
-  where
-    of : (b : Bool) → history_in past n ≡ (if b then history_in past n else history_in past n)
-    of true = refl
-    of false = refl
-history-marks past d (mark ∷ marks) n = history-marks (within d mark ∷ past) d marks n ∙ of (d == n)
-  where
-    of : (b : Bool) → (if b then behind_marks part_by_history (if b then mark ∷ history_in past n else history_in past n) marks else (if b then mark ∷ history_in past n else history_in past n))
-        ≡ (if b then behind_marks part_by_history (mark ∷ history_in past n) marks else history_in past n)
-    of true = refl
-    of false = refl
+history-marks past d [] n = grind arith
+history-marks past d (mark ∷ marks) n = grind (arith, history-marks (within d mark ∷ past) d marks n)
 
 -- facts that change no history
 abbrev pub AreOutside : List Fact → Type 0

@@ -1,121 +1,55 @@
 -- When those that a statement lets go on have been run, none is ready, and no more are run than wait.
-use Rattle.std.proofs.Common.{◌≡◌, ℕ, zero, suc, ◌<◌, ◌≤◌, ◌^◌, Bool, true, false, ◌==◌, nat_le, List, [], ◌∷◌, ◌++◌, Option, Some, None, Ok, Err, option_map, length, is_some, refl, sym, ◌∙◌, ap, subst, arith, if◌then◌else◌}
-use Rattle.std.specs.Prelude.{is_none, not, ◌||◌}
+use Rattle.std.proofs.Common.{◌≡◌, ℕ, zero, suc, ◌<◌, ◌≤◌, Bool, true, false, ◌==◌, List, [], ◌∷◌, ◌++◌, Option, Some, None, length, is_some, refl, sym, ◌∙◌, ap, subst, arith, if◌then◌else◌}
+use Rattle.std.proofs.lemmas.Bool.{or_right}
+use Rattle.std.specs.Prelude.{is_none, ◌&&◌, ◌||◌}
 use Rattle.std.proofs.lemmas.Bool.Decides.{nat_tests}
 use Rattle.sky_val.specs.declared.val.Val.{Val}
 use Rattle.sky_val.specs.Waits as waits
 use Rattle.sky_val.specs.Waits.{Holders, other_than, other_holder, Waiting, is_waiting, without}
 use Rattle.sky_val.proofs.WaitLemmas.{without_shorter}
-use Rattle.sky_model.specs.declared.reply.Reply.TheVariants.{Number}
-use Rattle.sky_model.specs.declared.reply.Refusal.{Refusal}
-use Rattle.sky_model.specs.declared.reply.Refusal.TheVariants.{Duplicate, EventIdsSpent, Serialize, TxidsSpent}
 use Rattle.sky_model.specs.declared.stmt.Attempt.{Attempt}
-use Rattle.sky_model.specs.declared.stmt.Attempt.TheVariants.{Insertion, Changes, Deletion}
-use Rattle.sky_model.specs.History.{Mark, of_session, began, ended, block_begun, repeats, looked, block_failed, block_ended, connected, disconnected, tabled, table_made, wrote, waits as waits_mark, waited, queued}
-use Rattle.sky_model.specs.Sessions.{Block, outside, inside, failed, Session}
+use Rattle.sky_model.specs.History.{Mark, ended, tabled, waits as waits_mark, waited}
 use Rattle.sky_model.specs.State.{RowPart, after_part}
 use Rattle.sky_model.specs.ShownRows.{KeyShown}
-use Rattle.sky_model.specs.Outcome.{Outcome, Checked, ◌>>=◌, ◌>>◌, refused_if, refused_by, does_marks, end_of, aborts, abort, settled}
-use Rattle.sky_model.specs.OwnTransaction.{own_or_next, begin_of, commit_of}
-use Rattle.sky_model.specs.StepLocks.{once_free}
-use Rattle.sky_model.specs.StepRows.{with_sets, writes_key, changes, some_row, attempts}
+use Rattle.sky_model.specs.Outcome.{Outcome, Checked}
+use Rattle.sky_model.specs.StepRows.{attempts}
 use Rattle.sky_model.specs.Reader.{PartReader, part_by_itself}
-use Rattle.sky_model.specs.Gates.{Gate, takes_all, gated, by_gate}
+use Rattle.sky_model.specs.Gates.{Gate, by_gate}
 use Rattle.sky_model.specs.Settling.{Turn, rests, behind_marks, joined, and_then, ready, attempted, resumed, goes_on, settles, settling}
+use Rattle.sky_model.specs.Printed.{ReplyHasMoments}
+use Rattle.sky_model.proofs.StatementMarks.{EachMark, Gives, gives-map, Kinds, no_more, may_leave, attempt_kinds, gives-attempts, gives-gated, given-settled}
+
+abbrev pub is_quiet : Mark → Bool
+is_quiet (tabled (waits_mark who table key attempt)) = false
+is_quiet (tabled (waited who)) = false
+is_quiet _ = true
 
 -- none of the marks begins or ends a wait
 abbrev pub NoWaits : List Mark → Type 0
-NoWaits [] = Unit {0}
-NoWaits (tabled (waits_mark who table key attempt) ∷ marks) = ⊥
-NoWaits (tabled (waited who) ∷ marks) = ⊥
-NoWaits (_ ∷ marks) = NoWaits marks
+NoWaits marks = EachMark is_quiet marks
 
--- nor does what a statement does, where it isn't refused
+-- nor does what a statement on rows does, where it isn't refused
 abbrev pub Quiet : Checked Outcome → Type 0
-Quiet (Ok o) = NoWaits o.marks
-Quiet (Err refusal) = Unit {0}
+Quiet c = Gives ReplyHasMoments is_quiet c
 
-test : (b : Bool) (refusal : Refusal) (c : Checked Outcome) → Quiet c → Quiet (refused_if b refusal >> c)
-test true refusal c quiet = tt
-test false refusal c quiet = quiet
-
-by_option : (o : Option Refusal) (c : Checked Outcome) → Quiet c → Quiet (refused_by o >> c)
-by_option None c quiet = quiet
-by_option (Some refusal) c quiet = tt
-
-checked : {A : Type 0} (o : Checked A) (c : A → Checked Outcome) → ((a : A) → Quiet (c a)) → Quiet (o >>= c)
-checked (Err refusal) c quiet = tt
-checked (Ok a) c quiet = quiet a
-
-test_then : {A : Type 0} (b : Bool) (refusal : Refusal) (a : A) (c : A → Checked Outcome) → Quiet (c a) → Quiet ((refused_if b refusal >> Ok a) >>= c)
-test_then true refusal a c quiet = tt
-test_then false refusal a c quiet = quiet
-
-commit-quiet : (who t : ℕ) (b : Block) → NoWaits (commit_of who t b)
-commit-quiet who t outside = tt
-commit-quiet who t inside = tt
-commit-quiet who t failed = tt
-
-writes-quiet : (d : RowPart) (who table : ℕ) (key : List Val) (old new : Option (List Val)) → Quiet (writes_key d who table key old new)
-writes-quiet d who table key old new = of (d.session who).txid
-  where
-    of : (o : Option ℕ) → Quiet (own_or_next d o >>= (λ t. does_marks (Number 1) (begin_of who t o ++ (tabled (wrote (of_session who) t table key old new) ∷ []) ++ commit_of who t (d.session who).block)))
-    of None = test_then (nat_le (2 ^ 62) d.next) TxidsSpent d.next _ (commit-quiet who d.next (d.session who).block)
-    of (Some t) = commit-quiet who t (d.session who).block
-
-free-quiet : (d : RowPart) (who table : ℕ) (key : List Val) (attempt : Attempt) (c : Checked Outcome) → other_holder d.holder who table key ≡ None → Quiet c
-    → Quiet (once_free d who table key attempt (other_holder d.holder who table key) c)
-free-quiet d who table key attempt c free quiet = subst (λ o. Quiet (once_free d who table key attempt o c)) (sym free) quiet
-
-changes-quiet : (d : RowPart) (shown : KeyShown) (who table : ℕ) (key : List Val) (attempt : Attempt) (new_of : List Val → Checked (Option (List Val))) (row : Option (List Val))
-    → other_holder d.holder who table key ≡ None → Quiet (changes d shown who table key attempt new_of row)
-changes-quiet d shown who table key attempt new_of None free = tt
-changes-quiet d shown who table key attempt new_of (Some row) free =
-    free-quiet d who table key attempt _ free
-    (by_option (option_map Serialize shown.unseen) _ (checked (new_of row) _ (λ new. writes-quiet d who table key (Some row) new)))
+quiet-if : (k : Kinds) → k.blocks ≡ false → k.wakes ≡ false → (who : ℕ) (mark : Mark) → may_leave k who mark ≡ true → is_quiet mark ≡ true
+quiet-if k none still who (tabled (waits_mark v table key attempt)) e = absurd (cc (sym (ap (λ b. b && v == who) none) ∙ e))
+quiet-if k none still who (tabled (waited v)) e = absurd (cc)
+quiet-if k none still who _ e = refl
 
 -- an attempt with a key that no other session holds doesn't wait
 attempts-quiet : (d : RowPart) (shown : KeyShown) (who table : ℕ) (key : List Val) (attempt : Attempt) → other_holder d.holder who table key ≡ None
     → Quiet (attempts d shown who table key attempt)
-attempts-quiet d shown who table key (Insertion row) free =
-    free-quiet d who table key (Insertion row) _ free (test (is_some shown.standing) Duplicate _ (writes-quiet d who table key None (Some row)))
-attempts-quiet d shown who table key (Changes sets) free = changes-quiet d shown who table key (Changes sets) (λ row. some_row (with_sets (d.columns table) sets row)) shown.row free
-attempts-quiet d shown who table key Deletion free = changes-quiet d shown who table key Deletion (λ row. Ok None) shown.row free
-
-settled-quiet : (who : ℕ) (s : Session) (c : Checked Outcome) → Quiet c → NoWaits (settled who s c).marks
-settled-quiet who s (Ok o) quiet = quiet
-settled-quiet who s (Err refusal) quiet = of s.block s.txid
-  where
-    fails : (o : Option ℕ) → NoWaits (end_of false who o ++ block_failed who ∷ [])
-    fails None = tt
-    fails (Some t) = tt
-
-    by : (kind : Bool) (o : Option ℕ) → NoWaits (if kind then end_of false who o ++ block_failed who ∷ [] else [])
-    by true o = fails o
-    by false o = tt
-
-    of : (b : Block) (o : Option ℕ) → NoWaits (abort who b o refusal)
-    of outside o = tt
-    of inside o = by (aborts refusal) o
-    of failed o = tt
+attempts-quiet d shown who table key attempt free =
+    let k : Kinds = attempt_kinds (is_some (other_holder d.holder who table key)) in
+    gives-map ReplyHasMoments ReplyHasMoments (may_leave k who) is_quiet (λ reply has. has) (quiet-if k (ap is_some free) refl who) _ (gives-attempts who d shown table key attempt)
 
 waiting-quiet : (d : RowPart) (marks : List Mark) → NoWaits marks → (behind_marks part_by_itself d marks).waiting ≡ d.waiting
 waiting-quiet d [] quiet = refl
-waiting-quiet d (began who t ∷ marks) quiet = waiting-quiet (after_part d (began who t)) marks quiet
-waiting-quiet d (ended who t true ∷ marks) quiet = waiting-quiet (after_part d (ended who t true)) marks quiet
-waiting-quiet d (ended who t false ∷ marks) quiet = waiting-quiet (after_part d (ended who t false)) marks quiet
-waiting-quiet d (block_begun who ∷ marks) quiet = waiting-quiet (after_part d (block_begun who)) marks quiet
-waiting-quiet d (repeats who ∷ marks) quiet = waiting-quiet (after_part d (repeats who)) marks quiet
-waiting-quiet d (looked who ∷ marks) quiet = waiting-quiet (after_part d (looked who)) marks quiet
-waiting-quiet d (block_failed who ∷ marks) quiet = waiting-quiet (after_part d (block_failed who)) marks quiet
-waiting-quiet d (block_ended who ∷ marks) quiet = waiting-quiet (after_part d (block_ended who)) marks quiet
-waiting-quiet d (connected who ∷ marks) quiet = waiting-quiet (after_part d (connected who)) marks quiet
-waiting-quiet d (disconnected who ∷ marks) quiet = waiting-quiet (after_part d (disconnected who)) marks quiet
-waiting-quiet d (tabled (table_made name columns) ∷ marks) quiet = waiting-quiet (after_part d (tabled (table_made name columns))) marks quiet
-waiting-quiet d (tabled (wrote who t table key old new) ∷ marks) quiet = waiting-quiet (after_part d (tabled (wrote who t table key old new))) marks quiet
 waiting-quiet d (tabled (waits_mark who table key attempt) ∷ marks) quiet = absurd quiet
 waiting-quiet d (tabled (waited who) ∷ marks) quiet = absurd quiet
-waiting-quiet d (queued mark ∷ marks) quiet = waiting-quiet (after_part d (queued mark)) marks quiet
+waiting-quiet d (ended who t true ∷ marks) quiet = waiting-quiet (after_part d (ended who t true)) marks quiet
+waiting-quiet d (mark ∷ marks) quiet = waiting-quiet (after_part d mark) marks quiet
 
 -- one that is ready waits, for a key that nobody holds
 pub record IsReady (d : RowPart) (w : Waiting) : Type 0 where
@@ -130,10 +64,6 @@ ready-found holder (x ∷ ws) w e = of (is_none (holder x.table x.key)) refl e (
     none None e = refl
     none (Some v) e = absurd (cc)
 
-    later : (b : Bool) → is_waiting w.who ws ≡ true → (b || is_waiting w.who ws) ≡ true
-    later true e = refl
-    later false e = e
-
     of : (b : Bool) → is_none (holder x.table x.key) ≡ b → (if b then Some x else waits.ready holder ws) ≡ Some w
         → (waits.ready holder ws ≡ Some w → (is_waiting w.who ws ≡ true) × (holder w.table w.key ≡ None))
         → (((x.who == w.who) || is_waiting w.who ws) ≡ true) × (holder w.table w.key ≡ None)
@@ -142,7 +72,7 @@ ready-found holder (x ∷ ws) w e = of (is_none (holder x.table x.key)) refl e (
         let who_is : x.who ≡ w.who = ap Waiting.who one in
         let same : (x.who == w.who) ≡ true = grind (arith, nat_tests) in
         (ap (λ b. b || is_waiting w.who ws) same, (λ i. holder (sym one i).table (sym one i).key) ∙ none (holder x.table x.key) is)
-    of false is e ih = let found : (is_waiting w.who ws ≡ true) × (holder w.table w.key ≡ None) = ih e in (later (x.who == w.who) found.0, found.1)
+    of false is e ih = let found : (is_waiting w.who ws ≡ true) × (holder w.table w.key ≡ None) = ih e in (or_right (x.who == w.who) (is_waiting w.who ws) found.0, found.1)
 
 pub is-ready : (d : RowPart) (w : Waiting) → ready d ≡ Some w → IsReady d w
 is-ready d w e = let found : (is_waiting w.who d.waiting ≡ true) × (d.holder w.table w.key ≡ None) = ready-found d.holder d.waiting w e in record { there = found.0; free = found.1 }
@@ -156,13 +86,9 @@ pub record KeepsPart {P : Type 0} (r : PartReader P) : Type 0 where
 pub itself-keeps : KeepsPart part_by_itself
 itself-keeps = record { part = λ d mark. refl; quiet = λ d c quiet. quiet }
 
-gated-quiet : {G : Type 0} (gate : Gate G) (g : G) (c : Checked Outcome) → Quiet c → Quiet (gated gate g c)
-gated-quiet gate g (Err refusal) quiet = tt
-gated-quiet gate g (Ok o) quiet = test (not (takes_all gate g o.marks)) EventIdsSpent (Ok o) quiet
-
 -- and still does behind a gate
 pub by_gate-keeps : {G P : Type 0} (gate : Gate G) (r : PartReader P) → KeepsPart r → KeepsPart (by_gate gate r)
-by_gate-keeps gate r keeps = record { part = λ p mark. keeps.part p.0 mark; quiet = λ p c quiet. gated-quiet gate p.1 (r.tells p.0 c) (keeps.quiet p.0 c quiet) }
+by_gate-keeps gate r keeps = record { part = λ p mark. keeps.part p.0 mark; quiet = λ p c quiet. gives-gated ReplyHasMoments is_quiet gate p.1 (r.tells p.0 c) (keeps.quiet p.0 c quiet) }
 
 pub gated-keeps : {G : Type 0} (gate : Gate G) → KeepsPart (by_gate gate part_by_itself)
 gated-keeps gate = by_gate-keeps gate part_by_itself itself-keeps
@@ -178,8 +104,8 @@ pub waiting-resumed : {P : Type 0} (r : PartReader P) → KeepsPart r → (p : P
 waiting-resumed {P = P} r keeps p w e =
     ap RowPart.waiting (part-behind_marks r keeps behind (attempted r w ((r.part p).attempt w.who) behind).marks)
     ∙ waiting-quiet (r.part behind) (attempted r w ((r.part p).attempt w.who) behind).marks
-    (settled-quiet w.who ((r.part behind).session w.who) (r.tells behind tried)
-    (keeps.quiet behind tried (attempts-quiet (r.part behind) ((r.rows behind).key w.who w.table w.key) w.who w.table w.key ((r.part p).attempt w.who) free)))
+    (given-settled ReplyHasMoments is_quiet (λ _. tt) (quiet-if no_more refl refl) w.who ((r.part behind).session w.who) (r.tells behind tried)
+    (keeps.quiet behind tried (attempts-quiet (r.part behind) ((r.rows behind).key w.who w.table w.key) w.who w.table w.key ((r.part p).attempt w.who) free))).1
     ∙ ap RowPart.waiting gone
   where
     behind : P

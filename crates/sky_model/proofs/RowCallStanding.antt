@@ -6,7 +6,7 @@ use Rattle.sky_model.specs.declared.reply.Refusal.{Refusal}
 use Rattle.sky_model.specs.declared.reply.Refusal.TheVariants.{TxidsSpent}
 use Rattle.sky_model.specs.History.{History}
 use Rattle.sky_model.specs.Transactions.{next_txid}
-use Rattle.sky_model.specs.Sessions.{Block, outside, inside, failed, has_open, block, own_txid, session}
+use Rattle.sky_model.specs.Sessions.{Block, outside, has_open, block, own_txid, session}
 use Rattle.sky_model.specs.Locks.{waiting}
 use Rattle.sky_model.specs.State.{RowPart, part_of, after_part_marks}
 use Rattle.sky_model.specs.Outcome.{◌>>◌, refused_if}
@@ -51,8 +51,7 @@ good_ending h who = of (own_txid who h) (block who h) refl
   where
     of : (o : Option ℕ) (b : Block) → own_txid who h ≡ o → Chain h (single_end who o b)
     of (Some t) outside mine = more (ends who t true mine) done
-    of (Some t) inside mine = done
-    of (Some t) failed mine = done
+    of (Some t) _ mine = done
     of None b none = done
 
 -- what a call does may come

@@ -1,17 +1,18 @@
 -- What the versions of a key say of its rows, at each place of a legal history.
-use Rattle.std.proofs.Common.{◌≡◌, ℕ, ◌<◌, ◌≤◌, Bool, true, false, not, List, [], ◌∷◌, ◌++◌, refl, sym, ◌∙◌, ap, arith, if◌then◌else◌}
+use Rattle.std.proofs.Common.{◌≡◌, ℕ, ◌<◌, ◌≤◌, Bool, true, false, not, [], ◌∷◌, ◌++◌, refl, sym, ◌∙◌, arith, if◌then◌else◌}
+use Rattle.std.proofs.lemmas.Bool.{or_right}
 use Rattle.std.specs.Prelude.{◌||◌, ◌&&◌, ◌==◌, nat_lt}
 use Rattle.std.proofs.lemmas.Bool.Decides.{nat_tests}
 use Rattle.sky_val.specs.Entries.{is_in_order}
 use Rattle.sky_txid.specs.Ids.{contains}
 use Rattle.sky_txid.specs.Versions.{written}
 use Rattle.sky_txid.proofs.EntryLemmas.{is_in_order-written, is_in_order-forgotten}
-use Rattle.sky_model.specs.History.{Mark, began, ended, block_begun, repeats, looked, block_failed, block_ended, connected, disconnected, tabled, table_made, wrote, waits, waited, queued, History}
+use Rattle.sky_model.specs.History.{Mark, ended, tabled, wrote, History}
 use Rattle.sky_model.specs.Transactions.{next_txid, running, has_ended}
 use Rattle.sky_model.specs.Rows.{committed, writes as writes_of}
 use Rattle.sky_model.specs.Versions.{versions}
-use Rattle.sky_model.proofs.Legal.{Fine, begins, ends, begins_block, fails_block, ends_block, connects, disconnects, repeats_block, looks, makes_table, writes, begins_waiting, ends_waiting, makes, raises, puts, ticks_next, registers, opens, closes, traces, Legal, start, next}
-use Rattle.sky_model.proofs.Snapshots.{sound}
+use Rattle.sky_model.proofs.Legal.{Fine, begins, writes, Legal, start, next}
+use Rattle.sky_model.proofs.Snapshots.{contains-push, sound}
 
 -- the versions of a table stand in the order of their keys
 pub is_in_order-versions : (table : ℕ) (h : History) → is_in_order (versions table h) ≡ true
@@ -22,56 +23,16 @@ is_in_order-versions table (tabled (wrote who t n key old new) ∷ h) = of (n ==
     of true e = is_in_order-written t key new (versions table h) e
     of false e = e
 is_in_order-versions table (ended who t false ∷ h) = is_in_order-forgotten t (versions table h) (is_in_order-versions table h)
-is_in_order-versions table (ended who t true ∷ h) = is_in_order-versions table h
-is_in_order-versions table (began who t ∷ h) = is_in_order-versions table h
-is_in_order-versions table (block_begun who ∷ h) = is_in_order-versions table h
-is_in_order-versions table (repeats who ∷ h) = is_in_order-versions table h
-is_in_order-versions table (looked who ∷ h) = is_in_order-versions table h
-is_in_order-versions table (block_failed who ∷ h) = is_in_order-versions table h
-is_in_order-versions table (block_ended who ∷ h) = is_in_order-versions table h
-is_in_order-versions table (connected who ∷ h) = is_in_order-versions table h
-is_in_order-versions table (disconnected who ∷ h) = is_in_order-versions table h
-is_in_order-versions table (tabled (table_made name columns) ∷ h) = is_in_order-versions table h
-is_in_order-versions table (tabled (waits who n key attempt) ∷ h) = is_in_order-versions table h
-is_in_order-versions table (tabled (waited who) ∷ h) = is_in_order-versions table h
-is_in_order-versions table (queued mark ∷ h) = is_in_order-versions table h
+is_in_order-versions table (_ ∷ h) = is_in_order-versions table h
 
 -- who has committed has ended
-pub contains-last-of : (t u : ℕ) (ts : List ℕ) → contains t (ts ++ u ∷ []) ≡ (contains t ts || (t == u))
-contains-last-of t u [] = none (t == u)
-  where
-    none : (b : Bool) → (b || false) ≡ (false || b)
-    none true = refl
-    none false = refl
-contains-last-of t u (x ∷ ts) = ap (λ b. (t == x) || b) (contains-last-of t u ts) ∙ joined (t == x) (contains t ts) (t == u)
-  where
-    joined : (a b c : Bool) → (a || (b || c)) ≡ ((a || b) || c)
-    joined true b c = refl
-    joined false b c = refl
-
 pub committed-ended : (h : History) (t : ℕ) → contains t (committed h) ≡ true → has_ended h t ≡ true
 committed-ended [] t e = absurd (cc)
-committed-ended (ended who u true ∷ h) t e = of (contains t (committed h)) (t == u) (sym (contains-last-of t u (committed h)) ∙ e) (committed-ended h t)
-  where
-    of : (b c : Bool) → (b || c) ≡ true → (b ≡ true → has_ended h t ≡ true) → (c || has_ended h t) ≡ true
-    of b true e ih = refl
-    of true false e ih = ih refl
-    of false false e ih = absurd (cc)
-committed-ended (ended who u false ∷ h) t e = of (t == u) (committed-ended h t e)
-  where
-    of : (c : Bool) → has_ended h t ≡ true → (c || has_ended h t) ≡ true
-    of true ih = refl
-    of false ih = ih
-committed-ended (began who u ∷ h) t e = committed-ended h t e
-committed-ended (block_begun who ∷ h) t e = committed-ended h t e
-committed-ended (repeats who ∷ h) t e = committed-ended h t e
-committed-ended (looked who ∷ h) t e = committed-ended h t e
-committed-ended (block_failed who ∷ h) t e = committed-ended h t e
-committed-ended (block_ended who ∷ h) t e = committed-ended h t e
-committed-ended (connected who ∷ h) t e = committed-ended h t e
-committed-ended (disconnected who ∷ h) t e = committed-ended h t e
-committed-ended (tabled mark ∷ h) t e = committed-ended h t e
-committed-ended (queued mark ∷ h) t e = committed-ended h t e
+committed-ended (ended who u true ∷ h) t e =
+    let either : (contains t (committed h) || t == u) ≡ true = sym (contains-push t u (committed h)) ∙ e in
+    grind (arith, committed-ended h t)
+committed-ended (ended who u false ∷ h) t e = or_right (t == u) (has_ended h t) (committed-ended h t e)
+committed-ended (_ ∷ h) t e = committed-ended h t e
 
 -- a transaction that hasn't begun has written nothing
 abbrev pub Begun : History → Type 0
@@ -92,25 +53,7 @@ begun_step h _ (writes who t n key old new e free stands) l b = λ table u le. o
         runs_below false is e = absurd (cc)
     of table u true false is le = b table u le
     of table u false d is le = b table u le
-begun_step h _ (ends who t committed e) l b = b
-begun_step h _ (begins_block who e is_open) l b = b
-begun_step h _ (fails_block who e f) l b = b
-begun_step h _ (ends_block who e) l b = b
-begun_step h _ (connects who e) l b = b
-begun_step h _ (disconnects who quiet away) l b = b
-begun_step h _ (repeats_block who) l b = b
-begun_step h _ (looks who) l b = b
-begun_step h _ (makes_table name columns e) l b = b
-begun_step h _ (begins_waiting who n at_key attempt fits) l b = b
-begun_step h _ (ends_waiting who) l b = b
-begun_step h _ (makes name e) l b = b
-begun_step h _ (raises q v i le) l b = b
-begun_step h _ (puts who q e i n o newest) l b = b
-begun_step h _ (ticks_next q id time seq i le) l b = b
-begun_step h _ (registers q name sub tick i e f le) l b = b
-begun_step h _ (opens batch e) l b = b
-begun_step h _ (closes batch e) l b = b
-begun_step h _ (traces n name trigger below is new) l b = b
+begun_step h _ _ l b = b
 
 pub begun : (h : History) → Legal h → Begun h
 begun _ start = λ table t le. refl

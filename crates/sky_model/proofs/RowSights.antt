@@ -1,5 +1,6 @@
 -- What the versions that are kept show at a sight is what the history shows there.
-use Rattle.std.proofs.Common.{◌≡◌, ℕ, Bool, true, false, not, List, [], ◌∷◌, Option, Some, None, option_map, is_some, refl, sym, ◌∙◌, ap, subst, if◌then◌else◌}
+use Rattle.std.proofs.Common.{◌≡◌, ℕ, Bool, true, false, not, List, [], ◌∷◌, Option, Some, None, option_map, is_some, refl, sym, ◌∙◌, ap, subst, arith, if◌then◌else◌}
+use Rattle.std.proofs.lemmas.Bool.{or_right}
 use Rattle.std.specs.Prelude.{◌||◌, ◌&&◌, ◌==◌}
 use Rattle.std.specs.Option.{option_or}
 use Rattle.std.specs.Ordering.{eq_by_cmp}
@@ -13,17 +14,17 @@ use Rattle.sky_txid.specs.declared.version.Version.{Version}
 use Rattle.sky_txid.specs.Versions.{with_version, newest_by, own_version, row_of, read, rows_read}
 use Rattle.sky_txid.proofs.VersionLemmas.{newest_with, newest_without}
 use Rattle.sky_txid.proofs.EntryLemmas.{versions_at-forgotten, at-rows_read, is_in_order-rows_read}
-use Rattle.sky_model.specs.History.{Mark, began, ended, block_begun, repeats, looked, block_failed, block_ended, connected, disconnected, tabled, queued, History}
+use Rattle.sky_model.specs.History.{Mark, ended, repeats, looked, block_failed, block_ended, History}
 use Rattle.sky_model.specs.Transactions.{has_ended, has_committed, has_rolled_back, snapshot}
 use Rattle.sky_model.specs.Sessions.{own_txid, Sight, at_each, at_first, at_place, sight, sight_by, place_of_sight, session}
 use Rattle.sky_model.specs.Rows.{committed, writes as writes_of, rows, own_writes, rows_with_own, rows_shown, has_written, last_writer, unless, unseen_writer}
 use Rattle.sky_model.specs.Versions.{versions}
 use Rattle.sky_model.specs.State.{part_of}
 use Rattle.sky_model.specs.ShownRows.{rows_in, rows_by, unseen_in}
-use Rattle.sky_model.proofs.Legal.{Fine, begins, ends, begins_block, fails_block, ends_block, connects, disconnects, repeats_block, looks, makes_table, writes, begins_waiting, ends_waiting, makes, raises, puts, ticks_next, registers, opens, closes, traces, Legal, next}
-use Rattle.sky_model.proofs.Snapshots.{sees-snapshot, own-unended, has_committed-ended}
+use Rattle.sky_model.proofs.Legal.{Fine, ends, writes, Legal, next}
+use Rattle.sky_model.proofs.Snapshots.{contains-push, sees-snapshot, own-unended, has_committed-ended}
 use Rattle.sky_model.proofs.RowWrites.{over, last_of, at-put_all, is_in_order-put_all, is_in_order-in_turn, has_written-last_of, last_writer-has}
-use Rattle.sky_model.proofs.RowKeys.{is_in_order-versions, contains-last-of}
+use Rattle.sky_model.proofs.RowKeys.{is_in_order-versions}
 use Rattle.sky_model.proofs.KeyVersions.{kept, key_holds, kept-wrote}
 
 -- a history goes on from another
@@ -36,43 +37,16 @@ legal-since here l = l
 legal-since (later since) (next l fine) = legal-since since l
 
 pub ended-behind : (h : History) (mark : Mark) (t : ℕ) → has_ended h t ≡ true → has_ended (mark ∷ h) t ≡ true
-ended-behind h (ended who u c) t e = of (t == u) e
-  where
-    of : (b : Bool) → has_ended h t ≡ true → (b || has_ended h t) ≡ true
-    of true e = refl
-    of false e = e
-ended-behind h (began who u) t e = e
-ended-behind h (block_begun who) t e = e
-ended-behind h (repeats who) t e = e
-ended-behind h (looked who) t e = e
-ended-behind h (block_failed who) t e = e
-ended-behind h (block_ended who) t e = e
-ended-behind h (connected who) t e = e
-ended-behind h (disconnected who) t e = e
-ended-behind h (tabled mark) t e = e
-ended-behind h (queued mark) t e = e
+ended-behind h (ended who u c) t e = or_right (t == u) (has_ended h t) e
+ended-behind h _ t e = e
 
 pub ended-since : {k h : History} → Since k h → (t : ℕ) → has_ended k t ≡ true → has_ended h t ≡ true
 ended-since here t e = e
 ended-since (later {h = h} {mark = mark} since) t e = ended-behind h mark t (ended-since since t e)
 
 rolled_back-behind : (h : History) (mark : Mark) (t : ℕ) → has_rolled_back h t ≡ true → has_rolled_back (mark ∷ h) t ≡ true
-rolled_back-behind h (ended who u true) t e = e
-rolled_back-behind h (ended who u false) t e = of (t == u) e
-  where
-    of : (b : Bool) → has_rolled_back h t ≡ true → (b || has_rolled_back h t) ≡ true
-    of true e = refl
-    of false e = e
-rolled_back-behind h (began who u) t e = e
-rolled_back-behind h (block_begun who) t e = e
-rolled_back-behind h (repeats who) t e = e
-rolled_back-behind h (looked who) t e = e
-rolled_back-behind h (block_failed who) t e = e
-rolled_back-behind h (block_ended who) t e = e
-rolled_back-behind h (connected who) t e = e
-rolled_back-behind h (disconnected who) t e = e
-rolled_back-behind h (tabled mark) t e = e
-rolled_back-behind h (queued mark) t e = e
+rolled_back-behind h (ended who u false) t e = or_right (t == u) (has_rolled_back h t) e
+rolled_back-behind h _ t e = e
 
 rolled_back-since : {k h : History} → Since k h → (t : ℕ) → has_rolled_back k t ≡ true → has_rolled_back h t ≡ true
 rolled_back-since here t e = e
@@ -101,13 +75,7 @@ sight-since (block_ended w ∷ h) who k is = of (w == who) is (sight-since h who
     of : (b : Bool) → (if b then at_each else sight who h) ≡ at_place k → (sight who h ≡ at_place k → Since k h) → Since k (block_ended w ∷ h)
     of true e ih = absurd (cc)
     of false e ih = later (ih e)
-sight-since (connected w ∷ h) who k is = later (sight-since h who k is)
-sight-since (disconnected w ∷ h) who k is = later (sight-since h who k is)
-sight-since (began w t ∷ h) who k is = later (sight-since h who k is)
-sight-since (ended w t c ∷ h) who k is = later (sight-since h who k is)
-sight-since (block_begun w ∷ h) who k is = later (sight-since h who k is)
-sight-since (tabled mark ∷ h) who k is = later (sight-since h who k is)
-sight-since (queued mark ∷ h) who k is = later (sight-since h who k is)
+sight-since (_ ∷ h) who k is = later (sight-since h who k is)
 
 abbrev pub place : History → ℕ → History
 place h who = place_of_sight h (sight who h)
@@ -131,15 +99,10 @@ snapshot-place h who = of (sight who h)
 
 -- a mark of one that hasn't ended at a place changes nothing that has
 unended-at : {k h : History} → Since k h → (t : ℕ) → has_ended h t ≡ false → has_ended k t ≡ false
-unended-at {k = k} since t runs = of (has_ended k t) refl
-  where
-    of : (b : Bool) → has_ended k t ≡ b → b ≡ false
-    of true e = absurd (cc (sym (ended-since since t e) ∙ runs))
-    of false e = refl
+unended-at since t runs = grind (arith, ended-since since t)
 
 newest-behind : (k h : History) → Since k h → Legal h → (mark : Mark) → Fine h mark → (table : ℕ) (key : List Val)
     → newest_by (has_ended k) (kept (mark ∷ h) table key) ≡ newest_by (has_ended k) (kept h table key)
-newest-behind k h since l _ (ends who t true e) table key = refl
 newest-behind k h since l _ (ends who t false e) table key =
     ap (newest_by (has_ended k)) (versions_at-forgotten t key (versions table h) (is_in_order-versions table h))
     ∙ newest_without (has_ended k) t (kept h table key) (unended-at since t (own-unended h l who t e))
@@ -149,25 +112,7 @@ newest-behind k h since l _ (writes who t n at_key old new e free stands) table 
     of : (b : Bool) → newest_by (has_ended k) (if b then with_version t new (kept h table key) else kept h table key) ≡ newest_by (has_ended k) (kept h table key)
     of true = newest_with (has_ended k) t new (kept h table key) (unended-at since t (own-unended h l who t e))
     of false = refl
-newest-behind k h since l _ (begins who e) table key = refl
-newest-behind k h since l _ (begins_block who e is_open) table key = refl
-newest-behind k h since l _ (fails_block who e f) table key = refl
-newest-behind k h since l _ (ends_block who e) table key = refl
-newest-behind k h since l _ (connects who e) table key = refl
-newest-behind k h since l _ (disconnects who quiet away) table key = refl
-newest-behind k h since l _ (repeats_block who) table key = refl
-newest-behind k h since l _ (looks who) table key = refl
-newest-behind k h since l _ (makes_table name columns e) table key = refl
-newest-behind k h since l _ (begins_waiting who n at_key attempt fits) table key = refl
-newest-behind k h since l _ (ends_waiting who) table key = refl
-newest-behind k h since l _ (makes name e) table key = refl
-newest-behind k h since l _ (raises q v i le) table key = refl
-newest-behind k h since l _ (puts who q e i n o newest) table key = refl
-newest-behind k h since l _ (ticks_next q id time seq i le) table key = refl
-newest-behind k h since l _ (registers q name sub tick i e f le) table key = refl
-newest-behind k h since l _ (opens batch e) table key = refl
-newest-behind k h since l _ (closes batch e) table key = refl
-newest-behind k h since l _ (traces n name trigger below is new) table key = refl
+newest-behind k h since l _ _ table key = refl
 
 -- the newest version that has ended at a place is the row there
 pub row-at : {k h : History} → Since k h → Legal h → (table : ℕ) (key : List Val) → row_of (newest_by (has_ended k) (kept h table key)) ≡ at key (rows table k)
@@ -208,23 +153,10 @@ rows-at h l who table =
 -- who stands among the committed has committed
 committed-has : (h : History) (t : ℕ) → contains t (committed h) ≡ true → has_committed h t ≡ true
 committed-has [] t e = absurd (cc)
-committed-has (ended who u true ∷ h) t e = of (contains t (committed h)) (t == u) (sym (contains-last-of t u (committed h)) ∙ e) (committed-has h t)
-  where
-    of : (b c : Bool) → (b || c) ≡ true → (b ≡ true → has_committed h t ≡ true) → (c || has_committed h t) ≡ true
-    of b true e ih = refl
-    of true false e ih = ih refl
-    of false false e ih = absurd (cc)
-committed-has (ended who u false ∷ h) t e = committed-has h t e
-committed-has (began who u ∷ h) t e = committed-has h t e
-committed-has (block_begun who ∷ h) t e = committed-has h t e
-committed-has (repeats who ∷ h) t e = committed-has h t e
-committed-has (looked who ∷ h) t e = committed-has h t e
-committed-has (block_failed who ∷ h) t e = committed-has h t e
-committed-has (block_ended who ∷ h) t e = committed-has h t e
-committed-has (connected who ∷ h) t e = committed-has h t e
-committed-has (disconnected who ∷ h) t e = committed-has h t e
-committed-has (tabled mark ∷ h) t e = committed-has h t e
-committed-has (queued mark ∷ h) t e = committed-has h t e
+committed-has (ended who u true ∷ h) t e =
+    let either : (contains t (committed h) || t == u) ≡ true = sym (contains-push t u (committed h)) ∙ e in
+    grind (arith, committed-has h t)
+committed-has (_ ∷ h) t e = committed-has h t e
 
 -- one that has committed had committed at a place where it had ended
 committed-at : {k h : History} → Since k h → Legal h → (t : ℕ) → has_committed h t ≡ true → has_ended k t ≡ has_committed k t
@@ -232,16 +164,8 @@ committed-at {k = k} {h = h} since l t e =
     of (has_rolled_back k t) refl (has_rolled_back h t) refl ∙ sym (has_committed-ended k (legal-since since l) t)
   where
     of : (b : Bool) → has_rolled_back k t ≡ b → (c : Bool) → has_rolled_back h t ≡ c → has_ended k t ≡ (has_ended k t && not (has_rolled_back k t))
-    of false stays c is = sym (ap (λ b. has_ended k t && not b) stays ∙ and_true (has_ended k t))
-      where
-        and_true : (b : Bool) → (b && true) ≡ b
-        and_true true = refl
-        and_true false = refl
-    of true gone true is = absurd (cc (sym e ∙ has_committed-ended h l t ∙ ap (λ b. has_ended h t && not b) is ∙ and_false (has_ended h t)))
-      where
-        and_false : (b : Bool) → (b && false) ≡ false
-        and_false true = refl
-        and_false false = refl
+    of false stays c is = grind arith
+    of true gone true is = (let over : has_committed h t ≡ (has_ended h t && not (has_rolled_back h t)) = has_committed-ended h l t in absurd (grind arith))
     of true gone false is = absurd (cc (sym (rolled_back-since since t gone) ∙ is))
 
 -- the newest committed write that a sight doesn't have

@@ -1,7 +1,7 @@
 -- A statement on rows, in its part of a database: from what the part keeps to the history, and to the whole database.
-use Rattle.std.proofs.Common.{◌≡◌, ℕ, ℤ, List, [], ◌∷◌, true, false, refl, ◌∙◌, ap, if◌then◌else◌}
+use Rattle.std.proofs.Common.{◌≡◌, ℕ, ℤ, List, [], ◌∷◌, true, refl, ◌∙◌, ap, if◌then◌else◌}
 use Rattle.sky_model.specs.declared.stmt.Stmt.{Stmt}
-use Rattle.sky_model.specs.History.{Mark, began, ended, block_begun, repeats, looked, block_failed, block_ended, connected, disconnected, tabled, queued, made, raised, put, ticked, registered, opened, closed, traced, History}
+use Rattle.sky_model.specs.History.{Mark, ended, looked, queued, made, History}
 use Rattle.sky_model.specs.State.{RowPart, part_of, after_part, after_part_marks, Database, after_mark}
 use Rattle.sky_model.specs.ShownRows.{rows_by}
 use Rattle.sky_model.specs.Allowed.{where_of}
@@ -36,25 +36,9 @@ part_of-marks h (mark ∷ marks) = part_of-marks (mark ∷ h) marks ∙ ap (λ d
 
 -- the row part of a database behind a mark
 pub part-behind : (d : Database) (mark : Mark) → (after_mark d mark).part ≡ after_part d.part mark
-part-behind d (began who t) = refl
 part-behind d (ended who t true) = refl
-part-behind d (ended who t false) = refl
-part-behind d (block_begun who) = refl
-part-behind d (repeats who) = refl
-part-behind d (looked who) = refl
-part-behind d (block_failed who) = refl
-part-behind d (block_ended who) = refl
-part-behind d (connected who) = refl
-part-behind d (disconnected who) = refl
-part-behind d (tabled mark) = refl
 part-behind d (queued (made name)) = refl
-part-behind d (queued (raised q value)) = refl
-part-behind d (queued (put q event)) = refl
-part-behind d (queued (ticked q id time seq)) = refl
-part-behind d (queued (registered q name sub tick)) = refl
-part-behind d (queued (opened batch)) = refl
-part-behind d (queued (closed batch)) = refl
-part-behind d (queued (traced table name trigger)) = refl
+part-behind d _ = refl
 
 -- within the world a statement is one of the database
 pub statement-within : (w : World) (d : ℕ) (now : ℤ) (who : ℕ) (stmt : Stmt) → statement (within_database by_world d) w now who stmt ≡ statement database_by_itself (w.database d) now who stmt

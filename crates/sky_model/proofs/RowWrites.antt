@@ -1,5 +1,6 @@
 -- What writes do to the rows of a table, key by key.
 use Rattle.std.proofs.Common.{◌≡◌, ℕ, Bool, true, false, cond, not, List, [], ◌∷◌, ◌++◌, Option, Some, None, T, refl, sym, subst, ap, ◌∙◌, is_some, if◌then◌else◌}
+use Rattle.std.proofs.lemmas.Bool.{or_right}
 use Rattle.std.specs.Prelude.{◌||◌, ◌==◌}
 use Rattle.std.specs.Ordering.{eq_by_cmp}
 use Rattle.std.specs.Cmp.{eq_by_cmp_equiv}
@@ -94,20 +95,15 @@ last_of-push q ws w = last_from-push q None ws w
 
 is_some-last_from : (q : List Val) (left : Option (Option (List Val))) (ws : List Write) → is_some (last_from q left ws) ≡ (has_written q ws || is_some left)
 is_some-last_from q left [] = refl
-is_some-last_from q left (w ∷ ws) = is_some-last_from q (if eq_by_cmp key_cmp q w.key then Some w.row else left) ws ∙ of (eq_by_cmp key_cmp q w.key) (has_written q ws)
+is_some-last_from q left (w ∷ ws) = is_some-last_from q (if eq_by_cmp key_cmp q w.key then Some w.row else left) ws ∙ of (eq_by_cmp key_cmp q w.key)
   where
-    of : (b c : Bool) → (c || is_some (if b then Some w.row else left)) ≡ ((b || c) || is_some left)
-    of true true = refl
-    of true false = refl
-    of false c = refl
+    of : (b : Bool) → (has_written q ws || is_some (if b then Some w.row else left)) ≡ ((b || has_written q ws) || is_some left)
+    of true = grind arith
+    of false = refl
 
 -- a key is written where some write left something of it
 pub has_written-last_of : (q : List Val) (ws : List Write) → has_written q ws ≡ is_some (last_of q ws)
-has_written-last_of q ws = sym (is_some-last_from q None ws ∙ none (has_written q ws))
-  where
-    none : (b : Bool) → (b || false) ≡ b
-    none true = refl
-    none false = refl
+has_written-last_of q ws = grind (arith, is_some-last_from q None ws)
 
 -- one transaction more, in the order of commits
 pub in_turn-push : (writes_of : ℕ → List Write) (ts : List ℕ) (t : ℕ) (rows : Entries (List Val)) → in_turn writes_of (ts ++ t ∷ []) rows ≡ put_all (writes_of t) (in_turn writes_of ts rows)
@@ -128,11 +124,7 @@ first-in : (t : ℕ) (ts : List ℕ) → contains t (t ∷ ts) ≡ true
 first-in t ts = (let same : (t == t) ≡ true = grind (arith, nat_tests) in ap (λ b. b || contains t ts) same)
 
 later-in : (u t : ℕ) (ts : List ℕ) → contains u ts ≡ true → contains u (t ∷ ts) ≡ true
-later-in u t ts e = of (u == t)
-  where
-    of : (b : Bool) → (b || contains u ts) ≡ true
-    of true = refl
-    of false = e
+later-in u t ts e = or_right (u == t) (contains u ts) e
 
 pub in_turn-same : (f g : ℕ → List Write) (ts : List ℕ) (rows : Entries (List Val)) → ((u : ℕ) → contains u ts ≡ true → f u ≡ g u) → in_turn f ts rows ≡ in_turn g ts rows
 in_turn-same f g [] rows same = refl

@@ -1,89 +1,33 @@
 -- The events of a batch are those that its two ticks' snapshots select.
-use Rattle.std.proofs.Common.{◌≡◌, ℕ, ◌+◌, ◌<◌, ◌≤◌, All, List, [], ◌∷◌, ◌++◌, Bool, true, false, not, ◌&&◌, ◌||◌, ◌==◌, nat_lt, filter, refl, sym, ◌∙◌, ap, arith, subst, append-nil, append_assoc, if◌then◌else◌}
+use Rattle.std.proofs.Common.{◌≡◌, ℕ, ◌+◌, ◌<◌, ◌≤◌, All, List, [], ◌∷◌, ◌++◌, Bool, true, false, not, ◌&&◌, ◌==◌, nat_lt, filter, refl, sym, ◌∙◌, ap, arith, subst, append-nil, append_assoc, if◌then◌else◌}
+use Rattle.std.proofs.lemmas.Bool.{or_right}
 use Rattle.std.proofs.lemmas.Bool.Decides.{nat_tests}
 use Rattle.std.proofs.lemmas.List.Elements.{All-nil, All-cons}
 use Rattle.sky_val.specs.declared.event.Event.{Event}
 use Rattle.sky_txid.specs.Snapshot.{sees}
-use Rattle.sky_model.specs.History.{Batch, began, ended, block_begun, block_failed, block_ended, connected, disconnected, repeats, looked, tabled, queued, made, raised, put, ticked, registered, opened, closed, traced, History}
+use Rattle.sky_model.specs.History.{Batch, ended, queued, ticked, History}
 use Rattle.sky_model.specs.Transactions.{has_ended, has_committed, has_rolled_back}
 use Rattle.sky_model.specs.Queues.{sequence, events, ticks, tick, at_tick}
 use Rattle.sky_model.specs.Batches.{with_event, by_id_onto, by_id, is_for, batch_events}
 use Rattle.sky_model.specs.Selection.{snapshot_at, selected}
 use Rattle.sky_model.specs.State.{database_of}
-use Rattle.sky_model.proofs.Legal.{begins, ends, begins_block, fails_block, ends_block, connects, disconnects, repeats_block, looks, makes_table, writes, begins_waiting, ends_waiting, makes, raises, puts, ticks_next, registers, opens, closes, traces, Legal, start, next}
+use Rattle.sky_model.proofs.Legal.{ends, raises, puts, ticks_next, Legal, start, next}
 use Rattle.sky_model.proofs.Snapshots.{sees-snapshot, own-unended, has_committed-ended}
 use Rattle.sky_model.proofs.Ticks.{snapshot-at_tick, legal-at_tick}
 
 -- what had ended at a tick has ended
 ended-at_tick : (h : History) (q id t : ℕ) → has_ended (at_tick q id h) t ≡ true → has_ended h t ≡ true
 ended-at_tick [] q id t e = e
-ended-at_tick (began who u ∷ h) q id t e = ended-at_tick h q id t e
-ended-at_tick (ended who u committed ∷ h) q id t e = of (t == u) (ended-at_tick h q id t e)
-  where
-    of : (b : Bool) → has_ended h t ≡ true → (b || has_ended h t) ≡ true
-    of true ih = refl
-    of false ih = ih
-ended-at_tick (block_begun who ∷ h) q id t e = ended-at_tick h q id t e
-ended-at_tick (block_failed who ∷ h) q id t e = ended-at_tick h q id t e
-ended-at_tick (block_ended who ∷ h) q id t e = ended-at_tick h q id t e
-ended-at_tick (connected who ∷ h) q id t e = ended-at_tick h q id t e
-ended-at_tick (disconnected who ∷ h) q id t e = ended-at_tick h q id t e
-ended-at_tick (repeats who ∷ h) q id t e = ended-at_tick h q id t e
-ended-at_tick (looked who ∷ h) q id t e = ended-at_tick h q id t e
-ended-at_tick (tabled mark ∷ h) q id t e = ended-at_tick h q id t e
-ended-at_tick (queued (made name) ∷ h) q id t e = ended-at_tick h q id t e
-ended-at_tick (queued (raised p value) ∷ h) q id t e = ended-at_tick h q id t e
-ended-at_tick (queued (put p event) ∷ h) q id t e = ended-at_tick h q id t e
-ended-at_tick (queued (ticked p m time seq) ∷ h) q id t e = of (p == q && m == id) (ended-at_tick h q id t) e
-  where
-    of : (b : Bool) → (has_ended (at_tick q id h) t ≡ true → has_ended h t ≡ true) → has_ended (if b then h else at_tick q id h) t ≡ true → has_ended h t ≡ true
-    of true ih e = e
-    of false ih e = ih e
-ended-at_tick (queued (registered p name sub tick) ∷ h) q id t e = ended-at_tick h q id t e
-ended-at_tick (queued (opened b) ∷ h) q id t e = ended-at_tick h q id t e
-ended-at_tick (queued (closed b) ∷ h) q id t e = ended-at_tick h q id t e
-ended-at_tick (queued (traced table name trigger) ∷ h) q id t e = ended-at_tick h q id t e
+ended-at_tick (ended who u committed ∷ h) q id t e = or_right (t == u) (has_ended h t) (ended-at_tick h q id t e)
+ended-at_tick (queued (ticked p m time seq) ∷ h) q id t e = grind (arith, ended-at_tick h q id t)
+ended-at_tick (_ ∷ h) q id t e = ended-at_tick h q id t e
 
 -- what had committed at a tick is what had ended there and hasn't rolled back
 committed-at_tick : (h : History) → Legal h → (q id t : ℕ) → has_committed (at_tick q id h) t ≡ (has_ended (at_tick q id h) t && not (has_rolled_back h t))
 committed-at_tick [] start q id t = has_committed-ended [] start t
-committed-at_tick _ (next {h = h} l (begins who e)) q id t = committed-at_tick h l q id t
-committed-at_tick _ (next {h = h} l (ends who u true mine)) q id t = committed-at_tick h l q id t
-committed-at_tick _ (next {h = h} l (ends who u false mine)) q id t = of (t == u) refl (has_ended (at_tick q id h) t) refl (committed-at_tick h l q id t)
-  where
-    of : (b : Bool) → (t == u) ≡ b → (e : Bool) → has_ended (at_tick q id h) t ≡ e → has_committed (at_tick q id h) t ≡ (e && not (has_rolled_back h t))
-        → has_committed (at_tick q id h) t ≡ (e && not (b || has_rolled_back h t))
-    of true same true was ih =
-        let one : t ≡ u = grind (arith, nat_tests) in
-        let open_still : has_ended h t ≡ false = ap (has_ended h) one ∙ own-unended h l who u mine in
-        let over : has_ended h t ≡ true = ended-at_tick h q id t was in
-        absurd (cc)
-    of true same false was ih = ih
-    of false same e was ih = ih
-committed-at_tick _ (next {h = h} l (begins_block who e is_open)) q id t = committed-at_tick h l q id t
-committed-at_tick _ (next {h = h} l (fails_block who e f)) q id t = committed-at_tick h l q id t
-committed-at_tick _ (next {h = h} l (ends_block who e)) q id t = committed-at_tick h l q id t
-committed-at_tick _ (next {h = h} l (connects who e)) q id t = committed-at_tick h l q id t
-committed-at_tick _ (next {h = h} l (disconnects who quiet away)) q id t = committed-at_tick h l q id t
-committed-at_tick _ (next {h = h} l (repeats_block who)) q id t = committed-at_tick h l q id t
-committed-at_tick _ (next {h = h} l (looks who)) q id t = committed-at_tick h l q id t
-committed-at_tick _ (next {h = h} l (makes_table name columns e)) q id t = committed-at_tick h l q id t
-committed-at_tick _ (next {h = h} l (begins_waiting who n at_key attempt fits)) q id t = committed-at_tick h l q id t
-committed-at_tick _ (next {h = h} l (ends_waiting who)) q id t = committed-at_tick h l q id t
-committed-at_tick _ (next {h = h} l (writes who u table key old new e free stands)) q id t = committed-at_tick h l q id t
-committed-at_tick _ (next {h = h} l (makes name new)) q id t = committed-at_tick h l q id t
-committed-at_tick _ (next {h = h} l (raises p v i e)) q id t = committed-at_tick h l q id t
-committed-at_tick _ (next {h = h} l (puts who p e i s o newest)) q id t = committed-at_tick h l q id t
-committed-at_tick _ (next {h = h} l (ticks_next p m time seq i e)) q id t = of (p == q && m == id) (committed-at_tick h l q id t)
-  where
-    of : (b : Bool) → has_committed (at_tick q id h) t ≡ (has_ended (at_tick q id h) t && not (has_rolled_back h t))
-        → has_committed (if b then h else at_tick q id h) t ≡ (has_ended (if b then h else at_tick q id h) t && not (has_rolled_back h t))
-    of true ih = has_committed-ended h l t
-    of false ih = ih
-committed-at_tick _ (next {h = h} l (registers p name sub tick i e f g)) q id t = committed-at_tick h l q id t
-committed-at_tick _ (next {h = h} l (opens b e)) q id t = committed-at_tick h l q id t
-committed-at_tick _ (next {h = h} l (closes b e)) q id t = committed-at_tick h l q id t
-committed-at_tick _ (next {h = h} l (traces table name trigger below is new)) q id t = committed-at_tick h l q id t
+committed-at_tick _ (next {h = h} l (ends who u false mine)) q id t = grind (arith, nat_tests, committed-at_tick h l q id t, ended-at_tick h q id t, own-unended h l who u mine)
+committed-at_tick _ (next {h = h} l (ticks_next p m time seq i e)) q id t = grind (arith, committed-at_tick h l q id t, has_committed-ended h l t)
+committed-at_tick _ (next {h = h} l _) q id t = committed-at_tick h l q id t
 
 -- what had committed at a tick is what the tick's snapshot sees and hasn't rolled back
 pub committed_at_tick : (h : History) → Legal h → (q id t : ℕ) → has_committed (at_tick q id h) t ≡ (sees (snapshot_at (tick id (ticks q h))) t && not (has_rolled_back h t))
@@ -120,20 +64,6 @@ IsNumbered n es = Ordered 0 es × UpTo n es
 -- events are stored by ids that don't fall, up to the value of the sequence
 pub numbered : (h : History) → Legal h → (q : ℕ) → IsNumbered (sequence q h) (events q h)
 numbered [] start q = (tt, tt)
-numbered _ (next {h = h} l (begins who e)) q = numbered h l q
-numbered _ (next {h = h} l (ends who t committed mine)) q = numbered h l q
-numbered _ (next {h = h} l (begins_block who e is_open)) q = numbered h l q
-numbered _ (next {h = h} l (fails_block who e f)) q = numbered h l q
-numbered _ (next {h = h} l (ends_block who e)) q = numbered h l q
-numbered _ (next {h = h} l (connects who e)) q = numbered h l q
-numbered _ (next {h = h} l (disconnects who quiet away)) q = numbered h l q
-numbered _ (next {h = h} l (repeats_block who)) q = numbered h l q
-numbered _ (next {h = h} l (looks who)) q = numbered h l q
-numbered _ (next {h = h} l (makes_table name columns e)) q = numbered h l q
-numbered _ (next {h = h} l (begins_waiting who n at_key attempt fits)) q = numbered h l q
-numbered _ (next {h = h} l (ends_waiting who)) q = numbered h l q
-numbered _ (next {h = h} l (writes who u table key old new e free stands)) q = numbered h l q
-numbered _ (next {h = h} l (makes name new)) q = numbered h l q
 numbered _ (next {h = h} l (raises p v i le)) q = of (p == q) refl (numbered h l q)
   where
     of : (b : Bool) → (p == q) ≡ b → IsNumbered (sequence q h) (events q h) → IsNumbered (if b then v else sequence q h) (events q h)
@@ -153,11 +83,7 @@ numbered _ (next {h = h} l (puts who p event i is o newest)) q = of (p == q) ref
           UpTo-push (sequence q h) (events q h) event n.1 (omega arith),
         )
     of false e n = n
-numbered _ (next {h = h} l (ticks_next p id time seq i e)) q = numbered h l q
-numbered _ (next {h = h} l (registers p name sub tick i e f g)) q = numbered h l q
-numbered _ (next {h = h} l (opens b e)) q = numbered h l q
-numbered _ (next {h = h} l (closes b e)) q = numbered h l q
-numbered _ (next {h = h} l (traces table name trigger below is new)) q = numbered h l q
+numbered _ (next {h = h} l _) q = numbered h l q
 
 below-next : (n : ℕ) (es : List Event) → UpTo n es → All (λ e. e.ev_id < n + 1) es
 below-next n [] u = All-nil (λ e. e.ev_id < n + 1)
@@ -202,11 +128,7 @@ by_id-ordered es o = by_id_onto-ordered [] es 0 tt o
 
 -- of what was seen at a tick and hasn't rolled back
 between : (to from undone own : Bool) → ((to && not undone) && not (from && not undone) && own) ≡ (to && not from && not undone && own)
-between false from undone own = refl
-between true true true own = refl
-between true true false own = refl
-between true false true own = refl
-between true false false own = refl
+between to from undone own = grind arith
 
 -- the events of a batch, by places, are those that the snapshots of its ticks select
 pub batch_events-by_id : (h : History) → Legal h → (b : Batch) → batch_events h b ≡ by_id (selected (database_of h) b)

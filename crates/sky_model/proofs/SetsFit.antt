@@ -1,5 +1,5 @@
 -- A row that changes that fit have changed is one of the table under the same key, if it was one before.
-use Rattle.std.proofs.Common.{◌≡◌, ℕ, suc, ℤ, ◌+◌, Bool, true, false, not, List, [], ◌∷◌, Option, Some, None, Ok, Err, IfSome, length, bytes_eq, option_map, refl, sym, ◌∙◌, ap, subst, if◌then◌else◌}
+use Rattle.std.proofs.Common.{◌≡◌, ℕ, suc, ℤ, ◌+◌, Bool, true, false, not, List, [], ◌∷◌, Option, Some, None, Ok, Err, IfSome, length, bytes_eq, option_map, refl, sym, ◌∙◌, ap, subst, if◌then◌else◌, arith}
 use Rattle.std.specs.Prelude.{find, ◌||◌, ◌&&◌, ◌==◌, ◌+ℤ◌}
 use Rattle.std.specs.List.{list_any}
 use Rattle.std.specs.Option.{option_or}
@@ -27,11 +27,7 @@ use Rattle.sky_model.proofs.Legal.{ChangesFit}
 in_range-kind : (n : ℤ) (w : Val) → in_range n ≡ Some w → is_of_kind kind.Int w ≡ true
 in_range-kind n value.Null e = refl
 in_range-kind n (value.Int m) e = refl
-in_range-kind n (value.Text t) e = absurd (no_text _ e)
-  where
-    no_text : (b : Bool) → (if b then Some (value.Int n) else None) ≡ Some (value.Text t) → ⊥
-    no_text true e = cc
-    no_text false e = cc
+in_range-kind n (value.Text t) e = grind arith
 
 -- a value after a change of its kind is of the kind, if it was before
 changed-kind : (k : ColKind) (change : Change) (v w : Val) → is_of_kind k v ≡ true → is_change_of k change ≡ true → changed change v ≡ Some w → is_of_kind k w ≡ true
@@ -42,11 +38,7 @@ changed-kind kind.Int (Add n) (value.Text t) w was may e = absurd (cc)
 changed-kind kind.Text (Add n) v w was may e = absurd (cc)
 
 value-kind : (place : ℕ) (column : Column) (v : Val) → value_fault place column v ≡ None → is_of_kind column.kind v ≡ true
-value-kind place column v e = of (is_of_kind column.kind v) e
-  where
-    of : (b : Bool) → (if not b then Some (fault.Kind place) else if column.key && is_null v then Some (fault.NullKey place) else None) ≡ None → b ≡ true
-    of true e = refl
-    of false e = absurd (cc)
+value-kind place column v e = grind arith
 
 value-fits : (place : ℕ) (column : Column) (w : Val) → is_of_kind column.kind w ≡ true → column.key ≡ false → value_fault place column w ≡ None
 value-fits place column w kind_is plain =
@@ -90,11 +82,7 @@ with_set-keeps place (column ∷ columns) set (v ∷ row) next may plain fits e 
         }
 
     change_may : (if is_change_of column.kind set.change then None else Some (badly.Type set.column)) ≡ None → is_change_of column.kind set.change ≡ true
-    change_may = by (is_change_of column.kind set.change)
-      where
-        by : (b : Bool) → (if b then None else Some (badly.Type set.column)) ≡ None → b ≡ true
-        by true e = refl
-        by false e = absurd (cc)
+    change_may e = grind arith
 
     there : (o : Option (List Val)) → ((rest : List Val) → o ≡ Some rest → Kept (place + 1) columns row rest) → option_map (λ rest. v ∷ rest) o ≡ Some next → Kept place (column ∷ columns) (v ∷ row) next
     there None kept e = absurd (cc)
@@ -179,12 +167,7 @@ none-fits columns key (Some row) e = absurd (cc)
 
 apart : (before : List (List ℕ)) (set : Set) (o : Option Column) → bad_set before set o ≡ None → bad_set [] set o ≡ None
 apart before set None e = absurd (cc)
-apart before set (Some column) e = of (list_any (bytes_eq set.column) before) e
-  where
-    of : (b : Bool) → (if b then Some (badly.Twice set.column) else if is_change_of column.kind set.change then None else Some (badly.Type set.column)) ≡ None
-        → (if is_change_of column.kind set.change then None else Some (badly.Type set.column)) ≡ None
-    of true e = absurd (cc)
-    of false e = e
+apart before set (Some column) e = grind arith
 
 -- those of which none is bad, and none is of the key
 pub changes-fit : (columns : List Column) (before : List (List ℕ)) (sets : List Set) → bad_sets columns before sets ≡ None → find (is_key_change columns) sets ≡ None → ChangesFit columns sets

@@ -1,12 +1,13 @@
 -- A snapshot sees exactly the transactions that have ended.
 use Rattle.std.proofs.Common.{◌≡◌, ℕ, ◌+◌, ◌<◌, ◌≤◌, List, [], ◌∷◌, ◌++◌, Bool, true, false, not, ◌&&◌, ◌||◌, ◌==◌, nat_lt, filter, Some, None, unwrap_or, refl, sym, ◌∙◌, ap, arith, ltb-true, if◌then◌else◌}
+use Rattle.std.proofs.lemmas.Bool.{and_parts, not-true, or_right}
 use Rattle.std.proofs.lemmas.Bool.Decides.{nat_tests}
 use Rattle.sky_txid.specs.Ids.{contains, first_or}
 use Rattle.sky_txid.specs.Snapshot.{sees}
-use Rattle.sky_model.specs.History.{Mark, of_session, began, ended, block_begun, block_failed, block_ended, connected, disconnected, repeats, looked, tabled, queued, History}
+use Rattle.sky_model.specs.History.{Mark, of_session, began, ended, History}
 use Rattle.sky_model.specs.Transactions.{next_txid, running, has_ended, has_committed, has_rolled_back, snapshot}
 use Rattle.sky_model.specs.Sessions.{own_txid}
-use Rattle.sky_model.proofs.Legal.{Fine, begins, ends, begins_block, fails_block, ends_block, connects, disconnects, repeats_block, looks, makes_table, writes, begins_waiting, ends_waiting, makes, raises, puts, ticks_next, registers, opens, closes, traces, Legal, start, next}
+use Rattle.sky_model.proofs.Legal.{Fine, begins, ends, Legal, start, next}
 
 abbrev pub IsRising : List ℕ → Type 0
 IsRising [] = Unit {0}
@@ -28,36 +29,16 @@ pub record Sound (h : History) : Type 0 where
   pub once : (v w t : ℕ) → own_txid v h ≡ Some t → own_txid w h ≡ Some t → v ≡ w
 
 pub contains-push : (t x : ℕ) (xs : List ℕ) → contains t (xs ++ x ∷ []) ≡ (contains t xs || t == x)
-contains-push t x [] = of (t == x)
-  where
-    of : (b : Bool) → (b || false) ≡ (false || b)
-    of true = refl
-    of false = refl
-contains-push t x (y ∷ ys) = ap (λ b. t == y || b) (contains-push t x ys) ∙ of (t == y) (contains t ys) (t == x)
-  where
-    of : (a b c : Bool) → (a || (b || c)) ≡ ((a || b) || c)
-    of true b c = refl
-    of false b c = refl
+contains-push t x [] = grind arith
+contains-push t x (y ∷ ys) = grind (arith, contains-push t x ys)
 
 pub contains-filter : (t x : ℕ) (xs : List ℕ) → contains t (filter (λ u. not (u == x)) xs) ≡ (contains t xs && not (t == x))
 contains-filter t x [] = refl
-contains-filter t x (y ∷ ys) = of (y == x) refl (contains-filter t x ys)
-  where
-    of : (b : Bool) → (y == x) ≡ b → contains t (filter (λ u. not (u == x)) ys) ≡ (contains t ys && not (t == x))
-        → contains t (if not b then y ∷ filter (λ u. not (u == x)) ys else filter (λ u. not (u == x)) ys) ≡ ((t == y || contains t ys) && not (t == x))
-    of true e ih = ih ∙ grind (arith, nat_tests)
-    of false e ih = ap (λ b. t == y || b) ih ∙ grind (arith, nat_tests)
+contains-filter t x (y ∷ ys) = grind (arith, nat_tests, contains-filter t x ys)
 
 -- the last of a list is contained
 pub contains-last : (t : ℕ) (xs : List ℕ) → contains t (xs ++ t ∷ []) ≡ true
-contains-last t xs = contains-push t t xs ∙ of (contains t xs)
-  where
-    same : (t == t) ≡ true
-    same = grind (arith, nat_tests)
-
-    of : (b : Bool) → (b || t == t) ≡ true
-    of true = refl
-    of false = same
+contains-last t xs = contains-push t t xs ∙ grind (arith, nat_tests)
 
 AllBelow-push : (n x : ℕ) (xs : List ℕ) → AllBelow n xs → x < n → AllBelow n (xs ++ x ∷ [])
 AllBelow-push n x [] all lt = (lt, tt)
@@ -136,23 +117,13 @@ first_or-below : (n : ℕ) (xs : List ℕ) → AllBelow n xs → first_or n xs �
 first_or-below n [] b = omega arith
 first_or-below n (x ∷ xs) b = let lt : x < n = b.0 in omega arith
 
-and-left : (a b : Bool) → (a && b) ≡ true → a ≡ true
-and-left true b e = refl
-and-left false b e = e
-
 -- a running transaction has got its id
 runs-below : (h : History) → Sound h → (t : ℕ) → contains t (running h) ≡ true → t < next_txid h
-runs-below h s t runs = ltb-true t (next_txid h) (and-left (nat_lt t (next_txid h)) (not (has_ended h t)) (sym (s.runs t) ∙ runs))
+runs-below h s t runs = ltb-true t (next_txid h) (and_parts (nat_lt t (next_txid h)) (not (has_ended h t)) (sym (s.runs t) ∙ runs)).0
 
 -- and hasn't ended
 runs-unended : (h : History) → Sound h → (t : ℕ) → contains t (running h) ≡ true → has_ended h t ≡ false
-runs-unended h s t runs = of (nat_lt t (next_txid h)) (has_ended h t) (sym (s.runs t) ∙ runs)
-  where
-    of : (a b : Bool) → (a && not b) ≡ true → b ≡ false
-    of true true e = cc
-    of true false e = refl
-    of false true e = cc
-    of false false e = refl
+runs-unended h s t runs = not-true (has_ended h t) (and_parts (nat_lt t (next_txid h)) (not (has_ended h t)) (sym (s.runs t) ∙ runs)).1
 
 sound_began : (h : History) (who : ℕ) → Sound h → Sound (began (of_session who) (next_txid h) ∷ h)
 sound_began h who s = record {
@@ -212,11 +183,7 @@ sound_ended h who t committed mine s = record {
     only v w u false false ev ew = s.once v w u ev ew
 
     less : (a b c : Bool) → ((a && not b) && not c) ≡ (a && not (c || b))
-    less true true true = refl
-    less true true false = refl
-    less true false true = refl
-    less true false false = refl
-    less false b c = refl
+    less a b c = grind arith
 
     was : (u : ℕ) (b : Bool) → (u == t) ≡ b → (b || has_ended h u) ≡ true → u < next_txid h
     was u true e e' = let lt : t < next_txid h = runs-below h s t (s.owns who t mine) in grind (arith, nat_tests)
@@ -225,25 +192,7 @@ sound_ended h who t committed mine s = record {
 sound_step : (h : History) (mark : Mark) → Fine h mark → Sound h → Sound (mark ∷ h)
 sound_step h _ (begins who e) s = sound_began h who s
 sound_step h _ (ends who t committed mine) s = sound_ended h who t committed mine s
-sound_step h _ (begins_block who e is_open) s = record { first = s.first; runs = s.runs; ended_below = s.ended_below; rising = s.rising; below = s.below; owns = s.owns; once = s.once }
-sound_step h _ (fails_block who e f) s = record { first = s.first; runs = s.runs; ended_below = s.ended_below; rising = s.rising; below = s.below; owns = s.owns; once = s.once }
-sound_step h _ (ends_block who e) s = record { first = s.first; runs = s.runs; ended_below = s.ended_below; rising = s.rising; below = s.below; owns = s.owns; once = s.once }
-sound_step h _ (connects who e) s = record { first = s.first; runs = s.runs; ended_below = s.ended_below; rising = s.rising; below = s.below; owns = s.owns; once = s.once }
-sound_step h _ (disconnects who quiet away) s = record { first = s.first; runs = s.runs; ended_below = s.ended_below; rising = s.rising; below = s.below; owns = s.owns; once = s.once }
-sound_step h _ (repeats_block who) s = record { first = s.first; runs = s.runs; ended_below = s.ended_below; rising = s.rising; below = s.below; owns = s.owns; once = s.once }
-sound_step h _ (looks who) s = record { first = s.first; runs = s.runs; ended_below = s.ended_below; rising = s.rising; below = s.below; owns = s.owns; once = s.once }
-sound_step h _ (makes_table name columns e) s = record { first = s.first; runs = s.runs; ended_below = s.ended_below; rising = s.rising; below = s.below; owns = s.owns; once = s.once }
-sound_step h _ (begins_waiting who n at_key attempt fits) s = record { first = s.first; runs = s.runs; ended_below = s.ended_below; rising = s.rising; below = s.below; owns = s.owns; once = s.once }
-sound_step h _ (ends_waiting who) s = record { first = s.first; runs = s.runs; ended_below = s.ended_below; rising = s.rising; below = s.below; owns = s.owns; once = s.once }
-sound_step h _ (writes who u table key old new e free stands) s = record { first = s.first; runs = s.runs; ended_below = s.ended_below; rising = s.rising; below = s.below; owns = s.owns; once = s.once }
-sound_step h _ (makes name e) s = record { first = s.first; runs = s.runs; ended_below = s.ended_below; rising = s.rising; below = s.below; owns = s.owns; once = s.once }
-sound_step h _ (raises q v i l) s = record { first = s.first; runs = s.runs; ended_below = s.ended_below; rising = s.rising; below = s.below; owns = s.owns; once = s.once }
-sound_step h _ (puts who q e i n o newest) s = record { first = s.first; runs = s.runs; ended_below = s.ended_below; rising = s.rising; below = s.below; owns = s.owns; once = s.once }
-sound_step h _ (ticks_next q id time seq i l) s = record { first = s.first; runs = s.runs; ended_below = s.ended_below; rising = s.rising; below = s.below; owns = s.owns; once = s.once }
-sound_step h _ (registers q name sub tick i e f l) s = record { first = s.first; runs = s.runs; ended_below = s.ended_below; rising = s.rising; below = s.below; owns = s.owns; once = s.once }
-sound_step h _ (opens b e) s = record { first = s.first; runs = s.runs; ended_below = s.ended_below; rising = s.rising; below = s.below; owns = s.owns; once = s.once }
-sound_step h _ (closes b e) s = record { first = s.first; runs = s.runs; ended_below = s.ended_below; rising = s.rising; below = s.below; owns = s.owns; once = s.once }
-sound_step h _ (traces n name trigger below is new) s = record { first = s.first; runs = s.runs; ended_below = s.ended_below; rising = s.rising; below = s.below; owns = s.owns; once = s.once }
+sound_step h _ _ s = record { first = s.first; runs = s.runs; ended_below = s.ended_below; rising = s.rising; below = s.below; owns = s.owns; once = s.once }
 
 pub sound : (h : History) → Legal h → Sound h
 sound [] start = record {
@@ -277,17 +226,6 @@ sees-snapshot h l t =
     ))
     (s.ended_below t)
 
-or-right : (a b : Bool) → b ≡ true → (a || b) ≡ true
-or-right true b e = refl
-or-right false b e = e
-
-and-true : (a : Bool) → a ≡ (a && true)
-and-true true = refl
-and-true false = refl
-
-not-both : (b : Bool) → b ≡ true → b ≡ false → ⊥
-not-both b is isnt = cc
-
 -- a transaction that a session has hasn't ended
 pub own-unended : (h : History) → Legal h → (who t : ℕ) → own_txid who h ≡ Some t → has_ended h t ≡ false
 own-unended h l who t mine = let s : Sound h = sound h l in runs-unended h s t (s.owns who t mine)
@@ -295,60 +233,13 @@ own-unended h l who t mine = let s : Sound h = sound h l in runs-unended h s t (
 -- what has rolled back has ended
 ended-rolled_back : (h : History) (t : ℕ) → has_rolled_back h t ≡ true → has_ended h t ≡ true
 ended-rolled_back [] t e = absurd (cc)
-ended-rolled_back (began who u ∷ h) t e = ended-rolled_back h t e
-ended-rolled_back (ended who u true ∷ h) t e = or-right (t == u) (has_ended h t) (ended-rolled_back h t e)
-ended-rolled_back (ended who u false ∷ h) t e = of (t == u) (ended-rolled_back h t) e
-  where
-    of : (b : Bool) → (has_rolled_back h t ≡ true → has_ended h t ≡ true) → (b || has_rolled_back h t) ≡ true → (b || has_ended h t) ≡ true
-    of true ih e = refl
-    of false ih e = ih e
-ended-rolled_back (block_begun who ∷ h) t e = ended-rolled_back h t e
-ended-rolled_back (block_failed who ∷ h) t e = ended-rolled_back h t e
-ended-rolled_back (block_ended who ∷ h) t e = ended-rolled_back h t e
-ended-rolled_back (connected who ∷ h) t e = ended-rolled_back h t e
-ended-rolled_back (disconnected who ∷ h) t e = ended-rolled_back h t e
-ended-rolled_back (repeats who ∷ h) t e = ended-rolled_back h t e
-ended-rolled_back (looked who ∷ h) t e = ended-rolled_back h t e
-ended-rolled_back (tabled mark ∷ h) t e = ended-rolled_back h t e
-ended-rolled_back (queued mark ∷ h) t e = ended-rolled_back h t e
+ended-rolled_back (ended who u true ∷ h) t e = or_right (t == u) (has_ended h t) (ended-rolled_back h t e)
+ended-rolled_back (ended who u false ∷ h) t e = grind (arith, ended-rolled_back h t)
+ended-rolled_back (_ ∷ h) t e = ended-rolled_back h t e
 
 -- what has committed is what has ended and hasn't rolled back
 pub has_committed-ended : (h : History) → Legal h → (t : ℕ) → has_committed h t ≡ (has_ended h t && not (has_rolled_back h t))
-has_committed-ended [] start t = and-true (nat_lt t 3)
-has_committed-ended _ (next {h = h} l (begins who e)) t = has_committed-ended h l t
-has_committed-ended _ (next {h = h} l (ends who u true mine)) t = of (t == u) refl (has_ended h t) (has_rolled_back h t) refl (ended-rolled_back h t) (has_committed-ended h l t)
-  where
-    of : (b : Bool) → (t == u) ≡ b → (e r : Bool) → has_ended h t ≡ e → (r ≡ true → has_ended h t ≡ true) → has_committed h t ≡ (e && not r)
-        → (b || has_committed h t) ≡ ((b || e) && not r)
-    of true same e true is back ih =
-        let one : t ≡ u = grind (arith, nat_tests) in
-        absurd (not-both (has_ended h t) (back refl) (ap (has_ended h) one ∙ own-unended h l who u mine))
-    of true same e false is back ih = refl
-    of false same e r is back ih = ih
-has_committed-ended _ (next {h = h} l (ends who u false mine)) t = of (t == u) refl (has_committed-ended h l t)
-  where
-    of : (b : Bool) → (t == u) ≡ b → has_committed h t ≡ (has_ended h t && not (has_rolled_back h t))
-        → has_committed h t ≡ ((b || has_ended h t) && not (b || has_rolled_back h t))
-    of true same ih =
-        let one : t ≡ u = grind (arith, nat_tests) in
-        ih ∙ ap (λ e. e && not (has_rolled_back h t)) (ap (has_ended h) one ∙ own-unended h l who u mine)
-    of false same ih = ih
-has_committed-ended _ (next {h = h} l (begins_block who e is_open)) t = has_committed-ended h l t
-has_committed-ended _ (next {h = h} l (fails_block who e f)) t = has_committed-ended h l t
-has_committed-ended _ (next {h = h} l (ends_block who e)) t = has_committed-ended h l t
-has_committed-ended _ (next {h = h} l (connects who e)) t = has_committed-ended h l t
-has_committed-ended _ (next {h = h} l (disconnects who quiet away)) t = has_committed-ended h l t
-has_committed-ended _ (next {h = h} l (repeats_block who)) t = has_committed-ended h l t
-has_committed-ended _ (next {h = h} l (looks who)) t = has_committed-ended h l t
-has_committed-ended _ (next {h = h} l (makes_table name columns e)) t = has_committed-ended h l t
-has_committed-ended _ (next {h = h} l (begins_waiting who n at_key attempt fits)) t = has_committed-ended h l t
-has_committed-ended _ (next {h = h} l (ends_waiting who)) t = has_committed-ended h l t
-has_committed-ended _ (next {h = h} l (writes who u table key old new e free stands)) t = has_committed-ended h l t
-has_committed-ended _ (next {h = h} l (makes name e)) t = has_committed-ended h l t
-has_committed-ended _ (next {h = h} l (raises q v i le)) t = has_committed-ended h l t
-has_committed-ended _ (next {h = h} l (puts who q e i n o newest)) t = has_committed-ended h l t
-has_committed-ended _ (next {h = h} l (ticks_next q id time seq i le)) t = has_committed-ended h l t
-has_committed-ended _ (next {h = h} l (registers q name sub tick i e f g)) t = has_committed-ended h l t
-has_committed-ended _ (next {h = h} l (opens b e)) t = has_committed-ended h l t
-has_committed-ended _ (next {h = h} l (closes b e)) t = has_committed-ended h l t
-has_committed-ended _ (next {h = h} l (traces n name trigger below is new)) t = has_committed-ended h l t
+has_committed-ended [] start t = grind arith
+has_committed-ended _ (next {h = h} l (ends who u true mine)) t = grind (arith, nat_tests, has_committed-ended h l t, ended-rolled_back h t, own-unended h l who u mine)
+has_committed-ended _ (next {h = h} l (ends who u false mine)) t = grind (arith, nat_tests, has_committed-ended h l t, own-unended h l who u mine)
+has_committed-ended _ (next {h = h} l _) t = has_committed-ended h l t

@@ -23,7 +23,8 @@ use Rattle.sky_model.specs.Reader.{part_by_itself, database_by_itself, within_pa
 use Rattle.sky_model.specs.Gates.{Gate, takes, passed, takes_all, passed_all, gated, by_gate}
 use Rattle.sky_model.specs.Settling.{Turn, turn_of, behind_marks, and_then, ready, attempted, resumed, goes_on, settles, settling, with_settling}
 use Rattle.sky_model.specs.Calls.{row_form, row_making, making, row_statement, row_turn, statement, database_turn}
-use Rattle.sky_model.proofs.RowOutcomes.{RowMarks, rows-rest, OfRows, abort-rows, attempts-rows, form-rows}
+use Rattle.sky_model.proofs.StatementMarks.{each-rest}
+use Rattle.sky_model.proofs.RowOutcomes.{is_of_rows, RowMarks, OfRows, abort-rows, attempts-rows, form-rows}
 use Rattle.sky_model.proofs.GatedLemmas.{gated-behind, passed-append, WritesNone, plain-abort}
 use Rattle.sky_model.proofs.DatabaseStanding.{after_marks-append, behind-all}
 use Rattle.sky_model.proofs.Inserted.{Inserted, none, kept, with_raised, with_put, inserted-same, inserted-append}
@@ -133,7 +134,7 @@ module _ {G : Type 0} (gate : Gate G) (now : ℤ) (related : Database → RowPar
   told-marks : (marks : List Mark) → RowMarks marks → (d : Database) (p : RowPart) (g : G) → related d p g → ToldMarks d p g marks (takes_all gate g marks) (with_told d now marks)
   told-marks [] rows d p g is = (none, is)
   told-marks (mark ∷ marks) rows d p g is =
-      of (takes gate g mark) (told_of (after_mark d mark) now mark) (told-mark mark marks rows d p g is) (told-marks marks (rows-rest mark marks rows))
+      of (takes gate g mark) (told_of (after_mark d mark) now mark) (told-mark mark marks rows d p g is) (told-marks marks (each-rest is_of_rows mark marks rows))
     where
       joined : (told : List Mark) → Inserted [] told → (b : Bool) (x : Checked (List Mark)) → ToldMarks (after_marks d (mark ∷ told)) (after_part p mark) (passed gate g mark) marks b x
           → ToldMarks d p g (mark ∷ marks) b (x >>= (λ rest. Ok (mark ∷ told ++ rest)))
@@ -165,7 +166,7 @@ module _ {G : Type 0} (gate : Gate G) (now : ℤ) (related : Database → RowPar
 
   told-checked : (c : Checked Outcome) → OfRows c → (d : Database) (p : RowPart) (g : G) → related d p g → SameChecked d p g (gated gate g c) (tells d now c)
   told-checked (Err refusal) rows d p g is = refl
-  told-checked (Ok o) rows d p g is = of (takes_all gate g o.marks) (with_told d now o.marks) (told-marks o.marks rows.marks d p g is)
+  told-checked (Ok o) rows d p g is = of (takes_all gate g o.marks) (with_told d now o.marks) (told-marks o.marks rows.1 d p g is)
     where
       of : (b : Bool) (x : Checked (List Mark)) → ToldMarks d p g o.marks b x → SameChecked d p g (refused_if (not b) EventIdsSpent >> Ok o) (x >>= (λ marks. does_marks o.reply marks))
       of true (Ok told) same = record { reply = refl; inserted = same.0; stands = same.1 }
@@ -318,24 +319,11 @@ module _ {G : Type 0} (gate : Gate G) (now : ℤ) (related : Database → RowPar
       subst (λ (e : RowPart). Turns d p g (settling (by_gate gate part_by_itself) (p, g)) (settles (within_part database_by_itself now) (length e.waiting) d)) (sym (alike.part d p g is))
       (told-settles (length p.waiting) d p g is)
 
-  -- also behind a turn that needs no gate, where all stands alike behind it
-  pub settling-behind : (d : Database) (turn : Turn) (p : RowPart) (g : G) → related (after_marks d turn.marks) p g
-      → SameTold gate related (after_marks d turn.marks) p g (settling (by_gate gate part_by_itself) (p, g))
-      (settling (within_part database_by_itself now) (behind_marks (within_part database_by_itself now) d turn.marks))
-  settling-behind d turn p g is =
-      subst (λ e. SameTold gate related (after_marks d turn.marks) p g (settling (by_gate gate part_by_itself) (p, g)) (settling (within_part database_by_itself now) e))
-      (sym (behind-all now d turn.marks)) (settling-told (after_marks d turn.marks) p g is)
-
   -- so does a turn with those that it lets go on
   pub with_settling-told : (d : Database) (p : RowPart) (g : G) (turn turn' : Turn) → SameTold gate related d p g turn turn'
       → SameTold gate related d p g (with_settling (by_gate gate part_by_itself) (p, g) turn) (with_settling (within_part database_by_itself now) d turn')
   with_settling-told d p g turn turn' same =
       told-then d p g turn turn' (settling (by_gate gate part_by_itself)) (settling (within_part database_by_itself now)) same settling-told
-
-  -- and the same turn on both sides
-  pub same_turn-told : (d : Database) (p : RowPart) (g : G) (turn : Turn) → related (after_marks d turn.marks) (after_part_marks p turn.marks) (passed_all gate g turn.marks)
-      → SameTold gate related d p g (with_settling (by_gate gate part_by_itself) (p, g) turn) (with_settling (within_part database_by_itself now) d turn)
-  same_turn-told d p g turn is = with_settling-told d p g turn turn (record { answers = refl; inserted = inserted-same turn.marks; stands = is })
 
   -- and a statement on rows
   pub row_turn-told : (d : Database) (p : RowPart) (g : G) (who : ℕ) (stmt : RowStmt) → related d p g

@@ -1,11 +1,12 @@
 -- Ticks are in order: what had committed at one had committed at each later one.
-use Rattle.std.proofs.Common.{◌≡◌, ℕ, ◌<◌, List, [], ◌∷◌, ◌++◌, Bool, true, false, ◌&&◌, ◌||◌, ◌==◌, Some, None, is_some, refl, sym, ◌∙◌, ap, subst, arith, if◌then◌else◌}
+use Rattle.std.proofs.Common.{◌≡◌, ℕ, ◌<◌, List, [], ◌∷◌, ◌++◌, Bool, true, false, ◌&&◌, ◌||◌, ◌==◌, is_some, refl, sym, ◌∙◌, ap, subst, arith, if◌then◌else◌}
+use Rattle.std.proofs.lemmas.Bool.{or_right}
 use Rattle.std.proofs.lemmas.Bool.Decides.{nat_tests}
-use Rattle.sky_model.specs.History.{began, ended, block_begun, block_failed, block_ended, connected, disconnected, repeats, looked, tabled, queued, made, raised, put, ticked, registered, opened, closed, traced, History}
+use Rattle.sky_model.specs.History.{ended, queued, ticked, History}
 use Rattle.sky_model.specs.Transactions.{has_committed, snapshot}
 use Rattle.sky_model.specs.Queues.{Tick, ticks, tick, newest_tick, at_tick}
 use Rattle.sky_model.specs.StepQueue.{id_of}
-use Rattle.sky_model.proofs.Legal.{begins, ends, begins_block, fails_block, ends_block, connects, disconnects, repeats_block, looks, makes_table, writes, begins_waiting, ends_waiting, makes, raises, puts, ticks_next, registers, opens, closes, traces, Legal, start, next}
+use Rattle.sky_model.proofs.Legal.{ticks_next, Legal, start, next}
 use Rattle.sky_model.proofs.Ticks.{none_above}
 
 -- a queue's tick is made
@@ -15,38 +16,12 @@ is_made q id (queued (ticked p m time seq) ∷ h) = (p == q && m == id) || is_ma
 is_made q id (_ ∷ h) = is_made q id h
 
 tick-push : (id : ℕ) (ts : List Tick) (t : Tick) → is_some (tick id (ts ++ t ∷ [])) ≡ (t.id == id || is_some (tick id ts))
-tick-push id [] t = of (t.id == id)
-  where
-    of : (b : Bool) → is_some (if b then Some t else None) ≡ (b || false)
-    of true = refl
-    of false = refl
-tick-push id (u ∷ ts) t = of (u.id == id) (tick-push id ts t)
-  where
-    of : (b : Bool) → is_some (tick id (ts ++ t ∷ [])) ≡ (t.id == id || is_some (tick id ts))
-        → is_some (if b then Some u else tick id (ts ++ t ∷ [])) ≡ (t.id == id || is_some (if b then Some u else tick id ts))
-    of true ih = or_true (t.id == id)
-      where
-        or_true : (b : Bool) → true ≡ (b || true)
-        or_true true = refl
-        or_true false = refl
-    of false ih = ih
+tick-push id [] t = grind arith
+tick-push id (u ∷ ts) t = grind (arith, tick-push id ts t)
 
 -- so it is among the queue's ticks
 pub is_made-tick : (h : History) (q id : ℕ) → is_some (tick id (ticks q h)) ≡ is_made q id h
 is_made-tick [] q id = refl
-is_made-tick (began who t ∷ h) q id = is_made-tick h q id
-is_made-tick (ended who t c ∷ h) q id = is_made-tick h q id
-is_made-tick (block_begun who ∷ h) q id = is_made-tick h q id
-is_made-tick (block_failed who ∷ h) q id = is_made-tick h q id
-is_made-tick (block_ended who ∷ h) q id = is_made-tick h q id
-is_made-tick (connected who ∷ h) q id = is_made-tick h q id
-is_made-tick (disconnected who ∷ h) q id = is_made-tick h q id
-is_made-tick (repeats who ∷ h) q id = is_made-tick h q id
-is_made-tick (looked who ∷ h) q id = is_made-tick h q id
-is_made-tick (tabled mark ∷ h) q id = is_made-tick h q id
-is_made-tick (queued (made name) ∷ h) q id = is_made-tick h q id
-is_made-tick (queued (raised p value) ∷ h) q id = is_made-tick h q id
-is_made-tick (queued (put p event) ∷ h) q id = is_made-tick h q id
 is_made-tick (queued (ticked p m time seq) ∷ h) q id = of (p == q) (is_made-tick h q id)
   where
     new : Tick
@@ -56,10 +31,7 @@ is_made-tick (queued (ticked p m time seq) ∷ h) q id = of (p == q) (is_made-ti
         → is_some (tick id (if b then ticks q h ++ new ∷ [] else ticks q h)) ≡ ((b && m == id) || is_made q id h)
     of true ih = tick-push id (ticks q h) new ∙ ap (λ c. m == id || c) ih
     of false ih = ih
-is_made-tick (queued (registered p name sub t) ∷ h) q id = is_made-tick h q id
-is_made-tick (queued (opened b) ∷ h) q id = is_made-tick h q id
-is_made-tick (queued (closed b) ∷ h) q id = is_made-tick h q id
-is_made-tick (queued (traced table name trigger) ∷ h) q id = is_made-tick h q id
+is_made-tick (_ ∷ h) q id = is_made-tick h q id
 
 -- a tick with an id above the newest one's isn't made
 pub unmade_above : (h : History) → Legal h → (q id : ℕ) → id_of (newest_tick (ticks q h)) < id → is_made q id h ≡ false
@@ -68,33 +40,9 @@ unmade_above h l q id above = sym (is_made-tick h q id) ∙ ap is_some (none_abo
 -- what had committed at a tick has committed
 pub committed_since : (h : History) (q id t : ℕ) → has_committed (at_tick q id h) t ≡ true → has_committed h t ≡ true
 committed_since [] q id t e = e
-committed_since (began who u ∷ h) q id t e = committed_since h q id t e
-committed_since (ended who u true ∷ h) q id t e = of (t == u) (committed_since h q id t e)
-  where
-    of : (b : Bool) → has_committed h t ≡ true → (b || has_committed h t) ≡ true
-    of true ih = refl
-    of false ih = ih
-committed_since (ended who u false ∷ h) q id t e = committed_since h q id t e
-committed_since (block_begun who ∷ h) q id t e = committed_since h q id t e
-committed_since (block_failed who ∷ h) q id t e = committed_since h q id t e
-committed_since (block_ended who ∷ h) q id t e = committed_since h q id t e
-committed_since (connected who ∷ h) q id t e = committed_since h q id t e
-committed_since (disconnected who ∷ h) q id t e = committed_since h q id t e
-committed_since (repeats who ∷ h) q id t e = committed_since h q id t e
-committed_since (looked who ∷ h) q id t e = committed_since h q id t e
-committed_since (tabled mark ∷ h) q id t e = committed_since h q id t e
-committed_since (queued (made name) ∷ h) q id t e = committed_since h q id t e
-committed_since (queued (raised p value) ∷ h) q id t e = committed_since h q id t e
-committed_since (queued (put p event) ∷ h) q id t e = committed_since h q id t e
-committed_since (queued (ticked p m time seq) ∷ h) q id t e = of (p == q && m == id) (committed_since h q id t) e
-  where
-    of : (b : Bool) → (has_committed (at_tick q id h) t ≡ true → has_committed h t ≡ true) → has_committed (if b then h else at_tick q id h) t ≡ true → has_committed h t ≡ true
-    of true ih e = e
-    of false ih e = ih e
-committed_since (queued (registered p name sub tick) ∷ h) q id t e = committed_since h q id t e
-committed_since (queued (opened b) ∷ h) q id t e = committed_since h q id t e
-committed_since (queued (closed b) ∷ h) q id t e = committed_since h q id t e
-committed_since (queued (traced table name trigger) ∷ h) q id t e = committed_since h q id t e
+committed_since (ended who u true ∷ h) q id t e = or_right (t == u) (has_committed h t) (committed_since h q id t e)
+committed_since (queued (ticked p m time seq) ∷ h) q id t e = grind (arith, committed_since h q id t)
+committed_since (_ ∷ h) q id t e = committed_since h q id t e
 
 -- a transaction that had committed at one tick had committed at another
 abbrev pub Grows : History → ℕ → ℕ → ℕ → ℕ → Type 0
@@ -103,22 +51,6 @@ Grows h q from to t = has_committed (at_tick q from h) t ≡ true → has_commit
 -- what had committed at a tick had at each later one that is made
 pub committed_later : (h : History) → Legal h → (q from to t : ℕ) → from < to → is_made q to h ≡ true → Grows h q from to t
 committed_later [] start q from to t less there = absurd (cc)
-committed_later _ (next {h = h} l (begins who e)) q from to t less there = committed_later h l q from to t less there
-committed_later _ (next {h = h} l (ends who u c mine)) q from to t less there = committed_later h l q from to t less there
-committed_later _ (next {h = h} l (begins_block who e is_open)) q from to t less there = committed_later h l q from to t less there
-committed_later _ (next {h = h} l (fails_block who e f)) q from to t less there = committed_later h l q from to t less there
-committed_later _ (next {h = h} l (ends_block who e)) q from to t less there = committed_later h l q from to t less there
-committed_later _ (next {h = h} l (connects who e)) q from to t less there = committed_later h l q from to t less there
-committed_later _ (next {h = h} l (disconnects who quiet away)) q from to t less there = committed_later h l q from to t less there
-committed_later _ (next {h = h} l (repeats_block who)) q from to t less there = committed_later h l q from to t less there
-committed_later _ (next {h = h} l (looks who)) q from to t less there = committed_later h l q from to t less there
-committed_later _ (next {h = h} l (makes_table name columns e)) q from to t less there = committed_later h l q from to t less there
-committed_later _ (next {h = h} l (begins_waiting who n at_key attempt fits)) q from to t less there = committed_later h l q from to t less there
-committed_later _ (next {h = h} l (ends_waiting who)) q from to t less there = committed_later h l q from to t less there
-committed_later _ (next {h = h} l (writes who u table key old new e free stands)) q from to t less there = committed_later h l q from to t less there
-committed_later _ (next {h = h} l (makes name new)) q from to t less there = committed_later h l q from to t less there
-committed_later _ (next {h = h} l (raises p v i e)) q from to t less there = committed_later h l q from to t less there
-committed_later _ (next {h = h} l (puts who p e i s o newest)) q from to t less there = committed_later h l q from to t less there
 committed_later _ (next {h = h} l (ticks_next p m time seq i above)) q from to t less there =
     of (p == q) refl (m == from) refl (m == to) refl (committed_later h l q from to t less) there
   where
@@ -135,7 +67,4 @@ committed_later _ (next {h = h} l (ticks_next p m time seq i above)) q from to t
         absurd (cc)
     of true isq false isx true isy ih there e = committed_since h q from t e
     of true isq false isx false isy ih there e = ih there e
-committed_later _ (next {h = h} l (registers p name sub tick i e f g)) q from to t less there = committed_later h l q from to t less there
-committed_later _ (next {h = h} l (opens b e)) q from to t less there = committed_later h l q from to t less there
-committed_later _ (next {h = h} l (closes b e)) q from to t less there = committed_later h l q from to t less there
-committed_later _ (next {h = h} l (traces n name trigger below is new)) q from to t less there = committed_later h l q from to t less there
+committed_later _ (next {h = h} l _) q from to t less there = committed_later h l q from to t less there

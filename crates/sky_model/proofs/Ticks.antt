@@ -6,37 +6,15 @@ use Rattle.sky_model.specs.Transactions.{snapshot}
 use Rattle.sky_model.specs.Queues.{queues_made, Tick, ticks, tick, newest_tick, at_tick}
 use Rattle.sky_model.specs.StepQueue.{id_of}
 use Rattle.sky_model.specs.Selection.{snapshot_at}
-use Rattle.sky_model.proofs.Legal.{begins, ends, begins_block, fails_block, ends_block, connects, disconnects, repeats_block, looks, makes_table, writes, begins_waiting, ends_waiting, makes, raises, puts, ticks_next, registers, opens, closes, traces, Legal, start, next}
+use Rattle.sky_model.proofs.Legal.{makes, ticks_next, Legal, start, next}
 use Rattle.sky_model.proofs.QueueNumbers.{queue-below}
 
 -- a queue that isn't made yet has no ticks
 pub ticks_beyond : (h : History) → Legal h → (q : ℕ) → queues_made h ≤ q → ticks q h ≡ []
 ticks_beyond [] start q le = refl
-ticks_beyond _ (next {h = h} l (begins who e)) q le = ticks_beyond h l q le
-ticks_beyond _ (next {h = h} l (ends who t committed mine)) q le = ticks_beyond h l q le
-ticks_beyond _ (next {h = h} l (begins_block who e is_open)) q le = ticks_beyond h l q le
-ticks_beyond _ (next {h = h} l (fails_block who e f)) q le = ticks_beyond h l q le
-ticks_beyond _ (next {h = h} l (ends_block who e)) q le = ticks_beyond h l q le
-ticks_beyond _ (next {h = h} l (connects who e)) q le = ticks_beyond h l q le
-ticks_beyond _ (next {h = h} l (disconnects who quiet away)) q le = ticks_beyond h l q le
-ticks_beyond _ (next {h = h} l (repeats_block who)) q le = ticks_beyond h l q le
-ticks_beyond _ (next {h = h} l (looks who)) q le = ticks_beyond h l q le
-ticks_beyond _ (next {h = h} l (makes_table name columns e)) q le = ticks_beyond h l q le
-ticks_beyond _ (next {h = h} l (begins_waiting who n at_key attempt fits)) q le = ticks_beyond h l q le
-ticks_beyond _ (next {h = h} l (ends_waiting who)) q le = ticks_beyond h l q le
-ticks_beyond _ (next {h = h} l (writes who u table key old new e free stands)) q le = ticks_beyond h l q le
 ticks_beyond _ (next {h = h} l (makes name new)) q le = ticks_beyond h l q (omega (arith, le))
-ticks_beyond _ (next {h = h} l (raises p v i e)) q le = ticks_beyond h l q le
-ticks_beyond _ (next {h = h} l (puts who p e i s o newest)) q le = ticks_beyond h l q le
-ticks_beyond _ (next {h = h} l (ticks_next p id time seq i e)) q le = of (p == q) refl (ticks_beyond h l q le)
-  where
-    of : (b : Bool) → (p == q) ≡ b → ticks q h ≡ [] → (if b then ticks q h ++ record { id = id; time = time; snapshot = snapshot h; seq = seq } ∷ [] else ticks q h) ≡ []
-    of true e ih = let lt : p < queues_made h = queue-below h p i in absurd (grind (arith, nat_tests))
-    of false e ih = ih
-ticks_beyond _ (next {h = h} l (registers p name sub tick i e f g)) q le = ticks_beyond h l q le
-ticks_beyond _ (next {h = h} l (opens b e)) q le = ticks_beyond h l q le
-ticks_beyond _ (next {h = h} l (closes b e)) q le = ticks_beyond h l q le
-ticks_beyond _ (next {h = h} l (traces n name trigger below is new)) q le = ticks_beyond h l q le
+ticks_beyond _ (next {h = h} l (ticks_next p id time seq i e)) q le = grind (arith, nat_tests, ticks_beyond h l q le, queue-below h p i)
+ticks_beyond _ (next {h = h} l _) q le = ticks_beyond h l q le
 
 pub newest_tick-push : (ts : List Tick) (t : Tick) → newest_tick (ts ++ t ∷ []) ≡ Some t
 newest_tick-push [] t = refl
@@ -46,22 +24,12 @@ newest_tick-push (u ∷ v ∷ ts) t = newest_tick-push (v ∷ ts) t
 -- a tick that is there is there in a list with one more
 tick-push_found : (id : ℕ) (ts : List Tick) (t u : Tick) → tick id ts ≡ Some u → tick id (ts ++ t ∷ []) ≡ Some u
 tick-push_found id [] t u e = cc
-tick-push_found id (v ∷ ts) t u e = of (v.id == id) e (tick-push_found id ts t u)
-  where
-    of : (b : Bool) → (if b then Some v else tick id ts) ≡ Some u → (tick id ts ≡ Some u → tick id (ts ++ t ∷ []) ≡ Some u)
-        → (if b then Some v else tick id (ts ++ t ∷ [])) ≡ Some u
-    of true e ih = e
-    of false e ih = ih e
+tick-push_found id (v ∷ ts) t u e = grind (arith, tick-push_found id ts t u)
 
 -- one that isn't is the one more, or none
 tick-push_none : (id : ℕ) (ts : List Tick) (t : Tick) → tick id ts ≡ None → tick id (ts ++ t ∷ []) ≡ (if t.id == id then Some t else None)
 tick-push_none id [] t e = refl
-tick-push_none id (v ∷ ts) t e = of (v.id == id) e (tick-push_none id ts t)
-  where
-    of : (b : Bool) → (if b then Some v else tick id ts) ≡ None → (tick id ts ≡ None → tick id (ts ++ t ∷ []) ≡ (if t.id == id then Some t else None))
-        → (if b then Some v else tick id (ts ++ t ∷ [])) ≡ (if t.id == id then Some t else None)
-    of true e ih = cc
-    of false e ih = ih e
+tick-push_none id (v ∷ ts) t e = grind (arith, tick-push_none id ts t)
 
 -- no tick has an id above the newest one's
 abbrev pub NoneAbove : List Tick → Type 0
@@ -75,22 +43,6 @@ NoneAbove-push ts t none is id above =
 
 pub none_above : (h : History) → Legal h → (q : ℕ) → NoneAbove (ticks q h)
 none_above [] start q = λ id above. refl
-none_above _ (next {h = h} l (begins who e)) q = none_above h l q
-none_above _ (next {h = h} l (ends who t committed mine)) q = none_above h l q
-none_above _ (next {h = h} l (begins_block who e is_open)) q = none_above h l q
-none_above _ (next {h = h} l (fails_block who e f)) q = none_above h l q
-none_above _ (next {h = h} l (ends_block who e)) q = none_above h l q
-none_above _ (next {h = h} l (connects who e)) q = none_above h l q
-none_above _ (next {h = h} l (disconnects who quiet away)) q = none_above h l q
-none_above _ (next {h = h} l (repeats_block who)) q = none_above h l q
-none_above _ (next {h = h} l (looks who)) q = none_above h l q
-none_above _ (next {h = h} l (makes_table name columns e)) q = none_above h l q
-none_above _ (next {h = h} l (begins_waiting who n at_key attempt fits)) q = none_above h l q
-none_above _ (next {h = h} l (ends_waiting who)) q = none_above h l q
-none_above _ (next {h = h} l (writes who u table key old new e free stands)) q = none_above h l q
-none_above _ (next {h = h} l (makes name new)) q = none_above h l q
-none_above _ (next {h = h} l (raises p v i e)) q = none_above h l q
-none_above _ (next {h = h} l (puts who p e i s o newest)) q = none_above h l q
 none_above _ (next {h = h} l (ticks_next p id time seq i e)) q = of (p == q) refl (none_above h l q)
   where
     of : (b : Bool) → (p == q) ≡ b → NoneAbove (ticks q h)
@@ -99,30 +51,11 @@ none_above _ (next {h = h} l (ticks_next p id time seq i e)) q = of (p == q) ref
         let same : p ≡ q = grind (arith, nat_tests) in
         NoneAbove-push (ticks q h) (record { id = id; time = time; snapshot = snapshot h; seq = seq }) ih (subst (λ n. id_of (newest_tick (ticks n h)) < id) same e)
     of false e' ih = ih
-none_above _ (next {h = h} l (registers p name sub tick i e f g)) q = none_above h l q
-none_above _ (next {h = h} l (opens b e)) q = none_above h l q
-none_above _ (next {h = h} l (closes b e)) q = none_above h l q
-none_above _ (next {h = h} l (traces n name trigger below is new)) q = none_above h l q
+none_above _ (next {h = h} l _) q = none_above h l q
 
 -- the snapshot of the history as it was at a tick is the one that the tick keeps
 pub snapshot-at_tick : (h : History) → Legal h → (q id : ℕ) → snapshot (at_tick q id h) ≡ snapshot_at (tick id (ticks q h))
 snapshot-at_tick [] start q id = refl
-snapshot-at_tick _ (next {h = h} l (begins who e)) q id = snapshot-at_tick h l q id
-snapshot-at_tick _ (next {h = h} l (ends who t committed mine)) q id = snapshot-at_tick h l q id
-snapshot-at_tick _ (next {h = h} l (begins_block who e is_open)) q id = snapshot-at_tick h l q id
-snapshot-at_tick _ (next {h = h} l (fails_block who e f)) q id = snapshot-at_tick h l q id
-snapshot-at_tick _ (next {h = h} l (ends_block who e)) q id = snapshot-at_tick h l q id
-snapshot-at_tick _ (next {h = h} l (connects who e)) q id = snapshot-at_tick h l q id
-snapshot-at_tick _ (next {h = h} l (disconnects who quiet away)) q id = snapshot-at_tick h l q id
-snapshot-at_tick _ (next {h = h} l (repeats_block who)) q id = snapshot-at_tick h l q id
-snapshot-at_tick _ (next {h = h} l (looks who)) q id = snapshot-at_tick h l q id
-snapshot-at_tick _ (next {h = h} l (makes_table name columns e)) q id = snapshot-at_tick h l q id
-snapshot-at_tick _ (next {h = h} l (begins_waiting who n at_key attempt fits)) q id = snapshot-at_tick h l q id
-snapshot-at_tick _ (next {h = h} l (ends_waiting who)) q id = snapshot-at_tick h l q id
-snapshot-at_tick _ (next {h = h} l (writes who u table key old new e free stands)) q id = snapshot-at_tick h l q id
-snapshot-at_tick _ (next {h = h} l (makes name new)) q id = snapshot-at_tick h l q id
-snapshot-at_tick _ (next {h = h} l (raises p v i e)) q id = snapshot-at_tick h l q id
-snapshot-at_tick _ (next {h = h} l (puts who p e i s o newest)) q id = snapshot-at_tick h l q id
 snapshot-at_tick _ (next {h = h} l (ticks_next p m time seq i e)) q id = of (p == q) refl (snapshot-at_tick h l q id)
   where
     both : (found : Option Tick) → tick id (ticks q h) ≡ found → (b : Bool) → (m == id) ≡ b → p ≡ q → snapshot (at_tick q id h) ≡ snapshot_at (tick id (ticks q h))
@@ -140,36 +73,14 @@ snapshot-at_tick _ (next {h = h} l (ticks_next p m time seq i e)) q id = of (p =
         ≡ snapshot_at (tick id (if b then ticks q h ++ record { id = m; time = time; snapshot = snapshot h; seq = seq } ∷ [] else ticks q h))
     of true e' ih = both (tick id (ticks q h)) refl (m == id) refl (grind (arith, nat_tests)) ih
     of false e' ih = ih
-snapshot-at_tick _ (next {h = h} l (registers p name sub t i e f g)) q id = snapshot-at_tick h l q id
-snapshot-at_tick _ (next {h = h} l (opens b e)) q id = snapshot-at_tick h l q id
-snapshot-at_tick _ (next {h = h} l (closes b e)) q id = snapshot-at_tick h l q id
-snapshot-at_tick _ (next {h = h} l (traces n name trigger below is new)) q id = snapshot-at_tick h l q id
+snapshot-at_tick _ (next {h = h} l _) q id = snapshot-at_tick h l q id
 
 -- what stands below a tick is legal
 pub legal-at_tick : (h : History) → Legal h → (q id : ℕ) → Legal (at_tick q id h)
 legal-at_tick [] start q id = start
-legal-at_tick _ (next {h = h} l (begins who e)) q id = legal-at_tick h l q id
-legal-at_tick _ (next {h = h} l (ends who t committed mine)) q id = legal-at_tick h l q id
-legal-at_tick _ (next {h = h} l (begins_block who e is_open)) q id = legal-at_tick h l q id
-legal-at_tick _ (next {h = h} l (fails_block who e f)) q id = legal-at_tick h l q id
-legal-at_tick _ (next {h = h} l (ends_block who e)) q id = legal-at_tick h l q id
-legal-at_tick _ (next {h = h} l (connects who e)) q id = legal-at_tick h l q id
-legal-at_tick _ (next {h = h} l (disconnects who quiet away)) q id = legal-at_tick h l q id
-legal-at_tick _ (next {h = h} l (repeats_block who)) q id = legal-at_tick h l q id
-legal-at_tick _ (next {h = h} l (looks who)) q id = legal-at_tick h l q id
-legal-at_tick _ (next {h = h} l (makes_table name columns e)) q id = legal-at_tick h l q id
-legal-at_tick _ (next {h = h} l (begins_waiting who n at_key attempt fits)) q id = legal-at_tick h l q id
-legal-at_tick _ (next {h = h} l (ends_waiting who)) q id = legal-at_tick h l q id
-legal-at_tick _ (next {h = h} l (writes who u table key old new e free stands)) q id = legal-at_tick h l q id
-legal-at_tick _ (next {h = h} l (makes name new)) q id = legal-at_tick h l q id
-legal-at_tick _ (next {h = h} l (raises p v i e)) q id = legal-at_tick h l q id
-legal-at_tick _ (next {h = h} l (puts who p e i s o newest)) q id = legal-at_tick h l q id
 legal-at_tick _ (next {h = h} l (ticks_next p m time seq i e)) q id = of (p == q && m == id) l (legal-at_tick h l q id)
   where
     of : (b : Bool) → Legal h → Legal (at_tick q id h) → Legal (if b then h else at_tick q id h)
     of true l ih = l
     of false l ih = ih
-legal-at_tick _ (next {h = h} l (registers p name sub t i e f g)) q id = legal-at_tick h l q id
-legal-at_tick _ (next {h = h} l (opens b e)) q id = legal-at_tick h l q id
-legal-at_tick _ (next {h = h} l (closes b e)) q id = legal-at_tick h l q id
-legal-at_tick _ (next {h = h} l (traces n name trigger below is new)) q id = legal-at_tick h l q id
+legal-at_tick _ (next {h = h} l _) q id = legal-at_tick h l q id

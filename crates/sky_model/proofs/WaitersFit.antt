@@ -6,15 +6,14 @@ use Rattle.sky_val.specs.declared.column.Column.{Column}
 use Rattle.sky_val.specs.Waits.{Waiting, is_waiting, without}
 use Rattle.sky_val.proofs.WaitLemmas.{is_waiting-without}
 use Rattle.sky_model.specs.declared.stmt.Attempt.TheVariants.{Deletion}
-use Rattle.sky_model.specs.History.{Mark, of_session, began, ended, block_begun, repeats, looked, block_failed, block_ended, connected, disconnected, tabled, table_made, wrote, waits, waited, queued, made, raised, put, ticked, registered, opened, closed, traced, History}
-use Rattle.sky_model.specs.Transactions.{next_txid}
+use Rattle.sky_model.specs.History.{Mark, connected, disconnected, tabled, table_made, waits, waited, History}
 use Rattle.sky_model.specs.Sessions.{has_open}
 use Rattle.sky_model.specs.Rows.{table_names, columns_of}
 use Rattle.sky_model.specs.Locks.{waiting, attempt}
 use Rattle.sky_model.specs.State.{part_of}
 use Rattle.sky_model.specs.Settling.{ready}
 use Rattle.sky_model.proofs.Good.{same-session}
-use Rattle.sky_model.proofs.Legal.{AttemptFits, MayWait, Fine, begins, ends, begins_block, fails_block, ends_block, connects, disconnects, repeats_block, looks, makes_table, writes, begins_waiting, ends_waiting, makes, raises, puts, ticks_next, registers, opens, closes, traces, Legal, start, next}
+use Rattle.sky_model.proofs.Legal.{AttemptFits, MayWait, Fine, connects, disconnects, makes_table, begins_waiting, ends_waiting, Legal, start, next}
 
 -- ---- each entry of a list
 
@@ -96,33 +95,14 @@ fit-step h _ (ends_waiting who) all = each-without (EntryFits h) (EntryFits (tab
     still w apart is =
         let turned : (who == w.who) ≡ false = grind (arith, nat_tests) in
         record { within = is.within; fits = subst (AttemptFits (columns_of w.table h) w.key) (sym (ap (λ b. if b then Deletion else attempt w.who h) turned)) is.fits; is_open = is.is_open }
-fit-step h _ (begins who e) all = each-map (EntryFits h) (EntryFits (began (of_session who) (next_txid h) ∷ h)) (waiting h) (λ w is. record { within = is.within; fits = is.fits; is_open = is.is_open }) all
-fit-step h _ (ends who t c e) all = each-map (EntryFits h) (EntryFits (ended (of_session who) t c ∷ h)) (waiting h) (λ w is. record { within = is.within; fits = is.fits; is_open = is.is_open }) all
-fit-step h _ (begins_block who e is_open) all = each-map (EntryFits h) (EntryFits (block_begun who ∷ h)) (waiting h) (λ w is. record { within = is.within; fits = is.fits; is_open = is.is_open }) all
-fit-step h _ (fails_block who e f) all = each-map (EntryFits h) (EntryFits (block_failed who ∷ h)) (waiting h) (λ w is. record { within = is.within; fits = is.fits; is_open = is.is_open }) all
-fit-step h _ (ends_block who e) all = each-map (EntryFits h) (EntryFits (block_ended who ∷ h)) (waiting h) (λ w is. record { within = is.within; fits = is.fits; is_open = is.is_open }) all
-fit-step h _ (connects who e) all = each-map (EntryFits h) (EntryFits (connected who ∷ h)) (waiting h) (λ w is. record { within = is.within; fits = is.fits; is_open = still (who == w.who) (has_open w.who h) is.is_open }) all
-  where
-    still : (b o : Bool) → o ≡ true → (if b then true else o) ≡ true
-    still true o is = refl
-    still false o is = is
+fit-step h _ (connects who e) all = each-map (EntryFits h) (EntryFits (connected who ∷ h)) (waiting h) (λ w is. record { within = is.within; fits = is.fits; is_open = grind (arith, is.is_open) }) all
 fit-step h _ (disconnects who quiet away) all = each-other (EntryFits h) (EntryFits (disconnected who ∷ h)) who (waiting h) quiet still all
   where
     still : (w : Waiting) → (w.who == who) ≡ false → EntryFits h w → EntryFits (disconnected who ∷ h) w
     still w apart is =
         let turned : (who == w.who) ≡ false = grind (arith, nat_tests) in
         record { within = is.within; fits = is.fits; is_open = ap (λ b. if b then false else has_open w.who h) turned ∙ is.is_open }
-fit-step h _ (repeats_block who) all = each-map (EntryFits h) (EntryFits (repeats who ∷ h)) (waiting h) (λ w is. record { within = is.within; fits = is.fits; is_open = is.is_open }) all
-fit-step h _ (looks who) all = each-map (EntryFits h) (EntryFits (looked who ∷ h)) (waiting h) (λ w is. record { within = is.within; fits = is.fits; is_open = is.is_open }) all
-fit-step h _ (writes who t n at_key old new e free stands) all = each-map (EntryFits h) (EntryFits (tabled (wrote (of_session who) t n at_key old new) ∷ h)) (waiting h) (λ w is. record { within = is.within; fits = is.fits; is_open = is.is_open }) all
-fit-step h _ (makes name e) all = each-map (EntryFits h) (EntryFits (queued (made name) ∷ h)) (waiting h) (λ w is. record { within = is.within; fits = is.fits; is_open = is.is_open }) all
-fit-step h _ (raises q v i le) all = each-map (EntryFits h) (EntryFits (queued (raised q v) ∷ h)) (waiting h) (λ w is. record { within = is.within; fits = is.fits; is_open = is.is_open }) all
-fit-step h _ (puts who q e i n o newest) all = each-map (EntryFits h) (EntryFits (queued (put q e) ∷ h)) (waiting h) (λ w is. record { within = is.within; fits = is.fits; is_open = is.is_open }) all
-fit-step h _ (ticks_next q id time seq i le) all = each-map (EntryFits h) (EntryFits (queued (ticked q id time seq) ∷ h)) (waiting h) (λ w is. record { within = is.within; fits = is.fits; is_open = is.is_open }) all
-fit-step h _ (registers q name sub tick i e f le) all = each-map (EntryFits h) (EntryFits (queued (registered q name sub tick) ∷ h)) (waiting h) (λ w is. record { within = is.within; fits = is.fits; is_open = is.is_open }) all
-fit-step h _ (opens batch e) all = each-map (EntryFits h) (EntryFits (queued (opened batch) ∷ h)) (waiting h) (λ w is. record { within = is.within; fits = is.fits; is_open = is.is_open }) all
-fit-step h _ (closes batch e) all = each-map (EntryFits h) (EntryFits (queued (closed batch) ∷ h)) (waiting h) (λ w is. record { within = is.within; fits = is.fits; is_open = is.is_open }) all
-fit-step h _ (traces n name trigger below is new) all = each-map (EntryFits h) (EntryFits (queued (traced n name trigger) ∷ h)) (waiting h) (λ w is. record { within = is.within; fits = is.fits; is_open = is.is_open }) all
+fit-step h mark _ all = each-map (EntryFits h) (EntryFits (mark ∷ h)) (waiting h) (λ w is. record { within = is.within; fits = is.fits; is_open = is.is_open }) all
 
 all-fit : (h : History) → Legal h → AllFit h
 all-fit _ start = tt

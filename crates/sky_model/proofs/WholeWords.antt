@@ -1,5 +1,6 @@
 -- The words that the grammar takes are whole: joined by spaces they make a line of just these words.
 use Rattle.std.proofs.Common.{◌≡◌, ℕ, ◌+◌, ◌-◌, ◌^◌, ◌==◌, ℤ, pos, Bool, true, false, not, ◌&&◌, cond, List, [], ◌∷◌, ◌++◌, length, take, drop, Option, Some, None, option_map, Result, Ok, Err, refl, sym, ap, ◌∙◌, arith, codes, bytes_eq, nat_le}
+use Rattle.std.proofs.lemmas.Bool.{not-true}
 use Rattle.std.proofs.lemmas.Bool.{and_parts, and_from, eqb-true}
 use Rattle.std.proofs.lemmas.Bool.Decides.{nat_tests}
 use Rattle.std.proofs.lemmas.List.{take-append-drop}
@@ -27,10 +28,6 @@ use Rattle.sky_model.proofs.NameLemmas.{list_all-is_identifier, around_first}
 abbrev pub whole : Bool → List ℕ → Bool
 whole quoted [] = not quoted
 whole quoted (b ∷ bs) = not (is_parting quoted b) && whole (quoted_after quoted b) bs
-
-not-true : (b : Bool) → not b ≡ true → b ≡ false
-not-true true no_way = cc
-not-true false so = refl
 
 -- a whole word and a space come before the words behind the space
 pieces-whole_space : (quoted : Bool) (w rest : List ℕ) → whole quoted w ≡ true → pieces quoted (w ++ 32 ∷ rest) ≡ w ∷ words rest
@@ -320,10 +317,7 @@ whole-value Ignore w v so = whole-ignore_of w v so
 
 whole-text_of : (f : Fixed) → whole false (text_of f) ≡ true
 whole-text_of fixed.Repeatable = refl
-whole-text_of fixed.Read = refl
-whole-text_of fixed.Table = refl
-whole-text_of fixed.Set = refl
-whole-text_of fixed.Backup = refl
+whole-text_of _ = refl
 
 -- a word behind which a row goes on is whole
 whole-when : (k : Kind) (w : List ℕ) (v : Option (Of k)) (f : Of k → Row) (row : Row) (rows : List Row) → value k w ≡ v → when v f ≡ row ∷ rows → whole false w ≡ true

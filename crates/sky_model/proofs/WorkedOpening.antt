@@ -1,17 +1,14 @@
 -- Worked rows of one database by its own calls: a session that hasn't it open may only open it, and cancel.
-use Rattle.std.proofs.Common.{◌≡◌, ℕ, pos, List, [], ◌∷◌, ◌++◌, Bool, true, false, None, Some, refl}
+use Rattle.std.proofs.Common.{◌≡◌, ℕ, pos, List, [], ◌∷◌, true, refl}
 use Rattle.std.specs.Prelude.{codes}
 use Rattle.sky_model.specs.declared.stmt.Stmt.{Stmt}
 use Rattle.sky_model.specs.declared.stmt.Stmt.TheVariants.{Row, CreateQueue}
 use Rattle.sky_model.specs.declared.stmt.RowStmt.TheVariants.{OpenDb, Close, Cancel, Begin, TxidCurrent}
 use Rattle.sky_model.specs.declared.reply.Reply.{Reply}
-use Rattle.sky_model.specs.declared.reply.Reply.TheVariants as reply
 use Rattle.sky_model.specs.declared.reply.Reply.TheVariants.{Done, NotWaiting, Number, Refused}
 use Rattle.sky_model.specs.declared.reply.Refusal.TheVariants.{AlreadyOpen, InTransaction, NotOpen}
-use Rattle.sky_model.specs.History.{History}
 use Rattle.sky_model.specs.Promises.{after_all}
 use Rattle.sky_model.specs.Reader.{database_by_history}
-use Rattle.sky_model.specs.Settling.{Turn}
 use Rattle.sky_model.specs.DatabaseCalls.{DatabaseCall, stepped, entered, database_does, database_part}
 
 -- the first session makes a statement

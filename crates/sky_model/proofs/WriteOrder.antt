@@ -1,5 +1,6 @@
 -- A key is written by one running transaction at a time, so those that write it commit in the order in which they write it.
 use Rattle.std.proofs.Common.{◌≡◌, ◌≢◌, ℕ, List, [], ◌∷◌, ◌++◌, Bool, true, false, not, refl, sym, ◌∙◌, ap, arith, if◌then◌else◌}
+use Rattle.std.proofs.lemmas.Bool.{false_from_ne_true, or_parts, or_right}
 use Rattle.std.specs.Prelude.{◌||◌, ◌&&◌, ◌==◌, nat_lt, Option}
 use Rattle.std.specs.Ordering.{eq_by_cmp}
 use Rattle.std.proofs.lemmas.Bool.Decides.{nat_tests}
@@ -21,59 +22,26 @@ use Rattle.sky_model.proofs.Holders.{turned, has_written-push, nobody-else}
 -- ---- places in a list
 
 apart : (t u : ℕ) → t ≢ u → (t == u) ≡ false
-apart t u other = of (t == u) refl
-  where
-    of : (b : Bool) → (t == u) ≡ b → b ≡ false
-    of true is = absurd (other (grind (arith, nat_tests)))
-    of false is = refl
+apart t u other = false_from_ne_true (t == u) (λ is. other (grind (arith, nat_tests)))
 
 -- with one more at the end
 is_before-push : (t u x : ℕ) (xs : List ℕ) → is_before t u (xs ++ x ∷ []) ≡ (is_before t u xs || (contains t xs && u == x))
-is_before-push t u x [] = of (t == x)
-  where
-    of : (b : Bool) → ((b && false) || false) ≡ false
-    of true = refl
-    of false = refl
-is_before-push t u x (y ∷ ys) = (λ i. (t == y && contains-push u x ys i) || is_before-push t u x ys i) ∙ of (t == y) (contains u ys) (u == x) (is_before t u ys) (contains t ys)
-  where
-    of : (a b c d e : Bool) → ((a && (b || c)) || (d || (e && c))) ≡ (((a && b) || d) || ((a || e) && c))
-    of false b c d e = refl
-    of true true c d e = refl
-    of true false true true e = refl
-    of true false true false e = refl
-    of true false false true e = refl
-    of true false false false true = refl
-    of true false false false false = refl
+is_before-push t u x [] = grind arith
+is_before-push t u x (y ∷ ys) = grind (arith, contains-push u x ys, is_before-push t u x ys)
 
 -- with another at the end
 is_before-other : (t u x : ℕ) (xs : List ℕ) → (u == x) ≡ false → is_before t u (xs ++ x ∷ []) ≡ is_before t u xs
-is_before-other t u x xs other = is_before-push t u x xs ∙ ap (λ b. is_before t u xs || (contains t xs && b)) other ∙ of (is_before t u xs) (contains t xs)
-  where
-    of : (a b : Bool) → (a || (b && false)) ≡ a
-    of true b = refl
-    of false true = refl
-    of false false = refl
+is_before-other t u x xs other = grind (arith, is_before-push t u x xs)
 
 -- who isn't in a list stands before nobody
 is_before-none : (t u : ℕ) (xs : List ℕ) → contains t xs ≡ false → is_before t u xs ≡ false
 is_before-none t u [] none = refl
-is_before-none t u (x ∷ xs) none = of (t == x) (contains u xs) none (is_before-none t u xs)
-  where
-    of : (a b : Bool) → (a || contains t xs) ≡ false → (contains t xs ≡ false → is_before t u xs ≡ false) → ((a && b) || is_before t u xs) ≡ false
-    of true b none ih = absurd (cc)
-    of false b none ih = ih none
+is_before-none t u (x ∷ xs) none = grind (arith, is_before-none t u xs)
 
 -- of two in a list that are apart one stands before the other
 one-before : (t u : ℕ) (xs : List ℕ) → (t == u) ≡ false → contains t xs ≡ true → contains u xs ≡ true → is_before u t xs ≡ false → is_before t u xs ≡ true
 one-before t u [] other has_t has_u isnt = absurd (cc)
-one-before t u (x ∷ xs) other has_t has_u isnt = of (t == x) refl (u == x) refl has_t has_u isnt (one-before t u xs other)
-  where
-    of : (a : Bool) → (t == x) ≡ a → (b : Bool) → (u == x) ≡ b → (a || contains t xs) ≡ true → (b || contains u xs) ≡ true → ((b && contains t xs) || is_before u t xs) ≡ false
-        → (contains t xs ≡ true → contains u xs ≡ true → is_before u t xs ≡ false → is_before t u xs ≡ true) → ((a && contains u xs) || is_before t u xs) ≡ true
-    of true is true also has_t has_u isnt ih = absurd (grind (arith, nat_tests))
-    of true is false also has_t has_u isnt ih = ap (λ b. b || is_before t u xs) has_u
-    of false is true also has_t has_u isnt ih = absurd (cc (sym isnt ∙ ap (λ b. b || is_before u t xs) has_t))
-    of false is false also has_t has_u isnt ih = ih has_t has_u isnt
+one-before t u (x ∷ xs) other has_t has_u isnt = grind (arith, nat_tests, one-before t u xs other)
 
 -- ---- who has written a key
 
@@ -206,15 +174,7 @@ snapshots_see_earlier_writers later p is table key t u first seen =
 -- who has committed stands among those that have, but the three that had before there was a history
 committed-listed : (h : History) (t : ℕ) → has_committed h t ≡ true → nat_lt t 3 ≡ false → contains t (committed h) ≡ true
 committed-listed [] t e over = absurd (cc)
-committed-listed (ended whose u true ∷ h) t e over = contains-push t u (committed h) ∙ of (t == u) e (λ e. committed-listed h t e over)
-  where
-    of : (b : Bool) → (b || has_committed h t) ≡ true → (has_committed h t ≡ true → contains t (committed h) ≡ true) → (contains t (committed h) || b) ≡ true
-    of true e ih = or-last (contains t (committed h))
-      where
-        or-last : (b : Bool) → (b || true) ≡ true
-        or-last true = refl
-        or-last false = refl
-    of false e ih = or_false (contains t (committed h)) ∙ ih e
+committed-listed (ended whose u true ∷ h) t e over = contains-push t u (committed h) ∙ grind (arith, λ (e : has_committed h t ≡ true). committed-listed h t e over)
 committed-listed (ended whose u false ∷ h) t e over = committed-listed h t e over
 committed-listed (_ ∷ h) t e over = committed-listed h t e over
 
@@ -317,14 +277,10 @@ order-committed table key t u h whose v l other stays ih has_t has_u listed =
         let over : has_ended h t ≡ true = before-ended table key t u h below other (first same) in
         committed-listed h t (has_committed-ended h below t ∙ (λ i. over i && not (stays i))) (writer-late table key t h below has_t)
 
-    last : (b : Bool) → (b || (true && true)) ≡ true
-    last true = refl
-    last false = refl
-
     of : (a : Bool) → contains u (committed h) ≡ a → (b : Bool) → (u == v) ≡ b → (a || b) ≡ true → is_before t u (writers table key h) ≡ is_before t u (committed h ++ v ∷ [])
     of true isa b isb e = ih has_t has_u isa ∙ sym (is_before-other t u v (committed h) (ended-other h u v (committed-ended h u isa) runs))
     of false isa true isb e =
-        first isb ∙ sym (is_before-push t u v (committed h) ∙ (λ i. is_before t u (committed h) || (has_it isb i && isb i)) ∙ last (is_before t u (committed h)))
+        first isb ∙ sym (is_before-push t u v (committed h) ∙ (λ i. is_before t u (committed h) || (has_it isb i && isb i)) ∙ or_right (is_before t u (committed h)) true refl)
     of false isa false isb e = absurd (cc)
 
 in_one_order : (table : ℕ) (key : List Val) (t u : ℕ) (h : History) → Legal h → (t == u) ≡ false → has_rolled_back h t ≡ false → IsOneOrder h (writers table key h) t u
@@ -334,11 +290,7 @@ in_one_order table key t u (tabled (wrote whose v n k old new) ∷ h) l other st
 in_one_order table key t u (ended whose v true ∷ h) l other stays has_t has_u listed =
     order-committed table key t u h whose v l other stays (in_one_order table key t u h (legal-below_mark l) other stays) has_t has_u listed
 in_one_order table key t u (ended whose v false ∷ h) l other stays has_t has_u listed =
-    in_one_order table key t u h (legal-below_mark l) other (of (t == v) stays) has_t has_u listed
-  where
-    of : (b : Bool) → (b || has_rolled_back h t) ≡ false → has_rolled_back h t ≡ false
-    of true e = absurd (cc)
-    of false e = e
+    in_one_order table key t u h (legal-below_mark l) other (or_parts (t == v) (has_rolled_back h t) stays).1 has_t has_u listed
 in_one_order table key t u (_ ∷ h) l other stays has_t has_u listed = in_one_order table key t u h (legal-below_mark l) other stays has_t has_u listed
 
 pub writes_and_commits_have_one_order : WritesAndCommitsHaveOneOrder

@@ -4,7 +4,7 @@ use Rattle.std.specs.Prelude.{◌||◌, ◌&&◌, ◌==◌}
 use Rattle.std.proofs.lemmas.Bool.{and_parts}
 use Rattle.std.proofs.lemmas.Bool.Decides.{nat_tests}
 use Rattle.sky_val.specs.declared.val.Val.{Val}
-use Rattle.sky_model.specs.History.{Whose, Mark, began, ended, block_begun, repeats, looked, block_failed, block_ended, connected, disconnected, tabled, table_made, wrote, waits, waited, queued, History}
+use Rattle.sky_model.specs.History.{Whose, Mark, ended, tabled, wrote, History}
 use Rattle.sky_model.specs.Transactions.{has_ended}
 use Rattle.sky_model.specs.Rows.{Write, writes as writes_of, wrote_in}
 use Rattle.sky_model.specs.LawsOfLocks.{WritersHaveWritten}
@@ -16,18 +16,7 @@ use Rattle.sky_model.proofs.SnapshotLaws.{legal_place}
 
 -- the end of one leaves the others
 others-end : (t u : ℕ) (in_it over : Bool) → (in_it ≡ true → over ≡ false) → (not (u == t) && in_it) ≡ true → (t == u || over) ≡ false
-others-end t u in_it over ih e = of (t == u) refl
-  where
-    parts : (not (u == t) ≡ true) × (in_it ≡ true)
-    parts = and_parts (not (u == t)) in_it e
-
-    apart : (b : Bool) → (u == t) ≡ b → not b ≡ true → (t == u) ≡ false
-    apart true same isnt = absurd (cc)
-    apart false same isnt = grind (arith, nat_tests)
-
-    of : (b : Bool) → (t == u) ≡ b → (b || over) ≡ false
-    of true same = absurd (cc (sym same ∙ apart (u == t) refl parts.0))
-    of false same = ih parts.1
+others-end t u in_it over ih e = grind (arith, nat_tests)
 
 -- nor has the one that writes
 writer-runs : (h : History) → Legal h → {whose : Whose} {u n : ℕ} {key : List Val} {old new : Option (List Val)} → Fine h (tabled (wrote whose u n key old new)) → has_ended h u ≡ false
@@ -42,20 +31,9 @@ now-written h table t n u runs ih = of (n == table) (u == t) refl
     of false b same e = ih e
 
 runs-step : (h : History) (mark : Mark) → Fine h mark → Legal h → (table t : ℕ) → (wrote_in table t h ≡ true → has_ended h t ≡ false) → wrote_in table t (mark ∷ h) ≡ true → has_ended (mark ∷ h) t ≡ false
-runs-step h (began whose u) fine l table t ih = ih
 runs-step h (ended whose u c) fine l table t ih = others-end t u (wrote_in table t h) (has_ended h t) ih
-runs-step h (block_begun who) fine l table t ih = ih
-runs-step h (repeats who) fine l table t ih = ih
-runs-step h (looked who) fine l table t ih = ih
-runs-step h (block_failed who) fine l table t ih = ih
-runs-step h (block_ended who) fine l table t ih = ih
-runs-step h (connected who) fine l table t ih = ih
-runs-step h (disconnected who) fine l table t ih = ih
-runs-step h (tabled (table_made name columns)) fine l table t ih = ih
 runs-step h (tabled (wrote whose u n key old new)) fine l table t ih = now-written h table t n u (writer-runs h l fine) ih
-runs-step h (tabled (waits who n key attempt)) fine l table t ih = ih
-runs-step h (tabled (waited who)) fine l table t ih = ih
-runs-step h (queued mark) fine l table t ih = ih
+runs-step h _ fine l table t ih = ih
 
 runs : (h : History) → Legal h → (table t : ℕ) → wrote_in table t h ≡ true → has_ended h t ≡ false
 runs _ start table t e = absurd (cc)
@@ -72,20 +50,9 @@ has-more true c ws w ih e = some-pushed ws w
 has-more false c ws w ih e = ih e
 
 has-step : (h : History) (mark : Mark) (table t : ℕ) → (wrote_in table t h ≡ true → writes_of table t h ≢ []) → wrote_in table t (mark ∷ h) ≡ true → writes_of table t (mark ∷ h) ≢ []
-has-step h (began who u) table t ih = ih
 has-step h (ended who u c) table t ih = λ e. ih (and_parts (not (u == t)) (wrote_in table t h) e).1
-has-step h (block_begun who) table t ih = ih
-has-step h (repeats who) table t ih = ih
-has-step h (looked who) table t ih = ih
-has-step h (block_failed who) table t ih = ih
-has-step h (block_ended who) table t ih = ih
-has-step h (connected who) table t ih = ih
-has-step h (disconnected who) table t ih = ih
-has-step h (tabled (table_made name columns)) table t ih = ih
 has-step h (tabled (wrote v u n key old new)) table t ih = has-more (n == table && u == t) (wrote_in table t h) (writes_of table t h) (record { key = key; row = new }) ih
-has-step h (tabled (waits who n key attempt)) table t ih = ih
-has-step h (tabled (waited who)) table t ih = ih
-has-step h (queued mark) table t ih = ih
+has-step h _ table t ih = ih
 
 has : (h : History) (table t : ℕ) → wrote_in table t h ≡ true → writes_of table t h ≢ []
 has [] table t e = absurd (cc)
@@ -109,20 +76,9 @@ abbrev Back : History → ℕ → ℕ → Type 0
 Back h table t = has_ended h t ≡ false → writes_of table t h ≢ [] → wrote_in table t h ≡ true
 
 back-step : (h : History) (mark : Mark) (table t : ℕ) → Back h table t → Back (mark ∷ h) table t
-back-step h (began who u) table t ih = ih
 back-step h (ended who u c) table t ih = λ e some. back-ended t u (wrote_in table t h) (has_ended h t) (λ unended. ih unended some) e
-back-step h (block_begun who) table t ih = ih
-back-step h (repeats who) table t ih = ih
-back-step h (looked who) table t ih = ih
-back-step h (block_failed who) table t ih = ih
-back-step h (block_ended who) table t ih = ih
-back-step h (connected who) table t ih = ih
-back-step h (disconnected who) table t ih = ih
-back-step h (tabled (table_made name columns)) table t ih = ih
 back-step h (tabled (wrote v u n key old new)) table t ih = λ e. back-more (n == table && u == t) (wrote_in table t h) (writes_of table t h) (record { key = key; row = new }) (ih e)
-back-step h (tabled (waits who n key attempt)) table t ih = ih
-back-step h (tabled (waited who)) table t ih = ih
-back-step h (queued mark) table t ih = ih
+back-step h _ table t ih = ih
 
 back : (h : History) (table t : ℕ) → Back h table t
 back [] table t = λ e some. absurd (some refl)

@@ -5,7 +5,7 @@ use Rattle.sky_val.specs.Waits.{Waiting, is_waiting}
 use Rattle.sky_model.specs.declared.stmt.Stmt.{Stmt}
 use Rattle.sky_model.specs.declared.stmt.Stmt.TheVariants.{Row}
 use Rattle.sky_model.specs.History.{Mark, Whose, of_session, of_worker, looked, tabled, wrote, waited, History}
-use Rattle.sky_model.specs.Sessions.{Block, outside, inside, failed, Session, session, has_open, block, own_txid}
+use Rattle.sky_model.specs.Sessions.{Session, session, has_open, block, own_txid}
 use Rattle.sky_model.specs.Locks.{waiting}
 use Rattle.sky_model.specs.State.{part_of, database_of, after_mark, after_marks}
 use Rattle.sky_model.specs.ShownRows.{rows_in}
@@ -23,8 +23,8 @@ use Rattle.sky_model.specs.DatabaseCalls.{DatabaseCall, stepped, entered, failed
 use Rattle.sky_model.specs.LawsOfWrites.{IsTold, WritesAreTold}
 use Rattle.sky_model.proofs.Marks.{database_of-mark, database_of-marks}
 use Rattle.sky_model.proofs.Lawful.{database-reads, past-behind}
-use Rattle.sky_model.proofs.GatedLemmas.{WritesNone, plain-abort, plain-settled}
-use Rattle.sky_model.proofs.QueueOutcomes.{plain-form}
+use Rattle.sky_model.proofs.StatementMarks.{each-first, each-rest, AnyReply, gives-map, Kinds, no_more, may_leave, kinds, gives-form, each-failure, given-settled}
+use Rattle.sky_model.proofs.GatedLemmas.{is_no_write, WritesNone, plain-if, plain-abort}
 use Rattle.sky_model.proofs.Resting.{behind-append}
 use Rattle.sky_model.proofs.Inserted.{Inserted, none, with_raised, with_put}
 use Rattle.sky_model.proofs.Telling.{EventMarks, told_by-events}
@@ -37,14 +37,6 @@ first mark (x ∷ xs) = x
 abbrev pub rest : List Mark → List Mark
 rest [] = []
 rest (x ∷ xs) = xs
-
-first-plain : (mark : Mark) (marks : List Mark) → WritesNone (mark ∷ marks) → WritesNone (mark ∷ [])
-first-plain (tabled (wrote whose t table key old new)) marks plain = absurd plain
-first-plain _ marks plain = tt
-
-rest-plain : (mark : Mark) (marks : List Mark) → WritesNone (mark ∷ marks) → WritesNone marks
-rest-plain (tabled (wrote whose t table key old new)) marks plain = absurd plain
-rest-plain _ marks plain = plain
 
 -- each write of a history is told of in another one, which has it below
 abbrev ToldIn : History → History → Type 0
@@ -75,14 +67,15 @@ told-push k h mark plain told (x ∷ later) p whose t table key old new e = told
 
 told-behind : (k h : History) (marks : List Mark) → WritesNone marks → ToldIn k h → ToldIn k (marked h marks)
 told-behind k h [] plain told = told
-told-behind k h (mark ∷ marks) plain told = told-behind k (mark ∷ h) marks (rest-plain mark marks plain) (told-push k h mark (first-plain mark marks plain) told)
+told-behind k h (mark ∷ marks) plain told =
+    told-behind k (mark ∷ h) marks (each-rest is_no_write mark marks plain) (told-push k h mark (each-first is_no_write mark marks [] plain tt) told)
 
 plain-told : (h : History) (marks : List Mark) → WritesNone marks → AllTold h → AllTold (marked h marks)
 plain-told h marks plain told = told-behind (marked h marks) h marks plain (told-later h h marks told)
 
 -- ---- a write, and what is told of it
 
-events-plain : (marks : List Mark) → Inserted [] marks → WritesNone marks
+pub events-plain : (marks : List Mark) → Inserted [] marks → WritesNone marks
 events-plain _ none = tt
 events-plain _ (with_raised {ys = ys} queue value more) = events-plain ys more
 events-plain _ (with_put {ys = ys} queue event more) = events-plain ys more
@@ -141,8 +134,10 @@ tells-told h told now who s (Ok o) = of (with_told (database_of h) now o.marks) 
 form-told : (h : History) → AllTold h → (now : ℤ) (who : ℕ) (stmt : Stmt) → AllTold (marked h (settled who (session h who) (form (database_of h) (shown_in h) now who stmt)).marks)
 form-told h told now who (Row stmt) = tells-told h told now who (session h who) (row_form (part_of h) (rows_in h) who stmt)
 form-told h told now who stmt =
+    let k : Kinds = kinds (has_open who h) stmt in
     plain-told h (settled who (session h who) (form (database_of h) (shown_in h) now who stmt)).marks
-    (plain-settled who (session h who) (form (database_of h) (shown_in h) now who stmt) (plain-form (database_of h) (shown_in h) now who stmt tt)) told
+    (given-settled AnyReply is_no_write (λ _. tt) (plain-if no_more refl) who (session h who) _
+    (gives-map AnyReply AnyReply (may_leave k who) is_no_write (λ reply any. any) (plain-if k refl who) _ (gives-form who (database_of h) (shown_in h) now stmt))).1 told
 
 runs-told : (h : History) → AllTold h → (now : ℤ) (who : ℕ) (stmt : Stmt) (may : Checked (Unit {0})) → AllTold (marked h (runs_if (making database_by_history now who stmt) (where_of stmt) who h may).marks)
 runs-told h told now who stmt (Err refusal) = plain-told h (abort who (session h who).block (session h who).txid refusal) (plain-abort who (session h who).block (session h who).txid refusal) told
@@ -192,18 +187,12 @@ enters-told h told who true (Ok _) = plain-told h (looked who ∷ []) tt told
 enters-told h told who false (Ok _) = told
 enters-told h told who sight (Err refusal) = told
 
-fails-plain : (who : ℕ) (o : Option ℕ) (b : Block) → WritesNone (failure who o b)
-fails-plain who None inside = tt
-fails-plain who (Some t) inside = tt
-fails-plain who o outside = tt
-fails-plain who o failed = tt
-
 does-told : (h : History) → AllTold h → (call : DatabaseCall) → AllTold (marked h (database_does database_by_history h call).marks)
 does-told h told (stepped who stmt now) = with_settling-told now h (turn_of who (statement database_by_history h now who stmt)) (statement-told h told now who stmt)
 does-told h told (entered who alone) =
     enters-told h told who (takes_sight (entry_place alone) (session h who).sight) (allowed (is_waiting who (waiting h)) (has_open who h) (block who h) (entry_place alone))
 does-told h told (failed_call who now) =
-    with_settling-told now h (failing (part_of h) who) (plain-told h (failure who (own_txid who h) (block who h)) (fails-plain who (own_txid who h) (block who h)) told)
+    with_settling-told now h (failing (part_of h) who) (plain-told h (failure who (own_txid who h) (block who h)) (each-failure AnyReply is_no_write (λ _. tt) (plain-if no_more refl) who (own_txid who h) (block who h)) told)
 
 told_calls : (calls : List DatabaseCall) → AllTold (after_all database_part calls)
 told_calls [] = none-told []

@@ -12,15 +12,15 @@ use Rattle.sky_txid.specs.declared.version.Version.{Version}
 use Rattle.sky_txid.specs.Versions.{with_version, without, version_of, newest_from, newest_by, own_version, row_of}
 use Rattle.sky_txid.specs.Snapshot.{sees}
 use Rattle.sky_txid.proofs.EntryLemmas.{key_ties-is, versions_at-forgotten}
-use Rattle.sky_model.specs.History.{Mark, Whose, of_session, began, ended, block_begun, repeats, looked, block_failed, block_ended, connected, disconnected, tabled, table_made, wrote, waits, waited, queued, made, raised, put, ticked, registered, opened, closed, traced, History}
-use Rattle.sky_model.specs.Transactions.{next_txid, has_ended}
+use Rattle.sky_model.specs.History.{Mark, Whose, of_session, ended, tabled, table_made, wrote, History}
+use Rattle.sky_model.specs.Transactions.{has_ended}
 use Rattle.sky_model.specs.Sessions.{own_txid}
 use Rattle.sky_model.specs.Rows.{table_names, columns_of, rows_standing}
 use Rattle.sky_model.specs.Versions.{versions}
 use Rattle.sky_model.specs.State.{part_of}
 use Rattle.sky_model.specs.ShownRows.{RowsShown, rows_by, snapshot_now}
 use Rattle.sky_model.specs.LawsOfWrites.{IsRowOf, WritesNameWhatStands, WrittenRowsFit, StandingRowsFit}
-use Rattle.sky_model.proofs.Legal.{Replaces, Fine, begins, ends, begins_block, fails_block, ends_block, connects, disconnects, repeats_block, looks, makes_table, writes, begins_waiting, ends_waiting, makes, raises, puts, ticks_next, registers, opens, closes, traces, Legal, start, next}
+use Rattle.sky_model.proofs.Legal.{Replaces, Fine, ends, makes_table, writes, Legal, start, next}
 use Rattle.sky_model.proofs.SnapshotLaws.{legal_place, legal-below_mark, fine_mark}
 use Rattle.sky_model.proofs.RowKeys.{is_in_order-versions}
 use Rattle.sky_model.proofs.KeyVersions.{kept, key_holds, kept-wrote}
@@ -139,29 +139,11 @@ left-step h _ (writes who t n at_key old new mine free stands) l all = λ table 
         (subst (λ m. Left g m key (record { txid = t; row = new })) table_is (subst (λ k. Left g n k (record { txid = t; row = new })) (sym (key_ties-is key at_key tie)) written))
     of table key true here false tie = before table key
     of table key false there c tie = before table key
-left-step h _ (ends who t true mine) l all = left-same h (ended (of_session who) t true) (λ table key v is. record { within = is.within; fits = is.fits }) (λ table key. refl) all
 left-step h _ (ends who t false mine) l all = λ table key.
     subst (Each (Left (ended (of_session who) t false ∷ h) table key)) (sym (versions_at-forgotten t key (versions table h) (is_in_order-versions table h)))
     (each-without (Left (ended (of_session who) t false ∷ h) table key) t (kept h table key)
     (each-map (Left h table key) (Left (ended (of_session who) t false ∷ h) table key) (kept h table key) (λ v is. record { within = is.within; fits = is.fits }) (all table key)))
-left-step h _ (begins who e) l all = left-same h (began (of_session who) (next_txid h)) (λ table key v is. record { within = is.within; fits = is.fits }) (λ table key. refl) all
-left-step h _ (begins_block who e is_open) l all = left-same h (block_begun who) (λ table key v is. record { within = is.within; fits = is.fits }) (λ table key. refl) all
-left-step h _ (fails_block who e f) l all = left-same h (block_failed who) (λ table key v is. record { within = is.within; fits = is.fits }) (λ table key. refl) all
-left-step h _ (ends_block who e) l all = left-same h (block_ended who) (λ table key v is. record { within = is.within; fits = is.fits }) (λ table key. refl) all
-left-step h _ (connects who e) l all = left-same h (connected who) (λ table key v is. record { within = is.within; fits = is.fits }) (λ table key. refl) all
-left-step h _ (disconnects who quiet away) l all = left-same h (disconnected who) (λ table key v is. record { within = is.within; fits = is.fits }) (λ table key. refl) all
-left-step h _ (repeats_block who) l all = left-same h (repeats who) (λ table key v is. record { within = is.within; fits = is.fits }) (λ table key. refl) all
-left-step h _ (looks who) l all = left-same h (looked who) (λ table key v is. record { within = is.within; fits = is.fits }) (λ table key. refl) all
-left-step h _ (begins_waiting who n at_key attempt fits) l all = left-same h (tabled (waits who n at_key attempt)) (λ table key v is. record { within = is.within; fits = is.fits }) (λ table key. refl) all
-left-step h _ (ends_waiting who) l all = left-same h (tabled (waited who)) (λ table key v is. record { within = is.within; fits = is.fits }) (λ table key. refl) all
-left-step h _ (makes name e) l all = left-same h (queued (made name)) (λ table key v is. record { within = is.within; fits = is.fits }) (λ table key. refl) all
-left-step h _ (raises q v i le) l all = left-same h (queued (raised q v)) (λ table key v is. record { within = is.within; fits = is.fits }) (λ table key. refl) all
-left-step h _ (puts who q e i n o newest) l all = left-same h (queued (put q e)) (λ table key v is. record { within = is.within; fits = is.fits }) (λ table key. refl) all
-left-step h _ (ticks_next q id time seq i le) l all = left-same h (queued (ticked q id time seq)) (λ table key v is. record { within = is.within; fits = is.fits }) (λ table key. refl) all
-left-step h _ (registers q name sub tick i e f le) l all = left-same h (queued (registered q name sub tick)) (λ table key v is. record { within = is.within; fits = is.fits }) (λ table key. refl) all
-left-step h _ (opens batch e) l all = left-same h (queued (opened batch)) (λ table key v is. record { within = is.within; fits = is.fits }) (λ table key. refl) all
-left-step h _ (closes batch e) l all = left-same h (queued (closed batch)) (λ table key v is. record { within = is.within; fits = is.fits }) (λ table key. refl) all
-left-step h _ (traces n name trigger below is new) l all = left-same h (queued (traced n name trigger)) (λ table key v is. record { within = is.within; fits = is.fits }) (λ table key. refl) all
+left-step h mark _ l all = left-same h mark (λ table key v is. record { within = is.within; fits = is.fits }) (λ table key. refl) all
 
 all-left : (h : History) → Legal h → AllLeft h
 all-left _ start = λ table key. tt
