@@ -3,3 +3,4 @@ pub mod SubLists
 pub mod NumberedQueues
 pub mod Marked
 pub mod TracedLists
+pub mod Telling

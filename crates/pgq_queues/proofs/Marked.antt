@@ -94,7 +94,7 @@ queues-made queues t count is = λ i n. pointwise queues n count is i
         ∙ ap (λ b. if b then record (seen_queue (get_or qs n no_queue)) { tick_list = (seen_queue (get_or qs n no_queue)).tick_list ++ t ∷ [] } else seen_queue (get_or qs n no_queue)) (shift (length qs) n)
         ∙ ap (λ k. if k == suc n then record (seen_queue (get_or qs n no_queue)) { tick_list = (seen_queue (get_or qs n no_queue)).tick_list ++ t ∷ [] } else seen_queue (get_or qs n no_queue)) (sym e)
 
-get_or-slice_set : (xs : List QueueView) (i n : ℕ) (x : QueueView) → i < length xs → get_or (slice_set xs i x) n no_queue ≡ (if i == n then x else get_or xs n no_queue)
+pub get_or-slice_set : (xs : List QueueView) (i n : ℕ) (x : QueueView) → i < length xs → get_or (slice_set xs i x) n no_queue ≡ (if i == n then x else get_or xs n no_queue)
 get_or-slice_set xs i n x lt = by (i == n) refl
   where
     by : (b : Bool) → (i == n) ≡ b → get_or (slice_set xs i x) n no_queue ≡ (if b then x else get_or xs n no_queue)

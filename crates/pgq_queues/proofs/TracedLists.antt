@@ -1,12 +1,13 @@
 -- The tables with triggers that a database keeps, after one of them changed.
 use Rattle.std.proofs.lemmas.List.{map-append, append-nil, length-set}
-use Rattle.std.proofs.Common.{◌≡◌, ℕ, zero, suc, ◌+◌, ◌<◌, ◌≤◌, length-append, Bool, true, false, ◌==◌, List, [], ◌∷◌, ◌++◌, Option, Some, None, option_copied, Bor, IfSome, is_some, length, get_or, slice_set, option_map, nat_cmp, cond, refl, sym, ◌∙◌, ap, subst, arith, if◌then◌else◌}
+use Rattle.std.proofs.Common.{◌≡◌, ℕ, ℤ, zero, suc, ◌+◌, ◌<◌, ◌≤◌, length-append, Bool, true, false, ◌==◌, List, [], ◌∷◌, ◌++◌, Option, Some, None, option_copied, Bor, IfSome, is_some, length, get_or, slice_set, option_map, nat_cmp, cond, refl, sym, ◌∙◌, ap, subst, arith, if◌then◌else◌}
 use Rattle.std.proofs.lemmas.Bool.Decides.{nat_tests}
 use Rattle.std.proofs.lemmas.List.Elements.{All-cons, All-append, filter-append}
 use Rattle.std.specs.List.{All}
 use Rattle.std.specs.BTreeMap.{is_at}
 use Rattle.std.specs.Map.{lookup}
 use Rattle.sky_val.specs.declared.column.Column.{Column}
+use Rattle.sky_model.specs.Moment.{HasMoment}
 use Rattle.sky_model.specs.Triggers.{TableTrigger, triggers_of}
 use Rattle.sky_model.specs.State.{RowPart}
 use Rattle.pgq_queues.specs.Views.{QueueView, TracedTableView, TracedView, QueuesView}
@@ -154,12 +155,12 @@ queues-more count xs x all lt =
     All-append (λ (y : TableTrigger). y.trigger.queue < count) xs (x ∷ []) all (All-cons (λ (y : TableTrigger). y.trigger.queue < count) x [] lt (λ k d low. absurd (omega arith)))
 
 -- what is true of queues, where one of them and what is kept of batches has changed
-abbrev AreWithin : ℕ → List (List ℕ) → List (ℕ × Batch) → List TableTrigger → List (ℕ × TracedTableView) → Type 0
-AreWithin count names batches triggers all = (count ≡ length names) × (BatchesWithin count batches × TracedWithin count triggers all)
+abbrev pub AreWithin : ℤ → ℕ → List (List ℕ) → List (ℕ × Batch) → List TableTrigger → List (ℕ × TracedTableView) → Type 0
+AreWithin time count names batches triggers all = (HasMoment time × (count ≡ length names)) × (BatchesWithin count batches × TracedWithin count triggers all)
 
-pub within-set : (queues : List QueueView) (names : List (List ℕ)) (batches : List (ℕ × Batch)) (triggers : List TableTrigger) (all : List (ℕ × TracedTableView)) (i : ℕ) (q : QueueView)
-    → AreWithin (length queues) names batches triggers all → AreWithin (length (slice_set queues i q)) names batches triggers all
-within-set queues names batches triggers all i q are = subst (λ count. AreWithin count names batches triggers all) (sym (length-set queues i q)) are
+pub within-set : (time : ℤ) (queues : List QueueView) (names : List (List ℕ)) (batches : List (ℕ × Batch)) (triggers : List TableTrigger) (all : List (ℕ × TracedTableView)) (i : ℕ) (q : QueueView)
+    → AreWithin time (length queues) names batches triggers all → AreWithin time (length (slice_set queues i q)) names batches triggers all
+within-set time queues names batches triggers all i q are = subst (λ count. AreWithin time count names batches triggers all) (sym (length-set queues i q)) are
 
 pub lengths : (xs ys zs : List QueueView) (q : QueueView) (ns ms : List (List ℕ)) (n : List ℕ) → ys ≡ zs ++ q ∷ [] → zs ≡ xs → ms ≡ ns ++ n ∷ [] → length xs ≡ length ns
     → (length ys ≡ length ms) × (length xs ≤ length ys)

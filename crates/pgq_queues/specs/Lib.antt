@@ -4,3 +4,4 @@ pub mod Views
 pub mod Seen
 pub mod Batches
 pub mod Traced
+pub mod EventRule

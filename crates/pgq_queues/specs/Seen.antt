@@ -1,5 +1,5 @@
 -- The readings of the definitions, in what the code keeps of a database's queues.
-use Rattle.std.specs.Prelude.{ℕ, ◌+◌, Bool, List, [], ◌∷◌, length, Option, option_map, map, slice_index_or}
+use Rattle.std.specs.Prelude.{ℕ, pos, ◌+◌, Bool, List, [], ◌∷◌, length, Option, option_map, map, slice_index_or}
 use Rattle.std.specs.List.{list_any}
 use Rattle.std.specs.Ordering.{nat_cmp}
 use Rattle.std.specs.BTreeMap.{is_at}
@@ -78,6 +78,7 @@ seen_with part q = record {
 -- the queues of a database in which nothing has happened
 abbrev pub no_queues : QueuesView
 no_queues = record {
+  time = pos 0;
   last_batch_id = 0;
   last_sub_id = 0;
   names = [];

@@ -1,5 +1,5 @@
 -- What contracts see of a queue and of a database's queues, as the code keeps them.
-use Rattle.std.specs.Prelude.{ℕ, List}
+use Rattle.std.specs.Prelude.{ℕ, ℤ, List}
 use Rattle.sky_val.specs.declared.column.Column.{Column}
 use Rattle.sky_val.specs.declared.event.Event.{Event}
 use Rattle.sky_model.specs.Queues.{Tick}
@@ -27,6 +27,8 @@ pub record TracedView : Type 0 where
 
 -- the queues of a database, and what it keeps beside them
 pub record QueuesView : Type 0 where
+  -- the time of the statement that runs
+  pub time : ℤ
   pub last_batch_id : ℕ
   pub last_sub_id : ℕ
   pub names : List (List ℕ)

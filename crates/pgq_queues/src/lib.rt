@@ -2,10 +2,12 @@
 //!
 //! `Queues` keeps them, and decides nothing: it has the readings that statements need, and a method for each mark of the
 //! definitions that changes a queue. What a contract sees of it is read by `seen_with`, with any row part, as the
-//! definitions' database. Nothing here knows a session, a transaction that runs, or a row.
+//! definitions' database. It is itself the gate in front of the writes of rows: it stores the events that tell of them.
+//! Nothing here knows a session or a transaction that runs.
 #![tactic(auto)]
 
 mod batch;
+mod gate;
 mod queue;
 mod queues;
 mod stored;
@@ -16,6 +18,7 @@ mod ticks;
 mod traced;
 
 pub use batch::Batch;
+pub use gate::EVENT_ID_END;
 pub use queue::Queue;
 pub use queues::Queues;
 pub use subscription::Subscription;

@@ -1,4 +1,4 @@
-ghost use Rattle.std.specs.Prelude.{◌≡◌, ℕ, ◌+◌, ◌<◌, ◌^◌, [], ◌∷◌, ◌++◌, Some, None, IfOk, OnOk, OnErr, IfSome, option_copied, option_map, length};
+ghost use Rattle.std.specs.Prelude.{◌≡◌, ℕ, ℤ, ◌+◌, ◌<◌, ◌^◌, [], ◌∷◌, ◌++◌, Some, None, IfOk, OnOk, OnErr, IfSome, option_copied, option_map, length};
 ghost use Rattle.sky_names.specs.Places.{place_of, named};
 ghost use Rattle.sky_model.specs.Queues.{newest_tick};
 ghost use Rattle.sky_model.specs.Selection.{selected_in};
@@ -9,6 +9,10 @@ ghost use Rattle.pgq_queues.specs.Seen.{keeps, seen_queue, seen_batch};
 ghost use Rattle.sky_model.specs.Moment.{HasMoment};
 ghost use Rattle.sky_model.specs.Printed.{EventsHaveMoments};
 ghost use Rattle.pgq_queues.specs.Subs.{consumer_of};
+ghost use Rattle.pgq_queues.specs.Views.{QueueView};
+ghost use Rattle.pgq_queues.specs.EventRule.{telling};
+ghost use Rattle.sky_model.specs.Telling.{told_event};
+ghost use Rattle.sky_urlenc.specs.RowEvents.{RowEvent};
 
 use crate::batch::{Batch, select};
 use crate::stored::Stored;
@@ -16,6 +20,7 @@ use crate::sub::Sub;
 use crate::subs::Subs;
 use crate::subscription::Subscription;
 use crate::ticks::{Tick, Ticks};
+use sky_urlenc::RowEvent;
 use sky_val::{Event, Text};
 use std::alloc::{AllocError, Global};
 use std::collections::BTreeSet;
@@ -103,6 +108,29 @@ impl Queue {
         Ok(())
     }
 
+    /// Stores one more event of a trigger, which takes the next id.
+    pub(crate) fn tell(&mut self, now: i64, txid: u64, event: RowEvent) -> Result<(), AllocError>
+        requires time { HasMoment now }
+        requires id { self.old.seq + 1 < 2 ^ 62 }
+        ensures ok { OnOk result (self.new ≡ telling now txid event self.old) }
+        ensures err { OnErr result (self.new ≡ self.old) }
+    {
+        let id = self.seq + 1;
+        let stored = Stored::new(*self.events.allocator(), told_event(id, now, txid, event))?;
+        self.events.push(stored)?;
+        self.seq = id;
+        Ok(())
+    }
+
+    /// Takes the last event of a trigger back, and its id.
+    pub(crate) fn take_back(&mut self)
+        requires { 0 < self.old.seq }
+        ensures { (now : ℤ) (t : ℕ) (e : RowEvent) (q : QueueView) → self.old ≡ telling now t e q → self.new ≡ q }
+    {
+        self.events.pop();
+        self.seq -= 1;
+    }
+
     /// One more tick.
     pub(crate) fn tick(&mut self, tick: Tick) -> Result<(), AllocError>
         requires next { tick.id ≡ id_of (newest_tick self.old.ticks) + 1 }
@@ -165,5 +193,24 @@ impl Queue {
         let prev = self.ticks.get(batch.prev);
         let cur = self.ticks.get(batch.cur);
         select(alloc, self.events.as_slice(), prev, cur, undone, batch.sub)
+    }
+}
+
+/// The event of a trigger with its id, of a transaction.
+fn told_event(id: u64, now: i64, txid: u64, event: RowEvent) -> Event
+    ensures { result ≡ told_event id now txid event }
+{
+    Event {
+        ev_id: id,
+        ev_time: now,
+        ev_txid: txid,
+        ev_owner: None,
+        ev_retry: None,
+        ev_type: Some(event.ev_type),
+        ev_data: event.ev_data,
+        ev_extra1: Some(event.ev_extra1),
+        ev_extra2: event.ev_extra2,
+        ev_extra3: None,
+        ev_extra4: None,
     }
 }

@@ -29,21 +29,24 @@ use std::marker::Model;
 #[derive(Drop)]
 pub struct Queues {
     alloc: Global,
+    // The time of the statement that runs.
+    pub(crate) time: i64,
     last_batch_id: u64,
     last_sub_id: u64,
     names: Names,
-    queues: Vec<Queue>,
+    pub(crate) queues: Vec<Queue>,
     batches: BTreeMap<u64, Batch>,
     // The transactions that were rolled back.
     undone: BTreeSet<u64>,
     // The triggers, in the order of making.
-    triggers: Vec<TableTrigger>,
+    pub(crate) triggers: Vec<TableTrigger>,
     // The tables with triggers, each under its number.
-    traced: BTreeMap<u32, TracedTable>,
+    pub(crate) traced: BTreeMap<u32, TracedTable>,
 }
 
 impl Model for Queues {
     ghost use Rattle.std.specs.Prelude.{◌≡◌, length};
+    ghost use Rattle.sky_model.specs.Moment.{HasMoment};
     ghost use Rattle.pgq_queues.specs.Views.{QueuesView};
     ghost use Rattle.pgq_queues.specs.Batches.{BatchesWithin};
     ghost use Rattle.pgq_queues.specs.Traced.{TracedWithin};
@@ -51,6 +54,7 @@ impl Model for Queues {
     ghost Value = { QueuesView };
 
     ghost view = { λ q. record {
+      time = q.time;
       last_batch_id = q.last_batch_id;
       last_sub_id = q.last_sub_id;
       names = q.names;
@@ -61,7 +65,7 @@ impl Model for Queues {
       traced = q.traced.entries;
     } };
 
-    ghost invariant = { λ q. (length q.queues.items ≡ length q.names)
+    ghost invariant = { λ q. (HasMoment q.time × (length q.queues.items ≡ length q.names))
         × (BatchesWithin (length q.queues.items) q.batches.entries × TracedWithin (length q.queues.items) q.triggers.items q.traced.entries) };
 }
 
@@ -72,6 +76,7 @@ impl Queues {
     {
         Queues {
             alloc,
+            time: 0,
             last_batch_id: 0,
             last_sub_id: 0,
             names: Names::new(alloc),
@@ -81,6 +86,15 @@ impl Queues {
             triggers: Vec::new(alloc),
             traced: BTreeMap::new(alloc),
         }
+    }
+
+    /// The statement that runs now has this time.
+    pub fn set_time(&mut self, time: i64)
+        requires { HasMoment time }
+        ensures time { self.new ≡ record self.old { time = time } }
+        ensures within { All (λ t. t.trigger.queue < length self.new.queues) self.new.triggers }
+    {
+        self.time = time;
     }
 
     /// How many queues stand; none goes.

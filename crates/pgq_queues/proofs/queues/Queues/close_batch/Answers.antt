@@ -19,7 +19,7 @@ index_mut-requires c =
 
 pub invariant_of-self-2 : goal.invariant_of-self-2
 invariant_of-self-2 c =
-    within-set c.self.inside.queues.items c.self.inside.names c.remove.new.self.entries c.self.inside.triggers.items c.self.inside.traced.entries c.in_ok-batch.batch.queue c.close_batch.new.self (
+    within-set c.self.inside.time c.self.inside.queues.items c.self.inside.names c.remove.new.self.entries c.self.inside.triggers.items c.self.inside.traced.entries c.in_ok-batch.batch.queue c.close_batch.new.self (
       c.self.invariant.0,
       (
         batches-updated (length c.self.inside.queues.items) c.self.inside.batches.entries c.remove.new.self.entries c.args.id None c.remove.ensures.updates.0 tt c.self.invariant.1.0,

@@ -13,6 +13,6 @@ returns-clause-number c = number-shown _ _ c.args.queue.now (Some c.in_ok-number
 pub returns-clause-within : goal.returns-clause-within
 returns-clause-within c =
     let within : c.in_ok-number.number < length c.self.inside.names = place_of_within _ _ _ (sym c.in_ok-number.ensures) in
-    let same : length c.self.inside.queues.items ≡ length c.self.inside.names = c.self.invariant.0 in
+    let same : length c.self.inside.queues.items ≡ length c.self.inside.names = c.self.invariant.0.1 in
     let inside : c.in_ok-number.number < length c.self.inside.queues.items = omega arith in
     subst (λ (v : QueuesView). c.in_ok-number.number < length v.queues) c.self.view_is inside

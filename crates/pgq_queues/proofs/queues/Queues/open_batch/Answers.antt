@@ -11,13 +11,13 @@ returns-clause-mark c =
 
 pub invariant_of-self : goal.invariant_of-self
 invariant_of-self c =
-    within-set c.self.inside.queues.items c.self.inside.names c.insert.new.self.entries c.self.inside.triggers.items c.self.inside.traced.entries c.args.batch.queue c.open_batch.new.self
+    within-set c.self.inside.time c.self.inside.queues.items c.self.inside.names c.insert.new.self.entries c.self.inside.triggers.items c.self.inside.traced.entries c.args.batch.queue c.open_batch.new.self
     (c.self.invariant.0, (subst (BatchesWithin (length c.self.inside.queues.items)) (sym c.in_err-insert.ensures.err) c.self.invariant.1.0, c.self.invariant.1.1))
 
 pub invariant_of-self-2 : goal.invariant_of-self-2
 invariant_of-self-2 c =
     let low : c.args.batch.queue < length c.self.inside.queues.items = subst (λ (v : QueuesView). c.args.batch.queue < length v.queues) (sym c.self.view_is) c.requires in
-    within-set c.self.inside.queues.items c.self.inside.names c.insert.new.self.entries c.self.inside.triggers.items c.self.inside.traced.entries c.args.batch.queue c.open_batch.new.self (
+    within-set c.self.inside.time c.self.inside.queues.items c.self.inside.names c.insert.new.self.entries c.self.inside.triggers.items c.self.inside.traced.entries c.args.batch.queue c.open_batch.new.self (
       c.self.invariant.0,
       (
         batches-updated (length c.self.inside.queues.items) c.self.inside.batches.entries c.insert.new.self.entries c.args.id (Some c.args.batch) c.in_ok-insert.ensures.updates.0 low c.self.invariant.1.0,

@@ -1,0 +1,55 @@
+-- The queues as a gate in front of the writes of rows: they have room for a write where there are ids for the events that
+-- tell of it, and store these behind it.
+use Rattle.std.specs.Prelude.{ℕ, ℤ, ◌+◌, ◌^◌, Bool, true, not, ◌&&◌, ◌==◌, nat_le, if◌then◌else◌, List, [], ◌∷◌, ◌++◌, Option, Some, None, map, slice_set, slice_index_or}
+use Rattle.sky_val.specs.declared.val.Val.{Val}
+use Rattle.sky_urlenc.specs.RowEvents.{RowEvent, events_of}
+use Rattle.sky_model.specs.Triggers.{TableTrigger}
+use Rattle.sky_model.specs.State.{changed_at}
+use Rattle.sky_model.specs.Telling.{told_event}
+use Rattle.sky_model.specs.Gates.{Gate, RowWrite}
+use Rattle.pgq_queues.specs.Views.{QueueView, TracedView, QueuesView}
+use Rattle.pgq_queues.specs.Seen.{no_queue}
+use Rattle.pgq_queues.specs.Traced.{traced_at}
+
+-- the events of triggers that tell of a write in a table, and those of all its triggers
+abbrev pub events_by : TracedView → (old new : Option (List Val)) → List TableTrigger → List RowEvent
+events_by t old new triggers =
+    events_of (record { table = t.name; columns = t.columns; old = old; new = new }) (map TableTrigger.trigger triggers)
+
+abbrev pub table_events : TracedView → (old new : Option (List Val)) → List RowEvent
+table_events t old new = events_by t old new t.triggers
+
+-- the events that tell of a write in a table, if anything is kept of that
+abbrev pub events_at : Option TracedView → RowWrite → List RowEvent
+events_at None write = []
+events_at (Some t) write = table_events t write.old write.new
+
+-- how many of events are of a queue
+abbrev pub count_of : ℕ → List RowEvent → ℕ
+count_of queue [] = 0
+count_of queue (e ∷ es) = if e.queue == queue then count_of queue es + 1 else count_of queue es
+
+-- the sequences of queues
+abbrev pub sequences : List QueueView → ℕ → ℕ
+sequences queues n = (slice_index_or queues n no_queue).seq
+
+-- whether there are ids for events, each of which takes the next one of its queue's sequence
+abbrev pub ids_left : (ℕ → ℕ) → List RowEvent → Bool
+ids_left seq [] = true
+ids_left seq (e ∷ es) = not (nat_le (2 ^ 62) (seq e.queue + 1)) && ids_left (changed_at e.queue (λ n. n + 1) seq) es
+
+-- a queue with one more event of a trigger, at a time, of a transaction: it takes the next id
+abbrev pub telling : ℤ → ℕ → RowEvent → QueueView → QueueView
+telling now t e q = record q { seq = q.seq + 1; events = q.events ++ told_event (q.seq + 1) now t e ∷ [] }
+
+-- queues with events, each in its own
+abbrev pub telling_all : ℤ → ℕ → List RowEvent → List QueueView → List QueueView
+telling_all now t [] queues = queues
+telling_all now t (e ∷ es) queues = telling_all now t es (slice_set queues e.queue (telling now t e (slice_index_or queues e.queue no_queue)))
+
+-- there is room for a write where there are ids for all its events; then these are stored
+abbrev pub event_rule : Gate QueuesView
+event_rule = record {
+  has_room = λ q write. ids_left (sequences q.queues) (events_at (traced_at q write.table) write);
+  after = λ q t write. record q { queues = telling_all q.time t (events_at (traced_at q write.table) write) q.queues };
+}

@@ -1,0 +1,120 @@
+//! The queues as the gate in front of the writes of rows: they store the events that tell of them.
+
+ghost use Rattle.std.specs.Prelude.{◌≡◌, ◌<◌, ◌≤◌, ◌-◌, true, OnOk, OnErr, option_copied, length, take, drop};
+ghost use Rattle.std.specs.List.{All};
+ghost use Rattle.sky_model.specs.Moment.{HasMoment};
+ghost use Rattle.pgq_queues.specs.EventRule.{events_by, table_events, count_of, sequences, ids_left, telling_all, event_rule};
+
+use crate::queue::Queue;
+use crate::queues::Queues;
+use crate::traced::Traced;
+use sky_model::WriteGate;
+use sky_val::{NoMemory, Op, Row};
+
+/// The number at which the event ids of a queue are spent.
+pub const EVENT_ID_END: u64 = 1 << 62;
+
+impl WriteGate for Queues {
+    ghost rule = { event_rule };
+
+    fn room(&self, table: u32, _op: Op, old: Option<&Row>, new: Option<&Row>) -> bool {
+        match self.traced(table) {
+            Some(traced) => has_ids(self.queues.as_slice(), &traced, old, new),
+            None => true,
+        }
+    }
+
+    fn wrote(
+        &mut self,
+        txid: u64,
+        table: u32,
+        _op: Op,
+        old: Option<&Row>,
+        new: Option<&Row>,
+    ) -> Result<(), NoMemory> {
+        let Some(table) = self.traced.get(&table) else {
+            return Ok(());
+        };
+        let traced = Traced::new(self.triggers.as_slice(), table);
+        tell(&mut self.queues, &traced, 0, self.time, txid, old, new)
+    }
+}
+
+/// How many of the first triggers tell of the write by an event of the queue.
+fn told_before(
+    traced: &Traced<'_>,
+    place: usize,
+    queue: usize,
+    old: Option<&Row>,
+    new: Option<&Row>,
+) -> usize
+    requires { place ≤ length traced.now.triggers }
+    ensures { result ≡ count_of queue (events_by traced.now (option_copied old.entry) (option_copied new.entry) (take place traced.now.triggers)) }
+{
+    let mut count = 0;
+    for earlier in 0..place {
+        let trigger = traced.trigger(earlier);
+        if trigger.queue() == queue && !trigger.leaves_out(traced.schema(), old, new) {
+            count += 1;
+        }
+    }
+    count
+}
+
+/// Whether there are ids for all events of the write.
+fn has_ids(queues: &[Queue], traced: &Traced<'_>, old: Option<&Row>, new: Option<&Row>) -> bool
+    requires { All (λ x. x.trigger.queue < length queues.now) traced.now.triggers }
+    ensures { result ≡ ids_left (sequences queues.now) (table_events traced.now (option_copied old.entry) (option_copied new.entry)) }
+{
+    for place in 0..traced.count() {
+        let trigger = traced.trigger(place);
+        if trigger.leaves_out(traced.schema(), old, new) {
+            continue;
+        }
+        let queue = trigger.queue();
+        let seq = queues[queue].seq();
+        let before = told_before(traced, place, queue, old, new) as u64;
+        if seq >= EVENT_ID_END - 1 || before >= EVENT_ID_END - 1 - seq {
+            return false;
+        }
+    }
+    true
+}
+
+/// Tells of the write by the events of the triggers from this place on, each with the next id of its queue.
+fn tell(
+    queues: &mut Vec<Queue>,
+    traced: &Traced<'_>,
+    place: usize,
+    now: i64,
+    txid: u64,
+    old: Option<&Row>,
+    new: Option<&Row>,
+) -> Result<(), NoMemory>
+    requires place { place ≤ length traced.now.triggers }
+    requires within { All (λ x. x.trigger.queue < length queues.old.items) traced.now.triggers }
+    requires time { HasMoment now }
+    requires room { ids_left (sequences queues.old.items) (events_by traced.now (option_copied old) (option_copied new) (drop place traced.now.triggers)) ≡ true }
+    ensures ok { OnOk result (queues.new.items
+        ≡ telling_all now txid (events_by traced.now (option_copied old.entry) (option_copied new.entry) (drop place traced.now.triggers)) queues.old.items) }
+    ensures err { OnErr result (queues.new.items ≡ queues.old.items) }
+{
+    if place == traced.count() {
+        return Ok(());
+    }
+    let trigger = traced.trigger(place);
+    if trigger.leaves_out(traced.schema(), old, new) {
+        return tell(queues, traced, place + 1, now, txid, old, new);
+    }
+    let alloc = *queues.allocator();
+    let event = trigger.event(alloc, traced.name(), traced.schema(), old, new)?;
+    let queue = trigger.queue();
+    queues[queue].tell(now, txid, event)?;
+    match tell(queues, traced, place + 1, now, txid, old, new) {
+        Ok(()) => Ok(()),
+        Err(no_memory) => {
+            queues[queue].take_back();
+            Err(no_memory)
+        }
+    }
+}
