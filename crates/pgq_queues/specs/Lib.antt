@@ -1,5 +1,4 @@
 pub mod Ticks
-pub mod Subs
 pub mod Views
 pub mod Seen
 pub mod Batches

@@ -1,5 +1,4 @@
 ghost use Rattle.std.specs.Prelude.{◌≡◌, ℕ, ℤ, ◌+◌, ◌<◌, ◌^◌, [], ◌∷◌, ◌++◌, Some, None, IfOk, OnOk, OnErr, IfSome, option_copied, option_map, length};
-ghost use Rattle.sky_names.specs.Places.{place_of, named};
 ghost use Rattle.sky_model.specs.Queues.{newest_tick};
 ghost use Rattle.sky_model.specs.Selection.{selected_in};
 ghost use Rattle.sky_model.specs.State.{changed_for, with_batch, at_position};
@@ -8,7 +7,6 @@ ghost use Rattle.pgq_queues.specs.Ticks.{IsTime};
 ghost use Rattle.pgq_queues.specs.Seen.{keeps, seen_queue, seen_batch};
 ghost use Rattle.sky_model.specs.Moment.{HasMoment};
 ghost use Rattle.sky_model.specs.Printed.{EventsHaveMoments};
-ghost use Rattle.pgq_queues.specs.Subs.{consumer_of};
 ghost use Rattle.pgq_queues.specs.Views.{QueueView};
 ghost use Rattle.pgq_queues.specs.EventRule.{telling};
 ghost use Rattle.sky_model.specs.Telling.{told_event};
@@ -16,10 +14,9 @@ ghost use Rattle.sky_urlenc.specs.RowEvents.{RowEvent};
 
 use crate::batch::{Batch, select};
 use crate::stored::Stored;
-use crate::sub::Sub;
-use crate::subs::Subs;
 use crate::subscription::Subscription;
 use crate::ticks::{Tick, Ticks};
+use sky_names::Named;
 use sky_urlenc::RowEvent;
 use sky_val::{Event, Text};
 use std::alloc::{AllocError, Global};
@@ -32,7 +29,7 @@ pub struct Queue {
     seq: u64,
     events: Vec<Stored>,
     ticks: Ticks,
-    subs: Subs,
+    subs: Named<Subscription>,
 }
 
 impl Model for Queue {
@@ -51,14 +48,14 @@ impl Queue {
     pub(crate) fn new(alloc: Global, first: Tick) -> Result<Queue, AllocError>
         requires first { first.id ≡ 1 }
         requires time { IsTime first.time }
-        ensures { IfOk result (λ queue. queue ≡ record { seq = 0; events = []; ticks = first ∷ []; subs = [] }) }
+        ensures { IfOk result (λ queue. queue ≡ record { seq = 0; events = []; ticks = first ∷ []; subs = record { names = []; values = [] } }) }
     {
         let ticks = Ticks::new(alloc, first)?;
         Ok(Queue {
             seq: 0,
             events: Vec::new(alloc),
             ticks,
-            subs: Subs::new(alloc),
+            subs: Named::new(alloc),
         })
     }
 
@@ -87,8 +84,8 @@ impl Queue {
     pub fn subscription(&self, consumer: &Text) -> Option<Subscription>
         ensures { result ≡ (seen_queue self.now).sub consumer.now }
     {
-        let sub = self.subs.get(consumer)?;
-        Some(Subscription::of(sub))
+        let number = self.subs.number(consumer)?;
+        Some(self.subs.get(number as usize).copy())
     }
 
     /// The sequence has this value from now on.
@@ -149,20 +146,15 @@ impl Queue {
         id: u64,
         position: u64,
     ) -> Result<(), AllocError>
-        requires new { named consumer_of consumer.now self.old.subs ≡ None }
+        requires new { (seen_queue self.old).sub consumer.now ≡ None }
         requires room { length (seen_queue self.old).members < 256 }
         ensures { OnOk result (seen_queue self.new ≡ record (seen_queue self.old) {
           members = (seen_queue self.old).members ++ consumer.now ∷ [];
           sub = changed_for consumer.now (λ _. Some (record { id = id; position = position; active = None })) (seen_queue self.old).sub;
         }) }
     {
-        let sub = Sub {
-            consumer: consumer.copy(alloc)?,
-            id,
-            position,
-            active: None,
-        };
-        self.subs.add(alloc, sub)?;
+        let sub = Subscription::new(id, position);
+        self.subs.add(consumer.copy(alloc)?, sub)?;
         Ok(())
     }
 
@@ -170,14 +162,18 @@ impl Queue {
     pub(crate) fn open_batch(&mut self, consumer: &Text, batch: u64)
         ensures { seen_queue self.new ≡ record (seen_queue self.old) { sub = changed_for consumer.now (option_map (with_batch batch)) (seen_queue self.old).sub } }
     {
-        self.subs.open_batch(consumer, batch);
+        if let Some(number) = self.subs.number(consumer) {
+            self.subs.get_mut(number as usize).open_batch(batch);
+        }
     }
 
     /// A consumer has finished its batch, and stands at its closing tick.
     pub(crate) fn close_batch(&mut self, consumer: &Text, position: u64)
         ensures { seen_queue self.new ≡ record (seen_queue self.old) { sub = changed_for consumer.now (option_map (at_position position)) (seen_queue self.old).sub } }
     {
-        self.subs.close_batch(consumer, position);
+        if let Some(number) = self.subs.number(consumer) {
+            self.subs.get_mut(number as usize).close_batch(position);
+        }
     }
 
     /// The events of a batch of this queue, without those of the transactions that were rolled back.
