@@ -1,5 +1,5 @@
 -- What a queue shows of its subscriptions after one is changed.
-use Rattle.std.proofs.Common.{◌≡◌, ℕ, ◌<◌, List, [], ◌∷◌, ◌++◌, Bool, true, false, Option, Some, None, length, slice_get, get_or, option_map, option_and_then, bytes_eq, refl, sym, ◌∙◌, ap, if◌then◌else◌}
+use Rattle.std.proofs.Common.{◌≡◌, ℕ, ◌<◌, List, [], ◌∷◌, ◌++◌, Bool, true, false, Some, None, length, slice_get, get_or, option_map, option_and_then, bytes_eq, refl, sym, ◌∙◌, ap, if◌then◌else◌}
 use Rattle.sky_names.specs.Places.{place_of}
 use Rattle.sky_names.specs.Named.{NamedView, with_value, value_of}
 use Rattle.sky_names.proofs.PlaceLemmas.{same_name}
