@@ -62,12 +62,12 @@ batches-remove old new id updates = λ i n. pointwise n i
 
 -- a queue that is made has its first tick alone
 pub queues-made : (queues : List QueueView) (t : Tick) (count : ℕ) → count ≡ length queues
-    → (λ n. seen_queue (get_or (queues ++ record { seq = 0; events = []; ticks = t ∷ []; subs = [] } ∷ []) n no_queue))
+    → (λ n. seen_queue (get_or (queues ++ record { seq = 0; events = []; ticks = t ∷ []; subs = record { names = []; values = [] } } ∷ []) n no_queue))
     ≡ changed_at count (λ q. record q { tick_list = q.tick_list ++ t ∷ [] }) (λ n. seen_queue (get_or queues n no_queue))
 queues-made queues t count is = λ i n. pointwise queues n count is i
   where
     new : QueueView
-    new = record { seq = 0; events = []; ticks = t ∷ []; subs = [] }
+    new = record { seq = 0; events = []; ticks = t ∷ []; subs = record { names = []; values = [] } }
 
     at : (b : Bool) (n : ℕ) → (zero == suc n) ≡ b → seen_queue no_queue ≡ (if b then record (seen_queue no_queue) { tick_list = t ∷ [] } else seen_queue no_queue)
     at true n e = absurd (grind (arith, nat_tests))
@@ -81,7 +81,7 @@ queues-made queues t count is = λ i n. pointwise queues n count is i
     shift m n = grind (arith, nat_tests)
 
     pointwise : (qs : List QueueView) (n m : ℕ) → m ≡ length qs
-        → seen_queue (get_or (qs ++ record { seq = 0; events = []; ticks = t ∷ []; subs = [] } ∷ []) n no_queue)
+        → seen_queue (get_or (qs ++ record { seq = 0; events = []; ticks = t ∷ []; subs = record { names = []; values = [] } } ∷ []) n no_queue)
         ≡ (if m == n then record (seen_queue (get_or qs n no_queue)) { tick_list = (seen_queue (get_or qs n no_queue)).tick_list ++ t ∷ [] } else seen_queue (get_or qs n no_queue))
     pointwise [] zero m e =
         let yes_it_is : true ≡ (m == zero) = grind (arith, nat_tests) in
@@ -191,7 +191,7 @@ queue-kept v now i old new same at is part =
 
 -- a queue that is made has its first tick, with the snapshot as it was
 pub made-as : (v now : QueuesView) (names : List (List ℕ)) (queues : List QueueView) (q : QueueView) (name : List ℕ) (t : Tick) → v ≡ now
-    → names ≡ v.names ++ name ∷ [] → queues ≡ v.queues ++ q ∷ [] → q ≡ record { seq = 0; events = []; ticks = t ∷ []; subs = [] } → length v.queues ≡ length v.names
+    → names ≡ v.names ++ name ∷ [] → queues ≡ v.queues ++ q ∷ [] → q ≡ record { seq = 0; events = []; ticks = t ∷ []; subs = record { names = []; values = [] } } → length v.queues ≡ length v.names
     → t.id ≡ 1 → t.seq ≡ 0 → (part : RowPart) → t.snapshot ≡ snapshot_now part
     → seen_with part (record v { names = names; queues = queues }) ≡ after_marks (seen_with part now) (queued (made name) ∷ queued (ticked (length now.names) 1 t.time 0) ∷ [])
 made-as v now names queues q name t same more one new count id seq part snap =

@@ -1,4 +1,3 @@
-pub mod Subs
 pub mod Views
 pub mod Seen
 pub mod Batches

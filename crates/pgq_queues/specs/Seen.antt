@@ -1,22 +1,16 @@
 -- The readings of the definitions, in what the code keeps of a database's queues.
-use Rattle.std.specs.Prelude.{ℕ, pos, ◌+◌, Bool, List, [], ◌∷◌, length, Option, option_map, map, slice_index_or}
+use Rattle.std.specs.Prelude.{ℕ, pos, ◌+◌, Bool, List, [], ◌∷◌, length, Option, option_map, slice_index_or}
 use Rattle.std.specs.List.{list_any}
 use Rattle.std.specs.Ordering.{nat_cmp}
 use Rattle.std.specs.BTreeMap.{is_at}
 use Rattle.std.specs.Map.{lookup}
-use Rattle.sky_names.specs.Places.{named}
+use Rattle.sky_names.specs.Named.{value_of}
 use Rattle.sky_model.specs.History as model
 use Rattle.sky_model.specs.Queues.{NamedQueue}
-use Rattle.sky_model.specs.Consumers.{Subscription}
 use Rattle.sky_model.specs.Config.{default_config}
 use Rattle.sky_model.specs.State.{Queue, RowPart, Database}
-use Rattle.pgq_queues.specs.declared.sub.Sub.{Sub}
 use Rattle.pgq_queues.specs.declared.batch.Batch.{Batch}
-use Rattle.pgq_queues.specs.Subs.{consumer_of}
 use Rattle.pgq_queues.specs.Views.{QueueView, QueuesView}
-
-abbrev pub seen_sub : Sub → Subscription
-seen_sub s = record { id = s.id; position = s.position; active = s.active }
 
 abbrev pub seen_queue : QueueView → Queue
 seen_queue q = record {
@@ -24,13 +18,13 @@ seen_queue q = record {
   seq = q.seq;
   stored = q.events;
   tick_list = q.ticks;
-  members = map consumer_of q.subs;
-  sub = λ name. option_map seen_sub (named consumer_of name q.subs);
+  members = q.subs.names;
+  sub = λ name. value_of name q.subs;
 }
 
 -- a queue that isn't made
 abbrev pub no_queue : QueueView
-no_queue = record { seq = 0; events = []; ticks = []; subs = [] }
+no_queue = record { seq = 0; events = []; ticks = []; subs = record { names = []; values = [] } }
 
 -- a batch that is kept under an id
 abbrev pub seen_batch : ℕ → Batch → model.Batch

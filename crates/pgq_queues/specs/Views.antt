@@ -2,16 +2,18 @@
 use Rattle.std.specs.Prelude.{ℕ, ℤ, List}
 use Rattle.sky_val.specs.declared.column.Column.{Column}
 use Rattle.sky_val.specs.declared.event.Event.{Event}
+use Rattle.sky_names.specs.Named.{NamedView}
+use Rattle.sky_model.specs.Consumers.{Subscription}
 use Rattle.sky_model.specs.Queues.{Tick}
 use Rattle.sky_model.specs.Triggers.{TableTrigger}
 use Rattle.pgq_queues.specs.declared.batch.Batch.{Batch}
-use Rattle.pgq_queues.specs.declared.sub.Sub.{Sub}
 
 pub record QueueView : Type 0 where
   pub seq : ℕ
   pub events : List Event
   pub ticks : List Tick
-  pub subs : List Sub
+  -- by their consumers, in the order of registering
+  pub subs : NamedView Subscription
 
 -- a table with triggers: its name, its columns, and the places of its own among the triggers of all tables
 pub record TracedTableView : Type 0 where

@@ -11,8 +11,6 @@ mod gate;
 mod queue;
 mod queues;
 mod stored;
-mod sub;
-mod subs;
 mod subscription;
 mod traced;
 

@@ -1,5 +1,4 @@
 ghost use Rattle.std.specs.Prelude.{◌≡◌, ℕ, ℤ, ◌+◌, ◌<◌, ◌^◌, [], ◌∷◌, ◌++◌, Some, None, IfOk, OnOk, OnErr, IfSome, option_copied, option_map, length, ◌↔◌, ◌≤◌, Err};
-ghost use Rattle.sky_names.specs.Places.{place_of, named};
 ghost use Rattle.sky_model.specs.Queues.{newest_tick};
 ghost use Rattle.sky_model.specs.Selection.{selected_in};
 ghost use Rattle.sky_model.specs.State.{changed_for, with_batch, at_position};
@@ -8,7 +7,6 @@ ghost use Rattle.pgq_tick.specs.Ticks.{IsTime};
 ghost use Rattle.pgq_queues.specs.Seen.{keeps, seen_queue, seen_batch};
 ghost use Rattle.sky_model.specs.Moment.{HasMoment};
 ghost use Rattle.sky_model.specs.Printed.{EventsHaveMoments};
-ghost use Rattle.pgq_queues.specs.Subs.{consumer_of};
 ghost use Rattle.pgq_queues.specs.Views.{QueueView};
 ghost use Rattle.pgq_queues.specs.EventRule.{telling};
 ghost use Rattle.sky_model.specs.Telling.{told_event};
@@ -16,10 +14,9 @@ ghost use Rattle.sky_urlenc.specs.RowEvents.{RowEvent};
 
 use crate::batch::{Batch, select};
 use crate::stored::Stored;
-use crate::sub::Sub;
-use crate::subs::Subs;
 use crate::subscription::Subscription;
 use pgq_tick::{QueueConfig, Tick, TickFault, Ticks};
+use sky_names::Named;
 use sky_txid::Snapshot;
 use sky_urlenc::RowEvent;
 use sky_val::{Event, NoMemory, Text};
@@ -34,7 +31,7 @@ pub struct Queue {
     seq: u64,
     events: Vec<Stored>,
     ticks: Ticks,
-    subs: Subs,
+    subs: Named<Subscription>,
 }
 
 impl Model for Queue {
@@ -54,7 +51,7 @@ impl Queue {
     /// A queue with its first tick.
     pub(crate) fn new(alloc: Global, now: i64, snapshot: Snapshot) -> Result<Queue, NoMemory>
         requires { IsTime now }
-        ensures { IfOk result (λ queue. queue ≡ record { seq = 0; events = []; ticks = record { id = 1; time = now; snapshot = snapshot; seq = 0 } ∷ []; subs = [] }) }
+        ensures { IfOk result (λ queue. queue ≡ record { seq = 0; events = []; ticks = record { id = 1; time = now; snapshot = snapshot; seq = 0 } ∷ []; subs = record { names = []; values = [] } }) }
     {
         let first = Tick {
             id: 1,
@@ -68,7 +65,7 @@ impl Queue {
             seq: 0,
             events: Vec::new(alloc),
             ticks,
-            subs: Subs::new(alloc),
+            subs: Named::new(alloc),
         })
     }
 
@@ -112,8 +109,8 @@ impl Queue {
     pub fn subscription(&self, consumer: &Text) -> Option<Subscription>
         ensures { result ≡ (seen_queue self.now).sub consumer.now }
     {
-        let sub = self.subs.get(consumer)?;
-        Some(Subscription::of(sub))
+        let number = self.subs.number(consumer)?;
+        Some(self.subs.get(number as usize).copy())
     }
 
     /// The sequence has this value from now on.
@@ -175,20 +172,15 @@ impl Queue {
         id: u64,
         position: u64,
     ) -> Result<(), NoMemory>
-        requires new { named consumer_of consumer.now self.old.subs ≡ None }
+        requires new { (seen_queue self.old).sub consumer.now ≡ None }
         requires room { length (seen_queue self.old).members < 256 }
         ensures { OnOk result (seen_queue self.new ≡ record (seen_queue self.old) {
           members = (seen_queue self.old).members ++ consumer.now ∷ [];
           sub = changed_for consumer.now (λ _. Some (record { id = id; position = position; active = None })) (seen_queue self.old).sub;
         }) }
     {
-        let sub = Sub {
-            consumer: consumer.copy(alloc)?,
-            id,
-            position,
-            active: None,
-        };
-        self.subs.add(alloc, sub)?;
+        let sub = Subscription::new(id, position);
+        self.subs.add(consumer.copy(alloc)?, sub)?;
         Ok(())
     }
 
@@ -196,14 +188,18 @@ impl Queue {
     pub(crate) fn open_batch(&mut self, consumer: &Text, batch: u64)
         ensures { seen_queue self.new ≡ record (seen_queue self.old) { sub = changed_for consumer.now (option_map (with_batch batch)) (seen_queue self.old).sub } }
     {
-        self.subs.open_batch(consumer, batch);
+        if let Some(number) = self.subs.number(consumer) {
+            self.subs.get_mut(number as usize).open_batch(batch);
+        }
     }
 
     /// A consumer has finished its batch, and stands at its closing tick.
     pub(crate) fn close_batch(&mut self, consumer: &Text, position: u64)
         ensures { seen_queue self.new ≡ record (seen_queue self.old) { sub = changed_for consumer.now (option_map (at_position position)) (seen_queue self.old).sub } }
     {
-        self.subs.close_batch(consumer, position);
+        if let Some(number) = self.subs.number(consumer) {
+            self.subs.get_mut(number as usize).close_batch(position);
+        }
     }
 
     /// The events of a batch of this queue, without those of the transactions that were rolled back.

@@ -1,10 +1,9 @@
-ghost use Rattle.std.specs.Prelude.{◌≡◌};
-ghost use Rattle.pgq_queues.specs.Seen.{seen_sub};
+ghost use Rattle.std.specs.Prelude.{◌≡◌, None};
+ghost use Rattle.sky_model.specs.State.{with_batch, at_position};
 
-use crate::sub::Sub;
 use std::marker::Model;
 
-/// What a subscription is, without its name.
+/// A subscription of a queue: its number, the tick where it stands, and its active batch.
 #[derive(Debug, Drop)]
 pub struct Subscription {
     id: u64,
@@ -21,15 +20,41 @@ impl Model for Subscription {
 }
 
 impl Subscription {
-    /// What a queue keeps of a consumer, but its name.
-    pub(crate) fn of(sub: &Sub) -> Subscription
-        ensures { result ≡ seen_sub sub.now }
+    /// One that stands at this tick, without a batch.
+    pub(crate) fn new(id: u64, position: u64) -> Subscription
+        ensures { result ≡ record { id = id; position = position; active = None } }
     {
         Subscription {
-            id: sub.id,
-            position: sub.position,
-            active: sub.active,
+            id,
+            position,
+            active: None,
         }
+    }
+
+    /// The same once more.
+    pub(crate) fn copy(&self) -> Subscription
+        ensures { result ≡ self.now }
+    {
+        Subscription {
+            id: self.id,
+            position: self.position,
+            active: self.active,
+        }
+    }
+
+    /// It has this batch from now on.
+    pub(crate) fn open_batch(&mut self, batch: u64)
+        ensures { self.new ≡ with_batch batch self.old }
+    {
+        self.active = Some(batch);
+    }
+
+    /// It has finished its batch, and stands at its closing tick.
+    pub(crate) fn close_batch(&mut self, tick: u64)
+        ensures { self.new ≡ at_position tick self.old }
+    {
+        self.position = tick;
+        self.active = None;
     }
 
     /// Its number among all subscriptions of the database.

@@ -1,2 +1,2 @@
-pub mod NamedLemmas
 pub mod PlaceLemmas
+pub mod ValueLemmas

@@ -1,10 +1,10 @@
 -- What holds of the place of a name, and of two names that are equal by their bytes.
-use Rattle.std.proofs.Common.{◌≡◌, ◌≢◌, ℕ, ◌+◌, ◌<◌, suc, zero, Bool, true, false, cond, if◌then◌else◌, List, [], ◌∷◌, ◌++◌, length, Option, Some, None, IfSome, option_map, position, slice_get, get_or, bytes_eq, is_some, not, ltb, ◌||◌, ◌⊎◌, refl, sym, ap, ◌∙◌, inl, inr, arith}
-use Rattle.std.specs.List.{IsDistinct, list_any, position_or_len}
+use Rattle.std.proofs.Common.{◌≡◌, ℕ, ◌+◌, ◌<◌, suc, zero, Bool, true, false, cond, if◌then◌else◌, List, [], ◌∷◌, ◌++◌, length, Option, Some, None, IfSome, option_map, position, slice_get, get_or, bytes_eq, is_some, not, ltb, ◌||◌, ◌⊎◌, refl, sym, ap, ◌∙◌, inl, inr, arith}
+use Rattle.std.specs.List.{list_any, position_or_len}
 use Rattle.std.specs.Option.{option_or}
 use Rattle.std.proofs.lemmas.Bool.Decides.{nat_tests}
 use Rattle.std.proofs.lemmas.Cmp.{nat_list_eq_equiv}
-use Rattle.std.proofs.lemmas.Map.Keys.{IsDistinct-push, IsDistinct-tail, apart_from_distinct}
+use Rattle.std.proofs.lemmas.Map.Keys.{IsDistinct-tail, apart_from_distinct}
 use Rattle.std.proofs.lemmas.Option.{get_or_from_slice_get, slice_get_within}
 use Rattle.std.proofs.lemmas.Slice.Eq.{bytes_eq-Decides}
 use Rattle.sky_names.specs.Places.{place_of, Distinct}
@@ -20,14 +20,6 @@ bytes_eq_sym one other = nat_list_eq_equiv.symm one other
 -- names that are equal by their bytes are one name
 pub same_name : (one other : List ℕ) → bytes_eq one other ≡ true → one ≡ other
 same_name one other = (bytes_eq-Decides one other).0
-
--- and names that are not one differ by their bytes
-pub other_name : (one other : List ℕ) → one ≢ other → bytes_eq one other ≡ false
-other_name one other differ = by (bytes_eq one other) refl
-  where
-    by : (b : Bool) → bytes_eq one other ≡ b → b ≡ false
-    by true is = absurd (differ (same_name one other is))
-    by false is = refl
 
 -- a name that stands somewhere stands at the head, or in the rest, one place later
 pub place_of-cons : (key first : List ℕ) (names : List (List ℕ)) (place : ℕ) → place_of key (first ∷ names) ≡ Some place
@@ -81,17 +73,6 @@ place_of-append key (first ∷ names) last = by (bytes_eq key first) (place_of k
     by false None true rest = ap (option_map (λ n. n + 1)) rest ∙ ap Some (omega arith)
     by false None false rest = ap (option_map (λ n. n + 1)) rest
 
--- a name that stood before keeps its place
-pub place_of-append_known : (key : List ℕ) (names : List (List ℕ)) (last : List ℕ) (place : ℕ) → place_of key names ≡ Some place → place_of key (names ++ last ∷ []) ≡ Some place
-place_of-append_known key names last place is =
-    place_of-append key names last ∙ ap (λ before. option_or before (if bytes_eq key last then Some (length names) else None)) is
-
--- and a new name is found at the end
-pub place_of-append_new : (names : List (List ℕ)) (last : List ℕ) → place_of last names ≡ None → place_of last (names ++ last ∷ []) ≡ Some (length names)
-place_of-append_new names last new =
-    place_of-append last names last ∙ ap (λ before. option_or before (if bytes_eq last last then Some (length names) else None)) new
-    ∙ ap (λ b. if b then Some (length names) else None) (bytes_eq_refl last)
-
 -- the place is what std calls the position
 pub place_of-position : (key : List ℕ) (names : List (List ℕ)) → place_of key names ≡ position (bytes_eq key) names
 place_of-position key [] = refl
@@ -113,16 +94,6 @@ list_any-place_of key (first ∷ names) = by (bytes_eq key first) (place_of key 
     by true rest is = refl
     by false None is = is
     by false (Some place) is = is
-
--- no names are distinct
-pub Distinct_empty : Distinct []
-unfolding IsDistinct
-Distinct_empty = tt
-
--- and distinct names stay so with a new one at the end
-pub Distinct-append : (names : List (List ℕ)) (last : List ℕ) → Distinct names → place_of last names ≡ None → Distinct (names ++ last ∷ [])
-Distinct-append names last distinct new =
-    IsDistinct-push {eq = bytes_eq} nat_list_eq_equiv names last distinct (list_any-place_of last names ∙ ap is_some new)
 
 -- where names are distinct, each is found at the place where it stands
 pub place_of-Distinct : (names : List (List ℕ)) (place : ℕ) (name : List ℕ) → Distinct names → slice_get names place ≡ Some name → place_of name names ≡ Some place

@@ -1,7 +1,7 @@
 ghost use Rattle.std.specs.Prelude.{◌≡◌, ◌-◌, ◌^◌, ◌<◌, [], ◌∷◌, ◌++◌, None, IfOk, IfSome, OnOk, OnErr, length, slice_index_or};
 ghost use Rattle.std.specs.Borrow.{Lends, sem};
 ghost use Rattle.sky_names.specs.Places.{place_of, Distinct};
-ghost use Rattle.sky_names.specs.Named.{with_value};
+ghost use Rattle.sky_names.specs.Named.{with_value, value_of};
 
 use crate::names::Names;
 use sky_val::{NoMemory, Text};
@@ -88,7 +88,7 @@ impl<V> Named<V> {
     pub fn add(&mut self, name: Text, value: V) -> Result<u32, NoMemory>
     where
         V: Drop,
-        requires new { place_of name self.old.names ≡ None }
+        requires new { value_of name self.old ≡ None }
         requires room { length self.old.names < 2 ^ 32 - 1 }
         ensures added { OnOk result (self.new ≡ record { names = self.old.names ++ name ∷ []; values = self.old.values ++ value ∷ [] }) }
         ensures number { IfOk result (λ number. number ≡ length self.old.names) }

@@ -1,16 +1,15 @@
-use Rattle.std.proofs.Common.{ap, ◌∙◌, option_map, Some}
-use Rattle.sky_names.specs.Places.{named}
-use Rattle.pgq_queues.specs.Seen.{seen_sub}
-use Rattle.pgq_queues.specs.Subs.{consumer_of}
+use Rattle.std.proofs.Common.{ap, sym, ◌∙◌, option_and_then, slice_get, Some}
+use Rattle.sky_names.specs.Named.{value_of}
+use Rattle.sky_names.proofs.ValueLemmas.{value_of-there}
 use Rattle.pgq_queues.specs.Views.{QueueView}
 use Rattle.pgq_queues.proofs.queue.Queue.subscription.Goals as goal
 
-pub returns-in_err-sub : goal.returns-in_err-sub
-returns-in_err-sub c =
-    c.from_residual.ensures ∙ ap (option_map seen_sub) c.in_err-sub.ensures
-    ∙ ap (λ (v : QueueView). option_map seen_sub (named consumer_of c.args.consumer.now v.subs)) c.self.view_is
+pub returns-in_err-number : goal.returns-in_err-number
+returns-in_err-number c =
+    c.from_residual.ensures ∙ ap (option_and_then (slice_get c.self.inside.subs.values)) c.in_err-number.ensures.number
+    ∙ ap (λ (v : QueueView). value_of c.args.consumer.now v.subs) c.self.view_is
 
 pub returns : goal.returns
 returns c =
-    ap Some c.of.ensures ∙ ap (option_map seen_sub) c.in_ok-sub.ensures
-    ∙ ap (λ (v : QueueView). option_map seen_sub (named consumer_of c.args.consumer.now v.subs)) c.self.view_is
+    ap Some c.copy.ensures ∙ sym (value_of-there c.self.inside.subs c.args.consumer.now c.in_ok-number.number c.get.result.now c.in_ok-number.ensures.number c.get.ensures.within c.get.ensures.value)
+    ∙ ap (λ (v : QueueView). value_of c.args.consumer.now v.subs) c.self.view_is

@@ -10,7 +10,7 @@ pub returns-clause-marks : goal.returns-clause-marks
 returns-clause-marks c =
     made-as _ _ _ _ c.in_ok-queue.queue _ (record { id = 1; time = c.args.now; snapshot = c.args.snapshot; seq = 0 }) c.self.view_is c.in_ok-add.ensures.added
     (c.push_reserved.ensures.items ∙ ap (λ queues. queues ++ c.in_ok-queue.queue ∷ []) c.in_ok-reserve.ensures.items)
-    (c.in_ok-queue.ensures ∙ ap (λ (t : ℤ). record { seq = 0; events = []; ticks = record { id = 1; time = t; snapshot = c.args.snapshot; seq = 0 } ∷ []; subs = [] }) (to_z-of_z w64 c.args.now c.ranges.now))
+    (c.in_ok-queue.ensures ∙ ap (λ (t : ℤ). record { seq = 0; events = []; ticks = record { id = 1; time = t; snapshot = c.args.snapshot; seq = 0 } ∷ []; subs = record { names = []; values = [] } }) (to_z-of_z w64 c.args.now c.ranges.now))
     c.self.invariant.0.1 refl refl
 
 pub invariant_of-self-2 : goal.invariant_of-self-2
