@@ -18,7 +18,7 @@ use Rattle.sky_model.specs.Printed.{ReplyHasMoments, HaveMoments}
 use Rattle.sky_model.specs.Reader.{database_by_itself, within_database, by_world, Deed, answers_with, refuses, appears, founds, joined, followed}
 use Rattle.sky_model.specs.Settling.{Turn}
 use Rattle.sky_model.specs.Calls.{Call, database_turn, deed_in, left_if, opens_in, opens, turn, called}
-use Rattle.sky_model.specs.Steps.{deed_at}
+use Rattle.sky_model.specs.Steps.{Steps, deed_at}
 use Rattle.sky_model.proofs.Standing.{steps_from_exact}
 use Rattle.sky_model.proofs.RowStanding.{turn-within}
 use Rattle.pgq_db.specs.Views.{DbView}
@@ -381,8 +381,11 @@ answers-new old with_it new call who before after place room is number counted a
     same = ap (joined (appears call.who)) (ap (λ n. turn by_world n call.stmt (after_fact (seen_world old) (appeared call.who))) (sym number) ∙ ap (turn by_world who call.stmt) (sym is))
 
 -- a call's replies in a list that was empty
-pub added-alone : (old new : World) (call : Call) (before after : List (ℕ × Reply)) → before ≡ [] → (adds : AddsCall old new call before after) → after ≡ adds.replies
-added-alone old new call before after none adds = adds.answered ∙ ap (λ xs. xs ++ adds.replies) none
+pub added-alone : (old new : World) (call : Call) (before after : List (ℕ × Reply)) → before ≡ [] → AddsCall old new call before after
+    → Steps old new call after × All (λ (answer : ℕ × Reply). answer.0 ≤ length new.sessions) after × HaveMoments after
+added-alone old new call before after none adds =
+    let same : adds.replies ≡ after = sym (adds.answered ∙ ap (λ xs. xs ++ adds.replies) none) in
+    (subst (Steps old new call) same adds.steps, subst (All (IsWithin (length new.sessions))) same adds.numbered, subst HaveMoments same adds.moments)
 
 -- ---- those that wait
 
