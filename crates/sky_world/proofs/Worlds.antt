@@ -15,7 +15,7 @@ use Rattle.sky_model.specs.History.{Mark, Fact, appeared, founded, entered, left
 use Rattle.sky_model.specs.State.{Database, database_of, changed_at, after_mark, after_marks}
 use Rattle.sky_model.specs.World.{World, world_of, after_fact, after_facts}
 use Rattle.sky_model.specs.Printed.{ReplyHasMoments, HaveMoments}
-use Rattle.sky_model.specs.Reader.{database_by_itself, within_database, by_world, Deed, refuses, appears, founds, joined, followed}
+use Rattle.sky_model.specs.Reader.{database_by_itself, within_database, by_world, Deed, answers_with, refuses, appears, founds, joined, followed}
 use Rattle.sky_model.specs.Settling.{Turn}
 use Rattle.sky_model.specs.Calls.{Call, database_turn, deed_in, left_if, opens_in, opens, turn, called}
 use Rattle.sky_model.specs.Steps.{Steps, deed_at}
@@ -24,13 +24,13 @@ use Rattle.sky_model.proofs.RowStanding.{turn-within}
 use Rattle.pgq_db.specs.Views.{DbView}
 use Rattle.pgq_db.specs.Seen.{seen_database, no_database}
 use Rattle.pgq_db.specs.Waiters.{WaitersWithin, StaysWithin}
-use Rattle.pgq_db.specs.Gives.{Gives}
+use Rattle.pgq_db.specs.Gives.{Adds}
 use Rattle.pgq_db.proofs.Empty.{no_database-is}
 use Rattle.sky_world.specs.Views.{WorldView}
 use Rattle.sky_world.specs.Seen.{seen_world}
 use Rattle.sky_world.specs.Homes.{HomesWithin}
 use Rattle.sky_world.specs.Waiters.{AllWaitersWithin}
-use Rattle.sky_world.specs.GivesDeed.{GivesDeed}
+use Rattle.sky_world.specs.Adds.{AddsDeed, AddsCall}
 
 -- marks in a database change that database alone
 pub after_facts-within : (w : World) (d : ℕ) (marks : List Mark) → after_facts w (map (within d) marks) ≡ record w { database = changed_at d (λ x. after_marks x marks) w.database }
@@ -193,19 +193,37 @@ after_facts-append : (w : World) (xs ys : List Fact) → after_facts w (xs ++ ys
 after_facts-append w [] ys = refl
 after_facts-append w (x ∷ xs) ys = after_facts-append (after_fact w x) xs ys
 
--- what a statement of a database gives in the world
-pub gives-within : (v now : WorldView) (d who : ℕ) (old new : DbView) (stmt : Stmt) (replies : List (ℕ × Reply)) (t : ℤ) → v ≡ now → d < length now.stores
+-- answers of sessions that are there, with times that are printed
+abbrev HasMoments : ℕ × Reply → Type 0
+HasMoments answer = ReplyHasMoments answer.1
+
+abbrev IsKnown : ℕ → ℕ × Reply → Type 0
+IsKnown count answer = answer.0 < count
+
+abbrev IsWithin : ℕ → ℕ × Reply → Type 0
+IsWithin count answer = answer.0 ≤ count
+
+known-numbered : (count more : ℕ) (replies : List (ℕ × Reply)) → count ≤ more → All (λ (answer : ℕ × Reply). answer.0 < count) replies → All (λ (answer : ℕ × Reply). answer.0 ≤ more) replies
+known-numbered count more replies le all = All-weaker (IsKnown count) (IsWithin more) (λ answer lt. omega (arith, lt, le)) replies all
+
+-- what a statement of a database adds in the world
+pub adds-within : (v now : WorldView) (d who : ℕ) (old new : DbView) (stmt : Stmt) (before after : List (ℕ × Reply)) (t : ℤ) → v ≡ now → d < length now.stores
     → old ≡ get_or v.stores d old → t ≡ v.now
-    → Gives (seen_database old) (seen_database new) replies (database_turn database_by_itself (seen_database old) t who stmt)
-    → GivesDeed (seen_world now) (seen_world (record v { stores = slice_set v.stores d new })) replies
+    → Adds (seen_database old) (seen_database new) before after (database_turn database_by_itself (seen_database old) t who stmt)
+    → HaveMoments (database_turn database_by_itself (seen_database old) t who stmt).answers
+    → All (λ (answer : ℕ × Reply). answer.0 < length now.homes) (database_turn database_by_itself (seen_database old) t who stmt).answers
+    → AddsDeed now (record v { stores = slice_set v.stores d new }) before after
     (deed_in d [] (database_turn (within_database by_world d) (seen_world now) (seen_world now).now who stmt))
-gives-within v now d who old new stmt replies t same lt at is gives = record {
-  answered = gives.replied ∙ ap Turn.answers turn_is;
+adds-within v now d who old new stmt before after t same lt at is adds moments known = record {
+  answered = adds.replied ∙ ap (λ (u : Turn). before ++ u.answers) turn_is;
+  known = subst (λ (u : Turn). All (IsKnown (length now.homes)) u.answers) turn_is known;
+  moments = subst (λ (u : Turn). HaveMoments u.answers) turn_is moments;
   changed = shown
       ∙ ap (λ (u : Turn). record (seen_world v) { database = changed_at d (λ y. after_marks y u.marks) (seen_world v).database }) turn_is
       ∙ sym (after_facts-within (seen_world v) d whole.marks)
       ∙ ap (λ w. after_facts (seen_world w) (map (within d) whole.marks)) same
       ∙ ap (λ facts. after_facts (seen_world now) facts) (sym (append-nil (map (within d) whole.marks)));
+  sessions = ap WorldView.sessions same;
 }
   where
     lt_there : d < length v.stores
@@ -231,7 +249,7 @@ gives-within v now d who old new stmt replies t same lt at is gives = record {
         ≡ (if b then after_marks (seen_database (get_or v.stores n no_database)) done.marks else seen_database (get_or v.stores n no_database))
     by n true e =
         let one : d ≡ n = grind (arith, nat_tests) in
-        gives.changed
+        adds.changed
         ∙ ap (λ x. after_marks (seen_database x) done.marks) (sym there)
         ∙ ap (λ m. after_marks (seen_database (get_or v.stores m no_database)) done.marks) one
     by n false e = refl
@@ -242,111 +260,132 @@ gives-within v now d who old new stmt replies t same lt at is gives = record {
     }
 
 -- and what it changes outside of databases
-pub gives-moved : (old s new : World) (d : ℕ) (fact : Fact) (replies : List (ℕ × Reply)) (turn : Turn) → GivesDeed old s replies (deed_in d [] turn) → new ≡ after_fact s fact
-    → GivesDeed old new replies (deed_in d (fact ∷ []) turn)
-gives-moved old s new d fact replies turn gives is = record {
-  answered = gives.answered;
-  changed = is ∙ ap (λ w. after_fact w fact) (gives.changed ∙ ap (λ facts. after_facts old facts) (append-nil (map (within d) turn.marks)))
-      ∙ sym (after_facts-append old (map (within d) turn.marks) (fact ∷ []));
+pub adds-moved : (old s new : WorldView) (d : ℕ) (fact : Fact) (before after : List (ℕ × Reply)) (turn : Turn) → AddsDeed old s before after (deed_in d [] turn)
+    → seen_world new ≡ after_fact (seen_world s) fact → new.sessions ≡ s.sessions → AddsDeed old new before after (deed_in d (fact ∷ []) turn)
+adds-moved old s new d fact before after turn adds is same = record {
+  answered = adds.answered;
+  known = adds.known;
+  moments = adds.moments;
+  changed = is ∙ ap (λ w. after_fact w fact) (adds.changed ∙ ap (λ facts. after_facts (seen_world old) facts) (append-nil (map (within d) turn.marks)))
+      ∙ sym (after_facts-append (seen_world old) (map (within d) turn.marks) (fact ∷ []));
+  sessions = same ∙ adds.sessions;
 }
 
--- a statement with which its session stays
-pub gives-stayed : (old new : World) (d who : ℕ) (leaving : Bool) (replies : List (ℕ × Reply)) (turn : Turn) → leaving ≡ false → GivesDeed old new replies (deed_in d [] turn)
-    → GivesDeed old new replies (deed_in d (left_if who leaving) turn)
-gives-stayed old new d who leaving replies turn stays gives = subst (λ b. GivesDeed old new replies (deed_in d (left_if who b) turn)) (sym stays) gives
-
--- and one with which it leaves
-pub gives-left : (old s new : World) (d who : ℕ) (leaving : Bool) (replies : List (ℕ × Reply)) (turn : Turn) → leaving ≡ true → GivesDeed old s replies (deed_in d [] turn)
-    → new ≡ after_fact s (left who) → GivesDeed old new replies (deed_in d (left_if who leaving) turn)
-gives-left old s new d who leaving replies turn leaves gives is =
-    subst (λ b. GivesDeed old new replies (deed_in d (left_if who b) turn)) (sym leaves) (gives-moved old s new d (left who) replies turn gives is)
+-- a statement with which its session leaves
+pub adds-left : (old s new : WorldView) (d who : ℕ) (leaving : Bool) (before after : List (ℕ × Reply)) (turn : Turn) → leaving ≡ true → AddsDeed old s before after (deed_in d [] turn)
+    → seen_world new ≡ after_fact (seen_world s) (left who) → new.sessions ≡ s.sessions → AddsDeed old new before after (deed_in d (left_if who leaving) turn)
+adds-left old s new d who leaving before after turn leaves adds is same =
+    subst (λ b. AddsDeed old new before after (deed_in d (left_if who b) turn)) (sym leaves) (adds-moved old s new d (left who) before after turn adds is same)
 
 -- `open` in a database that is made by it
-pub opens-new : (old s new : World) (who : ℕ) (stmt : Stmt) (name : List ℕ) (replies : List (ℕ × Reply)) → length old.databases < 16 → s ≡ after_fact old (founded name)
-    → GivesDeed s new replies (opens_in by_world who stmt (length old.databases) s) → GivesDeed old new replies (opens by_world old who stmt name None)
-opens-new old s new who stmt name replies room is gives = subst (GivesDeed old new replies) (sym whole) (record { answered = there.answered; changed = there.changed })
+pub opens-new : (old s new : WorldView) (who number : ℕ) (stmt : Stmt) (name : List ℕ) (before after : List (ℕ × Reply)) → length old.databases < 16 → number ≡ length old.databases
+    → seen_world s ≡ after_fact (seen_world old) (founded name) → s.homes ≡ old.homes → s.sessions ≡ old.sessions
+    → AddsDeed s new before after (opens_in by_world who stmt number (seen_world s)) → AddsDeed old new before after (opens by_world (seen_world old) who stmt name None)
+opens-new old s new who number stmt name before after room numbered is homes same adds = subst (AddsDeed old new before after) (sym whole) (record {
+  answered = adds.answered ∙ ap (λ (x : Deed). before ++ x.answers) there;
+  known = subst (λ n. All (IsKnown n) then_does.answers) (ap length homes) (subst (λ (x : Deed). All (IsKnown (length s.homes)) x.answers) there adds.known);
+  moments = subst (λ (x : Deed). HaveMoments x.answers) there adds.moments;
+  changed = adds.changed ∙ ap (λ (x : Deed). after_facts (seen_world s) x.facts) there ∙ ap (λ w. after_facts w then_does.facts) is;
+  sessions = adds.sessions ∙ same;
+})
   where
-    there : GivesDeed (after_fact old (founded name)) new replies (opens_in by_world who stmt (length old.databases) (after_fact old (founded name)))
-    there = subst (λ w. GivesDeed w new replies (opens_in by_world who stmt (length old.databases) w)) is gives
+    then_does : Deed
+    then_does = opens_in by_world who stmt (length old.databases) (after_fact (seen_world old) (founded name))
+
+    there : opens_in by_world who stmt number (seen_world s) ≡ then_does
+    there = ap (λ n. opens_in by_world who stmt n (seen_world s)) numbered ∙ ap (opens_in by_world who stmt (length old.databases)) is
 
     left_over : nat_le 16 (length old.databases) ≡ false
     left_over = grind (arith, nat_tests)
 
-    whole : opens by_world old who stmt name None ≡ followed by_world old (opens_in by_world who stmt (length old.databases)) (founds name)
-    whole = ap (λ b. if b then refuses who (TooMany Databases) else followed by_world old (opens_in by_world who stmt (length old.databases)) (founds name)) left_over
+    whole : opens by_world (seen_world old) who stmt name None ≡ followed by_world (seen_world old) (opens_in by_world who stmt (length old.databases)) (founds name)
+    whole = ap (λ b. if b then refuses who (TooMany Databases) else followed by_world (seen_world old) (opens_in by_world who stmt (length old.databases)) (founds name)) left_over
 
--- where there is no room for it
-pub opens-full : (old : World) (who : ℕ) (stmt : Stmt) (name : List ℕ) → 16 ≤ length old.databases → GivesDeed old old ((who, Refused (TooMany Databases)) ∷ []) (opens by_world old who stmt name None)
-opens-full old who stmt name full = subst (GivesDeed old old ((who, Refused (TooMany Databases)) ∷ [])) (sym whole) (record { answered = refl; changed = refl })
+-- one answer, where nothing happens
+pub adds-answer : (w : WorldView) (before after : List (ℕ × Reply)) (who : ℕ) (reply : Reply) → who < length w.homes → ReplyHasMoments reply → after ≡ before ++ (who, reply) ∷ []
+    → AddsDeed w w before after (answers_with who reply [])
+adds-answer w before after who reply lt has pushed = record {
+  answered = pushed;
+  known = All-from_recursion (IsKnown (length w.homes)) ((who, reply) ∷ []) (lt, tt);
+  moments = All-from_recursion HasMoments ((who, reply) ∷ []) (has, tt);
+  changed = refl;
+  sessions = refl;
+}
+
+-- where there is no room for a database
+pub opens-full : (w : WorldView) (before after : List (ℕ × Reply)) (who : ℕ) (stmt : Stmt) (name : List ℕ) → who < length w.homes → 16 ≤ length w.databases
+    → after ≡ before ++ (who, Refused (TooMany Databases)) ∷ [] → AddsDeed w w before after (opens by_world (seen_world w) who stmt name None)
+opens-full w before after who stmt name lt full pushed =
+    subst (AddsDeed w w before after) (sym whole) (adds-answer w before after who (Refused (TooMany Databases)) lt tt pushed)
   where
-    no_room : nat_le 16 (length old.databases) ≡ true
+    no_room : nat_le 16 (length w.databases) ≡ true
     no_room = grind (arith, nat_tests)
 
-    whole : opens by_world old who stmt name None ≡ refuses who (TooMany Databases)
-    whole = ap (λ b. if b then refuses who (TooMany Databases) else followed by_world old (opens_in by_world who stmt (length old.databases)) (founds name)) no_room
+    whole : opens by_world (seen_world w) who stmt name None ≡ refuses who (TooMany Databases)
+    whole = ap (λ b. if b then refuses who (TooMany Databases) else followed by_world (seen_world w) (opens_in by_world who stmt (length w.databases)) (founds name)) no_room
 
 -- a call of a session that is known
-pub answers-known : (old new : World) (call : Call) (who : ℕ) (replies : List (ℕ × Reply)) → Some who ≡ place_of call.who old.sessions
-    → GivesDeed old new replies (turn by_world who call.stmt old) → GivesDeed old new replies (deed_at old call)
-answers-known old new call who replies place gives = subst (GivesDeed old new replies) (ap (called by_world old call) place) gives
+pub answers-known : (old new : WorldView) (call : Call) (who : ℕ) (before after : List (ℕ × Reply)) → Some who ≡ place_of call.who old.sessions → length old.homes ≡ length old.sessions
+    → AddsDeed old new before after (turn by_world who call.stmt (seen_world old)) → AddsCall (seen_world old) (seen_world new) call before after
+answers-known old new call who before after place counted adds = record {
+  replies = (turn by_world who call.stmt (seen_world old)).answers;
+  answered = adds.answered;
+  steps = steps_from_exact (seen_world old) (seen_world new) call _ (ap Deed.answers whole) (adds.changed ∙ ap (λ (x : Deed). after_facts (seen_world old) x.facts) whole);
+  numbered = known-numbered _ _ _ (omega (arith, counted, ap length adds.sessions)) adds.known;
+  moments = adds.moments;
+}
+  where
+    whole : turn by_world who call.stmt (seen_world old) ≡ deed_at (seen_world old) call
+    whole = ap (called by_world (seen_world old) call) place
 
 -- what a session does that isn't known: it is refused, or appears and has its turn
 abbrev unknown : World → Call → Bool → Deed
 unknown w call full = if full then refuses (length w.sessions) (TooMany Sessions) else followed by_world w (turn by_world (length w.sessions) call.stmt) (appears call.who)
 
 -- a call that would bring a session too many
-pub answers-full : (old : World) (call : Call) (who : ℕ) → place_of call.who old.sessions ≡ None → 256 ≤ length old.sessions → who ≡ length old.sessions
-    → GivesDeed old old ((who, Refused (TooMany Sessions)) ∷ []) (deed_at old call)
-answers-full old call who place full is = record {
-  answered = ap (λ n. (n, Refused (TooMany Sessions)) ∷ []) is ∙ sym (ap Deed.answers whole);
-  changed = ap (λ (x : Deed). after_facts old x.facts) (sym whole);
+pub answers-full : (w : WorldView) (call : Call) (who : ℕ) (before after : List (ℕ × Reply)) → place_of call.who w.sessions ≡ None → 256 ≤ length w.sessions → who ≡ length w.sessions
+    → after ≡ before ++ (who, Refused (TooMany Sessions)) ∷ [] → AddsCall (seen_world w) (seen_world w) call before after
+answers-full w call who before after place full is pushed = record {
+  replies = (who, Refused (TooMany Sessions)) ∷ [];
+  answered = pushed;
+  steps = steps_from_exact (seen_world w) (seen_world w) call _ (ap (λ n. (n, Refused (TooMany Sessions)) ∷ []) is ∙ sym (ap Deed.answers whole))
+      (ap (λ (x : Deed). after_facts (seen_world w) x.facts) (sym whole));
+  numbered = All-from_recursion (IsWithin (length w.sessions)) ((who, Refused (TooMany Sessions)) ∷ []) (omega (arith, is), tt);
+  moments = All-from_recursion HasMoments ((who, Refused (TooMany Sessions)) ∷ []) (tt, tt);
 }
   where
-    whole : deed_at old call ≡ refuses (length old.sessions) (TooMany Sessions)
+    whole : deed_at (seen_world w) call ≡ refuses (length w.sessions) (TooMany Sessions)
     whole =
-        let many : nat_le 256 (length old.sessions) ≡ true = grind (arith, nat_tests) in
-        ap (called by_world old call) place ∙ ap (unknown old call) many
+        let many : nat_le 256 (length w.sessions) ≡ true = grind (arith, nat_tests) in
+        ap (called by_world (seen_world w) call) place ∙ ap (unknown (seen_world w) call) many
 
 -- the first call of a session
-pub answers-new : (old with_it new : World) (call : Call) (who : ℕ) (replies : List (ℕ × Reply)) → place_of call.who old.sessions ≡ None → length old.sessions < 256
-    → with_it ≡ after_fact old (appeared call.who) → who ≡ length old.sessions
-    → GivesDeed with_it new replies (turn by_world who call.stmt with_it) → GivesDeed old new replies (deed_at old call)
-answers-new old with_it new call who replies place room is number gives = record {
-  answered = gives.answered ∙ sym (ap Deed.answers (whole ∙ same));
-  changed = gives.changed ∙ ap (λ w. after_facts w (turn by_world who call.stmt with_it).facts) is ∙ ap (λ (x : Deed). after_facts old x.facts) (sym (whole ∙ same));
+pub answers-new : (old with_it new : WorldView) (call : Call) (who : ℕ) (before after : List (ℕ × Reply)) → place_of call.who old.sessions ≡ None → length old.sessions < 256
+    → seen_world with_it ≡ after_fact (seen_world old) (appeared call.who) → who ≡ length old.sessions → length with_it.homes ≤ length with_it.sessions
+    → AddsDeed with_it new before after (turn by_world who call.stmt (seen_world with_it)) → AddsCall (seen_world old) (seen_world new) call before after
+answers-new old with_it new call who before after place room is number counted adds = record {
+  replies = (turn by_world who call.stmt (seen_world with_it)).answers;
+  answered = adds.answered;
+  steps = steps_from_exact (seen_world old) (seen_world new) call _ (sym (ap Deed.answers (whole ∙ same)))
+      (adds.changed ∙ ap (λ w. after_facts w (turn by_world who call.stmt (seen_world with_it)).facts) is ∙ ap (λ (x : Deed). after_facts (seen_world old) x.facts) (sym (whole ∙ same)));
+  numbered = known-numbered _ _ _ (omega (arith, counted, ap length adds.sessions)) adds.known;
+  moments = adds.moments;
 }
   where
-    whole : deed_at old call ≡ followed by_world old (turn by_world (length old.sessions) call.stmt) (appears call.who)
+    whole : deed_at (seen_world old) call ≡ followed by_world (seen_world old) (turn by_world (length old.sessions) call.stmt) (appears call.who)
     whole =
         let few : nat_le 256 (length old.sessions) ≡ false = grind (arith, nat_tests) in
-        ap (called by_world old call) place ∙ ap (unknown old call) few
+        ap (called by_world (seen_world old) call) place ∙ ap (unknown (seen_world old) call) few
 
-    same : followed by_world old (turn by_world (length old.sessions) call.stmt) (appears call.who) ≡ joined (appears call.who) (turn by_world who call.stmt with_it)
-    same = ap (joined (appears call.who)) (ap (λ n. turn by_world n call.stmt (after_fact old (appeared call.who))) (sym number) ∙ ap (turn by_world who call.stmt) (sym is))
+    same : followed by_world (seen_world old) (turn by_world (length old.sessions) call.stmt) (appears call.who) ≡ joined (appears call.who) (turn by_world who call.stmt (seen_world with_it))
+    same = ap (joined (appears call.who)) (ap (λ n. turn by_world n call.stmt (after_fact (seen_world old) (appeared call.who))) (sym number) ∙ ap (turn by_world who call.stmt) (sym is))
 
--- the answers of a step
-pub steps-answered : (old new : World) (call : Call) (replies : List (ℕ × Reply)) → GivesDeed old new replies (deed_at old call) → Steps old new call replies
-steps-answered old new call replies gives = steps_from_exact old new call replies gives.answered gives.changed
-
--- events that were made at times that are printed
-abbrev HasMoments : ℕ × Reply → Type 0
-HasMoments answer = ReplyHasMoments answer.1
-
-pub one-moments : (who : ℕ) (replies : List (ℕ × Reply)) (reply : Reply) → replies ≡ (who, reply) ∷ [] → ReplyHasMoments reply → HaveMoments replies
-one-moments who replies reply is has = subst (All HasMoments) (sym is) (All-from_recursion HasMoments ((who, reply) ∷ []) (has, tt))
-
--- answers of sessions that are there
-abbrev IsKnown : ℕ → ℕ × Reply → Type 0
-IsKnown count answer = answer.0 < count
-
-abbrev IsWithin : ℕ → ℕ × Reply → Type 0
-IsWithin count answer = answer.0 ≤ count
-
-pub one-known : (who count : ℕ) (replies : List (ℕ × Reply)) (reply : Reply) → replies ≡ (who, reply) ∷ [] → who < count → All (λ (answer : ℕ × Reply). answer.0 < count) replies
-one-known who count replies reply is lt = subst (All (IsKnown count)) (sym is) (All-from_recursion (IsKnown count) ((who, reply) ∷ []) (lt, tt))
-
-pub known-numbered : (count more : ℕ) (replies : List (ℕ × Reply)) → count ≤ more → All (λ (answer : ℕ × Reply). answer.0 < count) replies → All (λ (answer : ℕ × Reply). answer.0 ≤ more) replies
-known-numbered count more replies le all = All-weaker (IsKnown count) (IsWithin more) (λ answer lt. omega (arith, lt, le)) replies all
+-- a call's replies in a list that was empty
+pub added-alone : (old new : World) (call : Call) (before after : List (ℕ × Reply)) → before ≡ [] → AddsCall old new call before after
+    → Steps old new call after × All (λ (answer : ℕ × Reply). answer.0 ≤ length new.sessions) after × HaveMoments after
+added-alone old new call before after none adds =
+    let same : adds.replies ≡ after = sym (adds.answered ∙ ap (λ xs. xs ++ adds.replies) none) in
+    (subst (Steps old new call) same adds.steps, subst (All (IsWithin (length new.sessions))) same adds.numbered, subst HaveMoments same adds.moments)
 
 -- ---- those that wait
 

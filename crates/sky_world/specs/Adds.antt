@@ -1,10 +1,28 @@
--- What a method of the world gives, by what the world showed.
-use Rattle.std.specs.Prelude.{◌≡◌, ℕ, List}
+-- What a method of the world adds to the answers, by what the world showed.
+use Rattle.std.specs.Prelude.{◌≡◌, ℕ, ◌<◌, ◌≤◌, List, ◌++◌, All, length}
 use Rattle.sky_model.specs.declared.reply.Reply.{Reply}
+use Rattle.sky_model.specs.Printed.{HaveMoments}
 use Rattle.sky_model.specs.World.{World, after_facts}
 use Rattle.sky_model.specs.Reader.{Deed}
+use Rattle.sky_model.specs.Calls.{Call}
+use Rattle.sky_model.specs.Steps.{Steps}
+use Rattle.sky_world.specs.Views.{WorldView}
+use Rattle.sky_world.specs.Seen.{seen_world}
 
--- the answers are the deed's, and the world is then as after its facts
-pub record GivesDeed (old new : World) (replies : List (ℕ × Reply)) (deed : Deed) : Type 0 where
-  pub answered : replies ≡ deed.answers
-  pub changed : new ≡ after_facts old deed.facts
+-- the deed's answers stand behind those that were given before, each of a session that there is, with times that are
+-- printed; and the world is then as after the deed's facts, with the same sessions
+pub record AddsDeed (old new : WorldView) (before after : List (ℕ × Reply)) (deed : Deed) : Type 0 where
+  pub answered : after ≡ before ++ deed.answers
+  pub known : All (λ answer. answer.0 < length old.homes) deed.answers
+  pub moments : HaveMoments deed.answers
+  pub changed : seen_world new ≡ after_facts (seen_world old) deed.facts
+  pub sessions : new.sessions ≡ old.sessions
+
+-- a call's replies stand behind those that were given before, each of a session that there is, or of one too many, with
+-- times that are printed
+pub record AddsCall (old new : World) (call : Call) (before after : List (ℕ × Reply)) : Type 0 where
+  pub replies : List (ℕ × Reply)
+  pub answered : after ≡ before ++ replies
+  pub steps : Steps old new call replies
+  pub numbered : All (λ answer. answer.0 ≤ length new.sessions) replies
+  pub moments : HaveMoments replies

@@ -2,4 +2,4 @@ pub mod Views
 pub mod Seen
 pub mod Homes
 pub mod Waiters
-pub mod GivesDeed
+pub mod Adds

@@ -8,10 +8,10 @@ ghost use Rattle.sky_model.specs.Printed.{HaveMoments, ReplyHasMoments};
 ghost use Rattle.sky_model.specs.World.{world_of, after_fact};
 ghost use Rattle.sky_model.specs.Reader.{within_database, by_world};
 ghost use Rattle.sky_model.specs.Calls.{database_turn, is_leaving, deed_in, opening, unopened, opens_in, opens, outside_does, session_does, turn};
-ghost use Rattle.sky_model.specs.Steps.{Steps, deed_at};
+ghost use Rattle.sky_model.specs.Steps.{Steps};
 ghost use Rattle.pgq_db.specs.Seen.{seen_database};
 ghost use Rattle.sky_world.specs.Seen.{seen_world};
-ghost use Rattle.sky_world.specs.GivesDeed.{GivesDeed};
+ghost use Rattle.sky_world.specs.Adds.{AddsDeed, AddsCall};
 
 use pgq_db::Db;
 use sky_model::{Limit, Refusal, Replies, Reply, RowStmt, Stmt};
@@ -94,19 +94,25 @@ impl World {
         ensures numbered { IfOk result (λ replies. All (λ answer. answer.0 ≤ length (seen_world self.new).sessions) replies) }
         ensures times { IfOk result (λ replies. HaveMoments replies) }
     {
-        let replies = self.answer(name, stmt)?;
+        let mut replies = Replies::new(self.alloc);
+        self.step_into(name, stmt, &mut replies)?;
         Ok(replies)
     }
 
-    fn answer(&mut self, name: &Text, stmt: &Stmt) -> Result<Replies, AllocError>
-        requires { IsInForm stmt.now }
-        ensures answers { IfOk result (λ replies. GivesDeed (seen_world self.old) (seen_world self.new) replies (deed_at (seen_world self.old) (record { who = name.now; stmt = stmt.now }))) }
-        ensures numbered { IfOk result (λ replies. All (λ answer. answer.0 ≤ length self.new.sessions) replies) }
-        ensures moments { IfOk result HaveMoments }
+    /// The same; the answers are added to those that were given before.
+    pub fn step_into(
+        &mut self,
+        name: &Text,
+        stmt: &Stmt,
+        replies: &mut Replies,
+    ) -> Result<(), NoMemory>
+        requires name { is_name name.now ≡ true }
+        requires form { IsInForm stmt.now }
+        ensures { OnOk result (AddsCall (seen_world self.old) (seen_world self.new) (record { who = name.now; stmt = stmt.now }) replies.old replies.new) }
     {
         match self.number(name) {
-            Some(who) => self.answer_known(who, name, stmt),
-            None => self.answer_new(name, stmt),
+            Some(who) => self.answer_known(who, name, stmt, replies),
+            None => self.answer_new(name, stmt, replies),
         }
     }
 
@@ -115,34 +121,36 @@ impl World {
         who: SessionId,
         name: &Text,
         stmt: &Stmt,
-    ) -> Result<Replies, AllocError>
+        replies: &mut Replies,
+    ) -> Result<(), AllocError>
         requires form { IsInForm stmt.now }
         requires known { Some who ≡ place_of name.now self.old.sessions }
         requires within { who < length self.old.homes }
         requires counted { length self.old.homes ≡ length self.old.sessions }
-        ensures answers { IfOk result (λ replies. GivesDeed (seen_world self.old) (seen_world self.new) replies (deed_at (seen_world self.old) (record { who = name.now; stmt = stmt.now }))) }
-        ensures numbered { IfOk result (λ replies. All (λ answer. answer.0 ≤ length self.new.sessions) replies) }
-        ensures moments { IfOk result HaveMoments }
+        ensures { OnOk result (AddsCall (seen_world self.old) (seen_world self.new) (record { who = name.now; stmt = stmt.now }) replies.old replies.new) }
     {
-        let replies = self.run(who, stmt)?;
-        Ok(replies)
+        self.run(who, stmt, replies)?;
+        Ok(())
     }
 
-    fn answer_new(&mut self, name: &Text, stmt: &Stmt) -> Result<Replies, AllocError>
+    fn answer_new(
+        &mut self,
+        name: &Text,
+        stmt: &Stmt,
+        replies: &mut Replies,
+    ) -> Result<(), AllocError>
         requires form { IsInForm stmt.now }
         requires new { place_of name.now self.old.sessions ≡ None }
-        ensures answers { IfOk result (λ replies. GivesDeed (seen_world self.old) (seen_world self.new) replies (deed_at (seen_world self.old) (record { who = name.now; stmt = stmt.now }))) }
-        ensures numbered { IfOk result (λ replies. All (λ answer. answer.0 ≤ length self.new.sessions) replies) }
-        ensures moments { IfOk result HaveMoments }
+        ensures { OnOk result (AddsCall (seen_world self.old) (seen_world self.new) (record { who = name.now; stmt = stmt.now }) replies.old replies.new) }
     {
         let who = self.session_count();
         if who >= MAX_SESSIONS {
-            let refused = Reply::Refused(Refusal::TooMany(Limit::Sessions));
-            return Replies::one(self.alloc, who, refused);
+            replies.push(who, Reply::Refused(Refusal::TooMany(Limit::Sessions)))?;
+            return Ok(());
         }
         self.appear(name)?;
-        let replies = self.run(who, stmt)?;
-        Ok(replies)
+        self.run(who, stmt, replies)?;
+        Ok(())
     }
 
     fn number(&self, name: &Text) -> Option<SessionId>
@@ -178,17 +186,19 @@ impl World {
     }
 
     /// Runs a statement of a session.
-    fn run(&mut self, who: SessionId, stmt: &Stmt) -> Result<Replies, AllocError>
+    fn run(
+        &mut self,
+        who: SessionId,
+        stmt: &Stmt,
+        replies: &mut Replies,
+    ) -> Result<(), AllocError>
         requires who { who < length self.old.homes }
         requires form { IsInForm stmt.now }
-        ensures gives { IfOk result (λ replies. GivesDeed (seen_world self.old) (seen_world self.new) replies (turn by_world who stmt.now (seen_world self.old))) }
-        ensures known { IfOk result (λ replies. All (λ answer. answer.0 < length self.old.homes) replies) }
-        ensures moments { IfOk result HaveMoments }
-        ensures sessions { OnOk result (self.new.sessions ≡ self.old.sessions) }
+        ensures { OnOk result (AddsDeed self.old self.new replies.old replies.new (turn by_world who stmt.now (seen_world self.old))) }
     {
         match self.home(who) {
-            Some(database) => self.run_in(database, who, stmt),
-            None => self.run_outside(who, stmt),
+            Some(database) => self.run_in(database, who, stmt, replies),
+            None => self.run_outside(who, stmt, replies),
         }
     }
 
@@ -206,22 +216,19 @@ impl World {
         database: usize,
         who: SessionId,
         stmt: &Stmt,
-    ) -> Result<Replies, AllocError>
+        replies: &mut Replies,
+    ) -> Result<(), AllocError>
         requires who { who < length self.old.homes }
         requires database { database < length self.old.stores }
         requires form { IsInForm stmt.now }
-        ensures gives { IfOk result (λ replies. GivesDeed (seen_world self.old) (seen_world self.new) replies
-            (session_does by_world (seen_world self.old) who stmt.now (Some database))) }
-        ensures known { IfOk result (λ replies. All (λ answer. answer.0 < length self.old.homes) replies) }
-        ensures moments { IfOk result HaveMoments }
-        ensures sessions { OnOk result (self.new.sessions ≡ self.old.sessions) }
+        ensures { OnOk result (AddsDeed self.old self.new replies.old replies.new (session_does by_world (seen_world self.old) who stmt.now (Some database))) }
     {
         let leaving = self.is_leaving(database, who, stmt);
-        let replies = self.run_there(database, who, stmt)?;
+        self.run_there(database, who, stmt, replies)?;
         if leaving {
             self.leave(who);
         }
-        Ok(replies)
+        Ok(())
     }
 
     /// Whether the session leaves the database by the statement: by `close`, unless it waits.
@@ -249,23 +256,20 @@ impl World {
         database: usize,
         who: SessionId,
         stmt: &Stmt,
-    ) -> Result<Replies, AllocError>
+        replies: &mut Replies,
+    ) -> Result<(), AllocError>
         requires who { who < length self.old.homes }
         requires database { database < length self.old.stores }
         requires form { IsInForm stmt.now }
-        ensures gives { IfOk result (λ replies. GivesDeed (seen_world self.old) (seen_world self.new) replies
-            (deed_in database [] (database_turn (within_database by_world database) (seen_world self.old) (seen_world self.old).now who stmt.now))) }
-        ensures known { IfOk result (λ replies. All (λ answer. answer.0 < length self.old.homes) replies) }
-        ensures moments { IfOk result HaveMoments }
-        ensures sessions { OnOk result (self.new.sessions ≡ self.old.sessions) }
+        ensures adds { OnOk result (AddsDeed self.old self.new replies.old replies.new (deed_in database [] (database_turn (within_database by_world database) (seen_world self.old) (seen_world self.old).now who stmt.now))) }
         ensures homes { OnOk result (length self.new.homes ≡ length self.old.homes) }
         ensures stores { OnOk result (length self.new.stores ≡ length self.old.stores) }
     {
         if self.is_cut {
             return Err(AllocError);
         }
-        match self.stores[database].step(who, stmt, self.clock) {
-            Ok(replies) => Ok(replies),
+        match self.stores[database].step_into(who, stmt, self.clock, replies) {
+            Ok(()) => Ok(()),
             Err(fault) => {
                 self.is_cut = true;
                 Err(fault)
@@ -283,18 +287,22 @@ impl World {
     }
 
     /// Runs a statement of a session that has no database open.
-    fn run_outside(&mut self, who: SessionId, stmt: &Stmt) -> Result<Replies, AllocError>
+    fn run_outside(
+        &mut self,
+        who: SessionId,
+        stmt: &Stmt,
+        replies: &mut Replies,
+    ) -> Result<(), AllocError>
         requires who { who < length self.old.homes }
         requires form { IsInForm stmt.now }
-        ensures gives { IfOk result (λ replies. GivesDeed (seen_world self.old) (seen_world self.new) replies
-            (outside_does by_world (seen_world self.old) who stmt.now (opening stmt.now))) }
-        ensures known { IfOk result (λ replies. All (λ answer. answer.0 < length self.old.homes) replies) }
-        ensures moments { IfOk result HaveMoments }
-        ensures sessions { OnOk result (self.new.sessions ≡ self.old.sessions) }
+        ensures { OnOk result (AddsDeed self.old self.new replies.old replies.new (outside_does by_world (seen_world self.old) who stmt.now (opening stmt.now))) }
     {
         match opening(stmt) {
-            Some(name) => self.open_database(who, stmt, name),
-            None => Replies::one(self.alloc, who, unopened(stmt)),
+            Some(name) => self.open_database(who, stmt, name, replies),
+            None => {
+                replies.push(who, unopened(stmt))?;
+                Ok(())
+            }
         }
     }
 
@@ -304,39 +312,39 @@ impl World {
         who: SessionId,
         stmt: &Stmt,
         name: &Text,
-    ) -> Result<Replies, AllocError>
+        replies: &mut Replies,
+    ) -> Result<(), AllocError>
         requires who { who < length self.old.homes }
         requires form { IsInForm stmt.now }
-        ensures gives { IfOk result (λ replies. GivesDeed (seen_world self.old) (seen_world self.new) replies
-            (opens by_world (seen_world self.old) who stmt.now name.now (place_of name.now (seen_world self.old).databases))) }
-        ensures known { IfOk result (λ replies. All (λ answer. answer.0 < length self.old.homes) replies) }
-        ensures moments { IfOk result HaveMoments }
-        ensures sessions { OnOk result (self.new.sessions ≡ self.old.sessions) }
+        ensures { OnOk result (AddsDeed self.old self.new replies.old replies.new (opens by_world (seen_world self.old) who stmt.now name.now (place_of name.now (seen_world self.old).databases))) }
     {
         match self.database_number(name) {
-            Some(database) => self.open_in(database, who, stmt),
-            None => self.open_new(who, stmt, name),
+            Some(database) => self.open_in(database, who, stmt, replies),
+            None => self.open_new(who, stmt, name, replies),
         }
     }
 
     /// The same where the database is new.
-    fn open_new(&mut self, who: SessionId, stmt: &Stmt, name: &Text) -> Result<Replies, AllocError>
+    fn open_new(
+        &mut self,
+        who: SessionId,
+        stmt: &Stmt,
+        name: &Text,
+        replies: &mut Replies,
+    ) -> Result<(), AllocError>
         requires who { who < length self.old.homes }
         requires form { IsInForm stmt.now }
         requires new { place_of name.now self.old.databases ≡ None }
-        ensures gives { IfOk result (λ replies. GivesDeed (seen_world self.old) (seen_world self.new) replies (opens by_world (seen_world self.old) who stmt.now name.now None)) }
-        ensures known { IfOk result (λ replies. All (λ answer. answer.0 < length self.old.homes) replies) }
-        ensures moments { IfOk result HaveMoments }
-        ensures sessions { OnOk result (self.new.sessions ≡ self.old.sessions) }
+        ensures { OnOk result (AddsDeed self.old self.new replies.old replies.new (opens by_world (seen_world self.old) who stmt.now name.now None)) }
     {
         let number = self.database_count();
         if number >= MAX_DATABASES {
-            let refused = Reply::Refused(Refusal::TooMany(Limit::Databases));
-            return Replies::one(self.alloc, who, refused);
+            replies.push(who, Reply::Refused(Refusal::TooMany(Limit::Databases)))?;
+            return Ok(());
         }
         self.found(name)?;
-        let replies = self.open_in(number, who, stmt)?;
-        Ok(replies)
+        self.open_in(number, who, stmt, replies)?;
+        Ok(())
     }
 
     /// The same in the database of this number.
@@ -345,18 +353,16 @@ impl World {
         database: usize,
         who: SessionId,
         stmt: &Stmt,
-    ) -> Result<Replies, AllocError>
+        replies: &mut Replies,
+    ) -> Result<(), AllocError>
         requires who { who < length self.old.homes }
         requires database { database < length self.old.stores }
         requires form { IsInForm stmt.now }
-        ensures gives { IfOk result (λ replies. GivesDeed (seen_world self.old) (seen_world self.new) replies (opens_in by_world who stmt.now database (seen_world self.old))) }
-        ensures known { IfOk result (λ replies. All (λ answer. answer.0 < length self.old.homes) replies) }
-        ensures moments { IfOk result HaveMoments }
-        ensures sessions { OnOk result (self.new.sessions ≡ self.old.sessions) }
+        ensures { OnOk result (AddsDeed self.old self.new replies.old replies.new (opens_in by_world who stmt.now database (seen_world self.old))) }
     {
-        let replies = self.run_there(database, who, stmt)?;
+        self.run_there(database, who, stmt, replies)?;
         self.enter(who, database);
-        Ok(replies)
+        Ok(())
     }
 
     fn database_number(&self, name: &Text) -> Option<usize>
