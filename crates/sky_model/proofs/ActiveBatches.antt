@@ -1,5 +1,6 @@
 -- An active batch is its consumer's, begins where the consumer stands and closes at the next tick.
-use Rattle.std.proofs.Common.{◌≡◌, ℕ, ◌+◌, List, [], ◌∷◌, Bool, true, false, ◌&&◌, ◌||◌, ◌==◌, Option, Some, None, unwrap_or, option_map, is_some, bytes_eq, refl, sym, ◌∙◌, ap, subst, arith, if◌then◌else◌}
+use Rattle.std.proofs.Common.{◌≡◌, ℕ, ◌+◌, List, [], ◌∷◌, Bool, true, false, ◌&&◌, ◌==◌, Option, Some, None, unwrap_or, option_map, is_some, bytes_eq, refl, sym, ◌∙◌, ap, subst, arith, if◌then◌else◌}
+use Rattle.std.proofs.lemmas.Bool.{and_parts, or_right}
 use Rattle.std.proofs.lemmas.Bool.Decides.{nat_tests}
 use Rattle.sky_names.proofs.PlaceLemmas.{bytes_eq_refl, same_name}
 use Rattle.sky_model.specs.History.{Batch, History}
@@ -8,20 +9,11 @@ use Rattle.sky_model.specs.Consumers.{subscription_id, position, active, Subscri
 use Rattle.sky_model.proofs.Legal.{Opens, ticks_next, registers, opens, closes, Legal, start, next}
 use Rattle.sky_model.proofs.TickOrder.{is_made, is_made-tick}
 
-and-true : (a b : Bool) → (a && b) ≡ true → (a ≡ true) × (b ≡ true)
-and-true true true e = (refl, refl)
-and-true true false e = absurd (cc)
-and-true false b e = absurd (cc)
-
-pub or-right : (a b : Bool) → b ≡ true → (a || b) ≡ true
-or-right true b e = refl
-or-right false b e = e
-
 -- what is read of a consumer is the same where the queue and the name are
 pub same_consumer : {A : Type 0} (read : ℕ → List ℕ → A) (q queue : ℕ) (name consumer : List ℕ)
     → (q == queue && bytes_eq consumer name) ≡ true → read queue consumer ≡ read q name
 same_consumer read q queue name consumer e =
-    let parts : ((q == queue) ≡ true) × (bytes_eq consumer name ≡ true) = and-true (q == queue) (bytes_eq consumer name) e in
+    let parts : ((q == queue) ≡ true) × (bytes_eq consumer name ≡ true) = and_parts (q == queue) (bytes_eq consumer name) e in
     let test : (q == queue) ≡ true = parts.0 in
     let same : queue ≡ q = grind (arith, nat_tests) in
     let one : consumer ≡ name = same_name consumer name parts.1 in
@@ -43,11 +35,7 @@ subscription_parts (Some n) position active s e =
 
 tick-id : (id : ℕ) (ts : List Tick) (t : Tick) → tick id ts ≡ Some t → t.id ≡ id
 tick-id id [] t e = absurd (cc)
-tick-id id (u ∷ ts) t e = of (u.id == id) refl e (tick-id id ts t)
-  where
-    of : (b : Bool) → (u.id == id) ≡ b → (if b then Some u else tick id ts) ≡ Some t → (tick id ts ≡ Some t → t.id ≡ id) → t.id ≡ id
-    of true test e ih = let one : u ≡ t = ap (λ o. unwrap_or o u) e in ap Tick.id (sym one) ∙ grind (arith, nat_tests)
-    of false test e ih = ih e
+tick-id id (u ∷ ts) t e = grind (arith, nat_tests, tick-id id ts t)
 
 -- what an active batch is, by what is read of its consumer
 pub record IsActiveFor (sub : Option ℕ) (active : Option ℕ) (position : ℕ) (made : Bool) (id : ℕ) (b : Batch) : Type 0 where
@@ -80,7 +68,7 @@ pub active_batches : (h : History) → Legal h → (id : ℕ) (b : Batch) → ac
 active_batches [] start id b is = absurd (cc)
 active_batches _ (next {h = h} l (ticks_next p m time seq i e)) id b is =
     let a : IsActive h id b = active_batches h l id b is in
-    record { named = a.named; owned = a.owned; alone = a.alone; begins = a.begins; ends = a.ends; closing = or-right (p == b.queue && m == b.cur) (is_made b.queue b.cur h) a.closing }
+    record { named = a.named; owned = a.owned; alone = a.alone; begins = a.begins; ends = a.ends; closing = or_right (p == b.queue && m == b.cur) (is_made b.queue b.cur h) a.closing }
 active_batches _ (next {h = h} l (registers p name sub t i none f g)) id b is = of (p == b.queue && bytes_eq b.consumer name) refl (active_batches h l id b is)
   where
     of : (x : Bool) → (p == b.queue && bytes_eq b.consumer name) ≡ x → IsActive h id b

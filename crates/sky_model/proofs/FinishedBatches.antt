@@ -1,12 +1,13 @@
 -- The batches that a consumer finishes lead from the tick at which it registered to its position.
 use Rattle.std.proofs.Common.{◌≡◌, ℕ, ◌+◌, List, [], ◌∷◌, ◌++◌, Bool, true, false, ◌&&◌, ◌||◌, ◌==◌, Option, Some, bytes_eq, refl, sym, ◌∙◌, subst, if◌then◌else◌}
+use Rattle.std.proofs.lemmas.Bool.{or_right}
 use Rattle.sky_model.specs.History.{Batch, History}
 use Rattle.sky_model.specs.Consumers.{subscription_id, position}
 use Rattle.sky_model.specs.LawsOfBatches.{first_tick, finished, Lead, BatchesAreConsecutive}
 use Rattle.sky_model.proofs.Legal.{ticks_next, registers, closes, Legal, start, next}
 use Rattle.sky_model.proofs.SnapshotLaws.{legal_place}
 use Rattle.sky_model.proofs.TickOrder.{is_made, is_made-tick}
-use Rattle.sky_model.proofs.ActiveBatches.{or-right, same_consumer, IsActive, active_batches}
+use Rattle.sky_model.proofs.ActiveBatches.{same_consumer, IsActive, active_batches}
 
 -- a consumer's batch that begins at a tick and closes at the next one, which is made
 pub record Follows (queue : ℕ) (consumer : List ℕ) (sub : Option ℕ) (made : ℕ → Bool) (from : ℕ) (b : Batch) : Type 0 where
@@ -45,7 +46,7 @@ pub finished_lead : (h : History) → Legal h → (queue : ℕ) (consumer : List
 finished_lead [] start queue consumer = refl
 finished_lead _ (next {h = h} l (ticks_next p m time seq i e)) queue consumer =
     LeadFor-more queue consumer (subscription_id queue consumer h) (λ t. is_made queue t h) (λ t. (p == queue && m == t) || is_made queue t h)
-    (λ t. or-right (p == queue && m == t) (is_made queue t h)) (first_tick queue consumer h) (finished queue consumer h) (position queue consumer h)
+    (λ t. or_right (p == queue && m == t) (is_made queue t h)) (first_tick queue consumer h) (finished queue consumer h) (position queue consumer h)
     (finished_lead h l queue consumer)
 finished_lead _ (next {h = h} l (registers p name sub t i none f g)) queue consumer = of (p == queue && bytes_eq consumer name) (finished_lead h l queue consumer)
   where

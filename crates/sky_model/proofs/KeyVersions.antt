@@ -44,11 +44,7 @@ pub record KeyHolds (h : History) (table : ℕ) (key : List Val) : Type 0 where
 -- a transaction's version is its own
 pub version_of-txid : (t : ℕ) (vs : List Version) (v : Version) → version_of t vs ≡ Some v → v.txid ≡ t
 version_of-txid t [] v e = absurd (cc)
-version_of-txid t (w ∷ vs) v e = of (t == w.txid) refl e (version_of-txid t vs v)
-  where
-    of : (b : Bool) → (t == w.txid) ≡ b → (if b then Some w else version_of t vs) ≡ Some v → (version_of t vs ≡ Some v → v.txid ≡ t) → v.txid ≡ t
-    of true is e ih = (let one : w ≡ v = cc in let mine : t ≡ w.txid = grind (arith, nat_tests) in sym (mine ∙ ap Version.txid one))
-    of false is e ih = ih e
+version_of-txid t (w ∷ vs) v e = grind (arith, nat_tests, version_of-txid t vs v)
 
 -- the end of a transaction, as a test on others
 ended-or : (h : History) (t u : ℕ) → ((u == t) || has_ended h u) ≡ ((t == u) || has_ended h u)

@@ -1,5 +1,5 @@
 -- Whatever is called of a database, its history is legal.
-use Rattle.std.proofs.Common.{◌≡◌, All, ℕ, suc, zero, ℤ, ◌+◌, ◌<◌, List, [], ◌∷◌, ◌++◌, Bool, true, false, ◌==◌, nat_le, Option, Some, None, Ok, Err, is_ok, option_map, unwrap_or, length, is_some, refl, sym, ◌∙◌, ap, subst, arith, ◌^◌, if◌then◌else◌}
+use Rattle.std.proofs.Common.{◌≡◌, All, ℕ, suc, zero, ℤ, ◌+◌, ◌<◌, List, [], ◌∷◌, ◌++◌, Bool, true, false, ◌==◌, nat_le, Option, Some, None, Ok, Err, is_ok, option_map, length, is_some, refl, sym, ◌∙◌, ap, subst, arith, ◌^◌, if◌then◌else◌}
 use Rattle.std.specs.Prelude.{find, not}
 use Rattle.std.proofs.lemmas.Bool.Decides.{nat_tests}
 use Rattle.sky_model.specs.declared.stmt.Stmt.{Stmt}
@@ -48,11 +48,7 @@ use Rattle.sky_names.proofs.PlaceLemmas.{place_of_within}
 -- an active batch is found by its id
 active_batch-id : (h : History) (id : ℕ) (batch : Batch) → active_batch id h ≡ Some batch → batch.id ≡ id
 active_batch-id [] id batch is = absurd (cc)
-active_batch-id (queued (opened b) ∷ h) id batch is = of (b.id == id) refl is (active_batch-id h id batch)
-  where
-    of : (c : Bool) → (b.id == id) ≡ c → (if c then Some b else active_batch id h) ≡ Some batch → (active_batch id h ≡ Some batch → batch.id ≡ id) → batch.id ≡ id
-    of true same e ih = let one : b ≡ batch = ap (λ o. unwrap_or o b) e in ap Batch.id (sym one) ∙ grind (arith, nat_tests)
-    of false same e ih = ih e
+active_batch-id (queued (opened b) ∷ h) id batch is = grind (arith, nat_tests, active_batch-id h id batch)
 active_batch-id (queued (closed b) ∷ h) id batch is = grind (arith, active_batch-id h id batch)
 active_batch-id (_ ∷ h) id batch is = active_batch-id h id batch is
 

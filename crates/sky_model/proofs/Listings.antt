@@ -1,6 +1,7 @@
 -- What a batch lists doesn't change once its closing tick is made: an event that is put later is of a
 -- transaction that runs, so it hadn't committed at that tick, and a tick that is made stays.
 use Rattle.std.proofs.Common.{◌≡◌, ℕ, ◌+◌, ◌<◌, ◌≤◌, List, [], ◌∷◌, ◌++◌, Bool, true, false, not, ◌&&◌, ◌==◌, Some, filter, refl, ◌∙◌, ap, subst, arith, append-nil, if◌then◌else◌}
+use Rattle.std.proofs.lemmas.Bool.{or_right}
 use Rattle.std.proofs.lemmas.Bool.Decides.{nat_tests}
 use Rattle.std.proofs.lemmas.List.Elements.{filter-append}
 use Rattle.sky_val.specs.declared.event.Event.{Event}
@@ -15,12 +16,12 @@ use Rattle.sky_model.proofs.Legal.{Fine, puts, ticks_next, Legal}
 use Rattle.sky_model.proofs.Snapshots.{own-unended, has_committed-ended}
 use Rattle.sky_model.proofs.SnapshotLaws.{legal-below_mark, fine_mark, legal-below, legal_place}
 use Rattle.sky_model.proofs.TickOrder.{is_made, unmade_above, committed_since}
-use Rattle.sky_model.proofs.ActiveBatches.{or-right, IsActive, active_batches}
+use Rattle.sky_model.proofs.ActiveBatches.{IsActive, active_batches}
 
 -- a tick that is made stays
 made_since : (q id : ℕ) (later : List Mark) (p : History) → is_made q id p ≡ true → is_made q id (later ++ p) ≡ true
 made_since q id [] p made = made
-made_since q id (queued (ticked r m time seq) ∷ later) p made = or-right (r == q && m == id) (is_made q id (later ++ p)) (made_since q id later p made)
+made_since q id (queued (ticked r m time seq) ∷ later) p made = or_right (r == q && m == id) (is_made q id (later ++ p)) (made_since q id later p made)
 made_since q id (_ ∷ later) p made = made_since q id later p made
 
 -- the transaction of a session hadn't committed at a tick

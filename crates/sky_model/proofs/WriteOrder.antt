@@ -1,6 +1,6 @@
 -- A key is written by one running transaction at a time, so those that write it commit in the order in which they write it.
 use Rattle.std.proofs.Common.{◌≡◌, ◌≢◌, ℕ, List, [], ◌∷◌, ◌++◌, Bool, true, false, not, refl, sym, ◌∙◌, ap, arith, if◌then◌else◌}
-use Rattle.std.proofs.lemmas.Bool.{false_from_ne_true, or_parts, or_right}
+use Rattle.std.proofs.lemmas.Bool.{true_from_ne_false, false_from_ne_true, or_parts, or_right}
 use Rattle.std.specs.Prelude.{◌||◌, ◌&&◌, ◌==◌, nat_lt, Option}
 use Rattle.std.specs.Ordering.{eq_by_cmp}
 use Rattle.std.proofs.lemmas.Bool.Decides.{nat_tests}
@@ -50,8 +50,7 @@ or_false true = refl
 or_false false = refl
 
 turned_test : (t v : ℕ) (b : Bool) → (v == t) ≡ b → (t == v) ≡ b
-turned_test t v true e = grind (arith, nat_tests)
-turned_test t v false e = grind (arith, nat_tests)
+turned_test t v b e = grind (arith, nat_tests)
 
 -- they are the same as by the writes of each
 written-step : (h : History) (whose : Whose) (v n table : ℕ) (k key : List Val) (old new : Option (List Val)) (t : ℕ) → contains t (writers table key h) ≡ has_written key (writes_of table t h)
@@ -84,11 +83,8 @@ writer-unended h _ _ _ _ _ _ l (writes who u table key old new mine free stands)
 -- and each other one that has written it has
 others-ended : (h : History) (whose : Whose) (u table : ℕ) (key : List Val) (old new : Option (List Val)) → Legal h → Fine h (tabled (wrote whose u table key old new))
     → (t : ℕ) → (t == u) ≡ false → has_written key (writes_of table t h) ≡ true → has_ended h t ≡ true
-others-ended h _ _ _ _ _ _ l (writes who u table key old new mine free stands) t other wrote_it = of (has_ended h t) refl
-  where
-    of : (b : Bool) → has_ended h t ≡ b → b ≡ true
-    of true is = refl
-    of false is = absurd (nobody-else h l who u table key mine free t is (turned_test u t false other) wrote_it)
+others-ended h _ _ _ _ _ _ l (writes who u table key old new mine free stands) t other wrote_it =
+    true_from_ne_false (has_ended h t) (λ is. nobody-else h l who u table key mine free t is (turned_test u t false other) wrote_it)
 
 pub keys_are_written_in_turn : KeysAreWrittenInTurn
 keys_are_written_in_turn p whose u table key old new is =
@@ -143,13 +139,10 @@ still-step : (table : ℕ) (key : List Val) (t u : ℕ) (h : History) (whose : W
     → has_ended h u ≡ true → is_before t u (writers table key (tabled (wrote whose v n k old new) ∷ h)) ≡ is_before t u (writers table key h)
 still-step table key t u h whose v n k old new l over =
     by-write table key h whose v n k old new (λ vs. is_before t u vs ≡ is_before t u (writers table key h))
-    (λ table_is key_is. is_before-other t u v (writers table key h) (another (u == v) refl)) refl
+    (λ table_is key_is. is_before-other t u v (writers table key h) another) refl
   where
-    another : (b : Bool) → (u == v) ≡ b → b ≡ false
-    another false is = refl
-    another true is =
-        let one : u ≡ v = grind (arith, nat_tests) in
-        absurd (cc (sym over ∙ ap (has_ended h) one ∙ writer-unended h whose v n k old new (legal-below_mark l) (fine_mark l)))
+    another : (u == v) ≡ false
+    another = grind (arith, nat_tests, writer-unended h whose v n k old new (legal-below_mark l) (fine_mark l))
 
 still-before : (table : ℕ) (key : List Val) (t u : ℕ) (later : List Mark) (p : History) → Legal (later ++ p) → has_ended p u ≡ true
     → is_before t u (writers table key (later ++ p)) ≡ is_before t u (writers table key p)

@@ -1,5 +1,5 @@
 -- A transaction counts as one that has written in a table exactly where it has, and hasn't ended.
-use Rattle.std.proofs.Common.{◌≡◌, ◌≢◌, ℕ, List, [], ◌∷◌, ◌++◌, Bool, true, false, not, Option, refl, sym, ◌∙◌, ap, arith, if◌then◌else◌}
+use Rattle.std.proofs.Common.{◌≡◌, ◌≢◌, ℕ, List, [], ◌∷◌, ◌++◌, Bool, true, false, not, Option, refl, arith, if◌then◌else◌}
 use Rattle.std.specs.Prelude.{◌||◌, ◌&&◌, ◌==◌}
 use Rattle.std.proofs.lemmas.Bool.{and_parts}
 use Rattle.std.proofs.lemmas.Bool.Decides.{nat_tests}
@@ -23,12 +23,7 @@ writer-runs : (h : History) → Legal h → {whose : Whose} {u n : ℕ} {key : L
 writer-runs h l (writes who u _ _ _ _ mine free stands) = own-unended h l who u mine
 
 now-written : (h : History) (table t n u : ℕ) → has_ended h u ≡ false → (wrote_in table t h ≡ true → has_ended h t ≡ false) → ((n == table && u == t) || wrote_in table t h) ≡ true → has_ended h t ≡ false
-now-written h table t n u runs ih = of (n == table) (u == t) refl
-  where
-    of : (a b : Bool) → (u == t) ≡ b → ((a && b) || wrote_in table t h) ≡ true → has_ended h t ≡ false
-    of true true same e = (let one : u ≡ t = grind (arith, nat_tests) in ap (has_ended h) (sym one) ∙ runs)
-    of true false same e = ih e
-    of false b same e = ih e
+now-written h table t n u runs ih e = grind (arith, nat_tests)
 
 runs-step : (h : History) (mark : Mark) → Fine h mark → Legal h → (table t : ℕ) → (wrote_in table t h ≡ true → has_ended h t ≡ false) → wrote_in table t (mark ∷ h) ≡ true → has_ended (mark ∷ h) t ≡ false
 runs-step h (ended whose u c) fine l table t ih = others-end t u (wrote_in table t h) (has_ended h t) ih
@@ -65,12 +60,7 @@ back-more true c ws w ih some = refl
 back-more false c ws w ih some = ih some
 
 back-ended : (t u : ℕ) (in_it over : Bool) → (over ≡ false → in_it ≡ true) → (t == u || over) ≡ false → (not (u == t) && in_it) ≡ true
-back-ended t u in_it over ih e = of (t == u) refl (u == t) refl e
-  where
-    of : (a : Bool) → (t == u) ≡ a → (b : Bool) → (u == t) ≡ b → (a || over) ≡ false → (not b && in_it) ≡ true
-    of true is b also e = absurd (cc)
-    of false is true also e = absurd (grind (arith, nat_tests))
-    of false is false also e = ih e
+back-ended t u in_it over ih e = grind (arith, nat_tests)
 
 abbrev Back : History → ℕ → ℕ → Type 0
 Back h table t = has_ended h t ≡ false → writes_of table t h ≢ [] → wrote_in table t h ≡ true
