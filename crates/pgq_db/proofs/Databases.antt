@@ -1,5 +1,5 @@
 -- What a database shows, after what the code changed in it.
-use Rattle.std.proofs.Common.{Err, is_ok, drop, ◌≡◌, ℕ, suc, zero, ℤ, ◌+◌, ◌<◌, ◌≤◌, ◌^◌, List, [], ◌∷◌, ◌++◌, Bool, true, false, ◌==◌, nat_le, Option, Some, None, Result, Ok, IfOk, OnOk, IfSome, IfNone, is_some, length, append_assoc, get_or, option_map, refl, sym, ◌∙◌, ap, subst, arith, if◌then◌else◌}
+use Rattle.std.proofs.Common.{Err, is_ok, drop, ◌≡◌, ℕ, suc, zero, ℤ, ◌+◌, ◌<◌, ◌≤◌, ◌^◌, List, [], ◌∷◌, ◌++◌, Bool, true, false, ◌==◌, nat_le, Option, Some, None, Result, Ok, IfOk, OnOk, IfSome, IfNone, is_some, length, append_assoc, get_or, option_map, refl, sym, ◌∙◌, ap, subst, arith, if◌then◌else◌, ◌↔◌}
 use Rattle.std.proofs.lemmas.Bool.Decides.{nat_tests}
 use Rattle.sky_val.specs.declared.event.Event.{Event}
 use Rattle.sky_txid.specs.Snapshot.{SnapshotView}
@@ -12,7 +12,7 @@ use Rattle.sky_model.specs.StepTrigger.{has_trigger, may_ignore, add_trigger}
 use Rattle.sky_model.specs.declared.reply.Reply.TheVariants.{Done, Number, Events, Refused}
 use Rattle.sky_model.specs.declared.reply.Limit.TheVariants.{Queues, Triggers}
 use Rattle.sky_model.specs.declared.reply.Refusal.{Refusal}
-use Rattle.sky_model.specs.declared.reply.Refusal.TheVariants.{BadColumn, NoTable, TableBusy, TooMany, TriggerExists, NoBatch, EventIdsSpent}
+use Rattle.sky_model.specs.declared.reply.Refusal.TheVariants.{BadColumn, NoTable, TableBusy, TooMany, TriggerExists, NoBatch, EventIdsSpent, IdsSpent}
 use Rattle.sky_model.specs.declared.stmt.Stmt.{Stmt}
 use Rattle.sky_model.specs.declared.stmt.Where.{Where}
 use Rattle.sky_model.specs.History.{Mark, began, ended, block_begun, repeats, looked, block_failed, block_ended, connected, disconnected, tabled, table_made, wrote, waits, waited, queued, QueueMark, made, raised, put, ticked, closed, traced}
@@ -36,7 +36,8 @@ use Rattle.sky_model.specs.DatabaseCalls as call
 use Rattle.sky_model.specs.DatabaseSteps.{DatabaseSteps}
 use Rattle.sky_model.proofs.RowOutcomes.{RowMarks}
 use Rattle.sky_model.proofs.DatabaseStanding.{after_marks-append, behind-all, database_enter_from_exact}
-use Rattle.sky_session.specs.Effects.{effects_of}
+use Rattle.sky_urlenc.specs.RowEvents.{op_of}
+use Rattle.sky_session.specs.Effects.{EffectsView, effects_by, with_effects}
 use Rattle.sky_session.specs.declared.effect.Effect.{Effect}
 use Rattle.sky_session.specs.declared.effect.Effect.TheVariants.{Wrote, Committed, Aborted}
 use Rattle.sky_model.specs.SessionMarks.{look_of, single_end, failure, Enters, entry, entry_place}
@@ -49,7 +50,12 @@ use Rattle.pgq_db.specs.Views.{DbView}
 use Rattle.pgq_db.specs.Seen.{seen_database}
 use Rattle.pgq_db.specs.Undone.{undone_by}
 use Rattle.pgq_db.specs.Gives.{Gives, Adds, Answers, Does}
-use Rattle.sky_model.specs.Stops.{Refuses}
+use Rattle.sky_model.specs.Stops.{Refuses, Stops}
+use Rattle.sky_model.specs.declared.stop.Stop.{Stop}
+use Rattle.pgq_tick.specs.declared.ticks.TickFault.{TickFault}
+use Rattle.pgq_tick.specs.declared.ticks.TickFault.TheVariants as tick
+use Rattle.pgq_tick.specs.Faults.{stop_of}
+use Rattle.std.specs.Result.{IfErr, IsErrAnd}
 
 -- marks of the queues are marks of the database
 pub marked-as : (v now : DbView) (queues : QueuesView) (mark : QueuesView → QueueMark) → v ≡ now → ((part : RowPart) → seen_with part queues ≡ after_mark (seen_with part v.queues) (queued (mark v.queues)))
@@ -62,6 +68,20 @@ pub ticked-as : (v now : DbView) (queues : QueuesView) (snapshot : SnapshotView)
     → seen_database (record v { queues = queues }) ≡ after_marks (seen_database now) (marks now.queues)
 ticked-as v now queues snapshot marks same snap is =
     is (seen v.rows) (snap ∙ ap (λ (w : DbView). snapshot_now (seen w.rows)) (sym same)) ∙ ap (λ (w : DbView). after_marks (seen_database w) (marks w.queues)) same
+
+-- what holds of an error holds of it as it is given on
+pub err-and : {T E : Type 0} {P Q : E → Type 0} (r : Result T E) → IsErrAnd r P → ((e : E) → P e → Q e) → IfErr r Q
+err-and (Ok x) is f = absurd is
+err-and (Err e) is f = f e is
+
+-- a tick whose id is spent is refused
+pub tick-stops : (r : Result ℕ TickFault) (fault : TickFault) (stop : Stop) (old new : Database) (n m : ℕ) → r ≡ Err fault → n ≡ m → ((r ≡ Err tick.IdsSpent) ↔ (2 ^ 64 ≤ n)) → new ≡ old
+    → stop ≡ stop_of fault → Stops stop old new (refused_if (nat_le (2 ^ 64) m) IdsSpent)
+tick-stops r tick.IdsSpent stop old new n m is same spent kept to =
+    let high : 2 ^ 64 ≤ n = spent.0 is in
+    let full : nat_le (2 ^ 64) m ≡ true = grind (arith, nat_tests) in
+    subst (λ s. Stops s old new (refused_if (nat_le (2 ^ 64) m) IdsSpent)) (sym to) (record { refused = ap (λ b. refused_if b IdsSpent) full; same = kept })
+tick-stops r tick.NoMemory stop old new n m is same spent kept to = subst (λ s. Stops s old new (refused_if (nat_le (2 ^ 64) m) IdsSpent)) (sym to) tt
 
 -- and where there is none it is as it was
 pub unmarked-as : (v now : DbView) (queues : QueuesView) → v ≡ now → ((part : RowPart) → seen_with part queues ≡ seen_with part v.queues) → seen_database (record v { queues = queues }) ≡ seen_database now
@@ -189,48 +209,39 @@ gives-queue d s now who t name before after new room txid is pushed = subst (Run
 pub part-as : (v now : DbView) (rows : RowStateView) (part : RowPart) → v ≡ now → seen rows ≡ part → seen_database (record v { rows = rows }) ≡ record (seen_database now) { part = part }
 part-as v now rows part same is = (λ i. record (seen_database v) { part = is i }) ∙ ap (λ (w : DbView). record (seen_database w) { part = part }) same
 
+-- a write undoes nothing
+undone-wrote : (whole : Bool) (effect : Effect) (effects : List Effect) (undone : ℕ → Bool) → undone_by (effect ∷ effects) undone ≡ undone_by effects undone
+    → undone_by (if whole then effect ∷ effects else effects) undone ≡ undone_by effects undone
+undone-wrote true effect effects undone is = is
+undone-wrote false effect effects undone is = refl
+
 -- marks of rows change the row part, and which transactions were rolled back
-pub after-row_marks : (d : Database) (marks : List Mark) → RowMarks marks
-    → after_marks d marks ≡ record d { part = after_part_marks d.part marks; undone = undone_by (effects_of marks) d.undone }
-after-row_marks d [] rows = refl
-after-row_marks d (began who t ∷ marks) rows = after-row_marks (after_mark d (began who t)) marks rows
-after-row_marks d (ended who t true ∷ marks) rows = after-row_marks (after_mark d (ended who t true)) marks rows
-after-row_marks d (ended who t false ∷ marks) rows = after-row_marks (after_mark d (ended who t false)) marks rows
-after-row_marks d (block_begun who ∷ marks) rows = after-row_marks (after_mark d (block_begun who)) marks rows
-after-row_marks d (repeats who ∷ marks) rows = after-row_marks (after_mark d (repeats who)) marks rows
-after-row_marks d (looked who ∷ marks) rows = after-row_marks (after_mark d (looked who)) marks rows
-after-row_marks d (block_failed who ∷ marks) rows = after-row_marks (after_mark d (block_failed who)) marks rows
-after-row_marks d (block_ended who ∷ marks) rows = after-row_marks (after_mark d (block_ended who)) marks rows
-after-row_marks d (connected who ∷ marks) rows = after-row_marks (after_mark d (connected who)) marks rows
-after-row_marks d (disconnected who ∷ marks) rows = after-row_marks (after_mark d (disconnected who)) marks rows
-after-row_marks d (tabled (table_made name columns) ∷ marks) rows = after-row_marks (after_mark d (tabled (table_made name columns))) marks rows
-after-row_marks d (tabled (wrote who t table key old new) ∷ marks) rows = after-row_marks (after_mark d (tabled (wrote who t table key old new))) marks rows
-after-row_marks d (tabled (waits who table key attempt) ∷ marks) rows = after-row_marks (after_mark d (tabled (waits who table key attempt))) marks rows
-after-row_marks d (tabled (waited who) ∷ marks) rows = after-row_marks (after_mark d (tabled (waited who))) marks rows
-after-row_marks d (queued mark ∷ marks) rows = absurd rows
+pub after-row_marks : (whole : Bool) (d : Database) (marks : List Mark) → RowMarks marks
+    → after_marks d marks ≡ record d { part = after_part_marks d.part marks; undone = undone_by (effects_by whole marks) d.undone }
+after-row_marks whole d [] rows = refl
+after-row_marks whole d (queued mark ∷ marks) rows = absurd rows
+after-row_marks whole d (tabled (wrote who t table key old new) ∷ marks) rows =
+    let write : Mark = tabled (wrote who t table key old new) in
+    after-row_marks whole (after_mark d write) marks rows
+    ∙ ap (λ u. record d { part = after_part_marks d.part (write ∷ marks); undone = u }) (sym (undone-wrote whole (Wrote t table (op_of old new) old new) (effects_by whole marks) d.undone refl))
+after-row_marks whole d (ended who t true ∷ marks) rows = after-row_marks whole (after_mark d (ended who t true)) marks rows
+after-row_marks whole d (ended who t false ∷ marks) rows = after-row_marks whole (after_mark d (ended who t false)) marks rows
+after-row_marks whole d (mark ∷ marks) rows = after-row_marks whole (after_mark d mark) marks rows
+
+-- what was rolled back is what the effects undo that were added
+pub undone-as : (d : Database) (marks : List Mark) (before after : EffectsView) → RowMarks marks → before.items ≡ [] → after ≡ with_effects before marks
+    → undone_by after.items d.undone ≡ (after_marks d marks).undone
+undone-as d marks before after rows none told =
+    ap (λ (e : EffectsView). undone_by e.items d.undone) told ∙ ap (λ es. undone_by (es ++ effects_by before.whole marks) d.undone) none
+    ∙ ap Database.undone (sym (after-row_marks before.whole d marks rows))
 
 -- marks of rows, with those noted that were rolled back
-pub noted-as : (d s1 s2 : Database) (marks : List Mark) (effects : List Effect) → RowMarks marks → s1.part ≡ after_part_marks d.part marks → effects ≡ effects_of marks
-    → s1 ≡ record d { part = s1.part } → s2 ≡ record s1 { undone = undone_by effects s1.undone } → s2 ≡ after_marks d marks
-noted-as d s1 s2 marks effects rows changed told but noted =
-    noted ∙ (λ i. record (but i) { undone = undone_by (told i) (but i).undone })
-    ∙ ap (λ part. record d { part = part; undone = undone_by (effects_of marks) d.undone }) changed
-    ∙ sym (after-row_marks d marks rows)
-
--- and a block that is aborted
-failure-rows : (who : ℕ) (txid : Option ℕ) (b : Block) → RowMarks (failure who txid b)
-failure-rows who txid outside = tt
-failure-rows who None inside = tt
-failure-rows who (Some t) inside = tt
-failure-rows who txid failed = tt
-
-pub failed-as : (d s1 s2 : Database) (who : ℕ) (effects : List Effect)
-    → s1.part ≡ after_part_marks d.part (failure who (d.part.session who).txid (d.part.session who).block)
-    → effects ≡ effects_of (failure who (d.part.session who).txid (d.part.session who).block)
-    → s1 ≡ record d { part = s1.part } → s2 ≡ record s1 { undone = undone_by effects s1.undone }
-    → s2 ≡ after_marks d (failure who (d.part.session who).txid (d.part.session who).block)
-failed-as d s1 s2 who effects =
-    noted-as d s1 s2 (failure who (d.part.session who).txid (d.part.session who).block) effects (failure-rows who (d.part.session who).txid (d.part.session who).block)
+pub noted-as : (d s1 s2 : Database) (marks : List Mark) (before after : EffectsView) → RowMarks marks → before.items ≡ [] → after ≡ with_effects before marks
+    → s1.part ≡ after_part_marks d.part marks → s1 ≡ record d { part = s1.part } → s2 ≡ record s1 { undone = undone_by after.items s1.undone } → s2 ≡ after_marks d marks
+noted-as d s1 s2 marks before after rows none told changed but noted =
+    noted ∙ (λ i. record (but i) { undone = undone_by after.items (but i).undone })
+    ∙ (λ i. record d { part = changed i; undone = (undone-as d marks before after rows none told ∙ ap Database.undone (after-row_marks true d marks rows)) i })
+    ∙ sym (after-row_marks true d marks rows)
 
 -- the rest of a list from a place on begins with what stands there
 pub drop-at : {A : Type 0} (xs : List A) (i : ℕ) (x d : A) → i < length xs → x ≡ get_or xs i d → drop i xs ≡ x ∷ drop (suc i) xs

@@ -1,4 +1,4 @@
-ghost use Rattle.std.specs.Prelude.{◌≡◌, ◌↔◌, ◌≢◌, ◌+◌, ◌<◌, ◌^◌, [], ◌∷◌, ◌++◌, true, None, Some, Ok, Err, IfOk, IfErr, OnOk, OnErr, IsTrue, option_copied, length, is_ok, find, not};
+ghost use Rattle.std.specs.Prelude.{◌≡◌, ◌↔◌, ◌≢◌, ◌+◌, ◌<◌, ◌^◌, [], ◌∷◌, ◌++◌, true, None, Some, Ok, Err, IfOk, IfErr, OnOk, OnErr, IsTrue, option_copied, length, is_ok, find, not, nat_le, false};
 ghost use Rattle.sky_val.specs.Waits.{is_waiting};
 ghost use Rattle.sky_names.specs.Places.{place_of};
 ghost use Rattle.sky_model.specs.InForm.{IsRowInForm};
@@ -7,6 +7,9 @@ ghost use Rattle.sky_model.specs.Moment.{HasMoment};
 ghost use Rattle.sky_model.specs.Queues.{queue_number};
 ghost use Rattle.sky_model.specs.ShownRows.{snapshot_now};
 ghost use Rattle.sky_model.specs.StepQueue.{newest_id};
+ghost use Rattle.sky_model.specs.Outcome.{refused_if};
+ghost use Rattle.sky_model.specs.Stops.{Stops};
+ghost use Rattle.sky_model.specs.declared.reply.Refusal.TheVariants.{IdsSpent};
 ghost use Rattle.sky_model.specs.State.{database_of, after_mark, after_marks};
 ghost use Rattle.sky_model.specs.StepTrigger.{may_ignore};
 ghost use Rattle.sky_model.specs.Printed.{HaveMoments};
@@ -25,15 +28,16 @@ ghost use Rattle.pgq_db.specs.Seen.{seen_database};
 ghost use Rattle.pgq_db.specs.Waiters.{StaysWithin};
 ghost use Rattle.pgq_db.specs.Gives.{Gives, Adds};
 
-use crate::gate::EventGate;
-use crate::noting::{note_all, undo_aborted};
-use pgq_queues::{Batch, Queue, Queues, Subscription, TableTrigger, Tick};
-use sky_model::{Refusal, Replies, RowStmt};
-use sky_session::RowDb;
+use crate::noting::undo_aborted;
+use pgq_queues::{Batch, Queue, Queues, Subscription, TableTrigger};
+use sky_model::{Refusal, Replies, RowStmt, Stop};
+use sky_session::{RowDb, RowStep};
 use sky_trans::TransFault;
+use sky_txid::Snapshot;
 use sky_val::{Event, NoMemory, Schema, SessionId, Text};
 use std::alloc::{AllocError, Global};
 use std::marker::Model;
+use std::mem;
 
 /// One database: its transactions, sessions, tables and rows; and its queues. After want of memory in `step` or `fail`
 /// nothing is said of it.
@@ -42,6 +46,8 @@ pub struct Db {
     pub(crate) alloc: Global,
     pub(crate) rows: RowDb,
     pub(crate) queues: Queues,
+    // What the row part does in one call.
+    step: RowStep,
     // Whether memory was wanting in the midst of a statement on rows. What its tables are isn't known then, so no statement
     // on rows is run from then on.
     is_cut: bool,
@@ -69,6 +75,7 @@ impl Db {
             alloc,
             rows: RowDb::new(alloc),
             queues: Queues::new(alloc),
+            step: RowStep::ends(alloc),
             is_cut: false,
         }
     }
@@ -194,12 +201,18 @@ impl Db {
         if self.is_cut {
             return Err(AllocError);
         }
-        let mut gate = EventGate::new(self.alloc, now, &self.queues);
-        match self.rows.step_with(who, stmt, &mut gate) {
-            Ok(step) => {
-                let told = gate.into_told();
-                note_all(&mut self.queues, &step.effects, told)?;
-                Ok(step.replies)
+        self.queues.set_time(now);
+        self.step.effects.clear();
+        // The list is the step's as long as that runs.
+        mem::swap(&mut self.step.replies, replies);
+        let stepped = self
+            .rows
+            .step_into(who, stmt, &mut self.queues, &mut self.step);
+        mem::swap(&mut self.step.replies, replies);
+        match stepped {
+            Ok(()) => {
+                undo_aborted(&mut self.queues, &self.step.effects)?;
+                Ok(())
             }
             Err(no_memory) => {
                 self.is_cut = true;
@@ -218,12 +231,16 @@ impl Db {
         if self.is_cut {
             return Err(AllocError);
         }
-        let mut gate = EventGate::new(self.alloc, now, &self.queues);
-        match self.rows.settle_with(&mut gate) {
-            Ok(step) => {
-                let told = gate.into_told();
-                note_all(&mut self.queues, &step.effects, told)?;
-                Ok(step.replies)
+        self.queues.set_time(now);
+        self.step.effects.clear();
+        // The list is the step's as long as that runs.
+        mem::swap(&mut self.step.replies, replies);
+        let settled = self.rows.settle_into(&mut self.queues, &mut self.step);
+        mem::swap(&mut self.step.replies, replies);
+        match settled {
+            Ok(()) => {
+                undo_aborted(&mut self.queues, &self.step.effects)?;
+                Ok(())
             }
             Err(no_memory) => {
                 self.is_cut = true;
@@ -236,9 +253,10 @@ impl Db {
     pub(crate) fn roll_back(&mut self, who: SessionId) -> Result<(), AllocError>
         ensures { OnOk result (seen_database self.new ≡ after_marks (seen_database self.old) (failing (seen_database self.old).part who).marks) }
     {
-        match self.rows.roll_back(who) {
-            Ok(effects) => {
-                undo_aborted(&mut self.queues, &effects)?;
+        self.step.effects.clear();
+        match self.rows.roll_back(who, &mut self.step.effects) {
+            Ok(()) => {
+                undo_aborted(&mut self.queues, &self.step.effects)?;
                 Ok(())
             }
             Err(no_memory) => {
@@ -283,29 +301,30 @@ impl Db {
         self.queues.put(queue, event)
     }
 
-    /// One more tick of a queue, with the snapshot as it is now.
-    pub(crate) fn tick(&mut self, queue: usize, tick: Tick) -> Result<(), AllocError>
+    /// One more tick of a queue, with the next id, which it gives, or a refusal where there is none.
+    pub(crate) fn tick(&mut self, queue: usize, now: i64) -> Result<u64, Stop>
         requires queue { queue < length self.old.queues.queues }
-        requires next { tick.id ≡ newest_id ((seen_database self.old).queue queue) + 1 }
-        requires time { IsTime tick.time }
-        requires snapshot { tick.snapshot ≡ snapshot_now (seen_database self.old).part }
-        ensures { OnOk result (seen_database self.new ≡ after_mark (seen_database self.old) (queued (ticked queue tick.id tick.time tick.seq))) }
+        requires time { IsTime now }
+        ensures id { IfOk result (λ id. id ≡ newest_id ((seen_database self.old).queue queue) + 1) }
+        ensures left { OnOk result (nat_le (2 ^ 64) (newest_id ((seen_database self.old).queue queue) + 1) ≡ false) }
+        ensures mark { IfOk result (λ id. seen_database self.new ≡ after_mark (seen_database self.old) (queued (ticked queue id now ((seen_database self.old).queue queue).seq))) }
+        ensures err { IfErr result (λ stop. Stops stop (seen_database self.old) (seen_database self.new) (refused_if (nat_le (2 ^ 64) (newest_id ((seen_database self.old).queue queue) + 1)) IdsSpent)) }
     {
-        self.queues.tick(queue, tick)
+        let snapshot = self.rows.snapshot_now()?;
+        let id = self.queues.tick(queue, now, snapshot)?;
+        Ok(id)
     }
 
     /// A queue of a new name, with its first tick.
-    pub(crate) fn make(&mut self, name: Text, first: Tick) -> Result<(), AllocError>
+    pub(crate) fn make(&mut self, name: Text, now: i64, snapshot: Snapshot) -> Result<(), NoMemory>
         requires new { queue_number name (seen_database self.old).queues ≡ None }
         requires room { length (seen_database self.old).queues < 64 }
-        requires first { first.id ≡ 1 }
-        requires time { IsTime first.time }
-        requires seq { first.seq ≡ 0 }
-        requires snapshot { first.snapshot ≡ snapshot_now (seen_database self.old).part }
+        requires time { IsTime now }
+        requires snapshot { snapshot ≡ snapshot_now (seen_database self.old).part }
         ensures { OnOk result (seen_database self.new ≡ after_marks (seen_database self.old)
-            (queued (made name) ∷ queued (ticked (seen_database self.old).queues_made 1 first.time 0) ∷ [])) }
+            (queued (made name) ∷ queued (ticked (seen_database self.old).queues_made 1 now 0) ∷ [])) }
     {
-        self.queues.make(name, first)
+        self.queues.make(name, now, snapshot)
     }
 
     /// Registers a new consumer, which stands at the newest tick.

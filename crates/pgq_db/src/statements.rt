@@ -29,24 +29,11 @@ ghost use Rattle.pgq_db.specs.Gives.{is_row, Gives, Adds, Answers, Ran};
 ghost use Rattle.sky_model.specs.Stops.{StopsAs};
 
 use crate::db::Db;
-use crate::gate::EVENT_ID_END;
-use pgq_queues::{Batch, MAX_COUNT, Subscription, TableTrigger, Tick};
+use pgq_queues::{Batch, EVENT_ID_END, Subscription, TableTrigger};
 use sky_model::{BoxedExtra, ColumnNames, Events, Limit, Refusal, Replies, Reply, Stmt, Stop};
 use sky_urlenc::Trigger;
 use sky_val::{Event, NoMemory, SessionId, Text, copy_option};
 use std::alloc::{AllocError, Global};
-
-/// How many queues a database may have.
-const MAX_QUEUES: usize = 64;
-
-/// How many consumers a queue may have.
-const MAX_CONSUMERS: usize = 256;
-
-/// How many triggers a table may have.
-const MAX_TRIGGERS: usize = 8;
-
-/// How far `force_tick` raises the sequence, so that a tick is due.
-const FORCED: u64 = 2 * MAX_COUNT + 1000;
 
 impl Db {
     /// Runs a statement of a session that has this database open, and those that it lets go on. After want of memory
@@ -259,7 +246,7 @@ impl Db {
             replies.push(who, Reply::Number(0))?;
             return Ok(());
         }
-        if self.queues.count() >= MAX_QUEUES {
+        if self.queues.count() >= Limit::Queues.most() {
             return Err(Stop::Refused(Refusal::TooMany(Limit::Queues)));
         }
         self.id_left(who)?;
@@ -279,13 +266,8 @@ impl Db {
     {
         let name = name.copy(self.alloc)?;
         let txid = self.take_txid(who)?;
-        let first = Tick {
-            id: 1,
-            time: now,
-            snapshot: self.rows.snapshot_now()?,
-            seq: 0,
-        };
-        self.make(name, first)?;
+        let snapshot = self.rows.snapshot_now()?;
+        self.make(name, now, snapshot)?;
         Ok(txid)
     }
 
@@ -330,23 +312,12 @@ impl Db {
         ensures { Ran self.old self.new replies.old replies.new who result (ticker (seen_database self.old) now name.now) }
     {
         let queue = self.queue_called(name)?;
-        let seq = self.queue(queue).seq();
-        if !self.queue(queue).ticks().is_due(now, seq) {
+        if !self.queue(queue).is_due(now) {
             replies.push(who, Reply::Null)?;
             return Ok(());
         }
-        let newest = self.queue(queue).ticks().newest().id();
-        if newest == u64::MAX {
-            return Err(Stop::Refused(Refusal::IdsSpent));
-        }
-        let tick = Tick {
-            id: newest + 1,
-            time: now,
-            snapshot: self.rows.snapshot_now()?,
-            seq,
-        };
-        self.tick(queue, tick)?;
-        replies.push(who, Reply::Number(newest + 1))?;
+        let id = self.tick(queue, now)?;
+        replies.push(who, Reply::Number(id))?;
         Ok(())
     }
 
@@ -361,11 +332,12 @@ impl Db {
     {
         let queue = self.queue_called(name)?;
         let seq = self.queue(queue).seq();
-        if seq >= EVENT_ID_END - FORCED {
+        let forced = 2 * self.queue(queue).config().ticker_max_count() + 1000;
+        if seq >= EVENT_ID_END - forced {
             return Err(Stop::Refused(Refusal::EventIdsSpent));
         }
         let newest = self.queue(queue).ticks().newest().id();
-        self.raise(queue, seq + FORCED);
+        self.raise(queue, seq + forced);
         replies.push(who, Reply::Number(newest))?;
         Ok(())
     }
@@ -388,7 +360,7 @@ impl Db {
             replies.push(who, Reply::Number(0))?;
             return Ok(());
         }
-        if self.queue(queue).consumer_count() >= MAX_CONSUMERS {
+        if self.queue(queue).consumer_count() >= Limit::Consumers.most() {
             return Err(Stop::Refused(Refusal::TooMany(Limit::Consumers)));
         }
         if self.last_sub() == u64::MAX {
@@ -437,7 +409,7 @@ impl Db {
         requires { queue < length self.old.queues.queues }
         ensures { Ran self.old self.new replies.old replies.new who result (opens_batch (seen_database self.old) queue consumer.now sub.now (tick (sub.now.position + 1) ((seen_database self.old).queue queue).tick_list)) }
     {
-        let Some(next) = self.queue(queue).ticks().next(sub.position()) else {
+        let Some(next) = self.queue(queue).ticks().next_after(sub.position()) else {
             replies.push(who, Reply::Null)?;
             return Ok(());
         };
@@ -522,7 +494,7 @@ impl Db {
             let name = name.copy(self.alloc)?;
             return Err(Stop::Refused(Refusal::TriggerExists(name)));
         }
-        if self.queues.trigger_count(number) >= MAX_TRIGGERS {
+        if self.queues.trigger_count(number) >= Limit::Triggers.most() {
             return Err(Stop::Refused(Refusal::TooMany(Limit::Triggers)));
         }
         if let Some(column) = self.bad_column(table, number, ignored.as_slice()) {

@@ -5,6 +5,7 @@ ghost use Rattle.sky_txid.specs.Snapshot.{sees};
 ghost use Rattle.pgq_tick.specs.Ticks.{IsTime, IsSpan, AreTicks};
 
 use crate::config::QueueConfig;
+use sky_model::{Refusal, Stop};
 use sky_txid::Snapshot;
 use sky_val::NoMemory;
 use std::alloc::Global;
@@ -18,6 +19,20 @@ pub enum TickFault {
     IdsSpent,
     #[error("out of memory")]
     NoMemory,
+}
+
+impl From<TickFault> for Stop {
+    ghost use Rattle.std.specs.Prelude.{◌≡◌};
+    ghost use Rattle.pgq_tick.specs.Faults.{stop_of};
+
+    ghost from_gives = { λ fault stop. stop ≡ stop_of fault };
+
+    fn from(fault: TickFault) -> Stop {
+        match fault {
+            TickFault::IdsSpent => Stop::Refused(Refusal::IdsSpent),
+            TickFault::NoMemory => Stop::NoMemory,
+        }
+    }
 }
 
 /// A tick: a moment of a queue, in microseconds since the clock's start, with the snapshot and the

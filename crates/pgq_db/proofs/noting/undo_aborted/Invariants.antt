@@ -8,8 +8,8 @@ use Rattle.pgq_db.proofs.noting.undo_aborted.Given as goal
 -- what is undone so far, and what the rest undoes, is what all undo
 abbrev pub invariant-loop-effect : goal.invariant-loop-effect
 invariant-loop-effect l = record {
-  undone : (part : RowPart) → record (seen_with part l.queues) { undone = undone_by (drop l.effect-index l.effects) (seen_with part l.queues).undone }
-      ≡ record (seen_with part l.fn.queues) { undone = undone_by l.effects (seen_with part l.fn.queues).undone };
+  undone : (part : RowPart) → record (seen_with part l.queues) { undone = undone_by (drop l.effect-index l.effects.items) (seen_with part l.queues).undone }
+      ≡ record (seen_with part l.fn.queues) { undone = undone_by l.effects.items (seen_with part l.fn.queues).undone };
   queues : length l.queues.queues ≡ length l.fn.queues.queues;
   tables : (part : RowPart) → AreTables part l.fn.queues → AreTables part l.queues;
 }

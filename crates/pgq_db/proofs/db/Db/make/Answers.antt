@@ -1,8 +1,11 @@
-use Rattle.std.proofs.Common.{length, [], ◌∷◌}
+use Rattle.std.proofs.Common.{ℤ, length, [], ◌∷◌, w64, ap, ◌∙◌}
+use Rattle.std.proofs.lemmas.Int.{to_z-of_z}
 use Rattle.std.proofs.lemmas.Result.{on_ok_weaker}
 use Rattle.sky_model.specs.History.{queued, made, ticked}
+use Rattle.sky_model.specs.State.{after_marks}
 use Rattle.sky_state.specs.Seen.{seen}
 use Rattle.pgq_queues.specs.Views.{QueuesView}
+use Rattle.pgq_queues.specs.Seen.{seen_with}
 use Rattle.pgq_db.proofs.Databases.{ticked-as}
 use Rattle.pgq_db.proofs.db.Db.make.Goals as goal
 
@@ -11,4 +14,5 @@ invariant_of-self c = λ e. c.make.ensures.tables (seen c.self.inside.rows) (c.s
 
 pub returns : goal.returns
 returns c =
-    on_ok_weaker _ (ticked-as _ _ c.make.new.self c.args.first.snapshot (λ (q : QueuesView). queued (made c.args.name) ∷ queued (ticked (length q.names) 1 c.args.first.time 0) ∷ []) c.self.view_is c.requires.snapshot) c.make.ensures.marks
+    on_ok_weaker _ (λ is. ticked-as _ _ c.make.new.self c.args.snapshot (λ (q : QueuesView). queued (made c.args.name) ∷ queued (ticked (length q.names) 1 c.args.now 0) ∷ []) c.self.view_is c.requires.snapshot
+    (λ part snap. is part snap ∙ ap (λ (t : ℤ). after_marks (seen_with part c.self.inside.queues) (queued (made c.args.name) ∷ queued (ticked (length c.self.inside.queues.names) 1 t 0) ∷ [])) (to_z-of_z w64 c.args.now c.ranges.now))) c.make.ensures.marks

@@ -1,10 +1,11 @@
-use Rattle.std.proofs.Common.{◌≡◌, refl, subst}
+use Rattle.std.proofs.Common.{◌≡◌, ap, refl, subst}
 use Rattle.sky_model.specs.State.{after_marks}
 use Rattle.sky_model.specs.SessionMarks.{failure}
+use Rattle.sky_session.specs.Effects.{EffectsView}
 use Rattle.sky_state.specs.Seen.{seen}
 use Rattle.pgq_db.specs.Views.{DbView}
 use Rattle.pgq_db.specs.Seen.{seen_database}
-use Rattle.pgq_db.proofs.Databases.{failed-as}
+use Rattle.pgq_db.proofs.Databases.{noted-as}
 use Rattle.pgq_db.proofs.Tables.{tables-then}
 use Rattle.pgq_db.proofs.db.Db.roll_back.Goals as goal
 
@@ -26,6 +27,8 @@ pub returns-in_ok-undo_aborted-in-Ok : goal.returns-in_ok-undo_aborted-in-Ok
 returns-in_ok-undo_aborted-in-Ok c =
     let was : DbView = record { rows = c.self.inside.rows; queues = c.self.inside.queues } in
     let left : DbView = record { rows = c.roll_back.new.self; queues = c.undo_aborted.new.queues } in
+    let s = (seen c.self.inside.rows).session c.args.who in
     subst (λ (v : DbView). seen_database left
     ≡ after_marks (seen_database v) (failure c.args.who ((seen_database v).part.session c.args.who).txid ((seen_database v).part.session c.args.who).block)) c.self.view_is
-    (failed-as (seen_database was) (seen_database (record was { rows = c.roll_back.new.self })) _ c.args.who c.in-Ok.effects c.in-Ok.ensures.marks c.in-Ok.ensures.told refl (c.in_ok-undo_aborted-in-Ok.ensures.noted (seen c.roll_back.new.self)))
+    (noted-as (seen_database was) (seen_database (record was { rows = c.roll_back.new.self })) _ (failure c.args.who s.txid s.block) c.clear.new.self c.roll_back.new.effects (each-failure is_rows c.args.who s.txid s.block)
+    (ap EffectsView.items c.clear.ensures) c.in-Ok.ensures.told c.in-Ok.ensures.marks refl (c.in_ok-undo_aborted-in-Ok.ensures.noted (seen c.roll_back.new.self)))
