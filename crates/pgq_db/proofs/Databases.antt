@@ -205,6 +205,10 @@ after-row_marks d (tabled (waits who table key attempt) ∷ marks) rows = after-
 after-row_marks d (tabled (waited who) ∷ marks) rows = after-row_marks (after_mark d (tabled (waited who))) marks rows
 after-row_marks d (queued mark ∷ marks) rows = absurd rows
 
+-- what was rolled back is what their effects undo
+pub undone-as : (d : Database) (marks : List Mark) (effects : List Effect) → RowMarks marks → effects ≡ effects_of marks → undone_by effects d.undone ≡ (after_marks d marks).undone
+undone-as d marks effects rows told = ap (λ es. undone_by es d.undone) told ∙ ap Database.undone (sym (after-row_marks d marks rows))
+
 -- marks of rows, with those noted that were rolled back
 pub noted-as : (d s1 s2 : Database) (marks : List Mark) (effects : List Effect) → RowMarks marks → s1.part ≡ after_part_marks d.part marks → effects ≡ effects_of marks
     → s1 ≡ record d { part = s1.part } → s2 ≡ record s1 { undone = undone_by effects s1.undone } → s2 ≡ after_marks d marks

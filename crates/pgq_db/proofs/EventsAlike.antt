@@ -1,64 +1,80 @@
--- The gate of events keeps what tells a database of writes: so a statement behind it does what it does in the database.
-use Rattle.std.proofs.Common.{◌≡◌, ℕ, ℤ, suc, ◌+◌, ◌^◌, Bool, true, false, nat_le, ◌==◌, List, [], ◌∷◌, ◌++◌, Option, Some, None, Ok, Err, is_ok, map, refl, sym, ◌∙◌, ap, subst, arith, if◌then◌else◌}
+-- The queues keep what tells a database of writes: so a statement behind them does what it does in the database.
+use Rattle.std.proofs.Common.{◌≡◌, ℕ, suc, ℤ, ◌+◌, ◌<◌, ◌^◌, Bool, true, false, nat_le, ◌==◌, List, [], ◌∷◌, ◌++◌, Option, Some, None, Ok, Err, is_ok, map, length, get_or, slice_set, refl, sym, ◌∙◌, ap, subst, arith, if◌then◌else◌}
 use Rattle.std.specs.Prelude.{not, ◌&&◌, option_map, slice_get, unwrap_or}
+use Rattle.std.specs.List.{All}
 use Rattle.std.proofs.lemmas.Bool.Decides.{nat_tests}
+use Rattle.std.proofs.lemmas.List.{length-set}
+use Rattle.std.proofs.lemmas.List.Elements.{All-map, All-filter}
 use Rattle.sky_val.specs.declared.val.Val.{Val}
 use Rattle.sky_val.specs.declared.event.Event.{Event}
-use Rattle.sky_urlenc.specs.RowEvents.{RowEvent, events_of}
+use Rattle.sky_urlenc.specs.RowEvents.{RowEvent, Trigger, events_of, event_of}
 use Rattle.sky_model.specs.declared.reply.Refusal.TheVariants.{EventIdsSpent}
-use Rattle.sky_model.specs.History.{Mark, of_session, of_worker, began, ended, block_begun, repeats, looked, block_failed, block_ended, connected, disconnected, tabled, table_made, wrote, waits, waited, queued, raised, put}
+use Rattle.sky_model.specs.History.{Mark, of_session, began, ended, block_begun, repeats, looked, block_failed, block_ended, connected, disconnected, tabled, wrote, queued}
 use Rattle.sky_model.specs.Triggers.{TableTrigger, triggers_of}
-use Rattle.sky_model.specs.State.{Queue, RowPart, after_part, Database, changed_at, after_mark, after_marks}
+use Rattle.sky_model.specs.State.{Queue, RowPart, after_part, after_part_marks, Database, changed_at, after_mark, after_marks}
 use Rattle.sky_model.specs.Outcome.{Checked, ◌>>=◌, ◌>>◌, refused_if}
-use Rattle.sky_model.specs.Telling.{events_in, told_event, event_marks, told_by, told_of}
+use Rattle.sky_model.specs.Telling.{write_in, events_in, told_event, event_marks, told_by, told_of}
 use Rattle.sky_model.specs.Reader.{part_by_itself, database_by_itself, within_part}
-use Rattle.sky_model.specs.Gates.{takes, passed, passed_all, by_gate}
+use Rattle.sky_model.specs.Gates.{RowWrite, takes, passed, passed_all, by_gate}
 use Rattle.sky_model.specs.Settling.{Turn, settling}
 use Rattle.sky_model.specs.Calls.{row_turn, database_turn}
-use Rattle.sky_model.specs.Printed.{HaveMoments}
 use Rattle.sky_model.specs.declared.stmt.RowStmt.{RowStmt}
 use Rattle.sky_model.specs.declared.stmt.Stmt.TheVariants.{Row}
-use Rattle.sky_model.proofs.RowStanding.{part-behind}
 use Rattle.sky_model.proofs.RowOutcomes.{TurnOfRows, itself-rows, by_gate-rows, settling-rows-by, row_turn-rows-by}
-use Rattle.sky_model.proofs.Inserted.{BesideQueues, beside, inserted-beside}
+use Rattle.sky_model.proofs.Inserted.{BesideQueues, inserted-beside}
 use Rattle.sky_model.proofs.Telling.{IsOther, TellsAlike, SameTold, settling-told, row_turn-told}
-use Rattle.sky_session.specs.declared.answer.RowStep.{RowStep}
-use Rattle.sky_session.specs.Gives.{GivesTurn}
-use Rattle.pgq_db.specs.declared.told.Told.{Told}
-use Rattle.pgq_queues.specs.Views.{TracedTableView, QueuesView}
-use Rattle.pgq_queues.specs.Seen.{queue_at, kept, seen_with}
+use Rattle.sky_session.specs.declared.effect.Effect.{Effect}
+use Rattle.pgq_queues.specs.Views.{QueueView, TracedTableView, QueuesView}
+use Rattle.pgq_queues.specs.Seen.{no_queue, seen_queue, kept, keeps, seen_with}
 use Rattle.pgq_queues.specs.Traced.{traced_by, traced_at, IsTraced, AreTables}
+use Rattle.pgq_queues.specs.EventRule.{events_at, sequences, ids_left, telling, telling_all, event_rule}
+use Rattle.pgq_queues.proofs.Marked.{get_or-slice_set}
+use Rattle.pgq_queues.proofs.Telling.{telling-length}
 use Rattle.pgq_db.specs.Undone.{undone_by}
-use Rattle.pgq_db.specs.EventGates.{EventGateView, events_at, ids_left, told_from, seq_behind, seqs, event_rule, queues_behind, AreStorable}
-use Rattle.pgq_db.specs.Gives.{Gives}
-use Rattle.pgq_db.proofs.Databases.{noted-as}
 use Rattle.pgq_db.proofs.Tables.{tables-kept}
 
--- ---- what is told of events reads queues alone
+-- ---- events that are told of, and those that queues store
 
-seq-put : (f : ℕ → Queue) (q id : ℕ) (event : Event) (n : ℕ)
-    → (changed_at q (λ x. record x { stored = x.stored ++ event ∷ [] }) (changed_at q (λ x. record x { seq = id }) f) n).seq ≡ (if q == n then id else (f n).seq)
-seq-put f q id event n = by (q == n)
+-- what queues show
+abbrev shown : List QueueView → ℕ → Queue
+shown queues n = seen_queue (get_or queues n no_queue)
+
+-- an event's marks change what a queue shows as storing it does
+next-shown : (queues : List QueueView) (now : ℤ) (t : ℕ) (e : RowEvent) → e.queue < length queues
+    → changed_at e.queue (λ q. record q { stored = q.stored ++ told_event ((shown queues e.queue).seq + 1) now t e ∷ [] }) (changed_at e.queue (λ q. record q { seq = (shown queues e.queue).seq + 1 }) (shown queues))
+    ≡ shown (slice_set queues e.queue (telling now t e (get_or queues e.queue no_queue)))
+next-shown queues now t e lt = λ i n. pointwise n i
   where
-    by : (b : Bool) → (if b then record (if b then record (f n) { seq = id } else f n) { stored = (if b then record (f n) { seq = id } else f n).stored ++ event ∷ [] } else (if b then record (f n) { seq = id } else f n)).seq
-        ≡ (if b then id else (f n).seq)
-    by true = refl
-    by false = refl
+    one : QueueView
+    one = get_or queues e.queue no_queue
+
+    stores : Queue → Queue
+    stores q = record q { stored = q.stored ++ told_event (one.seq + 1) now t e ∷ [] }
+
+    raises : Queue → Queue
+    raises q = record q { seq = one.seq + 1 }
+
+    by : (n : ℕ) (b : Bool) → (e.queue == n) ≡ b → (if b then stores (if b then raises (shown queues n) else shown queues n) else (if b then raises (shown queues n) else shown queues n))
+        ≡ seen_queue (if b then telling now t e one else get_or queues n no_queue)
+    by n true is = let same : n ≡ e.queue = grind (arith, nat_tests) in ap (λ m. stores (raises (shown queues m))) same
+    by n false is = refl
+
+    pointwise : (n : ℕ) → changed_at e.queue stores (changed_at e.queue raises (shown queues)) n ≡ shown (slice_set queues e.queue (telling now t e one)) n
+    pointwise n = by n (e.queue == n) refl ∙ ap seen_queue (sym (get_or-slice_set queues e.queue n (telling now t e one) lt))
 
 next-seqs : (f : ℕ → Queue) (q : ℕ) (event : Event)
     → (λ n. (changed_at q (λ x. record x { stored = x.stored ++ event ∷ [] }) (changed_at q (λ x. record x { seq = (f q).seq + 1 }) f) n).seq) ≡ changed_at q (λ n. n + 1) (λ n. (f n).seq)
-next-seqs f q event = λ i n. pointwise n i
+next-seqs f q event = λ i n. by n (q == n) refl i
   where
-    by : (n : ℕ) (b : Bool) → (q == n) ≡ b → (if b then (f q).seq + 1 else (f n).seq) ≡ (if b then (f n).seq + 1 else (f n).seq)
+    stores : Queue → Queue
+    stores x = record x { stored = x.stored ++ event ∷ [] }
+
+    raises : Queue → Queue
+    raises x = record x { seq = (f q).seq + 1 }
+
+    by : (n : ℕ) (b : Bool) → (q == n) ≡ b → Queue.seq (if b then stores (if b then raises (f n) else f n) else (if b then raises (f n) else f n)) ≡ (if b then (f n).seq + 1 else (f n).seq)
     by n true e = let same : q ≡ n = grind (arith, nat_tests) in ap (λ m. (f m).seq + 1) same
     by n false e = refl
-
-    pointwise : (n : ℕ) → (changed_at q (λ x. record x { stored = x.stored ++ event ∷ [] }) (changed_at q (λ x. record x { seq = (f q).seq + 1 }) f) n).seq ≡ (if q == n then (f n).seq + 1 else (f n).seq)
-    pointwise n = seq-put f q ((f q).seq + 1) event n ∙ by n (q == n) refl
-
-seq-behind : (told : List Told) (f : ℕ → Queue) (n : ℕ) → (queues_behind f told n).seq ≡ seq_behind n (f n).seq told
-seq-behind [] f n = refl
-seq-behind (x ∷ xs) f n = seq-behind xs (changed_at x.queue (λ q. record q { stored = q.stored ++ x.event ∷ [] }) (changed_at x.queue (λ q. record q { seq = x.event.ev_id }) f)) n ∙ ap (λ m. seq_behind n m xs) (seq-put f x.queue x.event.ev_id x.event n)
 
 is_ok-then : {A B : Type 0} (c : Checked A) (f : A → B) → is_ok (c >>= (λ a. Ok (f a))) ≡ is_ok c
 is_ok-then (Ok a) f = refl
@@ -81,250 +97,179 @@ told-ids (e ∷ es) d now t = by (nat_le (2 ^ 62) ((d.queue e.queue).seq + 1)) (
         ∙ ih
         ∙ ap (λ f. ids_left f es) (next-seqs d.queue e.queue (told_event ((d.queue e.queue).seq + 1) now t e))
 
--- the marks of events
-abbrev marks_told : List Told → List Mark
-marks_told [] = []
-marks_told (x ∷ xs) = event_marks x.queue x.event ++ marks_told xs
-
 ok-is : {A : Type 0} (x y : A) (c : Checked A) → c ≡ Ok x → c ≡ Ok y → x ≡ y
 ok-is x y c e also = cc
 
-told-marks : (es : List RowEvent) (d : Database) (now : ℤ) (t : ℕ) (told : List Mark) → told_by d now t es ≡ Ok told → marks_told (told_from (λ n. (d.queue n).seq) now t es) ≡ told
-told-marks [] d now t told is = ok-is [] told (Ok []) refl is
-told-marks (e ∷ es) d now t told is = by (nat_le (2 ^ 62) ((d.queue e.queue).seq + 1)) (told-marks es behind now t) is
+-- what events leave that are told of
+told-behind : (es : List RowEvent) (queues : List QueueView) (d : Database) (now : ℤ) (t : ℕ) (told : List Mark) → All (λ e. e.queue < length queues) es → d.queue ≡ shown queues
+    → told_by d now t es ≡ Ok told → after_marks d told ≡ record d { queue = shown (telling_all now t es queues) }
+told-behind [] queues d now t told within is ok = ap (after_marks d) (sym (ok-is [] told (Ok []) refl ok)) ∙ (λ i. record d { queue = is i })
+told-behind (e ∷ es) queues d now t told within is ok = by (nat_le (2 ^ 62) ((d.queue e.queue).seq + 1)) (told-behind es next behind now t) ok
   where
-    behind : Database
-    behind = after_marks d (event_marks e.queue (told_event ((d.queue e.queue).seq + 1) now t e))
+    low : e.queue < length queues
+    low = within 0 e (omega arith)
 
     first : List Mark
     first = event_marks e.queue (told_event ((d.queue e.queue).seq + 1) now t e)
 
-    joined : (c : Checked (List Mark)) → ((rest : List Mark) → c ≡ Ok rest → marks_told (told_from (λ n. (behind.queue n).seq) now t es) ≡ rest)
-        → (c >>= (λ rest. Ok (first ++ rest))) ≡ Ok told → marks_told (told_from (λ n. (d.queue n).seq) now t (e ∷ es)) ≡ told
-    joined (Ok rest) ih is =
-        ap (λ f. first ++ marks_told (told_from f now t es)) (sym (next-seqs d.queue e.queue (told_event ((d.queue e.queue).seq + 1) now t e)))
-        ∙ ap (λ marks. first ++ marks) (ih rest refl)
-        ∙ ok-is (first ++ rest) told (Ok (first ++ rest)) refl is
-    joined (Err refusal) ih is = absurd (cc)
+    behind : Database
+    behind = after_marks d first
 
-    by : (b : Bool) → ((rest : List Mark) → told_by behind now t es ≡ Ok rest → marks_told (told_from (λ n. (behind.queue n).seq) now t es) ≡ rest)
+    next : List QueueView
+    next = slice_set queues e.queue (telling now t e (get_or queues e.queue no_queue))
+
+    there : behind.queue ≡ shown next
+    there =
+        (λ i. changed_at e.queue (λ q. record q { stored = q.stored ++ told_event ((is i e.queue).seq + 1) now t e ∷ [] }) (changed_at e.queue (λ q. record q { seq = (is i e.queue).seq + 1 }) (is i)))
+        ∙ next-shown queues now t e low
+
+    later : All (λ x. x.queue < length next) es
+    later = λ k d lt. subst (λ n. (get_or es k d).queue < n) (sym (length-set queues e.queue (telling now t e (get_or queues e.queue no_queue)))) (within (suc k) d (omega (arith, lt)))
+
+    joined : (c : Checked (List Mark)) → ((rest : List Mark) → c ≡ Ok rest → after_marks behind rest ≡ record behind { queue = shown (telling_all now t es next) })
+        → (c >>= (λ rest. Ok (first ++ rest))) ≡ Ok told → after_marks d told ≡ record d { queue = shown (telling_all now t es next) }
+    joined (Ok rest) ih ok = ap (after_marks d) (sym (ok-is (first ++ rest) told (Ok (first ++ rest)) refl ok)) ∙ ih rest refl
+    joined (Err refusal) ih ok = absurd (cc)
+
+    by : (b : Bool) → ((rest : List Mark) → All (λ x. x.queue < length next) es → behind.queue ≡ shown next → told_by behind now t es ≡ Ok rest → after_marks behind rest ≡ record behind { queue = shown (telling_all now t es next) })
         → ((refused_if b EventIdsSpent >> Ok ((d.queue e.queue).seq + 1)) >>= (λ id.
         told_by (after_marks d (event_marks e.queue (told_event id now t e))) now t es >>= (λ rest. Ok (event_marks e.queue (told_event id now t e) ++ rest)))) ≡ Ok told
-        → marks_told (told_from (λ n. (d.queue n).seq) now t (e ∷ es)) ≡ told
-    by true ih is = absurd (cc)
-    by false ih is = joined (told_by behind now t es) ih is
+        → after_marks d told ≡ record d { queue = shown (telling_all now t es next) }
+    by true ih ok = absurd (cc)
+    by false ih ok = joined (told_by behind now t es) (λ rest. ih rest later there) ok
 
--- what they leave
-told-behind : (told : List Told) (d : Database) → after_marks d (marks_told told) ≡ record d { queue = queues_behind d.queue told }
-told-behind [] d = refl
-told-behind (x ∷ xs) d = told-behind xs (after_marks d (event_marks x.queue x.event))
+-- ---- a database, its row part, and its queues
 
-behind-append : (xs : List Told) (f : ℕ → Queue) (ys : List Told) → queues_behind f (xs ++ ys) ≡ queues_behind (queues_behind f xs) ys
-behind-append [] f ys = refl
-behind-append (x ∷ xs) f ys = behind-append xs (changed_at x.queue (λ q. record q { stored = q.stored ++ x.event ∷ [] }) (changed_at x.queue (λ q. record q { seq = x.event.ev_id }) f)) ys
+-- a database, its row part and its queues at a time, where some transactions had been noted as rolled back
+pub record Alike (now : ℤ) (undone : List ℕ) (d : Database) (p : RowPart) (q : QueuesView) : Type 0 where
+  pub whole : d ≡ record (seen_with p q) { undone = d.undone }
+  pub time : q.time ≡ now
+  pub noted : q.undone ≡ undone
+  pub tables : AreTables p q
+  pub within : All (λ t. t.trigger.queue < length q.queues) q.triggers
 
--- ---- a database, its row part, and the gate
+module _ (now : ℤ) (undone : List ℕ) where
+  abbrev Here : Database → RowPart → QueuesView → Type 0
+  Here d p q = Alike now undone d p q
 
--- a database, its row part, and a gate that was set up with these queues
-pub record Alike (now : ℤ) (queues : QueuesView) (d : Database) (p : RowPart) (g : EventGateView) : Type 0 where
-  pub part : d.part ≡ p
-  pub gate : g ≡ record { now = now; queues = queues; told = g.told }
-  pub queue : d.queue ≡ queues_behind (queue_at queues) g.told
-  pub all : d.triggers ≡ queues.triggers
-  pub tables : AreTables p queues
+  whole-other : (d : Database) (p : RowPart) (q : QueuesView) (mark : Mark) → IsOther mark → d ≡ record (seen_with p q) { undone = d.undone }
+      → after_mark d mark ≡ record (seen_with (after_part p mark) q) { undone = (after_mark d mark).undone }
+  whole-other d p q (began who t) other is = ap (λ x. after_mark x (began who t)) is
+  whole-other d p q (ended who t true) other is = ap (λ x. after_mark x (ended who t true)) is
+  whole-other d p q (ended who t false) other is = ap (λ x. after_mark x (ended who t false)) is
+  whole-other d p q (block_begun who) other is = ap (λ x. after_mark x (block_begun who)) is
+  whole-other d p q (repeats who) other is = ap (λ x. after_mark x (repeats who)) is
+  whole-other d p q (looked who) other is = ap (λ x. after_mark x (looked who)) is
+  whole-other d p q (block_failed who) other is = ap (λ x. after_mark x (block_failed who)) is
+  whole-other d p q (block_ended who) other is = ap (λ x. after_mark x (block_ended who)) is
+  whole-other d p q (connected who) other is = ap (λ x. after_mark x (connected who)) is
+  whole-other d p q (disconnected who) other is = ap (λ x. after_mark x (disconnected who)) is
+  whole-other d p q (tabled mark) other is = ap (λ x. after_mark x (tabled mark)) is
+  whole-other d p q (queued mark) other is = absurd other
 
-module _ (now : ℤ) (queues : QueuesView) where
-  abbrev Here : Database → RowPart → EventGateView → Type 0
-  Here d p g = Alike now queues d p g
+  other-alike : (d : Database) (p : RowPart) (q : QueuesView) (mark : Mark) → IsOther mark → Here d p q → Here (after_mark d mark) (after_part p mark) q
+  other-alike d p q mark other is = record { whole = whole-other d p q mark other is.whole; time = is.time; noted = is.noted; tables = tables-kept p mark q is.tables; within = is.within }
 
-  beside-other : (d : Database) (mark : Mark) → IsOther mark → ((after_mark d mark).queue ≡ d.queue) × ((after_mark d mark).triggers ≡ d.triggers)
-  beside-other d (began who t) other = (refl, refl)
-  beside-other d (ended who t true) other = (refl, refl)
-  beside-other d (ended who t false) other = (refl, refl)
-  beside-other d (block_begun who) other = (refl, refl)
-  beside-other d (repeats who) other = (refl, refl)
-  beside-other d (looked who) other = (refl, refl)
-  beside-other d (block_failed who) other = (refl, refl)
-  beside-other d (block_ended who) other = (refl, refl)
-  beside-other d (connected who) other = (refl, refl)
-  beside-other d (disconnected who) other = (refl, refl)
-  beside-other d (tabled mark) other = (refl, refl)
-  beside-other d (queued mark) other = absurd other
-
-  other-alike : (d : Database) (p : RowPart) (g : EventGateView) (mark : Mark) → IsOther mark → Here d p g → Here (after_mark d mark) (after_part p mark) g
-  other-alike d p g mark other is = record {
-    part = part-behind d mark ∙ ap (λ x. after_part x mark) is.part;
-    gate = is.gate;
-    queue = (beside-other d mark other).0 ∙ is.queue;
-    all = (beside-other d mark other).1 ∙ is.all;
-    tables = tables-kept p mark queues is.tables;
-  }
-
-  -- the events of a write are those that the gate makes
-  same-events : (d : Database) (p : RowPart) (g : EventGateView) (table : ℕ) (old new : Option (List Val)) → Here d p g
-      → events_in d table old new ≡ events_at (traced_at g.queues table) (record { table = table; old = old; new = new })
-  same-events d p g table old new is =
-      ap (λ (x : RowPart). events_of (record { table = unwrap_or (slice_get x.tables table) []; columns = x.columns table; old = old; new = new }) (map TableTrigger.trigger (triggers_of table d.triggers))) is.part
-      ∙ ap (told_by_them p) (ap (triggers_of table) is.all)
-      ∙ by (kept queues.traced table) (is.tables table)
-      ∙ ap (λ (x : EventGateView). events_at (traced_at x.queues table) (record { table = table; old = old; new = new })) (sym is.gate)
+  -- the events of a write are those that the queues store
+  same-events : (d : Database) (p : RowPart) (q : QueuesView) (table : ℕ) (old new : Option (List Val)) → Here d p q
+      → events_in d table old new ≡ events_at (traced_at q table) (record { table = table; old = old; new = new })
+  same-events d p q table old new is = ap (λ x. events_in x table old new) is.whole ∙ by (kept q.traced table) (is.tables table)
     where
       told_by_them : RowPart → List TableTrigger → List RowEvent
       told_by_them x ts = events_of (record { table = unwrap_or (slice_get x.tables table) []; columns = x.columns table; old = old; new = new }) (map TableTrigger.trigger ts)
 
-      by : (o : Option TracedTableView) → IsTraced p table queues.triggers o
-          → told_by_them p (triggers_of table queues.triggers) ≡ events_at (option_map (traced_by (triggers_of table queues.triggers)) o) (record { table = table; old = old; new = new })
+      by : (o : Option TracedTableView) → IsTraced p table q.triggers o
+          → told_by_them p (triggers_of table q.triggers) ≡ events_at (option_map (traced_by (triggers_of table q.triggers)) o) (record { table = table; old = old; new = new })
       by None none = ap (told_by_them p) none
-      by (Some t) there = λ i. events_of (record { table = unwrap_or (there.0 i) []; columns = there.1 i; old = old; new = new }) (map TableTrigger.trigger (triggers_of table queues.triggers))
+      by (Some t) there = λ i. events_of (record { table = unwrap_or (there.0 i) []; columns = there.1 i; old = old; new = new }) (map TableTrigger.trigger (triggers_of table q.triggers))
 
-  same-seqs : (d : Database) (p : RowPart) (g : EventGateView) → Here d p g → (λ n. (d.queue n).seq) ≡ seqs g
-  same-seqs d p g is =
-      ap (λ (f : ℕ → Queue). λ n. (f n).seq) is.queue
-      ∙ (λ i n. seq-behind g.told (queue_at queues) n i)
-      ∙ ap seqs (sym is.gate)
-
-  room-alike : (d : Database) (p : RowPart) (g : EventGateView) (who t table : ℕ) (key : List Val) (old new : Option (List Val)) → Here d p g
-      → takes event_rule g (tabled (wrote (of_session who) t table key old new))
+  room-alike : (d : Database) (p : RowPart) (q : QueuesView) (who t table : ℕ) (key : List Val) (old new : Option (List Val)) → Here d p q
+      → takes event_rule q (tabled (wrote (of_session who) t table key old new))
       ≡ is_ok (told_of (after_mark d (tabled (wrote (of_session who) t table key old new))) now (tabled (wrote (of_session who) t table key old new)))
-  room-alike d p g who t table key old new is =
-      ap (λ es. ids_left (seqs g) es) (sym (same-events d p g table old new is))
-      ∙ ap (λ f. ids_left f (events_in d table old new)) (sym (same-seqs d p g is))
+  room-alike d p q who t table key old new is =
+      ap (λ es. ids_left (sequences q.queues) es) (sym (same-events d p q table old new is))
+      ∙ ap (λ (x : Database). ids_left (λ n. (x.queue n).seq) (events_in d table old new)) (sym is.whole)
       ∙ sym (told-ids (events_in d table old new) (after_mark d (tabled (wrote (of_session who) t table key old new))) now t)
 
-  wrote-alike : (d : Database) (p : RowPart) (g : EventGateView) (who t table : ℕ) (key : List Val) (old new : Option (List Val)) (told : List Mark) → Here d p g
+  wrote-alike : (d : Database) (p : RowPart) (q : QueuesView) (who t table : ℕ) (key : List Val) (old new : Option (List Val)) (told : List Mark) → Here d p q
       → told_of (after_mark d (tabled (wrote (of_session who) t table key old new))) now (tabled (wrote (of_session who) t table key old new)) ≡ Ok told
-      → Here (after_marks d (tabled (wrote (of_session who) t table key old new) ∷ told)) (after_part p (tabled (wrote (of_session who) t table key old new))) (passed event_rule g (tabled (wrote (of_session who) t table key old new)))
-  wrote-alike d p g who t table key old new told is ok =
-      subst (λ (s : Database). Here s (after_part p write) (passed event_rule g write)) (sym behind) (record {
-        part = ap (λ x. after_part x write) is.part;
-        gate = (λ i. record (is.gate i) { told = g.told ++ told_from (seqs g) g.now t (events_at (traced_at g.queues table) (record { table = table; old = old; new = new })) });
-        queue = ap (λ (f : ℕ → Queue). queues_behind f made) is.queue ∙ sym (behind-append g.told (queue_at queues) made)
-            ∙ ap (λ xs. queues_behind (queue_at queues) (g.told ++ xs)) same;
-        all = is.all;
-        tables = tables-kept p write queues is.tables;
+      → Here (after_marks d (tabled (wrote (of_session who) t table key old new) ∷ told)) (after_part p (tabled (wrote (of_session who) t table key old new))) (passed event_rule q (tabled (wrote (of_session who) t table key old new)))
+  wrote-alike d p q who t table key old new told is ok =
+      subst (λ (s : Database). Here s (after_part p write) (passed event_rule q write)) (sym behind) (record {
+        whole = λ i. record (ap (λ x. after_mark x write) is.whole i) { queue = shown (stored i) };
+        time = is.time;
+        noted = is.noted;
+        tables = tables-kept p write (passed event_rule q write) is.tables;
+        within = λ k x lt. subst (λ n. (get_or q.triggers k x).trigger.queue < n) (sym (telling-length q.time t (events_at (traced_at q table) change) q.queues)) (is.within k x lt);
       })
     where
       write : Mark
       write = tabled (wrote (of_session who) t table key old new)
 
-      made : List Told
-      made = told_from (λ n. (d.queue n).seq) now t (events_in d table old new)
+      change : RowWrite
+      change = record { table = table; old = old; new = new }
 
-      same : made ≡ told_from (seqs g) g.now t (events_at (traced_at g.queues table) (record { table = table; old = old; new = new }))
-      same =
-          ap (λ f. told_from f now t (events_in d table old new)) (same-seqs d p g is)
-          ∙ ap (λ (x : EventGateView). told_from (seqs g) x.now t (events_in d table old new)) (sym is.gate)
-          ∙ ap (λ es. told_from (seqs g) g.now t es) (same-events d p g table old new is)
+      events : List RowEvent
+      events = events_in d table old new
 
-      behind : after_marks d (write ∷ told) ≡ record (after_mark d write) { queue = queues_behind d.queue made }
-      behind =
-          ap (λ marks. after_marks (after_mark d write) marks) (sym (told-marks (events_in d table old new) (after_mark d write) now t told ok))
-          ∙ told-behind made (after_mark d write)
+      within : All (λ e. e.queue < length q.queues) events
+      within =
+          All-map (λ e. e.queue < length q.queues) (event_of (write_in d table old new)) _ (All-filter _ (λ (x : Trigger). x.queue < length q.queues) _
+          (All-map (λ (x : Trigger). x.queue < length q.queues) TableTrigger.trigger (triggers_of table d.triggers)
+          (All-filter _ (λ x. x.trigger.queue < length q.queues) d.triggers (subst (All (λ (x : TableTrigger). x.trigger.queue < length q.queues)) (sym (ap Database.triggers is.whole)) is.within))))
+
+      stored : telling_all now t events q.queues ≡ telling_all q.time t (events_at (traced_at q table) change) q.queues
+      stored = λ i. telling_all (sym is.time i) t (same-events d p q table old new is i) q.queues
+
+      behind : after_marks d (write ∷ told) ≡ record (after_mark d write) { queue = shown (telling_all now t events q.queues) }
+      behind = told-behind events q.queues (after_mark d write) now t told within (ap Database.queue is.whole) ok
 
   pub events-alike : TellsAlike event_rule now Here
-  events-alike = record { part = λ d p g is. is.part; other = other-alike; room = room-alike; wrote = wrote-alike }
+  events-alike = record { part = λ d p q is. ap Database.part is.whole; other = other-alike; room = room-alike; wrote = wrote-alike }
 
--- ---- what a database gives whose events are stored behind a turn
+  -- ---- what a database gives
 
-rebuilt : BesideQueues → (ℕ → Queue) → Database
-rebuilt b queue = record { part = b.part; undone = b.undone; last_batch_id = b.last_batch_id; last_sub_id = b.last_sub_id; queues_made = b.queues_made; queues = b.queues; queue = queue; batch = b.batch; triggers = b.triggers }
+  -- a statement on rows does the same behind the queues and in the database, and so do those that may go on
+  pub step-told : (d : Database) (p : RowPart) (q : QueuesView) (who : ℕ) (stmt : RowStmt) → Here d p q
+      → SameTold event_rule Here d p q (row_turn (by_gate event_rule part_by_itself) (p, q) who stmt) (database_turn database_by_itself d now who (Row stmt))
+  step-told d p q who stmt is = row_turn-told event_rule now Here events-alike d p q who stmt is
 
-gives-told : (now : ℤ) (queues : QueuesView) (d s1 s3 : Database) (g g' : EventGateView) (gated told : Turn) (step : RowStep) (events : List Told)
-    → SameTold event_rule (Alike now queues) d d.part g gated told → TurnOfRows gated → GivesTurn d.part s1.part step gated
-    → d.queue ≡ queue_at queues → g' ≡ passed_all event_rule g gated.marks → events ≡ g'.told
-    → s1 ≡ record d { part = s1.part } → s3 ≡ record s1 { undone = undone_by step.effects s1.undone; queue = queues_behind s1.queue events }
-    → Gives d s3 step.replies told
-unfolding rebuilt
-gives-told now queues d s1 s3 g g' gated told step events same rows gives base passed_is events_are but stored = record {
-  replied = gives.replied ∙ sym same.answers;
-  changed = stored
-      ∙ (λ i. rebuilt (beside (row_marks i)) (queue i))
-      ∙ ap (λ b. rebuilt b (after_marks d told.marks).queue) (sym (inserted-beside d same.inserted));
-}
-  where
-    noted : Database
-    noted = record s1 { undone = undone_by step.effects s1.undone }
+  pub settle-told : (d : Database) (p : RowPart) (q : QueuesView) → Here d p q
+      → SameTold event_rule Here d p q (settling (by_gate event_rule part_by_itself) (p, q)) (settling (within_part database_by_itself now) d)
+  settle-told d p q is = settling-told event_rule now Here events-alike d p q is
 
-    row_marks : noted ≡ after_marks d gated.marks
-    row_marks = noted-as d s1 noted gated.marks step.effects rows.marks gives.changed gives.told but refl
+  -- behind a turn the row part and the queues show the database, once it is noted what was rolled back
+  pub told-changed : (d : Database) (p after : RowPart) (q left noted : QueuesView) (gated told : Turn) (effects : List Effect) → SameTold event_rule Here d p q gated told
+      → after ≡ after_part_marks p gated.marks → left ≡ passed_all event_rule q gated.marks → undone_by effects (keeps undone) ≡ (after_marks d gated.marks).undone
+      → seen_with after noted ≡ record (seen_with after left) { undone = undone_by effects (keeps left.undone) } → seen_with after noted ≡ after_marks d told.marks
+  told-changed d p after q left noted gated told effects same part_is left_is gone is =
+      is ∙ (λ i. record (seen_with (part_is i) (left_is i)) { undone = rolled_back i }) ∙ sym same.stands.whole
+    where
+      rolled_back : undone_by effects (keeps left.undone) ≡ (after_marks d told.marks).undone
+      rolled_back =
+          (λ i. undone_by effects (keeps ((ap QueuesView.undone left_is ∙ same.stands.noted) i)))
+          ∙ gone
+          ∙ ap BesideQueues.undone (sym (inserted-beside d same.inserted))
 
-    queue : queues_behind s1.queue events ≡ (after_marks d told.marks).queue
-    queue =
-        ap (λ (x : Database). queues_behind x.queue events) but
-        ∙ ap (λ f. queues_behind f events) base
-        ∙ ap (λ es. queues_behind (queue_at queues) es) (events_are ∙ ap EventGateView.told passed_is)
-        ∙ sym same.stands.queue
+  -- and what is kept of tables is true
+  pub told-tables : (d : Database) (p after : RowPart) (q left : QueuesView) (gated told : Turn) → SameTold event_rule Here d p q gated told
+      → after ≡ after_part_marks p gated.marks → left ≡ passed_all event_rule q gated.marks → AreTables after left
+  told-tables d p after q left gated told same part_is left_is = subst (AreTables after) (sym left_is) (subst (λ x. AreTables x (passed_all event_rule q gated.marks)) (sym part_is) same.stands.tables)
 
--- a gate that has made no event yet
-pub alike-new : (now : ℤ) (queues : QueuesView) (d : Database) (g : EventGateView) → g ≡ record { now = now; queues = queues; told = [] }
-    → d.queue ≡ queue_at queues → d.triggers ≡ queues.triggers → AreTables d.part queues → Alike now queues d d.part g
-alike-new now queues d g is base all tables = record {
-  part = refl;
-  gate = is ∙ ap (λ ts. let x : EventGateView = record { now = now; queues = queues; told = ts } in x) (sym (ap EventGateView.told is));
-  queue = base ∙ ap (queues_behind (queue_at queues)) (sym (ap EventGateView.told is));
-  all = all;
-  tables = tables;
+-- queues to which a time was given
+pub alike-at : (now at : ℤ) (p : RowPart) (was q : QueuesView) → q ≡ record was { time = at } → at ≡ now → AreTables p was → All (λ t. t.trigger.queue < length q.queues) q.triggers
+    → Alike now was.undone (seen_with p was) p q
+alike-at now at p was q is time tables within = record {
+  whole = λ i. record (seen_with p (sym is i)) { undone = keeps was.undone };
+  time = ap QueuesView.time is ∙ time;
+  noted = ap QueuesView.undone is;
+  tables = subst (AreTables p) (sym is) tables;
+  within = within;
 }
 
--- what is given by a statement on rows
-pub gives-step : (now : ℤ) (queues : QueuesView) (d s1 s3 : Database) (g g' : EventGateView) (who : ℕ) (stmt : RowStmt) (step : RowStep) (events : List Told)
-    → Alike now queues d d.part g → GivesTurn d.part s1.part step (row_turn (by_gate event_rule part_by_itself) (d.part, g) who stmt)
-    → d.queue ≡ queue_at queues → g' ≡ passed_all event_rule g (row_turn (by_gate event_rule part_by_itself) (d.part, g) who stmt).marks → events ≡ g'.told
-    → s1 ≡ record d { part = s1.part } → s3 ≡ record s1 { undone = undone_by step.effects s1.undone; queue = queues_behind s1.queue events }
-    → Gives d s3 step.replies (database_turn database_by_itself d now who (Row stmt))
-gives-step now queues d s1 s3 g g' who stmt step events is gives =
-    gives-told now queues d s1 s3 g g' _ _ step events
-    (row_turn-told event_rule now (Alike now queues) (events-alike now queues) d d.part g who stmt is)
-    (row_turn-rows-by (by_gate event_rule part_by_itself) (by_gate-rows event_rule part_by_itself itself-rows) (d.part, g) who stmt) gives
+-- the turns of rows do marks of rows, and list no event
+pub step-rows : (p : RowPart) (q : QueuesView) (who : ℕ) (stmt : RowStmt) → TurnOfRows (row_turn (by_gate event_rule part_by_itself) (p, q) who stmt)
+step-rows p q who stmt = row_turn-rows-by (by_gate event_rule part_by_itself) (by_gate-rows event_rule part_by_itself itself-rows) (p, q) who stmt
 
--- and by those that may go on
-pub gives-settle : (now : ℤ) (queues : QueuesView) (d s1 s3 : Database) (g g' : EventGateView) (step : RowStep) (events : List Told)
-    → Alike now queues d d.part g → GivesTurn d.part s1.part step (settling (by_gate event_rule part_by_itself) (d.part, g))
-    → d.queue ≡ queue_at queues → g' ≡ passed_all event_rule g (settling (by_gate event_rule part_by_itself) (d.part, g)).marks → events ≡ g'.told
-    → s1 ≡ record d { part = s1.part } → s3 ≡ record s1 { undone = undone_by step.effects s1.undone; queue = queues_behind s1.queue events }
-    → Gives d s3 step.replies (settling (within_part database_by_itself now) d)
-gives-settle now queues d s1 s3 g g' step events is gives =
-    gives-told now queues d s1 s3 g g' _ _ step events
-    (settling-told event_rule now (Alike now queues) (events-alike now queues) d d.part g is)
-    (settling-rows-by (by_gate event_rule part_by_itself) (by_gate-rows event_rule part_by_itself itself-rows) (d.part, g)) gives
-
--- a gate keeps the queues that it was set up with
-passed-one : (g : EventGateView) (mark : Mark) → (passed event_rule g mark).queues ≡ g.queues
-passed-one g (began who t) = refl
-passed-one g (ended who t committed) = refl
-passed-one g (block_begun who) = refl
-passed-one g (repeats who) = refl
-passed-one g (looked who) = refl
-passed-one g (block_failed who) = refl
-passed-one g (block_ended who) = refl
-passed-one g (connected who) = refl
-passed-one g (disconnected who) = refl
-passed-one g (tabled (table_made name columns)) = refl
-passed-one g (tabled (wrote (of_session who) t table key old new)) = refl
-passed-one g (tabled (wrote of_worker t table key old new)) = refl
-passed-one g (tabled (waits who table key attempt)) = refl
-passed-one g (tabled (waited who)) = refl
-passed-one g (queued mark) = refl
-
-pub passed-queues : (marks : List Mark) (g : EventGateView) → (passed_all event_rule g marks).queues ≡ g.queues
-passed-queues [] g = refl
-passed-queues (mark ∷ marks) g = passed-queues marks (passed event_rule g mark) ∙ passed-one g mark
-
--- their answers list no event
-pub step-moments : (part : RowPart) (g : EventGateView) (who : ℕ) (stmt : RowStmt) → HaveMoments (row_turn (by_gate event_rule part_by_itself) (part, g) who stmt).answers
-step-moments part g who stmt = (row_turn-rows-by (by_gate event_rule part_by_itself) (by_gate-rows event_rule part_by_itself itself-rows) (part, g) who stmt).moments
-
-pub settle-moments : (part : RowPart) (g : EventGateView) → HaveMoments (settling (by_gate event_rule part_by_itself) (part, g)).answers
-settle-moments part g = (settling-rows-by (by_gate event_rule part_by_itself) (by_gate-rows event_rule part_by_itself itself-rows) (part, g)).moments
-
--- ---- events are stored one after the other
-
-pub store-next : (q1 q2 q3 : QueuesView) (x : Told) (all rest : List Told) → all ≡ x ∷ rest → (part : RowPart) → seen_with part q2 ≡ after_mark (seen_with part q1) (queued (raised x.queue x.event.ev_id))
-    → seen_with part q3 ≡ after_mark (seen_with part q2) (queued (put x.queue x.event))
-    → record (seen_with part q3) { queue = queues_behind (queue_at q3) rest } ≡ record (seen_with part q1) { queue = queues_behind (queue_at q1) all }
-store-next q1 q2 q3 x all rest is part one two =
-    ap (λ (s : Database). record s { queue = queues_behind s.queue rest }) (two ∙ ap (λ s. after_mark s (queued (put x.queue x.event))) one)
-    ∙ ap (λ xs. record (seen_with part q1) { queue = queues_behind (queue_at q1) xs }) (sym is)
-
-pub storable-rest : (count later : ℕ) (x : Told) (all rest : List Told) → all ≡ x ∷ rest → later ≡ count → AreStorable count all → AreStorable later rest
-storable-rest count later x all rest is same are = subst (λ n. AreStorable n rest) (sym same) (λ k d lt. subst (AreStorable count) is are (suc k) d (omega (arith, lt)))
+pub settle-rows : (p : RowPart) (q : QueuesView) → TurnOfRows (settling (by_gate event_rule part_by_itself) (p, q))
+settle-rows p q = settling-rows-by (by_gate event_rule part_by_itself) (by_gate-rows event_rule part_by_itself itself-rows) (p, q)

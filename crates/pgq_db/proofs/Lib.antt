@@ -2,6 +2,5 @@ pub mod Databases
 pub mod Moments
 pub mod Empty
 pub mod Waiters
-pub mod Telling
 pub mod Tables
 pub mod EventsAlike

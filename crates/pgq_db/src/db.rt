@@ -25,8 +25,7 @@ ghost use Rattle.pgq_db.specs.Seen.{seen_database};
 ghost use Rattle.pgq_db.specs.Waiters.{StaysWithin};
 ghost use Rattle.pgq_db.specs.Gives.{Gives};
 
-use crate::gate::EventGate;
-use crate::noting::{note_all, undo_aborted};
+use crate::noting::undo_aborted;
 use pgq_queues::{Batch, Queue, Queues, Subscription, TableTrigger, Tick};
 use sky_model::{Refusal, Replies, RowStmt};
 use sky_session::RowDb;
@@ -192,11 +191,10 @@ impl Db {
         if self.is_cut {
             return Err(AllocError);
         }
-        let mut gate = EventGate::new(self.alloc, now, &self.queues);
-        match self.rows.step_with(who, stmt, &mut gate) {
+        self.queues.set_time(now);
+        match self.rows.step_with(who, stmt, &mut self.queues) {
             Ok(step) => {
-                let told = gate.into_told();
-                note_all(&mut self.queues, &step.effects, told)?;
+                undo_aborted(&mut self.queues, &step.effects)?;
                 Ok(step.replies)
             }
             Err(no_memory) => {
@@ -216,11 +214,10 @@ impl Db {
         if self.is_cut {
             return Err(AllocError);
         }
-        let mut gate = EventGate::new(self.alloc, now, &self.queues);
-        match self.rows.settle_with(&mut gate) {
+        self.queues.set_time(now);
+        match self.rows.settle_with(&mut self.queues) {
             Ok(step) => {
-                let told = gate.into_told();
-                note_all(&mut self.queues, &step.effects, told)?;
+                undo_aborted(&mut self.queues, &step.effects)?;
                 Ok(step.replies)
             }
             Err(no_memory) => {

@@ -9,9 +9,7 @@
 #![tactic(auto)]
 
 mod db;
-mod gate;
 mod noting;
 mod statements;
-mod told;
 
 pub use db::Db;

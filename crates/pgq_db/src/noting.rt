@@ -2,47 +2,13 @@
 
 ghost use Rattle.std.specs.Prelude.{◌≡◌, [], ◌∷◌, OnOk, length};
 ghost use Rattle.sky_model.specs.State.{RowPart};
-ghost use Rattle.pgq_queues.specs.Seen.{queue_at, seen_with};
+ghost use Rattle.pgq_queues.specs.Seen.{seen_with};
 ghost use Rattle.pgq_queues.specs.Traced.{AreTables};
-ghost use Rattle.pgq_db.specs.EventGates.{queues_behind, AreStorable};
 ghost use Rattle.pgq_db.specs.Undone.{undone_by};
 
-use crate::told::Told;
 use pgq_queues::Queues;
 use sky_session::{Effect, Effects};
 use std::alloc::AllocError;
-
-/// Notes the transactions that were rolled back, and stores the events.
-pub(crate) fn note_all(
-    queues: &mut Queues,
-    effects: &Effects,
-    told: Vec<Told>,
-) -> Result<(), AllocError>
-    requires { AreStorable (length queues.old.queues) told.items }
-    ensures stored { OnOk result ((part : RowPart) → seen_with part queues.new ≡ record (seen_with part queues.old) {
-      undone = undone_by effects.now (seen_with part queues.old).undone;
-      queue = queues_behind (queue_at queues.old) told.items;
-    }) }
-    ensures tables { (part : RowPart) → AreTables part queues.old → AreTables part queues.new }
-{
-    undo_aborted(queues, effects)?;
-    store(queues, told)?;
-    Ok(())
-}
-
-/// Stores the events, each in its queue.
-fn store(queues: &mut Queues, told: Vec<Told>) -> Result<(), AllocError>
-    requires { AreStorable (length queues.old.queues) told.items }
-    ensures stored { OnOk result ((part : RowPart) → seen_with part queues.new
-        ≡ record (seen_with part queues.old) { queue = queues_behind (queue_at queues.old) told.items }) }
-    ensures tables { (part : RowPart) → AreTables part queues.old → AreTables part queues.new }
-{
-    for told in told {
-        queues.raise(told.queue, told.event.ev_id);
-        queues.put(told.queue, told.event)?;
-    }
-    Ok(())
-}
 
 /// Notes the transactions that were rolled back.
 pub(crate) fn undo_aborted(queues: &mut Queues, effects: &Effects) -> Result<(), AllocError>

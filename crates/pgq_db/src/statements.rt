@@ -30,8 +30,7 @@ ghost use Rattle.pgq_db.specs.Gives.{is_row, Gives, GivesReply, Does, Ran};
 ghost use Rattle.sky_model.specs.Stops.{StopsAs};
 
 use crate::db::Db;
-use crate::gate::EVENT_ID_END;
-use pgq_queues::{Batch, MAX_COUNT, Subscription, TableTrigger, Tick};
+use pgq_queues::{Batch, EVENT_ID_END, MAX_COUNT, Subscription, TableTrigger, Tick};
 use sky_model::{BoxedExtra, ColumnNames, Events, Limit, Refusal, Replies, Reply, Stmt, Stop};
 use sky_urlenc::Trigger;
 use sky_val::{Event, NoMemory, SessionId, Text, copy_option};

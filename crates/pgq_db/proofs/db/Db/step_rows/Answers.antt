@@ -1,5 +1,6 @@
-use Rattle.std.proofs.Common.{◌≡◌, [], length, refl, ◌∙◌, ap, subst, w64}
+use Rattle.std.proofs.Common.{sym, ◌∙◌, subst, to_z, of_z, w64}
 use Rattle.std.proofs.lemmas.Int.{to_z-of_z}
+use Rattle.sky_model.specs.State.{RowPart, Database}
 use Rattle.sky_model.specs.Reader.{part_by_itself, database_by_itself}
 use Rattle.sky_model.specs.Gates.{by_gate}
 use Rattle.sky_model.specs.Settling.{Turn}
@@ -7,47 +8,51 @@ use Rattle.sky_model.specs.Calls.{row_turn, database_turn}
 use Rattle.sky_model.specs.declared.stmt.Stmt.TheVariants.{Row}
 use Rattle.sky_state.specs.Seen.{seen}
 use Rattle.pgq_queues.specs.Views.{QueuesView}
+use Rattle.pgq_queues.specs.Seen.{seen_with}
+use Rattle.pgq_queues.specs.EventRule.{event_rule}
 use Rattle.pgq_db.specs.Views.{DbView}
 use Rattle.pgq_db.specs.Seen.{seen_database}
-use Rattle.pgq_db.specs.EventGates.{EventGateView, event_rule, AreStorable}
 use Rattle.pgq_db.specs.Gives.{Gives}
-use Rattle.pgq_db.proofs.EventsAlike.{alike-new, gives-step, step-moments, passed-queues}
+use Rattle.pgq_db.proofs.Databases.{undone-as}
+use Rattle.pgq_db.proofs.EventsAlike.{Alike, alike-at, step-told, step-rows, told-changed, told-tables}
 use Rattle.pgq_db.proofs.Moments.{same-moments}
-use Rattle.pgq_db.proofs.Tables.{tables-then}
 use Rattle.pgq_db.proofs.db.Db.step_rows.Goals as goal
 
-pub note_all-requires : goal.note_all-requires
-note_all-requires c =
-    let turn : Turn = row_turn (by_gate event_rule part_by_itself) (seen c.self.inside.rows, c.new-gate.result) c.args.who c.args.stmt.now in
-    let queues : c.step_with.new.gate.queues ≡ c.self.inside.queues =
-    ap EventGateView.queues c.in-Ok.ensures.passed ∙ passed-queues turn.marks c.new-gate.result ∙ ap EventGateView.queues c.new-gate.ensures in
-    subst (λ (q : QueuesView). AreStorable (length q.queues) c.into_told-told.result.items) queues c.into_told-told.ensures.storable
-
 pub invariant_of-self : goal.invariant_of-self
-invariant_of-self c =
-    let turn : Turn = row_turn (by_gate event_rule part_by_itself) (seen c.self.inside.rows, c.new-gate.result) c.args.who c.args.stmt.now in
-    λ e.
-    c.note_all.ensures.tables (seen c.step_with.new.self)
-    (tables-then (seen c.self.inside.rows) (seen c.step_with.new.self) turn.marks c.self.inside.queues c.in-Ok.ensures.exact.changed (c.self.invariant c.if-self.false))
+invariant_of-self c = λ e.
+    let was : QueuesView = c.self.inside.queues in
+    let p : RowPart = seen c.self.inside.rows in
+    let d : Database = seen_with p was in
+    let q : QueuesView = c.set_time.new.self in
+    let alike : Alike c.args.now was.undone d p q = alike-at c.args.now (to_z w64 (of_z w64 c.args.now)) p was q c.set_time.ensures.time (to_z-of_z w64 c.args.now c.ranges.now) (c.self.invariant c.if-self.false) c.set_time.ensures.within in
+    c.undo_aborted.ensures.tables (seen c.step_with.new.self)
+    (told-tables c.args.now was.undone d p (seen c.step_with.new.self) q c.step_with.new.gate _ _ (step-told c.args.now was.undone d p q c.args.who c.args.stmt.now alike) c.in-Ok.ensures.exact.changed c.in-Ok.ensures.passed)
 
 pub invariant_of-self-in-Ok : goal.invariant_of-self-in-Ok
-invariant_of-self-in-Ok c =
-    let turn : Turn = row_turn (by_gate event_rule part_by_itself) (seen c.self.inside.rows, c.new-gate.result) c.args.who c.args.stmt.now in
-    λ e.
-    c.note_all.ensures.tables (seen c.step_with.new.self)
-    (tables-then (seen c.self.inside.rows) (seen c.step_with.new.self) turn.marks c.self.inside.queues c.in-Ok.ensures.exact.changed (c.self.invariant c.if-self.false))
+invariant_of-self-in-Ok c = λ e.
+    let was : QueuesView = c.self.inside.queues in
+    let p : RowPart = seen c.self.inside.rows in
+    let d : Database = seen_with p was in
+    let q : QueuesView = c.set_time.new.self in
+    let alike : Alike c.args.now was.undone d p q = alike-at c.args.now (to_z w64 (of_z w64 c.args.now)) p was q c.set_time.ensures.time (to_z-of_z w64 c.args.now c.ranges.now) (c.self.invariant c.if-self.false) c.set_time.ensures.within in
+    c.undo_aborted.ensures.tables (seen c.step_with.new.self)
+    (told-tables c.args.now was.undone d p (seen c.step_with.new.self) q c.step_with.new.gate _ _ (step-told c.args.now was.undone d p q c.args.who c.args.stmt.now alike) c.in-Ok.ensures.exact.changed c.in-Ok.ensures.passed)
 
-pub returns-in_ok-note_all-in-Ok-clause-gives : goal.returns-in_ok-note_all-in-Ok-clause-gives
-returns-in_ok-note_all-in-Ok-clause-gives c =
-    let was : DbView = record { rows = c.self.inside.rows; queues = c.self.inside.queues } in
-    let left : DbView = record { rows = c.step_with.new.self; queues = c.note_all.new.queues } in
-    let set_up : c.new-gate.result ≡ record { now = c.args.now; queues = c.self.inside.queues; told = [] } =
-    c.new-gate.ensures ∙ (λ i. record { now = to_z-of_z w64 c.args.now c.ranges.now i; queues = c.self.inside.queues; told = [] }) in
-    subst (λ (v : DbView). Gives (seen_database v) (seen_database left) c.in-Ok.step.replies (database_turn database_by_itself (seen_database v) c.args.now c.args.who (Row c.args.stmt.now))) c.self.view_is
-    (gives-step c.args.now c.self.inside.queues (seen_database was) (seen_database (record was { rows = c.step_with.new.self })) (seen_database left)
-    c.new-gate.result c.step_with.new.gate c.args.who c.args.stmt.now c.in-Ok.step c.into_told-told.result.items
-    (alike-new c.args.now c.self.inside.queues (seen_database was) c.new-gate.result set_up refl refl (c.self.invariant c.if-self.false))
-    c.in-Ok.ensures.exact refl c.in-Ok.ensures.passed c.into_told-told.ensures.told refl (c.in_ok-note_all-in-Ok.ensures.stored (seen c.step_with.new.self)))
+pub returns-in_ok-undo_aborted-in-Ok-clause-gives : goal.returns-in_ok-undo_aborted-in-Ok-clause-gives
+returns-in_ok-undo_aborted-in-Ok-clause-gives c =
+    let was : QueuesView = c.self.inside.queues in
+    let p : RowPart = seen c.self.inside.rows in
+    let d : Database = seen_with p was in
+    let q : QueuesView = c.set_time.new.self in
+    let after : RowPart = seen c.step_with.new.self in
+    let alike : Alike c.args.now was.undone d p q = alike-at c.args.now (to_z w64 (of_z w64 c.args.now)) p was q c.set_time.ensures.time (to_z-of_z w64 c.args.now c.ranges.now) (c.self.invariant c.if-self.false) c.set_time.ensures.within in
+    let same = step-told c.args.now was.undone d p q c.args.who c.args.stmt.now alike in
+    let turn : Turn = row_turn (by_gate event_rule part_by_itself) (p, q) c.args.who c.args.stmt.now in
+    subst (λ (v : DbView). Gives (seen_database v) (seen_with after c.undo_aborted.new.queues) c.in-Ok.step.replies (database_turn database_by_itself (seen_database v) c.args.now c.args.who (Row c.args.stmt.now))) c.self.view_is (record {
+      replied = c.in-Ok.ensures.exact.replied ∙ sym same.answers;
+      changed = told-changed c.args.now was.undone d p after q c.step_with.new.gate c.undo_aborted.new.queues turn _ c.in-Ok.step.effects same c.in-Ok.ensures.exact.changed c.in-Ok.ensures.passed
+          (undone-as d turn.marks c.in-Ok.step.effects (step-rows p q c.args.who c.args.stmt.now).marks c.in-Ok.ensures.exact.told) (c.in_ok-undo_aborted-in-Ok.ensures.noted after);
+    })
 
-pub returns-in_ok-note_all-in-Ok-clause-moments : goal.returns-in_ok-note_all-in-Ok-clause-moments
-returns-in_ok-note_all-in-Ok-clause-moments c = same-moments _ _ c.in-Ok.ensures.exact.replied (step-moments (seen c.self.inside.rows) c.new-gate.result c.args.who c.args.stmt.now)
+pub returns-in_ok-undo_aborted-in-Ok-clause-moments : goal.returns-in_ok-undo_aborted-in-Ok-clause-moments
+returns-in_ok-undo_aborted-in-Ok-clause-moments c = same-moments _ _ c.in-Ok.ensures.exact.replied (step-rows (seen c.self.inside.rows) c.set_time.new.self c.args.who c.args.stmt.now).moments
