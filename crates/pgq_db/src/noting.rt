@@ -1,4 +1,4 @@
-//! What a step on rows leaves in the queues beside its events.
+//! Notes in the queues which transactions a step on rows rolled back.
 
 ghost use Rattle.std.specs.Prelude.{◌≡◌, [], ◌∷◌, OnOk, length};
 ghost use Rattle.sky_model.specs.State.{RowPart};

@@ -17,8 +17,9 @@ use Rattle.sky_model.specs.Allowed.{where_of_row, allowed}
 use Rattle.sky_model.specs.Reader.{PartReader, part_by_itself}
 use Rattle.sky_model.specs.Gates.{Gate, by_gate}
 use Rattle.sky_model.specs.Settling.{Turn, turn_of, settling}
+use Rattle.sky_model.specs.SessionMarks.{failure}
 use Rattle.sky_model.specs.Calls.{row_form, row_making, row_statement, row_turn}
-use Rattle.sky_model.proofs.StatementMarks.{EachMark, Gives, gives-map, Kinds, no_more, may_leave, attempt_kinds, row_kinds, gives-attempt, gives-row_form, gives-gated, each-abort, given-runs, KeepsMarks, TurnGives, turn_of-gives, then-gives, settling-gives}
+use Rattle.sky_model.proofs.StatementMarks.{EachMark, Gives, gives-map, Kinds, no_more, may_leave, attempt_kinds, row_kinds, gives-attempt, gives-row_form, gives-gated, each-abort, each-failure, given-runs, KeepsMarks, TurnGives, turn_of-gives, then-gives, settling-gives}
 
 abbrev pub is_of_rows : Mark → Bool
 is_of_rows (queued mark) = false
@@ -48,6 +49,10 @@ attempts-rows d shown who table key attempt =
 -- a refusal that aborts a block
 pub abort-rows : (who : ℕ) (b : Block) (o : Option ℕ) (refusal : Refusal) → RowMarks (abort who b o refusal)
 abort-rows who b o refusal = each-abort ReplyHasMoments is_of_rows (λ _. tt) (rows-if no_more refl) who b o refusal
+
+-- and a block that is aborted
+pub failure-rows : (who : ℕ) (o : Option ℕ) (b : Block) → RowMarks (failure who o b)
+failure-rows who o b = each-failure ReplyHasMoments is_of_rows (λ _. tt) (rows-if no_more refl) who o b
 
 no-queues : (is_open : Bool) (stmt : RowStmt) → (row_kinds is_open stmt).queues ≡ false
 no-queues is_open (OpenDb name) = refl

@@ -6,6 +6,7 @@ use Rattle.sky_state.specs.Seen.{seen}
 use Rattle.pgq_db.specs.Views.{DbView}
 use Rattle.pgq_db.specs.Seen.{seen_database}
 use Rattle.pgq_db.proofs.Databases.{noted-as}
+use Rattle.sky_model.proofs.RowOutcomes.{failure-rows}
 use Rattle.pgq_db.proofs.Tables.{tables-then}
 use Rattle.pgq_db.proofs.db.Db.roll_back.Goals as goal
 
@@ -30,5 +31,5 @@ returns-in_ok-undo_aborted-in-Ok c =
     let s = (seen c.self.inside.rows).session c.args.who in
     subst (λ (v : DbView). seen_database left
     ≡ after_marks (seen_database v) (failure c.args.who ((seen_database v).part.session c.args.who).txid ((seen_database v).part.session c.args.who).block)) c.self.view_is
-    (noted-as (seen_database was) (seen_database (record was { rows = c.roll_back.new.self })) _ (failure c.args.who s.txid s.block) c.clear.new.self c.roll_back.new.effects (each-failure is_rows c.args.who s.txid s.block)
+    (noted-as (seen_database was) (seen_database (record was { rows = c.roll_back.new.self })) _ (failure c.args.who s.txid s.block) c.clear.new.self c.roll_back.new.effects (failure-rows c.args.who s.txid s.block)
     (ap EffectsView.items c.clear.ensures) c.in-Ok.ensures.told c.in-Ok.ensures.marks refl (c.in_ok-undo_aborted-in-Ok.ensures.noted (seen c.roll_back.new.self)))
