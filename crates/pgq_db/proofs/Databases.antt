@@ -9,7 +9,7 @@ use Rattle.sky_model.specs.declared.reply.Reply.{Reply}
 use Rattle.std.specs.Prelude.{find, not}
 use Rattle.sky_model.specs.ShownRows.{least_writer}
 use Rattle.sky_model.specs.StepTrigger.{has_trigger, may_ignore, add_trigger}
-use Rattle.sky_model.specs.declared.reply.Reply.TheVariants.{Done, Number, Events, Refused}
+use Rattle.sky_model.specs.declared.reply.Reply.TheVariants.{Done, Number, Events}
 use Rattle.sky_model.specs.declared.reply.Limit.TheVariants.{Queues, Triggers}
 use Rattle.sky_model.specs.declared.reply.Refusal.{Refusal}
 use Rattle.sky_model.specs.declared.reply.Refusal.TheVariants.{BadColumn, NoTable, TableBusy, TooMany, TriggerExists, NoBatch, EventIdsSpent, IdsSpent}
@@ -30,8 +30,8 @@ use Rattle.sky_model.specs.StepQueue.{create_queue, insert_event, queue_called, 
 use Rattle.sky_model.specs.Allowed.{where_of}
 use Rattle.sky_model.specs.Made.{Making, takes_sight, runs, looking, runs_if}
 use Rattle.sky_model.specs.Reader.{database_by_itself, within_part, shown_by}
-use Rattle.sky_model.specs.Settling.{Turn, turn_of, behind_marks, settling, with_settling}
-use Rattle.sky_model.specs.Calls.{form, making, statement, database_turn}
+use Rattle.sky_model.specs.Settling.{Turn, behind_marks, settling, with_settling}
+use Rattle.sky_model.specs.Calls.{form, making, statement}
 use Rattle.sky_model.specs.DatabaseCalls as call
 use Rattle.sky_model.specs.DatabaseSteps.{DatabaseSteps}
 use Rattle.sky_model.proofs.RowOutcomes.{RowMarks}

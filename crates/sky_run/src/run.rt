@@ -15,7 +15,7 @@ use crate::answers::print_answers;
 use crate::end::End;
 use sky_io::{Sink, SinkFault, Source, write_all};
 use sky_lines::{LineFault, LineReader};
-use sky_model::{Cause, Line, Stmt};
+use sky_model::{Cause, Line, Replies, Stmt};
 use sky_script::{LineCause, parse_line};
 use sky_val::{NoMemory, Text};
 use sky_world::World;
@@ -48,6 +48,8 @@ struct Run {
     alloc: Global,
     world: World,
     reader: LineReader,
+    // The answers of the last statement, whose memory the next ones use.
+    replies: Replies,
     // What was answered and is still to be written.
     gathered: Vec<u8>,
     // The number of the next line.
@@ -62,6 +64,7 @@ impl Run {
             alloc,
             world: World::new(alloc),
             reader: LineReader::new(alloc)?,
+            replies: Replies::new(alloc),
             gathered: Vec::new(alloc),
             number: 1,
         })
@@ -194,12 +197,13 @@ impl Run {
         ensures reader { self.new.reader ≡ self.old.reader }
         ensures number { self.new.number ≡ self.old.number }
     {
-        let replies = self.world.step(who, stmt)?;
+        self.replies.clear();
+        self.world.step_into(who, stmt, &mut self.replies)?;
         print_answers(
             self.alloc,
             self.world.session_names(),
             who,
-            &replies,
+            &self.replies,
             &mut self.gathered,
         )
     }

@@ -1,13 +1,10 @@
-use Rattle.std.proofs.Common.{ℤ, [], refl, sym, subst, w64, to_z, of_z, append-nil, arith}
+use Rattle.std.proofs.Common.{sym, subst, w64, to_z, of_z, append-nil, arith}
 use Rattle.std.proofs.lemmas.Int.{to_z-of_z}
-use Rattle.sky_model.specs.Reader.{database_by_itself, within_part}
-use Rattle.sky_model.specs.Settling.{with_settling}
 use Rattle.sky_model.specs.SessionMarks.{failing}
 use Rattle.sky_model.specs.DatabaseCalls.{failed}
 use Rattle.sky_model.proofs.DatabaseStanding.{database_steps_from_exact}
 use Rattle.pgq_db.specs.Seen.{seen_database}
 use Rattle.pgq_db.specs.Waiters.{StaysWithin}
-use Rattle.pgq_db.specs.Gives.{Gives}
 use Rattle.pgq_db.proofs.Databases.{adds-then, gives-added}
 use Rattle.pgq_db.proofs.Moments.{same-moments, then-moments}
 use Rattle.pgq_db.proofs.Waiters.{failure-within}
@@ -16,11 +13,10 @@ use Rattle.pgq_db.proofs.db.Db.fail.Goals as goal
 pub returns-clause-exact : goal.returns-clause-exact
 returns-clause-exact c =
     let d = seen_database c.args.self.now in
-    let s = seen_database c.roll_back.new.self in
-    let now = to_z w64 (of_z w64 c.args.now) in
-    subst (λ (now : ℤ). Gives d (seen_database c.settle.new.self) c.settle.new.replies (with_settling (within_part database_by_itself now) d (failing d.part c.args.who))) (to_z-of_z w64 c.args.now c.ranges.now)
-    (gives-added _ _ _ _ _ c.new-replies.ensures
-    (adds-then now d s _ (failing d.part c.args.who) c.new-replies.result c.new-replies.result _ (record { replied = sym (append-nil c.new-replies.result); changed = c.in_ok-roll_back.ensures }) c.in_ok-settle.ensures.adds))
+    let gives = gives-added _ _ _ _ _ c.new-replies.ensures
+        (adds-then (to_z w64 (of_z w64 c.args.now)) d (seen_database c.roll_back.new.self) _ (failing d.part c.args.who) c.new-replies.result c.new-replies.result _
+        (record { replied = sym (append-nil c.new-replies.result); changed = c.in_ok-roll_back.ensures }) c.in_ok-settle.ensures.adds) in
+    rw (to_z-of_z w64 c.args.now c.ranges.now) at gives
 
 pub returns-clause-moments : goal.returns-clause-moments
 returns-clause-moments c =

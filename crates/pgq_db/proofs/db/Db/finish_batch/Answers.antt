@@ -1,5 +1,4 @@
-use Rattle.std.proofs.Common.{is_some, sym, ◌++◌, ◌∷◌, [], ◌∙◌, ap, if◌then◌else◌}
-use Rattle.sky_model.specs.declared.reply.Reply.TheVariants.{Number}
+use Rattle.std.proofs.Common.{is_some, sym, ◌∙◌, ap, if◌then◌else◌}
 use Rattle.sky_state.specs.Seen.{seen}
 use Rattle.pgq_db.proofs.Databases.{gives-finish}
 use Rattle.pgq_db.proofs.db.Db.finish_batch.Goals.{in-Some, in-None}

@@ -5,19 +5,18 @@ use Rattle.sky_model.specs.Reader.{database_by_itself}
 use Rattle.sky_model.specs.Settling.{turn_of}
 use Rattle.sky_model.specs.Calls.{statement, database_turn}
 use Rattle.pgq_db.specs.Seen.{seen_database}
-use Rattle.pgq_db.specs.Gives.{Adds}
 use Rattle.pgq_db.proofs.Databases.{adds-then}
 use Rattle.pgq_db.proofs.Moments.{one-moments, then-moments}
 use Rattle.pgq_db.proofs.db.Db.run_on_queues.Goals as goal
 
 pub returns-clause-adds : goal.returns-clause-adds
 returns-clause-adds c =
-    let d = seen_database c.args.self.now in
-    subst (λ (now : ℤ). Adds d (seen_database c.settle.new.self) c.args.replies.now c.settle.new.replies (database_turn database_by_itself d now c.args.who c.args.stmt.now)) (to_z-of_z w64 c.args.now c.ranges.now)
-    (adds-then (to_z w64 (of_z w64 c.args.now)) d _ _ _ _ _ _ c.in_ok-run_or_refuse.ensures.0 c.in_ok-settle.ensures.adds)
+    let adds = adds-then (to_z w64 (of_z w64 c.args.now)) (seen_database c.args.self.now) _ _ _ _ _ _ c.in_ok-run_or_refuse.ensures.0 c.in_ok-settle.ensures.adds in
+    rw (to_z-of_z w64 c.args.now c.ranges.now) at adds
 
 pub returns-clause-moments : goal.returns-clause-moments
 returns-clause-moments c =
     let d = seen_database c.args.self.now in
     subst (λ (now : ℤ). HaveMoments (database_turn database_by_itself d now c.args.who c.args.stmt.now).answers) (to_z-of_z w64 c.args.now c.ranges.now)
-    (then-moments (to_z w64 (of_z w64 c.args.now)) d _ (turn_of c.args.who (statement database_by_itself d (to_z w64 (of_z w64 c.args.now)) c.args.who c.args.stmt.now)) (one-moments c.args.who _ c.in_ok-run_or_refuse.ensures.1) c.in_ok-run_or_refuse.ensures.0.changed c.in_ok-settle.ensures.moments)
+    (then-moments (to_z w64 (of_z w64 c.args.now)) d _ (turn_of c.args.who (statement database_by_itself d (to_z w64 (of_z w64 c.args.now)) c.args.who c.args.stmt.now))
+    (one-moments c.args.who _ c.in_ok-run_or_refuse.ensures.1) c.in_ok-run_or_refuse.ensures.0.changed c.in_ok-settle.ensures.moments)

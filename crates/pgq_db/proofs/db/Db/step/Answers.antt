@@ -1,7 +1,5 @@
 use Rattle.std.proofs.Common.{sym, subst, w64}
 use Rattle.std.proofs.lemmas.Int.{to_z-of_z}
-use Rattle.sky_model.specs.Reader.{database_by_itself}
-use Rattle.sky_model.specs.Calls.{database_turn}
 use Rattle.pgq_db.specs.Seen.{seen_database}
 use Rattle.pgq_db.specs.Waiters.{StaysWithin}
 use Rattle.pgq_db.proofs.Databases.{gives-added}

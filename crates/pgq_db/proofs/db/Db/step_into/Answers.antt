@@ -1,8 +1,5 @@
-use Rattle.std.proofs.Common.{◌≡◌, ℤ, subst, w64}
+use Rattle.std.proofs.Common.{w64}
 use Rattle.std.proofs.lemmas.Int.{to_z-of_z}
-use Rattle.sky_model.specs.State.{after_marks}
-use Rattle.sky_model.specs.Reader.{database_by_itself}
-use Rattle.sky_model.specs.Calls.{database_turn}
 use Rattle.sky_model.specs.DatabaseCalls.{stepped}
 use Rattle.sky_model.proofs.DatabaseStanding.{database_steps_from_exact}
 use Rattle.pgq_db.specs.Seen.{seen_database}
@@ -16,6 +13,5 @@ returns-clause-within c =
 
 pub returns-clause-steps : goal.returns-clause-steps
 returns-clause-steps c =
-    let d = seen_database c.args.self.now in
-    database_steps_from_exact d (seen_database c.run.new.self) (stepped c.args.who c.args.stmt.now c.args.now)
-    (subst (λ (now : ℤ). seen_database c.run.new.self ≡ after_marks d (database_turn database_by_itself d now c.args.who c.args.stmt.now).marks) (to_z-of_z w64 c.args.now c.ranges.now) c.in_ok-run.ensures.adds.changed)
+    let changed = rw (to_z-of_z w64 c.args.now c.ranges.now) at c.in_ok-run.ensures.adds.changed in
+    database_steps_from_exact (seen_database c.args.self.now) (seen_database c.run.new.self) (stepped c.args.who c.args.stmt.now c.args.now) changed
