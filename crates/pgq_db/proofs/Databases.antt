@@ -235,10 +235,6 @@ undone-as d marks before after rows none told =
     ap (λ (e : EffectsView). undone_by e.items d.undone) told ∙ ap (λ es. undone_by (es ++ effects_by before.whole marks) d.undone) none
     ∙ ap Database.undone (sym (after-row_marks before.whole d marks rows))
 
--- what was rolled back is what their effects undo
-pub undone-as : (d : Database) (marks : List Mark) (effects : List Effect) → RowMarks marks → effects ≡ effects_of marks → undone_by effects d.undone ≡ (after_marks d marks).undone
-undone-as d marks effects rows told = ap (λ es. undone_by es d.undone) told ∙ ap Database.undone (sym (after-row_marks d marks rows))
-
 -- marks of rows, with those noted that were rolled back
 pub noted-as : (d s1 s2 : Database) (marks : List Mark) (before after : EffectsView) → RowMarks marks → before.items ≡ [] → after ≡ with_effects before marks
     → s1.part ≡ after_part_marks d.part marks → s1 ≡ record d { part = s1.part } → s2 ≡ record s1 { undone = undone_by after.items s1.undone } → s2 ≡ after_marks d marks
