@@ -2,3 +2,4 @@ pub mod Steps
 pub mod LockLemmas
 pub mod FormLemmas
 pub mod WrittenLemmas
+pub mod FreeLemmas

@@ -11,7 +11,7 @@ ghost use Rattle.sky_session.specs.Gives.{Ran, Passes};
 ghost use Rattle.sky_state.specs.Seen.{seen};
 
 use crate::answer::RowStep;
-use crate::row_statements::{check_seen, write_key};
+use crate::row_statements::{check_seen, tell_write, write_key};
 use sky_fits::with_sets;
 use sky_locks::LockKey;
 use sky_model::{Attempt, Refusal, Reply, Sets, Stop, WriteGate};
@@ -61,7 +61,16 @@ pub fn insert_key<G: WriteGate>(
         return Err(Stop::Refused(Refusal::Duplicate));
     }
     let row = row.copy(state.alloc())?;
-    write_key(state, who, key, None, Some(row), gate, step)
+    let txid = tell_write(
+        state,
+        who,
+        key.table,
+        None,
+        Some(&row),
+        gate,
+        &mut step.effects,
+    )?;
+    Ok(write_key(state, who, txid, key, Some(row), step)?)
 }
 
 /// Makes the changes in the row that the session is shown at the key; where there is none, it changes none.
@@ -89,8 +98,16 @@ pub fn change_key<G: WriteGate>(
     check_seen(state, who, key.table, &key.key, &now)?;
     let columns = state.schema(key.table).columns();
     let new = with_sets(state.alloc(), columns, sets.as_slice(), old)?;
-    let old = old.copy(state.alloc())?;
-    write_key(state, who, key, Some(old), Some(new), gate, step)
+    let txid = tell_write(
+        state,
+        who,
+        key.table,
+        Some(old),
+        Some(&new),
+        gate,
+        &mut step.effects,
+    )?;
+    Ok(write_key(state, who, txid, key, Some(new), step)?)
 }
 
 /// Deletes the row that the session is shown at the key; where there is none, it deletes none.
@@ -114,8 +131,16 @@ pub fn delete_key<G: WriteGate>(
         return wait(state, who, &key, Attempt::Deletion, holder, step);
     }
     check_seen(state, who, key.table, &key.key, &now)?;
-    let old = old.copy(state.alloc())?;
-    write_key(state, who, key, Some(old), None, gate, step)
+    let txid = tell_write(
+        state,
+        who,
+        key.table,
+        Some(old),
+        None,
+        gate,
+        &mut step.effects,
+    )?;
+    Ok(write_key(state, who, txid, key, None, step)?)
 }
 
 /// What the session attempts with the key.

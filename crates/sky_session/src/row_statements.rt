@@ -1,17 +1,22 @@
 //! The statements on tables and rows. A refusal changes nothing here, so all tests stand in front of the first change.
 
-ghost use Rattle.std.specs.Prelude.{◌≡◌, ◌<◌, ℕ, List, [], ◌∷◌, false, None, Some, Ok, Err, IfOk, IfErr, OnOk, length};
+ghost use Rattle.std.specs.Prelude.{◌≡◌, ◌<◌, ℕ, List, [], ◌∷◌, ◌++◌, Option, false, None, Some, Ok, Err, IfOk, IfErr, OnOk, length};
 ghost use Rattle.sky_val.specs.Schemas.{AreNamed};
 ghost use Rattle.sky_val.specs.Waits.{other_holder, is_waiting};
+ghost use Rattle.sky_model.specs.State.{after_part_marks};
+ghost use Rattle.sky_model.specs.Outcome.{does_marks, marks_of};
+ghost use Rattle.sky_model.specs.OwnTransaction.{txid_for, written};
+ghost use Rattle.sky_model.specs.declared.reply.Reply.TheVariants.{Number};
+ghost use Rattle.std.specs.Option.{option_copied};
 ghost use Rattle.sky_model.specs.ShownRows.{snapshot_now, rows_by};
 ghost use Rattle.sky_model.specs.StepRows.{table_called, is_seen, writes_key, create_table, insert, update, delete, get, scan};
 ghost use Rattle.sky_urlenc.specs.RowEvents.{op_of};
-ghost use Rattle.sky_model.specs.Gates.{gated};
+ghost use Rattle.sky_model.specs.Gates.{gated, passed_all};
 ghost use Rattle.sky_model.specs.History.{of_session, tabled, wrote};
 ghost use Rattle.sky_val.specs.declared.val.Val.{Val};
-ghost use Rattle.sky_session.specs.Effects.{with_effects};
+ghost use Rattle.sky_session.specs.Effects.{EffectsView, with_effects};
 ghost use Rattle.sky_session.specs.Gives.{Ran, Passes};
-ghost use Rattle.sky_model.specs.Stops.{StopsAs};
+ghost use Rattle.sky_model.specs.Stops.{StopsAs, Keeps};
 ghost use Rattle.sky_state.specs.Seen.{seen};
 
 use crate::answer::RowStep;
@@ -23,20 +28,30 @@ use sky_locks::LockKey;
 use sky_model::{Columns, Limit, Refusal, Reply, Rows, Sets, Stop, WriteGate};
 use sky_state::RowState;
 use sky_txid::Snapshot;
-use sky_val::{Key, NoMemory, Op, Row, SessionId, Text, copy_row};
+use sky_val::{Key, NoMemory, Op, Row, SessionId, Text};
 use std::alloc::Global;
 
 /// How many tables a database may have.
 const MOST_TABLES: usize = 64;
 
 /// What a write did, by the row that it found and the row that it left.
-fn op_of(old: &Option<Row>, new: &Option<Row>) -> Op
-    ensures { result ≡ op_of old.now new.now }
+fn op_of(old: Option<&Row>, new: Option<&Row>) -> Op
+    ensures { result ≡ op_of (option_copied old.entry) (option_copied new.entry) }
 {
     match (old, new) {
         (None, _) => Op::Insert,
         (Some(_), None) => Op::Delete,
         (Some(_), Some(_)) => Op::Update,
+    }
+}
+
+/// A copy of the row, if there is one.
+fn copied(alloc: Global, row: Option<&Row>) -> Result<Option<Row>, NoMemory>
+    ensures { IfOk result (λ copy. copy ≡ option_copied row.entry) }
+{
+    match row {
+        Some(row) => Ok(Some(row.copy(alloc)?)),
+        None => Ok(None),
     }
 }
 
@@ -72,23 +87,24 @@ pub fn check_seen(
     }
 }
 
-/// The effect of a write is added, where the list is whole. Copies of rows are kept for it alone.
-fn tell_write(
+/// The effect of a write, where such effects are asked for. Its rows are copied for that alone.
+fn add_write(
+    effects: &mut Effects,
     alloc: Global,
     txid: u64,
     table: u32,
     op: Op,
-    old: Option<Row>,
-    new: &Option<Row>,
-    effects: &mut Effects,
+    old: Option<&Row>,
+    new: Option<&Row>,
 ) -> Result<(), NoMemory>
-    requires { op ≡ op_of old new.now }
-    ensures { (who : ℕ) (key : List Val) → OnOk result (effects.new ≡ with_effects effects.old (tabled (wrote (of_session who) txid table key old new.now) ∷ [])) }
+    requires { op ≡ op_of (option_copied old) (option_copied new) }
+    ensures { (who : ℕ) (key : List Val) → OnOk result (effects.new ≡ with_effects effects.old (tabled (wrote (of_session who) txid table key (option_copied old.entry) (option_copied new.entry)) ∷ [])) }
 {
     if !effects.is_whole() {
         return Ok(());
     }
-    let new = copy_row(alloc, new)?;
+    let old = copied(alloc, old)?;
+    let new = copied(alloc, new)?;
     effects.push(Effect::Wrote {
         txid,
         table,
@@ -99,32 +115,56 @@ fn tell_write(
     Ok(())
 }
 
-/// Writes the key, which no other session holds, in the session's transaction, where the gate has room for that.
-pub fn write_key<G: WriteGate>(
+/// Tells the gate and the effects of the write that the session is to make in its transaction, where the gate has room
+/// for it. The answer is the id of the transaction.
+pub fn tell_write<G: WriteGate>(
+    state: &RowState,
+    who: SessionId,
+    table: u32,
+    old: Option<&Row>,
+    new: Option<&Row>,
+    gate: &mut G,
+    effects: &mut Effects,
+) -> Result<u64, Stop>
+    ensures id { IfOk result (λ txid. txid_for (seen state.now) who ≡ Ok txid) }
+    ensures does { (key : List Val) → IfOk result (λ txid. gated G.rule gate.old (writes_key (seen state.now) who table key (option_copied old.entry) (option_copied new.entry))
+        ≡ does_marks (Number 1) (written who txid ((seen state.now).session who) (tabled (wrote (of_session who) txid table key (option_copied old.entry) (option_copied new.entry)) ∷ []))) }
+    ensures told { (key : List Val) → IfOk result (λ txid. effects.new ≡ with_effects effects.old (tabled (wrote (of_session who) txid table key (option_copied old.entry) (option_copied new.entry)) ∷ [])) }
+    ensures passed { (key : List Val) → OnOk result (gate.new ≡ passed_all G.rule gate.old (marks_of (gated G.rule gate.old (writes_key (seen state.now) who table key (option_copied old.entry) (option_copied new.entry))))) }
+    ensures err { (key : List Val) → IfErr result (λ stop. StopsAs stop (gated G.rule gate.old (writes_key (seen state.now) who table key (option_copied old.entry) (option_copied new.entry)))) }
+    ensures same { IfErr result (λ stop. Keeps stop gate.old gate.new × Keeps stop effects.old effects.new) }
+{
+    let txid = txid_for(state, who)?;
+    let op = op_of(old, new);
+    if !gate.room(table, op, old, new) {
+        return Err(Stop::Refused(Refusal::EventIdsSpent));
+    }
+    gate.wrote(txid, table, op, old, new)?;
+    add_write(effects, state.alloc(), txid, table, op, old, new)?;
+    Ok(txid)
+}
+
+/// Makes the write of which the gate and the effects were told, of a key that no other session holds.
+pub fn write_key(
     state: &mut RowState,
     who: SessionId,
+    txid: u64,
     key: LockKey,
-    old: Option<Row>,
-    new: Option<Row>,
-    gate: &mut G,
+    row: Option<Row>,
     step: &mut RowStep,
-) -> Result<(), Stop>
+) -> Result<(), NoMemory>
+    requires id { txid_for (seen state.old) who ≡ Ok txid }
     requires within { key.table < length (seen state.old).tables }
     requires free { other_holder (seen state.old).holder who key.table key.key ≡ None }
     requires awake { is_waiting who (seen state.old).waiting ≡ false }
-    ensures ran { Ran state.old state.new step.old step.new who result (gated G.rule gate.old (writes_key (seen state.old) who key.table key.key old new)) }
-    ensures passes { Passes G.rule gate.old gate.new result (gated G.rule gate.old (writes_key (seen state.old) who key.table key.key old new)) }
+    ensures marks { (old : Option (List Val)) → OnOk result (seen state.new ≡ after_part_marks (seen state.old) (written who txid ((seen state.old).session who) (tabled (wrote (of_session who) txid key.table key.key old row) ∷ []))) }
+    ensures told { (old : Option (List Val)) (before : EffectsView) → step.old.effects ≡ with_effects before (tabled (wrote (of_session who) txid key.table key.key old row) ∷ [])
+        → OnOk result (step.new.effects ≡ with_effects before (written who txid ((seen state.old).session who) (tabled (wrote (of_session who) txid key.table key.key old row) ∷ []))) }
+    ensures replied { OnOk result (step.new.replies ≡ step.old.replies ++ (who, Number 1) ∷ []) }
 {
-    let txid = txid_for(state, who)?;
-    let table = key.table;
-    let op = op_of(&old, &new);
-    if !gate.room(table, op, old.as_ref(), new.as_ref()) {
-        return Err(Stop::Refused(Refusal::EventIdsSpent));
-    }
-    gate.wrote(txid, table, op, old.as_ref(), new.as_ref())?;
-    tell_write(state.alloc(), txid, table, op, old, &new, &mut step.effects)?;
-    write_own(state, who, txid, key, new, &mut step.effects)?;
-    Ok(step.answer(who, Reply::Number(1))?)
+    write_own(state, who, txid, key, row, &mut step.effects)?;
+    step.answer(who, Reply::Number(1))?;
+    Ok(())
 }
 
 /// `create table TABLE COL..`
