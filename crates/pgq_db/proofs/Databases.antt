@@ -114,14 +114,17 @@ pub gives-event : (d s1 s2 s3 : Database) (now time : ℤ) (who : ℕ) (name : L
     → s2 ≡ after_mark s1 (queued (raised q (seq + 1))) → s3 ≡ after_mark s2 (queued (put q event))
     → after ≡ before ++ (who, Number (seq + 1)) ∷ [] → Runs d s3 before after who (insert_event d now who name ev_type ev_data extra)
 gives-event d s1 s2 s3 now time who name ev_type ev_data extra q seq t event before after place txid is room at made_is m1 m2 m3 pushed =
-    subst (Runs d s3 before after who) (sym whole) (record {
-      accepted = refl;
-      replied = pushed;
-      changed = m3 ∙ ap (λ s. after_mark s (queued (put q event))) (m2 ∙ ap (λ s. after_mark s (queued (raised q (seq + 1)))) m1)
-          ∙ event-written d who t (d.part.session who).txid (d.part.session who).block q (seq + 1) event
-          ∙ ap (λ e. after_marks d (written who t (d.part.session who) (queued (raised q (seq + 1)) ∷ queued (put q e) ∷ [])))
-          (made_is ∙ ap (λ x. made_event (seq + 1) x t ev_type ev_data extra) at);
-    }, tt)
+    subst (Runs d s3 before after who) (sym whole) (
+      record {
+        accepted = refl;
+        replied = pushed;
+        changed = m3 ∙ ap (λ s. after_mark s (queued (put q event))) (m2 ∙ ap (λ s. after_mark s (queued (raised q (seq + 1)))) m1)
+            ∙ event-written d who t (d.part.session who).txid (d.part.session who).block q (seq + 1) event
+            ∙ ap (λ e. after_marks d (written who t (d.part.session who) (queued (raised q (seq + 1)) ∷ queued (put q e) ∷ [])))
+            (made_is ∙ ap (λ x. made_event (seq + 1) x t ev_type ev_data extra) at);
+      },
+      tt,
+    )
   where
     unspent : nat_le (2 ^ 62) ((d.queue q).seq + 1) ≡ false
     unspent = grind (arith, nat_tests)

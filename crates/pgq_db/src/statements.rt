@@ -322,12 +322,7 @@ impl Db {
     }
 
     /// `force_tick NAME`: the sequence rises so far that a tick is due.
-    fn force_tick(
-        &mut self,
-        who: SessionId,
-        name: &Text,
-        replies: &mut Replies,
-    ) -> Result<(), Stop>
+    fn force_tick(&mut self, who: SessionId, name: &Text, replies: &mut Replies) -> Result<(), Stop>
         ensures { Ran self.old self.new replies.old replies.new who result (force_tick (seen_database self.old) name.now) }
     {
         let queue = self.queue_called(name)?;
@@ -431,12 +426,7 @@ impl Db {
     }
 
     /// `get_batch_events N`: the events of an active batch.
-    fn get_batch_events(
-        &self,
-        who: SessionId,
-        id: u64,
-        replies: &mut Replies,
-    ) -> Result<(), Stop>
+    fn get_batch_events(&self, who: SessionId, id: u64, replies: &mut Replies) -> Result<(), Stop>
         ensures { Ran self.now self.now replies.old replies.new who result (get_batch_events (seen_database self.now) (selected (seen_database self.now)) id) }
     {
         let Some(batch) = self.queues.batch(id) else {
@@ -448,12 +438,7 @@ impl Db {
     }
 
     /// `finish_batch N`: the consumer stands at the batch's closing tick.
-    fn finish_batch(
-        &mut self,
-        who: SessionId,
-        id: u64,
-        replies: &mut Replies,
-    ) -> Result<(), Stop>
+    fn finish_batch(&mut self, who: SessionId, id: u64, replies: &mut Replies) -> Result<(), Stop>
         ensures { Ran self.old self.new replies.old replies.new who result (finish_batch (seen_database self.old) id) }
     {
         let count = match self.queues.close_batch(id) {

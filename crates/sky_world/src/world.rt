@@ -186,12 +186,7 @@ impl World {
     }
 
     /// Runs a statement of a session.
-    fn run(
-        &mut self,
-        who: SessionId,
-        stmt: &Stmt,
-        replies: &mut Replies,
-    ) -> Result<(), AllocError>
+    fn run(&mut self, who: SessionId, stmt: &Stmt, replies: &mut Replies) -> Result<(), AllocError>
         requires who { who < length self.old.homes }
         requires form { IsInForm stmt.now }
         ensures { OnOk result (AddsDeed self.old self.new replies.old replies.new (turn by_world who stmt.now (seen_world self.old))) }
