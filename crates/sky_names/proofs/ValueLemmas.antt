@@ -48,9 +48,9 @@ module _ {V : Type 0} where
       by false other None at = refl
       by false other (Some p) at = set_elsewhere n.values place p value
           (λ one.
-              let alike : key ≡ name = same_Some key name (sym (slice_get-place_of key n.names place is) ∙ ap (slice_get n.names) one ∙ slice_get-place_of name n.names p at) in
-              let equal : bytes_eq name key ≡ true = ap (bytes_eq name) alike ∙ bytes_eq_refl name in
-              absurd (cc))
+          let alike : key ≡ name = same_Some key name (sym (slice_get-place_of key n.names place is) ∙ ap (slice_get n.names) one ∙ slice_get-place_of name n.names p at) in
+          let equal : bytes_eq name key ≡ true = ap (bytes_eq name) alike ∙ bytes_eq_refl name in
+          absurd (cc))
 
   pushed_there : (xs : List V) (x : V) → slice_get (xs ++ x ∷ []) (length xs) ≡ Some x
   pushed_there [] x = refl

@@ -19,7 +19,7 @@ pub loop-number-preserved : goal.loop-number-preserved
 loop-number-preserved c = (
   c.loop-number.invariant.0,
   forgets-next c.args.txid c.loop-number.number c.loop-number.tables.values _ c.get_mut.result.now c.forget.new.self
-  c.get_mut.ensures.within c.get_mut.ensures.value c.forget.ensures c.loop-number.invariant.1,
+      c.get_mut.ensures.within c.get_mut.ensures.value c.forget.ensures c.loop-number.invariant.1,
 )
 
 pub returns-clause-names : goal.returns-clause-names
