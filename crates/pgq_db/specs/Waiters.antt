@@ -1,6 +1,6 @@
 -- Which sessions a statement answers, and which wait behind it.
 use Rattle.std.specs.Prelude.{ℕ, ◌<◌, List, All}
-use Rattle.sky_val.specs.Waits.{Waiting}
+use Rattle.sky_keys.specs.Waits.{Waiting}
 use Rattle.sky_model.specs.declared.reply.Reply.{Reply}
 use Rattle.sky_model.specs.State.{Database}
 

@@ -9,7 +9,7 @@ use Rattle.std.proofs.lemmas.List.Folds.{list_any-append}
 use Rattle.std.proofs.lemmas.List.{length-append, length-map}
 use Rattle.std.proofs.lemmas.Map.Keys.{IsDistinct-push}
 use Rattle.std.proofs.lemmas.Map.Made.{length-le_from_is_member}
-use Rattle.sky_val.specs.Waits.{Waiting, entry_of, without, other_than}
+use Rattle.sky_keys.specs.Waits.{Waiting, entry_of, without, other_than}
 use Rattle.sky_locks.specs.declared.lock_key.LockKey.{LockKey}
 use Rattle.sky_locks.specs.Order.{lock_cmp}
 use Rattle.sky_locks.specs.Holders.{Held, holder_of, Frees}

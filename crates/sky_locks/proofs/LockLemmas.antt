@@ -3,7 +3,7 @@ use Rattle.std.proofs.Common.{◌≡◌, ◌≢◌, ℕ, true, false, cond, Opti
 use Rattle.std.specs.Prelude.{◌==◌}
 use Rattle.std.specs.Ordering.{eq_by_cmp}
 use Rattle.std.proofs.lemmas.Bool.{eqb-true, eq-eqb}
-use Rattle.sky_val.specs.Waits.{Holders, other_than, taken, given_back, released}
+use Rattle.sky_keys.specs.Waits.{Holders, other_than, taken, given_back, released}
 use Rattle.sky_locks.specs.declared.lock_key.LockKey.{LockKey}
 use Rattle.sky_locks.specs.Order.{lock_cmp}
 use Rattle.sky_locks.specs.Holders.{Held, holder_of, Frees}

@@ -9,7 +9,7 @@ use Rattle.std.specs.FinMap.{nat_cmp-IsAntisymmetric}
 use Rattle.std.proofs.lemmas.Bool.{and_parts, eqb-true, eq-eqb}
 use Rattle.sky_val.specs.Order.{key_cmp}
 use Rattle.sky_val.specs.OrderLaws.{key_eq-ties}
-use Rattle.sky_val.specs.Waits.{is_same_key}
+use Rattle.sky_keys.specs.Waits.{is_same_key}
 use Rattle.sky_val.proofs.Orders.{key_cmp-IsTotalOrder, key_cmp-IsAntisymmetric}
 use Rattle.sky_locks.specs.declared.lock_key.LockKey.{LockKey}
 use Rattle.sky_locks.specs.contracts.lock_key.LockKeyPartialEq.TheImpl as equality

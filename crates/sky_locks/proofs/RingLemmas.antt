@@ -1,8 +1,8 @@
 -- One step along those that wait, and what a whole way says of a ring.
 use Rattle.std.proofs.Common.{◌≡◌, ℕ, zero, suc, Bool, true, false, cond, List, [], ◌∷◌, ◌++◌, append_assoc, Option, Some, None, is_some, refl, sym, ◌∙◌, ap}
 use Rattle.std.specs.Prelude.{◌==◌, option_map}
-use Rattle.sky_val.specs.Waits.{along, way_back, LeadsBack}
-use Rattle.sky_val.proofs.WaitLemmas.{leads_back}
+use Rattle.sky_keys.specs.Waits.{along, way_back, LeadsBack}
+use Rattle.sky_keys.proofs.WaitLemmas.{leads_back}
 use Rattle.sky_locks.proofs.ListedLemmas.{is_some-mapped}
 
 -- what was passed, and the way that is left

@@ -8,7 +8,7 @@ use Rattle.std.specs.BTreeMap.{is_at}
 use Rattle.std.proofs.lemmas.Bool.{eqb-true, eq-eqb, or_parts}
 use Rattle.std.proofs.lemmas.Bool.Decides.{nat_tests}
 use Rattle.std.proofs.lemmas.List.Folds.{list_any-append}
-use Rattle.sky_val.specs.Waits.{Waiting, is_waiting, entry_of, without}
+use Rattle.sky_keys.specs.Waits.{Waiting, is_waiting, entry_of, without}
 use Rattle.sky_locks.specs.declared.lock_key.LockKey.{LockKey}
 use Rattle.sky_locks.specs.declared.waiters.Waiter.{Waiter}
 use Rattle.sky_locks.specs.Order.{lock_cmp}

@@ -2,7 +2,7 @@
 use Rattle.std.specs.Prelude.{◌≡◌, ℕ, ◌≤◌, Bool, true, is_some, if◌then◌else◌, List, [], ◌∷◌, ◌++◌, length, None, find}
 use Rattle.std.specs.List.{AllByRecursion, IsDistinct}
 use Rattle.std.specs.Ordering.{eq_by_cmp}
-use Rattle.sky_val.specs.Waits.{Waiting}
+use Rattle.sky_keys.specs.Waits.{Waiting}
 use Rattle.sky_locks.specs.declared.lock_key.LockKey.{LockKey}
 use Rattle.sky_locks.specs.Order.{lock_cmp}
 use Rattle.sky_locks.specs.Holders.{Held, holder_of}

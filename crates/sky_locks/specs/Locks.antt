@@ -3,7 +3,7 @@ use Rattle.std.specs.Prelude.{◌≡◌, ℕ, List, [], ◌∷◌, ◌++◌, Non
 use Rattle.std.specs.Map.{lookup}
 use Rattle.std.specs.BTreeMap.{is_at}
 use Rattle.sky_val.specs.declared.val.Val.{Val}
-use Rattle.sky_val.specs.Waits.{Waiting, other_holder, taken, waits_for, LeadsBack}
+use Rattle.sky_keys.specs.Waits.{Waiting, other_holder, taken, waits_for, LeadsBack}
 use Rattle.sky_locks.specs.declared.lock_key.LockKey.{LockKey}
 use Rattle.sky_locks.specs.declared.taken.Taken.{Taken}
 use Rattle.sky_locks.specs.declared.taken.Taken.TheVariants.{Got, Waits, Cycle}

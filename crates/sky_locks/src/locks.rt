@@ -1,5 +1,5 @@
 ghost use Rattle.std.specs.Prelude.{◌≡◌, ◌<◌, [], ◌∷◌, true, false, None, Some, length, is_some, option_map, vec_len, vec_capacity, IfOk, OnOk, OnErr};
-ghost use Rattle.sky_val.specs.Waits.{is_waiting, entry_of, without, first_waiter, ready, other_holder, taken, given_back, released, way_back};
+ghost use Rattle.sky_keys.specs.Waits.{is_waiting, entry_of, without, first_waiter, ready, other_holder, taken, given_back, released, way_back};
 ghost use Rattle.sky_locks.specs.Waiters.{entry};
 ghost use Rattle.sky_locks.specs.Freed.{is_waited, noted};
 ghost use Rattle.sky_locks.specs.Locks.{LocksView, Takes, holder, waits_for_in};

@@ -2,7 +2,7 @@ ghost use Rattle.std.specs.Prelude.{◌≡◌, ◌==◌, ◌<◌, ◌^◌, ◌++
 ghost use Rattle.std.specs.List.{All};
 ghost use Rattle.std.specs.BTreeMap.{keys};
 ghost use Rattle.std.specs.Ordering.{eq_by_cmp};
-ghost use Rattle.sky_val.specs.Waits.{is_waiting, entry_of, without};
+ghost use Rattle.sky_keys.specs.Waits.{is_waiting, entry_of, without};
 ghost use Rattle.sky_locks.specs.Order.{lock_cmp};
 ghost use Rattle.sky_locks.specs.Waiters.{entry, key_of, is_among, earlier};
 
@@ -33,7 +33,7 @@ pub(crate) struct Waiters {
 
 impl Model for Waiters {
     ghost use Rattle.std.specs.Prelude.{List};
-    ghost use Rattle.sky_val.specs.Waits.{Waiting};
+    ghost use Rattle.sky_keys.specs.Waits.{Waiting};
     ghost use Rattle.sky_locks.specs.Waiters.{waiting_of, IsKept};
 
     ghost Value = { List Waiting };

@@ -7,9 +7,9 @@ use Rattle.std.specs.Cmp.{eq_by_cmp_equiv}
 use Rattle.std.proofs.lemmas.Bool.Decides.{nat_tests}
 use Rattle.sky_val.specs.declared.val.Val.{Val}
 use Rattle.sky_val.specs.Order.{key_cmp}
-use Rattle.sky_val.specs.Waits.{other_than}
+use Rattle.sky_keys.specs.Waits.{other_than}
 use Rattle.sky_val.proofs.Orders.{key_cmp-IsTotalOrder}
-use Rattle.sky_txid.proofs.EntryLemmas.{key_ties-is}
+use Rattle.sky_keys.proofs.EntryLemmas.{key_ties-is}
 use Rattle.sky_model.specs.History.{Mark, of_session, began, ended, tabled, wrote, History}
 use Rattle.sky_model.specs.Transactions.{next_txid, has_ended}
 use Rattle.sky_model.specs.Sessions.{own_txid}

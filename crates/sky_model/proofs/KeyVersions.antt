@@ -8,12 +8,12 @@ use Rattle.std.proofs.lemmas.Bool.Decides.{nat_tests}
 use Rattle.sky_val.specs.declared.val.Val.{Val}
 use Rattle.sky_val.specs.Order.{key_cmp}
 use Rattle.sky_val.specs.Entries.{at}
-use Rattle.sky_val.specs.Waits.{other_than}
+use Rattle.sky_keys.specs.Waits.{other_than}
 use Rattle.sky_txid.specs.Ids.{contains}
-use Rattle.sky_txid.specs.declared.version.Version.{Version}
-use Rattle.sky_txid.specs.Versions.{with_version, without, version_of, newest_by, row_of, versions_at, written}
-use Rattle.sky_txid.proofs.VersionLemmas.{left, OnlyLast, OthersPass, newest_with, newest_without, newest_more, version_of-with, version_of-without, only_more, only_without, only_with}
-use Rattle.sky_txid.proofs.EntryLemmas.{key_ties-is, versions_at-written, versions_at-forgotten}
+use Rattle.sky_keys.specs.declared.version.Version.{Version}
+use Rattle.sky_keys.specs.Versions.{with_version, without, version_of, newest_by, row_of, versions_at, written}
+use Rattle.sky_keys.proofs.VersionLemmas.{left, OnlyLast, OthersPass, newest_with, newest_without, newest_more, version_of-with, version_of-without, only_more, only_without, only_with}
+use Rattle.sky_keys.proofs.EntryLemmas.{key_ties-is, versions_at-written, versions_at-forgotten}
 use Rattle.sky_model.specs.History.{Mark, of_session, ended, tabled, wrote, History}
 use Rattle.sky_model.specs.Transactions.{has_ended}
 use Rattle.sky_model.specs.Sessions.{own_txid}

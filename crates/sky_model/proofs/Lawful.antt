@@ -9,7 +9,7 @@ use Rattle.sky_model.specs.declared.stmt.Stmt.TheVariants.{Row, CreateQueue, Ins
 use Rattle.sky_model.specs.declared.reply.Reply.TheVariants.{Number}
 use Rattle.sky_model.specs.declared.reply.Limit.TheVariants.{Queues, Triggers}
 use Rattle.sky_model.specs.declared.reply.Refusal.TheVariants.{BadColumn, NoQueue, NoTable, TableBusy, TooMany, TriggerExists, TxidsSpent, EventIdsSpent, NoConsumer}
-use Rattle.sky_val.specs.Waits.{Waiting, is_waiting}
+use Rattle.sky_keys.specs.Waits.{Waiting, is_waiting}
 use Rattle.sky_names.specs.Places.{place_of}
 use Rattle.sky_model.specs.History.{Batch, Mark, of_session, began, ended, looked, tabled, waited, queued, made, raised, put, ticked, opened, closed, History}
 use Rattle.sky_model.specs.Transactions.{next_txid}

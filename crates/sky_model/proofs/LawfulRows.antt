@@ -4,7 +4,7 @@ use Rattle.std.specs.Prelude.{find}
 use Rattle.sky_val.specs.declared.val.Val.{Val}
 use Rattle.sky_val.specs.declared.column.Column.{Column}
 use Rattle.sky_val.specs.Schemas.{schema_fault, row_fault, key_columns, key_of}
-use Rattle.sky_val.specs.Waits.{other_than, is_waiting}
+use Rattle.sky_keys.specs.Waits.{other_than, is_waiting}
 use Rattle.sky_names.specs.Places.{place_of}
 use Rattle.sky_txid.specs.SnapshotText.{parse_snapshot}
 use Rattle.sky_model.specs.declared.stmt.Set.{Set}

@@ -5,7 +5,7 @@ use Rattle.std.specs.List.{list_any}
 use Rattle.sky_val.specs.declared.event.Event.{Event}
 use Rattle.sky_val.specs.declared.val.Val.{Val}
 use Rattle.sky_val.specs.declared.column.Column.{Column}
-use Rattle.sky_val.specs.Waits.{other_than, is_waiting}
+use Rattle.sky_keys.specs.Waits.{other_than, is_waiting}
 use Rattle.sky_val.specs.Schemas.{row_fault, key_columns}
 use Rattle.sky_urlenc.specs.RowEvents.{Trigger}
 use Rattle.sky_names.specs.Places.{place_of}

@@ -1,8 +1,8 @@
 -- The laws on locks and waits.
 use Rattle.std.proofs.Common.{◌≡◌, ℕ, ℤ, List, [], ◌∷◌, length, Bool, true, false, Option, Some, None, Ok, Err, option_map, refl, sym, ◌∙◌, ap, subst}
 use Rattle.sky_val.specs.declared.val.Val.{Val}
-use Rattle.sky_val.specs.Waits.{is_waiting, waits_for, LeadsBack, way_back}
-use Rattle.sky_val.proofs.WaitLemmas.{leads_back, way_found}
+use Rattle.sky_keys.specs.Waits.{is_waiting, waits_for, LeadsBack, way_back}
+use Rattle.sky_keys.proofs.WaitLemmas.{leads_back, way_found}
 use Rattle.sky_model.specs.declared.stmt.Attempt.{Attempt}
 use Rattle.sky_model.specs.declared.reply.Reply.TheVariants.{Waits}
 use Rattle.sky_model.specs.declared.reply.Refusal.TheVariants.{Deadlock}

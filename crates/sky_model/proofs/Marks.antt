@@ -1,7 +1,7 @@
 -- What a database and the world show changes by marks and facts alone.
 use Rattle.std.proofs.Common.{◌≡◌, ℕ, ◌+◌, List, [], ◌∷◌, ◌++◌, Bool, true, false, not, ◌&&◌, ◌||◌, ◌==◌, filter, Option, Some, None, refl, sym, ◌∙◌, ap, bytes_eq, option_map, if◌then◌else◌}
-use Rattle.sky_val.specs.Waits.{released}
-use Rattle.sky_txid.specs.Versions.{forgotten}
+use Rattle.sky_keys.specs.Waits.{released}
+use Rattle.sky_keys.specs.Versions.{forgotten}
 use Rattle.sky_model.specs.History.{Mark, of_session, of_worker, began, ended, block_begun, repeats, looked, block_failed, block_ended, connected, disconnected, tabled, wrote, queued, QueueMark, made, raised, put, ticked, registered, opened, closed, traced, History, Fact, appeared, founded, entered, left, within, Past}
 use Rattle.sky_model.specs.Consumers.{Subscription, subscription_id, position, active}
 use Rattle.sky_model.specs.Transactions.{next_txid, running, has_rolled_back, snapshot}

@@ -4,9 +4,9 @@ use Rattle.std.proofs.lemmas.Bool.{or_right}
 use Rattle.std.specs.Prelude.{is_none, ◌&&◌, ◌||◌}
 use Rattle.std.proofs.lemmas.Bool.Decides.{nat_tests}
 use Rattle.sky_val.specs.declared.val.Val.{Val}
-use Rattle.sky_val.specs.Waits as waits
-use Rattle.sky_val.specs.Waits.{Holders, other_than, other_holder, Waiting, is_waiting, without}
-use Rattle.sky_val.proofs.WaitLemmas.{without_shorter}
+use Rattle.sky_keys.specs.Waits as waits
+use Rattle.sky_keys.specs.Waits.{Holders, other_than, other_holder, Waiting, is_waiting, without}
+use Rattle.sky_keys.proofs.WaitLemmas.{without_shorter}
 use Rattle.sky_model.specs.declared.stmt.Attempt.{Attempt}
 use Rattle.sky_model.specs.History.{Mark, ended, tabled, waits as waits_mark, waited}
 use Rattle.sky_model.specs.State.{RowPart, after_part}

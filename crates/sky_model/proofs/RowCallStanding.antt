@@ -1,6 +1,6 @@
 -- The calls of a row part keep their promises.
 use Rattle.std.proofs.Common.{◌≡◌, ℕ, ◌^◌, Bool, true, false, nat_le, List, [], ◌∷◌, Option, Some, None, Ok, Err, refl, sym, ◌∙◌, ap}
-use Rattle.sky_val.specs.Waits.{is_waiting}
+use Rattle.sky_keys.specs.Waits.{is_waiting}
 use Rattle.sky_model.specs.declared.stmt.RowStmt.{RowStmt}
 use Rattle.sky_model.specs.declared.reply.Refusal.{Refusal}
 use Rattle.sky_model.specs.declared.reply.Refusal.TheVariants.{TxidsSpent}

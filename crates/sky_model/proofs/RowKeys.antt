@@ -5,8 +5,8 @@ use Rattle.std.specs.Prelude.{◌||◌, ◌&&◌, ◌==◌, nat_lt}
 use Rattle.std.proofs.lemmas.Bool.Decides.{nat_tests}
 use Rattle.sky_val.specs.Entries.{is_in_order}
 use Rattle.sky_txid.specs.Ids.{contains}
-use Rattle.sky_txid.specs.Versions.{written}
-use Rattle.sky_txid.proofs.EntryLemmas.{is_in_order-written, is_in_order-forgotten}
+use Rattle.sky_keys.specs.Versions.{written}
+use Rattle.sky_keys.proofs.EntryLemmas.{is_in_order-written, is_in_order-forgotten}
 use Rattle.sky_model.specs.History.{Mark, ended, tabled, wrote, History}
 use Rattle.sky_model.specs.Transactions.{next_txid, running, has_ended}
 use Rattle.sky_model.specs.Rows.{committed, writes as writes_of}

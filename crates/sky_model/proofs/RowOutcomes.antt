@@ -1,7 +1,7 @@
 -- What the statements on sessions, transactions, tables and rows can do: they list no event, and touch no queue.
 use Rattle.std.proofs.Common.{◌≡◌, ℕ, List, Bool, true, false, Option, refl}
 use Rattle.sky_val.specs.declared.val.Val.{Val}
-use Rattle.sky_val.specs.Waits.{is_waiting}
+use Rattle.sky_keys.specs.Waits.{is_waiting}
 use Rattle.sky_model.specs.declared.stmt.RowStmt.{RowStmt}
 use Rattle.sky_model.specs.declared.stmt.RowStmt.TheVariants.{OpenDb}
 use Rattle.sky_model.specs.declared.stmt.Attempt.{Attempt}

@@ -10,10 +10,10 @@ use Rattle.sky_val.specs.Entries.{at}
 use Rattle.sky_val.proofs.EntryLemmas.{same_entries}
 use Rattle.sky_txid.specs.Ids.{contains}
 use Rattle.sky_txid.specs.Snapshot.{sees}
-use Rattle.sky_txid.specs.declared.version.Version.{Version}
-use Rattle.sky_txid.specs.Versions.{with_version, newest_by, own_version, row_of, read, rows_read}
-use Rattle.sky_txid.proofs.VersionLemmas.{newest_with, newest_without}
-use Rattle.sky_txid.proofs.EntryLemmas.{versions_at-forgotten, at-rows_read, is_in_order-rows_read}
+use Rattle.sky_keys.specs.declared.version.Version.{Version}
+use Rattle.sky_keys.specs.Versions.{with_version, newest_by, own_version, row_of, read, rows_read}
+use Rattle.sky_keys.proofs.VersionLemmas.{newest_with, newest_without}
+use Rattle.sky_keys.proofs.EntryLemmas.{versions_at-forgotten, at-rows_read, is_in_order-rows_read}
 use Rattle.sky_model.specs.History.{Mark, ended, repeats, looked, block_failed, block_ended, History}
 use Rattle.sky_model.specs.Transactions.{has_ended, has_committed, has_rolled_back, snapshot}
 use Rattle.sky_model.specs.Sessions.{own_txid, Sight, at_each, at_first, at_place, sight, sight_by, place_of_sight, session}

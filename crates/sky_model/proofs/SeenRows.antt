@@ -3,9 +3,9 @@ use Rattle.std.proofs.Common.{◌≡◌, ℕ, ◌⊎◌, inl, inr, Bool, true, f
 use Rattle.std.specs.Option.{option_or}
 use Rattle.sky_val.specs.declared.val.Val.{Val}
 use Rattle.sky_val.specs.Entries.{at}
-use Rattle.sky_txid.specs.declared.version.Version.{Version}
+use Rattle.sky_keys.specs.declared.version.Version.{Version}
 use Rattle.sky_txid.specs.Snapshot.{sees}
-use Rattle.sky_txid.specs.Versions.{newest_from, newest_by, own_version, row_of}
+use Rattle.sky_keys.specs.Versions.{newest_from, newest_by, own_version, row_of}
 use Rattle.sky_model.specs.History.{of_session, began, History}
 use Rattle.sky_model.specs.Transactions.{next_txid}
 use Rattle.sky_model.specs.Sessions.{own_txid, session}

@@ -2,7 +2,7 @@
 use Rattle.std.proofs.Common.{◌≡◌, ℕ, zero, suc, ℤ, ◌+◌, ◌^◌, Bool, true, false, nat_le, List, [], ◌∷◌, ◌++◌, Option, Some, None, Ok, Err, length, refl, sym, ap, subst, if◌then◌else◌}
 use Rattle.std.specs.Prelude.{not, ◌&&◌, is_ok}
 use Rattle.sky_val.specs.declared.val.Val.{Val}
-use Rattle.sky_val.specs.Waits.{Waiting, is_waiting}
+use Rattle.sky_keys.specs.Waits.{Waiting, is_waiting}
 use Rattle.sky_urlenc.specs.RowEvents.{RowEvent}
 use Rattle.sky_model.specs.declared.stmt.RowStmt.{RowStmt}
 use Rattle.sky_model.specs.declared.stmt.Attempt.{Attempt}

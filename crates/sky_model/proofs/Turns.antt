@@ -1,6 +1,6 @@
 -- What is let go on is the same at places that read alike.
 use Rattle.std.proofs.Common.{◌≡◌, ℕ, suc, zero, List, [], ◌∷◌, ◌++◌, Option, Some, None, length, refl, ◌∙◌, ap}
-use Rattle.sky_val.specs.Waits.{Waiting, is_waiting}
+use Rattle.sky_keys.specs.Waits.{Waiting, is_waiting}
 use Rattle.sky_model.specs.declared.stmt.RowStmt.{RowStmt}
 use Rattle.sky_model.specs.History.{Mark, looked, tabled, waited}
 use Rattle.sky_model.specs.State.{RowPart}

@@ -3,8 +3,8 @@ use Rattle.std.proofs.Common.{◌≡◌, ℕ, ◌+◌, ◌<◌, Bool, true, fals
 use Rattle.std.specs.Prelude.{◌||◌, ◌==◌, not, find}
 use Rattle.std.proofs.lemmas.Bool.Decides.{nat_tests}
 use Rattle.sky_val.specs.declared.column.Column.{Column}
-use Rattle.sky_val.specs.Waits.{Waiting, is_waiting, without}
-use Rattle.sky_val.proofs.WaitLemmas.{is_waiting-without}
+use Rattle.sky_keys.specs.Waits.{Waiting, is_waiting, without}
+use Rattle.sky_keys.proofs.WaitLemmas.{is_waiting-without}
 use Rattle.sky_model.specs.declared.stmt.Attempt.TheVariants.{Deletion}
 use Rattle.sky_model.specs.History.{Mark, connected, disconnected, tabled, table_made, waits, waited, History}
 use Rattle.sky_model.specs.Sessions.{has_open}

@@ -2,7 +2,7 @@
 use Rattle.std.proofs.Common.{◌≡◌, ℕ, pos, List, [], ◌∷◌, ◌++◌, Bool, true, false, refl, codes, map}
 use Rattle.sky_val.specs.declared.val.Val.TheVariants as value
 use Rattle.sky_val.specs.declared.column.ColKind.TheVariants as kind
-use Rattle.sky_val.specs.Waits.{is_waiting}
+use Rattle.sky_keys.specs.Waits.{is_waiting}
 use Rattle.sky_txid.specs.Snapshot.{sees}
 use Rattle.sky_model.specs.declared.stmt.Change.TheVariants.{To}
 use Rattle.sky_model.specs.declared.stmt.RowStmt.{RowStmt}

@@ -7,7 +7,7 @@ use Rattle.std.proofs.lemmas.Bool.Decides.{nat_tests}
 use Rattle.sky_val.specs.declared.val.Val.{Val}
 use Rattle.sky_val.specs.Order.{key_cmp}
 use Rattle.sky_txid.specs.Ids.{contains}
-use Rattle.sky_txid.proofs.EntryLemmas.{key_ties-is}
+use Rattle.sky_keys.proofs.EntryLemmas.{key_ties-is}
 use Rattle.sky_model.specs.History.{Mark, Whose, ended, tabled, wrote, History}
 use Rattle.sky_model.specs.Transactions.{has_ended, has_committed, has_rolled_back}
 use Rattle.sky_model.specs.Rows.{committed, writes as writes_of, has_written}

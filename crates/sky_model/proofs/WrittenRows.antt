@@ -8,10 +8,10 @@ use Rattle.sky_val.specs.declared.val.Val.{Val}
 use Rattle.sky_val.specs.declared.column.Column.{Column}
 use Rattle.sky_val.specs.Order.{key_cmp}
 use Rattle.sky_val.specs.Entries.{at}
-use Rattle.sky_txid.specs.declared.version.Version.{Version}
-use Rattle.sky_txid.specs.Versions.{with_version, without, version_of, newest_from, newest_by, own_version, row_of}
+use Rattle.sky_keys.specs.declared.version.Version.{Version}
+use Rattle.sky_keys.specs.Versions.{with_version, without, version_of, newest_from, newest_by, own_version, row_of}
 use Rattle.sky_txid.specs.Snapshot.{sees}
-use Rattle.sky_txid.proofs.EntryLemmas.{key_ties-is, versions_at-forgotten}
+use Rattle.sky_keys.proofs.EntryLemmas.{key_ties-is, versions_at-forgotten}
 use Rattle.sky_model.specs.History.{Mark, Whose, of_session, ended, tabled, table_made, wrote, History}
 use Rattle.sky_model.specs.Transactions.{has_ended}
 use Rattle.sky_model.specs.Sessions.{own_txid}

@@ -8,7 +8,7 @@ use Rattle.sky_model.specs.declared.reply.Reply.{Reply}
 use Rattle.sky_model.specs.declared.reply.Reply.TheVariants.{NotWaiting, Refused}
 use Rattle.sky_model.specs.declared.reply.Limit.TheVariants.{Sessions, Databases}
 use Rattle.sky_model.specs.declared.reply.Refusal.TheVariants.{TooMany, NotOpen}
-use Rattle.sky_val.specs.Waits.{is_waiting}
+use Rattle.sky_keys.specs.Waits.{is_waiting}
 use Rattle.sky_names.specs.Places.{place_of}
 use Rattle.sky_model.specs.Limits.{most_of}
 use Rattle.sky_model.specs.History.{Fact, entered, left, within, Past}

@@ -1,7 +1,7 @@
 -- The laws on locks and waits, at each place of each history that calls make.
 use Rattle.std.specs.Prelude.{◌≡◌, ◌≢◌, ◌↔◌, ℕ, true, false, List, [], ◌∷◌, Some, None, Err}
 use Rattle.sky_val.specs.declared.val.Val.{Val}
-use Rattle.sky_val.specs.Waits.{waits_for, LeadsBack}
+use Rattle.sky_keys.specs.Waits.{waits_for, LeadsBack}
 use Rattle.sky_model.specs.declared.stmt.Attempt.{Attempt}
 use Rattle.sky_model.specs.declared.reply.Refusal.TheVariants.{Deadlock}
 use Rattle.sky_model.specs.History.{History}

@@ -1,6 +1,6 @@
 -- The law on rows, at each place of each history that calls make.
 use Rattle.std.specs.Prelude.{◌≡◌, ℕ}
-use Rattle.sky_txid.specs.Versions.{rows_read}
+use Rattle.sky_keys.specs.Versions.{rows_read}
 use Rattle.sky_model.specs.History.{History}
 use Rattle.sky_model.specs.Transactions.{snapshot}
 use Rattle.sky_model.specs.Sessions.{own_txid, sight, place_of_sight}

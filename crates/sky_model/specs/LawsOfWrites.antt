@@ -5,7 +5,7 @@ use Rattle.sky_val.specs.declared.val.Val.{Val}
 use Rattle.sky_val.specs.declared.column.Column.{Column}
 use Rattle.sky_val.specs.Entries.{at}
 use Rattle.sky_val.specs.Schemas.{row_fault, key_of}
-use Rattle.sky_val.specs.Waits.{is_same_key}
+use Rattle.sky_keys.specs.Waits.{is_same_key}
 use Rattle.sky_txid.specs.Ids.{contains}
 use Rattle.sky_txid.specs.Snapshot.{sees}
 use Rattle.sky_model.specs.History.{Mark, Whose, of_session, tabled, wrote, queued, put, History}

@@ -1,7 +1,7 @@
 -- Which session holds each key, and which sessions wait for one.
 use Rattle.std.specs.Prelude.{ℕ, List, [], ◌∷◌, ◌++◌, Option, Some, None, ◌==◌, if◌then◌else◌}
 use Rattle.sky_val.specs.declared.val.Val.{Val}
-use Rattle.sky_val.specs.Waits.{is_same_key, other_than, Waiting, without}
+use Rattle.sky_keys.specs.Waits.{is_same_key, other_than, Waiting, without}
 use Rattle.sky_model.specs.declared.stmt.Attempt.{Attempt}
 use Rattle.sky_model.specs.declared.stmt.Attempt.TheVariants.{Deletion}
 use Rattle.sky_model.specs.History.{of_session, ended, tabled, wrote, waits, waited, History}

@@ -1,8 +1,8 @@
 -- What a statement lets go on: those that wait for a key that is free now are run, each at the place behind the one
 -- before, until none is ready.
 use Rattle.std.specs.Prelude.{ℕ, suc, zero, List, [], ◌∷◌, ◌++◌, Option, Some, None, length}
-use Rattle.sky_val.specs.Waits as waits
-use Rattle.sky_val.specs.Waits.{Waiting}
+use Rattle.sky_keys.specs.Waits as waits
+use Rattle.sky_keys.specs.Waits.{Waiting}
 use Rattle.sky_model.specs.declared.reply.Reply.{Reply}
 use Rattle.sky_model.specs.declared.stmt.Attempt.{Attempt}
 use Rattle.sky_model.specs.History.{Mark, tabled, waited, History}

@@ -3,8 +3,8 @@ use Rattle.std.specs.Prelude.{ℕ, List, Option, None, option_map, is_some, find
 use Rattle.sky_val.specs.declared.val.Val.{Val}
 use Rattle.sky_val.specs.Entries.{Entries, at}
 use Rattle.sky_txid.specs.Snapshot.{SnapshotView, snapshot_of, sees}
-use Rattle.sky_txid.specs.declared.version.Version.{Version}
-use Rattle.sky_txid.specs.Versions.{newest_by, own_version, read, versions_at, rows_read}
+use Rattle.sky_keys.specs.declared.version.Version.{Version}
+use Rattle.sky_keys.specs.Versions.{newest_by, own_version, read, versions_at, rows_read}
 use Rattle.sky_model.specs.History.{History}
 use Rattle.sky_model.specs.Sessions.{own_txid, sight, place_of_sight, Session}
 use Rattle.sky_model.specs.Rows.{rows_shown, rows_standing, unless, unseen_writer}

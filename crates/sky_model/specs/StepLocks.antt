@@ -1,7 +1,7 @@
 -- Writes that wait for another session's transaction, or are refused where the wait would close a ring.
 use Rattle.std.specs.Prelude.{ℕ, List, [], ◌∷◌, Option, Some, None, length, option_map}
 use Rattle.sky_val.specs.declared.val.Val.{Val}
-use Rattle.sky_val.specs.Waits.{waits_for, way_back}
+use Rattle.sky_keys.specs.Waits.{waits_for, way_back}
 use Rattle.sky_model.specs.declared.reply.Reply.TheVariants.{Waits}
 use Rattle.sky_model.specs.declared.reply.Refusal.TheVariants.{Deadlock}
 use Rattle.sky_model.specs.declared.stmt.Attempt.{Attempt}

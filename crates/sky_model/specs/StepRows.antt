@@ -13,7 +13,7 @@ use Rattle.sky_val.specs.declared.schema.SchemaFault.TheVariants as schema
 use Rattle.sky_val.specs.declared.schema.RowFault.{RowFault}
 use Rattle.sky_val.specs.declared.schema.RowFault.TheVariants as fault
 use Rattle.sky_val.specs.Schemas.{schema_fault, row_fault, key_columns, key_of, is_of_kind}
-use Rattle.sky_val.specs.Waits.{other_holder}
+use Rattle.sky_keys.specs.Waits.{other_holder}
 use Rattle.sky_names.specs.Places.{place_of}
 use Rattle.sky_model.specs.declared.stmt.Change.{Change}
 use Rattle.sky_model.specs.declared.stmt.Change.TheVariants.{To, Add}

@@ -1,8 +1,8 @@
 -- The versions of a table's keys: what the transactions that weren't rolled back wrote last of each.
 use Rattle.std.specs.Prelude.{ℕ, List, [], ◌∷◌, false, ◌==◌, if◌then◌else◌}
 use Rattle.sky_val.specs.Entries.{Entries}
-use Rattle.sky_txid.specs.declared.version.Version.{Version}
-use Rattle.sky_txid.specs.Versions.{written, forgotten}
+use Rattle.sky_keys.specs.declared.version.Version.{Version}
+use Rattle.sky_keys.specs.Versions.{written, forgotten}
 use Rattle.sky_model.specs.History.{ended, tabled, wrote, History}
 
 abbrev pub versions : ℕ → History → Entries (List Version)

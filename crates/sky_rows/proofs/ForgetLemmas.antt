@@ -14,10 +14,10 @@ use Rattle.sky_val.specs.declared.val.Val.{Val}
 use Rattle.sky_val.specs.Order.{key_cmp}
 use Rattle.sky_val.specs.Entries.{Entries, at, is_in_order}
 use Rattle.sky_val.proofs.Orders.{key_cmp-IsTotalOrder}
-use Rattle.sky_txid.specs.declared.version.Version.{Version}
-use Rattle.sky_txid.specs.Versions.{without, version_of, and_entry, unless_empty, forgotten}
-use Rattle.sky_txid.proofs.VersionLemmas.{version_of-without, without-none}
-use Rattle.sky_txid.proofs.EntryLemmas.{key_ties-is}
+use Rattle.sky_keys.specs.declared.version.Version.{Version}
+use Rattle.sky_keys.specs.Versions.{without, version_of, and_entry, unless_empty, forgotten}
+use Rattle.sky_keys.proofs.VersionLemmas.{version_of-without, without-none}
+use Rattle.sky_keys.proofs.EntryLemmas.{key_ties-is}
 use Rattle.sky_rows.specs.Table.{forgotten_at}
 use Rattle.sky_rows.specs.declared.written.Written.{Written}
 use Rattle.sky_rows.specs.Written.{listed, wrote, IsKept, AllKept}

@@ -4,9 +4,9 @@ use Rattle.std.specs.Prelude.{◌==◌, slice_get, option_map}
 use Rattle.std.specs.List.{remove}
 use Rattle.std.proofs.lemmas.Bool.{eqb-true, eqb-false, eq-eqb, ne_eqb}
 use Rattle.sky_val.specs.declared.val.Val.{Val}
-use Rattle.sky_txid.specs.declared.version.Version.{Version}
-use Rattle.sky_txid.specs.Versions.{with_version, without, version_of}
-use Rattle.sky_txid.proofs.VersionLemmas.{left, version_of-with, version_of-without, with_version-new, without-none}
+use Rattle.sky_keys.specs.declared.version.Version.{Version}
+use Rattle.sky_keys.specs.Versions.{with_version, without, version_of}
+use Rattle.sky_keys.proofs.VersionLemmas.{left, version_of-with, version_of-without, with_version-new, without-none}
 use Rattle.sky_rows.specs.Versions.{IsOneOfEach}
 
 -- the version at the place is the transaction's

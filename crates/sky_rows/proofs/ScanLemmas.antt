@@ -9,9 +9,9 @@ use Rattle.std.specs.BTreeMap.Range.{entries_between}
 use Rattle.sky_val.specs.declared.val.Val.{Val}
 use Rattle.sky_val.specs.Order.{key_cmp}
 use Rattle.sky_val.specs.Entries.{Entries}
-use Rattle.sky_txid.specs.declared.version.Version.{Version}
+use Rattle.sky_keys.specs.declared.version.Version.{Version}
 use Rattle.sky_txid.specs.Snapshot.{SnapshotView, sees}
-use Rattle.sky_txid.specs.Versions.{newest_by, row_of, read, and_entry, rows_read, above}
+use Rattle.sky_keys.specs.Versions.{newest_by, row_of, read, and_entry, rows_read, above}
 use Rattle.sky_rows.specs.Written.{AllKept, writer}
 use Rattle.sky_rows.proofs.TableLemmas.{own_version-writer}
 

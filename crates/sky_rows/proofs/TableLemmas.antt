@@ -14,11 +14,11 @@ use Rattle.sky_val.specs.declared.val.Val.{Val}
 use Rattle.sky_val.specs.Order.{key_cmp}
 use Rattle.sky_val.specs.Entries.{Entries, at, put, is_in_order}
 use Rattle.sky_val.proofs.Orders.{key_cmp-IsTotalOrder}
-use Rattle.sky_txid.specs.declared.version.Version.{Version}
+use Rattle.sky_keys.specs.declared.version.Version.{Version}
 use Rattle.sky_txid.specs.Snapshot.{SnapshotView, sees}
-use Rattle.sky_txid.specs.Versions.{with_version, version_of, newest_by, own_version, row_of, read, versions_at, written, unless_empty}
-use Rattle.sky_txid.proofs.VersionLemmas.{left, version_of-with}
-use Rattle.sky_txid.proofs.EntryLemmas.{key_ties-is, at-below}
+use Rattle.sky_keys.specs.Versions.{with_version, version_of, newest_by, own_version, row_of, read, versions_at, written, unless_empty}
+use Rattle.sky_keys.proofs.VersionLemmas.{left, version_of-with}
+use Rattle.sky_keys.proofs.EntryLemmas.{key_ties-is, at-below}
 use Rattle.sky_rows.specs.Written.{IsKept, AllKept, writer}
 
 -- ---- std's words for a map's entries, and those of `Entries`

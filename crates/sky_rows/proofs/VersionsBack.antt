@@ -2,9 +2,9 @@
 use Rattle.std.proofs.Common.{◌≡◌, ℕ, Bool, true, false, cond, not, nat_eq, List, Option, None, Some, refl, sym, ap, ◌∙◌}
 use Rattle.std.specs.List.{push}
 use Rattle.std.specs.Option.{option_eq}
-use Rattle.sky_txid.specs.declared.version.Version.{Version}
-use Rattle.sky_txid.specs.Versions.{newest_by, is_other}
-use Rattle.sky_txid.proofs.VersionLemmas.{newest_by-last}
+use Rattle.sky_keys.specs.declared.version.Version.{Version}
+use Rattle.sky_keys.specs.Versions.{newest_by, is_other}
+use Rattle.sky_keys.proofs.VersionLemmas.{newest_by-last}
 
 -- what is newest of the versions that are left, if it is the newest of all
 abbrev pub LeftBy : (ℕ → Bool) → List Version → List Version → Type 0

@@ -1,7 +1,7 @@
 -- Versions of which each transaction has left one.
 use Rattle.std.specs.Prelude.{◌≡◌, List, [], ◌∷◌, None}
-use Rattle.sky_txid.specs.declared.version.Version.{Version}
-use Rattle.sky_txid.specs.Versions.{version_of}
+use Rattle.sky_keys.specs.declared.version.Version.{Version}
+use Rattle.sky_keys.specs.Versions.{version_of}
 
 -- no two of the versions are of one transaction
 abbrev pub IsOneOfEach : List Version → Type 0

@@ -7,8 +7,8 @@ use Rattle.std.specs.BTreeSet.{BTreeSet, contains}
 use Rattle.sky_val.specs.declared.val.Val.{Val}
 use Rattle.sky_val.specs.Order.{key_cmp}
 use Rattle.sky_val.specs.Entries.{Entries}
-use Rattle.sky_txid.specs.declared.version.Version.{Version}
-use Rattle.sky_txid.specs.Versions.{version_of, unless_empty}
+use Rattle.sky_keys.specs.declared.version.Version.{Version}
+use Rattle.sky_keys.specs.Versions.{version_of, unless_empty}
 use Rattle.sky_rows.specs.declared.written.Written.{Written}
 
 -- whether a key is listed among those that a transaction wrote

@@ -10,5 +10,5 @@ mod table;
 mod versions;
 mod written;
 
-pub use sky_txid::Version;
+pub use sky_keys::Version;
 pub use table::Table;

@@ -4,13 +4,14 @@ ghost use Rattle.std.specs.BTreeSet.{contains};
 ghost use Rattle.sky_val.specs.Order.{key_cmp};
 ghost use Rattle.sky_val.specs.Entries.{at, is_in_order};
 ghost use Rattle.sky_txid.specs.Snapshot.{sees};
-ghost use Rattle.sky_txid.specs.Versions.{version_of, newest_by, newest_but, read, versions_at, written, forgotten, rows_read, above};
+ghost use Rattle.sky_keys.specs.Versions.{version_of, newest_by, newest_but, read, versions_at, written, forgotten, rows_read, above};
 ghost use Rattle.sky_rows.specs.Table.{forgotten_at};
 ghost use Rattle.sky_rows.specs.Written.{AllKept};
 
 use crate::versions::Versions;
 use crate::written::Written;
-use sky_txid::{Snapshot, Version};
+use sky_keys::Version;
+use sky_txid::Snapshot;
 use sky_val::{Key, NoMemory, Row, Schema};
 use std::alloc::Global;
 use std::collections::{BTreeMap, BTreeSet};

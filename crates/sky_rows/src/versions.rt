@@ -1,9 +1,10 @@
 ghost use Rattle.std.specs.Prelude.{◌≡◌, [], ◌∷◌, None, Some, MatchOption, IsTrue, ◌↔◌, ◌≢◌, IfOk, OnOk, OnErr, slice_get, option_map};
 ghost use Rattle.std.specs.Option.{option_copied};
 ghost use Rattle.sky_txid.specs.Snapshot.{sees};
-ghost use Rattle.sky_txid.specs.Versions.{with_version, without, version_of, newest_by, newest_but, read};
+ghost use Rattle.sky_keys.specs.Versions.{with_version, without, version_of, newest_by, newest_but, read};
 
-use sky_txid::{Snapshot, Version};
+use sky_keys::Version;
+use sky_txid::Snapshot;
 use sky_val::{NoMemory, Row};
 use std::alloc::Global;
 use std::marker::Model;
@@ -16,7 +17,7 @@ pub(crate) struct Versions {
 
 impl Model for Versions {
     ghost use Rattle.std.specs.Prelude.{List};
-    ghost use Rattle.sky_txid.specs.declared.version.Version.{Version};
+    ghost use Rattle.sky_keys.specs.declared.version.Version.{Version};
     ghost use Rattle.sky_rows.specs.Versions.{IsOneOfEach};
 
     ghost Value = { List Version };

@@ -1,7 +1,7 @@
 -- What is done at once with a key that no other session holds.
 use Rattle.std.proofs.Common.{◌≡◌, ℕ, List, [], ◌∷◌, ◌++◌, false, Option, Some, None, Ok, is_some, refl, sym, ◌∙◌, ap, subst}
 use Rattle.sky_val.specs.declared.val.Val.{Val}
-use Rattle.sky_val.specs.Waits.{other_holder}
+use Rattle.sky_keys.specs.Waits.{other_holder}
 use Rattle.sky_model.specs.declared.reply.Reply.{Reply}
 use Rattle.sky_model.specs.declared.reply.Refusal.TheVariants.{Duplicate}
 use Rattle.sky_model.specs.declared.stmt.Attempt.{Attempt}

@@ -1,7 +1,7 @@
 //! Writes of keys, at once or after a wait: a key that another session holds is waited for.
 
 ghost use Rattle.std.specs.Prelude.{◌≡◌, ◌<◌, false, None, Some, length};
-ghost use Rattle.sky_val.specs.Waits.{other_holder, is_waiting};
+ghost use Rattle.sky_keys.specs.Waits.{other_holder, is_waiting};
 ghost use Rattle.sky_model.specs.declared.stmt.Attempt.TheVariants.{Insertion, Changes, Deletion};
 ghost use Rattle.sky_model.specs.ShownRows.{rows_by};
 ghost use Rattle.sky_model.specs.Gates.{gated};

@@ -2,7 +2,7 @@
 //! its own.
 
 ghost use Rattle.std.specs.Prelude.{◌≡◌, ◌<◌, ◌++◌, [], ◌∷◌, true, false, None, Ok, length, IfOk, IfErr, OnOk, OnErr};
-ghost use Rattle.sky_val.specs.Waits.{other_holder, is_waiting};
+ghost use Rattle.sky_keys.specs.Waits.{other_holder, is_waiting};
 ghost use Rattle.sky_model.specs.History.{of_session, tabled, wrote};
 ghost use Rattle.sky_model.specs.Outcome.{end_of};
 ghost use Rattle.sky_model.specs.Sessions.{outside};

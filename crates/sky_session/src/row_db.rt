@@ -1,5 +1,5 @@
 ghost use Rattle.std.specs.Prelude.{◌≡◌, ◌↔◌, ◌≢◌, [], true, false, None, Some, Ok, Err, IfOk, OnOk, OnErr, MatchOption, IsTrue, is_ok};
-ghost use Rattle.sky_val.specs.Waits.{is_waiting};
+ghost use Rattle.sky_keys.specs.Waits.{is_waiting};
 ghost use Rattle.sky_names.specs.Places.{place_of};
 ghost use Rattle.sky_model.specs.declared.reply.Refusal.TheVariants.{TxidsSpent};
 ghost use Rattle.sky_model.specs.InForm.{IsRowInForm};

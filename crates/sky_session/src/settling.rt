@@ -1,7 +1,7 @@
 //! The statements that may go on when keys are free: each is run at the place behind the one before.
 
 ghost use Rattle.std.specs.Prelude.{◌≡◌, ◌<◌, false, None, Some, IfOk, IfSome, OnOk, option_map, length};
-ghost use Rattle.sky_val.specs.Waits.{is_waiting};
+ghost use Rattle.sky_keys.specs.Waits.{is_waiting};
 ghost use Rattle.sky_locks.specs.Locks.{entry};
 ghost use Rattle.sky_model.specs.ShownRows.{rows_by};
 ghost use Rattle.sky_model.specs.Outcome.{settled};

@@ -2,7 +2,7 @@
 //! that aborts the block that its session is in.
 
 ghost use Rattle.std.specs.Prelude.{◌≡◌, [], ◌∷◌, true, false, Err, OnOk};
-ghost use Rattle.sky_val.specs.Waits.{is_waiting};
+ghost use Rattle.sky_keys.specs.Waits.{is_waiting};
 ghost use Rattle.sky_model.specs.declared.stmt.Where.TheVariants.{WhenReading};
 ghost use Rattle.sky_model.specs.InForm.{IsRowInForm};
 ghost use Rattle.sky_model.specs.Allowed.{where_of_row};

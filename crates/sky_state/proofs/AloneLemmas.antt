@@ -7,9 +7,9 @@ use Rattle.std.specs.Ordering.{eq_by_cmp}
 use Rattle.sky_val.specs.declared.val.Val.{Val}
 use Rattle.sky_val.specs.Order.{key_cmp}
 use Rattle.sky_val.proofs.Orders.{key_cmp-IsAntisymmetric}
-use Rattle.sky_val.specs.Waits.{Holders, is_same_key, other_than, other_holder, taken, released}
+use Rattle.sky_keys.specs.Waits.{Holders, is_same_key, other_than, other_holder, taken, released}
 use Rattle.sky_txid.specs.Ids.{contains}
-use Rattle.sky_txid.specs.Versions.{written}
+use Rattle.sky_keys.specs.Versions.{written}
 use Rattle.sky_trans.specs.Trans.{TransView}
 use Rattle.sky_rows.specs.Table.{TableView}
 use Rattle.sky_locks.specs.Locks.{LocksView, holder}

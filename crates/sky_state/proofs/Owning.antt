@@ -1,7 +1,7 @@
 -- What sessions own stays so, mark by mark.
 use Rattle.std.proofs.Common.{◌≡◌, ℕ, ◌<◌, ◌≤◌, List, [], ◌∷◌, ◌++◌, Bool, true, false, not, is_none, ◌||◌, ◌&&◌, ◌==◌, filter, Some, None, unwrap_or, refl, sym, ◌∙◌, ap, subst, arith, if◌then◌else◌}
 use Rattle.std.proofs.lemmas.Bool.Decides.{nat_tests}
-use Rattle.sky_val.specs.Waits.{Holders, Waiting, without, ready}
+use Rattle.sky_keys.specs.Waits.{Holders, Waiting, without, ready}
 use Rattle.sky_txid.specs.Ids.{contains}
 use Rattle.sky_txid.proofs.Rising.{contains-push, contains-without}
 use Rattle.sky_model.specs.Sessions.{Session}

@@ -5,10 +5,10 @@ use Rattle.std.proofs.lemmas.Option.{get_or_from_slice_get, slice_get_read}
 use Rattle.std.proofs.lemmas.List.{get_or_past}
 use Rattle.sky_val.specs.declared.val.Val.{Val}
 use Rattle.sky_names.specs.Named.{NamedView}
-use Rattle.sky_txid.specs.Versions.{written, forgotten}
+use Rattle.sky_keys.specs.Versions.{written, forgotten}
 use Rattle.sky_trans.specs.Trans.{TransView}
 use Rattle.sky_rows.specs.Table.{TableView}
-use Rattle.sky_val.specs.Waits.{taken, released}
+use Rattle.sky_keys.specs.Waits.{taken, released}
 use Rattle.sky_locks.specs.Locks.{LocksView, holder}
 use Rattle.sky_model.specs.Sessions as model
 use Rattle.sky_val.specs.declared.column.Column.{Column}

@@ -1,8 +1,8 @@
 -- Who waits, as entries and as answers of the code tell.
 use Rattle.std.proofs.Common.{◌≡◌, ℕ, List, [], ◌∷◌, ◌++◌, Option, Some, None, is_some, length, option_map, refl, sym, ◌∙◌, ap}
 use Rattle.sky_val.specs.declared.val.Val.{Val}
-use Rattle.sky_val.specs.Waits.{Waiting, is_waiting, entry_of, waits_for, LeadsBack, way_back}
-use Rattle.sky_val.proofs.WaitLemmas.{is_waiting-entry, leads_back, way_found}
+use Rattle.sky_keys.specs.Waits.{Waiting, is_waiting, entry_of, waits_for, LeadsBack, way_back}
+use Rattle.sky_keys.proofs.WaitLemmas.{is_waiting-entry, leads_back, way_found}
 use Rattle.sky_locks.specs.Locks.{LocksView, holder}
 use Rattle.sky_model.specs.declared.stmt.Attempt.{Attempt}
 use Rattle.sky_model.specs.History.{tabled, waits}

@@ -1,6 +1,6 @@
 -- What the sessions of a database own, and wait for.
 use Rattle.std.specs.Prelude.{◌≡◌, ◌<◌, ℕ, List, [], ◌∷◌, true, Some}
-use Rattle.sky_val.specs.Waits.{Waiting}
+use Rattle.sky_keys.specs.Waits.{Waiting}
 use Rattle.sky_txid.specs.Ids.{contains}
 use Rattle.sky_model.specs.Sessions.{Session}
 

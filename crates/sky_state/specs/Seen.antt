@@ -7,7 +7,7 @@ use Rattle.std.specs.BTreeMap.{is_at}
 use Rattle.std.specs.Ordering.{nat_cmp}
 use Rattle.sky_val.specs.declared.column.Column.{Column}
 use Rattle.sky_val.specs.Entries.{Entries}
-use Rattle.sky_txid.specs.declared.version.Version.{Version}
+use Rattle.sky_keys.specs.declared.version.Version.{Version}
 use Rattle.sky_txid.specs.Snapshot.{SnapshotView}
 use Rattle.sky_rows.specs.Table.{TableView}
 use Rattle.sky_locks.specs.Locks.{holder}

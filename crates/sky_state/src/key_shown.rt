@@ -3,7 +3,7 @@
 
 ghost use Rattle.std.specs.Prelude.{◌≡◌, ◌<◌, IfOk, is_some, length, map};
 ghost use Rattle.std.specs.Option.{option_copied};
-ghost use Rattle.sky_txid.specs.Versions.{versions_at, own_version};
+ghost use Rattle.sky_keys.specs.Versions.{versions_at, own_version};
 ghost use Rattle.sky_model.specs.ShownRows.{snapshot_now, snapshot_for, rows_by};
 ghost use Rattle.sky_state.specs.Seen.{seen};
 

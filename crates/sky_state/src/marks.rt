@@ -2,11 +2,11 @@
 //! `waiting`. After want of memory the state isn't said.
 
 ghost use Rattle.std.specs.Prelude.{◌≡◌, ◌+◌, ◌-◌, ◌<◌, ◌^◌, [], ◌∷◌, true, false, None, Some, IfOk, OnOk, OnErr, length};
-ghost use Rattle.sky_val.specs.Waits.{other_holder, is_waiting};
+ghost use Rattle.sky_keys.specs.Waits.{other_holder, is_waiting};
 ghost use Rattle.sky_names.specs.Places.{place_of};
 ghost use Rattle.sky_model.specs.History.{of_session, began, ended, block_begun, repeats, looked, block_failed, block_ended, connected, disconnected, tabled, table_made, wrote, waited};
 ghost use Rattle.sky_model.specs.State.{after_part, after_part_marks};
-ghost use Rattle.sky_txid.specs.Versions.{written, forgotten};
+ghost use Rattle.sky_keys.specs.Versions.{written, forgotten};
 ghost use Rattle.sky_state.specs.Seen.{seen, columns_of, versions_of};
 
 use crate::row_state::RowState;

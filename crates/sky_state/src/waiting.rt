@@ -1,7 +1,7 @@
 //! Which sessions hold keys, which wait for one, and that a session begins to wait.
 
 ghost use Rattle.std.specs.Prelude.{◌≡◌, ◌<◌, ℕ, false, true, IfOk, IfNone, IfSome, Some, is_some, length, option_map};
-ghost use Rattle.sky_val.specs.Waits.{other_holder, is_waiting};
+ghost use Rattle.sky_keys.specs.Waits.{other_holder, is_waiting};
 ghost use Rattle.sky_locks.specs.Locks.{entry};
 ghost use Rattle.sky_model.specs.History.{tabled, waits};
 ghost use Rattle.sky_model.specs.State.{after_part};

@@ -5,7 +5,4 @@ pub mod ReadBack
 pub mod Searched
 pub mod Texts
 pub mod Covering
-pub mod VersionLemmas
-pub mod EntryLemmas
 mod Worked
-mod WorkedVersions

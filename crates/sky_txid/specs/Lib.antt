@@ -1,4 +1,3 @@
 pub mod Ids
 pub mod Snapshot
 pub mod SnapshotText
-pub mod Versions

@@ -3,4 +3,3 @@ pub mod Orders
 pub mod NumberLemmas
 pub mod SchemaLemmas
 pub mod SchemaLaws
-pub mod WaitLemmas

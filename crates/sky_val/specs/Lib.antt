@@ -4,4 +4,3 @@ pub mod Numbers
 pub mod Order
 pub mod OrderLaws
 pub mod Schemas
-pub mod Waits

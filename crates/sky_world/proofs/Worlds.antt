@@ -3,7 +3,7 @@ use Rattle.std.proofs.Common.{◌≡◌, ℕ, suc, zero, ◌+◌, ◌<◌, ◌�
 use Rattle.std.proofs.lemmas.List.Elements.{All-append, All-set, All-get_or, All-from_recursion, All-weaker}
 use Rattle.std.proofs.lemmas.Bool.Decides.{nat_tests}
 use Rattle.std.proofs.lemmas.Option.{get_or_from_slice_get, slice_get_read}
-use Rattle.sky_val.specs.Waits.{Waiting}
+use Rattle.sky_keys.specs.Waits.{Waiting}
 use Rattle.sky_names.specs.Places.{place_of}
 use Rattle.sky_names.proofs.PlaceLemmas.{place_of_within}
 use Rattle.sky_model.specs.declared.stmt.Stmt.{Stmt}

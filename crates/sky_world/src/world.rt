@@ -1,5 +1,5 @@
 ghost use Rattle.std.specs.Prelude.{◌≡◌, ◌+◌, ◌<◌, ◌≤◌, [], ◌∷◌, true, false, Some, None, IfOk, OnOk, IfSome, All, length, option_copied};
-ghost use Rattle.sky_val.specs.Waits.{is_waiting};
+ghost use Rattle.sky_keys.specs.Waits.{is_waiting};
 ghost use Rattle.sky_names.specs.Places.{place_of};
 ghost use Rattle.sky_model.specs.Kinds.{is_name};
 ghost use Rattle.sky_model.specs.InForm.{IsInForm};

@@ -1,34 +1,12 @@
-use crate::statements::{line, row_statement};
-use crate::words::{first_number, no_command, shown};
-use sky_model::RowStmt;
-use sky_txid::Version;
-use sky_val::{Event, Row, Text};
+use crate::words::{no_command, shown};
+use sky_val::{Event, Text};
 use std::alloc::Global;
 
-/// The copy of a version or of an event.
+/// The copy of an event.
 pub fn answer(alloc: Global, command: &str, words: &str) -> anyhow::Result<String> {
     match command {
-        "version" => version(alloc, words),
         "event" => event(alloc, words),
         _ => Err(no_command()),
-    }
-}
-
-// The version that the transaction of this id left by the statement.
-fn version(alloc: Global, words: &str) -> anyhow::Result<String> {
-    let (txid, statement) = first_number(words)?;
-    let version = Version {
-        txid: u64::from(txid),
-        row: row_after(alloc, statement)?,
-    };
-    shown(alloc, version.copy(alloc))
-}
-
-fn row_after(alloc: Global, statement: &str) -> anyhow::Result<Option<Row>> {
-    let line = line(alloc, statement)?;
-    match row_statement(&line)? {
-        RowStmt::Insert { table: _, row } => Ok(Some(row.copy(alloc)?)),
-        _ => Ok(None),
     }
 }
 

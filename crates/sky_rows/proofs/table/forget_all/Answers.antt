@@ -1,5 +1,5 @@
 use Rattle.std.proofs.Common.{◌∙◌, ap, refl, subst, sym}
-use Rattle.sky_txid.specs.Versions.{forgotten}
+use Rattle.sky_keys.specs.Versions.{forgotten}
 use Rattle.sky_rows.specs.Written.{AllKept}
 use Rattle.sky_rows.proofs.ForgetLemmas.{may_have, kept_step, forgotten-forgotten_at, forgotten-all}
 use Rattle.sky_rows.proofs.table.forget_all.Goals as goal

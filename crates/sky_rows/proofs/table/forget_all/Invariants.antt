@@ -1,5 +1,5 @@
 use Rattle.std.proofs.Common.{◌≡◌}
-use Rattle.sky_txid.specs.Versions.{forgotten}
+use Rattle.sky_keys.specs.Versions.{forgotten}
 use Rattle.sky_rows.specs.Written.{AllKept}
 use Rattle.sky_rows.proofs.ForgetLemmas.{may_have}
 use Rattle.sky_rows.proofs.table.forget_all.Given as goal

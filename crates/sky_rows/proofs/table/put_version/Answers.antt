@@ -3,7 +3,7 @@ use Rattle.std.specs.BTreeMap.{insert_entry}
 use Rattle.std.proofs.lemmas.Result.{on_ok_weaker, on_err_weaker}
 use Rattle.sky_val.specs.Kept.{key_values}
 use Rattle.sky_val.specs.Order.{key_cmp}
-use Rattle.sky_txid.specs.Versions.{with_version}
+use Rattle.sky_keys.specs.Versions.{with_version}
 use Rattle.sky_rows.proofs.TableLemmas.{lookup-at, in_order-sorted, written-set, unchanged-set, written-insert}
 use Rattle.sky_rows.proofs.table.put_version.Goals as goal
 

@@ -1,5 +1,5 @@
 use Rattle.std.proofs.Common.{◌≡◌, None, Some, Ok, refl, ◌∙◌, rules}
-use Rattle.sky_val.specs.Waits.{other_holder}
+use Rattle.sky_keys.specs.Waits.{other_holder}
 use Rattle.sky_model.specs.declared.reply.Reply.TheVariants.{Number}
 use Rattle.sky_model.specs.declared.stmt.Attempt.TheVariants.{Deletion}
 use Rattle.sky_model.specs.ShownRows.{rows_by}

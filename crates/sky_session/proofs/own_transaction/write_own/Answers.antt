@@ -1,6 +1,6 @@
 -- A write in a session's transaction, mark by mark, or in one of its own.
 use Rattle.std.proofs.Common.{[], ◌∷◌, ◌∙◌, ap, None}
-use Rattle.sky_val.specs.Waits.{other_holder}
+use Rattle.sky_keys.specs.Waits.{other_holder}
 use Rattle.sky_model.specs.History.{of_session, tabled, wrote}
 use Rattle.sky_model.specs.State.{RowPart}
 use Rattle.sky_model.specs.OwnTransaction.{commit_of}

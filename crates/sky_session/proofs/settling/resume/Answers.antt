@@ -1,5 +1,5 @@
 use Rattle.std.proofs.Common.{◌≡◌, ◌<◌, length, sym, ap, ◌∙◌, subst}
-use Rattle.sky_val.specs.Waits.{is_waiting}
+use Rattle.sky_keys.specs.Waits.{is_waiting}
 use Rattle.sky_locks.specs.Locks.{entry}
 use Rattle.sky_model.specs.State.{RowPart}
 use Rattle.sky_model.specs.Reader.{part_by_itself}
@@ -7,7 +7,7 @@ use Rattle.sky_model.specs.Gates.{passed_all, by_gate}
 use Rattle.sky_model.specs.Settling.{turn_of, attempted}
 use Rattle.sky_session.specs.Gives.{Adds}
 use Rattle.sky_state.specs.Seen.{seen}
-use Rattle.sky_val.proofs.WaitLemmas.{is_waiting-without}
+use Rattle.sky_keys.proofs.WaitLemmas.{is_waiting-without}
 use Rattle.sky_session.proofs.LockLemmas.{adds-resumed, passed-resumed}
 use Rattle.sky_session.proofs.settling.resume.Goals as goal
 

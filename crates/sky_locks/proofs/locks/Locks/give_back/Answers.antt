@@ -1,5 +1,5 @@
 use Rattle.std.proofs.Common.{◌<◌, ◌∙◌, ap, sym, subst, length, arith, vec_capacity}
-use Rattle.sky_val.specs.Waits.{given_back}
+use Rattle.sky_keys.specs.Waits.{given_back}
 use Rattle.sky_locks.specs.declared.lock_key.LockKey.{LockKey}
 use Rattle.sky_locks.specs.Holders.{Frees}
 use Rattle.sky_locks.specs.Locks.{LocksView, holder}

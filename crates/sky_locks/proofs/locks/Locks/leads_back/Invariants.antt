@@ -1,5 +1,5 @@
 use Rattle.std.proofs.Common.{◌≡◌, ◌-◌, length, is_some}
-use Rattle.sky_val.specs.Waits.{way_back}
+use Rattle.sky_keys.specs.Waits.{way_back}
 use Rattle.sky_locks.specs.Locks.{waits_for_in}
 use Rattle.sky_locks.proofs.locks.Locks.leads_back.Given as goal
 

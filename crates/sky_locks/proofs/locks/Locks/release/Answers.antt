@@ -1,5 +1,5 @@
 use Rattle.std.proofs.Common.{◌<◌, ◌∙◌, ap, length, arith, vec_capacity}
-use Rattle.sky_val.specs.Waits.{released}
+use Rattle.sky_keys.specs.Waits.{released}
 use Rattle.sky_locks.specs.Locks.{LocksView, holder}
 use Rattle.sky_locks.proofs.ListedLemmas.{room_for, listed_noted}
 use Rattle.sky_locks.proofs.LockLemmas.{holders, released_step, released_is}

@@ -1,5 +1,5 @@
 use Rattle.std.proofs.Common.{◌≡◌, length, vec_capacity}
-use Rattle.sky_val.specs.Waits.{released}
+use Rattle.sky_keys.specs.Waits.{released}
 use Rattle.sky_locks.specs.Freed.{IsListed}
 use Rattle.sky_locks.proofs.LockLemmas.{holders}
 use Rattle.sky_locks.proofs.locks.Locks.release.Given as goal

@@ -1,7 +1,7 @@
 use Rattle.std.proofs.Common.{◌≡◌, ℕ, Vec, Global, ◌∙◌, ◌-◌, ◌+◌, Some, zero, suc, true, false, length, is_some, ap, sym, arith}
 use Rattle.std.specs.Prelude.{◌==◌}
 use Rattle.std.proofs.lemmas.Bool.{eq-eqb, ne_eqb}
-use Rattle.sky_val.specs.Waits.{way_back}
+use Rattle.sky_keys.specs.Waits.{way_back}
 use Rattle.sky_locks.specs.Locks.{waits_for_in}
 use Rattle.sky_locks.proofs.RingLemmas.{with_rest, step_ends, step_closes, step_goes_on, step_last, ring_closes}
 use Rattle.sky_locks.proofs.locks.Locks.ring.Goals.{else-loop-step-test, then-loop-step-test+in_ok-push-2+in_default-2, then-loop-step-test+in_ok-push-2+in_default}

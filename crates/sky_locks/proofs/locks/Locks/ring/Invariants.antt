@@ -1,6 +1,6 @@
 use Rattle.std.proofs.Common.{◌≡◌, ◌-◌, ◌++◌, ◌∷◌, length}
 use Rattle.std.specs.Prelude.{option_map}
-use Rattle.sky_val.specs.Waits.{way_back}
+use Rattle.sky_keys.specs.Waits.{way_back}
 use Rattle.sky_locks.specs.Locks.{waits_for_in}
 use Rattle.sky_locks.proofs.locks.Locks.ring.Given as goal
 

@@ -1,6 +1,6 @@
 use Rattle.std.proofs.Common.{◌≤◌, ◌+◌, ◌∙◌, ◌∷◌, ◌++◌, [], ap, sym, refl, length, arith, vec_capacity}
-use Rattle.sky_val.specs.Waits.{other_than}
-use Rattle.sky_val.proofs.WaitLemmas.{no_way}
+use Rattle.sky_keys.specs.Waits.{other_than}
+use Rattle.sky_keys.proofs.WaitLemmas.{no_way}
 use Rattle.sky_locks.specs.Holders.{holder_of}
 use Rattle.sky_locks.specs.Waiters.{entry}
 use Rattle.sky_locks.specs.Locks.{LocksView, holder, waits_for_in}

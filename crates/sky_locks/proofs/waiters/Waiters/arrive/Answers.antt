@@ -1,7 +1,7 @@
 use Rattle.std.proofs.Common.{◌∙◌, ◌++◌, ◌∷◌, [], ap, sym, subst, true, cond, nat_cmp}
 use Rattle.std.specs.Prelude.{◌==◌, ◌&&◌}
 use Rattle.std.specs.Ordering.{eq_by_cmp}
-use Rattle.sky_val.specs.Waits.{is_waiting}
+use Rattle.sky_keys.specs.Waits.{is_waiting}
 use Rattle.sky_locks.specs.declared.waiters.Waiter.{Waiter}
 use Rattle.sky_locks.specs.Order.{lock_cmp}
 use Rattle.sky_locks.specs.Groups.{in_group}

@@ -1,5 +1,5 @@
 use Rattle.std.proofs.Common.{◌∙◌, ap, sym, nat_cmp}
-use Rattle.sky_val.specs.Waits.{entry_of}
+use Rattle.sky_keys.specs.Waits.{entry_of}
 use Rattle.sky_locks.specs.Order.{lock_cmp}
 use Rattle.sky_locks.specs.Groups.{in_group}
 use Rattle.std.specs.BTreeMap.{get}

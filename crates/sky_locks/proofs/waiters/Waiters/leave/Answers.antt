@@ -2,7 +2,7 @@ use Rattle.std.proofs.Common.{◌≡◌, ◌∙◌, ap, sym, subst, true, nat_cm
 use Rattle.std.specs.Prelude.{◌==◌}
 use Rattle.std.specs.List.{AllByRecursion}
 use Rattle.std.proofs.lemmas.List.Elements.{All-from_recursion}
-use Rattle.sky_val.specs.Waits.{entry_of, without}
+use Rattle.sky_keys.specs.Waits.{entry_of, without}
 use Rattle.sky_locks.specs.Order.{lock_cmp}
 use Rattle.sky_locks.specs.Groups.{in_group}
 use Rattle.sky_locks.specs.Waiters.{waiting_of, key_of}

@@ -1,5 +1,5 @@
 use Rattle.std.proofs.Common.{◌≡◌, ◌∙◌, refl, ap, subst, sym, Some, None}
-use Rattle.sky_txid.specs.Versions.{forgotten}
+use Rattle.sky_keys.specs.Versions.{forgotten}
 use Rattle.sky_rows.specs.Table.{TableView}
 use Rattle.sky_rows.specs.Written.{AllKept, wrote}
 use Rattle.sky_rows.proofs.ForgetLemmas.{wrote-listed, may_have-wrote, kept_forgotten, kept_unlisted, forgotten-none}

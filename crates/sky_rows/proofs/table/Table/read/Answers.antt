@@ -1,5 +1,5 @@
 use Rattle.std.proofs.Common.{◌∙◌, ap, subst}
-use Rattle.sky_txid.specs.Versions.{read}
+use Rattle.sky_keys.specs.Versions.{read}
 use Rattle.sky_rows.specs.Table.{TableView}
 use Rattle.sky_rows.specs.Written.{AllKept, wrote}
 use Rattle.sky_rows.proofs.TableLemmas.{read-writer}

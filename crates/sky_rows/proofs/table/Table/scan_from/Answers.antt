@@ -1,7 +1,7 @@
 use Rattle.std.proofs.Common.{◌≡◌, ◌∙◌, ◌∷◌, [], ◌++◌, ap, subst, sym, arith}
 use Rattle.std.specs.Option.{option_copied}
 use Rattle.std.specs.Bound.{bound_map}
-use Rattle.sky_txid.specs.Versions.{read, above}
+use Rattle.sky_keys.specs.Versions.{read, above}
 use Rattle.sky_rows.specs.Table.{TableView}
 use Rattle.sky_rows.specs.Written.{wrote}
 use Rattle.sky_rows.proofs.ScanLemmas.{IsOnTheWay, start_of, started, past_row, past_none, found_all, found_most}

@@ -1,5 +1,5 @@
 use Rattle.std.specs.Option.{option_copied}
-use Rattle.sky_txid.specs.Versions.{above}
+use Rattle.sky_keys.specs.Versions.{above}
 use Rattle.sky_rows.specs.Written.{wrote}
 use Rattle.sky_rows.proofs.ScanLemmas.{IsOnTheWay}
 use Rattle.sky_rows.proofs.table.Table.scan_from.Given as goal

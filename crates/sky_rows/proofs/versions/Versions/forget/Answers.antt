@@ -1,5 +1,5 @@
 use Rattle.std.proofs.Common.{sym, rules}
-use Rattle.sky_txid.proofs.VersionLemmas.{without-none}
+use Rattle.sky_keys.proofs.VersionLemmas.{without-none}
 use Rattle.sky_rows.proofs.PlaceLemmas.{one_left, forget_at}
 use Rattle.sky_rows.proofs.versions.Versions.forget.Goals as goal
 

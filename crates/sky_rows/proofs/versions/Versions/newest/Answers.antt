@@ -1,5 +1,5 @@
 use Rattle.std.proofs.Common.{sym, ◌∙◌}
-use Rattle.sky_txid.specs.Versions.{is_other}
+use Rattle.sky_keys.specs.Versions.{is_other}
 use Rattle.sky_rows.proofs.VersionsBack.{newest_found, newest_before, differs}
 use Rattle.sky_rows.proofs.versions.Versions.newest.Goals as goal
 

@@ -1,7 +1,7 @@
 use Rattle.std.proofs.Common.{◌≡◌}
 use Rattle.std.specs.Iterator.Adapters.{rev_source}
 use Rattle.std.specs.Slice.Iter.{iter_rest}
-use Rattle.sky_txid.specs.Versions.{newest_by, is_other}
+use Rattle.sky_keys.specs.Versions.{newest_by, is_other}
 use Rattle.sky_rows.proofs.versions.Versions.newest.Given as goal
 
 abbrev pub invariant-loop-version : goal.invariant-loop-version

@@ -1,5 +1,5 @@
 use Rattle.std.proofs.Common.{◌≡◌, None, drop}
-use Rattle.sky_txid.specs.Versions.{version_of}
+use Rattle.sky_keys.specs.Versions.{version_of}
 use Rattle.sky_rows.proofs.versions.Versions.place_of.Given as goal
 
 abbrev pub invariant-loop-place : goal.invariant-loop-place

@@ -1,5 +1,5 @@
 use Rattle.std.proofs.Common.{◌∙◌, ap}
-use Rattle.sky_val.specs.Waits.{is_waiting}
+use Rattle.sky_keys.specs.Waits.{is_waiting}
 use Rattle.sky_locks.specs.Locks.{entry}
 use Rattle.sky_state.specs.Views.{RowStateView}
 use Rattle.sky_state.proofs.WaitLemmas.{waiting-told}

@@ -1,6 +1,6 @@
 -- One that may go on waits for a key of a table that is made.
 use Rattle.std.proofs.Common.{◌≡◌, ◌<◌, length, Some, option_map, ap, sym, ◌∙◌, subst}
-use Rattle.sky_val.specs.Waits.{ready}
+use Rattle.sky_keys.specs.Waits.{ready}
 use Rattle.sky_locks.specs.declared.lock_key.LockKey.{LockKey}
 use Rattle.sky_locks.specs.Locks.{holder, entry}
 use Rattle.sky_state.specs.Views.{RowStateView}

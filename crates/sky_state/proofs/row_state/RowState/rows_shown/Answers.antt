@@ -1,6 +1,6 @@
 -- There are fewer rows than `usize` can say, so all were asked for.
 use Rattle.std.proofs.Common.{◌<◌, ◌∙◌, ap, map, length, arith}
-use Rattle.sky_txid.specs.Versions.{rows_read}
+use Rattle.sky_keys.specs.Versions.{rows_read}
 use Rattle.sky_model.specs.ShownRows.{snapshot_for}
 use Rattle.sky_state.specs.Seen.{seen}
 use Rattle.sky_state.proofs.ScanLemmas.{take-fewer}

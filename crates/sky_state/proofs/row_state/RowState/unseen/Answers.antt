@@ -1,8 +1,8 @@
 use Rattle.std.proofs.Common.{◌≡◌, ℕ, Bool, true, false, cond, List, [], ◌∷◌, Option, Some, None, is_some, refl, sym, ◌∙◌, ap}
 use Rattle.std.specs.Prelude.{option_map}
-use Rattle.sky_txid.specs.declared.version.Version.{Version}
+use Rattle.sky_keys.specs.declared.version.Version.{Version}
 use Rattle.sky_txid.specs.Snapshot.{SnapshotView, sees}
-use Rattle.sky_txid.specs.Versions.{newest_from, newest_by, own_version, versions_at}
+use Rattle.sky_keys.specs.Versions.{newest_from, newest_by, own_version, versions_at}
 use Rattle.sky_model.specs.Rows.{unless}
 use Rattle.sky_model.specs.Sessions.{Session, place_of_sight}
 use Rattle.sky_model.specs.State.{RowPart}

@@ -1,6 +1,6 @@
 -- A session that waits is the last of the list, or would wait for itself.
 use Rattle.std.proofs.Common.{◌≡◌, ◌<◌, ℕ, Some, length, unwrap_or, refl, ap, sym, ◌∙◌, subst}
-use Rattle.sky_val.specs.Waits.{other_holder, LeadsBack}
+use Rattle.sky_keys.specs.Waits.{other_holder, LeadsBack}
 use Rattle.sky_locks.specs.Locks.{holder, waits_for_in, Takes, WaitsForKey, ClosesRing}
 use Rattle.sky_state.specs.Views.{RowStateView}
 use Rattle.sky_state.specs.Seen.{seen}

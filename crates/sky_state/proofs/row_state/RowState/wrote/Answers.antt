@@ -1,5 +1,5 @@
 use Rattle.std.proofs.Common.{◌∙◌, ap, subst}
-use Rattle.sky_txid.specs.Versions.{written}
+use Rattle.sky_keys.specs.Versions.{written}
 use Rattle.sky_rows.specs.Table.{TableView}
 use Rattle.sky_locks.specs.Locks.{Takes, TakesKey}
 use Rattle.sky_state.proofs.SessionLists.{wrote-as}

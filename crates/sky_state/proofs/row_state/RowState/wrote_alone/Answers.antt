@@ -2,7 +2,7 @@
 use Rattle.std.proofs.Common.{◌≡◌, ◌∙◌, ◌++◌, ◌∷◌, [], ◌||◌, ◌&&◌, ◌==◌, not, filter, List, ℕ, Bool, true, false, refl, ap, sym, subst, arith}
 use Rattle.sky_state.specs.Owned.{AreOwned}
 use Rattle.sky_state.specs.Seen.{session_of, versions_of, wrote_in}
-use Rattle.sky_txid.specs.Versions.{written}
+use Rattle.sky_keys.specs.Versions.{written}
 use Rattle.sky_model.specs.State.{changed_at}
 use Rattle.std.proofs.lemmas.Bool.Decides.{nat_tests}
 use Rattle.sky_txid.specs.Ids.{contains}

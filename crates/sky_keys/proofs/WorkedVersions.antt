@@ -3,9 +3,9 @@ use Rattle.std.proofs.Common.{◌≡◌, ℕ, pos, List, [], ◌∷◌, Option, 
 use Rattle.sky_val.specs.declared.val.Val.{Val}
 use Rattle.sky_val.specs.declared.val.Val.TheVariants.{Int}
 use Rattle.sky_val.specs.Entries.{Entries}
-use Rattle.sky_txid.specs.declared.version.Version.{Version}
+use Rattle.sky_keys.specs.declared.version.Version.{Version}
 use Rattle.sky_txid.specs.Snapshot.{SnapshotView}
-use Rattle.sky_txid.specs.Versions.{newest_but, read, versions_at, written, forgotten, rows_read, above}
+use Rattle.sky_keys.specs.Versions.{newest_but, read, versions_at, written, forgotten, rows_read, above}
 
 -- the key and the row of one number
 abbrev one : ℕ → List Val

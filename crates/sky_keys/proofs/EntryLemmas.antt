@@ -10,9 +10,9 @@ use Rattle.sky_val.specs.Order.{key_cmp}
 use Rattle.sky_val.proofs.Orders.{key_cmp-IsAntisymmetric}
 use Rattle.sky_val.proofs.EntryLemmas.{at-put, is_in_order-put}
 use Rattle.sky_val.specs.Entries.{Entries, at, is_in_order}
-use Rattle.sky_txid.specs.declared.version.Version.{Version}
+use Rattle.sky_keys.specs.declared.version.Version.{Version}
 use Rattle.sky_txid.specs.Snapshot.{SnapshotView}
-use Rattle.sky_txid.specs.Versions.{with_version, without, read, versions_at, written, and_entry, values_by, unless_empty, forgotten, rows_read, above}
+use Rattle.sky_keys.specs.Versions.{with_version, without, read, versions_at, written, and_entry, values_by, unless_empty, forgotten, rows_read, above}
 
 test_from_T : (b : Bool) → T b → b ≡ true
 test_from_T true h = refl

@@ -9,7 +9,7 @@ use Rattle.std.proofs.lemmas.Bool.{eqb-true, eq-eqb, or_parts}
 use Rattle.std.proofs.lemmas.List.{length-map}
 use Rattle.std.proofs.lemmas.Map.Keys.{IsDistinct-cons}
 use Rattle.std.proofs.lemmas.Map.Steps.{length-le_from_keys}
-use Rattle.sky_val.specs.Waits.{Holders, Waiting, is_waiting, entry_of, without, other_holder, waits_for, LeadsBack, last, next, along, way_back}
+use Rattle.sky_keys.specs.Waits.{Holders, Waiting, is_waiting, entry_of, without, other_holder, waits_for, LeadsBack, last, next, along, way_back}
 
 some_is : (a b : ℕ) → Some a ≡ Some b → a ≡ b
 some_is a b e = cc e

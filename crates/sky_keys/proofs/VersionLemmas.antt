@@ -4,9 +4,9 @@ use Rattle.std.specs.Prelude.{◌==◌, ◌||◌}
 use Rattle.std.specs.Option.{option_or}
 use Rattle.std.proofs.lemmas.Bool.{eqb-true, eqb-false, eq-eqb, not-true, both_ways}
 use Rattle.sky_val.specs.declared.val.Val.{Val}
-use Rattle.sky_txid.specs.declared.version.Version.{Version}
+use Rattle.sky_keys.specs.declared.version.Version.{Version}
 use Rattle.sky_txid.specs.Snapshot.{SnapshotView, sees}
-use Rattle.sky_txid.specs.Versions.{with_version, without, version_of, newest_from, newest_by, is_other, newest_but, row_of, read}
+use Rattle.sky_keys.specs.Versions.{with_version, without, version_of, newest_from, newest_by, is_other, newest_but, row_of, read}
 
 -- the version that a write leaves
 abbrev pub left : ℕ → Option (List Val) → Version

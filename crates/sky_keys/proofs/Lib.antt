@@ -1,0 +1,4 @@
+pub mod VersionLemmas
+pub mod EntryLemmas
+pub mod WaitLemmas
+mod WorkedVersions
