@@ -1,7 +1,7 @@
 ghost use Rattle.std.specs.Prelude.{◌≡◌, [], ◌∷◌, ◌++◌, IfOk, OnOk, OnErr};
 
 use sky_txid::Snapshot;
-use sky_val::{Event, Row, SessionId, Text};
+use sky_val::{Event, MOST_COLUMNS, Row, SessionId, Text};
 use std::alloc::{AllocError, Global};
 use std::marker::Model;
 
@@ -37,7 +37,7 @@ impl Limit {
             Limit::Queues => 64,
             Limit::Consumers => 256,
             Limit::Tables => 64,
-            Limit::Columns => 32,
+            Limit::Columns => MOST_COLUMNS,
             Limit::Triggers => 8,
         }
     }

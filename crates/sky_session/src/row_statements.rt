@@ -31,9 +31,6 @@ use sky_txid::Snapshot;
 use sky_val::{Key, NoMemory, Op, Row, SessionId, Text};
 use std::alloc::Global;
 
-/// How many tables a database may have.
-const MOST_TABLES: usize = 64;
-
 /// What a write did, by the row that it found and the row that it left.
 fn op_of(old: Option<&Row>, new: Option<&Row>) -> Op
     ensures { result ≡ op_of (option_copied old.entry) (option_copied new.entry) }
@@ -181,7 +178,7 @@ pub fn create_table(
     if state.table_number(name).is_some() {
         return Err(Stop::Refused(Refusal::TableExists(name.copy(state.alloc())?)));
     }
-    if state.table_count() >= MOST_TABLES {
+    if state.table_count() >= Limit::Tables.most() {
         return Err(Stop::Refused(Refusal::TooMany(Limit::Tables)));
     }
     let schema = new_schema(state.alloc(), columns)?;

@@ -11,7 +11,7 @@ use std::marker::Model;
 use thiserror::Error;
 
 /// How many columns a table may have.
-const MOST_COLUMNS: usize = 32;
+pub const MOST_COLUMNS: usize = 32;
 
 /// How the names begin that no column may have.
 const RESERVED: &[u8] = b"_pgq_ev_";

@@ -20,12 +20,6 @@ use sky_val::{NoMemory, SessionId, Text};
 use std::alloc::{AllocError, Global};
 use std::marker::Model;
 
-/// How many sessions a script may have.
-const MAX_SESSIONS: SessionId = 256;
-
-/// How many databases there may be.
-const MAX_DATABASES: usize = 16;
-
 /// The sessions and databases of a script, and the clock, which stands at its start.
 #[derive(Drop)]
 pub struct World {
@@ -144,7 +138,7 @@ impl World {
         ensures { OnOk result (AddsCall (seen_world self.old) (seen_world self.new) (record { who = name.now; stmt = stmt.now }) replies.old replies.new) }
     {
         let who = self.session_count();
-        if who >= MAX_SESSIONS {
+        if who as usize >= Limit::Sessions.most() {
             replies.push(who, Reply::Refused(Refusal::TooMany(Limit::Sessions)))?;
             return Ok(());
         }
@@ -333,7 +327,7 @@ impl World {
         ensures { OnOk result (AddsDeed self.old self.new replies.old replies.new (opens by_world (seen_world self.old) who stmt.now name.now None)) }
     {
         let number = self.database_count();
-        if number >= MAX_DATABASES {
+        if number >= Limit::Databases.most() {
             replies.push(who, Reply::Refused(Refusal::TooMany(Limit::Databases)))?;
             return Ok(());
         }
