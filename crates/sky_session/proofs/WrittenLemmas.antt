@@ -1,16 +1,16 @@
 -- A write in a session's transaction.
-use Rattle.std.proofs.Common.{◌≡◌, ℕ, List, [], ◌∷◌, ◌++◌, true, Option, Some, None, Ok, refl, ◌∙◌, ap}
-use Rattle.std.specs.Prelude.{not}
+use Rattle.std.proofs.Common.{◌≡◌, ℕ, List, [], ◌∷◌, ◌++◌, Bool, true, false, Option, Some, None, Ok, refl, ◌∙◌, ap}
+use Rattle.std.specs.Prelude.{not, ◌&&◌}
 use Rattle.sky_val.specs.declared.val.Val.{Val}
 use Rattle.sky_model.specs.History.{Mark, of_session, tabled, wrote}
+use Rattle.sky_model.specs.Sessions.{Block, outside, inside, failed, Session}
 use Rattle.sky_model.specs.State.{RowPart, after_part, after_part_marks}
 use Rattle.sky_model.specs.declared.reply.Reply.TheVariants.{Number}
 use Rattle.sky_model.specs.declared.reply.Refusal.TheVariants.{EventIdsSpent}
 use Rattle.sky_model.specs.Outcome.{◌>>=◌, ◌>>◌, refused_if, does_marks}
-use Rattle.sky_model.specs.OwnTransaction.{txid_for, begin_of, written}
+use Rattle.sky_model.specs.OwnTransaction.{txid_for, begin_of, commit_of, written}
 use Rattle.sky_model.specs.StepRows.{writes_key}
-use Rattle.sky_model.specs.Gates.{Gate, gated}
-use Rattle.sky_model.proofs.GatedLemmas.{gated-writes_key}
+use Rattle.sky_model.specs.Gates.{Gate, takes_all, gated}
 use Rattle.sky_session.proofs.Steps.{begun-txid, begun-block}
 
 -- a transaction that gets its id holds what it held
@@ -36,11 +36,29 @@ pub same-parts : (d : RowPart) (who t table : ℕ) (key : List Val) (old new : O
 same-parts d who t table key old new None ends = refl
 same-parts d who t table key old new (Some own) ends = refl
 
+and-true : (b : Bool) → (b && true) ≡ b
+and-true true = refl
+and-true false = refl
+
+-- of what a session writes a gate is asked for the write alone
+written-takes : {G : Type 0} (gate : Gate G) (g : G) (who t : ℕ) (s : Session) (table : ℕ) (key : List Val) (old new : Option (List Val))
+    → takes_all gate g (written who t s (tabled (wrote (of_session who) t table key old new) ∷ [])) ≡ gate.has_room g (record { table = table; old = old; new = new })
+written-takes gate g who t s table key old new = of s.txid s.block
+  where
+    of : (o : Option ℕ) (b : Block)
+        → takes_all gate g (begin_of who t o ++ (tabled (wrote (of_session who) t table key old new) ∷ []) ++ commit_of who t b) ≡ gate.has_room g (record { table = table; old = old; new = new })
+    of None outside = and-true _
+    of None inside = and-true _
+    of None failed = and-true _
+    of (Some own) outside = and-true _
+    of (Some own) inside = and-true _
+    of (Some own) failed = and-true _
+
 -- what a write does for which the gate has room
 pub gated-has_room : {G : Type 0} (gate : Gate G) (g : G) (d : RowPart) (who t table : ℕ) (key : List Val) (old new : Option (List Val)) → txid_for d who ≡ Ok t
     → gate.has_room g (record { table = table; old = old; new = new }) ≡ true
     → gated gate g (writes_key d who table key old new) ≡ does_marks (Number 1) (written who t (d.session who) (tabled (wrote (of_session who) t table key old new) ∷ []))
 gated-has_room gate g d who t table key old new is room =
-    gated-writes_key gate g d who table key old new
-    ∙ ap (λ c. c >>= (λ u. refused_if (not (gate.has_room g (record { table = table; old = old; new = new }))) EventIdsSpent >> does_marks (Number 1) (written who u (d.session who) (tabled (wrote (of_session who) u table key old new) ∷ [])))) is
-    ∙ ap (λ b. refused_if (not b) EventIdsSpent >> does_marks (Number 1) (written who t (d.session who) (tabled (wrote (of_session who) t table key old new) ∷ []))) room
+    ap (λ c. gated gate g (c >>= (λ u. does_marks (Number 1) (written who u (d.session who) (tabled (wrote (of_session who) u table key old new) ∷ []))))) is
+    ∙ ap (λ b. refused_if (not b) EventIdsSpent >> does_marks (Number 1) (written who t (d.session who) (tabled (wrote (of_session who) t table key old new) ∷ [])))
+    (written-takes gate g who t (d.session who) table key old new ∙ room)
