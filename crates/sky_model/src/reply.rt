@@ -1,8 +1,8 @@
-ghost use Rattle.std.specs.Prelude.{◌≡◌, [], ◌∷◌, ◌++◌, IfOk, OnOk, OnErr};
+ghost use Rattle.std.specs.Prelude.{◌≡◌, [], ◌∷◌, ◌++◌, OnOk, OnErr};
 
 use sky_txid::Snapshot;
-use sky_val::{Event, MOST_COLUMNS, Row, SessionId, Text};
-use std::alloc::{AllocError, Global};
+use sky_val::{Event, MOST_COLUMNS, NoMemory, Row, SessionId, Text};
+use std::alloc::Global;
 use std::marker::Model;
 
 /// What there can be only so many of.
@@ -361,30 +361,12 @@ impl Replies {
         }
     }
 
-    /// One answer.
-    pub fn one(alloc: Global, session: SessionId, reply: Reply) -> Result<Replies, AllocError>
-        ensures { IfOk result (λ replies. replies ≡ (session, reply) ∷ []) }
-    {
-        let mut items = Vec::with_capacity(alloc, 1)?;
-        items.push((session, reply))?;
-        Ok(Replies { items })
-    }
-
     /// One more answer, at the end.
-    pub fn push(&mut self, session: SessionId, reply: Reply) -> Result<(), AllocError>
+    pub fn push(&mut self, session: SessionId, reply: Reply) -> Result<(), NoMemory>
         ensures ok { OnOk result (self.new ≡ self.old ++ (session, reply) ∷ []) }
         ensures err { OnErr result (self.new ≡ self.old) }
     {
         self.items.push((session, reply))?;
-        Ok(())
-    }
-
-    /// Further answers, at the end.
-    pub fn append(&mut self, mut others: Replies) -> Result<(), AllocError>
-        ensures ok { OnOk result (self.new ≡ self.old ++ others) }
-        ensures err { OnErr result (self.new ≡ self.old) }
-    {
-        self.items.append(&mut others.items)?;
         Ok(())
     }
 

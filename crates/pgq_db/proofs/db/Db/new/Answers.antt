@@ -1,0 +1,5 @@
+use Rattle.pgq_queues.specs.Seen.{seen_with}
+use Rattle.pgq_db.proofs.db.Db.new.Goals as goal
+
+pub returns : goal.returns
+returns c = λ i. seen_with (c.new.ensures i) (c.new-2.ensures i)
