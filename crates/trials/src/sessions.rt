@@ -2,7 +2,7 @@ ghost use Rattle.std.specs.Prelude.{◌-◌, nat_lt};
 
 use crate::statements::{line, row_statement};
 use crate::words::{first_number, no_command, ok, shown};
-use sky_session::{RowDb, WriteGate};
+use sky_session::{RowDb, RowStep, WriteGate};
 use sky_val::{NoMemory, Op, Row, SessionId};
 use std::alloc::Global;
 use std::mem;
@@ -44,9 +44,15 @@ impl Sessions {
             "enter_outside" => shown(alloc, self.db.enter(who, true)),
             "fail" => shown(alloc, self.db.fail(who)),
             "fail_with" => shown(alloc, self.db.fail_with(who, &mut self.gate)),
-            "settle_with" => shown(alloc, self.db.settle_with(&mut self.gate)),
+            "settle_into" => self.settle(alloc),
             _ => Err(no_command()),
         }
+    }
+
+    fn settle(&mut self, alloc: Global) -> anyhow::Result<String> {
+        let mut step = RowStep::ends(alloc);
+        self.db.settle_into(&mut self.gate, &mut step)?;
+        shown(alloc, Ok(step))
     }
 
     // Another database, and a gate with room for so many writes.
