@@ -3,3 +3,4 @@ pub mod KindLemmas
 pub mod ReadingLemmas
 pub mod ListLemmas
 pub mod TextLemmas
+pub mod FormLemmas

@@ -1,9 +1,9 @@
 -- How the readers of single words, of lists of words and of forms answer a row of the grammar.
-use Rattle.std.specs.Prelude.{◌≡◌, ℕ, ◌-◌, ◌<◌, List, [], ◌∷◌, length, Result, Ok, Err}
+use Rattle.std.specs.Prelude.{◌≡◌, ℕ, ◌-◌, ◌<◌, ◌==◌, ◌&&◌, not, List, [], ◌∷◌, length, filter, Result, Ok, Err}
 use Rattle.sky_model.specs.declared.stmt.Stmt.{Stmt}
 use Rattle.sky_model.specs.declared.line.Fixed.{Fixed}
 use Rattle.sky_model.specs.Kinds.{Kind, Of}
-use Rattle.sky_model.specs.Grammar.{Row, one, some_last, some_until, named_form, goes_on, reads}
+use Rattle.sky_model.specs.Grammar.{Row, one, some_last, some_until, all_forms, named_form, goes_on, reads}
 use Rattle.sky_script.specs.declared.cause.LineCause.{LineCause}
 use Rattle.sky_script.specs.declared.cause.LineCause.TheVariants.{NotUtf8, BadWord, NoMemory}
 use Rattle.sky_script.specs.Unread.{Unread}
@@ -48,6 +48,18 @@ GoesUntil end k vs old new = (r : Result Stmt LineCause) (f : List (Of k) → Ro
 -- no such values were read: the cause answers each row that begins with them and the fixed word
 abbrev pub StopsUntil : Fixed → Kind → LineCause → Unread → Type 0
 StopsUntil end k cause old = (f : List (Of k) → Row) → Answers (Err cause) (some_until end k f) old
+
+-- the forms whose first word has six bytes
+abbrev pub of_six : List (List ℕ × Row)
+of_six = filter (λ form. length form.0 == 6) all_forms
+
+-- those where it has twelve
+abbrev pub of_twelve : List (List ℕ × Row)
+of_twelve = filter (λ form. length form.0 == 12) all_forms
+
+-- the others
+abbrev pub of_other : List (List ℕ × Row)
+of_other = filter (λ form. not (length form.0 == 6) && not (length form.0 == 12)) all_forms
 
 -- a result is what these forms say of the words that are left, behind this first word
 unfoldable pub AnswersAmong : Result Stmt LineCause → (first : List ℕ) → List (List ℕ × Row) → Unread → Type 0

@@ -1,8 +1,7 @@
 //! The statement forms: of each, its first word and the function that reads what follows it.
 
-ghost use Rattle.std.specs.Prelude.{◌++◌};
-ghost use Rattle.sky_model.specs.Grammar.{all_forms, row_forms, queue_forms};
-ghost use Rattle.sky_script.specs.Reading.{AnswersAmong};
+ghost use Rattle.sky_model.specs.Grammar.{all_forms};
+ghost use Rattle.sky_script.specs.Reading.{AnswersAmong, of_six, of_twelve, of_other};
 
 use crate::cause::LineCause;
 use crate::queue_forms::{
@@ -16,57 +15,78 @@ use crate::words::Words;
 use sky_model::{RowStmt, Stmt};
 use std::alloc::Global;
 
-/// The statement with this first word, of the words behind it.
-#[tactic(auto, unfolding(crate::specs::Reading::Answers, crate::specs::Reading::AnswersAmong))]
+/// The statement with this first word, of the words behind it. It is compared with those of its length, the most frequent
+/// first.
+#[tactic(auto, using(crate::proofs::FormLemmas::among_six, crate::proofs::FormLemmas::among_twelve, crate::proofs::FormLemmas::among_other))]
 pub(crate) fn read_form(alloc: Global, first: &[u8], words: &mut Words) -> Result<Stmt, LineCause>
     ensures { AnswersAmong result first.now all_forms words.old }
 {
-    if first == b"open".as_slice() {
-        return open_db(alloc, words);
+    match first.len() {
+        6 => read_six(alloc, first, words),
+        12 => read_twelve(alloc, first, words),
+        _ => read_other(alloc, first, words),
     }
-    if first == b"close".as_slice() {
-        return alone(RowStmt::Close, words);
-    }
-    if first == b"cancel".as_slice() {
-        return alone(RowStmt::Cancel, words);
-    }
-    if first == b"begin".as_slice() {
-        return begin(words);
-    }
-    if first == b"commit".as_slice() {
-        return alone(RowStmt::Commit, words);
-    }
-    if first == b"rollback".as_slice() {
-        return alone(RowStmt::Rollback, words);
-    }
-    if first == b"txid_current".as_slice() {
-        return alone(RowStmt::TxidCurrent, words);
-    }
-    if first == b"txid_current_snapshot".as_slice() {
-        return alone(RowStmt::TxidCurrentSnapshot, words);
-    }
-    if first == b"txid_visible_in_snapshot".as_slice() {
-        return txid_visible_in_snapshot(alloc, words);
-    }
-    read_row_form(alloc, first, words)
 }
 
-/// The same among the forms on tables and rows, and on queues.
+/// The same among the forms whose first word has six bytes.
 #[tactic(auto, unfolding(crate::specs::Reading::Answers, crate::specs::Reading::AnswersAmong))]
-fn read_row_form(alloc: Global, first: &[u8], words: &mut Words) -> Result<Stmt, LineCause>
-    ensures { AnswersAmong result first.now (row_forms ++ queue_forms) words.old }
+fn read_six(alloc: Global, first: &[u8], words: &mut Words) -> Result<Stmt, LineCause>
+    ensures { AnswersAmong result first.now of_six words.old }
 {
-    if first == b"create".as_slice() {
-        return create_table(alloc, words);
+    if first == b"update".as_slice() {
+        return update(alloc, words);
     }
     if first == b"insert".as_slice() {
         return insert(alloc, words);
     }
-    if first == b"update".as_slice() {
-        return update(alloc, words);
+    if first == b"commit".as_slice() {
+        return alone(RowStmt::Commit, words);
     }
     if first == b"delete".as_slice() {
         return delete(alloc, words);
+    }
+    if first == b"ticker".as_slice() {
+        return ticker(alloc, words);
+    }
+    if first == b"create".as_slice() {
+        return create_table(alloc, words);
+    }
+    if first == b"cancel".as_slice() {
+        return alone(RowStmt::Cancel, words);
+    }
+    Err(words.refused())
+}
+
+/// The same among those whose first word has twelve.
+#[tactic(auto, unfolding(crate::specs::Reading::Answers, crate::specs::Reading::AnswersAmong))]
+fn read_twelve(alloc: Global, first: &[u8], words: &mut Words) -> Result<Stmt, LineCause>
+    ensures { AnswersAmong result first.now of_twelve words.old }
+{
+    if first == b"insert_event".as_slice() {
+        return insert_event(alloc, words);
+    }
+    if first == b"finish_batch".as_slice() {
+        return finish_batch(words);
+    }
+    if first == b"txid_current".as_slice() {
+        return alone(RowStmt::TxidCurrent, words);
+    }
+    if first == b"create_queue".as_slice() {
+        return create_queue(alloc, words);
+    }
+    Err(words.refused())
+}
+
+/// The same among the others.
+#[tactic(auto, unfolding(crate::specs::Reading::Answers, crate::specs::Reading::AnswersAmong))]
+fn read_other(alloc: Global, first: &[u8], words: &mut Words) -> Result<Stmt, LineCause>
+    ensures { AnswersAmong result first.now of_other words.old }
+{
+    if first == b"rollback".as_slice() {
+        return alone(RowStmt::Rollback, words);
+    }
+    if first == b"begin".as_slice() {
+        return begin(words);
     }
     if first == b"get".as_slice() {
         return get(alloc, words);
@@ -74,25 +94,17 @@ fn read_row_form(alloc: Global, first: &[u8], words: &mut Words) -> Result<Stmt,
     if first == b"scan".as_slice() {
         return scan(alloc, words);
     }
-    read_queue_form(alloc, first, words)
-}
-
-/// The same among the forms on queues.
-#[tactic(auto, unfolding(crate::specs::Reading::Answers, crate::specs::Reading::AnswersAmong))]
-fn read_queue_form(alloc: Global, first: &[u8], words: &mut Words) -> Result<Stmt, LineCause>
-    ensures { AnswersAmong result first.now queue_forms words.old }
-{
-    if first == b"create_queue".as_slice() {
-        return create_queue(alloc, words);
+    if first == b"next_batch".as_slice() {
+        return next_batch(alloc, words);
     }
-    if first == b"insert_event".as_slice() {
-        return insert_event(alloc, words);
+    if first == b"get_batch_events".as_slice() {
+        return get_batch_events(words);
     }
-    if first == b"add_trigger".as_slice() {
-        return add_trigger(alloc, words);
+    if first == b"open".as_slice() {
+        return open_db(alloc, words);
     }
-    if first == b"ticker".as_slice() {
-        return ticker(alloc, words);
+    if first == b"close".as_slice() {
+        return alone(RowStmt::Close, words);
     }
     if first == b"force_tick".as_slice() {
         return force_tick(alloc, words);
@@ -100,14 +112,14 @@ fn read_queue_form(alloc: Global, first: &[u8], words: &mut Words) -> Result<Stm
     if first == b"register_consumer".as_slice() {
         return register_consumer(alloc, words);
     }
-    if first == b"next_batch".as_slice() {
-        return next_batch(alloc, words);
+    if first == b"add_trigger".as_slice() {
+        return add_trigger(alloc, words);
     }
-    if first == b"get_batch_events".as_slice() {
-        return get_batch_events(words);
+    if first == b"txid_current_snapshot".as_slice() {
+        return alone(RowStmt::TxidCurrentSnapshot, words);
     }
-    if first == b"finish_batch".as_slice() {
-        return finish_batch(words);
+    if first == b"txid_visible_in_snapshot".as_slice() {
+        return txid_visible_in_snapshot(alloc, words);
     }
     Err(words.refused())
 }

@@ -1,0 +1,34 @@
+-- A form is looked for among those whose first word has a length that passes a test which the length of the line's word passes.
+use Rattle.std.proofs.Common.{◌≡◌, ℕ, Bool, true, false, not, ◌==◌, ◌&&◌, length, bytes_eq, cond, subst, List, [], ◌∷◌, filter, Result, refl}
+use Rattle.std.proofs.lemmas.Slice.Eq.{bytes_eq-Decides}
+use Rattle.sky_model.specs.declared.stmt.Stmt.{Stmt}
+use Rattle.sky_model.specs.Grammar.{Row, all_forms, goes_on, named_form, reads}
+use Rattle.sky_script.specs.declared.cause.LineCause.{LineCause}
+use Rattle.sky_script.specs.Unread.{Unread}
+use Rattle.sky_script.specs.Reading.{AnswersAmong, IsAnswer, of_six, of_twelve, of_other}
+
+named_form-filter : (p : ℕ → Bool) (w : List ℕ) (forms : List (List ℕ × Row)) → p (length w) ≡ true
+    → named_form w (filter (λ form. p (length form.0)) forms) ≡ named_form w forms
+named_form-filter p w [] passes = refl
+named_form-filter p w (form ∷ forms) passes =
+    let rest : named_form w (filter (λ form. p (length form.0)) forms) ≡ named_form w forms = named_form-filter p w forms passes in
+    elim (bytes_eq w form.0) as (λ b. bytes_eq w form.0 ≡ b → named_form w (cond (p (length form.0)) (form ∷ filter (λ form. p (length form.0)) forms) (filter (λ form. p (length form.0)) forms)) ≡ cond b (form.1 ∷ []) (named_form w forms)) [
+      | true ↦ λ is. rw (subst (λ u. p (length u) ≡ true) ((bytes_eq-Decides w form.0).0 is) passes, is) refl
+      | false ↦ λ is. elim (p (length form.0)) as (λ v. named_form w (cond v (form ∷ filter (λ form. p (length form.0)) forms) (filter (λ form. p (length form.0)) forms)) ≡ named_form w forms) [
+        | true ↦ rw is rest
+        | false ↦ rest
+      ]
+    ] refl
+
+among : (p : ℕ → Bool) (r : Result Stmt LineCause) (w : List ℕ) (at : Unread) → p (length w) ≡ true → AnswersAmong r w (filter (λ form. p (length form.0)) all_forms) at → AnswersAmong r w all_forms at
+unfolding AnswersAmong
+among p r w at passes given = rw (← named_form-filter p w all_forms passes) given
+
+pub among_six : (r : Result Stmt LineCause) (w : List ℕ) (at : Unread) → length w ≡ 6 → AnswersAmong r w of_six at → AnswersAmong r w all_forms at
+among_six r w at is = among (λ n. n == 6) r w at (rw is refl)
+
+pub among_twelve : (r : Result Stmt LineCause) (w : List ℕ) (at : Unread) → length w ≡ 12 → AnswersAmong r w of_twelve at → AnswersAmong r w all_forms at
+among_twelve r w at is = among (λ n. n == 12) r w at (rw is refl)
+
+pub among_other : (r : Result Stmt LineCause) (w : List ℕ) (at : Unread) → (length w == 6) ≡ false → (length w == 12) ≡ false → AnswersAmong r w of_other at → AnswersAmong r w all_forms at
+among_other r w at six twelve = among (λ n. not (n == 6) && not (n == 12)) r w at (rw (six, twelve) refl)
