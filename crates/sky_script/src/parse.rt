@@ -16,9 +16,7 @@ fn statement(alloc: Global, words: &mut Words) -> Result<Stmt, LineCause>
     requires { words.old.number ≡ 2 }
     ensures { IsAnswer result (statement_of words.old.left) }
 {
-    let Some(first) = words.next() else {
-        return Err(words.missing());
-    };
+    let first = words.word()?;
     read_form(alloc, first.as_bytes(), words)
 }
 

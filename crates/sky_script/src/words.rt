@@ -107,7 +107,7 @@ impl<'a> Words<'a> {
     }
 
     /// Takes the next word.
-    pub(crate) fn next(&mut self) -> Option<&'a str>
+    fn next(&mut self) -> Option<&'a str>
         ensures word { MatchOption result (self.old.left ≡ [])
             (λ word. (self.old.left ≡ word.now ∷ self.new.left) × (self.new.number ≡ self.old.number + 1)) }
         ensures none { IfNone result (self.new ≡ self.old) }
@@ -118,8 +118,16 @@ impl<'a> Words<'a> {
         Some(word)
     }
 
+    /// Takes the next word, or gives the cause where there is none.
+    pub(crate) fn word(&mut self) -> Result<&'a str, LineCause>
+        ensures word { IfOk result (λ word. (self.old.left ≡ word.now ∷ self.new.left) × (self.new.number ≡ self.old.number + 1)) }
+        ensures none { IfErr result (λ cause. (self.old.left ≡ []) × (cause ≡ LineCause.BadWord self.old.number)) }
+    {
+        self.next().ok_or(self.missing())
+    }
+
     /// The cause where the line ends too early.
-    pub(crate) fn missing(&self) -> LineCause
+    fn missing(&self) -> LineCause
         ensures { result ≡ LineCause.BadWord self.now.number }
     {
         LineCause::BadWord(self.taken + 1)
@@ -167,10 +175,7 @@ impl<'a> Words<'a> {
             Answers r row self.new → Answers r (literal fixed row) self.old) }
         ensures err { IfErr result (λ cause. (row : Row) → Answers (Err cause) (literal fixed row) self.old) }
     {
-        let Some(next) = self.next() else {
-            return Err(self.missing());
-        };
-        if next != fixed_text(fixed) {
+        if self.word()? != fixed_text(fixed) {
             return Err(self.refused());
         }
         Ok(())
@@ -216,9 +221,7 @@ impl<'a> Words<'a> {
         ensures second { OnOk result (self.new.number ≡ 2) }
         ensures err { IfErr result (λ cause. IsAnswer (Err cause) (line_of_words self.old.left)) }
     {
-        let Some(word) = self.next() else {
-            return Err(self.missing());
-        };
+        let word = self.word()?;
         let Some(name) = word.as_bytes().strip_suffix(b":") else {
             return Err(self.refused());
         };
@@ -232,9 +235,7 @@ impl<'a> Words<'a> {
     pub(crate) fn name(&mut self, alloc: Global) -> Result<Text, LineCause>
         ensures { Reads Name result self.old self.new }
     {
-        let Some(word) = self.next() else {
-            return Err(self.missing());
-        };
+        let word = self.word()?;
         if !is_name(word) {
             return Err(self.refused());
         }
@@ -244,9 +245,7 @@ impl<'a> Words<'a> {
     pub(crate) fn dotted(&mut self, alloc: Global) -> Result<Text, LineCause>
         ensures { Reads Dotted result self.old self.new }
     {
-        let Some(word) = self.next() else {
-            return Err(self.missing());
-        };
+        let word = self.word()?;
         if !is_dotted(word) {
             return Err(self.refused());
         }
@@ -256,21 +255,14 @@ impl<'a> Words<'a> {
     pub(crate) fn number(&mut self, most: u64) -> Result<u64, LineCause>
         ensures { Reads (Number most) result self.old self.new }
     {
-        let Some(word) = self.next() else {
-            return Err(self.missing());
-        };
-        match number_of(word.as_bytes(), most) {
-            Some(number) => Ok(number),
-            None => Err(self.refused()),
-        }
+        let word = self.word()?;
+        number_of(word.as_bytes(), most).ok_or(self.refused())
     }
 
     pub(crate) fn opt_text(&mut self, alloc: Global) -> Result<Option<Text>, LineCause>
         ensures { Reads OptText result self.old self.new }
     {
-        let Some(word) = self.next() else {
-            return Err(self.missing());
-        };
+        let word = self.word()?;
         if word == "null" {
             return Ok(None);
         }
@@ -283,63 +275,38 @@ impl<'a> Words<'a> {
     pub(crate) fn raw(&mut self, alloc: Global) -> Result<Text, LineCause>
         ensures { Reads Raw result self.old self.new }
     {
-        let Some(word) = self.next() else {
-            return Err(self.missing());
-        };
+        let word = self.word()?;
         if is_bare_word(word) {
             return Ok(Text::from_str(alloc, word)?);
         }
-        match quoted_text(alloc, word)? {
-            Some(text) => Ok(text),
-            None => Err(self.refused()),
-        }
+        quoted_text(alloc, word)?.ok_or(self.refused())
     }
 
     pub(crate) fn value(&mut self, alloc: Global) -> Result<Val, LineCause>
         ensures { Reads kind.Value result self.old self.new }
     {
-        let Some(word) = self.next() else {
-            return Err(self.missing());
-        };
-        match value_of(alloc, word)? {
-            Some(value) => Ok(value),
-            None => Err(self.refused()),
-        }
+        let word = self.word()?;
+        value_of(alloc, word)?.ok_or(self.refused())
     }
 
     pub(crate) fn column(&mut self, alloc: Global) -> Result<Column, LineCause>
         ensures { Reads kind.Column result self.old self.new }
     {
-        let Some(word) = self.next() else {
-            return Err(self.missing());
-        };
-        match column_of(alloc, word)? {
-            Some(column) => Ok(column),
-            None => Err(self.refused()),
-        }
+        let word = self.word()?;
+        column_of(alloc, word)?.ok_or(self.refused())
     }
 
     pub(crate) fn set(&mut self, alloc: Global) -> Result<Set, LineCause>
         ensures { Reads kind.Set result self.old self.new }
     {
-        let Some(word) = self.next() else {
-            return Err(self.missing());
-        };
-        match set_of(alloc, word)? {
-            Some(set) => Ok(set),
-            None => Err(self.refused()),
-        }
+        let word = self.word()?;
+        set_of(alloc, word)?.ok_or(self.refused())
     }
 
     pub(crate) fn ignore(&mut self, alloc: Global) -> Result<ColumnNames, LineCause>
         ensures { Reads kind.Ignore result self.old self.new }
     {
-        let Some(word) = self.next() else {
-            return Err(self.missing());
-        };
-        match ignore_of(alloc, word)? {
-            Some(columns) => Ok(columns),
-            None => Err(self.refused()),
-        }
+        let word = self.word()?;
+        ignore_of(alloc, word)?.ok_or(self.refused())
     }
 }
