@@ -8,6 +8,7 @@
 #![tactic(auto)]
 
 mod gate;
+mod items;
 pub mod laws;
 mod line;
 mod reply;
@@ -15,6 +16,7 @@ mod stmt;
 mod stop;
 
 pub use gate::{OpenGate, WriteGate};
+pub use items::Items;
 pub use line::{Cause, Fixed, Line};
 pub use reply::{BadRow, Events, Limit, Refusal, Replies, Reply, Rows, Waiters};
 pub use stmt::{

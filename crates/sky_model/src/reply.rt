@@ -1,5 +1,6 @@
 ghost use Rattle.std.specs.Prelude.{◌≡◌, [], ◌∷◌, ◌++◌, OnOk, OnErr};
 
+use crate::items::Items;
 use sky_txid::Snapshot;
 use sky_val::{Event, MOST_COLUMNS, NoMemory, Row, SessionId, Text};
 use std::alloc::Global;
@@ -71,34 +72,7 @@ impl Drop for BadRow {
 }
 
 /// Sessions in order.
-#[derive(Debug, Drop)]
-pub struct Waiters {
-    items: Vec<SessionId>,
-}
-
-impl Model for Waiters {
-    ghost use Rattle.std.specs.Prelude.{ℕ, List};
-
-    ghost Value = { List ℕ };
-
-    ghost view = { λ w. w.items.items };
-}
-
-impl Waiters {
-    /// The sessions of a list. No memory is taken.
-    pub fn new(items: Vec<SessionId>) -> Waiters
-        ensures { result ≡ items.items }
-    {
-        Waiters { items }
-    }
-
-    /// The sessions, in their order.
-    pub fn as_slice(&self) -> &[SessionId]
-        ensures { result.now ≡ self.now }
-    {
-        self.items.as_slice()
-    }
-}
+pub type Waiters = Items<SessionId>;
 
 /// Why a statement is refused.
 #[derive(Debug)]
@@ -211,66 +185,10 @@ impl Drop for Refusal {
 }
 
 /// Events in order.
-#[derive(Debug, Drop)]
-pub struct Events {
-    items: Vec<Event>,
-}
-
-impl Model for Events {
-    ghost use Rattle.std.specs.Prelude.{List};
-    ghost use Rattle.sky_val.specs.declared.event.Event.{Event};
-
-    ghost Value = { List Event };
-
-    ghost view = { λ e. e.items.items };
-}
-
-impl Events {
-    /// The events of a list. No memory is taken.
-    pub fn new(items: Vec<Event>) -> Events
-        ensures { result ≡ items.items }
-    {
-        Events { items }
-    }
-
-    /// The events, in their order.
-    pub fn as_slice(&self) -> &[Event]
-        ensures { result.now ≡ self.now }
-    {
-        self.items.as_slice()
-    }
-}
+pub type Events = Items<Event>;
 
 /// Rows in order.
-#[derive(Debug, Drop)]
-pub struct Rows {
-    items: Vec<Row>,
-}
-
-impl Model for Rows {
-    ghost use Rattle.std.specs.Prelude.{List};
-    ghost use Rattle.sky_val.specs.declared.val.Val.{Val};
-
-    ghost Value = { List (List Val) };
-
-    ghost view = { λ r. r.items.items };
-}
-
-impl Rows {
-    /// The rows of a list. No memory is taken.
-    pub fn new(items: Vec<Row>) -> Rows
-        ensures { result ≡ items.items }
-    {
-        Rows { items }
-    }
-
-    /// The rows, in their order.
-    pub fn as_slice(&self) -> &[Row]
-        ensures { result.now ≡ self.now }
-    {
-        self.items.as_slice()
-    }
-}
+pub type Rows = Items<Row>;
 
 /// What a statement answers.
 #[derive(Debug)]

@@ -1,5 +1,6 @@
 ghost use Rattle.std.specs.Prelude.{◌≡◌, IfOk};
 
+use crate::items::Items;
 use sky_val::{Column, Key, NoMemory, Row, Text, Val};
 use std::alloc::Global;
 use std::marker::Model;
@@ -62,72 +63,10 @@ pub enum Where {
 }
 
 /// The columns of a new table, in order.
-#[derive(Debug, Drop)]
-pub struct Columns {
-    items: Vec<Column>,
-}
-
-impl Model for Columns {
-    ghost use Rattle.std.specs.Prelude.{List};
-    ghost use Rattle.sky_val.specs.declared.column.Column.{Column};
-
-    ghost Value = { List Column };
-
-    ghost view = { λ c. c.items.items };
-}
-
-impl Columns {
-    /// The columns of a list. No memory is taken.
-    pub fn new(items: Vec<Column>) -> Columns
-        ensures { result ≡ items.items }
-    {
-        Columns { items }
-    }
-
-    /// The columns, in their order.
-    pub fn as_slice(&self) -> &[Column]
-        ensures { result.now ≡ self.now }
-    {
-        self.items.as_slice()
-    }
-
-    /// The list of the columns.
-    pub fn into_vec(self) -> Vec<Column>
-        ensures { result.items ≡ self }
-    {
-        self.items
-    }
-}
+pub type Columns = Items<Column>;
 
 /// Names of columns, in order.
-#[derive(Debug, Drop)]
-pub struct ColumnNames {
-    items: Vec<Text>,
-}
-
-impl Model for ColumnNames {
-    ghost use Rattle.std.specs.Prelude.{ℕ, List};
-
-    ghost Value = { List (List ℕ) };
-
-    ghost view = { λ c. c.items.items };
-}
-
-impl ColumnNames {
-    /// The names of a list. No memory is taken.
-    pub fn new(items: Vec<Text>) -> ColumnNames
-        ensures { result ≡ items.items }
-    {
-        ColumnNames { items }
-    }
-
-    /// The names, in their order.
-    pub fn as_slice(&self) -> &[Text]
-        ensures { result.now ≡ self.now }
-    {
-        self.items.as_slice()
-    }
-}
+pub type ColumnNames = Items<Text>;
 
 /// What an update makes of a column's value.
 #[derive(Debug, Drop)]
@@ -170,44 +109,18 @@ impl Set {
 }
 
 /// The changes of an update, in order.
-#[derive(Debug, Drop)]
-pub struct Sets {
-    items: Vec<Set>,
-}
+pub type Sets = Items<Set>;
 
-impl Model for Sets {
-    ghost use Rattle.std.specs.Prelude.{List};
-    ghost use Rattle.sky_model.specs.declared.stmt.Set.{Set};
-
-    ghost Value = { List Set };
-
-    ghost view = { λ s. s.items.items };
-}
-
-impl Sets {
-    /// The changes of a list. No memory is taken.
-    pub fn new(items: Vec<Set>) -> Sets
-        ensures { result ≡ items.items }
-    {
-        Sets { items }
-    }
-
-    /// The changes, in their order.
-    pub fn as_slice(&self) -> &[Set]
-        ensures { result.now ≡ self.now }
-    {
-        self.items.as_slice()
-    }
-
+impl Items<Set> {
     /// Equal changes.
     pub fn copy(&self, alloc: Global) -> Result<Sets, NoMemory>
         ensures { IfOk result (λ sets. sets ≡ self.now) }
     {
-        let mut items = Vec::with_capacity(alloc, self.items.len())?;
-        for set in &self.items {
+        let mut items = Vec::with_capacity(alloc, self.as_slice().len())?;
+        for set in self.as_slice() {
             items.push(set.copy(alloc)?)?;
         }
-        Ok(Sets { items })
+        Ok(Sets::new(items))
     }
 }
 
