@@ -1,30 +1,14 @@
 -- What stands at a key once something was put at a key, and that entries in order are told apart by what stands where.
-use Rattle.std.proofs.Common.{◌≡◌, ◌≢◌, Bool, true, false, cond, T, List, Some, refl, sym, ◌∙◌, ap, subst}
-use Rattle.std.specs.Ordering.{is_eq, eq_by_cmp}
-use Rattle.std.specs.Cmp.{tied_itself, Equal-is}
+use Rattle.std.proofs.Common.{◌≡◌, Bool, true, false, cond, T, List, Some, refl, sym, subst}
+use Rattle.std.specs.Ordering.{eq_by_cmp}
 use Rattle.std.specs.FinMap.Entries as entry
 use Rattle.sky_val.specs.declared.val.Val.{Val}
 use Rattle.sky_val.specs.Order.{key_cmp}
 use Rattle.sky_val.specs.Entries.{Entries, at, put, is_in_order}
 use Rattle.sky_val.proofs.Orders.{key_cmp-IsTotalOrder, key_cmp-IsAntisymmetric}
 
-pub key_ties-same : (key : List Val) → eq_by_cmp key_cmp key key ≡ true
-key_ties-same key = ap is_eq (tied_itself key_cmp-IsTotalOrder key)
-
-pub key_ties-other : (asked key : List Val) → asked ≢ key → eq_by_cmp key_cmp asked key ≡ false
-key_ties-other asked key other = elim (eq_by_cmp key_cmp asked key) as (λ b. eq_by_cmp key_cmp asked key ≡ b → b ≡ false) [
-  | true ↦ λ tie. absurd (other (key_cmp-IsAntisymmetric asked key ((Equal-is (key_cmp asked key)).0 tie)))
-  | false ↦ λ _. refl
-] refl
-
 pub at-put : {X : Type 0} (asked key : List Val) (item : X) (entries : Entries X) → at asked (put key item entries) ≡ cond (eq_by_cmp key_cmp asked key) (Some item) (at asked entries)
 at-put = entry.find-put key_cmp key_cmp-IsTotalOrder
-
-pub at-put_same : {X : Type 0} (key : List Val) (item : X) (entries : Entries X) → at key (put key item entries) ≡ Some item
-at-put_same key item entries = at-put key key item entries ∙ ap (λ b. cond b (Some item) (at key entries)) (key_ties-same key)
-
-pub at-put_other : {X : Type 0} (asked key : List Val) (item : X) (entries : Entries X) → asked ≢ key → at asked (put key item entries) ≡ at asked entries
-at-put_other asked key item entries other = at-put asked key item entries ∙ ap (λ b. cond b (Some item) (at asked entries)) (key_ties-other asked key other)
 
 from_T : (b : Bool) → T b → b ≡ true
 from_T true h = refl
