@@ -156,7 +156,7 @@ pub(crate) fn quoted_text(alloc: Global, word: &str) -> Result<Option<Text>, All
         return Ok(Some(Text::from_str(alloc, text)?));
     }
     match unquoted(alloc, inside)? {
-        Some(text) => Ok(Some(Text::from_string(text)?)),
+        Some(text) => Ok(Some(Text::from_string(text))),
         None => Ok(None),
     }
 }

@@ -32,7 +32,7 @@ pub fn encode_row(alloc: Global, schema: &Schema, row: &Row) -> Result<Text, NoM
         }
         append_column(column, value, &mut text)?;
     }
-    Ok(Text::from_string(text)?)
+    Ok(Text::from_string(text))
 }
 
 /// Appends a column with its value.

@@ -16,7 +16,7 @@ pub fn event_type(alloc: Global, op: Op, schema: &Schema) -> Result<Text, NoMemo
     let mut text = String::new(alloc);
     text.push_str(op_mark(op))?;
     append_key_names(schema.columns(), &mut text)?;
-    Text::from_string(text)
+    Ok(Text::from_string(text))
 }
 
 /// The letter of what was done, and a colon.

@@ -1,6 +1,5 @@
 -- The bytes of a text and the values of a key or a row, wherever they are.
-use Rattle.std.specs.Prelude.{ℕ, List, [], ◌∷◌}
-use Rattle.std.specs.Arc.{arc_str_bytes}
+use Rattle.std.specs.Prelude.{ℕ, List, [], ◌∷◌, string_bytes}
 use Rattle.sky_val.specs.declared.text.Kept.{Kept}
 use Rattle.sky_val.specs.declared.text.Kept.TheVariants.{InPlace, Apart}
 use Rattle.sky_val.specs.declared.val.Val.{Val}
@@ -11,8 +10,8 @@ use Rattle.sky_val.specs.declared.row.RowValues.TheVariants as row
 
 -- the bytes of a text that is kept so
 abbrev pub kept_bytes : Kept → List ℕ
-kept_bytes (InPlace short) = short
-kept_bytes (Apart long) = arc_str_bytes long
+kept_bytes (InPlace short) = short.bytes
+kept_bytes (Apart long) = string_bytes long
 
 -- the values of a key that is kept so
 abbrev pub key_values : KeyValues → List Val

@@ -15,7 +15,6 @@ mod numbers;
 mod op;
 mod row;
 mod schema;
-mod short_text;
 mod text;
 mod val;
 

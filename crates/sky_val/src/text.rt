@@ -5,13 +5,12 @@ ghost use Rattle.std.specs.Ordering.{nat_cmp, as_partial_cmp};
 ghost use Rattle.std.specs.Hash as fed;
 ghost use Rattle.std.proofs.Common.{rules};
 
-use crate::short_text::ShortText;
+use arrayvec::ArrayString;
 use std::alloc::{AllocError, Global};
 use std::cmp::Ordering;
 use std::fmt;
 use std::hash::{Hash, Hasher};
 use std::marker::Model;
-use std::sync::ArcStr;
 use thiserror::Error;
 
 /// Why bytes are no text.
@@ -23,12 +22,14 @@ pub enum TextFault {
     NoMemory,
 }
 
-/// Where the bytes of a text are: most texts are short, and then take no memory of their own. The copies of a long one
-/// share its bytes.
+/// How many bytes a text may have that is kept in place.
+const MOST_IN_PLACE: usize = 16;
+
+/// Where the bytes of a text are: most texts are short, and then take no memory of their own.
 #[derive(Drop)]
 enum Kept {
-    InPlace(ShortText),
-    Apart(ArcStr),
+    InPlace(ArrayString<MOST_IN_PLACE>),
+    Apart(String),
 }
 
 impl Kept {
@@ -37,18 +38,9 @@ impl Kept {
     fn new(alloc: Global, text: &str) -> Result<Kept, AllocError>
         ensures { IfOk result (λ kept. kept_bytes kept ≡ text.now) }
     {
-        match ShortText::new(text) {
-            Some(short) => Ok(Kept::InPlace(short)),
-            None => Ok(Kept::Apart(ArcStr::from_str(alloc, text)?)),
-        }
-    }
-
-    fn from_string(text: String) -> Result<Kept, AllocError>
-        ensures { IfOk result (λ kept. kept_bytes kept ≡ string_bytes text) }
-    {
-        match ShortText::new(text.as_str()) {
-            Some(short) => Ok(Kept::InPlace(short)),
-            None => Ok(Kept::Apart(ArcStr::from_string(text)?)),
+        match ArrayString::from(text) {
+            Ok(short) => Ok(Kept::InPlace(short)),
+            Err(_) => Ok(Kept::Apart(String::from_str(alloc, text)?)),
         }
     }
 
@@ -61,12 +53,12 @@ impl Kept {
         }
     }
 
-    fn copy(&self) -> Result<Kept, AllocError>
+    fn copy(&self, alloc: Global) -> Result<Kept, AllocError>
         ensures { IfOk result (λ kept. kept_bytes kept ≡ kept_bytes self.now) }
     {
         match self {
-            Kept::InPlace(short) => Ok(Kept::InPlace(short.copy())),
-            Kept::Apart(long) => Ok(Kept::Apart(long.clone()?)),
+            Kept::InPlace(short) => Ok(Kept::InPlace(*short)),
+            Kept::Apart(long) => Ok(Kept::Apart(String::from_str(alloc, long.as_str())?)),
         }
     }
 }
@@ -111,12 +103,13 @@ impl Text {
         }
     }
 
-    /// The text that a string holds. Its bytes are not copied if they are more than stay in place.
-    pub fn from_string(string: String) -> Result<Text, AllocError>
-        ensures { IfOk result (λ text. text ≡ string_bytes string) }
+    /// The text that a string holds. No memory is taken.
+    pub fn from_string(string: String) -> Text
+        ensures { result ≡ string_bytes string }
     {
-        let kept = Kept::from_string(string)?;
-        Ok(Text { kept })
+        Text {
+            kept: Kept::Apart(string),
+        }
     }
 
     /// Its bytes.
@@ -134,11 +127,11 @@ impl Text {
         self.kept.as_str()
     }
 
-    /// An equal text. It takes no memory of its own.
-    pub fn copy(&self, _alloc: Global) -> Result<Text, AllocError>
+    /// An equal text.
+    pub fn copy(&self, alloc: Global) -> Result<Text, AllocError>
         ensures { IfOk result (λ text. text ≡ self.now) }
     {
-        let kept = self.kept.copy()?;
+        let kept = self.kept.copy(alloc)?;
         Ok(Text { kept })
     }
 }

@@ -10,12 +10,12 @@ range_from-inside-requires c = λ _.
     let begins = sym c.as_bytes.ensures.value ∙ first.ensures.cases.0 in
     cut_first first.field-0-0.now first.field-0-1.now c.args.word.now begins (omega (arith, first.field-0-0-test)) c.utf8.word
 
-pub returns-in_ok-from_string-in-Some-2 : goal.returns-in_ok-from_string-in-Some-2
-returns-in_ok-from_string-in-Some-2 c =
+pub returns-in-Some-2 : goal.returns-in-Some-2
+returns-in-Some-2 c =
     let first = c.in-Some-eq39-default in
     let begins = sym c.as_bytes.ensures.value ∙ first.ensures.cases.0 in
     let is = sym c.in_ok-text.ensures ∙ ap (option_map (λ string. string_bytes string)) c.in-Some-2.is in
     let utf8 = IsUtf8-string_bytes c.in-Some-2.text in
     let inside = c.range_from-inside in
     let found = quoted_text_of c.args.word.now first.field-0-1.now inside.result.now _ first.field-0-0.now begins first.field-0-0-test inside.ensures.value is utf8 in
-    ap (λ text. Some text) c.in_ok-from_string-in-Some-2.ensures ∙ sym found
+    ap (λ text. Some text) c.from_string.ensures ∙ sym found

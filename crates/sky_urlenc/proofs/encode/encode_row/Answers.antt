@@ -37,7 +37,7 @@ returns c =
     let row = c.loop-place.place-iterator.iter.b.rest.now in
     let ended : (length columns ≡ 0) ⊎ (length row ≡ 0) = elim c.in-None.ensures.steps.0 [ inl w ↦ inl w.1.0 | inr w ↦ inr w.1.0 ] in
     let left = left-end c.loop-place.place-iterator.count columns row ended in
-    let text = c.in_ok-from_string.ensures ∙ sym (append-nil _) ∙ ap (λ text. string_bytes c.loop-place.text ++ text) (sym left) ∙ c.loop-place.invariant.text in
+    let text = c.from_string.ensures ∙ sym (append-nil _) ∙ ap (λ text. string_bytes c.loop-place.text ++ text) (sym left) ∙ c.loop-place.invariant.text in
     let held = c.loop-place.invariant.held (none_held columns row ended) in
     record {
       text = text;
