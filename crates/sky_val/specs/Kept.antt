@@ -10,7 +10,7 @@ use Rattle.sky_val.specs.declared.row.RowValues.TheVariants as row
 
 -- the bytes of a text that is kept so
 abbrev pub kept_bytes : Kept → List ℕ
-kept_bytes (InPlace short) = short.bytes
+kept_bytes (InPlace short) = short
 kept_bytes (Apart long) = string_bytes long
 
 -- the values of a key that is kept so

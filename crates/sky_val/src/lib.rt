@@ -15,6 +15,7 @@ mod numbers;
 mod op;
 mod row;
 mod schema;
+mod short_text;
 mod text;
 mod val;
 

@@ -5,7 +5,7 @@ ghost use Rattle.std.specs.Ordering.{nat_cmp, as_partial_cmp};
 ghost use Rattle.std.specs.Hash as fed;
 ghost use Rattle.std.proofs.Common.{rules};
 
-use arrayvec::ArrayString;
+use crate::short_text::ShortText;
 use std::alloc::{AllocError, Global};
 use std::cmp::Ordering;
 use std::fmt;
@@ -22,13 +22,10 @@ pub enum TextFault {
     NoMemory,
 }
 
-/// How many bytes a text may have that is kept in place.
-const MOST_IN_PLACE: usize = 16;
-
 /// Where the bytes of a text are: most texts are short, and then take no memory of their own.
 #[derive(Drop)]
 enum Kept {
-    InPlace(ArrayString<MOST_IN_PLACE>),
+    InPlace(ShortText),
     Apart(String),
 }
 
@@ -38,9 +35,9 @@ impl Kept {
     fn new(alloc: Global, text: &str) -> Result<Kept, AllocError>
         ensures { IfOk result (λ kept. kept_bytes kept ≡ text.now) }
     {
-        match ArrayString::from(text) {
-            Ok(short) => Ok(Kept::InPlace(short)),
-            Err(_) => Ok(Kept::Apart(String::from_str(alloc, text)?)),
+        match ShortText::new(text) {
+            Some(short) => Ok(Kept::InPlace(short)),
+            None => Ok(Kept::Apart(String::from_str(alloc, text)?)),
         }
     }
 
@@ -57,7 +54,7 @@ impl Kept {
         ensures { IfOk result (λ kept. kept_bytes kept ≡ kept_bytes self.now) }
     {
         match self {
-            Kept::InPlace(short) => Ok(Kept::InPlace(*short)),
+            Kept::InPlace(short) => Ok(Kept::InPlace(short.copy())),
             Kept::Apart(long) => Ok(Kept::Apart(String::from_str(alloc, long.as_str())?)),
         }
     }
