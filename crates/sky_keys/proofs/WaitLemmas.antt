@@ -1,12 +1,13 @@
 -- Ways back along those that wait for each other: there is at most one from a session, none is longer than all who wait, and stepping along finds it.
-use Rattle.std.proofs.Common.{◌≡◌, ◌≢◌, ℕ, zero, suc, ◌<◌, ◌≤◌, Bool, true, false, cond, not, List, [], ◌∷◌, map, length, Option, Some, None, refl, sym, subst, ◌∙◌, ap, arith, if◌then◌else◌}
+use Rattle.std.proofs.Common.{◌≡◌, ◌≢◌, ℕ, zero, suc, ◌<◌, ◌≤◌, true, false, cond, List, [], ◌∷◌, map, length, Option, Some, None, refl, sym, subst, ◌∙◌, ap, arith}
 use Rattle.std.specs.Prelude.{◌==◌, ◌||◌, option_map, is_some, nat_eq}
 use Rattle.std.specs.Option.{option_and_then}
 use Rattle.std.specs.Cmp.{nat_eq_equiv}
 use Rattle.std.specs.List.{AllByRecursion, list_any, IsDistinct}
 use Rattle.std.specs.Map.{lookup}
-use Rattle.std.proofs.lemmas.Bool.{eqb-true, eq-eqb, or_parts}
+use Rattle.std.proofs.lemmas.Bool.{eqb-true, eq-eqb}
 use Rattle.std.proofs.lemmas.List.{length-map}
+use Rattle.std.proofs.lemmas.Bool.Decides.{nat_tests}
 use Rattle.std.proofs.lemmas.Map.Keys.{IsDistinct-cons}
 use Rattle.std.proofs.lemmas.Map.Steps.{length-le_from_keys}
 use Rattle.sky_keys.specs.Waits.{Holders, Waiting, is_waiting, entry_of, without, other_holder, waits_for, LeadsBack, last, next, along, way_back}
@@ -48,16 +49,8 @@ leads_back whom who (suc most) s way found = on (λ t rest is. leads_back whom w
 pub way_back_is : (whom : ℕ → Option ℕ) (who most s : ℕ) (way : List ℕ) → LeadsBack whom who s way → length way ≤ most → way_back whom who most s ≡ Some way
 way_back_is whom who zero s way (last p) short = absurd (omega arith)
 way_back_is whom who zero s way (next p apart on) short = absurd (omega arith)
-way_back_is whom who (suc most) s way (last p) short =
-    ap (λ o. along who s o (way_back whom who most)) p ∙ ap (λ b. cond b (Some (s ∷ [])) (option_map (λ rest. s ∷ rest) (way_back whom who most who))) (eq-eqb who who refl)
-way_back_is whom who (suc most) s whole (next {t = t} {way = way} p apart on) short =
-    let other : (t == who) ≡ false = elim (t == who) as (λ b. (t == who) ≡ b → b ≡ false) [
-      | true ↦ λ e. absurd (apart (eqb-true t who e))
-      | false ↦ λ _. refl
-    ] refl in
-    let less : length way ≤ most = omega arith in
-    ap (λ o. along who s o (way_back whom who most)) p ∙ ap (λ b. cond b (Some (s ∷ [])) (option_map (λ rest. s ∷ rest) (way_back whom who most t))) other
-    ∙ ap (option_map (λ rest. s ∷ rest)) (way_back_is whom who most t way on less)
+way_back_is whom who (suc most) s way (last p) short = grind (arith, nat_tests, p)
+way_back_is whom who (suc most) s whole (next {t = t} {way = way} p apart on) short = grind (arith, nat_tests, p, apart, way_back_is whom who most t way on)
 
 -- ---- no way is longer than all who wait
 
@@ -81,15 +74,12 @@ not_again {s = s} {way = way} whole tail again =
 
 all_apart : (s : ℕ) (way : List ℕ) → list_any (λ v. s == v) way ≡ false → AllByRecursion (λ v. nat_eq s v ≡ false) way
 all_apart s [] none = tt
-all_apart s (v ∷ way) none = let parts = or_parts (s == v) (list_any (λ v. s == v) way) none in (parts.0, all_apart s way parts.1)
+all_apart s (v ∷ way) none = (grind (arith, none), all_apart s way (grind (arith, none)))
 
 distinct : {whom : ℕ → Option ℕ} {who s : ℕ} {way : List ℕ} → LeadsBack whom who s way → IsDistinct nat_eq way
 unfolding IsDistinct
 distinct {s = s} (last p) = IsDistinct-cons nat_eq s [] tt tt
-distinct {s = s} (next {t = t} {way = way} p apart on) = IsDistinct-cons nat_eq s way (all_apart s way (elim (list_any (λ v. s == v) way) as (λ b. list_any (λ v. s == v) way ≡ b → b ≡ false) [
-  | true ↦ λ again. absurd (not_again (next p apart on) on again)
-  | false ↦ λ _. refl
-] refl)) (distinct on)
+distinct {s = s} (next {t = t} {way = way} p apart on) = IsDistinct-cons nat_eq s way (all_apart s way (grind (arith, not_again (next p apart on) on))) (distinct on)
 
 -- who waits for another is among those that wait
 waits : (holder : Holders) (waiting : List Waiting) (s t : ℕ) → waits_for holder waiting s ≡ Some t → is_some (entry_of s waiting) ≡ true
@@ -100,22 +90,11 @@ waits holder waiting s t goes = of (entry_of s waiting) goes
     of (Some w) goes = refl
 
 flipped : (m n : ℕ) → (m == n) ≡ (n == m)
-flipped m n = elim (n == m) as (λ b. (n == m) ≡ b → (m == n) ≡ b) [
-  | true ↦ λ e. eq-eqb m n (sym (eqb-true n m e))
-  | false ↦ λ e. elim (m == n) as (λ b. (m == n) ≡ b → b ≡ false) [
-    | true ↦ λ h. sym (eq-eqb n m (sym (eqb-true m n h))) ∙ e
-    | false ↦ λ _. refl
-  ] refl
-] refl
+flipped m n = grind (arith, nat_tests)
 
 listed : (s : ℕ) (waiting : List Waiting) → is_some (entry_of s waiting) ≡ true → is_some (lookup (nat_eq s) (map (λ (w : Waiting). (w.who, w)) waiting)) ≡ true
 listed s [] some = absurd (cc some)
-listed s (w ∷ waiting) some =
-    ap (λ b. is_some (cond b (Some w) (lookup (nat_eq s) (map (λ (w : Waiting). (w.who, w)) waiting)))) (flipped s w.who)
-    ∙ elim (w.who == s) as (λ b. is_some (cond b (Some w) (entry_of s waiting)) ≡ true → is_some (cond b (Some w) (lookup (nat_eq s) (map (λ (w : Waiting). (w.who, w)) waiting))) ≡ true) [
-      | true ↦ λ _. refl
-      | false ↦ λ later. listed s waiting later
-    ] some
+listed s (w ∷ waiting) some = grind (arith, some, flipped s w.who, listed s waiting)
 
 all_wait : (holder : Holders) (waiting : List Waiting) {who s : ℕ} {way : List ℕ} → LeadsBack (waits_for holder waiting) who s way → (u : ℕ) → list_any (nat_eq u) way ≡ true → is_some (entry_of u waiting) ≡ true
 all_wait holder waiting {who = who} way u here = let rest = goes_on way u here in first rest.1
@@ -131,9 +110,7 @@ no_longer holder waiting who s way leads =
 
 -- so in as many steps each way is found, and where none is, there is none
 pub no_way : (holder : Holders) (waiting : List Waiting) (who s : ℕ) → way_back (waits_for holder waiting) who (length waiting) s ≡ None → (way : List ℕ) → LeadsBack (waits_for holder waiting) who s way → ⊥
-no_way holder waiting who s none way leads =
-    let both : None ≡ Some way = sym none ∙ way_back_is (waits_for holder waiting) who (length waiting) s way leads (no_longer holder waiting who s way leads) in
-    cc both
+no_way holder waiting who s none way leads = cc (sym none ∙ way_back_is (waits_for holder waiting) who (length waiting) s way leads (no_longer holder waiting who s way leads))
 
 -- and each way is found
 pub way_found : (holder : Holders) (waiting : List Waiting) (who s : ℕ) (way : List ℕ) → LeadsBack (waits_for holder waiting) who s way
@@ -145,33 +122,18 @@ way_found holder waiting who s way leads = way_back_is (waits_for holder waiting
 -- a session waits where it has an entry
 pub is_waiting-entry : (who : ℕ) (waiting : List Waiting) → is_waiting who waiting ≡ is_some (entry_of who waiting)
 is_waiting-entry who [] = refl
-is_waiting-entry who (w ∷ waiting) = elim (w.who == who) as (λ b. (b || is_waiting who waiting) ≡ is_some (cond b (Some w) (entry_of who waiting))) [
-  | true ↦ refl
-  | false ↦ is_waiting-entry who waiting
-]
+is_waiting-entry who (w ∷ waiting) = grind (arith, is_waiting-entry who waiting)
 
 -- and no more once that is taken out
 pub is_waiting-without : (who : ℕ) (waiting : List Waiting) → is_waiting who (without who waiting) ≡ false
 is_waiting-without who [] = refl
-is_waiting-without who (w ∷ waiting) = elim (w.who == who) as (λ b. (w.who == who) ≡ b → is_waiting who (cond (not b) (w ∷ without who waiting) (without who waiting)) ≡ false) [
-  | true ↦ λ _. is_waiting-without who waiting
-  | false ↦ λ other. ap (λ b. b || is_waiting who (without who waiting)) other ∙ is_waiting-without who waiting
-] refl
+is_waiting-without who (w ∷ waiting) = grind (arith, is_waiting-without who waiting)
 
 -- a session that waits has an entry, and without it the list is shorter
 without_most : (who : ℕ) (ws : List Waiting) → length (without who ws) ≤ length ws
 without_most who [] = omega arith
-without_most who (w ∷ ws) = of (w.who == who) (without_most who ws)
-  where
-    of : (b : Bool) → length (without who ws) ≤ length ws → length (if not b then w ∷ without who ws else without who ws) ≤ suc (length ws)
-    of true most = omega (arith, most)
-    of false most = omega (arith, most)
+without_most who (w ∷ ws) = grind (arith, without_most who ws)
 
 pub without_shorter : (who : ℕ) (ws : List Waiting) → is_waiting who ws ≡ true → length (without who ws) < length ws
 without_shorter who [] there = absurd (cc)
-without_shorter who (w ∷ ws) there = of (w.who == who) there (without_shorter who ws)
-  where
-    of : (b : Bool) → (b || is_waiting who ws) ≡ true → (is_waiting who ws ≡ true → length (without who ws) < length ws)
-        → length (if not b then w ∷ without who ws else without who ws) < suc (length ws)
-    of true e ih = omega (arith, without_most who ws)
-    of false e ih = omega (arith, ih e)
+without_shorter who (w ∷ ws) there = grind (arith, there, without_most who ws, without_shorter who ws)

@@ -1,15 +1,15 @@
 -- A transaction's versions go, key by key.
-use Rattle.std.proofs.Common.{◌≡◌, ℕ, Bool, true, false, cond, not, List, [], ◌∷◌, Ordering, Less, Equal, Greater, Option, Some, None, nat_lt, refl, sym, subst, ap, ◌∙◌}
+use Rattle.std.proofs.Common.{arith, ◌≡◌, ℕ, Bool, true, false, cond, not, List, [], ◌∷◌, Ordering, Option, Some, None, nat_lt, refl, subst, ap, ◌∙◌}
 use Rattle.std.specs.Prelude.{◌==◌, ◌||◌, ◌↔◌, ◌≢◌, IsTrue}
 use Rattle.std.specs.List.{list_any}
 use Rattle.std.specs.Option.{option_map_or}
-use Rattle.std.specs.Ordering.{nat_cmp, is_lt, is_eq, eq_by_cmp, ordering_reverse}
+use Rattle.std.specs.Ordering.{nat_cmp, is_lt, is_eq, eq_by_cmp}
 use Rattle.std.specs.Map.{set_value, remove_entry}
 use Rattle.std.specs.Map.Calls.{RetainsPairs}
 use Rattle.std.specs.BTreeMap.{is_at, get}
 use Rattle.std.specs.BTreeSet.{BTreeSet, contains}
 use Rattle.std.specs.FinMap.Entries.{below_all}
-use Rattle.std.proofs.lemmas.Bool.{and_parts, eqb-true, eq-eqb}
+use Rattle.std.proofs.lemmas.Bool.{and_parts, eq-eqb}
 use Rattle.sky_val.specs.declared.val.Val.{Val}
 use Rattle.sky_val.specs.Order.{key_cmp}
 use Rattle.sky_val.specs.Entries.{Entries, at, is_in_order}
@@ -22,40 +22,23 @@ use Rattle.sky_rows.specs.Table.{forgotten_at}
 use Rattle.sky_rows.specs.declared.written.Written.{Written}
 use Rattle.sky_rows.specs.Written.{listed, wrote, IsKept, AllKept}
 use Rattle.sky_rows.proofs.TableLemmas.{all_kept_more}
+use Rattle.std.proofs.lemmas.Bool.Decides.{nat_tests}
 
 -- ---- at one key
 
 pub forgotten_at-none : (t : ℕ) (k : List Val) (es : Entries (List Version)) → at k es ≡ None → forgotten_at t k es ≡ es
 forgotten_at-none t k [] none = refl
-forgotten_at-none t k (e ∷ es) none =
-    elim (eq_by_cmp key_cmp k e.0) as (λ b. cond b (Some e.1) (at k es) ≡ None → cond b (and_entry e.0 (unless_empty (without t e.1)) es) (e ∷ forgotten_at t k es) ≡ e ∷ es) [
-      | true ↦ λ here. absurd (cc here)
-      | false ↦ λ here. ap (λ rest. e ∷ rest) (forgotten_at-none t k es here)
-    ] none
+forgotten_at-none t k (e ∷ es) none = grind (arith, none, forgotten_at-none t k es)
 
 -- what is left is set where there is some
 pub forgotten_at-set : (t : ℕ) (k : List Val) (es : Entries (List Version)) (vs new : List Version) → at k es ≡ Some vs → new ≡ without t vs → unless_empty new ≡ Some new → set_value (is_at (key_cmp k)) es new ≡ forgotten_at t k es
 forgotten_at-set t k [] vs new found is some = absurd (cc found)
-forgotten_at-set t k (e ∷ es) vs new found is some =
-    elim (eq_by_cmp key_cmp k e.0) as (λ b. cond b (Some e.1) (at k es) ≡ Some vs → cond b ((e.0, new) ∷ es) (e ∷ set_value (is_at (key_cmp k)) es new) ≡ cond b (and_entry e.0 (unless_empty (without t e.1)) es) (e ∷ forgotten_at t k es)) [
-      | true ↦ λ here. let same : e.1 ≡ vs = cc here in
-          sym (ap (λ o. and_entry e.0 o es) (ap (λ vs. unless_empty (without t vs)) same ∙ ap unless_empty (sym is) ∙ some))
-      | false ↦ λ here. ap (λ rest. e ∷ rest) (forgotten_at-set t k es vs new here is some)
-    ] found
+forgotten_at-set t k (e ∷ es) vs new found is some = grind (arith, found, is, some, forgotten_at-set t k es vs new)
 
 -- or the key goes
 pub forgotten_at-remove : (t : ℕ) (k : List Val) (es : Entries (List Version)) (vs new : List Version) → at k es ≡ Some vs → new ≡ without t vs → new ≡ [] → remove_entry (is_at (key_cmp k)) (set_value (is_at (key_cmp k)) es new) ≡ forgotten_at t k es
 forgotten_at-remove t k [] vs new found is none = absurd (cc found)
-forgotten_at-remove t k (e ∷ es) vs new found is none =
-    elim (eq_by_cmp key_cmp k e.0) as (λ b. eq_by_cmp key_cmp k e.0 ≡ b → cond b (Some e.1) (at k es) ≡ Some vs
-    → remove_entry (is_at (key_cmp k)) (cond b ((e.0, new) ∷ es) (e ∷ set_value (is_at (key_cmp k)) es new)) ≡ cond b (and_entry e.0 (unless_empty (without t e.1)) es) (e ∷ forgotten_at t k es)) [
-      | true ↦ λ tie here. let same : e.1 ≡ vs = cc here in
-          ap (λ b. cond b es ((e.0, new) ∷ remove_entry (is_at (key_cmp k)) es)) tie
-          ∙ sym (ap (λ o. and_entry e.0 o es) (ap (λ vs. unless_empty (without t vs)) same ∙ ap unless_empty (sym is ∙ none)))
-      | false ↦ λ apart here.
-          ap (λ b. cond b (set_value (is_at (key_cmp k)) es new) (e ∷ remove_entry (is_at (key_cmp k)) (set_value (is_at (key_cmp k)) es new))) apart
-          ∙ ap (λ rest. e ∷ rest) (forgotten_at-remove t k es vs new here is none)
-    ] refl found
+forgotten_at-remove t k (e ∷ es) vs new found is none = grind (arith, found, is, none, forgotten_at-remove t k es vs new)
 
 some_left : (vs : List Version) → (vs ≡ [] → ⊥) → unless_empty vs ≡ Some vs
 some_left [] h = absurd (h refl)
@@ -67,7 +50,7 @@ forgotten_at-left t k es vs new found is some = forgotten_at-set t k es vs new f
 -- ---- at one key after another
 
 without-without : (t : ℕ) (vs : List Version) → without t (without t vs) ≡ without t vs
-without-without t vs = without-none t (without t vs) (version_of-without t t vs ∙ ap (λ b. cond b None (version_of t vs)) (eq-eqb t t refl))
+without-without t vs = without-none t (without t vs) (grind (arith, nat_tests, version_of-without t t vs))
 
 forgotten-entry : (t : ℕ) (k : List Val) (vs : List Version) (es : Entries (List Version)) → without t vs ≡ vs → forgotten t (and_entry k (unless_empty vs) es) ≡ and_entry k (unless_empty vs) (forgotten t es)
 forgotten-entry t k [] es gone = refl
@@ -76,19 +59,12 @@ forgotten-entry t k (v ∷ vs) es gone = ap (λ vs. and_entry k (unless_empty vs
 -- what is done at one key first is no more to be done
 pub forgotten-forgotten_at : (t : ℕ) (k : List Val) (es : Entries (List Version)) → forgotten t (forgotten_at t k es) ≡ forgotten t es
 forgotten-forgotten_at t k [] = refl
-forgotten-forgotten_at t k (e ∷ es) =
-    elim (eq_by_cmp key_cmp k e.0) as (λ b. forgotten t (cond b (and_entry e.0 (unless_empty (without t e.1)) es) (e ∷ forgotten_at t k es)) ≡ forgotten t (e ∷ es)) [
-      | true ↦ forgotten-entry t e.0 (without t e.1) es (without-without t e.1)
-      | false ↦ ap (and_entry e.0 (unless_empty (without t e.1))) (forgotten-forgotten_at t k es)
-    ]
+forgotten-forgotten_at t k (e ∷ es) = grind (arith, forgotten-entry t e.0 (without t e.1) es (without-without t e.1), forgotten-forgotten_at t k es)
 
 -- where a transaction wrote nothing, nothing goes
 pub forgotten-none : (w : ℕ → List Val → Bool) (t : ℕ) (es : Entries (List Version)) → ((q : List Val) → w t q ≡ false) → AllKept w es → forgotten t es ≡ es
 forgotten-none w t [] none kept = refl
-forgotten-none w t (e ∷ es) none kept =
-    ap (λ vs. and_entry e.0 (unless_empty vs) (forgotten t es)) (without-none t e.1 (kept.0.listed t (none e.0)))
-    ∙ ap (λ o. and_entry e.0 o (forgotten t es)) kept.0.some
-    ∙ ap (λ rest. e ∷ rest) (forgotten-none w t es none kept.1)
+forgotten-none w t (e ∷ es) none kept = grind (arith, without-none t e.1 (kept.0.listed t (none e.0)), kept.0.some, forgotten-none w t es none kept.1)
 
 -- ---- at every key
 
@@ -115,24 +91,17 @@ forgotten-retained T t f called (e ∷ es) kept r =
 abbrev pub may_have : ℕ → List (List Val) → ℕ → List Val → Bool
 may_have t keys u q = not (u == t) || list_any (is_at (key_cmp q)) keys
 
-reversed_tie : (o : Ordering) → is_eq (ordering_reverse o) ≡ is_eq o
-reversed_tie Less = refl
-reversed_tie Equal = refl
-reversed_tie Greater = refl
-
 tie_back : (k q : List Val) → is_eq (key_cmp q k) ≡ is_eq (key_cmp k q)
-tie_back k q = ap is_eq (key_cmp-IsTotalOrder.antisymm q k) ∙ reversed_tie (key_cmp k q)
+tie_back k q = grind (arith, key_cmp-IsTotalOrder.antisymm q k)
 
 no_tie : (o : Ordering) → is_lt o ≡ true → is_eq o ≡ false
-no_tie Less lt = refl
-no_tie Equal lt = absurd (cc lt)
-no_tie Greater lt = absurd (cc lt)
+no_tie o lt = grind (arith, lt)
 
 -- another key than the first that is left is among the others, if it is left
 kept_other : (t : ℕ) (k q : List Val) (keys : List (List Val)) (vs : List Version) → is_eq (key_cmp k q) ≡ false → IsKept (may_have t (k ∷ keys)) q vs → IsKept (may_have t keys) q vs
 kept_other t k q keys vs apart kept = record {
   some = kept.some;
-  listed = λ u none. kept.listed u (ap (λ b. not (u == t) || (b || list_any (is_at (key_cmp q)) keys)) (tie_back k q ∙ apart) ∙ none);
+  listed = λ u none. kept.listed u (grind (arith, none, apart, tie_back k q));
 }
 
 kept_above : (t : ℕ) (k : List Val) (keys : List (List Val)) (es : Entries (List Version)) → below_all key_cmp k es ≡ true → AllKept (may_have t (k ∷ keys)) es → AllKept (may_have t keys) es
@@ -142,8 +111,7 @@ kept_above t k keys (e ∷ es) below kept =
     (kept_other t k e.0 keys e.1 (no_tie (key_cmp k e.0) parts.0) kept.0, kept_above t k keys es parts.1 kept.1)
 
 not_asked : (b c : Bool) → (not b || c) ≡ false → b ≡ true
-not_asked true c e = refl
-not_asked false c e = absurd (cc e)
+not_asked b c e = grind (arith, e)
 
 -- what is left at the key has none of the transaction
 kept_left : (t : ℕ) (k : List Val) (keys : List (List Val)) (vs new : List Version) (es : Entries (List Version)) → new ≡ without t vs → AllKept (may_have t keys) es → AllKept (may_have t keys) (and_entry k (unless_empty new) es)
@@ -151,7 +119,7 @@ kept_left t k keys vs [] es is kept = kept
 kept_left t k keys vs (v ∷ new) es is kept = (
   record {
     some = refl;
-    listed = λ u none. ap (version_of u) is ∙ version_of-without u t vs ∙ ap (λ b. cond b None (version_of u vs)) (not_asked (u == t) (list_any (is_at (key_cmp k)) keys) none);
+    listed = λ u none. grind (arith, none, is, version_of-without u t vs);
   },
   kept,
 )
@@ -171,21 +139,12 @@ forgotten-all t es kept = forgotten-none (may_have t []) t es (λ q. ap (λ b. n
 -- ---- the index
 
 -- of a transaction of which the index tells, it tells the keys that are listed
-told : (b : Bool) → not b ≡ true → b ≡ false
-told true e = absurd (cc e)
-told false e = refl
-
 pub wrote-listed : (index : Written) (t : ℕ) (q : List Val) (found : Option (BTreeSet (List Val))) → not (nat_lt t index.from) ≡ true → found ≡ get nat_cmp index.keys t → wrote index t q ≡ option_map_or (λ of_it. contains key_cmp of_it q) found false
-wrote-listed index t q found tells is = ap (λ b. b || listed index.keys t q) (told (nat_lt t index.from) tells) ∙ ap (λ o. option_map_or (λ of_it. contains key_cmp of_it q) o false) (sym is)
+wrote-listed index t q found tells is = grind (arith, tells, is)
 
 -- what the index tells of all transactions, it tells of the one whose versions are to go
 pub may_have-wrote : (w : ℕ → List Val → Bool) (t : ℕ) (keys : List (List Val)) (es : Entries (List Version)) → ((q : List Val) → w t q ≡ list_any (is_at (key_cmp q)) keys) → AllKept w es → AllKept (may_have t keys) es
-may_have-wrote w t keys es same kept = all_kept_more w (may_have t keys) es (λ u q none. of u q (eqb-true u t (not_asked (u == t) (list_any (is_at (key_cmp q)) keys) none)) none) kept
-  where
-    of : (u : ℕ) (q : List Val) → u ≡ t → may_have t keys u q ≡ false → w u q ≡ false
-    of u q is none =
-        let asked : (u == t) ≡ true = eq-eqb u t is in
-        ap (λ v. w v q) is ∙ same q ∙ sym (ap (λ b. not b || list_any (is_at (key_cmp q)) keys) asked) ∙ none
+may_have-wrote w t keys es same kept = all_kept_more w (may_have t keys) es (λ u q none. grind (arith, nat_tests, none, same q)) kept
 
 kept_entry : (w : ℕ → List Val → Bool) (k : List Val) (vs : List Version) (es : Entries (List Version)) → ((u : ℕ) → w u k ≡ false → version_of u vs ≡ None) → AllKept w es → AllKept w (and_entry k (unless_empty vs) es)
 kept_entry w k [] es listed kept = kept
@@ -195,17 +154,9 @@ kept_entry w k (v ∷ vs) es listed kept = (record { some = refl; listed = liste
 pub kept_forgotten : (v w : ℕ → List Val → Bool) (t : ℕ) (es : Entries (List Version)) → ((u : ℕ) (q : List Val) → (u == t) ≡ false → w u q ≡ v u q) → AllKept v es → AllKept w (forgotten t es)
 kept_forgotten v w t [] same kept = tt
 kept_forgotten v w t (e ∷ es) same kept =
-    kept_entry w e.0 (without t e.1) (forgotten t es) (λ u none. version_of-without u t e.1
-    ∙ elim (u == t) as (λ b. (u == t) ≡ b → cond b None (version_of u e.1) ≡ None) [
-      | true ↦ λ _. refl
-      | false ↦ λ other. kept.0.listed u (sym (same u e.0 other) ∙ none)
-    ] refl)
+    kept_entry w e.0 (without t e.1) (forgotten t es) (λ u none. grind (arith, none, version_of-without u t e.1, same u e.0, kept.0.listed u))
     (kept_forgotten v w t es same kept.1)
 
 -- or had none
 pub kept_unlisted : (v w : ℕ → List Val → Bool) (t : ℕ) (es : Entries (List Version)) → ((u : ℕ) (q : List Val) → (u == t) ≡ false → w u q ≡ v u q) → ((q : List Val) → v t q ≡ false) → AllKept v es → AllKept w es
-kept_unlisted v w t es same none kept = all_kept_more v w es (λ u q unlisted.
-    elim (u == t) as (λ b. (u == t) ≡ b → v u q ≡ false) [
-      | true ↦ λ is. ap (λ x. v x q) (eqb-true u t is) ∙ none q
-      | false ↦ λ other. sym (same u q other) ∙ unlisted
-    ] refl) kept
+kept_unlisted v w t es same none kept = all_kept_more v w es (λ u q unlisted. grind (arith, nat_tests, unlisted, same u q, none q)) kept

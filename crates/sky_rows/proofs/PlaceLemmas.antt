@@ -1,13 +1,14 @@
 -- The place of a transaction's version, where each has at most one.
-use Rattle.std.proofs.Common.{◌≡◌, ℕ, zero, suc, Bool, true, false, cond, List, [], ◌∷◌, ◌++◌, Option, None, Some, get_or, set, refl, sym, subst, ap, ◌∙◌}
+use Rattle.std.proofs.Common.{arith, ◌≡◌, ℕ, zero, suc, true, false, cond, List, [], ◌∷◌, ◌++◌, Option, None, Some, get_or, set, refl, sym, subst, ap, ◌∙◌}
 use Rattle.std.specs.Prelude.{◌==◌, slice_get, option_map}
 use Rattle.std.specs.List.{remove}
-use Rattle.std.proofs.lemmas.Bool.{eqb-true, eqb-false, eq-eqb, ne_eqb}
+use Rattle.std.proofs.lemmas.Bool.{eqb-true}
 use Rattle.sky_val.specs.declared.val.Val.{Val}
 use Rattle.sky_keys.specs.declared.version.Version.{Version}
 use Rattle.sky_keys.specs.Versions.{with_version, without, version_of}
 use Rattle.sky_keys.proofs.VersionLemmas.{left, version_of-with, version_of-without, with_version-new, without-none}
 use Rattle.sky_rows.specs.Versions.{IsOneOfEach}
+use Rattle.std.proofs.lemmas.Bool.Decides.{nat_tests}
 
 -- the version at the place is the transaction's
 abbrev pub IsPlaceOf : ℕ → List Version → ℕ → Type 0
@@ -19,45 +20,29 @@ some_is t u e = cc e
 -- where it has none, no place is its version's
 no_place : (t : ℕ) (vs : List Version) (place : ℕ) → version_of t vs ≡ None → IsPlaceOf t vs place → ⊥
 no_place t [] place none at = cc at
-no_place t (v ∷ vs) zero none at =
-    let here : (t == v.txid) ≡ true = eq-eqb t v.txid (sym (some_is v.txid t at)) in
-    let found : Some v ≡ None = sym (ap (λ b. cond b (Some v) (version_of t vs)) here) ∙ none in
-    cc found
-no_place t (v ∷ vs) (suc place) none at =
-    elim (t == v.txid) as (λ b. cond b (Some v) (version_of t vs) ≡ None → ⊥) [
-      | true ↦ λ e. cc e
-      | false ↦ λ e. no_place t vs place e at
-    ] none
+no_place t (v ∷ vs) zero none at = grind (arith, nat_tests, none, at)
+no_place t (v ∷ vs) (suc place) none at = grind (arith, none, no_place t vs place)
 
 -- a version that stands later is of another transaction than the first
 other_first : (t : ℕ) (v : Version) (vs : List Version) (place : ℕ) → version_of v.txid vs ≡ None → IsPlaceOf t vs place → (t == v.txid) ≡ false
-other_first t v vs place none at = ne_eqb t v.txid (λ e. no_place t vs place (ap (λ u. version_of u vs) e ∙ none) at)
-
-own_first : (t : ℕ) (v : Version) → Some v.txid ≡ Some t → (t == v.txid) ≡ true
-own_first t v e = eq-eqb t v.txid (sym (some_is v.txid t e))
+other_first t v vs place none at = grind (arith, nat_tests, none, no_place t vs place)
 
 version_of-place : (t : ℕ) (vs : List Version) (place : ℕ) (v : Version) → IsOneOfEach vs → IsPlaceOf t vs place → v ≡ get_or vs place v → Some v ≡ version_of t vs
 version_of-place t [] place v one at is = absurd (cc at)
-version_of-place t (w ∷ vs) zero v one at is = ap Some is ∙ sym (ap (λ b. cond b (Some w) (version_of t vs)) (own_first t w at))
-version_of-place t (w ∷ vs) (suc place) v one at is = version_of-place t vs place v one.1 at is ∙ sym (ap (λ b. cond b (Some w) (version_of t vs)) (other_first t w vs place one.0 at))
+version_of-place t (w ∷ vs) zero v one at is = grind (arith, nat_tests, at)
+version_of-place t (w ∷ vs) (suc place) v one at is = grind (arith, version_of-place t vs place v one.1 at is, other_first t w vs place one.0 at)
 
 -- a write replaces what stands at the place
 with_version-place : (t : ℕ) (row : Option (List Val)) (vs : List Version) (place : ℕ) → IsOneOfEach vs → IsPlaceOf t vs place → set vs place (left t row) ≡ with_version t row vs
 with_version-place t row [] place one at = absurd (cc at)
-with_version-place t row (w ∷ vs) zero one at = sym (ap (λ b. cond b (left t row ∷ vs) (w ∷ with_version t row vs)) (own_first t w at))
-with_version-place t row (w ∷ vs) (suc place) one at =
-    ap (λ rest. w ∷ rest) (with_version-place t row vs place one.1 at)
-    ∙ sym (ap (λ b. cond b (left t row ∷ vs) (w ∷ with_version t row vs)) (other_first t w vs place one.0 at))
+with_version-place t row (w ∷ vs) zero one at = grind (arith, nat_tests, at)
+with_version-place t row (w ∷ vs) (suc place) one at = grind (arith, with_version-place t row vs place one.1 at, other_first t w vs place one.0 at)
 
 -- what goes is what stands at the place
 without-place : (t : ℕ) (vs : List Version) (place : ℕ) → IsOneOfEach vs → IsPlaceOf t vs place → remove vs place ≡ without t vs
 without-place t [] place one at = absurd (cc at)
-without-place t (w ∷ vs) zero one at =
-    sym (without-none t vs (ap (λ u. version_of u vs) (sym (some_is w.txid t at)) ∙ one.0))
-    ∙ sym (ap (λ b. cond b (without t vs) (w ∷ without t vs)) (own_first t w at))
-without-place t (w ∷ vs) (suc place) one at =
-    ap (λ rest. w ∷ rest) (without-place t vs place one.1 at)
-    ∙ sym (ap (λ b. cond b (without t vs) (w ∷ without t vs)) (other_first t w vs place one.0 at))
+without-place t (w ∷ vs) zero one at = grind (arith, nat_tests, at, one.0, without-none t vs)
+without-place t (w ∷ vs) (suc place) one at = grind (arith, without-place t vs place one.1 at, other_first t w vs place one.0 at)
 
 -- each has at most one after a write, and after versions went
 
@@ -67,20 +52,15 @@ one-with t row (v ∷ vs) one =
     elim (t == v.txid) as (λ b. (t == v.txid) ≡ b → IsOneOfEach (cond b (left t row ∷ vs) (v ∷ with_version t row vs))) [
       | true ↦ λ e. (ap (λ u. version_of u vs) (eqb-true t v.txid e) ∙ one.0, one.1)
       | false ↦ λ e.
-          let apart : (v.txid == t) ≡ false = ne_eqb v.txid t (λ is. eqb-false t v.txid e (sym is)) in
-          (version_of-with v.txid t row vs ∙ ap (λ b. cond b (Some (left t row)) (version_of v.txid vs)) apart ∙ one.0, one-with t row vs one.1)
+          (grind (arith, nat_tests, e, one.0, version_of-with v.txid t row vs), one-with t row vs one.1)
     ] refl
-
-none_either : (b : Bool) (o : Option Version) → o ≡ None → cond b None o ≡ None
-none_either true o e = refl
-none_either false o e = e
 
 one-without : (t : ℕ) (vs : List Version) → IsOneOfEach vs → IsOneOfEach (without t vs)
 one-without t [] one = tt
 one-without t (v ∷ vs) one =
     elim (t == v.txid) as (λ b. IsOneOfEach (cond b (without t vs) (v ∷ without t vs))) [
       | true ↦ one-without t vs one.1
-      | false ↦ (version_of-without v.txid t vs ∙ none_either (v.txid == t) (version_of v.txid vs) one.0, one-without t vs one.1)
+      | false ↦ (grind (arith, one.0, version_of-without v.txid t vs), one-without t vs one.1)
     ]
 
 -- the same, of the code's list, which is what the versions are seen as

@@ -1,6 +1,8 @@
 -- Steps through the entries of a table, up to as many rows as are wanted.
-use Rattle.std.proofs.Common.{◌≡◌, ◌≢◌, ℕ, zero, suc, ◌+◌, ◌≤◌, Bool, true, false, cond, List, [], ◌∷◌, ◌++◌, length, map, take, Option, Some, None, refl, sym, subst, ap, ◌∙◌, arith, append_assoc, append-nil, length-append}
-use Rattle.std.specs.Prelude.{◌&&◌, filter}
+use Rattle.std.proofs.Common.{◌≡◌, ◌≢◌, ℕ, ◌+◌, ◌≤◌, Bool, true, false, cond, List, [], ◌∷◌, ◌++◌, length, map, take, Option, Some, None, refl, sym, subst, ap, ◌∙◌, arith, append_assoc, append-nil, length-append}
+use Rattle.std.proofs.lemmas.List.{take_all}
+use Rattle.std.proofs.Math.Seq.{take-append_seam}
+use Rattle.std.specs.Prelude.{filter}
 use Rattle.std.specs.Option.{option_or}
 use Rattle.std.specs.Ordering.{is_lt}
 use Rattle.std.specs.declared.collections.Bound.{Bound}
@@ -30,17 +32,11 @@ abbrev pub start_of : Option (List Val) → Bound (List Val)
 start_of None = Unbounded
 start_of (Some key) = Excluded key
 
-filter_all : {X : Type 0} (es : Entries X) → filter (λ e. true) es ≡ es
-filter_all [] = refl
-filter_all (e ∷ es) = ap (λ rest. e ∷ rest) (filter_all es)
-
-and_true : (b : Bool) → (b && true) ≡ b
-and_true true = refl
-and_true false = refl
-
 between-above : {X : Type 0} (after : Option (List Val)) (es : Entries X) → entries_between key_cmp (start_of after) Unbounded es ≡ above after es
-between-above None es = filter_all es
-between-above (Some key) es = λ i. filter (λ e. and_true (is_lt (key_cmp key e.0)) i) es
+between-above None [] = refl
+between-above None (e ∷ es) = ap (λ rest. e ∷ rest) (between-above None es)
+between-above (Some key) [] = refl
+between-above (Some key) (e ∷ es) = grind (arith, between-above (Some key) es)
 
 kept_filter : (w : ℕ → List Val → Bool) (p : List Val × List Version → Bool) (es : Entries (List Version)) → AllKept w es → AllKept w (filter p es)
 kept_filter w p [] kept = tt
@@ -92,24 +88,11 @@ module _ (w : ℕ → List Val → Bool) (s : SnapshotView) (own : Option ℕ) (
       ∙ ap (λ es. found ++ rows_of s own es) (sym first) ∙ way.whole in
       record { whole = whole; few = way.few; kept = kept.1 }
 
--- what stands in front, if it is as long
-take-front : {X : Type 0} (n : ℕ) (xs ys : List X) → length xs ≡ n → xs ≡ take n (xs ++ ys)
-take-front zero [] ys e = refl
-take-front zero (x ∷ xs) ys e = absurd (omega arith)
-take-front (suc n) [] ys e = absurd (omega arith)
-take-front (suc n) (x ∷ xs) ys e = ap (λ rest. x ∷ rest) (take-front n xs ys (omega arith))
-
-take-all : {X : Type 0} (n : ℕ) (xs : List X) → length xs ≤ n → xs ≡ take n xs
-take-all zero [] e = refl
-take-all (suc n) [] e = refl
-take-all zero (x ∷ xs) e = absurd (omega arith)
-take-all (suc n) (x ∷ xs) e = ap (λ rest. x ∷ rest) (take-all n xs (omega arith))
-
 module _ (w : ℕ → List Val → Bool) (s : SnapshotView) (own : Option ℕ) (most : ℕ) (all rest : Entries (List Version)) (found : List (List Val)) where
   pub found_all : IsOnTheWay w s own most all rest found → rest ≡ [] → found ≡ take most (rows_of s own all)
   found_all way over =
       let whole : found ≡ rows_of s own all = sym (append-nil found) ∙ ap (λ es. found ++ rows_of s own es) (sym over) ∙ way.whole in
-      take-all most found way.few ∙ ap (take most) whole
+      sym (take_all most found way.few) ∙ ap (take most) whole
 
   pub found_most : IsOnTheWay w s own most all rest found → length found ≡ most → found ≡ take most (rows_of s own all)
-  found_most way full = take-front most found (rows_of s own rest) full ∙ ap (take most) way.whole
+  found_most way full = sym (take-append_seam found (rows_of s own rest)) ∙ ap (λ n. take n (found ++ rows_of s own rest)) full ∙ ap (take most) way.whole

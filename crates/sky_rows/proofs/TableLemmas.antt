@@ -1,14 +1,13 @@
 -- The entries of a table, as the map that holds them and as its model tell of them.
-use Rattle.std.proofs.Common.{◌≡◌, ℕ, Bool, true, false, cond, List, [], ◌∷◌, Ordering, Less, Equal, Greater, Option, Some, None, Result, Ok, Err, refl, sym, subst, ap, ◌∙◌}
-use Rattle.std.specs.Prelude.{◌==◌, unwrap_or, OnOk, OnErr}
+use Rattle.std.proofs.Common.{arith, ◌≡◌, ℕ, Bool, true, false, cond, List, [], ◌∷◌, Ordering, Less, Equal, Greater, Option, Some, None, Result, Ok, Err, refl, sym, subst, ap, ◌∙◌}
+use Rattle.std.specs.Prelude.{OnOk, OnErr}
 use Rattle.std.specs.List.{AllByRecursion}
 use Rattle.std.specs.Option.{option_or}
 use Rattle.std.specs.List.Sorted.{IsStrictlySortedBy}
-use Rattle.std.specs.Ordering.{is_lt, is_eq, eq_by_cmp, match_ordering}
+use Rattle.std.specs.Ordering.{is_lt, is_eq}
 use Rattle.std.specs.Map.{keys_of, lookup, set_value}
 use Rattle.std.specs.BTreeMap.{is_at, insert_entry}
 use Rattle.std.specs.FinMap.Entries.{below_all, by_order}
-use Rattle.std.proofs.lemmas.Bool.{and_parts, and_from, eqb-true, both_ways}
 use Rattle.std.proofs.lemmas.Map.Keys.{sorted_head, sorted_tail}
 use Rattle.sky_val.specs.declared.val.Val.{Val}
 use Rattle.sky_val.specs.Order.{key_cmp}
@@ -17,9 +16,10 @@ use Rattle.sky_val.proofs.Orders.{key_cmp-IsTotalOrder}
 use Rattle.sky_keys.specs.declared.version.Version.{Version}
 use Rattle.sky_txid.specs.Snapshot.{SnapshotView, sees}
 use Rattle.sky_keys.specs.Versions.{with_version, version_of, newest_by, own_version, row_of, read, versions_at, written, unless_empty}
-use Rattle.sky_keys.proofs.VersionLemmas.{left, version_of-with}
+use Rattle.sky_keys.proofs.VersionLemmas.{version_of-with}
 use Rattle.sky_keys.proofs.EntryLemmas.{key_ties-is, at-below}
 use Rattle.sky_rows.specs.Written.{IsKept, AllKept, writer}
+use Rattle.std.proofs.lemmas.Bool.Decides.{nat_tests}
 
 -- ---- std's words for a map's entries, and those of `Entries`
 
@@ -30,67 +30,42 @@ lookup-at q (e ∷ es) = ap (cond (is_eq (key_cmp q e.0)) (Some e.1)) (lookup-at
 
 insert_entry-put : {X : Type 0} (k : List Val) (x : X) (es : Entries X) → insert_entry key_cmp es k x ≡ put k x es
 insert_entry-put k x [] = refl
-insert_entry-put k x (e ∷ es) = elim (key_cmp k e.0) as (λ r. match_ordering r ((k, x) ∷ e ∷ es) ((e.0, x) ∷ es) (e ∷ insert_entry key_cmp es k x) ≡ by_order r ((k, x) ∷ e ∷ es) ((e.0, x) ∷ es) (e ∷ put k x es)) [
-  | Less ↦ refl
-  | Equal ↦ refl
-  | Greater ↦ ap (λ rest. e ∷ rest) (insert_entry-put k x es)
-]
+insert_entry-put k x (e ∷ es) = grind (arith, insert_entry-put k x es)
 
 below_all-keys : {X : Type 0} (k : List Val) (es : Entries X) → AllByRecursion (λ q. key_cmp k q ≡ Less) (keys_of es) → below_all key_cmp k es ≡ true
 below_all-keys k [] h = refl
-below_all-keys k (e ∷ es) h = and_from (is_lt (key_cmp k e.0)) (below_all key_cmp k es) (ap is_lt h.0) (below_all-keys k es h.1)
+below_all-keys k (e ∷ es) h = grind (arith, h.0, below_all-keys k es h.1)
 
 pub in_order-sorted : {X : Type 0} (es : Entries X) → IsStrictlySortedBy key_cmp (keys_of es) → is_in_order es ≡ true
 in_order-sorted [] h = refl
-in_order-sorted (e ∷ es) h =
-    and_from (below_all key_cmp e.0 es) (is_in_order es) (below_all-keys e.0 es (sorted_head key_cmp e.0 (keys_of es) h)) (in_order-sorted es (sorted_tail key_cmp e.0 (keys_of es) h))
+in_order-sorted (e ∷ es) h = grind (arith, below_all-keys e.0 es (sorted_head key_cmp e.0 (keys_of es) h), in_order-sorted es (sorted_tail key_cmp e.0 (keys_of es) h))
 
 less : (o : Ordering) → is_lt o ≡ true → o ≡ Less
-less Less e = refl
-less Equal e = absurd (cc e)
-less Greater e = absurd (cc e)
+less o e = grind (arith, e)
 
 below_all-less : {X : Type 0} (k q : List Val) (es : Entries X) → key_cmp k q ≡ Less → below_all key_cmp q es ≡ true → below_all key_cmp k es ≡ true
 below_all-less k q [] lt h = refl
-below_all-less k q (e ∷ es) lt h =
-    let parts = and_parts (is_lt (key_cmp q e.0)) (below_all key_cmp q es) h in
-    and_from (is_lt (key_cmp k e.0)) (below_all key_cmp k es) (ap is_lt (key_cmp-IsTotalOrder.trans k q e.0 lt (less (key_cmp q e.0) parts.0))) (below_all-less k q es lt parts.1)
+below_all-less k q (e ∷ es) lt h = grind (arith, lt, h, less (key_cmp q e.0), key_cmp-IsTotalOrder.trans k q e.0, below_all-less k q es lt)
 
 -- what is below the first key is no key
 at-before : {X : Type 0} (k : List Val) (e : List Val × X) (es : Entries X) → key_cmp k e.0 ≡ Less → is_in_order (e ∷ es) ≡ true → at k (e ∷ es) ≡ None
-at-before k e es lt h =
-    let parts = and_parts (below_all key_cmp e.0 es) (is_in_order es) h in
-    at-below k (e ∷ es) (and_from (is_lt (key_cmp k e.0)) (below_all key_cmp k es) (ap is_lt lt) (below_all-less k e.0 es lt parts.0))
+at-before k e es lt h = at-below k (e ∷ es) (grind (arith, lt, h, below_all-less k e.0 es lt))
 
 -- where a value stands at a key, another is put there by setting it
 set_value-put : {X : Type 0} (k : List Val) (x y : X) (es : Entries X) → is_in_order es ≡ true → at k es ≡ Some y → set_value (is_at (key_cmp k)) es x ≡ put k x es
 set_value-put k x y [] h found = absurd (cc found)
-set_value-put k x y (e ∷ es) h found =
-    let parts = and_parts (below_all key_cmp e.0 es) (is_in_order es) h in
-    elim (key_cmp k e.0) as (λ r. key_cmp k e.0 ≡ r → cond (is_eq r) (Some e.1) (at k es) ≡ Some y → cond (is_eq r) ((e.0, x) ∷ es) (e ∷ set_value (is_at (key_cmp k)) es x) ≡ by_order r ((k, x) ∷ e ∷ es) ((e.0, x) ∷ es) (e ∷ put k x es)) [
-      | Less ↦ λ lt here. let none = at-before k e es lt h in absurd (cc (none, found))
-      | Equal ↦ λ tie here. refl
-      | Greater ↦ λ gt here. ap (λ rest. e ∷ rest) (set_value-put k x y es parts.1 here)
-    ] refl found
+set_value-put k x y (e ∷ es) h found = grind (arith, h, found, at-before k e es, set_value-put k x y es)
 
 set_value-same : {X : Type 0} (k : List Val) (x : X) (es : Entries X) → at k es ≡ Some x → set_value (is_at (key_cmp k)) es x ≡ es
 set_value-same k x [] found = refl
-set_value-same k x (e ∷ es) found =
-    elim (is_eq (key_cmp k e.0)) as (λ b. cond b (Some e.1) (at k es) ≡ Some x → cond b ((e.0, x) ∷ es) (e ∷ set_value (is_at (key_cmp k)) es x) ≡ e ∷ es) [
-      | true ↦ λ here. let is : e.1 ≡ x = cc here in ap (λ y. (e.0, y) ∷ es) (sym is)
-      | false ↦ λ here. ap (λ rest. e ∷ rest) (set_value-same k x es here)
-    ] found
+set_value-same k x (e ∷ es) found = grind (arith, found, set_value-same k x es)
 
 -- ---- what the index of the keys that were written says of the entries
 
 -- each key is one of those that its versions' transactions wrote
 pub kept_at : (w : ℕ → List Val → Bool) (t : ℕ) (q : List Val) (es : Entries (List Version)) → AllKept w es → w t q ≡ false → version_of t (versions_at q es) ≡ None
 kept_at w t q [] kept none = refl
-kept_at w t q (e ∷ es) kept none =
-    elim (eq_by_cmp key_cmp q e.0) as (λ b. eq_by_cmp key_cmp q e.0 ≡ b → version_of t (unwrap_or (cond b (Some e.1) (at q es)) []) ≡ None) [
-      | true ↦ λ tie. kept.0.listed t (ap (w t) (sym (key_ties-is q e.0 tie)) ∙ none)
-      | false ↦ λ _. kept_at w t q es kept.1 none
-    ] refl
+kept_at w t q (e ∷ es) kept none = grind (arith, none, kept.0.listed t, key_ties-is q e.0, kept_at w t q es kept.1)
 
 -- more keys may be listed
 kept_more : (v w : ℕ → List Val → Bool) (key : List Val) (vs : List Version) → ((t : ℕ) → w t key ≡ false → v t key ≡ false) → IsKept v key vs → IsKept w key vs
@@ -112,51 +87,36 @@ kept_put w k vs (e ∷ es) here kept =
 -- a reader that hasn't written the key needs not look for its own version
 pub own_version-writer : (w : ℕ → List Val → Bool) (own : Option ℕ) (q : List Val) (vs : List Version) → ((t : ℕ) → w t q ≡ false → version_of t vs ≡ None) → own_version (writer w own q) vs ≡ own_version own vs
 own_version-writer w None q vs listed = refl
-own_version-writer w (Some t) q vs listed =
-    elim (w t q) as (λ b. w t q ≡ b → own_version (cond b (Some t) None) vs ≡ version_of t vs) [
-      | true ↦ λ _. refl
-      | false ↦ λ none. sym (listed t none)
-    ] refl
+own_version-writer w (Some t) q vs listed = grind (arith, listed t)
 
 pub read-writer : (w : ℕ → List Val → Bool) (s : SnapshotView) (own : Option ℕ) (q : List Val) (es : Entries (List Version)) (vs : List Version) → AllKept w es → Some vs ≡ at q es → read s (writer w own q) vs ≡ read s own (versions_at q es)
 read-writer w s own q es vs kept found =
-    let is : versions_at q es ≡ vs = ap (λ o. unwrap_or o []) (sym found) in
-    ap (λ o. row_of (option_or o (newest_by (sees s) vs))) (own_version-writer w own q vs (λ t none. ap (version_of t) (sym is) ∙ kept_at w t q es kept none))
-    ∙ ap (read s own) (sym is)
+    let is : versions_at q es ≡ vs = grind (arith, found) in
+    rw is (ap (λ o. row_of (option_or o (newest_by (sees s) vs))) (own_version-writer w own q vs (λ t none. ap (version_of t) (sym is) ∙ kept_at w t q es kept none)))
 
 -- ---- a write
 
 -- a version is put where the key has others
 pub written-set : (t : ℕ) (key : List Val) (row : Option (List Val)) (es : Entries (List Version)) (vs new : List Version) → is_in_order es ≡ true → at key es ≡ Some vs → new ≡ with_version t row vs → set_value (is_at (key_cmp key)) es new ≡ written t key row es
-written-set t key row es vs new order found is =
-    set_value-put key new vs es order found ∙ ap (λ vs. put key vs es) (is ∙ ap (with_version t row) (sym (ap (λ o. unwrap_or o []) found)))
+written-set t key row es vs new order found is = grind (arith, found, is, set_value-put key new vs es order found)
 
 pub unchanged-set : (key : List Val) (es : Entries (List Version)) (vs new : List Version) → at key es ≡ Some vs → new ≡ vs → set_value (is_at (key_cmp key)) es new ≡ es
-unchanged-set key es vs new found is = set_value-same key new es (found ∙ ap Some (sym is))
+unchanged-set key es vs new found is = grind (arith, found, is, set_value-same key new es)
 
 -- or where it has none
 pub written-insert : (t : ℕ) (key : List Val) (row : Option (List Val)) (es : Entries (List Version)) (new : List Version) → at key es ≡ None → new ≡ with_version t row [] → insert_entry key_cmp es key new ≡ written t key row es
-written-insert t key row es new none is =
-    insert_entry-put key new es ∙ ap (λ vs. put key vs es) (is ∙ ap (with_version t row) (sym (ap (λ o. unwrap_or o []) none)))
+written-insert t key row es new none is = grind (arith, none, is, insert_entry-put key new es)
 
 some-with : (t : ℕ) (row : Option (List Val)) (vs : List Version) → unless_empty (with_version t row vs) ≡ Some (with_version t row vs)
 some-with t row [] = refl
-some-with t row (v ∷ vs) =
-    elim (t == v.txid) as (λ b. unless_empty (cond b (left t row ∷ vs) (v ∷ with_version t row vs)) ≡ Some (cond b (left t row ∷ vs) (v ∷ with_version t row vs))) [
-      | true ↦ refl
-      | false ↦ refl
-    ]
+some-with t row (v ∷ vs) = grind arith
 
 -- once the key is listed, the transaction may write it
 pub kept_written : (v w : ℕ → List Val → Bool) (t : ℕ) (key : List Val) (row : Option (List Val)) (es : Entries (List Version)) → w t key ≡ true → ((u : ℕ) (q : List Val) → w u q ≡ false → v u q ≡ false) → AllKept v es → AllKept w (written t key row es)
 kept_written v w t key row es listed more kept =
     kept_put w key (with_version t row (versions_at key es)) es (record {
       some = some-with t row (versions_at key es);
-      listed = λ u none. version_of-with u t row (versions_at key es)
-          ∙ elim (u == t) as (λ b. (u == t) ≡ b → cond b (Some (left t row)) (version_of u (versions_at key es)) ≡ None) [
-            | true ↦ λ same. absurd (both_ways (w t key) (ap (λ x. w x key) (sym (eqb-true u t same)) ∙ none) listed)
-            | false ↦ λ _. kept_at v u key es kept (more u key none)
-          ] refl;
+      listed = λ u none. grind (arith, nat_tests, listed, none, version_of-with u t row (versions_at key es), kept_at v u key es kept (more u key none));
     }) (all_kept_more v w es more kept)
 
 pub kept_either : {U E : Type 0} (v w : ℕ → List Val → Bool) (t : ℕ) (key : List Val) (row : Option (List Val)) (es new : Entries (List Version)) (r : Result U E)

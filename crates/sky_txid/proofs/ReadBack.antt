@@ -1,9 +1,10 @@
 -- What is written for a snapshot is read as that snapshot.
-use Rattle.std.proofs.Common.{◌≡◌, ℕ, ◌+◌, ◌^◌, ◌<◌, true, false, List, [], ◌∷◌, ◌++◌, length, get_or, map, Some, sym, refl, ◌∙◌, ap, arith, length-append}
+use Rattle.std.proofs.Common.{◌≡◌, ℕ, ◌+◌, ◌^◌, ◌<◌, true, false, List, [], ◌∷◌, ◌++◌, length, get_or, map, Some, refl, ◌∙◌, ap, arith, length-append}
 use Rattle.std.specs.Prelude.{◌==◌, nat_eq, option_and_then}
 use Rattle.std.specs.Fmt.{decimal}
 use Rattle.std.specs.List.{All, slice_split, join_with_byte, dedup}
 use Rattle.std.proofs.lemmas.Bool.{ne_eqb}
+use Rattle.std.proofs.lemmas.Bool.Decides.{nat_tests}
 use Rattle.std.proofs.lemmas.Fmt.{decimal_nonempty, digits_decimal, digits_value-decimal}
 use Rattle.std.proofs.lemmas.List.Elements.{All-nil, All-cons, All-append, All-from_get_or}
 use Rattle.std.proofs.lemmas.List.Splits.{slice_split_at, slice_split_none}
@@ -13,7 +14,7 @@ use Rattle.sky_txid.specs.Snapshot.{SnapshotView, is_snapshot}
 use Rattle.sky_txid.specs.SnapshotText.{colon, comma, snapshot_text, parse_number, parse_numbers, parse_list, parse_snapshot}
 use Rattle.sky_txid.proofs.Seen.{sound}
 use Rattle.sky_txid.proofs.Rising.{rising_parts}
-use Rattle.sky_txid.proofs.Reading.{own, number_read, list_read, snapshot_read, checked_sound}
+use Rattle.sky_txid.proofs.Reading.{own, number_read, list_read, snapshot_read}
 
 -- no digit is a colon or a comma
 no_colon : (n : ℕ) → n < 2 ^ 64 → All (λ x. (x == colon) ≡ false) (decimal n)
@@ -57,9 +58,7 @@ list_pieces low high t (u ∷ ts) h fits =
 
 list_nonempty : (t : ℕ) (ts : List ℕ) → t < 2 ^ 64 → 0 < length (join_with_byte comma (map decimal (t ∷ ts)))
 list_nonempty t [] fits = decimal_nonempty t fits
-list_nonempty t (u ∷ ts) fits =
-    let digits = decimal_nonempty t fits in
-    omega (arith, length-append (decimal t) (comma ∷ join_with_byte comma (map decimal (u ∷ ts))))
+list_nonempty t (u ∷ ts) fits = grind (arith, decimal_nonempty t fits, length-append (decimal t) (comma ∷ join_with_byte comma (map decimal (u ∷ ts))))
 
 list_back : (low high : ℕ) (ids : List ℕ) → rises_within low high ids ≡ true → high < 2 ^ 64 → parse_list (join_with_byte comma (map decimal ids)) ≡ Some ids
 list_back low high [] h fits = refl
@@ -74,9 +73,7 @@ dedup-rising low high [] h = refl
 dedup-rising low high (t ∷ []) h = refl
 dedup-rising low high (t ∷ u ∷ ts) h =
     let parts = rising_parts low high t (u ∷ ts) h in
-    let later = rising_parts (t + 1) high u ts parts.rest in
-    let other : nat_eq u t ≡ false = ne_eqb u t (λ e. omega arith) in
-    rw other (ap (λ rest. t ∷ rest) (dedup-rising (t + 1) high (u ∷ ts) parts.rest))
+    grind (arith, nat_tests, rising_parts (t + 1) high u ts parts.rest, dedup-rising (t + 1) high (u ∷ ts) parts.rest)
 
 pub read_back : (s : SnapshotView) → is_snapshot s ≡ true → s.xmax < 2 ^ 64 → parse_snapshot (snapshot_text s) ≡ Some s
 read_back s h fits =
@@ -90,4 +87,4 @@ read_back s h fits =
     ∙ ap (λ rest. decimal s.xmax ∷ rest) (slice_split_none (λ b. b == colon) list (list_no_colon s.xmin s.xmax s.xip parts.rises fits))) in
     snapshot_read (snapshot_text s) (decimal s.xmin) (decimal s.xmax) list s.xmin s.xmax s.xip split
     (number_back s.xmin (omega arith)) (number_back s.xmax fits) (list_back s.xmin s.xmax s.xip parts.rises fits)
-    ∙ checked_sound s.xmin s.xmax s.xip s.xip (sym (dedup-rising s.xmin s.xmax s.xip parts.rises)) h
+    ∙ grind (arith, dedup-rising s.xmin s.xmax s.xip parts.rises, h)

@@ -1,18 +1,17 @@
 -- How the parts of a text are found and read.
-use Rattle.std.proofs.Common.{◌≡◌, ℕ, zero, suc, ◌+◌, ◌-◌, ◌*◌, ◌^◌, ◌<◌, ◌≤◌, ◌≢◌, Bool, true, false, List, [], ◌∷◌, length, get_or, take, drop, Some, None, sym, refl, ◌∙◌, ap, arith, add-one, inl, inr, length-drop}
-use Rattle.std.specs.Prelude.{◌==◌, ◌&&◌, nat_eq, nat_lt, nat_le, option_and_then}
-use Rattle.std.specs.List.{slice_split, onto_first, dedup}
+use Rattle.std.proofs.Common.{◌≡◌, ℕ, zero, suc, ◌+◌, ◌-◌, ◌*◌, ◌^◌, ◌<◌, ◌≤◌, Bool, true, false, List, [], ◌∷◌, length, get_or, take, drop, Some, None, refl, ◌∙◌, ap, arith, add-one, inl, inr, length-drop}
+use Rattle.std.specs.Prelude.{◌==◌, ◌&&◌, nat_lt}
+use Rattle.std.specs.List.{slice_split, onto_first}
 use Rattle.std.specs.Char.{is_ascii_digit, digit_value}
 use Rattle.std.specs.Str.{all_ascii_digits}
 use Rattle.std.specs.Str.Parse.{digits_value}
 use Rattle.std.proofs.lemmas.Str.Parse.{IsNumeralModel, numerals_by_value, tells_all_ascii_digits, digits_value-take-le}
 use Rattle.std.proofs.lemmas.Int.Digits.{digits_value_more}
-use Rattle.std.proofs.lemmas.Bool.{cases_Bool, lt-ltb, leb-true, le-leb, lt-leb, le-ltb, and_parts, and_from, and_left, and_right, eq-eqb, cond-true, cond-false}
+use Rattle.std.proofs.lemmas.Bool.{cases_Bool, eq-eqb}
+use Rattle.std.proofs.lemmas.Bool.Decides.{nat_tests}
 use Rattle.std.proofs.lemmas.List.{take_all}
 use Rattle.std.proofs.lemmas.List.Splits.{slice_split-cons_yes, slice_split-cons_no}
-use Rattle.sky_txid.specs.Ids.{rises_within}
 use Rattle.sky_txid.specs.SnapshotText.{colon, comma, parse_number, parse_numbers, parse_list, parse_parts, parse_snapshot, checked}
-use Rattle.sky_txid.specs.Snapshot.{SnapshotView, is_snapshot}
 
 -- the parts of a text before and behind the first such byte
 pub split_found : (byte : ℕ) (text : List ℕ) (place : ℕ) → place < length text → ((k : ℕ) → k < place → (get_or text k 0 == byte) ≡ false) → get_or text place 0 ≡ byte
@@ -51,57 +50,38 @@ own = numerals_by_value (λ ds. all_ascii_digits ds ≡ true) tells_all_ascii_di
 
 -- a number is read where each byte is a digit and the value fits
 pub number_read : (ds : List ℕ) → 0 < length ds → all_ascii_digits ds ≡ true → digits_value 10 ds < 2 ^ 64 → parse_number ds ≡ Some (digits_value 10 ds)
-number_read ds nonempty digits fits =
-    cond-true (nat_lt 0 (length ds) && (all_ascii_digits ds && nat_lt (digits_value 10 ds) (2 ^ 64))) (Some (digits_value 10 ds)) None
-    (and_from _ _ (lt-ltb 0 (length ds) nonempty) (and_from _ _ digits (lt-ltb (digits_value 10 ds) (2 ^ 64) fits)))
+number_read ds nonempty digits fits = grind (arith, nat_tests)
 
 -- and else it is refused
 number_refused : (ds : List ℕ) → (all_ascii_digits ds && nat_lt (digits_value 10 ds) (2 ^ 64)) ≡ false → parse_number ds ≡ None
-number_refused ds h =
-    cond-false (nat_lt 0 (length ds) && (all_ascii_digits ds && nat_lt (digits_value 10 ds) (2 ^ 64))) (Some (digits_value 10 ds)) None
-    (and_right (nat_lt 0 (length ds)) _ h)
+number_refused ds h = grind (arith, h)
 
 not_all_digits : (ds : List ℕ) (k : ℕ) → k < length ds → is_ascii_digit (get_or ds k 0) ≡ false → all_ascii_digits ds ≡ false
 not_all_digits [] k lt h = absurd (omega arith)
-not_all_digits (d ∷ ds) zero lt h = and_left (is_ascii_digit d) (all_ascii_digits ds) h
-not_all_digits (d ∷ ds) (suc k) lt h = and_right (is_ascii_digit d) (all_ascii_digits ds) (not_all_digits ds k (omega arith) h)
+not_all_digits (d ∷ ds) zero lt h = grind (arith, h)
+not_all_digits (d ∷ ds) (suc k) lt h = grind (arith, not_all_digits ds k, h)
 
 pub number_no_digit : (ds : List ℕ) (k : ℕ) → k < length ds → is_ascii_digit (get_or ds k 0) ≡ false → parse_number ds ≡ None
-number_no_digit ds k lt h = number_refused ds (and_left (all_ascii_digits ds) (nat_lt (digits_value 10 ds) (2 ^ 64)) (not_all_digits ds k lt h))
+number_no_digit ds k lt h = number_refused ds (grind (arith, not_all_digits ds k lt h))
 
 pub number_large : (ds : List ℕ) (k : ℕ) → 2 ^ 64 ≤ digits_value 10 (take k ds) → parse_number ds ≡ None
-number_large ds k large =
-    let more = digits_value-take-le 10 ds k (omega arith) in
-    number_refused ds (and_right (all_ascii_digits ds) (nat_lt (digits_value 10 ds) (2 ^ 64)) (le-ltb (digits_value 10 ds) (2 ^ 64) (omega arith)))
+number_large ds k large = number_refused ds (grind (arith, nat_tests, digits_value-take-le 10 ds k))
 
 -- a digit's value
-record Digit (c : ℕ) : Type 0 where
-  low : 48 ≤ c
-  value : digit_value c ≡ c - 48
-
-digit : (c : ℕ) → is_ascii_digit c ≡ true → Digit c
-digit c h =
-    let parts = and_parts (nat_le 48 c) (nat_le c 57) h in
-    let low : 48 ≤ c = leb-true 48 c parts.0 in
-    let high : c ≤ 57 = leb-true c 57 parts.1 in
-    let below : nat_lt c 48 ≡ false = le-ltb c 48 low in
-    let above : nat_lt c 58 ≡ true = lt-ltb c 58 (omega arith) in
-    record { low = low; value = rw (below, above) refl }
+digit : (c : ℕ) → is_ascii_digit c ≡ true → digit_value c ≡ c - 48
+digit c h = grind (arith, nat_tests, h)
 
 -- one digit more
 pub value_more : (ds : List ℕ) (k value : ℕ) → k < length ds → is_ascii_digit (get_or ds k 0) ≡ true → digits_value 10 (take k ds) ≡ value → digits_value 10 (take (k + 1) ds) ≡ value * 10 + (get_or ds k 0 - 48)
-value_more ds k value lt h is =
-    digits_value_more 10 ds k lt ∙ ap (λ v. v * 10 + digit_value (get_or ds k 0)) is ∙ ap (λ v. value * 10 + v) (digit (get_or ds k 0) h).value
+value_more ds k value lt h is = grind (arith, digits_value_more 10 ds k lt, digit (get_or ds k 0) h)
 
 pub digits_more : (ds : List ℕ) (k : ℕ) → k < length ds → is_ascii_digit (get_or ds k 0) ≡ true → all_ascii_digits (take k ds) ≡ true → all_ascii_digits (take (k + 1) ds) ≡ true
 digits_more ds k lt h front = rw add-one (more ds k lt h front)
   where
     more : (ds : List ℕ) (k : ℕ) → k < length ds → is_ascii_digit (get_or ds k 0) ≡ true → all_ascii_digits (take k ds) ≡ true → all_ascii_digits (take (suc k) ds) ≡ true
     more [] k lt h front = absurd (omega arith)
-    more (d ∷ ds) zero lt h front = and_from (is_ascii_digit d) true h refl
-    more (d ∷ ds) (suc k) lt h front =
-        let parts = and_parts (is_ascii_digit d) (all_ascii_digits (take k ds)) front in
-        and_from (is_ascii_digit d) (all_ascii_digits (take (suc k) ds)) parts.0 (more ds k (omega arith) h parts.1)
+    more (d ∷ ds) zero lt h front = grind (arith, h)
+    more (d ∷ ds) (suc k) lt h front = grind (arith, more ds k, h, front)
 
 -- a value so far that is too large with the next digit, or even without
 pub number_too_large : (ds : List ℕ) (k value : ℕ) → k < length ds → is_ascii_digit (get_or ds k 0) ≡ true → digits_value 10 (take k ds) ≡ value → 2 ^ 64 ≤ value * 10 + (get_or ds k 0 - 48) → parse_number ds ≡ None
@@ -111,9 +91,8 @@ number_too_large ds k value lt h is large = let more = value_more ds k value lt 
 pub number_all : (ds : List ℕ) (k value : ℕ) → 0 < length ds → length ds ≤ k → all_ascii_digits (take k ds) ≡ true → digits_value 10 (take k ds) ≡ value → value < 2 ^ 64 → parse_number ds ≡ Some value
 number_all ds k value nonempty le digits is fits =
     let whole : take k ds ≡ ds = take_all k ds le in
-    let all_digits = rw whole at digits in
     let all_value = rw whole at is in
-    number_read ds nonempty all_digits (omega arith) ∙ ap Some all_value
+    number_read ds nonempty (rw whole at digits) (omega arith) ∙ ap Some all_value
 
 -- a list's text that isn't empty
 pub list_read : (text : List ℕ) → 0 < length text → parse_list text ≡ parse_numbers (slice_split (λ b. b == comma) text)
@@ -123,40 +102,4 @@ list_read (b ∷ text) h = refl
 -- a text of three parts that are read
 pub snapshot_read : (text a b list : List ℕ) (xmin xmax : ℕ) (items : List ℕ) → slice_split (λ b. b == colon) text ≡ a ∷ b ∷ list ∷ [] → parse_number a ≡ Some xmin → parse_number b ≡ Some xmax → parse_list list ≡ Some items
     → parse_snapshot text ≡ checked xmin xmax items
-snapshot_read text a b list xmin xmax items split least next ids =
-    ap parse_parts split
-    ∙ ap (λ o. option_and_then (λ xmin. option_and_then (λ xmax. option_and_then (λ items. checked xmin xmax items) (parse_list list)) (parse_number b)) o) least
-    ∙ ap (λ o. option_and_then (λ xmax. option_and_then (λ items. checked xmin xmax items) (parse_list list)) o) next
-    ∙ ap (λ o. option_and_then (λ items. checked xmin xmax items) o) ids
-
--- they are a snapshot where their bounds and the list are sound
-pub checked_sound : (xmin xmax : ℕ) (items ids : List ℕ) → ids ≡ dedup nat_eq items → is_snapshot (record { xmin = xmin; xmax = xmax; xip = ids }) ≡ true → checked xmin xmax items ≡ Some (record { xmin = xmin; xmax = xmax; xip = ids })
-checked_sound xmin xmax items ids is h =
-    let s : SnapshotView = record { xmin = xmin; xmax = xmax; xip = dedup nat_eq items } in
-    let known : is_snapshot s ≡ true = rw is at h in
-    cond-true (is_snapshot s) (Some s) None known ∙ ap (λ (ids : List ℕ). Some (record { xmin = xmin; xmax = xmax; xip = ids })) (sym is)
-
-pub checked_refused : (xmin xmax : ℕ) (items ids : List ℕ) → ids ≡ dedup nat_eq items → is_snapshot (record { xmin = xmin; xmax = xmax; xip = ids }) ≡ false → checked xmin xmax items ≡ None
-checked_refused xmin xmax items ids is h =
-    let s : SnapshotView = record { xmin = xmin; xmax = xmax; xip = dedup nat_eq items } in
-    let known : is_snapshot s ≡ false = rw is at h in
-    cond-false (is_snapshot s) (Some s) None known
-
--- how bounds and a list are sound, and how each fails to be
-pub sound_from : (s : SnapshotView) → s.xmin ≢ 0 → s.xmin ≤ s.xmax → rises_within s.xmin s.xmax s.xip ≡ true → is_snapshot s ≡ true
-sound_from s nonzero ordered rises =
-    and_from (nat_lt 0 s.xmin) (nat_le s.xmin s.xmax && rises_within s.xmin s.xmax s.xip) (lt-ltb 0 s.xmin (omega arith))
-    (and_from (nat_le s.xmin s.xmax) (rises_within s.xmin s.xmax s.xip) (le-leb s.xmin s.xmax ordered) rises)
-
-pub unsound_zero : (s : SnapshotView) → s.xmin ≡ 0 → is_snapshot s ≡ false
-unsound_zero s none = and_left (nat_lt 0 s.xmin) (nat_le s.xmin s.xmax && rises_within s.xmin s.xmax s.xip) (le-ltb 0 s.xmin (omega arith))
-
-pub unsound_order : (s : SnapshotView) → s.xmax < s.xmin → is_snapshot s ≡ false
-unsound_order s below =
-    and_right (nat_lt 0 s.xmin) (nat_le s.xmin s.xmax && rises_within s.xmin s.xmax s.xip)
-    (and_left (nat_le s.xmin s.xmax) (rises_within s.xmin s.xmax s.xip) (lt-leb s.xmin s.xmax below))
-
-pub unsound_list : (s : SnapshotView) → rises_within s.xmin s.xmax s.xip ≡ false → is_snapshot s ≡ false
-unsound_list s falls =
-    and_right (nat_lt 0 s.xmin) (nat_le s.xmin s.xmax && rises_within s.xmin s.xmax s.xip)
-    (and_right (nat_le s.xmin s.xmax) (rises_within s.xmin s.xmax s.xip) falls)
+snapshot_read text a b list xmin xmax items split least next ids = rw (split, least, next, ids) refl

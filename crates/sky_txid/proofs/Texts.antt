@@ -9,11 +9,7 @@ use Rattle.sky_txid.specs.SnapshotText.{comma}
 pub kept_before : (old more new : List ℕ) → take (length (old ++ more)) new ≡ old ++ more → take (length old) new ≡ old
 kept_before [] more new h = refl
 kept_before (x ∷ old) more [] h = absurd (cc)
-kept_before (x ∷ old) more (y ∷ new) h =
-    let head : y ≡ x = cc in
-    let tail : take (length (old ++ more)) new ≡ old ++ more = cc in
-    let rest = kept_before old more new tail in
-    cc
+kept_before (x ∷ old) more (y ∷ new) h = grind (arith, h, kept_before old more new)
 
 -- the same, of a text that is the old one and more
 pub kept_by : (old more mid new : List ℕ) → mid ≡ old ++ more → take (length mid) new ≡ mid → take (length old) new ≡ old

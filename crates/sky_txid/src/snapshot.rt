@@ -156,25 +156,19 @@ impl Snapshot {
     pub fn covers(&self, other: &Snapshot) -> bool
         ensures { IsTrue result ↔ Covers self.now other.now }
     {
-        // The ids that aren't seen here, from the least on that `other` isn't yet known not to see:
-        // `rest`, and each from `next` on.
-        let mut rest = self.xip.as_slice();
-        let mut next = self.xmax;
-        let limit = other.xmax;
-        for id in &other.xip {
-            let hidden = first_or(rest, next);
-            if hidden < *id {
+        // Not seen here are the ids that run, and those from the next id on. The second loop ends at the
+        // first that isn't in the other list, so it has no more turns than that list has ids.
+        for id in &self.xip {
+            if other.sees(*id) {
                 return false;
             }
-            if hidden == *id {
-                if rest.is_empty() {
-                    next = *id + 1;
-                } else {
-                    rest = &rest[1..];
-                }
+        }
+        for later in self.xmax..other.xmax {
+            if other.sees(later) {
+                return false;
             }
         }
-        limit <= first_or(rest, next)
+        true
     }
 }
 

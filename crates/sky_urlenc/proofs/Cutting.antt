@@ -1,7 +1,7 @@
 -- The first piece of a text, and those behind it.
 use Rattle.std.proofs.Common.{◌≡◌, inl, inr, ℕ, ◌+◌, ◌-◌, ◌<◌, cond, List, [], ◌∷◌, length, take, drop, Some, None, sym, subst, ◌∙◌, ap, arith, length-drop}
 use Rattle.std.specs.Prelude.{◌==◌, filter}
-use Rattle.std.specs.List.{slice_split, position, position_or_len}
+use Rattle.std.specs.List.{slice_split, position_or_len}
 use Rattle.std.proofs.lemmas.Bool.{cond-true, cond-false, cases_lt, lt-ltb, le-ltb}
 use Rattle.std.proofs.lemmas.List.{length-take}
 use Rattle.std.proofs.lemmas.List.Sums.{fails_before_first}
@@ -43,19 +43,10 @@ pub pieces_first : (start : ℕ) (text before behind : List ℕ) → (before, be
 pieces_first start text before behind cut some =
     subst (StartsWith start text) (sym cut) (starts_with_first start text) ∙ cond-true _ _ _ (lt-ltb 0 (length before) some)
 
-pub pieces_skip : (start : ℕ) (text before behind : List ℕ) → (before, behind) ≡ first_piece text → length before ≡ 0
-    → pieces_from start text ≡ pieces_from (start + (length text - length behind)) behind
-pieces_skip start text before behind cut none =
-    subst (StartsWith start text) (sym cut) (starts_with_first start text) ∙ cond-false _ _ _ (le-ltb 0 (length before) (omega arith))
-
 shorter_at : (text : List ℕ) (found : ℕ) → 0 < length text → length (drop (found + 1) text) < length text
 shorter_at text found some = omega (arith, length-drop (found + 1) text)
 
 -- what stands behind the first piece is shorter
 pub behind_shorter : (text before behind : List ℕ) → (before, behind) ≡ first_piece text → 0 < length text → length behind < length text
 behind_shorter text before behind cut some =
-    let shorter : length (first_piece text).1 < length text = elim (position (λ b. b == ampersand) text) as (λ found. length (first_piece_at found text).1 < length text) [
-      | None ↦ some
-      | Some found ↦ shorter_at text found some
-    ] in
-    subst (λ c. length c.1 < length text) (sym cut) shorter
+    grind (arith, cut, shorter_at text)

@@ -1,20 +1,17 @@
 -- A row that is read fits its columns.
 use Rattle.std.proofs.Common.{◌≡◌, ℕ, zero, suc, ◌+◌, ◌<◌, Bool, true, false, List, [], ◌∷◌, length, get_or, set, map, Option, Some, None, Ok, Err, refl, sym, ◌∙◌, ap, subst, arith, inl, inr}
-use Rattle.std.specs.Prelude.{◌&&◌, not, ℤ, find, is_none, bytes_eq, option_map}
+use Rattle.std.specs.Prelude.{find, is_none, bytes_eq}
 use Rattle.std.specs.List.{enumerate_from}
 use Rattle.std.specs.Option.{option_or}
-use Rattle.std.proofs.lemmas.Bool.{cases_Bool, cases_eq, eq-eqb, cond-true, cond-false}
+use Rattle.std.proofs.lemmas.Bool.{cases_Bool, cond-true, cond-false}
 use Rattle.std.proofs.lemmas.List.{get_or-set_same, get_or-set_other, length-set, length-map}
 use Rattle.sky_val.specs.declared.val.Val.{Val}
-use Rattle.sky_val.specs.declared.val.Val.TheVariants as value
 use Rattle.sky_val.specs.declared.column.Column.{Column}
-use Rattle.sky_val.specs.declared.column.ColKind.{ColKind}
-use Rattle.sky_val.specs.declared.column.ColKind.TheVariants as kind
-use Rattle.sky_val.specs.Schemas.{is_null, is_of_kind, value_fault, values_fault, row_fault}
-use Rattle.sky_val.specs.Numbers.{int_of}
+use Rattle.sky_val.specs.Schemas.{value_fault, values_fault, row_fault}
 use Rattle.sky_urlenc.specs.declared.fault.DecodeFault.{DecodeFault}
 use Rattle.sky_urlenc.specs.declared.fault.DecodeFault.TheVariants as fault
-use Rattle.sky_urlenc.specs.ReadRow.{Checked, ◌>>=◌, ◌>>◌, holds_or, found_or, Piece, name_in, text_in, is_text, pieces_from, column_named, value_of, value_for, given_by, all_given, values_from, read_row}
+use Rattle.sky_urlenc.specs.ReadRow.{Checked, ◌>>=◌, ◌>>◌, holds_or, found_or, Piece, name_in, text_in, is_text, pieces_from, column_named, value_for, given_by, all_given, values_from, read_row}
+use Rattle.std.proofs.lemmas.Bool.Decides.{nat_tests}
 
 -- ---- steps that gave something
 
@@ -59,59 +56,19 @@ named_from name n (column ∷ columns) found e =
 
 -- ---- the values that a column takes
 
--- a value that a column takes: of its kind, and no Null where it is a key
-record Takes (k : ColKind) (key : Bool) (v : Val) : Type 0 where
-  kind : not (is_of_kind k v) ≡ false
-  null : key && is_null v ≡ false
-
-not_null : (key : Bool) → key && false ≡ false
-not_null true = refl
-not_null false = refl
-
-null_allowed : (key : Bool) → not (key && true) ≡ true → key && true ≡ false
-null_allowed true e = absurd (cc)
-null_allowed false e = refl
-
-takes_number : (key : Bool) (n : Option ℤ) (v : Val) → option_map (λ n. value.Int n) n ≡ Some v → Takes kind.Int key v
-takes_number key None v e = absurd (cc)
-takes_number key (Some n) v e =
-    let is : value.Int n ≡ v = cc in
-    subst (Takes kind.Int key) is (record { kind = refl; null = not_null key })
-
-takes : (k : ColKind) (key : Bool) (text : Option (List ℕ)) (v : Val) → not (key && is_none text) ≡ true → value_of k text ≡ Some v → Takes k key v
-takes k key None v may e =
-    let is : value.Null ≡ v = cc in
-    subst (Takes k key) is (record { kind = refl; null = null_allowed key may })
-takes kind.Int key (Some text) v may e = takes_number key (int_of text) v e
-takes kind.Text key (Some text) v may e =
-    let is : value.Text text ≡ v = cc in
-    subst (Takes kind.Text key) is (record { kind = refl; null = not_null key })
-
 -- a value that is given to a column is one that it takes
 fits : (start place : ℕ) (column : Column) (text : Option (List ℕ)) (v : Val) → value_for start column text ≡ Ok v → value_fault place column v ≡ None
-fits start place column text v e =
-    let parts = held (not (column.key && is_none text)) (fault.NullKey start) (found_or (value_of column.kind text) (fault.BadInt start)) v e in
-    let is = takes column.kind column.key text v parts.0 (was_found (value_of column.kind text) (fault.BadInt start) v parts.1) in
-    cond-false _ _ _ is.kind ∙ cond-false _ _ _ is.null
+fits start place column text v e = grind (arith, e)
 
 -- each value that a column has is one that it takes
 abbrev AllFit : List Column → List (Option Val) → Type 0
 AllFit columns given = (k place : ℕ) (d : Column) (v : Val) → k < length columns → get_or given k None ≡ Some v → value_fault place (get_or columns k d) v ≡ None
 
 -- a column gets a value that it takes
-set_here : (columns : List Column) (given : List (Option Val)) (place : ℕ) (column : Column) (x : Val) → place < length given → ((d : Column) → get_or columns place d ≡ column) → ((at : ℕ) → value_fault at column x ≡ None)
-    → (at : ℕ) (d : Column) (v : Val) → get_or (set given place (Some x)) place None ≡ Some v → value_fault at (get_or columns place d) v ≡ None
-set_here columns given place column x within is fit at d v has =
-    let same : Some x ≡ Some v = sym (get_or-set_same given place (Some x) None within) ∙ has in
-    let x_is : x ≡ v = cc in
-    subst (λ c. value_fault at c v ≡ None) (sym (is d)) (subst (λ y. value_fault at column y ≡ None) x_is (fit at))
-
 set_fits : (columns : List Column) (given : List (Option Val)) (place : ℕ) (column : Column) (x : Val) → place < length given → ((d : Column) → get_or columns place d ≡ column) → ((at : ℕ) → value_fault at column x ≡ None)
     → AllFit columns given → AllFit columns (set given place (Some x))
-set_fits columns given place column x within is fit all k at d v inside has = elim (cases_eq k place) [
-  | inl same ↦ subst (λ n. get_or (set given place (Some x)) n None ≡ Some v → value_fault at (get_or columns n d) v ≡ None) (sym same) (set_here columns given place column x within is fit at d v) has
-  | inr other ↦ all k at d v inside (sym (get_or-set_other given place k (Some x) None other) ∙ has)
-]
+set_fits columns given place column x within is fit all k at d v inside has =
+    grind (arith, has, is d, fit at, all k at d v inside, get_or-set_same given place (Some x) None within, get_or-set_other given place k (Some x) None)
 
 -- what the columns have after one more piece
 record FitsMore (columns : List Column) (given more : List (Option Val)) : Type 0 where
@@ -177,4 +134,4 @@ row_fits columns text row e =
     let alike : length start ≡ length columns = length-map columns (λ _. None) in
     let fit = all_fit columns start step.a (pieces_from 0 text) alike (λ k at d v within has. absurd (cc (sym (nothing_given columns k) ∙ has))) step.first in
     let is = values_fit 0 columns step.a row (fit.count ∙ alike) fit.all step.then in
-    cond-true _ _ _ (eq-eqb _ _ is.count) ∙ is.all
+    grind (arith, nat_tests, is.count, is.all)

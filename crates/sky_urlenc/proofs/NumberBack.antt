@@ -1,11 +1,11 @@
 -- A number that is written in decimal is read as that number.
-use Rattle.std.proofs.Common.{◌≡◌, ◌⊎◌, inl, inr, ℕ, zero, suc, ◌-◌, ◌^◌, ◌<◌, ◌≤◌, ℤ, pos, negsuc, Bool, true, false, List, [], ◌∷◌, ◌++◌, length, get_or, Some, None, refl, ◌∙◌, ap, arith, w64}
-use Rattle.std.specs.Prelude.{◌==◌, ◌||◌, not, nat_le, All, FitsSigned, option_map}
+use Rattle.std.proofs.Common.{◌≡◌, ◌⊎◌, inl, inr, ℕ, zero, suc, ◌-◌, ◌^◌, ◌<◌, ◌≤◌, ℤ, pos, negsuc, true, List, [], ◌∷◌, ◌++◌, length, get_or, Some, refl, ◌∙◌, ap, arith, w64}
+use Rattle.std.specs.Prelude.{All, FitsSigned, option_map}
 use Rattle.std.specs.Option.{option_and_then}
 use Rattle.std.specs.Char.{is_ascii_digit}
 use Rattle.std.specs.Fmt.{decimal, signed_decimal}
 use Rattle.std.specs.List.{list_all}
-use Rattle.std.proofs.lemmas.Bool.{and_from, and_parts, cond-true, cond-false, leb-true, le-leb, eq-eqb, ne_eqb}
+use Rattle.std.proofs.lemmas.Bool.{cond-true}
 use Rattle.std.proofs.lemmas.Fmt.{decimal_nonempty, digits_decimal, digits_value-decimal, first_decimal, decimal_digit}
 use Rattle.std.proofs.lemmas.List.Elements.{All-nil, All-cons, All-head, All-tail}
 use Rattle.std.proofs.lemmas.Str.Parse.{IsNumeralModel, IsDigitsTest, numerals_by_fold}
@@ -19,8 +19,8 @@ use Rattle.sky_val.specs.Numbers.{is_number, number_from, number_of, below_zero,
 tells : IsDigitsTest (λ ds. list_all is_ascii_digit ds ≡ true)
 tells = record {
   empty = refl;
-  parts = λ c cs e. let k = and_parts (is_ascii_digit c) (list_all is_ascii_digit cs) e in let m = and_parts (nat_le 48 c) (nat_le c 57) k.0 in ((leb-true 48 c m.0, leb-true c 57 m.1), k.1);
-  more = λ c cs k e. and_from (is_ascii_digit c) (list_all is_ascii_digit cs) (and_from (nat_le 48 c) (nat_le c 57) (le-leb 48 c k.0) (le-leb c 57 k.1)) e;
+  parts = λ c cs e. ((grind (arith, nat_tests, e), grind (arith, nat_tests, e)), grind (arith, e));
+  more = λ c cs k e. grind (arith, nat_tests, k.0, k.1, e);
 }
 
 own : IsNumeralModel (λ ds. list_all is_ascii_digit ds ≡ true) (number_from 0)
@@ -29,14 +29,8 @@ own = numerals_by_fold (λ ds. list_all is_ascii_digit ds ≡ true) tells number
 -- digits are a number where a zero in front stands alone
 number_from_digits : (ds : List ℕ) → 0 < length ds → list_all is_ascii_digit ds ≡ true → (48 < get_or ds 0 0) ⊎ (length ds ≡ 1) → is_number ds ≡ true
 number_from_digits [] some digits first = absurd (omega arith)
-number_from_digits (b ∷ bs) some digits (inl more) =
-    and_from (list_all is_ascii_digit (b ∷ bs)) (length bs == 0 || not (b == 48)) digits (or_right (length bs == 0) (not (b == 48)) (ap not (ne_eqb b 48 (λ e. omega (arith, more)))))
-  where
-    or_right : (a c : Bool) → c ≡ true → a || c ≡ true
-    or_right true c e = refl
-    or_right false c e = e
-number_from_digits (b ∷ bs) some digits (inr one) =
-    and_from (list_all is_ascii_digit (b ∷ bs)) (length bs == 0 || not (b == 48)) digits (ap (λ v. v || not (b == 48)) (eq-eqb (length bs) 0 (omega (arith, one))))
+number_from_digits (b ∷ bs) some digits (inl more) = grind (arith, nat_tests, digits, more)
+number_from_digits (b ∷ bs) some digits (inr one) = grind (arith, nat_tests, digits, one)
 
 first_or_one : (n : ℕ) → n < 2 ^ 64 → (48 < get_or (decimal n) 0 0) ⊎ (length (decimal n) ≡ 1)
 first_or_one zero small = inr (ap length (decimal_digit 0 (omega arith)))
@@ -46,15 +40,13 @@ number_back : (most n : ℕ) → n ≤ most → n < 2 ^ 64 → number_of most (d
 number_back most n le small =
     let value : number_from 0 (decimal n) ≡ n = digits_value-decimal own n small in
     let number = number_from_digits (decimal n) (decimal_nonempty n small) (digits_decimal own n small) (first_or_one n small) in
-    let fits : nat_le (number_from 0 (decimal n)) most ≡ true = le-leb (number_from 0 (decimal n)) most (omega (arith, value)) in
-    cond-true _ (Some (number_from 0 (decimal n))) None (and_from _ _ number fits) ∙ ap (λ n. Some n) value
+    grind (arith, nat_tests, value, number)
 
 -- what begins with a digit has no sign
 int_from_digits : (ds : List ℕ) → 0 < length ds → list_all is_ascii_digit ds ≡ true → int_of ds ≡ option_map (λ n. pos n) (number_of (2 ^ 63 - 1) ds)
 int_from_digits [] some digits = absurd (omega arith)
 int_from_digits (b ∷ bs) some digits =
-    let digit = tells.parts b bs digits in
-    cond-false (b == 45) _ _ (ne_eqb b 45 (λ e. omega (arith, digit.0)))
+    grind (arith, nat_tests, (tells.parts b bs digits).0)
 
 pub int_back : (z : ℤ) → FitsSigned w64 z → int_of (signed_decimal z) ≡ Some z
 int_back (pos n) fits =

@@ -1,11 +1,11 @@
 -- A column that is written with its value gives a piece that is read as that value.
-use Rattle.std.proofs.Common.{◌≡◌, ◌≢◌, inl, inr, ℕ, ◌+◌, ◌<◌, Bool, true, false, cond, List, [], ◌∷◌, ◌++◌, length, Option, Some, None, Ok, refl, sym, ◌∙◌, ap, arith, length-append}
-use Rattle.std.specs.Prelude.{◌==◌, ◌&&◌, not, is_none, option_map, All, ⊤}
+use Rattle.std.proofs.Common.{◌≡◌, ◌≢◌, inl, inr, ℕ, ◌+◌, ◌<◌, true, false, List, [], ◌∷◌, ◌++◌, length, Option, Some, None, Ok, refl, sym, ◌∙◌, ap, arith, length-append}
+use Rattle.std.specs.Prelude.{◌==◌, option_map, All, ⊤}
 use Rattle.std.specs.Fmt.{signed_decimal}
 use Rattle.std.specs.List.{position, position_from}
 use Rattle.std.specs.Str.{is_utf8}
 use Rattle.std.proofs.Math.Seq.{take-append_seam, drop-append-add}
-use Rattle.std.proofs.lemmas.Bool.{cond-false, and_from}
+use Rattle.std.proofs.lemmas.Bool.{and_from}
 use Rattle.std.proofs.lemmas.Bool.Decides.{nat_tests}
 use Rattle.std.proofs.lemmas.Iterator.Adapters.{position_from-zero}
 use Rattle.std.proofs.lemmas.List.Elements.{All-from_get_or, All-cons, All-head, All-tail, All-append, All-weaker}
@@ -17,14 +17,10 @@ use Rattle.form_urlencoded.proofs.FormLemmas.{IsSerializedByte, All-byte_seriali
 use Rattle.sky_val.specs.declared.val.Val.{Val}
 use Rattle.sky_val.specs.declared.val.Val.TheVariants as value
 use Rattle.sky_val.specs.declared.column.Column.{Column}
-use Rattle.sky_val.specs.declared.column.ColKind.{ColKind}
-use Rattle.sky_val.specs.declared.column.ColKind.TheVariants as kind
-use Rattle.sky_val.specs.declared.schema.RowFault.TheVariants.{Kind, NullKey}
-use Rattle.sky_val.specs.Schemas.{is_null, is_of_kind, value_fault}
-use Rattle.sky_urlenc.specs.declared.fault.DecodeFault.TheVariants as fault
+use Rattle.sky_val.specs.Schemas.{value_fault}
 use Rattle.sky_urlenc.specs.Held.{IsWord, IsHeld}
 use Rattle.sky_urlenc.specs.RowText.{column_text}
-use Rattle.sky_urlenc.specs.ReadRow.{◌>>◌, holds_or, found_or, Piece, sides_at, name_in, text_in, is_text, is_utf8_or_none, value_of, value_for}
+use Rattle.sky_urlenc.specs.ReadRow.{Piece, sides_at, name_in, text_in, is_text, is_utf8_or_none, value_for}
 use Rattle.sky_urlenc.proofs.NumberBack.{int_back, number_unescaped}
 
 -- ---- a name and a text, as a piece writes them
@@ -82,13 +78,11 @@ zero-add n = omega arith
 first_from : (n : ℕ) (front behind : List ℕ) → All (λ b. (b == equals_sign) ≡ false) front → position_from (λ b. b == equals_sign) n (front ++ equals_sign ∷ behind) ≡ Some (n + length front)
 first_from n [] behind none = ap (λ k. Some k) (omega arith)
 first_from n (b ∷ front) behind none =
-    cond-false _ _ _ (All-head (λ b. (b == equals_sign) ≡ false) b front none)
-    ∙ first_from (n + 1) front behind (All-tail (λ b. (b == equals_sign) ≡ false) b front none) ∙ ap (λ k. Some k) (omega arith)
+    grind (arith, All-head (λ b. (b == equals_sign) ≡ false) b front none, first_from (n + 1) front behind (All-tail (λ b. (b == equals_sign) ≡ false) b front none))
 
 none_from : (n : ℕ) (bytes : List ℕ) → All (λ b. (b == equals_sign) ≡ false) bytes → position_from (λ b. b == equals_sign) n bytes ≡ None
 none_from n [] none = refl
-none_from n (b ∷ bytes) none =
-    cond-false _ _ _ (All-head (λ b. (b == equals_sign) ≡ false) b bytes none) ∙ none_from (n + 1) bytes (All-tail (λ b. (b == equals_sign) ≡ false) b bytes none)
+none_from n (b ∷ bytes) none = grind (arith, All-head (λ b. (b == equals_sign) ≡ false) b bytes none, none_from (n + 1) bytes (All-tail (λ b. (b == equals_sign) ≡ false) b bytes none))
 
 -- the sides of a piece with a name and a text
 abbrev sides_written : List ℕ → Option (List ℕ) → List ℕ × Option (List ℕ)
@@ -141,24 +135,7 @@ is_text_back start name text word other =
     and_from _ _ (ap is_utf8 (name_back start name text word) ∙ is_utf8-from_IsUtf8 name word.characters) (ap is_utf8_or_none (text_back start name text other) ∙ characters text other)
 
 -- the value is read from its text
-back_for : (start : ℕ) (k : ColKind) (key : Bool) (v : Val) → IsHeld v → not (is_of_kind k v) ≡ false → key && is_null v ≡ false
-    → (holds_or (not (key && is_none (text_of v))) (fault.NullKey start) >> found_or (value_of k (text_of v)) (fault.BadInt start)) ≡ Ok v
-back_for start k true value.Null held kind null = absurd (cc)
-back_for start k false value.Null held kind null = refl
-back_for start kind.Int true (value.Int n) held kind null = ap (λ o. found_or (option_map (λ n. value.Int n) o) (fault.BadInt start)) (int_back n held)
-back_for start kind.Int false (value.Int n) held kind null = ap (λ o. found_or (option_map (λ n. value.Int n) o) (fault.BadInt start)) (int_back n held)
-back_for start kind.Text key (value.Int n) held kind null = absurd (cc)
-back_for start kind.Int key (value.Text text) held kind null = absurd (cc)
-back_for start kind.Text true (value.Text text) held kind null = refl
-back_for start kind.Text false (value.Text text) held kind null = refl
-
--- a test that found no fault
-untold : {X : Type 0} (b : Bool) (x : X) (rest : Option X) → cond b (Some x) rest ≡ None → (b ≡ false) × (rest ≡ None)
-untold true x rest e = absurd (cc)
-untold false x rest e = (refl, e)
-
 pub value_back : (start place : ℕ) (column : Column) (v : Val) → IsHeld v → value_fault place column v ≡ None → value_for start column (text_of v) ≡ Ok v
-value_back start place column v held e =
-    let kind = untold (not (is_of_kind column.kind v)) (Kind place) _ e in
-    let null = untold (column.key && is_null v) (NullKey place) None kind.1 in
-    back_for start column.kind column.key v held kind.0 null.0
+value_back start place column value.Null held e = grind (arith, e)
+value_back start place column (value.Int n) held e = grind (arith, e, int_back n held)
+value_back start place column (value.Text text) held e = grind (arith, e)

@@ -1,11 +1,11 @@
 -- What is written for a row is read as that row.
-use Rattle.std.proofs.Common.{◌≡◌, ◌≢◌, ℕ, ◌+◌, ◌<◌, Bool, true, false, cond, List, [], ◌∷◌, ◌++◌, length, get_or, set, map, Option, Some, None, Ok, refl, sym, ◌∙◌, ap, subst, arith, append_assoc, append-nil, length-append}
+use Rattle.std.proofs.Common.{◌≡◌, ◌≢◌, ℕ, ◌+◌, ◌<◌, true, false, List, [], ◌∷◌, ◌++◌, length, get_or, set, map, Option, Some, None, Ok, refl, sym, ◌∙◌, ap, subst, arith, append_assoc, append-nil, length-append}
 use Rattle.std.specs.Prelude.{◌==◌, find, filter, bytes_eq, All, AllPairs}
 use Rattle.std.specs.List.{enumerate_from, slice_split, join_with_byte}
 use Rattle.std.specs.Option.{option_or}
 use Rattle.std.proofs.Math.ListN.{get_or-append}
 use Rattle.std.proofs.Math.Seq.{get_or-append_seam, set-append_seam}
-use Rattle.std.proofs.lemmas.Bool.{eqb-true, cond-true, cond-false, lt-ltb}
+use Rattle.std.proofs.lemmas.Bool.{cond-true, cond-false}
 use Rattle.std.proofs.lemmas.List.{map-append, length-map}
 use Rattle.std.proofs.lemmas.List.Elements.{All-nil, All-cons, All-head, All-tail, All-weaker}
 use Rattle.std.proofs.lemmas.List.Splits.{slice_split_at, slice_split_none}
@@ -14,12 +14,12 @@ use Rattle.form_urlencoded.specs.Form.{ampersand, is_nonempty}
 use Rattle.sky_val.specs.declared.val.Val.{Val}
 use Rattle.sky_val.specs.declared.column.Column.{Column}
 use Rattle.sky_val.specs.declared.schema.RowFault.{RowFault}
-use Rattle.sky_val.specs.declared.schema.RowFault.TheVariants.{Count}
 use Rattle.sky_val.specs.Schemas.{value_fault, values_fault, row_fault, AreNamed}
 use Rattle.sky_urlenc.specs.Held.{HoldsOne, HoldsAll}
 use Rattle.sky_urlenc.specs.RowText.{column_text, column_texts, row_text}
 use Rattle.sky_urlenc.specs.ReadRow.{◌>>=◌, Piece, placed, pieces_from, name_in, text_in, is_text, column_named, value_for, given_by, all_given, values_from, read_row}
 use Rattle.sky_urlenc.proofs.PieceBack.{text_of, column_text-written, written_no_ampersand, written_some, zero-add, text_of-IsWord, piece_written, name_back, text_back, is_text_back, value_back}
+use Rattle.std.proofs.lemmas.Bool.Decides.{nat_tests}
 
 -- the column of a name that no earlier one has
 named_back : (n : ℕ) (front columns : List Column) (column : Column) → All (λ c. bytes_eq c.name column.name ≡ false) front
@@ -57,10 +57,7 @@ apart_here front columns column apart k d within =
     let here = get_or-append_seam front column columns d in
     let longer : length front < length (front ++ column ∷ columns) = omega (arith, length-append front (column ∷ columns)) in
     let other : (get_or front k d).name ≢ column.name = λ same. apart k (length front) d within longer (ap (λ c. c.name) earlier ∙ same ∙ sym (ap (λ c. c.name) here)) in
-    elim (bytes_eq (get_or front k d).name column.name) as (λ b. bytes_eq (get_or front k d).name column.name ≡ b → b ≡ false) [
-      | true ↦ λ is. absurd (other ((bytes_eq-Decides (get_or front k d).name column.name).0 is))
-      | false ↦ λ is. refl
-    ] refl
+    grind (arith, other, (bytes_eq-Decides (get_or front k d).name column.name).0)
 
 no_fault : (one other : Option RowFault) → option_or one other ≡ None → (one ≡ None) × (other ≡ None)
 no_fault None other e = (refl, e)
@@ -102,8 +99,7 @@ split_back text (next ∷ texts) none =
 none_skipped : (start : ℕ) (texts : List (List ℕ)) → All (λ t. 0 < length t) texts → filter (λ piece. is_nonempty piece.bytes) (placed start texts) ≡ placed start texts
 none_skipped start [] some = refl
 none_skipped start (text ∷ texts) some =
-    cond-true _ _ _ (lt-ltb 0 (length text) (All-head (λ t. 0 < length t) text texts some))
-    ∙ ap (λ pieces. record { start = start; bytes = text } ∷ pieces) (none_skipped (start + length text + 1) texts (All-tail (λ t. 0 < length t) text texts some))
+    grind (arith, nat_tests, All-head (λ t. 0 < length t) text texts some, none_skipped (start + length text + 1) texts (All-tail (λ t. 0 < length t) text texts some))
 
 pieces_back : (start : ℕ) (texts : List (List ℕ)) → All (λ t. All (λ b. (b == ampersand) ≡ false) t) texts → All (λ t. 0 < length t) texts → pieces_from start (join_with_byte ampersand texts) ≡ placed start texts
 pieces_back start [] none some = refl
@@ -128,16 +124,12 @@ texts_apart (column ∷ columns) (v ∷ row) holds named =
 
 -- ---- the row
 
-counted : (b : Bool) (x : RowFault) (rest : Option RowFault) → cond b rest (Some x) ≡ None → (b ≡ true) × (rest ≡ None)
-counted true x rest e = (refl, e)
-counted false x rest e = absurd (cc)
-
 pub read_back : (columns : List Column) (row : List Val) → AllPairs (λ one other. one.name ≢ other.name) columns → row_fault columns row ≡ None → HoldsAll columns row → AreNamed columns → read_row columns (row_text columns row) ≡ Ok row
 read_back columns row apart e holds named =
-    let counts = counted (length row == length columns) Count (values_fault 0 columns row) e in
     let texts = texts_apart columns row holds named in
     let pieces = pieces_back 0 (column_texts columns row) (All-weaker IsApart (λ t. All (λ b. (b == ampersand) ≡ false) t) (λ t a. a.none) (column_texts columns row) texts) (All-weaker IsApart (λ t. 0 < length t) (λ t a. a.some) (column_texts columns row) texts) in
-    let alike : length row ≡ length columns = eqb-true (length row) (length columns) counts.0 in
+    let alike : length row ≡ length columns = grind (arith, nat_tests, e) in
+    let fits : values_fault 0 columns row ≡ None = grind (arith, e) in
     ap (λ pieces. all_given columns (map (λ _. None) columns) pieces >>= (λ given. values_from 0 given)) pieces
-    ∙ ap (λ checked. checked >>= (λ given. values_from 0 given)) (all_back columns [] columns [] row (map (λ _. None) columns) 0 0 refl refl refl alike apart holds counts.1)
+    ∙ ap (λ checked. checked >>= (λ given. values_from 0 given)) (all_back columns [] columns [] row (map (λ _. None) columns) 0 0 refl refl refl alike apart holds fits)
     ∙ values_back 0 row

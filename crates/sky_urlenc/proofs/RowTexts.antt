@@ -1,8 +1,7 @@
 -- A row's text as it grows, column by column.
-use Rattle.std.proofs.Common.{◌≡◌, ◌⊎◌, inl, inr, Bool, true, false, ℕ, zero, suc, ◌+◌, ◌<◌, ◌≤◌, List, [], ◌∷◌, ◌++◌, length, refl, sym, ◌∙◌, ap, arith, append_assoc, append-nil, cond, drop, get_or, add-one}
+use Rattle.std.proofs.Common.{◌≡◌, ◌⊎◌, inl, inr, Bool, true, false, ℕ, zero, suc, ◌+◌, ◌<◌, ◌≤◌, List, [], ◌∷◌, ◌++◌, length, refl, sym, ◌∙◌, ap, arith, append_assoc, append-nil, drop, get_or}
 use Rattle.std.specs.List.{join_with_byte}
-use Rattle.std.proofs.Math.Seq.{drop-cons}
-use Rattle.std.proofs.lemmas.List.{nil_from_length}
+use Rattle.std.proofs.lemmas.List.{nil_from_length, drop_more}
 use Rattle.form_urlencoded.specs.Form.{ampersand}
 use Rattle.sky_val.specs.declared.val.Val.{Val}
 use Rattle.sky_val.specs.declared.column.Column.{Column}
@@ -71,7 +70,4 @@ next_behind_byte byte old mid new piece pieces pushed added = rw (added, pushed)
 -- the next column is the first of the key columns that are left
 pub key_next : (columns : List Column) (place : ℕ) (column : Column) → place < length columns → column ≡ get_or columns place column → column.key ≡ true
     → key_columns (drop place columns) ≡ column ∷ key_columns (drop (place + 1) columns)
-key_next columns place column within is key =
-    ap key_columns (drop-cons columns place column within ∙ (λ i. sym is i ∷ drop (suc place) columns))
-    ∙ ap (λ b. cond b (column ∷ key_columns (drop (suc place) columns)) (key_columns (drop (suc place) columns))) key
-    ∙ ap (λ n. column ∷ key_columns (drop n columns)) (sym (add-one place))
+key_next columns place column within is key = grind (arith, is, key, drop_more columns place column within)
