@@ -69,25 +69,11 @@ plain-if k none who _ e = refl
 pub plain-abort : (who : ℕ) (b : Block) (txid : Option ℕ) (refusal : Refusal) → WritesNone (abort who b txid refusal)
 plain-abort who b txid refusal = each-abort AnyReply is_no_write (λ _. tt) (plain-if no_more refl) who b txid refusal
 
--- a wait, or the refusal of one
-plain-blocked : (d : RowPart) (who table : ℕ) (key : List Val) (attempt : Attempt) (holder : ℕ) → PlainOutcome (blocked d who table key attempt holder)
-plain-blocked d who table key attempt holder =
-    each-given AnyReply is_no_write (blocked d who table key attempt holder) (after AnyReply is_no_write (refused_by (option_map Deadlock (ring d who holder))) _ (tt, tt))
-
 -- `get`
 pub plain-get : (d : RowPart) (shown : RowsShown) (who : ℕ) (name : List ℕ) (key : List Val) → PlainOutcome (get d shown who name key)
 plain-get d shown who name key =
     each-map (may_leave no_more who) is_no_write (plain-if no_more refl who) (marks_of (get d shown who name key))
     (each-given ReplyHasMoments (may_leave no_more who) (get d shown who name key) (gives-row_form who d shown (Get name key)))
-
--- so the gate isn't told of a wait
-pub gated-blocked : {G : Type 0} (gate : Gate G) (g : G) (d : RowPart) (who table : ℕ) (key : List Val) (attempt : Attempt) (holder : ℕ)
-    → gated gate g (blocked d who table key attempt holder) ≡ blocked d who table key attempt holder
-gated-blocked gate g d who table key attempt holder = gated-none gate g (blocked d who table key attempt holder) (plain-blocked d who table key attempt holder)
-
-pub passed-blocked : {G : Type 0} (gate : Gate G) (g : G) (d : RowPart) (who table : ℕ) (key : List Val) (attempt : Attempt) (holder : ℕ)
-    → passed_all gate g (marks_of (blocked d who table key attempt holder)) ≡ g
-passed-blocked gate g d who table key attempt holder = passed-none gate g (marks_of (blocked d who table key attempt holder)) (plain-blocked d who table key attempt holder)
 
 -- a refusal that aborts a block tells it of nothing
 pub passed-abort : {G : Type 0} (gate : Gate G) (g : G) (who : ℕ) (b : Block) (txid : Option ℕ) (refusal : Refusal) → passed_all gate g (abort who b txid refusal) ≡ g

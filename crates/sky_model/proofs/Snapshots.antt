@@ -36,10 +36,6 @@ pub contains-filter : (t x : ℕ) (xs : List ℕ) → contains t (filter (λ u. 
 contains-filter t x [] = refl
 contains-filter t x (y ∷ ys) = grind (arith, nat_tests, contains-filter t x ys)
 
--- the last of a list is contained
-pub contains-last : (t : ℕ) (xs : List ℕ) → contains t (xs ++ t ∷ []) ≡ true
-contains-last t xs = contains-push t t xs ∙ grind (arith, nat_tests)
-
 AllBelow-push : (n x : ℕ) (xs : List ℕ) → AllBelow n xs → x < n → AllBelow n (xs ++ x ∷ [])
 AllBelow-push n x [] all lt = (lt, tt)
 AllBelow-push n x (y ∷ ys) all lt = (all.0, AllBelow-push n x ys all.1 lt)
