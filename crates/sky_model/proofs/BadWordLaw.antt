@@ -11,7 +11,8 @@ use Rattle.sky_model.specs.Grammar.{Row, goes_on, reads, all_forms, named_form, 
 use Rattle.sky_model.specs.LawsOfLines.{words_of, BeginsALine, IsLeastBadWord, BadWordIsLeast}
 use Rattle.sky_model.proofs.FirstWords.{has_first}
 use Rattle.sky_model.proofs.LeastBadWord.{Begins, bad_within, none_begins, some_begins}
-use Rattle.sky_model.proofs.WholeWords.{joined, words-joined, run_of-Ok, whole-line_of_words}
+use Rattle.sky_model.proofs.WholeWords.{joined, words-joined}
+use Rattle.sky_model.proofs.InFormLaw.{whole-line_of_words}
 
 -- where words go wrong: at the session's word, behind it where it is alone, at the first word of the statement, or behind that
 data Fault (w : List ℕ) (ws : List (List ℕ)) (k : ℕ) : Type 0 where
@@ -19,6 +20,10 @@ data Fault (w : List ℕ) (ws : List (List ℕ)) (k : ℕ) : Type 0 where
   session_alone : (name : List ℕ) → session_of w ≡ Some name → ws ≡ [] → k ≡ 2 → Fault w ws k
   no_form : (name f : List ℕ) (rest : List (List ℕ)) → session_of w ≡ Some name → ws ≡ f ∷ rest → named_form f all_forms ≡ [] → k ≡ 2 → Fault w ws k
   in_form : (name f : List ℕ) (rest : List (List ℕ)) (row : Row) (rows : List Row) (j : ℕ) → session_of w ≡ Some name → ws ≡ f ∷ rest → named_form f all_forms ≡ row ∷ rows → reads (row ∷ rows) 3 rest ≡ Err k → k ≡ suc (suc (suc j)) → j ≤ length rest → Fault w ws k
+
+run_of-Ok : (session : List ℕ) (r : Result Stmt ℕ) (says : Line) → run_of session r ≡ Ok says → (stmt : Stmt) × (r ≡ Ok stmt)
+run_of-Ok session (Ok stmt) says so = (stmt, refl)
+run_of-Ok session (Err n) says so = absurd (cc)
 
 run_of-Err : (session : List ℕ) (r : Result Stmt ℕ) (k : ℕ) → run_of session r ≡ Err k → r ≡ Err k
 run_of-Err session (Ok stmt) k so = absurd (cc)

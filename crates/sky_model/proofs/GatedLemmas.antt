@@ -1,25 +1,23 @@
 -- What a gate in front of writes does: it is told of each write, refuses those that it has no room for, and leaves all else.
-use Rattle.std.proofs.Common.{◌≡◌, ℕ, Bool, true, false, List, [], ◌∷◌, ◌++◌, Option, Ok, Err, option_map, refl, ◌∙◌, ap}
+use Rattle.std.proofs.Common.{◌≡◌, ℕ, Bool, true, false, List, [], ◌∷◌, ◌++◌, Option, Ok, Err, refl, ◌∙◌, ap}
 use Rattle.std.specs.Prelude.{not, ◌&&◌}
 use Rattle.sky_val.specs.declared.val.Val.{Val}
-use Rattle.sky_model.specs.declared.stmt.Attempt.{Attempt}
 use Rattle.sky_model.specs.declared.stmt.RowStmt.{RowStmt}
 use Rattle.sky_model.specs.declared.stmt.RowStmt.TheVariants.{Get}
 use Rattle.sky_model.specs.declared.reply.Refusal.{Refusal}
-use Rattle.sky_model.specs.declared.reply.Refusal.TheVariants.{Deadlock, EventIdsSpent}
+use Rattle.sky_model.specs.declared.reply.Refusal.TheVariants.{EventIdsSpent}
 use Rattle.sky_model.specs.History.{Mark, of_session, tabled, wrote}
 use Rattle.sky_model.specs.Sessions.{Block}
 use Rattle.sky_model.specs.State.{RowPart, after_part, after_part_marks}
 use Rattle.sky_model.specs.ShownRows.{RowsShown, rows_by}
-use Rattle.sky_model.specs.Outcome.{Outcome, Checked, marks_of, ◌>>◌, refused_if, refused_by, abort}
-use Rattle.sky_model.specs.StepLocks.{ring, blocked}
+use Rattle.sky_model.specs.Outcome.{Outcome, Checked, marks_of, ◌>>◌, refused_if, abort}
 use Rattle.sky_model.specs.StepRows.{get}
 use Rattle.sky_model.specs.Reader.{part_by_itself}
 use Rattle.sky_model.specs.Gates.{Gate, takes, passed, takes_all, passed_all, gated, by_gate, open_gate}
 use Rattle.sky_model.specs.Settling.{Turn, behind_marks, with_settling}
 use Rattle.sky_model.specs.Calls.{row_turn}
 use Rattle.sky_model.specs.Printed.{ReplyHasMoments}
-use Rattle.sky_model.proofs.StatementMarks.{EachMark, each-map, AnyReply, each-given, after, Kinds, no_more, may_leave, gives-row_form, each-abort}
+use Rattle.sky_model.proofs.StatementMarks.{EachMark, each-map, AnyReply, each-given, Kinds, no_more, may_leave, gives-row_form, each-abort}
 use Rattle.sky_model.proofs.Turns.{ReadAlike, same-with_settling, alike-turn, Any, each-any}
 
 -- a place behind marks is the part behind them, and the gate behind them
