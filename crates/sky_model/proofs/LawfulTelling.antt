@@ -1,6 +1,8 @@
 -- A statement on rows leaves a legal history legal once its writes are told of.
 use Rattle.std.proofs.Common.{◌≡◌, ℕ, ℤ, ◌+◌, ◌^◌, List, [], ◌∷◌, ◌++◌, Bool, true, false, cond, ◌==◌, nat_le, Option, Some, Ok, Err, map, refl, sym, ◌∙◌, ap, subst, arith, if◌then◌else◌}
 use Rattle.std.specs.Prelude.{filter, not}
+use Rattle.std.proofs.lemmas.List.Elements.{All-nil, All-head, All-tail, All-push, All-weaker, All-map, All-filter}
+use Rattle.std.specs.List.{All}
 use Rattle.sky_val.specs.declared.val.Val.{Val}
 use Rattle.sky_keys.specs.Waits.{other_than, is_waiting}
 use Rattle.sky_names.specs.Places.{place_of}
@@ -35,57 +37,34 @@ legal_behind h (mark ∷ marks) l (more fine chain) = legal_behind (mark ∷ h) 
 
 -- ---- the events of triggers go to queues
 
--- the queues of triggers are among these
-abbrev pub TriggersAmong : List NamedQueue → List TableTrigger → Type 0
-TriggersAmong queues [] = Unit {0}
-TriggersAmong queues (t ∷ ts) = IsAmong t.trigger.queue queues × TriggersAmong queues ts
-
--- and those of events
-abbrev EventsAmong : List NamedQueue → List RowEvent → Type 0
-EventsAmong queues [] = Unit {0}
-EventsAmong queues (e ∷ es) = IsAmong e.queue queues × EventsAmong queues es
-
-among-more : (queues : List NamedQueue) (last : NamedQueue) (ts : List TableTrigger) → TriggersAmong queues ts → TriggersAmong (queues ++ last ∷ []) ts
-among-more queues last [] among = tt
-among-more queues last (t ∷ ts) among = (among-before queues last t.trigger.queue among.0, among-more queues last ts among.1)
-
-among-push : (queues : List NamedQueue) (ts : List TableTrigger) (t : TableTrigger) → TriggersAmong queues ts → IsAmong t.trigger.queue queues → TriggersAmong queues (ts ++ t ∷ [])
-among-push queues [] t among is = (is, tt)
-among-push queues (x ∷ xs) t among is = (among.0, among-push queues xs t among.1 is)
-
-among-of : (queues : List NamedQueue) (table : ℕ) (ts : List TableTrigger) → TriggersAmong queues ts → TriggersAmong queues (triggers_of table ts)
-among-of queues table [] among = tt
-among-of queues table (t ∷ ts) among = of (t.table == table) (among-of queues table ts among.1)
-  where
-    of : (b : Bool) → TriggersAmong queues (triggers_of table ts) → TriggersAmong queues (cond b (t ∷ triggers_of table ts) (triggers_of table ts))
-    of true ih = (among.0, ih)
-    of false ih = ih
-
 below-mark : {h : History} {mark : Mark} → Legal (mark ∷ h) → Legal h
 below-mark (next l fine) = l
 
 traced-queue : {h : History} {table : ℕ} {name : Option (List ℕ)} {trigger : Trigger} → Legal (queued (traced table name trigger) ∷ h) → IsQueue h trigger.queue
 traced-queue (next l (traces table name trigger below is new)) = is
 
+-- the queues of triggers are among these
+abbrev pub TriggersAmong : List NamedQueue → List TableTrigger → Type 0
+TriggersAmong queues ts = All (λ t. IsAmong t.trigger.queue queues) ts
+
+-- and those of events
+abbrev EventsAmong : List NamedQueue → List RowEvent → Type 0
+EventsAmong queues es = All (λ e. IsAmong e.queue queues) es
+
 -- triggers are of queues that stand
 pub trigger-queues : (h : History) → Legal h → TriggersAmong (queues h) (triggers h)
-trigger-queues [] l = tt
-trigger-queues (queued (made name) ∷ h) l = among-more (queues h) (record { number = queues_made h; name = name }) (triggers h) (trigger-queues h (below-mark l))
+trigger-queues [] l = All-nil (λ t. IsAmong t.trigger.queue [])
+trigger-queues (queued (made name) ∷ h) l =
+    let last : NamedQueue = record { number = queues_made h; name = name } in
+    All-weaker (λ t. IsAmong t.trigger.queue (queues h)) (λ t. IsAmong t.trigger.queue (queues h ++ last ∷ [])) (λ t among. among-before (queues h) last t.trigger.queue among) (triggers h) (trigger-queues h (below-mark l))
 trigger-queues (queued (traced table name trigger) ∷ h) l =
-    among-push (queues h) (triggers h) (record { table = table; name = name; trigger = trigger }) (trigger-queues h (below-mark l)) (traced-queue l)
+    All-push (λ t. IsAmong t.trigger.queue (queues h)) (triggers h) (record { table = table; name = name; trigger = trigger }) (trigger-queues h (below-mark l)) (traced-queue l)
 trigger-queues (_ ∷ h) l = trigger-queues h (below-mark l)
 
 -- so are the events of a write
 events-queues : (queues : List NamedQueue) (w : Write) (ts : List TableTrigger) → TriggersAmong queues ts → EventsAmong queues (events_of w (map TableTrigger.trigger ts))
-events-queues queues w [] among = tt
-events-queues queues w (t ∷ ts) among = of (not (leaves_out t.trigger w.columns w.old w.new)) among.0 (events-queues queues w ts among.1)
-  where
-    rest : List Trigger
-    rest = filter (λ trigger. not (leaves_out trigger w.columns w.old w.new)) (map TableTrigger.trigger ts)
-
-    of : (b : Bool) → IsAmong t.trigger.queue queues → EventsAmong queues (map (event_of w) rest) → EventsAmong queues (map (event_of w) (if b then t.trigger ∷ rest else rest))
-    of true is ih = (is, ih)
-    of false is ih = ih
+events-queues queues w ts among =
+    All-map (λ e. IsAmong e.queue queues) (event_of w) _ (All-filter _ (λ t. IsAmong t.queue queues) (map TableTrigger.trigger ts) (All-map (λ t. IsAmong t.queue queues) TableTrigger.trigger ts among))
 
 -- ---- what is told of a mark may come behind it
 
@@ -99,19 +78,22 @@ told-well : (h : History) → Legal h → (now : ℤ) (who t : ℕ) (es : List R
 told-well h l now who t [] mine among = (done, refl)
 told-well h l now who t (e ∷ es) mine among =
     of (nat_le (2 ^ 62) id)
-    (subst (λ d. ToldWell behind (told_by d now t es)) (database_of-marks h (event_marks e.queue (told_event id now t e))) (told-well behind (next (next l raised_fine) put_fine) now who t es mine among.1))
+    (subst (λ d. ToldWell behind (told_by d now t es)) (database_of-marks h (event_marks e.queue (told_event id now t e))) (told-well behind (next (next l raised_fine) put_fine) now who t es mine (All-tail (λ e. IsAmong e.queue (queues h)) e es among)))
   where
     id : ℕ
     id = sequence e.queue h + 1
+
+    there : IsQueue h e.queue
+    there = All-head (λ e. IsAmong e.queue (queues h)) e es among
 
     behind : History
     behind = queued (put e.queue (told_event id now t e)) ∷ queued (raised e.queue id) ∷ h
 
     raised_fine : Fine h (queued (raised e.queue id))
-    raised_fine = raises e.queue id among.0 (omega arith)
+    raised_fine = raises e.queue id there (omega arith)
 
     put_fine : Fine (queued (raised e.queue id) ∷ h) (queued (put e.queue (told_event id now t e)))
-    put_fine = puts who e.queue (told_event id now t e) among.0 (ap (λ b. if b then id else sequence e.queue h) (sym (same-session e.queue))) mine (events_below-next h l e.queue)
+    put_fine = puts who e.queue (told_event id now t e) there (ap (λ b. if b then id else sequence e.queue h) (sym (same-session e.queue))) mine (events_below-next h l e.queue)
 
     joined : (x : Checked (List Mark)) → ToldWell behind x → ToldWell h (x >>= (λ rest. Ok (event_marks e.queue (told_event id now t e) ++ rest)))
     joined (Err refusal) well = tt
@@ -129,7 +111,7 @@ writer-owns (writes who t table key old new mine free stands) = mine
 told_of-well : (h : History) → Legal h → (now : ℤ) (mark : Mark) → Fine h mark → ToldWell (mark ∷ h) (told_of (database_of (mark ∷ h)) now mark)
 told_of-well h l now (tabled (wrote (of_session who) t table key old new)) fine =
     told-well (tabled (wrote (of_session who) t table key old new) ∷ h) (next l fine) now who t (events_in (database_of (tabled (wrote (of_session who) t table key old new) ∷ h)) table old new) (writer-owns fine)
-    (events-queues (queues h) (write_in (database_of (tabled (wrote (of_session who) t table key old new) ∷ h)) table old new) (triggers_of table (triggers h)) (among-of (queues h) table (triggers h) (trigger-queues h l)))
+    (events-queues (queues h) (write_in (database_of (tabled (wrote (of_session who) t table key old new) ∷ h)) table old new) (triggers_of table (triggers h)) (All-filter (λ t. t.table == table) (λ t. IsAmong t.trigger.queue (queues h)) (triggers h) (trigger-queues h l)))
 told_of-well h l now _ fine = (done, refl)
 
 -- ---- marks of rows may come wherever the row part is the same
