@@ -17,7 +17,8 @@ use Rattle.sky_model.specs.Grammar.{Row, stop, literal, one, either, many, text_
 use Rattle.sky_model.specs.InForm.{IsOf, AreOf, IsInForm, IsLineInForm}
 use Rattle.sky_model.specs.LawsOfLines.{LinesAreInForm}
 use Rattle.sky_model.proofs.WholeWords.{whole, AllWhole, whole-last}
-use Rattle.sky_model.proofs.WordsInForm.{IsWhole, if_only, worth}
+use Rattle.sky_model.proofs.Cases.{if_only}
+use Rattle.sky_model.proofs.WordsInForm.{IsWhole, worth}
 
 -- ---- rows that end with statements in form
 

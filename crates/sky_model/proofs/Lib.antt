@@ -6,7 +6,7 @@ pub mod WorkedScripts
 mod WorkedOpening
 mod WorkedRows
 mod WorkedBatches
-pub mod Tests
+pub mod Cases
 pub mod FirstWords
 pub mod NameLemmas
 pub mod LeastBadWord

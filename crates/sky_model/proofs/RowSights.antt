@@ -26,7 +26,7 @@ use Rattle.sky_model.proofs.Snapshots.{contains-push, sees-snapshot, own-unended
 use Rattle.sky_model.proofs.RowWrites.{over, last_of, at-put_all, is_in_order-put_all, is_in_order-in_turn, has_written-last_of, last_writer-has}
 use Rattle.sky_model.proofs.RowKeys.{is_in_order-versions}
 use Rattle.sky_model.proofs.KeyVersions.{kept, key_holds, kept-wrote}
-use Rattle.sky_model.proofs.Tests.{by_test}
+use Rattle.sky_model.proofs.Cases.{by_test}
 
 -- a history goes on from another
 pub data Since (k : History) : History → Type 0 where

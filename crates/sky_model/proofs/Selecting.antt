@@ -14,7 +14,7 @@ use Rattle.sky_model.specs.State.{database_of}
 use Rattle.sky_model.proofs.Legal.{ends, raises, puts, ticks_next, Legal, start, next}
 use Rattle.sky_model.proofs.Snapshots.{sees-snapshot, own-unended, has_committed-ended}
 use Rattle.sky_model.proofs.Ticks.{snapshot-at_tick, legal-at_tick}
-use Rattle.sky_model.proofs.Tests.{by_same}
+use Rattle.sky_model.proofs.Cases.{by_same}
 
 -- what had ended at a tick has ended
 ended-at_tick : (h : History) (q id t : ℕ) → has_ended (at_tick q id h) t ≡ true → has_ended h t ≡ true

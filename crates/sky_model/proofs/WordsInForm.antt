@@ -18,32 +18,11 @@ use Rattle.sky_model.specs.declared.stmt.Change.{Change}
 use Rattle.sky_model.specs.declared.stmt.Change.TheVariants.{To, Add}
 use Rattle.sky_model.specs.Kinds.{Kind, Name, Dotted, Number, OptText, Raw, Value, Column, Set, Ignore, value, is_bare, is_bare_word, raw, is_name, is_dotted, first_place, value_of, column_kind, column_around, set_as, set_by, set_around, between_commas, ignore_of, is_text_byte, text_from, in_characters, quoted_text, opt_text}
 use Rattle.sky_model.specs.InForm.{IsQuotable, IsOptText, IsValue, IsChange, IsOf}
+use Rattle.sky_model.proofs.Cases.{if_cond, if_only, if_map, if_then, if_or}
 use Rattle.sky_model.proofs.WholeWords.{whole, whole-append, whole-is_number, whole-is_bare_word, whole-is_name, whole-is_dotted, whole-around, whole-last, continues_all-is_name, whole-between_commas}
 
 abbrev pub IsWhole : List ℕ → Type 0
 IsWhole w = whole false w ≡ true
-
--- ---- what holds of a value, if there is one
-
--- by a test
-if_cond : {A : Type 0} (P : A → Type 0) (b : Bool) (x y : Option A) → (b ≡ true → IfSome x P) → (b ≡ false → IfSome y P) → IfSome (cond b x y) P
-if_cond P b x y here there = cond_both b x y (λ o. IfSome o P) here there
-
--- which lets one through
-pub if_only : {A : Type 0} (P : A → Type 0) (b : Bool) (x : Option A) → (b ≡ true → IfSome x P) → IfSome (cond b x None) P
-if_only P b x here = if_cond P b x None here (λ _. tt)
-
-if_map : {A B : Type 0} (P : B → Type 0) (f : A → B) (o : Option A) → IfSome o (λ a. P (f a)) → IfSome (option_map f o) P
-if_map P f None some = tt
-if_map P f (Some a) some = some
-
-if_then : {A B : Type 0} (P : B → Type 0) (f : A → Option B) (o : Option A) → IfSome o (λ a. IfSome (f a) P) → IfSome (option_and_then f o) P
-if_then P f None some = tt
-if_then P f (Some a) some = some
-
-if_or : {A : Type 0} (P : A → Type 0) (x y : Option A) → IfSome x P → IfSome y P → IfSome (option_or x y) P
-if_or P None y some other = other
-if_or P (Some a) y some other = some
 
 -- of a word that is this text, or else is whole
 if_text : {A : Type 0} (P : A → Type 0) (w text : List ℕ) (x : A) (rest : Option A) → IsWhole text → P x → IfSome rest (λ v. IsWhole w × P v) → IfSome (cond (bytes_eq w text) (Some x) rest) (λ v. IsWhole w × P v)
