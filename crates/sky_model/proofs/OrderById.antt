@@ -5,14 +5,13 @@ use Rattle.sky_val.specs.declared.event.Event.{Event}
 use Rattle.sky_model.specs.Batches.{with_event, by_id_onto, by_id}
 use Rattle.sky_model.specs.LawsOfBatches.{InOrder, with_id, IdsDontFall, EqualIdsStay}
 use Rattle.sky_model.proofs.Selecting.{Ordered}
+use Rattle.std.proofs.lemmas.Bool.{cond_both}
 
 Ordered-with_event : (low : ℕ) (e : Event) (es : List Event) → low ≤ e.ev_id → Ordered low es → Ordered low (with_event e es)
 Ordered-with_event low e [] le o = (le, tt)
-Ordered-with_event low e (x ∷ xs) le o = of (nat_lt e.ev_id x.ev_id) refl (λ more. Ordered-with_event x.ev_id e xs more o.1)
-  where
-    of : (b : Bool) → nat_lt e.ev_id x.ev_id ≡ b → (x.ev_id ≤ e.ev_id → Ordered x.ev_id (with_event e xs)) → Ordered low (if b then e ∷ x ∷ xs else x ∷ with_event e xs)
-    of true test ih = (le, ((grind (arith, nat_tests)), o.1))
-    of false test ih = (o.0, ih (grind (arith, nat_tests)))
+Ordered-with_event low e (x ∷ xs) le o =
+    cond_both (nat_lt e.ev_id x.ev_id) (e ∷ x ∷ xs) (x ∷ with_event e xs) (Ordered low) (λ test. (le, ((grind (arith, nat_tests)), o.1)))
+    (λ test. (o.0, Ordered-with_event x.ev_id e xs (grind (arith, nat_tests)) o.1))
 
 Ordered-by_id_onto : (sorted es : List Event) → Ordered 0 sorted → Ordered 0 (by_id_onto sorted es)
 Ordered-by_id_onto sorted [] o = o

@@ -13,15 +13,15 @@ use Rattle.sky_model.specs.Rows.{committed, writes as writes_of}
 use Rattle.sky_model.specs.Versions.{versions}
 use Rattle.sky_model.proofs.Legal.{Fine, begins, writes, Legal, start, next}
 use Rattle.sky_model.proofs.Snapshots.{contains-push, sound}
+use Rattle.sky_model.proofs.Snapshots.{runs-below}
+use Rattle.std.proofs.lemmas.Bool.{cond_both}
 
 -- the versions of a table stand in the order of their keys
 pub is_in_order-versions : (table : ℕ) (h : History) → is_in_order (versions table h) ≡ true
 is_in_order-versions table [] = refl
-is_in_order-versions table (tabled (wrote who t n key old new) ∷ h) = of (n == table) (is_in_order-versions table h)
-  where
-    of : (b : Bool) → is_in_order (versions table h) ≡ true → is_in_order (if b then written t key new (versions table h) else versions table h) ≡ true
-    of true e = is_in_order-written t key new (versions table h) e
-    of false e = e
+is_in_order-versions table (tabled (wrote who t n key old new) ∷ h) =
+    let ih = is_in_order-versions table h in
+    cond_both (n == table) (written t key new (versions table h)) (versions table h) (λ vs. is_in_order vs ≡ true) (λ _. is_in_order-written t key new (versions table h) ih) (λ _. ih)
 is_in_order-versions table (ended who t false ∷ h) = is_in_order-forgotten t (versions table h) (is_in_order-versions table h)
 is_in_order-versions table (_ ∷ h) = is_in_order-versions table h
 
@@ -40,19 +40,9 @@ Begun h = (table t : ℕ) → next_txid h ≤ t → writes_of table t h ≡ []
 
 begun_step : (h : History) (mark : Mark) → Fine h mark → Legal h → Begun h → Begun (mark ∷ h)
 begun_step h _ (begins who e) l b = λ table t le. b table t (omega arith)
-begun_step h _ (writes who t n key old new e free stands) l b = λ table u le. of table u (n == table) (t == u) refl le
-  where
-    of : (table u : ℕ) (c d : Bool) → (t == u) ≡ d → next_txid h ≤ u → (if c && d then writes_of table u h ++ record { key = key; row = new } ∷ [] else writes_of table u h) ≡ []
-    of table u true true is le =
-        let runs : contains t (running h) ≡ true = (sound h l).owns who t e in
-        let below : t < next_txid h = runs_below (nat_lt t (next_txid h)) refl (sym ((sound h l).runs t) ∙ runs) in
-        absurd (grind (arith, nat_tests))
-      where
-        runs_below : (b : Bool) → nat_lt t (next_txid h) ≡ b → (b && not (has_ended h t)) ≡ true → t < next_txid h
-        runs_below true is e = grind (arith, nat_tests)
-        runs_below false is e = absurd (cc)
-    of table u true false is le = b table u le
-    of table u false d is le = b table u le
+begun_step h _ (writes who t n key old new e free stands) l b = λ table u le.
+    cond_both (n == table && t == u) (writes_of table u h ++ record { key = key; row = new } ∷ []) (writes_of table u h) (λ ws. ws ≡ [])
+    (λ is. let below : t < next_txid h = runs-below h (sound h l) t ((sound h l).owns who t e) in absurd (grind (arith, nat_tests))) (λ _. b table u le)
 begun_step h _ _ l b = b
 
 pub begun : (h : History) → Legal h → Begun h

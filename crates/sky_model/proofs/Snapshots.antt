@@ -49,7 +49,7 @@ first_or-below n [] all = omega arith
 first_or-below n (x ∷ xs) all = let lt : x < n = All-head (λ y. y < n) x xs all in omega arith
 
 -- a running transaction has got its id
-runs-below : (h : History) → Sound h → (t : ℕ) → contains t (running h) ≡ true → t < next_txid h
+pub runs-below : (h : History) → Sound h → (t : ℕ) → contains t (running h) ≡ true → t < next_txid h
 runs-below h s t runs = ltb-true t (next_txid h) (and_parts (nat_lt t (next_txid h)) (not (has_ended h t)) (sym (s.runs t) ∙ runs)).0
 
 -- and hasn't ended

@@ -1,6 +1,6 @@
 -- A key is written by one running transaction at a time, so those that write it commit in the order in which they write it.
 use Rattle.std.proofs.Common.{◌≡◌, ◌≢◌, ℕ, List, [], ◌∷◌, ◌++◌, Bool, true, false, not, refl, sym, ◌∙◌, ap, arith, if◌then◌else◌}
-use Rattle.std.proofs.lemmas.Bool.{true_from_ne_false, false_from_ne_true, or_parts, or_right}
+use Rattle.std.proofs.lemmas.Bool.{true_from_ne_false, false_from_ne_true, or_parts, or_right, and_parts, eqb-true, cond_both}
 use Rattle.std.specs.Prelude.{◌||◌, ◌&&◌, ◌==◌, nat_lt, Option}
 use Rattle.std.specs.Ordering.{eq_by_cmp}
 use Rattle.std.proofs.lemmas.Bool.Decides.{nat_tests}
@@ -18,6 +18,7 @@ use Rattle.sky_model.proofs.SnapshotLaws.{legal-below_mark, fine_mark, legal-bel
 use Rattle.sky_model.proofs.RowKeys.{committed-ended}
 use Rattle.sky_model.proofs.RowSights.{ended-behind}
 use Rattle.sky_model.proofs.Holders.{turned, has_written-push, nobody-else}
+use Rattle.sky_model.proofs.Cases.{by_test, by_same}
 
 -- ---- places in a list
 
@@ -95,12 +96,9 @@ keys_are_written_in_turn p whose u table key old new is =
 -- a write adds its transaction to those that wrote its key, and to no other
 by-write : (table : ℕ) (key : List Val) (h : History) (whose : Whose) (v n : ℕ) (k : List Val) (old new : Option (List Val)) (holds : List ℕ → Type 0)
     → (n ≡ table → k ≡ key → holds (writers table key h ++ v ∷ [])) → holds (writers table key h) → holds (writers table key (tabled (wrote whose v n k old new) ∷ h))
-by-write table key h whose v n k old new holds at_end before = of (n == table) refl (eq_by_cmp key_cmp k key) refl
-  where
-    of : (a : Bool) → (n == table) ≡ a → (b : Bool) → eq_by_cmp key_cmp k key ≡ b → holds (if a && b then writers table key h ++ v ∷ [] else writers table key h)
-    of true same true tie = at_end (grind (arith, nat_tests)) (key_ties-is k key tie)
-    of true same false tie = before
-    of false same b tie = before
+by-write table key h whose v n k old new holds at_end before =
+    cond_both ((n == table) && eq_by_cmp key_cmp k key) (writers table key h ++ v ∷ []) (writers table key h) holds
+    (λ is. let both = and_parts (n == table) (eq_by_cmp key_cmp k key) is in at_end (eqb-true n table both.0) (key_ties-is k key both.1)) (λ _. before)
 
 -- where one wrote a key before another, it has ended
 before-step : (table : ℕ) (key : List Val) (t u : ℕ) (h : History) (whose : Whose) (v n : ℕ) (k : List Val) (old new : Option (List Val)) → Legal (tabled (wrote whose v n k old new) ∷ h)
@@ -156,11 +154,7 @@ snapshots_see_earlier_writers later p is table key t u first seen =
     let l : Legal (later ++ p) = legal_place (later ++ p) is in
     let below : Legal p = legal-below later p l in
     let over : has_ended p u ≡ true = sym (sees-snapshot p below u) ∙ seen in
-    sees-snapshot p below t ∙ of below over (sym (still-before table key t u later p l over) ∙ first) (t == u) refl
-  where
-    of : Legal p → has_ended p u ≡ true → is_before t u (writers table key p) ≡ true → (b : Bool) → (t == u) ≡ b → has_ended p t ≡ true
-    of below over first true same = (let one : t ≡ u = grind (arith, nat_tests) in ap (has_ended p) one ∙ over)
-    of below over first false other = before-ended table key t u p below other first
+    sees-snapshot p below t ∙ by_same (λ _. has_ended p t ≡ true) t u (λ one. ap (has_ended p) one ∙ over) (λ other. before-ended table key t u p below other (sym (still-before table key t u later p l over) ∙ first))
 
 -- ---- commits
 
@@ -181,16 +175,10 @@ writer-step : (table : ℕ) (key : List Val) (t : ℕ) (h : History) (whose : Wh
     → (contains t (writers table key h) ≡ true → nat_lt t 3 ≡ false) → contains t (writers table key (tabled (wrote whose v n k old new) ∷ h)) ≡ true → nat_lt t 3 ≡ false
 writer-step table key t h whose v n k old new l ih =
     by-write table key h whose v n k old new (λ vs. contains t vs ≡ true → nat_lt t 3 ≡ false)
-    (λ table_is key_is e. of (contains t (writers table key h)) refl (t == v) refl (sym (contains-push t v (writers table key h)) ∙ e)) ih
+    (λ table_is key_is e. by_test (λ _. nat_lt t 3 ≡ false) (contains t (writers table key h)) ih (λ none. late (grind (arith, nat_tests, contains-push t v (writers table key h))))) ih
   where
-    late : (b : Bool) → nat_lt t 3 ≡ b → t ≡ v → b ≡ false
-    late false is one = refl
-    late true is one = absurd (cc (sym (early-ended h t is) ∙ ap (has_ended h) one ∙ writer-unended h whose v n k old new (legal-below_mark l) (fine_mark l)))
-
-    of : (b : Bool) → contains t (writers table key h) ≡ b → (c : Bool) → (t == v) ≡ c → (b || c) ≡ true → nat_lt t 3 ≡ false
-    of true isb c isc e = ih isb
-    of false isb true isc e = late (nat_lt t 3) refl (grind (arith, nat_tests))
-    of false isb false isc e = absurd (cc)
+    late : t ≡ v → nat_lt t 3 ≡ false
+    late one = false_from_ne_true (nat_lt t 3) (λ is. cc (sym (early-ended h t is) ∙ ap (has_ended h) one ∙ writer-unended h whose v n k old new (legal-below_mark l) (fine_mark l)))
 
 writer-late : (table : ℕ) (key : List Val) (t : ℕ) (h : History) → Legal h → contains t (writers table key h) ≡ true → nat_lt t 3 ≡ false
 writer-late table key t [] l e = absurd (cc)
@@ -203,19 +191,11 @@ ender-unended h _ _ _ l (ends who v c mine) = own-unended h l who v mine
 
 -- who has ended is another than who hasn't
 ended-other : (h : History) (u v : ℕ) → has_ended h u ≡ true → has_ended h v ≡ false → (u == v) ≡ false
-ended-other h u v over runs = of (u == v) refl
-  where
-    of : (b : Bool) → (u == v) ≡ b → b ≡ false
-    of false is = refl
-    of true is = (let one : u ≡ v = grind (arith, nat_tests) in absurd (cc (sym over ∙ ap (has_ended h) one ∙ runs)))
+ended-other h u v over runs = false_from_ne_true (u == v) (λ is. cc (sym over ∙ ap (has_ended h) (eqb-true u v is) ∙ runs))
 
 -- who hasn't ended hasn't committed
 unended-unlisted : (h : History) (t : ℕ) → has_ended h t ≡ false → contains t (committed h) ≡ false
-unended-unlisted h t runs = of (contains t (committed h)) refl
-  where
-    of : (b : Bool) → contains t (committed h) ≡ b → b ≡ false
-    of false is = refl
-    of true is = absurd (cc (sym runs ∙ committed-ended h t is))
+unended-unlisted h t runs = false_from_ne_true (contains t (committed h)) (λ is. cc (sym runs ∙ committed-ended h t is))
 
 -- of two that wrote a key, the first not rolled back and the second committed, the order of the writes is that of the commits
 abbrev IsOneOrder : History → List ℕ → ℕ → ℕ → Type 0
@@ -255,15 +235,11 @@ order-committed table key t u h whose v l other stays ih has_t has_u listed =
     runs = ender-unended h whose v true below (fine_mark l)
 
     -- the second one commits now: it ran until now, so its writes are the last ones
-    isnt : (u == v) ≡ true → (b : Bool) → is_before u t (writers table key h) ≡ b → b ≡ false
-    isnt same false is = refl
-    isnt same true is =
-        let one : v ≡ u = grind (arith, nat_tests) in
-        let turned_round : (u == t) ≡ false = turned_test u t false other in
-        absurd (cc (sym runs ∙ ap (has_ended h) one ∙ before-ended table key u t h below turned_round is))
+    isnt : (u == v) ≡ true → is_before u t (writers table key h) ≡ false
+    isnt same = false_from_ne_true (is_before u t (writers table key h)) (λ is. cc (sym runs ∙ ap (has_ended h) (sym (eqb-true u v same)) ∙ before-ended table key u t h below (turned_test u t false other) is))
 
     first : (u == v) ≡ true → is_before t u (writers table key h) ≡ true
-    first same = one-before t u (writers table key h) other has_t has_u (isnt same (is_before u t (writers table key h)) refl)
+    first same = one-before t u (writers table key h) other has_t has_u (isnt same)
 
     has_it : (u == v) ≡ true → contains t (committed h) ≡ true
     has_it same =
