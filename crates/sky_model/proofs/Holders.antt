@@ -1,5 +1,5 @@
 -- A session holds a key exactly where its running transaction has written it.
-use Rattle.std.proofs.Common.{◌≡◌, ℕ, ◌≤◌, Bool, true, false, List, [], ◌∷◌, ◌++◌, Option, Some, None, refl, sym, ◌∙◌, ap, arith, if◌then◌else◌}
+use Rattle.std.proofs.Common.{◌≡◌, ℕ, Bool, true, false, List, [], ◌∷◌, ◌++◌, Option, Some, None, refl, sym, ◌∙◌, ap, arith, if◌then◌else◌}
 use Rattle.std.proofs.lemmas.Bool.{or_right, or_parts, eqb-true, false_from_ne_true}
 use Rattle.std.specs.Prelude.{◌||◌, ◌&&◌, ◌==◌}
 use Rattle.std.specs.Ordering.{eq_by_cmp}
@@ -10,7 +10,7 @@ use Rattle.sky_val.specs.Order.{key_cmp}
 use Rattle.sky_keys.specs.Waits.{other_than}
 use Rattle.sky_val.proofs.Orders.{key_cmp-IsTotalOrder}
 use Rattle.sky_keys.proofs.EntryLemmas.{key_ties-is}
-use Rattle.sky_model.specs.History.{Mark, of_session, began, ended, tabled, wrote, History}
+use Rattle.sky_model.specs.History.{Mark, of_session, tabled, wrote, History}
 use Rattle.sky_model.specs.Transactions.{next_txid, has_ended}
 use Rattle.sky_model.specs.Sessions.{own_txid}
 use Rattle.sky_model.specs.Rows.{Write, writes as writes_of, has_written}
@@ -18,7 +18,6 @@ use Rattle.sky_model.specs.Locks.{holder}
 use Rattle.sky_model.specs.LawsOfLocks.{HasWritten}
 use Rattle.sky_model.proofs.Legal.{Fine, begins, ends, writes, Legal, start, next}
 use Rattle.sky_model.proofs.Snapshots.{sound, own-unended}
-use Rattle.sky_model.proofs.RowKeys.{begun}
 use Rattle.sky_model.proofs.Cases.{by_same}
 
 pub turned : (x y : List Val) → eq_by_cmp key_cmp x y ≡ eq_by_cmp key_cmp y x

@@ -1,5 +1,5 @@
 -- The events that tell of a write have smaller ids than those of the same queue that tell of a later write.
-use Rattle.std.proofs.Common.{◌≡◌, ℕ, zero, suc, ℤ, ◌<◌, All, Contains, List, [], ◌∷◌, ◌++◌, Bool, true, false, ◌==◌, Some, Ok, Err, length, refl, sym, ◌∙◌, ap, subst, arith, if◌then◌else◌, ◌⊎◌, inl, inr, append_assoc, length-append, slice_index_or}
+use Rattle.std.proofs.Common.{◌≡◌, ℕ, zero, suc, ℤ, ◌<◌, All, Contains, List, [], ◌∷◌, ◌++◌, ◌==◌, Some, Ok, Err, length, refl, sym, ◌∙◌, ap, subst, arith, if◌then◌else◌, ◌⊎◌, inl, inr, append_assoc, length-append, slice_index_or}
 use Rattle.std.proofs.lemmas.Bool.{cond_both}
 use Rattle.std.proofs.lemmas.List.Elements.{All-pop}
 use Rattle.sky_val.specs.declared.event.Event.{Event}

@@ -1,6 +1,7 @@
 -- Whatever is called of a database, its history is legal.
 use Rattle.std.proofs.Common.{◌≡◌, All, ℕ, suc, zero, ℤ, ◌+◌, ◌<◌, List, [], ◌∷◌, ◌++◌, Bool, true, false, ◌==◌, nat_le, Option, Some, None, Ok, Err, is_ok, option_map, length, is_some, refl, sym, ◌∙◌, ap, subst, arith, ◌^◌, if◌then◌else◌}
 use Rattle.std.specs.Prelude.{find, not}
+use Rattle.std.proofs.lemmas.Bool.{cond_both}
 use Rattle.std.proofs.lemmas.Bool.Decides.{nat_tests}
 use Rattle.sky_model.specs.declared.stmt.Stmt.{Stmt}
 use Rattle.sky_model.specs.declared.stmt.Extra.{Extra}
@@ -190,12 +191,9 @@ good_form h l now who (AddTrigger name table queue backup ignored) may = good_ad
 good_runs_if : (h : History) → Legal h → (now : ℤ) (who : ℕ) (stmt : Stmt) (may : Checked (Unit {0})) → allowed (is_waiting who (waiting h)) (has_open who h) (block who h) (where_of stmt) ≡ may
     → Chain h (runs_if (making database_by_history now who stmt) (where_of stmt) who h may).marks
 good_runs_if h l now who stmt (Err refusal) is = good_refused h who refusal
-good_runs_if h l now who stmt (Ok _) is = of (takes_sight (where_of stmt) (session h who).sight)
-  where
-    of : (b : Bool) → Chain h (if b then looking who (settled who (session (looked who ∷ h) who) (form (database_of (looked who ∷ h)) (shown_in (looked who ∷ h)) now who stmt))
-        else settled who (session h who) (form (database_of h) (shown_in h) now who stmt)).marks
-    of true = more (looks who) (good_form (looked who ∷ h) (next l (looks who)) now who stmt (ap is_ok is))
-    of false = good_form h l now who stmt (ap is_ok is)
+good_runs_if h l now who stmt (Ok _) is =
+    cond_both (takes_sight (where_of stmt) (session h who).sight) (looking who (settled who (session (looked who ∷ h) who) (form (database_of (looked who ∷ h)) (shown_in (looked who ∷ h)) now who stmt))) _ (λ o. Chain h o.marks)
+    (λ _. more (looks who) (good_form (looked who ∷ h) (next l (looks who)) now who stmt (ap is_ok is))) (λ _. good_form h l now who stmt (ap is_ok is))
 
 good_statement : (h : History) → Legal h → (now : ℤ) (who : ℕ) (stmt : Stmt) → Chain h (statement database_by_history h now who stmt).marks
 good_statement h l now who stmt = good_runs_if h l now who stmt (allowed (is_waiting who (waiting h)) (has_open who h) (block who h) (where_of stmt)) refl
@@ -294,7 +292,12 @@ good_row_runs : {P : Type 0} (r : PartReader P) (past : P → History) → Reads
     → allowed (is_waiting who (r.part p).waiting) ((r.part p).session who).is_open ((r.part p).session who).block (where_of_row stmt) ≡ may → Chain (past p) (runs_if (row_making r who stmt) (where_of_row stmt) who p may).marks
 good_row_runs r past reads p l who stmt (Err refusal) is =
     subst (λ (d : RowPart). Chain (past p) (abort who (d.session who).block (d.session who).txid refusal)) (sym (reads.part p)) (good_refused (past p) who refusal)
-good_row_runs {P = P} r past reads p l who stmt (Ok _) is = of (takes_sight (where_of_row stmt) ((r.part p).session who).sight)
+good_row_runs {P = P} r past reads p l who stmt (Ok _) is =
+    cond_both (takes_sight (where_of_row stmt) ((r.part p).session who).sight) (looking who (settled who ((r.part behind).session who) (r.tells behind (row_form (r.part behind) (r.rows behind) who stmt)))) _ (λ o. Chain (past p) o.marks)
+    (λ _. more (looks who) (subst (λ h. Chain h (settled who ((r.part behind).session who) (r.tells behind (row_form (r.part behind) (r.rows behind) who stmt))).marks) (reads.behind p (looked who))
+    (runs_at behind (subst Legal (sym (reads.behind p (looked who))) (next l (looks who)))
+    (subst (λ h. MayStand h who (where_of_row stmt)) (sym (reads.behind p (looked who))) stands))))
+    (λ _. runs_at p l stands)
   where
     behind : P
     behind = r.behind p (looked who)
@@ -306,14 +309,6 @@ good_row_runs {P = P} r past reads p l who stmt (Ok _) is = of (takes_sight (whe
     runs_at q legal stands = good_told r past reads q legal who _ (form-rows (r.part q) (r.rows q) who stmt)
         (subst (λ d. Good (past q) who (row_form d (r.rows q) who stmt)) (sym (reads.part q))
         (subst (λ rows. Good (past q) who (row_form (part_of (past q)) rows who stmt)) (sym (reads.rows q)) (good_row_form (past q) legal who stmt stands)))
-
-    of : (b : Bool) → Chain (past p) (if b then looking who (settled who ((r.part behind).session who) (r.tells behind (row_form (r.part behind) (r.rows behind) who stmt)))
-        else settled who ((r.part p).session who) (r.tells p (row_form (r.part p) (r.rows p) who stmt))).marks
-    of true =
-        more (looks who) (subst (λ h. Chain h (settled who ((r.part behind).session who) (r.tells behind (row_form (r.part behind) (r.rows behind) who stmt))).marks) (reads.behind p (looked who))
-        (runs_at behind (subst Legal (sym (reads.behind p (looked who))) (next l (looks who)))
-        (subst (λ h. MayStand h who (where_of_row stmt)) (sym (reads.behind p (looked who))) stands)))
-    of false = runs_at p l stands
 
 -- and a statement on rows with those that it lets go on
 pub good_row_turn-by : {P : Type 0} (r : PartReader P) (past : P → History) → ReadsPast r past → (p : P) → Legal (past p) → (who : ℕ) (stmt : RowStmt)

@@ -1,14 +1,14 @@
 -- What the versions of a key say of its rows, at each place of a legal history.
-use Rattle.std.proofs.Common.{◌≡◌, ℕ, ◌<◌, ◌≤◌, Bool, true, false, not, [], ◌∷◌, ◌++◌, refl, sym, ◌∙◌, arith, if◌then◌else◌}
+use Rattle.std.proofs.Common.{◌≡◌, ℕ, ◌<◌, ◌≤◌, true, false, [], ◌∷◌, ◌++◌, refl, sym, ◌∙◌, arith}
 use Rattle.std.proofs.lemmas.Bool.{or_right}
-use Rattle.std.specs.Prelude.{◌||◌, ◌&&◌, ◌==◌, nat_lt}
+use Rattle.std.specs.Prelude.{◌||◌, ◌&&◌, ◌==◌}
 use Rattle.std.proofs.lemmas.Bool.Decides.{nat_tests}
 use Rattle.sky_val.specs.Entries.{is_in_order}
 use Rattle.sky_txid.specs.Ids.{contains}
 use Rattle.sky_keys.specs.Versions.{written}
 use Rattle.sky_keys.proofs.EntryLemmas.{is_in_order-written, is_in_order-forgotten}
 use Rattle.sky_model.specs.History.{Mark, ended, tabled, wrote, History}
-use Rattle.sky_model.specs.Transactions.{next_txid, running, has_ended}
+use Rattle.sky_model.specs.Transactions.{next_txid, has_ended}
 use Rattle.sky_model.specs.Rows.{committed, writes as writes_of}
 use Rattle.sky_model.specs.Versions.{versions}
 use Rattle.sky_model.proofs.Legal.{Fine, begins, writes, Legal, start, next}

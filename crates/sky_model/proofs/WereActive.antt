@@ -1,5 +1,5 @@
 -- Each batch that a consumer has finished was active when it was closed.
-use Rattle.std.proofs.Common.{ℕ, List, [], ◌∷◌, ◌++◌, Bool, true, false, ◌&&◌, ◌==◌, bytes_eq, refl, ap, All, if◌then◌else◌}
+use Rattle.std.proofs.Common.{ℕ, List, [], ◌∷◌, ◌++◌, ◌&&◌, ◌==◌, bytes_eq, refl, ap, All}
 use Rattle.std.proofs.lemmas.List.Elements.{All-nil, All-push, All-weaker}
 use Rattle.sky_model.specs.History.{Batch, Mark, History}
 use Rattle.sky_model.specs.LawsOfBatches.{finished, WasActive, FinishedBatchesWereActive}

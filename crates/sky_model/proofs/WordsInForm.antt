@@ -1,6 +1,6 @@
 -- A word of a kind is whole, and what it is worth is what a word of that kind can be worth.
 use Rattle.std.proofs.Common.{◌≡◌, ℕ, zero, suc, ◌+◌, ◌-◌, ◌^◌, ◌<◌, ◌≤◌, ◌==◌, pos, Bool, true, false, not, ◌&&◌, cond, List, [], ◌∷◌, length, take, drop, Option, Some, None, IfSome, option_map, refl, sym, ap, ◌∙◌, arith, codes, bytes_eq, nat_le, FitsSigned, w64}
-use Rattle.std.proofs.lemmas.Bool.{and_parts, and_from, eqb-true, leb-true, cond_both}
+use Rattle.std.proofs.lemmas.Bool.{and_parts, and_from, eqb-true, leb-true}
 use Rattle.std.proofs.lemmas.Bool.Decides.{nat_tests}
 use Rattle.std.proofs.lemmas.List.{take-append-drop}
 use Rattle.std.proofs.lemmas.List.Elements.{All-weaker}
@@ -9,7 +9,6 @@ use Rattle.std.proofs.lemmas.Option.{IfSome_then}
 use Rattle.std.proofs.lemmas.Slice.Eq.{bytes_eq-Decides}
 use Rattle.std.proofs.lemmas.Str.{IsUtf8-from_is_utf8, IsUtf8-from_ascii}
 use Rattle.std.specs.List.{list_all, onto_first}
-use Rattle.std.specs.Option.{option_or, option_and_then}
 use Rattle.std.specs.Str.{is_utf8, IsAscii}
 use Rattle.sky_val.specs.Numbers.{is_number, number_from, number_of, int_of, below_zero}
 use Rattle.sky_val.specs.declared.val.Val.TheVariants as val

@@ -1,5 +1,5 @@
 -- In the history that calls make the events that tell of a write stand right behind it.
-use Rattle.std.proofs.Common.{◌≡◌, ℕ, zero, suc, ℤ, List, [], ◌∷◌, ◌++◌, Bool, true, false, Option, Some, None, Ok, Err, length, refl, sym, ap, subst, if◌then◌else◌}
+use Rattle.std.proofs.Common.{◌≡◌, ℕ, zero, suc, ℤ, List, [], ◌∷◌, ◌++◌, Bool, true, false, Option, Some, None, Ok, Err, length, refl, sym, ap, subst}
 use Rattle.sky_val.specs.declared.val.Val.{Val}
 use Rattle.sky_keys.specs.Waits.{Waiting, is_waiting}
 use Rattle.sky_model.specs.declared.stmt.Stmt.{Stmt}
@@ -28,6 +28,7 @@ use Rattle.sky_model.proofs.GatedLemmas.{is_no_write, WritesNone, plain-if, plai
 use Rattle.sky_model.proofs.Resting.{behind-append}
 use Rattle.sky_model.proofs.Inserted.{Inserted, none, with_raised, with_put}
 use Rattle.sky_model.proofs.Telling.{EventMarks, told_by-events}
+use Rattle.std.proofs.lemmas.Bool.{cond_both}
 
 -- the first of a list, and the rest
 abbrev pub first : Mark → List Mark → Mark
@@ -141,12 +142,9 @@ form-told h told now who stmt =
 
 runs-told : (h : History) → AllTold h → (now : ℤ) (who : ℕ) (stmt : Stmt) (may : Checked (Unit {0})) → AllTold (marked h (runs_if (making database_by_history now who stmt) (where_of stmt) who h may).marks)
 runs-told h told now who stmt (Err refusal) = plain-told h (abort who (session h who).block (session h who).txid refusal) (plain-abort who (session h who).block (session h who).txid refusal) told
-runs-told h told now who stmt (Ok _) = of (takes_sight (where_of stmt) (session h who).sight)
-  where
-    of : (b : Bool) → AllTold (marked h (if b then looking who (settled who (session (looked who ∷ h) who) (form (database_of (looked who ∷ h)) (shown_in (looked who ∷ h)) now who stmt))
-        else settled who (session h who) (form (database_of h) (shown_in h) now who stmt)).marks)
-    of true = form-told (looked who ∷ h) (plain-told h (looked who ∷ []) tt told) now who stmt
-    of false = form-told h told now who stmt
+runs-told h told now who stmt (Ok _) =
+    cond_both (takes_sight (where_of stmt) (session h who).sight) (looking who (settled who (session (looked who ∷ h) who) (form (database_of (looked who ∷ h)) (shown_in (looked who ∷ h)) now who stmt))) _ (λ o. AllTold (marked h o.marks))
+    (λ _. form-told (looked who ∷ h) (plain-told h (looked who ∷ []) tt told) now who stmt) (λ _. form-told h told now who stmt)
 
 statement-told : (h : History) → AllTold h → (now : ℤ) (who : ℕ) (stmt : Stmt) → AllTold (marked h (statement database_by_history h now who stmt).marks)
 statement-told h told now who stmt = runs-told h told now who stmt (allowed (is_waiting who (waiting h)) (has_open who h) (block who h) (where_of stmt))
