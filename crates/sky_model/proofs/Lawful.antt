@@ -1,6 +1,5 @@
 -- Whatever is called of a database, its history is legal.
-use Rattle.std.proofs.Common.{◌≡◌, All, ℕ, suc, zero, ℤ, ◌+◌, ◌<◌, List, [], ◌∷◌, ◌++◌, Bool, true, false, ◌==◌, nat_le, Option, Some, None, Ok, Err, is_ok, option_map, length, is_some, refl, sym, ◌∙◌, ap, subst, arith, ◌^◌, if◌then◌else◌}
-use Rattle.std.specs.Prelude.{find, not}
+use Rattle.std.proofs.Common.{◌≡◌, All, ℕ, suc, zero, ℤ, ◌+◌, ◌<◌, List, [], ◌∷◌, ◌++◌, Bool, true, false, ◌==◌, nat_le, Option, Some, None, Ok, Err, is_ok, option_map, length, is_some, refl, sym, ◌∙◌, ap, subst, arith, ◌^◌, if◌then◌else◌, find, not}
 use Rattle.std.proofs.lemmas.Bool.{cond_both}
 use Rattle.std.proofs.lemmas.Bool.Decides.{nat_tests}
 use Rattle.sky_model.specs.declared.stmt.Stmt.{Stmt}

@@ -1,6 +1,5 @@
 -- A row that changes that fit have changed is one of the table under the same key, if it was one before.
-use Rattle.std.proofs.Common.{◌≡◌, ℕ, suc, ℤ, ◌+◌, Bool, true, false, not, List, [], ◌∷◌, Option, Some, None, Ok, Err, IfSome, length, bytes_eq, option_map, refl, sym, ◌∙◌, ap, subst, if◌then◌else◌, arith}
-use Rattle.std.specs.Prelude.{find, ◌||◌, ◌&&◌, ◌==◌, ◌+ℤ◌}
+use Rattle.std.proofs.Common.{◌≡◌, ℕ, suc, ℤ, ◌+◌, Bool, true, false, not, List, [], ◌∷◌, Option, Some, None, Ok, Err, IfSome, length, bytes_eq, option_map, refl, sym, ◌∙◌, ap, subst, if◌then◌else◌, arith, find, ◌||◌, ◌&&◌, ◌==◌, ◌+ℤ◌}
 use Rattle.std.specs.List.{list_any}
 use Rattle.std.specs.Option.{option_or}
 use Rattle.sky_val.specs.declared.val.Val.{Val}

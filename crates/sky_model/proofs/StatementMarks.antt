@@ -1,6 +1,5 @@
 -- Which marks statements leave, once for every test of marks and every property of answers.
-use Rattle.std.proofs.Common.{◌≡◌, ℕ, zero, suc, ℤ, ◌+◌, List, [], ◌∷◌, ◌++◌, Bool, true, false, ◌==◌, Option, Some, None, Ok, Err, is_some, length, refl, sym, subst, arith, if◌then◌else◌}
-use Rattle.std.specs.Prelude.{not, ◌&&◌}
+use Rattle.std.proofs.Common.{◌≡◌, ℕ, zero, suc, ℤ, ◌+◌, List, [], ◌∷◌, ◌++◌, Bool, true, false, ◌==◌, Option, Some, None, Ok, Err, is_some, length, refl, sym, subst, arith, if◌then◌else◌, not, ◌&&◌}
 use Rattle.std.proofs.lemmas.List.Elements.{All-cons, All-append}
 use Rattle.sky_val.specs.declared.val.Val.{Val}
 use Rattle.sky_keys.specs.Waits.{Waiting, other_holder, is_waiting}

@@ -1,6 +1,5 @@
 -- A gate in front of the writes of a row part, and a whole database that is told of them, do the same.
-use Rattle.std.proofs.Common.{◌≡◌, ℕ, zero, suc, ℤ, ◌+◌, ◌^◌, Bool, true, false, nat_le, List, [], ◌∷◌, ◌++◌, Option, Some, None, Ok, Err, length, refl, sym, ap, subst, if◌then◌else◌}
-use Rattle.std.specs.Prelude.{not, ◌&&◌, is_ok}
+use Rattle.std.proofs.Common.{◌≡◌, ℕ, zero, suc, ℤ, ◌+◌, ◌^◌, Bool, true, false, nat_le, List, [], ◌∷◌, ◌++◌, Option, Some, None, Ok, Err, length, refl, sym, ap, subst, if◌then◌else◌, not, ◌&&◌, is_ok}
 use Rattle.sky_val.specs.declared.val.Val.{Val}
 use Rattle.sky_keys.specs.Waits.{Waiting, is_waiting}
 use Rattle.sky_urlenc.specs.RowEvents.{RowEvent}

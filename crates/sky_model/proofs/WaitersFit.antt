@@ -1,11 +1,9 @@
 -- What a waiting session attempts fits its table and its key, as it did when it began to wait.
-use Rattle.std.proofs.Common.{◌≡◌, ℕ, ◌+◌, ◌<◌, Bool, true, false, List, [], ◌∷◌, ◌++◌, Some, length, sym, ◌∙◌, ap, subst, arith, if◌then◌else◌, length-append, slice_index_or}
-use Rattle.std.specs.Prelude.{◌||◌, ◌==◌, not, find}
+use Rattle.std.proofs.Common.{◌≡◌, ℕ, ◌+◌, ◌<◌, Bool, true, false, List, [], ◌∷◌, ◌++◌, Some, length, sym, ◌∙◌, ap, subst, arith, if◌then◌else◌, length-append, slice_index_or, ◌||◌, ◌==◌, not, find, All}
 use Rattle.std.proofs.lemmas.Bool.{false_from_ne_true, not-true}
 use Rattle.std.proofs.lemmas.Bool.Decides.{nat_tests}
 use Rattle.std.proofs.lemmas.List.Elements.{All-nil, All-head, All-tail, All-push, All-weaker, All-filter, filter_passes}
 use Rattle.std.proofs.lemmas.List.Folds.{list_any_at}
-use Rattle.std.specs.List.{All}
 use Rattle.sky_val.specs.declared.column.Column.{Column}
 use Rattle.sky_keys.specs.Waits.{Waiting, is_waiting, without}
 use Rattle.sky_keys.proofs.WaitLemmas.{is_waiting-without}
