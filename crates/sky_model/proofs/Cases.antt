@@ -1,7 +1,8 @@
 -- Proofs by whether a test holds, and whether there is a value.
-use Rattle.std.proofs.Common.{◌≡◌, ℕ, Bool, true, false, ◌==◌, cond, Option, Some, None, IfSome, option_map, refl}
+use Rattle.std.proofs.Common.{◌≡◌, ℕ, Bool, true, false, ◌==◌, cond, Option, Some, None, IfSome, option_map, Ok, Err, IfOk, refl}
 use Rattle.std.specs.Option.{option_or, option_and_then}
 use Rattle.std.proofs.lemmas.Bool.{eqb-true, cond_both}
+use Rattle.sky_model.specs.Outcome.{Checked, ◌>>=◌}
 
 -- what holds of a test where it holds and where it fails
 pub by_test : (P : Bool → Type 0) (b : Bool) → (b ≡ true → P true) → (b ≡ false → P false) → P b
@@ -33,3 +34,8 @@ if_then P f (Some a) some = some
 pub if_or : {A : Type 0} (P : A → Type 0) (x y : Option A) → IfSome x P → IfSome y P → IfSome (option_or x y) P
 if_or P None y some other = other
 if_or P (Some a) y some other = some
+
+-- what is done with a value that isn't refused
+pub ok-then : {A B : Type 0} (P : B → Type 0) (x : Checked A) (f : A → Checked B) → ((a : A) → x ≡ Ok a → IfOk (f a) P) → IfOk (x >>= f) P
+ok-then P (Ok a) f also = also a refl
+ok-then P (Err refusal) f also = tt

@@ -1,5 +1,5 @@
 -- A statement on rows leaves a legal history legal once its writes are told of.
-use Rattle.std.proofs.Common.{◌≡◌, ℕ, ℤ, ◌+◌, ◌^◌, List, [], ◌∷◌, ◌++◌, Bool, true, false, ◌==◌, nat_le, Option, Some, Ok, Err, map, refl, sym, ◌∙◌, ap, subst, arith, if◌then◌else◌, All}
+use Rattle.std.proofs.Common.{◌≡◌, ℕ, ℤ, ◌+◌, ◌^◌, List, [], ◌∷◌, ◌++◌, Bool, true, false, ◌==◌, nat_le, Option, Some, Ok, Err, IfOk, map, refl, sym, ◌∙◌, ap, subst, arith, if◌then◌else◌, All}
 use Rattle.std.proofs.lemmas.List.Elements.{All-nil, All-head, All-tail, All-push, All-weaker, All-map, All-filter}
 use Rattle.sky_val.specs.declared.val.Val.{Val}
 use Rattle.sky_keys.specs.Waits.{other_than, is_waiting}
@@ -20,6 +20,8 @@ use Rattle.sky_model.proofs.QueueNumbers.{among-before}
 use Rattle.sky_model.proofs.Marks.{part_of-mark, database_of-mark, database_of-marks}
 use Rattle.sky_model.proofs.Selecting.{events_below-next}
 use Rattle.sky_model.proofs.Good.{Good, same-session, good_refused}
+use Rattle.std.proofs.lemmas.Result.{IfOk-at_ok}
+use Rattle.sky_model.proofs.Cases.{ok-then}
 use Rattle.sky_model.proofs.StatementMarks.{each-rest}
 use Rattle.sky_model.proofs.RowOutcomes.{is_of_rows, RowMarks, OfRows}
 
@@ -67,8 +69,7 @@ events-queues queues w ts among =
 
 -- marks that may come next, and leave the row part as it was; or a refusal
 abbrev ToldWell : History → Checked (List Mark) → Type 0
-ToldWell h (Ok marks) = Chain h marks × (part_of (marked h marks) ≡ part_of h)
-ToldWell h (Err refusal) = Unit {0}
+ToldWell h x = IfOk x (λ marks. Chain h marks × (part_of (marked h marks) ≡ part_of h))
 
 told-well : (h : History) → Legal h → (now : ℤ) (who t : ℕ) (es : List RowEvent) → own_txid who h ≡ Some t → EventsAmong (queues h) es
     → ToldWell h (told_by (database_of h) now t es)
@@ -92,15 +93,12 @@ told-well h l now who t (e ∷ es) mine among =
     put_fine : Fine (queued (raised e.queue id) ∷ h) (queued (put e.queue (told_event id now t e)))
     put_fine = puts who e.queue (told_event id now t e) there (ap (λ b. if b then id else sequence e.queue h) (sym (same-session e.queue))) mine (events_below-next h l e.queue)
 
-    joined : (x : Checked (List Mark)) → ToldWell behind x → ToldWell h (x >>= (λ rest. Ok (event_marks e.queue (told_event id now t e) ++ rest)))
-    joined (Err refusal) well = tt
-    joined (Ok rest) well = (more raised_fine (more put_fine well.0), well.1)
-
     of : (b : Bool) → ToldWell behind (told_by (after_marks (database_of h) (event_marks e.queue (told_event id now t e))) now t es)
         → ToldWell h ((refused_if b EventIdsSpent >> Ok id) >>= (λ n. told_by (after_marks (database_of h) (event_marks e.queue (told_event n now t e))) now t es
         >>= (λ rest. Ok (event_marks e.queue (told_event n now t e) ++ rest))))
     of true well = tt
-    of false well = joined (told_by (after_marks (database_of h) (event_marks e.queue (told_event id now t e))) now t es) well
+    of false well = ok-then _ (told_by (after_marks (database_of h) (event_marks e.queue (told_event id now t e))) now t es) _ (λ rest is.
+        let told = IfOk-at_ok _ is well in (more raised_fine (more put_fine told.0), told.1))
 
 writer-owns : {h : History} {who t table : ℕ} {key : List Val} {old new : Option (List Val)} → Fine h (tabled (wrote (of_session who) t table key old new)) → own_txid who h ≡ Some t
 writer-owns (writes who t table key old new mine free stands) = mine
@@ -150,28 +148,19 @@ chain-alike h g same (mark ∷ marks) rows (more fine chain) =
 -- ---- what a statement does
 
 abbrev ChainOf : History → Checked (List Mark) → Type 0
-ChainOf h (Ok marks) = Chain h marks
-ChainOf h (Err refusal) = Unit {0}
+ChainOf h x = IfOk x (Chain h)
 
 -- marks may come with what is told of them
 with_told-well : (h : History) → Legal h → (now : ℤ) (marks : List Mark) → RowMarks marks → Chain h marks → ChainOf h (with_told (database_of h) now marks)
 with_told-well h l now [] rows chain = done
 with_told-well h l now (mark ∷ marks) rows (more fine chain) =
-    of (told_of (after_mark (database_of h) mark) now mark)
-    (subst (λ d. ToldWell (mark ∷ h) (told_of d now mark)) (database_of-mark h mark) (told_of-well h l now mark fine))
-    (λ g legal. with_told-well g legal now marks (each-rest is_of_rows mark marks rows))
-  where
-    joined : (told : List Mark) → Chain (mark ∷ h) told → (x : Checked (List Mark)) → ChainOf (marked (mark ∷ h) told) x → ChainOf h (x >>= (λ rest. Ok (mark ∷ told ++ rest)))
-    joined told well (Err refusal) also = tt
-    joined told well (Ok rest) also = more fine (good_append (mark ∷ h) told rest well also)
-
-    of : (x : Checked (List Mark)) → ToldWell (mark ∷ h) x → ((g : History) → Legal g → Chain g marks → ChainOf g (with_told (database_of g) now marks))
-        → ChainOf h (x >>= (λ told. with_told (after_marks (database_of h) (mark ∷ told)) now marks >>= (λ rest. Ok (mark ∷ told ++ rest))))
-    of (Err refusal) well ih = tt
-    of (Ok told) well ih =
-        joined told well.0 (with_told (after_marks (database_of h) (mark ∷ told)) now marks)
-        (subst (λ d. ChainOf (marked (mark ∷ h) told) (with_told d now marks)) (database_of-marks h (mark ∷ told))
-        (ih (marked (mark ∷ h) told) (legal_behind (mark ∷ h) told (next l fine) well.0) (chain-alike (mark ∷ h) (marked (mark ∷ h) told) (sym well.1) marks (each-rest is_of_rows mark marks rows) chain)))
+    ok-then (Chain h) (told_of (after_mark (database_of h) mark) now mark) _ (λ told same.
+    let well = IfOk-at_ok _ same (subst (λ d. ToldWell (mark ∷ h) (told_of d now mark)) (database_of-mark h mark) (told_of-well h l now mark fine)) in
+    let g : History = marked (mark ∷ h) told in
+    let rest_rows = each-rest is_of_rows mark marks rows in
+    ok-then (Chain h) (with_told (after_marks (database_of h) (mark ∷ told)) now marks) _ (λ rest is. more fine (good_append (mark ∷ h) told rest well.0
+    (IfOk-at_ok (Chain g) is (subst (λ d. ChainOf g (with_told d now marks)) (database_of-marks h (mark ∷ told))
+    (with_told-well g (legal_behind (mark ∷ h) told (next l fine) well.0) now marks rest_rows (chain-alike (mark ∷ h) g (sym well.1) marks rest_rows chain)))))))
 
 -- so what a statement on rows does may come where it might, once its writes are told of
 pub good_tells : (h : History) → Legal h → (now : ℤ) (who : ℕ) (c : Checked Outcome) → OfRows c → Good h who c → Good h who (tells (database_of h) now c)
