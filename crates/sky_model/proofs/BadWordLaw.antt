@@ -1,5 +1,6 @@
 -- The bad word of a line is the least one: where a line goes wrong, and the lines that begin as it does.
 use Rattle.std.proofs.Common.{◌≡◌, ℕ, ◌+◌, ◌-◌, ◌<◌, ◌≤◌, ◌==◌, zero, suc, true, false, cond, List, [], ◌∷◌, ◌++◌, length, take, drop, Some, None, Result, Ok, Err, refl, sym, ap, ◌∙◌, arith, codes, eq-eqb, eqb-true}
+use Rattle.std.proofs.lemmas.Bool.{cond_both}
 use Rattle.std.proofs.lemmas.List.{take-append-drop, take-append-le, take-take, length-take-le}
 use Rattle.sky_model.specs.declared.stmt.RowStmt.{RowStmt}
 use Rattle.sky_model.specs.declared.stmt.Stmt.{Stmt}
@@ -12,6 +13,7 @@ use Rattle.sky_model.proofs.FirstWords.{has_first}
 use Rattle.sky_model.proofs.LeastBadWord.{Begins, bad_within, none_begins, some_begins}
 use Rattle.sky_model.proofs.WholeWords.{joined, words-joined}
 use Rattle.sky_model.proofs.InFormLaw.{whole-line_of_words}
+use Rattle.sky_model.proofs.Cases.{by_test}
 
 -- where words go wrong: at the session's word, behind it where it is alone, at the first word of the statement, or behind that
 data Fault (w : List ℕ) (ws : List (List ℕ)) (k : ℕ) : Type 0 where
@@ -105,10 +107,8 @@ with_first-hash b (w ∷ ws) first others so = cc
 
 words-hash : (b : ℕ) (bs first : List ℕ) (others : List (List ℕ)) → words (b ∷ bs) ≡ (35 ∷ first) ∷ others → b ≡ 35
 words-hash b bs first others so =
-    elim (is_parting false b) as (λ v. cond v ([] ∷ pieces false bs) (with_first b (pieces (quoted_after false b) bs)) ≡ (35 ∷ first) ∷ others → b ≡ 35) [
-      | true ↦ λ e. absurd (cc)
-      | false ↦ λ e. with_first-hash b (pieces (quoted_after false b) bs) first others e
-    ] so
+    by_test (λ v. cond v ([] ∷ pieces false bs) (with_first b (pieces (quoted_after false b) bs)) ≡ (35 ∷ first) ∷ others → b ≡ 35) (is_parting false b) (λ _ e. absurd (cc))
+    (λ _. with_first-hash b (pieces (quoted_after false b) bs) first others) so
 
 -- the first word of a line that begins with `#`
 record Hashed (ws : List (List ℕ)) : Type 0 where
@@ -121,17 +121,11 @@ hashed-with_first [] = record { first = []; others = []; is = refl }
 hashed-with_first (w ∷ ws) = record { first = w; others = ws; is = refl }
 
 -- a line of words of the grammar is one of the grammar
-record Says (line : List ℕ) : Type 0 where
-  says : Line
-  is : line_of line ≡ Ok says
+abbrev Says : List ℕ → Type 0
+Says line = (says : Line) × (line_of line ≡ Ok says)
 
 says : (b : ℕ) (bs : List ℕ) (line : Line) → line_of_words (words (b ∷ bs)) ≡ Ok line → Says (b ∷ bs)
-says b bs line so =
-    let it = elim (b == 35) as (λ v. (line : Line) × (cond v (Ok Blank) (line_of_words (words (b ∷ bs))) ≡ Ok line)) [
-      | true ↦ (Blank, refl)
-      | false ↦ (line, so)
-    ] in
-    record { says = it.0; is = it.1 }
+says b bs line so = cond_both (b == 35) (Ok Blank) _ (λ r. (says : Line) × (r ≡ Ok says)) (λ _. (Blank, refl)) (λ _. (line, so))
 
 -- the line of words of the grammar, joined
 record IsLineOf (ws : List (List ℕ)) : Type 0 where
@@ -162,8 +156,8 @@ begins_before b bs w ws k n are fault below =
     let bounds = counted w ws k fault in
     record {
       other = line.line;
-      says = line.said.says;
-      in_grammar = line.said.is;
+      says = line.said.0;
+      in_grammar = line.said.1;
       first_words = ap (take n) line.are ∙ first_words (w ∷ ws) found.more n k below bounds.high ∙ ap (take n) (sym are);
     }
 
@@ -191,13 +185,10 @@ no_comment c cs b bs w ws k hash are no_hash some same =
 none_begins_other : (other : List ℕ) (b : ℕ) (bs w : List ℕ) (ws : List (List ℕ)) (k : ℕ) (line : Line) → words (b ∷ bs) ≡ w ∷ ws → (b == 35) ≡ false → Fault w ws k → k ≤ length (w ∷ ws) → line_of other ≡ Ok line → take k (words_of other) ≡ take k (w ∷ ws) → ⊥
 none_begins_other [] b bs w ws k line are no_hash fault inside good first = no_words k w ws (counted w ws k fault).low first
 none_begins_other (c ∷ cs) b bs w ws k line are no_hash fault inside good first =
-    elim (c == 35) as (λ v. (c == 35) ≡ v → cond v (Ok Blank) (line_of_words (words (c ∷ cs))) ≡ Ok line → ⊥) [
-      | true ↦ λ is e. no_comment c cs b bs w ws k (eqb-true c 35 is) are no_hash (counted w ws k fault).low first
-      | false ↦ λ is e.
-          let rest : List (List ℕ) = drop k (words (c ∷ cs)) in
-          let all : take k (w ∷ ws) ++ rest ≡ words (c ∷ cs) = ap (λ front. front ++ rest) (sym first) ∙ take-append-drop k (words (c ∷ cs)) in
-          none_begins_line w ws rest k line fault inside (ap line_of_words all ∙ e)
-    ] refl good
+    by_test (λ v. cond v (Ok Blank) (line_of_words (words (c ∷ cs))) ≡ Ok line → ⊥) (c == 35) (λ is _. no_comment c cs b bs w ws k (eqb-true c 35 is) are no_hash (counted w ws k fault).low first)
+    (λ _ e.
+    let all : take k (w ∷ ws) ++ drop k (words (c ∷ cs)) ≡ words (c ∷ cs) = ap (λ front. front ++ drop k (words (c ∷ cs))) (sym first) ∙ take-append-drop k (words (c ∷ cs)) in
+    none_begins_line w ws (drop k (words (c ∷ cs))) k line fault inside (ap line_of_words all ∙ e)) good
 
 least : (b : ℕ) (bs : List ℕ) (k : ℕ) → (b == 35) ≡ false → line_of_words (words (b ∷ bs)) ≡ Err k → IsLeastBadWord (b ∷ bs) k
 least b bs k no_hash bad =
@@ -213,7 +204,4 @@ least b bs k no_hash bad =
 pub bad_word_is_least : BadWordIsLeast
 bad_word_is_least [] k bad = absurd (cc)
 bad_word_is_least (b ∷ bs) k bad =
-    elim (b == 35) as (λ v. (b == 35) ≡ v → cond v (Ok Blank) (line_of_words (words (b ∷ bs))) ≡ Err k → IsLeastBadWord (b ∷ bs) k) [
-      | true ↦ λ is e. absurd (cc)
-      | false ↦ λ is e. least b bs k is e
-    ] refl bad
+    by_test (λ v. cond v (Ok Blank) (line_of_words (words (b ∷ bs))) ≡ Err k → IsLeastBadWord (b ∷ bs) k) (b == 35) (λ _ e. absurd (cc)) (λ is. least b bs k is) bad

@@ -1,5 +1,5 @@
 -- What a database and the world show changes by marks and facts alone.
-use Rattle.std.proofs.Common.{◌≡◌, ℕ, ◌+◌, List, [], ◌∷◌, ◌++◌, Bool, true, false, not, ◌&&◌, ◌||◌, ◌==◌, filter, Option, Some, None, refl, sym, ◌∙◌, ap, bytes_eq, option_map, if◌then◌else◌}
+use Rattle.std.proofs.Common.{◌≡◌, ℕ, ◌+◌, List, [], ◌∷◌, ◌++◌, Bool, true, false, not, ◌&&◌, ◌||◌, ◌==◌, filter, Option, Some, None, refl, ◌∙◌, ap, bytes_eq, option_map, if◌then◌else◌}
 use Rattle.sky_keys.specs.Waits.{released}
 use Rattle.sky_keys.specs.Versions.{forgotten}
 use Rattle.sky_model.specs.History.{Mark, of_session, of_worker, began, ended, block_begun, repeats, looked, block_failed, block_ended, connected, disconnected, tabled, wrote, queued, QueueMark, made, raised, put, ticked, registered, opened, closed, traced, History, Fact, appeared, founded, entered, left, within, Past}
@@ -7,7 +7,7 @@ use Rattle.sky_model.specs.Consumers.{Subscription, subscription_id, position, a
 use Rattle.sky_model.specs.Transactions.{next_txid, running, has_rolled_back, snapshot}
 use Rattle.sky_model.specs.Sessions.{outside, inside, failed, at_each, at_first, at_place, sight, sight_by, session}
 use Rattle.sky_model.specs.Versions.{versions}
-use Rattle.sky_model.specs.State.{Queue, queue_of, part_of, database_of, changed_at, changed_for, with_batch, at_position, after_queue_mark, after_part, after_mark, after_marks}
+use Rattle.sky_model.specs.State.{queue_of, part_of, database_of, changed_at, changed_for, with_batch, at_position, after_queue_mark, after_part, after_mark, after_marks}
 use Rattle.sky_model.specs.Settling.{marked}
 use Rattle.sky_model.specs.World.{world_of, history_in, after_fact, after_facts, on_top}
 

@@ -20,6 +20,7 @@ use Rattle.sky_model.specs.Outcome.{Checked, ◌>>=◌, found_or}
 use Rattle.sky_model.specs.StepRows.{column_called, is_change_of, bad_set, bad_sets, is_key_change, in_range, changed, with_set, with_sets, some_row}
 use Rattle.sky_model.specs.LawsOfWrites.{IsRowOf}
 use Rattle.sky_model.proofs.Legal.{ChangesFit}
+use Rattle.sky_model.proofs.Cases.{by_test}
 
 -- ---- one value
 
@@ -114,11 +115,8 @@ record Fits (columns : List Column) (row : List Val) : Type 0 where
   values : values_fault 0 columns row ≡ None
 
 row-fits : (columns : List Column) (row : List Val) → row_fault columns row ≡ None → Fits columns row
-row-fits columns row e = of (length row == length columns) refl e
-  where
-    of : (b : Bool) → (length row == length columns) ≡ b → (if b then values_fault 0 columns row else Some fault.Count) ≡ None → Fits columns row
-    of true is e = record { long = is; values = e }
-    of false is e = absurd (cc)
+row-fits columns row e =
+    by_test (λ b. (if b then values_fault 0 columns row else Some fault.Count) ≡ None → Fits columns row) (length row == length columns) (λ is e. record { long = is; values = e }) (λ _ e. absurd (cc)) e
 
 still-fits : (columns : List Column) (row next : List Val) → Fits columns row → Kept 0 columns row next → row_fault columns next ≡ None
 still-fits columns row next fits k =

@@ -193,6 +193,11 @@ left-abort k who failed txid refusal = tt
 
 -- ---- statements on rows
 
+by_block : (P : Block → Type 0) → P outside → P inside → P failed → (b : Block) → P b
+by_block P out within aborted outside = out
+by_block P out within aborted inside = within
+by_block P out within aborted failed = aborted
+
 module _ (who : ℕ) where
   -- a statement may leave such marks, and no event is its answer
   abbrev RowGives : Kinds → Checked Outcome → Type 0
@@ -237,23 +242,6 @@ module _ (who : ℕ) where
   gives-row_or_none k None = (tt, tt)
   gives-row_or_none k (Some row) = (tt, tt)
 
-  gives-begin : (k : Kinds) (b : Block) → RowGives k (begin who b)
-  gives-begin k outside = (tt, tt)
-  gives-begin k _ = (tt, tt)
-
-  gives-begin_repeatable_read : (k : Kinds) (b : Block) → RowGives k (begin_repeatable_read who b)
-  gives-begin_repeatable_read k outside = (tt, tt)
-  gives-begin_repeatable_read k _ = (tt, tt)
-
-  gives-commit : (k : Kinds) (txid : Option ℕ) (b : Block) → RowGives k (commit who txid b)
-  gives-commit k txid outside = (tt, tt)
-  gives-commit k txid inside = (tt, left-block k true who txid)
-  gives-commit k txid failed = (tt, left-block k false who txid)
-
-  gives-rollback : (k : Kinds) (txid : Option ℕ) (b : Block) → RowGives k (rollback who txid b)
-  gives-rollback k txid outside = (tt, tt)
-  gives-rollback k txid _ = (tt, left-block k false who txid)
-
   gives-close : (txid : Option ℕ) (b : Block) → RowGives (row_kinds true Close) (close who txid b)
   gives-close txid outside = (tt, tt)
   gives-close None _ = (tt, tt)
@@ -272,10 +260,14 @@ module _ (who : ℕ) where
   gives-row_form d shown (OpenDb name) = gives-open_db (d.session who).is_open
   gives-row_form d shown Close = gives-close (d.session who).txid (d.session who).block
   gives-row_form d shown Cancel = gives-cancel (d.session who).txid (d.session who).block (is_waiting who d.waiting)
-  gives-row_form d shown Begin = gives-begin no_more (d.session who).block
-  gives-row_form d shown BeginRepeatableRead = gives-begin_repeatable_read no_more (d.session who).block
-  gives-row_form d shown Commit = gives-commit no_more (d.session who).txid (d.session who).block
-  gives-row_form d shown Rollback = gives-rollback no_more (d.session who).txid (d.session who).block
+  gives-row_form d shown Begin = by_block (λ b. RowGives no_more (begin who b)) (tt, tt) (tt, tt) (tt, tt) (d.session who).block
+  gives-row_form d shown BeginRepeatableRead = by_block (λ b. RowGives no_more (begin_repeatable_read who b)) (tt, tt) (tt, tt) (tt, tt) (d.session who).block
+  gives-row_form d shown Commit =
+      let left : (committed : Bool) → EachMark (may_leave no_more who) (leaves committed who (d.session who).txid) = λ committed. left-block no_more committed who (d.session who).txid in
+      by_block (λ b. RowGives no_more (commit who (d.session who).txid b)) (tt, tt) (tt, left true) (tt, left false) (d.session who).block
+  gives-row_form d shown Rollback =
+      let left : EachMark (may_leave no_more who) (leaves false who (d.session who).txid) = left-block no_more false who (d.session who).txid in
+      by_block (λ b. RowGives no_more (rollback who (d.session who).txid b)) (tt, tt) (tt, left) (tt, left) (d.session who).block
   gives-row_form d shown TxidCurrent = search (checked, left-written)
   gives-row_form d shown TxidCurrentSnapshot = (tt, tt)
   gives-row_form d shown (TxidVisibleInSnapshot txid snapshot) = search (checked)

@@ -8,6 +8,7 @@ use Rattle.sky_model.specs.Queues.{Tick, ticks, tick, newest_tick, at_tick}
 use Rattle.sky_model.specs.StepQueue.{id_of}
 use Rattle.sky_model.proofs.Legal.{ticks_next, Legal, start, next}
 use Rattle.sky_model.proofs.Ticks.{none_above}
+use Rattle.sky_model.proofs.Cases.{by_test}
 
 -- a queue's tick is made
 abbrev pub is_made : ℕ → ℕ → History → Bool
@@ -22,15 +23,11 @@ tick-push id (u ∷ ts) t = grind (arith, tick-push id ts t)
 -- so it is among the queue's ticks
 pub is_made-tick : (h : History) (q id : ℕ) → is_some (tick id (ticks q h)) ≡ is_made q id h
 is_made-tick [] q id = refl
-is_made-tick (queued (ticked p m time seq) ∷ h) q id = of (p == q) (is_made-tick h q id)
-  where
-    new : Tick
-    new = record { id = m; time = time; snapshot = snapshot h; seq = seq }
-
-    of : (b : Bool) → is_some (tick id (ticks q h)) ≡ is_made q id h
-        → is_some (tick id (if b then ticks q h ++ new ∷ [] else ticks q h)) ≡ ((b && m == id) || is_made q id h)
-    of true ih = tick-push id (ticks q h) new ∙ ap (λ c. m == id || c) ih
-    of false ih = ih
+is_made-tick (queued (ticked p m time seq) ∷ h) q id =
+    let new : Tick = record { id = m; time = time; snapshot = snapshot h; seq = seq } in
+    let ih = is_made-tick h q id in
+    by_test (λ b. is_some (tick id (if b then ticks q h ++ new ∷ [] else ticks q h)) ≡ ((b && m == id) || is_made q id h)) (p == q)
+    (λ _. tick-push id (ticks q h) new ∙ ap (λ c. m == id || c) ih) (λ _. ih)
 is_made-tick (_ ∷ h) q id = is_made-tick h q id
 
 -- a tick with an id above the newest one's isn't made
