@@ -73,7 +73,7 @@ none_begins_line w ws more k says (in_form name f rest row rows j session are fo
     let begun = rw (is, are) at good in
     let read = rw (session, form) at begun in
     let found = run_of-Ok name (reads (row ∷ rows) 3 (take (suc j) rest ++ more)) says read in
-    none_begins (row ∷ rows) rest 3 k j (omega arith) (omega (arith, ap length are)) bad (record { more = more; stmt = found.0; reads_it = found.1 })
+    none_begins (row ∷ rows) rest 3 k j (omega arith) (omega (arith, ap length are)) bad (more, found.0, found.1)
 
 -- some words of a line begin as these do before the bad one
 record BeginsWords (ws : List (List ℕ)) : Type 0 where
@@ -84,7 +84,7 @@ record BeginsWords (ws : List (List ℕ)) : Type 0 where
 some_begin_in_form : (w name f : List ℕ) (ws rest : List (List ℕ)) (row : Row) (rows : List Row) (k j : ℕ) → session_of w ≡ Some name → ws ≡ f ∷ rest → named_form f all_forms ≡ row ∷ rows → k ≡ suc (suc (suc j)) → Begins (row ∷ rows) 3 (take j rest) → BeginsWords (take (k - 1) (w ∷ ws))
 some_begin_in_form w name f ws rest row rows k j session are form is found =
     let before : k - 1 ≡ suc (suc j) = omega arith in
-    record { more = found.more; says = Run name found.stmt; is = rw (before, are, session, form, found.reads_it) refl }
+    record { more = found.0; says = Run name found.1; is = rw (before, are, session, form, found.2) refl }
 
 -- `open p`
 abbrev opens_p : Stmt
