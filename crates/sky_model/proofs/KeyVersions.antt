@@ -154,20 +154,8 @@ module _ (h : History) (l : Legal h) (who t n : ℕ) (at_key : List Val) (old ne
       → option_map Version.row (version_of u (kept g table key)) ≡ last_of key (writes_of table u g)
   own-wrote table key k u runs_on =
       ap (λ vs. option_map Version.row (version_of u vs)) (kept-wrote table key)
-      ∙ of (n == table) (eq_by_cmp key_cmp key at_key) (t == u) refl
+      ∙ grind (arith, nat_tests, version_of-with u t new (kept h table key), k.own u runs_on)
       ∙ sym (last_of-wrote table u key)
-    where
-      of : (b c d : Bool) → (t == u) ≡ d → option_map Version.row (version_of u (if b && c then with_version t new (kept h table key) else kept h table key))
-          ≡ (if (b && d) && c then Some new else last_of key (writes_of table u h))
-      of true true true e =
-          let same : (u == t) ≡ true = grind (arith, nat_tests) in
-          ap (option_map Version.row) (version_of-with u t new (kept h table key) ∙ ap (λ x. cond x (Some (left t new)) (version_of u (kept h table key))) same)
-      of true true false e =
-          let other : (u == t) ≡ false = grind (arith, nat_tests) in
-          ap (option_map Version.row) (version_of-with u t new (kept h table key) ∙ ap (λ x. cond x (Some (left t new)) (version_of u (kept h table key))) other) ∙ k.own u runs_on
-      of true false true e = k.own u runs_on
-      of true false false e = k.own u runs_on
-      of false c d e = k.own u runs_on
 
   newest-wrote : (table : ℕ) (key : List Val) → newest_by (has_ended h) (kept g table key) ≡ newest_by (has_ended h) (kept h table key)
   newest-wrote table key =
