@@ -113,10 +113,7 @@ held-step h _ (writes v t n at_key old new mine free stands) l table key ih =
     g = tabled (wrote (of_session v) t n at_key old new) ∷ h
 
     pushed : (u : ℕ) → eq_by_cmp key_cmp at_key key ≡ false → has_written key (writes_of table u h ++ record { key = at_key; row = new } ∷ []) ≡ true → has_written key (writes_of table u h) ≡ true
-    pushed u tie e =
-        let other : eq_by_cmp key_cmp key at_key ≡ false = turned key at_key ∙ tie in
-        let either : (has_written key (writes_of table u h) || eq_by_cmp key_cmp key at_key) ≡ true = sym (has_written-push key (writes_of table u h) (record { key = at_key; row = new })) ∙ e in
-        grind arith
+    pushed u tie e = grind (arith, turned key at_key, has_written-push key (writes_of table u h) (record { key = at_key; row = new }))
 
     still : (u : ℕ) → (b : Bool) → (n == table && eq_by_cmp key_cmp at_key key) ≡ b → b ≡ false → Holding h table key u → Holding g table key u
     still u b is off o = record { who = o.who; owns = o.owns; holds = ap (λ b. if b then Some v else holder table key h) (is ∙ off) ∙ o.holds }

@@ -135,20 +135,14 @@ module _ (h : History) (l : Legal h) (who t n : ℕ) (at_key : List Val) (old ne
           absurd (nobody-else h l who t n at_key mine free u runs_on other (has_written-last_of at_key (writes_of n u h) ∙ wrote_it))
 
   pub kept-wrote : (table : ℕ) (key : List Val) → kept g table key ≡ (if (n == table) && eq_by_cmp key_cmp key at_key then with_version t new (kept h table key) else kept h table key)
-  kept-wrote table key =
-      by_test (λ b. versions_at key (if b then written t at_key new (versions table h) else versions table h) ≡ (if b && eq_by_cmp key_cmp key at_key then with_version t new (kept h table key) else kept h table key))
-      (n == table) (λ _. versions_at-written key t at_key new (versions table h)) (λ _. refl)
+  kept-wrote table key = grind (arith, versions_at-written key t at_key new (versions table h))
 
   last_of-wrote : (table u : ℕ) (key : List Val) → last_of key (writes_of table u g) ≡ (if (n == table && t == u) && eq_by_cmp key_cmp key at_key then Some new else last_of key (writes_of table u h))
-  last_of-wrote table u key =
-      by_test (λ b. last_of key (if b then writes_of table u h ++ record { key = at_key; row = new } ∷ [] else writes_of table u h) ≡ (if b && eq_by_cmp key_cmp key at_key then Some new else last_of key (writes_of table u h)))
-      (n == table && t == u) (λ _. last_of-push key (writes_of table u h) (record { key = at_key; row = new })) (λ _. refl)
+  last_of-wrote table u key = grind (arith, last_of-push key (writes_of table u h) (record { key = at_key; row = new }))
 
   -- a write is in nobody's that has committed
   same-writes : (table u : ℕ) → contains u (committed h) ≡ true → writes_of table u g ≡ writes_of table u h
-  same-writes table u there =
-      cond_both (n == table && t == u) (writes_of table u h ++ record { key = at_key; row = new } ∷ []) (writes_of table u h) (λ ws. ws ≡ writes_of table u h)
-      (λ is. let one : t ≡ u = grind (arith, nat_tests) in absurd (cc (sym unended ∙ ap (has_ended h) one ∙ committed-ended h u there))) (λ _. refl)
+  same-writes table u there = grind (arith, nat_tests, committed-ended h u there, unended)
 
   own-wrote : (table : ℕ) (key : List Val) → KeyHolds h table key → (u : ℕ) → has_ended h u ≡ false
       → option_map Version.row (version_of u (kept g table key)) ≡ last_of key (writes_of table u g)
@@ -158,10 +152,7 @@ module _ (h : History) (l : Legal h) (who t n : ℕ) (at_key : List Val) (old ne
       ∙ sym (last_of-wrote table u key)
 
   newest-wrote : (table : ℕ) (key : List Val) → newest_by (has_ended h) (kept g table key) ≡ newest_by (has_ended h) (kept h table key)
-  newest-wrote table key =
-      ap (newest_by (has_ended h)) (kept-wrote table key)
-      ∙ cond_both ((n == table) && eq_by_cmp key_cmp key at_key) (with_version t new (kept h table key)) (kept h table key) (λ vs. newest_by (has_ended h) vs ≡ newest_by (has_ended h) (kept h table key))
-      (λ _. newest_with (has_ended h) t new (kept h table key) unended) (λ _. refl)
+  newest-wrote table key = grind (arith, kept-wrote table key, newest_with (has_ended h) t new (kept h table key) unended)
 
   only-wrote : (table : ℕ) (key : List Val) → KeyHolds h table key → OnlyLast (has_ended h) (kept g table key)
   only-wrote table key k =

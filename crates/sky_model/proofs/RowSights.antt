@@ -92,9 +92,7 @@ newest-behind k h since l _ (ends who t false e) table key =
     ap (newest_by (has_ended k)) (versions_at-forgotten t key (versions table h) (is_in_order-versions table h))
     ∙ newest_without (has_ended k) t (kept h table key) (unended-at since t (own-unended h l who t e))
 newest-behind k h since l _ (writes who t n at_key old new e free stands) table key =
-    ap (newest_by (has_ended k)) (kept-wrote h l who t n at_key old new e free table key)
-    ∙ cond_both ((n == table) && eq_by_cmp key_cmp key at_key) (with_version t new (kept h table key)) (kept h table key) (λ vs. newest_by (has_ended k) vs ≡ newest_by (has_ended k) (kept h table key))
-    (λ _. newest_with (has_ended k) t new (kept h table key) (unended-at since t (own-unended h l who t e))) (λ _. refl)
+    grind (arith, kept-wrote h l who t n at_key old new e free table key, newest_with (has_ended k) t new (kept h table key) (unended-at since t (own-unended h l who t e)))
 newest-behind k h since l _ _ table key = refl
 
 -- the newest version that has ended at a place is the row there

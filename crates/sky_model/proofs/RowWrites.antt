@@ -53,7 +53,7 @@ over-last_from : (q : List Val) (left : Option (Option (List Val))) (ws : List W
 over-last_from q left [] row = refl
 over-last_from q left (w ∷ ws) row =
     over-last_from q (if eq_by_cmp key_cmp q w.key then Some w.row else left) ws row
-    ∙ ap (over (last_of q ws)) (by_test (λ b. over (if b then Some w.row else left) row ≡ over (if b then Some w.row else None) (over left row)) (eq_by_cmp key_cmp q w.key) (λ _. refl) (λ _. refl))
+    ∙ ap (over (last_of q ws)) (grind arith)
     ∙ sym (over-last_from q (if eq_by_cmp key_cmp q w.key then Some w.row else None) ws (over left row))
 
 -- writes leave of a key what the last of them left, or what was there
@@ -61,7 +61,7 @@ pub at-put_all : (q : List Val) (ws : List Write) (rows : Entries (List Val)) �
 at-put_all q [] rows = refl
 at-put_all q (w ∷ ws) rows =
     at-put_all q ws (put w.key w.row rows)
-    ∙ ap (over (last_of q ws)) (at-put_row q w.key w.row rows ∙ by_test (λ b. cond b w.row (at q rows) ≡ over (if b then Some w.row else None) (at q rows)) (eq_by_cmp key_cmp q w.key) (λ _. refl) (λ _. refl))
+    ∙ ap (over (last_of q ws)) (at-put_row q w.key w.row rows ∙ grind arith)
     ∙ sym (over-last_from q (if eq_by_cmp key_cmp q w.key then Some w.row else None) ws (at q rows))
 
 is_in_order-put_row : (key : List Val) (row : Option (List Val)) (rows : Entries (List Val)) → is_in_order rows ≡ true → is_in_order (put key row rows) ≡ true
@@ -86,9 +86,7 @@ last_of-push q ws w = last_from-push q None ws w
 
 is_some-last_from : (q : List Val) (left : Option (Option (List Val))) (ws : List Write) → is_some (last_from q left ws) ≡ (has_written q ws || is_some left)
 is_some-last_from q left [] = refl
-is_some-last_from q left (w ∷ ws) =
-    is_some-last_from q (if eq_by_cmp key_cmp q w.key then Some w.row else left) ws
-    ∙ by_test (λ b. (has_written q ws || is_some (if b then Some w.row else left)) ≡ ((b || has_written q ws) || is_some left)) (eq_by_cmp key_cmp q w.key) (λ _. grind arith) (λ _. refl)
+is_some-last_from q left (w ∷ ws) = grind (arith, is_some-last_from q (if eq_by_cmp key_cmp q w.key then Some w.row else left) ws)
 
 -- a key is written where some write left something of it
 pub has_written-last_of : (q : List Val) (ws : List Write) → has_written q ws ≡ is_some (last_of q ws)

@@ -58,66 +58,24 @@ runs-unended h s t runs = not-true (has_ended h t) (and_parts (nat_lt t (next_tx
 sound_began : (h : History) (who : ℕ) → Sound h → Sound (began (of_session who) (next_txid h) ∷ h)
 sound_began h who s = record {
   first = (let three : 3 ≤ next_txid h = s.first in omega arith);
-  runs = λ t. contains-push t (next_txid h) (running h) ∙ ap (λ b. b || t == next_txid h) (s.runs t) ∙ more t (has_ended h t) (s.ended_below t);
+  runs = λ t. grind (arith, nat_tests, contains-push t (next_txid h) (running h), s.runs t, s.ended_below t);
   ended_below = λ t e. (let lt : t < next_txid h = s.ended_below t e in omega arith);
   rising = all_pairs_push (λ t u. t < u) (running h) (next_txid h) s.rising s.below;
   below = All-push (λ t. t < next_txid h + 1) (running h) (next_txid h) (All-weaker (λ t. t < next_txid h) (λ t. t < next_txid h + 1) (λ t lt. omega arith) (running h) s.below) (omega arith);
-  owns = λ w t e. contains-push t (next_txid h) (running h) ∙ own w t (who == w) e;
-  once = λ v w t ev ew. only v w t (who == v) (who == w) refl refl ev ew;
+  owns = λ w t e. grind (arith, nat_tests, contains-push t (next_txid h) (running h), s.owns w t);
+  once = λ v w t ev ew. grind (arith, nat_tests, s.once v w t, runs-below h s t, s.owns v t, s.owns w t);
 }
-  where
-    some : (m n : ℕ) → Some m ≡ Some n → m ≡ n
-    some m n e = ap (λ o. unwrap_or o m) e
-
-    own : (w t : ℕ) (b : Bool) → (if b then Some (next_txid h) else own_txid w h) ≡ Some t → (contains t (running h) || t == next_txid h) ≡ true
-    own w t true e = let same : next_txid h ≡ t = some (next_txid h) t e in grind (arith, nat_tests)
-    own w t false e = ap (λ b. b || t == next_txid h) (s.owns w t e)
-
-    fresh : (w t : ℕ) → next_txid h ≡ t → own_txid w h ≡ Some t → ⊥
-    fresh w t same e = let lt : t < next_txid h = runs-below h s t (s.owns w t e) in omega arith
-
-    only : (v w t : ℕ) (b c : Bool) → (who == v) ≡ b → (who == w) ≡ c
-        → (if b then Some (next_txid h) else own_txid v h) ≡ Some t → (if c then Some (next_txid h) else own_txid w h) ≡ Some t → v ≡ w
-    only v w t true true isv isw ev ew = grind (arith, nat_tests)
-    only v w t true false isv isw ev ew = absurd (fresh w t (some (next_txid h) t ev) ew)
-    only v w t false true isv isw ev ew = absurd (fresh v t (some (next_txid h) t ew) ev)
-    only v w t false false isv isw ev ew = s.once v w t ev ew
-
-    more : (t : ℕ) (b : Bool) → (b ≡ true → t < next_txid h)
-        → ((nat_lt t (next_txid h) && not b) || t == next_txid h) ≡ (nat_lt t (next_txid h + 1) && not b)
-    more t true lt = let below : t < next_txid h = lt refl in grind (arith, nat_tests)
-    more t false lt = grind (arith, nat_tests)
 
 sound_ended : (h : History) (who t : ℕ) (committed : Bool) → own_txid who h ≡ Some t → Sound h → Sound (ended (of_session who) t committed ∷ h)
 sound_ended h who t committed mine s = record {
   first = s.first;
-  runs = λ u. contains-filter u t (running h) ∙ ap (λ b. b && not (u == t)) (s.runs u) ∙ less (nat_lt u (next_txid h)) (has_ended h u) (u == t);
-  ended_below = λ u e. was u (u == t) refl e;
+  runs = λ u. grind (arith, nat_tests, contains-filter u t (running h), s.runs u);
+  ended_below = λ u e. grind (arith, nat_tests, s.ended_below u, runs-below h s t (s.owns who t mine));
   rising = AllPairs-filter (λ u v. u < v) (λ u. not (u == t)) (running h) s.rising;
   below = All-filter (λ u. not (u == t)) (λ u. u < next_txid h) (running h) s.below;
-  owns = λ w u e. contains-filter u t (running h) ∙ own w u (who == w) (u == t) refl refl e;
-  once = λ v w u ev ew. only v w u (who == v) (who == w) ev ew;
+  owns = λ w u e. grind (arith, nat_tests, contains-filter u t (running h), s.owns w u, s.once who w u);
+  once = λ v w u ev ew. grind (arith, s.once v w u);
 }
-  where
-    own : (w u : ℕ) (b c : Bool) → (who == w) ≡ b → (u == t) ≡ c → (if b then None else own_txid w h) ≡ Some u → (contains u (running h) && not c) ≡ true
-    own w u true c is same e = absurd (cc)
-    own w u false true is same e =
-        let one : u ≡ t = grind (arith, nat_tests) in
-        let both : who ≡ w = s.once who w t mine (e ∙ ap Some one) in
-        absurd (grind (arith, nat_tests))
-    own w u false false is same e = ap (λ b. b && true) (s.owns w u e)
-
-    only : (v w u : ℕ) (b c : Bool) → (if b then None else own_txid v h) ≡ Some u → (if c then None else own_txid w h) ≡ Some u → v ≡ w
-    only v w u true c ev ew = absurd (cc)
-    only v w u false true ev ew = absurd (cc)
-    only v w u false false ev ew = s.once v w u ev ew
-
-    less : (a b c : Bool) → ((a && not b) && not c) ≡ (a && not (c || b))
-    less a b c = grind arith
-
-    was : (u : ℕ) (b : Bool) → (u == t) ≡ b → (b || has_ended h u) ≡ true → u < next_txid h
-    was u true e e' = let lt : t < next_txid h = runs-below h s t (s.owns who t mine) in grind (arith, nat_tests)
-    was u false e e' = s.ended_below u e'
 
 sound_step : (h : History) (mark : Mark) → Fine h mark → Sound h → Sound (mark ∷ h)
 sound_step h _ (begins who e) s = sound_began h who s
@@ -136,25 +94,11 @@ sound [] start = record {
 }
 sound (mark ∷ h) (next l f) = sound_step h mark f (sound h l)
 
-seen_of : (t n : ℕ) (low a b : Bool) → a ≡ (nat_lt t n && not b) → (low ≡ true → (a ≡ false) × (t < n)) → (b ≡ true → t < n)
-    → (low || (nat_lt t n && not a)) ≡ b
-seen_of t n true a true r l e = refl
-seen_of t n true a false r l e = let below : t < n = (l refl).1 in let none : a ≡ false = (l refl).0 in grind (arith, nat_tests)
-seen_of t n false a true r l e = let below : t < n = e refl in grind (arith, nat_tests)
-seen_of t n false a false r l e = grind (arith, nat_tests)
-
 -- a snapshot sees exactly what has ended
 pub sees-snapshot : (h : History) → Legal h → (t : ℕ) → sees (snapshot h) t ≡ has_ended h t
 sees-snapshot h l t =
     let s : Sound h = sound h l in
-    seen_of t (next_txid h) (nat_lt t (first_or (next_txid h) (running h))) (contains t (running h)) (has_ended h t) (s.runs t)
-    (λ low. (
-      contains-first t (next_txid h) (running h) s.rising low,
-      (let lt : t < first_or (next_txid h) (running h) = ltb-true t (first_or (next_txid h) (running h)) low in
-          let le : first_or (next_txid h) (running h) ≤ next_txid h = first_or-below (next_txid h) (running h) s.below in
-          omega arith),
-    ))
-    (s.ended_below t)
+    grind (arith, nat_tests, s.runs t, s.ended_below t, contains-first t (next_txid h) (running h) s.rising, first_or-below (next_txid h) (running h) s.below)
 
 -- a transaction that a session has hasn't ended
 pub own-unended : (h : History) → Legal h → (who t : ℕ) → own_txid who h ≡ Some t → has_ended h t ≡ false

@@ -53,25 +53,10 @@ turned_test : (t v : ℕ) (b : Bool) → (v == t) ≡ b → (t == v) ≡ b
 turned_test t v b e = grind (arith, nat_tests)
 
 -- they are the same as by the writes of each
-written-step : (h : History) (whose : Whose) (v n table : ℕ) (k key : List Val) (old new : Option (List Val)) (t : ℕ) → contains t (writers table key h) ≡ has_written key (writes_of table t h)
-    → contains t (writers table key (tabled (wrote whose v n k old new) ∷ h)) ≡ has_written key (writes_of table t (tabled (wrote whose v n k old new) ∷ h))
-written-step h whose v n table k key old new t ih = of (n == table) (eq_by_cmp key_cmp k key) refl (v == t) refl
-  where
-    pushed : (b : Bool) → eq_by_cmp key_cmp k key ≡ b → has_written key (writes_of table t h ++ record { key = k; row = new } ∷ []) ≡ (has_written key (writes_of table t h) || b)
-    pushed b e = has_written-push key (writes_of table t h) (record { key = k; row = new }) ∙ ap (λ c. has_written key (writes_of table t h) || c) (turned key k ∙ e)
-
-    of : (a b : Bool) → eq_by_cmp key_cmp k key ≡ b → (c : Bool) → (v == t) ≡ c
-        → contains t (if a && b then writers table key h ++ v ∷ [] else writers table key h)
-        ≡ has_written key (if a && c then writes_of table t h ++ record { key = k; row = new } ∷ [] else writes_of table t h)
-    of true true tie true is = contains-push t v (writers table key h) ∙ (λ i. ih i || turned_test t v true is i) ∙ sym (pushed true tie)
-    of true true tie false is = contains-push t v (writers table key h) ∙ (λ i. ih i || turned_test t v false is i) ∙ or_false (has_written key (writes_of table t h))
-    of true false tie true is = ih ∙ sym (pushed false tie ∙ or_false (has_written key (writes_of table t h)))
-    of true false tie false is = ih
-    of false b tie c is = ih
-
 writers-written : (table : ℕ) (key : List Val) (t : ℕ) (h : History) → contains t (writers table key h) ≡ has_written key (writes_of table t h)
 writers-written table key t [] = refl
-writers-written table key t (tabled (wrote whose v n k old new) ∷ h) = written-step h whose v n table k key old new t (writers-written table key t h)
+writers-written table key t (tabled (wrote whose v n k old new) ∷ h) =
+    grind (arith, nat_tests, writers-written table key t h, contains-push t v (writers table key h), has_written-push key (writes_of table t h) (record { key = k; row = new }), turned key k)
 writers-written table key t (_ ∷ h) = writers-written table key t h
 
 -- ---- who has ended where another one writes a key
