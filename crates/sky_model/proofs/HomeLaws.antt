@@ -79,7 +79,7 @@ turn-opens h now who stmt b own v =
 
 -- nothing changes, where the session had it as told
 stay-opens : (h : History) (marks : List Mark) (who : ℕ) (b : Bool) → Stay marks → has_open who h ≡ b → Opens h marks who b
-stay-opens h marks who b stay is v = open-stays v h marks stay ∙ by_same (λ f. has_open v h ≡ (if f then b else has_open v h)) who v (λ same. ap (λ n. has_open n h) (sym same) ∙ is) (λ _. refl)
+stay-opens h marks who b stay is v = grind (arith, nat_tests, open-stays v h marks stay, is)
 
 -- a statement that opens no database and closes none
 stay-statement : (h : History) (now : ℤ) (who : ℕ) (stmt : Stmt) (may : Checked (Unit {0})) → IsStaying (has_open who h) stmt
@@ -156,12 +156,10 @@ homed-turn past homed d who marks beside b none homes own elsewhere v e =
     ∙ ap (λ o. stands o e) (sym (ap (λ p. home p v) (on_top-append past (map (within d) marks) beside) ∙ homes v))
   where
     here : (if who == v then b else has_open v (history_in past d)) ≡ stands (if who == v then home_if b d else home past v) d
-    here = by_test (λ f. (if f then b else has_open v (history_in past d)) ≡ stands (if f then home_if b d else home past v) d) (who == v)
-        (λ _. by_test (λ c. c ≡ stands (home_if c d) d) b (λ _. sym (same-session d)) (λ _. refl)) (λ _. homed v d)
+    here = grind (arith, nat_tests, homed v d)
 
     there : (d == e) ≡ false → has_open v (history_in past e) ≡ stands (if who == v then home_if b d else home past v) e
-    there other = by_same (λ f. has_open v (history_in past e) ≡ stands (if f then home_if b d else home past v) e) who v
-        (λ same. ap (λ n. has_open n (history_in past e)) (sym same) ∙ elsewhere e other ∙ by_test (λ c. false ≡ stands (home_if c d) e) b (λ _. sym other) (λ _. refl)) (λ _. homed v e)
+    there other = grind (arith, nat_tests, homed v e, elsewhere e other)
 
 -- where its home is no other database it has no other open
 elsewhere-none : (past : Past) → Homed past → (d who : ℕ) (at : Option ℕ) → home past who ≡ at → (at ≡ None) ⊎ (at ≡ Some d) → (e : ℕ) → (d == e) ≡ false → has_open who (history_in past e) ≡ false
@@ -242,7 +240,7 @@ module _ (past : Past) (homed : Homed past) (d who : ℕ) (at_home : home past w
   elsewhere = elsewhere-none past homed d who (Some d) at_home (inr refl)
 
   as-was : (v : ℕ) → home past v ≡ (if who == v then Some d else home past v)
-  as-was v = by_same (λ f. home past v ≡ (if f then Some d else home past v)) who v (λ same. ap (home past) (sym same) ∙ at_home) (λ _. refl)
+  as-was v = grind (arith, nat_tests, at_home)
 
   stays-home : (stmt : Stmt) → Stay (statement database_by_history (history_in past d) (world_of past).now who stmt).marks → After stmt false
   stays-home stmt stay =

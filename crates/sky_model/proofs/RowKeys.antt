@@ -16,9 +16,7 @@ use Rattle.sky_model.proofs.Snapshots.{contains-push, sound, runs-below}
 -- the versions of a table stand in the order of their keys
 pub is_in_order-versions : (table : ℕ) (h : History) → is_in_order (versions table h) ≡ true
 is_in_order-versions table [] = refl
-is_in_order-versions table (tabled (wrote who t n key old new) ∷ h) =
-    let ih = is_in_order-versions table h in
-    cond_both (n == table) (written t key new (versions table h)) (versions table h) (λ vs. is_in_order vs ≡ true) (λ _. is_in_order-written t key new (versions table h) ih) (λ _. ih)
+is_in_order-versions table (tabled (wrote who t n key old new) ∷ h) = grind (arith, is_in_order-versions table h, is_in_order-written t key new (versions table h))
 is_in_order-versions table (ended who t false ∷ h) = is_in_order-forgotten t (versions table h) (is_in_order-versions table h)
 is_in_order-versions table (_ ∷ h) = is_in_order-versions table h
 
@@ -37,9 +35,7 @@ Begun h = (table t : ℕ) → next_txid h ≤ t → writes_of table t h ≡ []
 
 begun_step : (h : History) (mark : Mark) → Fine h mark → Legal h → Begun h → Begun (mark ∷ h)
 begun_step h _ (begins who e) l b = λ table t le. b table t (omega arith)
-begun_step h _ (writes who t n key old new e free stands) l b = λ table u le.
-    cond_both (n == table && t == u) (writes_of table u h ++ record { key = key; row = new } ∷ []) (writes_of table u h) (λ ws. ws ≡ [])
-    (λ is. let below : t < next_txid h = runs-below h (sound h l) t ((sound h l).owns who t e) in absurd (grind (arith, nat_tests))) (λ _. b table u le)
+begun_step h _ (writes who t n key old new e free stands) l b = λ table u le. grind (arith, nat_tests, b table u le, runs-below h (sound h l) t ((sound h l).owns who t e))
 begun_step h _ _ l b = b
 
 pub begun : (h : History) → Legal h → Begun h

@@ -141,13 +141,7 @@ committed-has (_ ∷ h) t e = committed-has h t e
 
 -- one that has committed had committed at a place where it had ended
 committed-at : {k h : History} → Since k h → Legal h → (t : ℕ) → has_committed h t ≡ true → has_ended k t ≡ has_committed k t
-committed-at {k = k} {h = h} since l t e =
-    of (has_rolled_back k t) refl (has_rolled_back h t) refl ∙ sym (has_committed-ended k (legal-since since l) t)
-  where
-    of : (b : Bool) → has_rolled_back k t ≡ b → (c : Bool) → has_rolled_back h t ≡ c → has_ended k t ≡ (has_ended k t && not (has_rolled_back k t))
-    of false stays c is = grind arith
-    of true gone true is = (let over : has_committed h t ≡ (has_ended h t && not (has_rolled_back h t)) = has_committed-ended h l t in absurd (grind arith))
-    of true gone false is = absurd (cc (sym (rolled_back-since since t gone) ∙ is))
+committed-at {k = k} {h = h} since l t e = grind (arith, has_committed-ended k (legal-since since l) t, has_committed-ended h l t, rolled_back-since since t)
 
 -- the newest committed write that a sight doesn't have
 unseen-is : (h : History) → Legal h → (who table : ℕ) (key : List Val)

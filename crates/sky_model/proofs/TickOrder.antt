@@ -49,19 +49,5 @@ Grows h q from to t = has_committed (at_tick q from h) t ≡ true → has_commit
 pub committed_later : (h : History) → Legal h → (q from to t : ℕ) → from < to → is_made q to h ≡ true → Grows h q from to t
 committed_later [] start q from to t less there = absurd (cc)
 committed_later _ (next {h = h} l (ticks_next p m time seq i above)) q from to t less there =
-    of (p == q) refl (m == from) refl (m == to) refl (committed_later h l q from to t less) there
-  where
-    of : (b : Bool) → (p == q) ≡ b → (x : Bool) → (m == from) ≡ x → (y : Bool) → (m == to) ≡ y
-        → (is_made q to h ≡ true → Grows h q from to t) → ((b && y) || is_made q to h) ≡ true
-        → has_committed (if b && x then h else at_tick q from h) t ≡ true → has_committed (if b && y then h else at_tick q to h) t ≡ true
-    of false isq x isx y isy ih there e = ih there e
-    of true isq true isx true isy ih there e = absurd (grind (arith, nat_tests))
-    of true isq true isx false isy ih there e =
-        let same : p ≡ q = grind (arith, nat_tests) in
-        let at : m ≡ from = grind (arith, nat_tests) in
-        let newest : id_of (newest_tick (ticks q h)) < m = subst (λ n. id_of (newest_tick (ticks n h)) < m) same above in
-        let not_yet : is_made q to h ≡ false = unmade_above h l q to (omega arith) in
-        absurd (cc)
-    of true isq false isx true isy ih there e = committed_since h q from t e
-    of true isq false isx false isy ih there e = ih there e
+    λ e. grind (arith, nat_tests, committed_later h l q from to t less, committed_since h q from t, unmade_above h l q to, above, there, e)
 committed_later _ (next {h = h} l _) q from to t less there = committed_later h l q from to t less there

@@ -55,20 +55,8 @@ none_above _ (next {h = h} l _) q = none_above h l q
 pub snapshot-at_tick : (h : History) → Legal h → (q id : ℕ) → snapshot (at_tick q id h) ≡ snapshot_at (tick id (ticks q h))
 snapshot-at_tick [] start q id = refl
 snapshot-at_tick _ (next {h = h} l (ticks_next p m time seq i e)) q id =
-    by_same (λ b. snapshot (if b && m == id then h else at_tick q id h) ≡ snapshot_at (tick id (if b then ticks q h ++ new ∷ [] else ticks q h))) p q (λ same. both (tick id (ticks q h)) refl (m == id) refl same (snapshot-at_tick h l q id)) (λ _. snapshot-at_tick h l q id)
-  where
-    new : Tick
-    new = record { id = m; time = time; snapshot = snapshot h; seq = seq }
-
-    both : (found : Option Tick) → tick id (ticks q h) ≡ found → (b : Bool) → (m == id) ≡ b → p ≡ q → snapshot (at_tick q id h) ≡ snapshot_at (tick id (ticks q h))
-        → snapshot (if b then h else at_tick q id h) ≡ snapshot_at (tick id (ticks q h ++ new ∷ []))
-    both (Some u) is true e' same ih =
-        let above : id_of (newest_tick (ticks q h)) < id = (let more : id_of (newest_tick (ticks q h)) < m = subst (λ n. id_of (newest_tick (ticks n h)) < m) same e in grind (arith, nat_tests)) in
-        let none : tick id (ticks q h) ≡ None = none_above h l q id above in
-        cc
-    both (Some u) is false e' same ih = ih ∙ ap snapshot_at is ∙ sym (ap snapshot_at (tick-push_found id (ticks q h) new u is))
-    both None is true e' same ih = sym (ap snapshot_at (tick-push_none id (ticks q h) new is ∙ ap (λ b. if b then Some new else None) e'))
-    both None is false e' same ih = ih ∙ ap snapshot_at is ∙ sym (ap snapshot_at (tick-push_none id (ticks q h) new is ∙ ap (λ b. if b then Some new else None) e'))
+    let new : Tick = record { id = m; time = time; snapshot = snapshot h; seq = seq } in
+    grind (arith, nat_tests, snapshot-at_tick h l q id, none_above h l q id, e, tick-push_found id (ticks q h) new, tick-push_none id (ticks q h) new)
 snapshot-at_tick _ (next {h = h} l _) q id = snapshot-at_tick h l q id
 
 -- what stands below a tick is legal

@@ -47,9 +47,7 @@ words-joined w (v ∷ ws) so = pieces-whole_space false w (joined (v ∷ ws)) so
 pub whole-append : (quoted : Bool) (front back : List ℕ) → whole quoted front ≡ true → whole false back ≡ true → whole quoted (front ++ back) ≡ true
 whole-append true [] back front_so back_so = absurd (cc)
 whole-append false [] back front_so back_so = back_so
-whole-append quoted (b ∷ front) back front_so back_so =
-    let parts = and_parts (not (is_parting quoted b)) (whole (quoted_after quoted b) front) front_so in
-    rw (parts.0) (whole-append (quoted_after quoted b) front back parts.1 back_so)
+whole-append quoted (b ∷ front) back front_so back_so = grind (arith, whole-append (quoted_after quoted b) front back)
 
 -- neither a quote nor a space
 abbrev pub IsPlain : ℕ → Type 0
@@ -57,10 +55,7 @@ IsPlain b = ((b == 39) ≡ false) × ((b == 32) ≡ false)
 
 whole-list_all : (p : ℕ → Bool) → ((b : ℕ) → p b ≡ true → IsPlain b) → (bs : List ℕ) → list_all p bs ≡ true → whole false bs ≡ true
 whole-list_all p plain [] so = refl
-whole-list_all p plain (b ∷ bs) so =
-    let parts = and_parts (p b) (list_all p bs) so in
-    let is = plain b parts.0 in
-    rw (is.0, is.1) (whole-list_all p plain bs parts.1)
+whole-list_all p plain (b ∷ bs) so = grind (arith, plain b, whole-list_all p plain bs)
 
 continues_name-plain : (b : ℕ) → continues_name b ≡ true → IsPlain b
 continues_name-plain b so = (grind (arith, nat_tests), grind (arith, nat_tests))
@@ -79,9 +74,7 @@ whole-names_around w (Some dot) is so =
 
 pub whole-is_number : (w : List ℕ) → is_number w ≡ true → whole false w ≡ true
 whole-is_number [] so = refl
-whole-is_number (b ∷ bs) so =
-    let parts = and_parts (list_all is_ascii_digit (b ∷ bs)) (_) so in
-    whole-list_all is_ascii_digit is_ascii_digit-plain (b ∷ bs) parts.0
+whole-is_number (b ∷ bs) so = grind (arith, whole-list_all is_ascii_digit is_ascii_digit-plain (b ∷ bs))
 
 is_bare-plain : (b : ℕ) → is_bare b ≡ true → IsPlain b
 is_bare-plain b so = (grind (arith, nat_tests), grind (arith, nat_tests))
@@ -116,10 +109,7 @@ continues_all ws = list_all (λ w. list_all continues_name w) ws
 
 pub continues_all-is_name : (ws : List (List ℕ)) → list_all is_name ws ≡ true → continues_all ws ≡ true
 continues_all-is_name [] so = refl
-continues_all-is_name (w ∷ ws) so =
-    let parts = and_parts (is_name w) (list_all is_name ws) so in
-    let here = list_all-is_identifier w (and_parts (nat_le (length w) 63) (is_identifier w) parts.0).1 in
-    and_from (list_all continues_name w) (continues_all ws) here (continues_all-is_name ws parts.1)
+continues_all-is_name (w ∷ ws) so = grind (arith, list_all-is_identifier w, continues_all-is_name ws)
 
 continues_all-onto_first : (b : ℕ) (ws : List (List ℕ)) → continues_all (onto_first b ws) ≡ true → (continues_name b ≡ true) × (continues_all ws ≡ true)
 continues_all-onto_first b [] so = ((and_parts (continues_name b) true (and_parts (list_all continues_name (b ∷ [])) true so).0).0, refl)
@@ -131,11 +121,4 @@ continues_all-onto_first b (w ∷ ws) so =
 -- a word is whole where only such bytes stand between its commas
 pub whole-between_commas : (w : List ℕ) → continues_all (between_commas w) ≡ true → whole false w ≡ true
 whole-between_commas [] so = refl
-whole-between_commas (b ∷ bs) so =
-    elim (b == 44) as (λ v. (b == 44) ≡ v → continues_all (cond v ([] ∷ between_commas bs) (onto_first b (between_commas bs))) ≡ true → whole false (b ∷ bs) ≡ true) [
-      | true ↦ λ is e. let comma : b ≡ 44 = eqb-true b 44 is in rw comma (whole-between_commas bs e)
-      | false ↦ λ is e.
-          let parts = continues_all-onto_first b (between_commas bs) e in
-          let here = continues_name-plain b parts.0 in
-          rw (here.0, here.1) (whole-between_commas bs parts.1)
-    ] refl so
+whole-between_commas (b ∷ bs) so = grind (arith, nat_tests, whole-between_commas bs, continues_all-onto_first b (between_commas bs), continues_name-plain b)

@@ -90,18 +90,7 @@ before-step : (table : ℕ) (key : List Val) (t u : ℕ) (h : History) (whose : 
     → is_before t u (writers table key (tabled (wrote whose v n k old new) ∷ h)) ≡ true → has_ended h t ≡ true
 before-step table key t u h whose v n k old new l other ih =
     by-write table key h whose v n k old new (λ vs. is_before t u vs ≡ true → has_ended h t ≡ true)
-    (λ table_is key_is e. pushed table_is key_is (is_before t u (writers table key h)) refl (contains t (writers table key h)) refl (u == v) refl (sym (is_before-push t u v (writers table key h)) ∙ e))
-    ih
-  where
-    pushed : n ≡ table → k ≡ key → (b : Bool) → is_before t u (writers table key h) ≡ b → (c : Bool) → contains t (writers table key h) ≡ c → (d : Bool) → (u == v) ≡ d
-        → (b || (c && d)) ≡ true → has_ended h t ≡ true
-    pushed table_is key_is true isb c isc d isd e = ih isb
-    pushed table_is key_is false isb true isc true isd e =
-        let apart_now : (t == v) ≡ false = grind (arith, nat_tests) in
-        let wrote_it : has_written k (writes_of n t h) ≡ true = (λ i. has_written (key_is i) (writes_of (table_is i) t h)) ∙ sym (writers-written table key t h) ∙ isc in
-        others-ended h whose v n k old new (legal-below_mark l) (fine_mark l) t apart_now wrote_it
-    pushed table_is key_is false isb true isc false isd e = absurd (cc)
-    pushed table_is key_is false isb false isc d isd e = absurd (cc)
+    (λ table_is key_is e. grind (arith, nat_tests, ih, is_before-push t u v (writers table key h), writers-written table key t h, others-ended h whose v n k old new (legal-below_mark l) (fine_mark l) t)) ih
 
 before-ended : (table : ℕ) (key : List Val) (t u : ℕ) (h : History) → Legal h → (t == u) ≡ false → is_before t u (writers table key h) ≡ true → has_ended h t ≡ true
 before-ended table key t u [] l other e = absurd (cc)
@@ -189,23 +178,11 @@ order-wrote : (table : ℕ) (key : List Val) (t u : ℕ) (h : History) (whose : 
     → IsOneOrder h (writers table key h) t u → IsOneOrder h (writers table key (tabled (wrote whose v n k old new) ∷ h)) t u
 order-wrote table key t u h whose v n k old new l ih =
     by-write table key h whose v n k old new (λ vs. IsOneOrder h vs t u)
-    (λ table_is key_is has_t has_u listed. of (ended-other h u v (committed-ended h u listed) runs) listed
-    (contains t (writers table key h)) refl (t == v) refl (sym (contains-push t v (writers table key h)) ∙ has_t)
-    (contains u (writers table key h)) refl (sym (contains-push u v (writers table key h)) ∙ has_u))
+    (λ table_is key_is has_t has_u listed.
+    let runs : has_ended h v ≡ false = writer-unended h whose v n k old new (legal-below_mark l) (fine_mark l) in
+    grind (arith, nat_tests, ih, ended-other h u v (committed-ended h u listed) runs, contains-push t v (writers table key h), contains-push u v (writers table key h), is_before-push t u v (writers table key h),
+    is_before-none t u (writers table key h), is_before-none t u (committed h), unended-unlisted h t))
     ih
-  where
-    runs : has_ended h v ≡ false
-    runs = writer-unended h whose v n k old new (legal-below_mark l) (fine_mark l)
-
-    of : (u == v) ≡ false → contains u (committed h) ≡ true → (a : Bool) → contains t (writers table key h) ≡ a → (b : Bool) → (t == v) ≡ b → (a || b) ≡ true
-        → (c : Bool) → contains u (writers table key h) ≡ c → (c || u == v) ≡ true → is_before t u (writers table key h ++ v ∷ []) ≡ is_before t u (committed h)
-    of other listed a isa b isb has_t false isc has_u = absurd (cc)
-    of other listed true isa b isb has_t true isc has_u = is_before-other t u v (writers table key h) other ∙ ih isa isc listed
-    of other listed false isa true isb has_t true isc has_u =
-        let one : t ≡ v = grind (arith, nat_tests) in
-        is_before-other t u v (writers table key h) other ∙ is_before-none t u (writers table key h) isa
-        ∙ sym (is_before-none t u (committed h) (unended-unlisted h t (ap (has_ended h) one ∙ runs)))
-    of other listed false isa false isb has_t true isc has_u = absurd (cc)
 
 order-committed : (table : ℕ) (key : List Val) (t u : ℕ) (h : History) (whose : Whose) (v : ℕ) → Legal (ended whose v true ∷ h) → (t == u) ≡ false → has_rolled_back h t ≡ false
     → IsOneOrder h (writers table key h) t u → IsOneOrder (ended whose v true ∷ h) (writers table key h) t u

@@ -34,10 +34,7 @@ is-written : (h : History) → Legal h → (table t : ℕ) → wrote_in table t 
 is-written [] l table t = grind arith
 is-written (ended whose u c ∷ h) l table t = grind (arith, nat_tests, is-written h (legal-below_mark l) table t)
 is-written (tabled (wrote whose u n key old new) ∷ h) l table t =
-    by_test (λ b. (b || wrote_in table t h) ≡ (not (has_ended h t) && some (if b then writes_of table t h ++ record { key = key; row = new } ∷ [] else writes_of table t h))) (n == table && u == t)
-    (λ is. let same : u ≡ t = grind (arith, nat_tests) in
-    sym (λ i. not ((ap (has_ended h) (sym same) ∙ writer-runs h (legal-below_mark l) (fine_mark l)) i) && some-pushed (writes_of table t h) (record { key = key; row = new }) i))
-    (λ _. is-written h (legal-below_mark l) table t)
+    grind (arith, nat_tests, is-written h (legal-below_mark l) table t, writer-runs h (legal-below_mark l) (fine_mark l), some-pushed (writes_of table t h) (record { key = key; row = new }))
 is-written (_ ∷ h) l table t = is-written h (legal-below_mark l) table t
 
 pub writers_have_written : WritersHaveWritten
