@@ -1,6 +1,6 @@
 -- A session holds a key exactly where its running transaction has written it.
 use Rattle.std.proofs.Common.{◌≡◌, ℕ, Bool, true, false, List, [], ◌∷◌, ◌++◌, Option, Some, None, refl, sym, ◌∙◌, ap, arith, if◌then◌else◌, ◌||◌, ◌&&◌, ◌==◌}
-use Rattle.std.proofs.lemmas.Bool.{or_right, or_parts, eqb-true, false_from_ne_true}
+use Rattle.std.proofs.lemmas.Bool.{or_parts, eqb-true, false_from_ne_true}
 use Rattle.std.specs.Ordering.{eq_by_cmp}
 use Rattle.std.specs.Cmp.{eq_by_cmp_equiv}
 use Rattle.std.proofs.lemmas.Bool.Decides.{nat_tests}
@@ -17,7 +17,7 @@ use Rattle.sky_model.specs.Locks.{holder}
 use Rattle.sky_model.specs.LawsOfLocks.{HasWritten}
 use Rattle.sky_model.proofs.Legal.{Fine, begins, ends, writes, Legal, start, next}
 use Rattle.sky_model.proofs.Snapshots.{sound, own-unended}
-use Rattle.sky_model.proofs.Cases.{by_same}
+use Rattle.sky_model.proofs.Cases.{by_test, by_same}
 
 pub turned : (x y : List Val) → eq_by_cmp key_cmp x y ≡ eq_by_cmp key_cmp y x
 turned x y = (eq_by_cmp_equiv key_cmp-IsTotalOrder).symm x y
@@ -52,30 +52,18 @@ holder-step h _ (ends v t c mine) l table key who ih e =
     let both : (holder table key h ≡ Some who) × ((v == who) ≡ false) = unless-another v who (holder table key h) e in
     let w : HasWritten h table key who = ih both.0 in
     record { txid = w.txid; runs = ap (λ b. if b then None else own_txid who h) both.1 ∙ w.runs; wrote = w.wrote }
-holder-step h _ (writes v t n at_key old new mine free stands) l table key who ih e = of (n == table) refl (eq_by_cmp key_cmp at_key key) refl e
-  where
-    grown : (u : ℕ) (b : Bool) → has_written key (writes_of table u h) ≡ true
-        → has_written key (if b then writes_of table u h ++ record { key = at_key; row = new } ∷ [] else writes_of table u h) ≡ true
-    grown u true e = has_written-push key (writes_of table u h) (record { key = at_key; row = new }) ∙ ap (λ b. b || eq_by_cmp key_cmp key at_key) e
-    grown u false e = e
-
-    before : holder table key h ≡ Some who → HasWritten (tabled (wrote (of_session v) t n at_key old new) ∷ h) table key who
-    before e = let w : HasWritten h table key who = ih e in record { txid = w.txid; runs = w.runs; wrote = grown w.txid (n == table && t == w.txid) w.wrote }
-
-    of : (a : Bool) → (n == table) ≡ a → (b : Bool) → eq_by_cmp key_cmp at_key key ≡ b → (if a && b then Some v else holder table key h) ≡ Some who
-        → HasWritten (tabled (wrote (of_session v) t n at_key old new) ∷ h) table key who
-    of true here true tie e =
-        let one : v ≡ who = cc in
-        let same : (t == t) ≡ true = grind (arith, nat_tests) in
-        record {
-          txid = t;
-          runs = ap (λ x. own_txid x h) (sym one) ∙ mine;
-          wrote = ap (λ b. has_written key (if b then writes_of table t h ++ record { key = at_key; row = new } ∷ [] else writes_of table t h)) (λ i. here i && same i)
-              ∙ has_written-push key (writes_of table t h) (record { key = at_key; row = new }) ∙ ap (λ b. has_written key (writes_of table t h) || b) (turned key at_key ∙ tie)
-              ∙ or_right (has_written key (writes_of table t h)) true refl;
-        }
-    of true here false tie e = before e
-    of false there b tie e = before e
+holder-step h _ (writes v t n at_key old new mine free stands) l table key who ih e =
+    by_test (λ b. (if b then Some v else holder table key h) ≡ Some who → HasWritten (tabled (wrote (of_session v) t n at_key old new) ∷ h) table key who) (n == table && eq_by_cmp key_cmp at_key key)
+    (λ is e. let one : v ≡ who = cc in record {
+      txid = t;
+      runs = ap (λ x. own_txid x h) (sym one) ∙ mine;
+      wrote = grind (arith, nat_tests, turned key at_key, has_written-push key (writes_of table t h) (record { key = at_key; row = new }));
+    })
+    (λ _ e. let w : HasWritten h table key who = ih e in record {
+      txid = w.txid;
+      runs = w.runs;
+      wrote = grind (arith, has_written-push key (writes_of table w.txid h) (record { key = at_key; row = new }), w.wrote);
+    }) e
 holder-step h _ _ l table key who ih e = let w : HasWritten h table key who = ih e in record { txid = w.txid; runs = w.runs; wrote = w.wrote }
 
 pub holder-written : (h : History) → Legal h → (table : ℕ) (key : List Val) (who : ℕ) → holder table key h ≡ Some who → HasWritten h table key who

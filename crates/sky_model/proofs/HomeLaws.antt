@@ -24,7 +24,6 @@ use Rattle.sky_model.specs.Settling.{Turn, marked, behind_marks, settling}
 use Rattle.sky_model.specs.Calls.{making, statement, database_turn, deed_in, opening, opens, outside_does, is_leaving, left_if, session_does, turn, Call, called, past_of}
 use Rattle.sky_model.specs.LawsOfHistories.{HomesAreOpen, WaitersHaveOpen, BlocksAreOpen}
 use Rattle.sky_model.proofs.Legal.{Fine, begins_block, fails_block, ends_block, connects, disconnects, Legal, start, next}
-use Rattle.sky_model.proofs.Good.{same-session}
 use Rattle.sky_model.proofs.WaitersFit.{waits-open}
 use Rattle.sky_model.proofs.SnapshotLaws.{legal_place}
 use Rattle.sky_model.proofs.Resting.{behind-append}

@@ -1,5 +1,5 @@
 -- What the versions of a key say of its rows, at each place of a legal history.
-use Rattle.std.proofs.Common.{◌≡◌, ℕ, Bool, true, false, List, [], ◌∷◌, ◌++◌, Option, Some, None, option_map, is_some, refl, sym, ◌∙◌, ap, subst, arith, if◌then◌else◌, ◌⊎◌, inl, inr, ◌||◌, ◌&&◌, ◌==◌, cond}
+use Rattle.std.proofs.Common.{◌≡◌, ℕ, Bool, true, false, List, [], ◌∷◌, Option, Some, None, option_map, is_some, refl, sym, ◌∙◌, ap, subst, arith, if◌then◌else◌, ◌⊎◌, inl, inr, ◌||◌, ◌&&◌, ◌==◌, cond}
 use Rattle.std.specs.Option.{option_or}
 use Rattle.std.specs.Ordering.{eq_by_cmp}
 use Rattle.std.proofs.lemmas.Bool.{or_parts, or_right, and_parts, eqb-true, cond_both}
@@ -10,8 +10,8 @@ use Rattle.sky_val.specs.Entries.{at}
 use Rattle.sky_keys.specs.Waits.{other_than}
 use Rattle.sky_txid.specs.Ids.{contains}
 use Rattle.sky_keys.specs.declared.version.Version.{Version}
-use Rattle.sky_keys.specs.Versions.{with_version, without, version_of, newest_by, row_of, versions_at, written}
-use Rattle.sky_keys.proofs.VersionLemmas.{left, OnlyLast, OthersPass, newest_with, newest_without, newest_more, version_of-with, version_of-without, only_more, only_without, only_with}
+use Rattle.sky_keys.specs.Versions.{with_version, without, version_of, newest_by, row_of, versions_at}
+use Rattle.sky_keys.proofs.VersionLemmas.{OnlyLast, OthersPass, newest_with, newest_without, newest_more, version_of-with, version_of-without, only_more, only_without, only_with}
 use Rattle.sky_keys.proofs.EntryLemmas.{key_ties-is, versions_at-written, versions_at-forgotten}
 use Rattle.sky_model.specs.History.{Mark, of_session, ended, tabled, wrote, History}
 use Rattle.sky_model.specs.Transactions.{has_ended}
@@ -24,7 +24,6 @@ use Rattle.sky_model.proofs.Snapshots.{own-unended}
 use Rattle.sky_model.proofs.RowWrites.{over, last_of, at-put_all, last_of-push, has_written-last_of, in_turn-push, in_turn-same, last_writer-push, last_writer-same}
 use Rattle.sky_model.proofs.RowKeys.{is_in_order-versions, committed-ended}
 use Rattle.sky_model.proofs.Holders.{nobody-else}
-use Rattle.sky_model.proofs.Cases.{by_test}
 
 -- the versions of a key at a place
 abbrev pub kept : History → ℕ → List Val → List Version

@@ -128,11 +128,11 @@ good_once_free h who table key attempt c may good = of (other_than who (holder t
     of None free = good free
     of (Some v) is = good_refused_by h who (option_map Deadlock (ring (part_of h) who v)) _ (λ _. more (begins_waiting who table key attempt may) done)
 
-no-one : {A B : Type 0} (f : A → B) (o : Option A) → option_map f o ≡ None → o ≡ None
+pub no-one : {A B : Type 0} (f : A → B) (o : Option A) → option_map f o ≡ None → o ≡ None
 no-one f None e = refl
 no-one f (Some a) e = absurd (cc)
 
-nothing : {A : Type 0} (o : Option A) → is_some o ≡ false → o ≡ None
+pub nothing : {A : Type 0} (o : Option A) → is_some o ≡ false → o ≡ None
 nothing None e = refl
 nothing (Some a) e = absurd (cc)
 

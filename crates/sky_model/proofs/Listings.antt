@@ -1,8 +1,7 @@
 -- What a batch lists doesn't change once its closing tick is made: an event that is put later is of a
 -- transaction that runs, so it hadn't committed at that tick, and a tick that is made stays.
 use Rattle.std.proofs.Common.{◌≡◌, ℕ, ◌+◌, ◌<◌, ◌≤◌, List, [], ◌∷◌, ◌++◌, Bool, true, false, not, ◌&&◌, ◌==◌, Some, filter, refl, sym, ◌∙◌, ap, subst, arith, append-nil, if◌then◌else◌}
-use Rattle.std.proofs.lemmas.Bool.{or_right, false_from_ne_true, eqb-true}
-use Rattle.std.proofs.lemmas.Bool.Decides.{nat_tests}
+use Rattle.std.proofs.lemmas.Bool.{or_right, false_from_ne_true, eqb-true, cond_both}
 use Rattle.std.proofs.lemmas.List.Elements.{filter-append}
 use Rattle.sky_val.specs.declared.event.Event.{Event}
 use Rattle.sky_model.specs.History.{Batch, Mark, queued, ticked, History}
@@ -17,6 +16,7 @@ use Rattle.sky_model.proofs.Snapshots.{own-unended, has_committed-ended}
 use Rattle.sky_model.proofs.SnapshotLaws.{legal-below_mark, fine_mark, legal-below, legal_place}
 use Rattle.sky_model.proofs.TickOrder.{is_made, unmade_above, committed_since}
 use Rattle.sky_model.proofs.ActiveBatches.{IsActive, active_batches}
+use Rattle.sky_model.proofs.Cases.{by_same}
 
 -- a tick that is made stays
 made_since : (q id : ℕ) (later : List Mark) (p : History) → is_made q id p ≡ true → is_made q id (later ++ p) ≡ true
@@ -37,18 +37,16 @@ new_tick h l q made id new there le above = false_from_ne_true (new == id) (λ t
 -- with one more mark a batch whose closing tick is made lists the same
 same_listing : (h : History) (mark : Mark) → Legal h → Fine h mark → (b : Batch) → b.prev ≤ b.cur → is_made b.queue b.cur h ≡ true
     → batch_events (mark ∷ h) b ≡ batch_events h b
-same_listing h _ l (puts who q e i s mine newest) b le made = of (q == b.queue)
+same_listing h _ l (puts who q e i s mine newest) b le made =
+    cond_both (q == b.queue) (events b.queue h ++ e ∷ []) (events b.queue h) (λ es. by_id (filter (stands_in h b) es) ≡ batch_events h b)
+    (λ _. ap by_id (filter-append (stands_in h b) (events b.queue h) (e ∷ [])
+    ∙ ap (λ c. filter (stands_in h b) (events b.queue h) ++ (if c then e ∷ [] else [])) out
+    ∙ append-nil (filter (stands_in h b) (events b.queue h)))) (λ _. refl)
   where
     out : stands_in h b e ≡ false
     out = ap (λ c. c && not (has_committed (at_tick b.queue b.prev h) e.ev_txid) && is_for b.sub e.ev_owner)
         (own-uncommitted h l who e.ev_txid mine b.queue b.cur)
-
-    of : (x : Bool) → by_id (filter (stands_in h b) (if x then events b.queue h ++ e ∷ [] else events b.queue h)) ≡ batch_events h b
-    of true = ap by_id (filter-append (stands_in h b) (events b.queue h) (e ∷ [])
-        ∙ ap (λ c. filter (stands_in h b) (events b.queue h) ++ (if c then e ∷ [] else [])) out
-        ∙ append-nil (filter (stands_in h b) (events b.queue h)))
-    of false = refl
-same_listing h _ l (ticks_next q m time seq i above) b le made = of (q == b.queue) refl
+same_listing h _ l (ticks_next q m time seq i above) b le made = by_same (λ x. lists (x && m == b.cur) (x && m == b.prev) ≡ lists false false) q b.queue there (λ _. refl)
   where
     lists : (to from : Bool) → List Event
     lists to from =
@@ -57,12 +55,10 @@ same_listing h _ l (ticks_next q m time seq i above) b le made = of (q == b.queu
         && is_for b.sub e.ev_owner)
         (events b.queue h))
 
-    of : (x : Bool) → (q == b.queue) ≡ x → lists (x && m == b.cur) (x && m == b.prev) ≡ lists false false
-    of true test =
-        let same : q ≡ b.queue = grind (arith, nat_tests) in
+    there : q ≡ b.queue → lists (m == b.cur) (m == b.prev) ≡ lists false false
+    there same =
         let newer : id_of (newest_tick (ticks b.queue h)) < m = subst (λ n. id_of (newest_tick (ticks n h)) < m) same above in
         λ i. lists (new_tick h l b.queue b.cur b.cur m made (omega arith) newer i) (new_tick h l b.queue b.cur b.prev m made le newer i)
-    of false test = refl
 same_listing h _ l _ b le made = refl
 
 same_listings : (later : List Mark) (p : History) → Legal (later ++ p) → (b : Batch) → b.prev ≤ b.cur → is_made b.queue b.cur p ≡ true

@@ -1,10 +1,9 @@
 -- What the versions of a key say of its rows, at each place of a legal history.
-use Rattle.std.proofs.Common.{◌≡◌, ℕ, ◌<◌, ◌≤◌, true, false, [], ◌∷◌, ◌++◌, refl, sym, ◌∙◌, arith, ◌||◌, ◌&&◌, ◌==◌}
-use Rattle.std.proofs.lemmas.Bool.{or_right, cond_both}
+use Rattle.std.proofs.Common.{◌≡◌, ℕ, ◌≤◌, true, false, [], ◌∷◌, refl, sym, ◌∙◌, arith, ◌||◌, ◌==◌}
+use Rattle.std.proofs.lemmas.Bool.{or_right}
 use Rattle.std.proofs.lemmas.Bool.Decides.{nat_tests}
 use Rattle.sky_val.specs.Entries.{is_in_order}
 use Rattle.sky_txid.specs.Ids.{contains}
-use Rattle.sky_keys.specs.Versions.{written}
 use Rattle.sky_keys.proofs.EntryLemmas.{is_in_order-written, is_in_order-forgotten}
 use Rattle.sky_model.specs.History.{Mark, ended, tabled, wrote, History}
 use Rattle.sky_model.specs.Transactions.{next_txid, has_ended}

@@ -1,5 +1,5 @@
 -- A key is written by one running transaction at a time, so those that write it commit in the order in which they write it.
-use Rattle.std.proofs.Common.{◌≡◌, ◌≢◌, ℕ, List, [], ◌∷◌, ◌++◌, Bool, true, false, not, refl, sym, ◌∙◌, ap, arith, if◌then◌else◌, ◌||◌, ◌&&◌, ◌==◌, nat_lt, Option}
+use Rattle.std.proofs.Common.{◌≡◌, ◌≢◌, ℕ, List, [], ◌∷◌, ◌++◌, Bool, true, false, not, refl, sym, ◌∙◌, ap, arith, ◌||◌, ◌&&◌, ◌==◌, nat_lt, Option}
 use Rattle.std.proofs.lemmas.Bool.{true_from_ne_false, false_from_ne_true, or_parts, or_right, and_parts, eqb-true, cond_both}
 use Rattle.std.specs.Ordering.{eq_by_cmp}
 use Rattle.std.proofs.lemmas.Bool.Decides.{nat_tests}
@@ -180,8 +180,18 @@ order-wrote table key t u h whose v n k old new l ih =
     by-write table key h whose v n k old new (λ vs. IsOneOrder h vs t u)
     (λ table_is key_is has_t has_u listed.
     let runs : has_ended h v ≡ false = writer-unended h whose v n k old new (legal-below_mark l) (fine_mark l) in
-    grind (arith, nat_tests, ih, ended-other h u v (committed-ended h u listed) runs, contains-push t v (writers table key h), contains-push u v (writers table key h), is_before-push t u v (writers table key h),
-    is_before-none t u (writers table key h), is_before-none t u (committed h), unended-unlisted h t))
+    grind (
+      arith,
+      nat_tests,
+      ih,
+      ended-other h u v (committed-ended h u listed) runs,
+      contains-push t v (writers table key h),
+      contains-push u v (writers table key h),
+      is_before-push t u v (writers table key h),
+      is_before-none t u (writers table key h),
+      is_before-none t u (committed h),
+      unended-unlisted h t,
+    ))
     ih
 
 order-committed : (table : ℕ) (key : List Val) (t u : ℕ) (h : History) (whose : Whose) (v : ℕ) → Legal (ended whose v true ∷ h) → (t == u) ≡ false → has_rolled_back h t ≡ false

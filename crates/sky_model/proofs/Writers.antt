@@ -1,17 +1,15 @@
 -- A transaction counts as one that has written in a table exactly where it has, and hasn't ended.
-use Rattle.std.proofs.Common.{◌≡◌, ◌≢◌, ℕ, List, [], ◌∷◌, ◌++◌, Bool, true, false, not, Option, refl, sym, ap, ◌∙◌, arith, if◌then◌else◌, ◌||◌, ◌&&◌, ◌==◌}
-use Rattle.std.proofs.lemmas.Bool.{and_parts}
+use Rattle.std.proofs.Common.{◌≡◌, ◌≢◌, ℕ, List, [], ◌∷◌, ◌++◌, Bool, true, false, not, Option, refl, sym, ◌∙◌, arith, ◌&&◌}
+use Rattle.std.proofs.lemmas.Bool.{and_parts, not-true}
 use Rattle.std.proofs.lemmas.Bool.Decides.{nat_tests}
 use Rattle.sky_val.specs.declared.val.Val.{Val}
-use Rattle.sky_model.specs.History.{Whose, Mark, ended, tabled, wrote, History}
+use Rattle.sky_model.specs.History.{Whose, ended, tabled, wrote, History}
 use Rattle.sky_model.specs.Transactions.{has_ended}
 use Rattle.sky_model.specs.Rows.{Write, writes as writes_of, wrote_in}
 use Rattle.sky_model.specs.LawsOfLocks.{WritersHaveWritten}
-use Rattle.sky_model.proofs.Legal.{Fine, writes, Legal, start, next}
+use Rattle.sky_model.proofs.Legal.{Fine, writes, Legal}
 use Rattle.sky_model.proofs.Snapshots.{own-unended}
 use Rattle.sky_model.proofs.SnapshotLaws.{legal_place, legal-below_mark, fine_mark}
-use Rattle.std.proofs.lemmas.Bool.{not-true, and_parts}
-use Rattle.sky_model.proofs.Cases.{by_test}
 
 -- the one that writes hasn't ended
 writer-runs : (h : History) → Legal h → {whose : Whose} {u n : ℕ} {key : List Val} {old new : Option (List Val)} → Fine h (tabled (wrote whose u n key old new)) → has_ended h u ≡ false
