@@ -2,7 +2,7 @@
 use Rattle.std.proofs.Common.{◌≡◌, ℕ, Bool, true, false, List, [], ◌∷◌, Option, Some, None, option_map, is_some, refl, sym, ◌∙◌, ap, subst, arith, if◌then◌else◌, ◌⊎◌, inl, inr, ◌||◌, ◌&&◌, ◌==◌, cond}
 use Rattle.std.specs.Option.{option_or}
 use Rattle.std.specs.Ordering.{eq_by_cmp}
-use Rattle.std.proofs.lemmas.Bool.{or_parts, or_right, and_parts, eqb-true, cond_both}
+use Rattle.std.proofs.lemmas.Bool.{true_from_ne_false, or_parts, or_right, and_parts, eqb-true, cond_both}
 use Rattle.std.proofs.lemmas.Bool.Decides.{nat_tests}
 use Rattle.sky_val.specs.declared.val.Val.{Val}
 use Rattle.sky_val.specs.Order.{key_cmp}
@@ -24,6 +24,7 @@ use Rattle.sky_model.proofs.Snapshots.{own-unended}
 use Rattle.sky_model.proofs.RowWrites.{over, last_of, at-put_all, last_of-push, has_written-last_of, in_turn-push, in_turn-same, last_writer-push, last_writer-same}
 use Rattle.sky_model.proofs.RowKeys.{is_in_order-versions, committed-ended}
 use Rattle.sky_model.proofs.Holders.{nobody-else}
+use Rattle.sky_model.proofs.Cases.{by_same}
 
 -- the versions of a key at a place
 abbrev pub kept : History → ℕ → List Val → List Version
@@ -103,18 +104,9 @@ key_rolled_back h l who t unended table key k = record {
 -- where no other transaction that hasn't ended has a version, all others' pass
 others-from : (p : ℕ → Bool) (t : ℕ) (vs : List Version) → ((u : ℕ) → p u ≡ false → (t == u) ≡ false → version_of u vs ≡ None) → OthersPass p t vs
 others-from p t [] none = tt
-others-from p t (v ∷ vs) none = (of (t == v.txid) refl (p v.txid) refl, others-from p t vs (λ u unended other. later u (none u unended other)))
-  where
-    of : (b : Bool) → (t == v.txid) ≡ b → (c : Bool) → p v.txid ≡ c → (t ≡ v.txid) ⊎ (p v.txid ≡ true)
-    of true same c e = inl (grind (arith, nat_tests))
-    of false other true e = inr e
-    of false other false e =
-        let itself : (v.txid == v.txid) ≡ true = grind (arith, nat_tests) in
-        let there : (if v.txid == v.txid then Some v else version_of v.txid vs) ≡ None = none v.txid e other in
-        absurd (cc (sym (ap (λ b. if b then Some v else version_of v.txid vs) itself) ∙ there))
-
-    later : (u : ℕ) → (if u == v.txid then Some v else version_of u vs) ≡ None → version_of u vs ≡ None
-    later u e = grind arith
+others-from p t (v ∷ vs) none =
+    (by_same (λ _. (t ≡ v.txid) ⊎ (p v.txid ≡ true)) t v.txid (λ same. inl same) (λ other. inr (true_from_ne_false (p v.txid) (λ e. let there = none v.txid e other in grind (arith, nat_tests, there)))),
+      others-from p t vs (λ u unended other. grind (arith, none u unended other)))
 
 module _ (h : History) (l : Legal h) (who t n : ℕ) (at_key : List Val) (old new : Option (List Val)) (mine : own_txid who h ≡ Some t) (free : other_than who (holder n at_key h) ≡ None) where
   abbrev g : History
@@ -136,9 +128,6 @@ module _ (h : History) (l : Legal h) (who t n : ℕ) (at_key : List Val) (old ne
   pub kept-wrote : (table : ℕ) (key : List Val) → kept g table key ≡ (if (n == table) && eq_by_cmp key_cmp key at_key then with_version t new (kept h table key) else kept h table key)
   kept-wrote table key = grind (arith, versions_at-written key t at_key new (versions table h))
 
-  last_of-wrote : (table u : ℕ) (key : List Val) → last_of key (writes_of table u g) ≡ (if (n == table && t == u) && eq_by_cmp key_cmp key at_key then Some new else last_of key (writes_of table u h))
-  last_of-wrote table u key = grind (arith, last_of-push key (writes_of table u h) (record { key = at_key; row = new }))
-
   -- a write is in nobody's that has committed
   same-writes : (table u : ℕ) → contains u (committed h) ≡ true → writes_of table u g ≡ writes_of table u h
   same-writes table u there = grind (arith, nat_tests, committed-ended h u there, unended)
@@ -147,8 +136,7 @@ module _ (h : History) (l : Legal h) (who t n : ℕ) (at_key : List Val) (old ne
       → option_map Version.row (version_of u (kept g table key)) ≡ last_of key (writes_of table u g)
   own-wrote table key k u runs_on =
       ap (λ vs. option_map Version.row (version_of u vs)) (kept-wrote table key)
-      ∙ grind (arith, nat_tests, version_of-with u t new (kept h table key), k.own u runs_on)
-      ∙ sym (last_of-wrote table u key)
+      ∙ grind (arith, nat_tests, version_of-with u t new (kept h table key), k.own u runs_on, last_of-push key (writes_of table u h) (record { key = at_key; row = new }))
 
   newest-wrote : (table : ℕ) (key : List Val) → newest_by (has_ended h) (kept g table key) ≡ newest_by (has_ended h) (kept h table key)
   newest-wrote table key = grind (arith, kept-wrote table key, newest_with (has_ended h) t new (kept h table key) unended)

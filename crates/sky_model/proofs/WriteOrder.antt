@@ -77,25 +77,11 @@ keys_are_written_in_turn p whose u table key old new is =
     let fine : Fine p (tabled (wrote whose u table key old new)) = fine_mark l in
     (writer-unended p whose u table key old new (legal-below_mark l) fine, λ t other wrote_it. others-ended p whose u table key old new (legal-below_mark l) fine t (apart t u other) wrote_it)
 
--- a write adds its transaction to those that wrote its key, and to no other
-by-write : (table : ℕ) (key : List Val) (h : History) (whose : Whose) (v n : ℕ) (k : List Val) (old new : Option (List Val)) (holds : List ℕ → Type 0)
-    → (n ≡ table → k ≡ key → holds (writers table key h ++ v ∷ [])) → holds (writers table key h) → holds (writers table key (tabled (wrote whose v n k old new) ∷ h))
-by-write table key h whose v n k old new holds at_end before =
-    cond_both ((n == table) && eq_by_cmp key_cmp k key) (writers table key h ++ v ∷ []) (writers table key h) holds
-    (λ is. let both = and_parts (n == table) (eq_by_cmp key_cmp k key) is in at_end (eqb-true n table both.0) (key_ties-is k key both.1)) (λ _. before)
-
 -- where one wrote a key before another, it has ended
-before-step : (table : ℕ) (key : List Val) (t u : ℕ) (h : History) (whose : Whose) (v n : ℕ) (k : List Val) (old new : Option (List Val)) → Legal (tabled (wrote whose v n k old new) ∷ h)
-    → (t == u) ≡ false → (is_before t u (writers table key h) ≡ true → has_ended h t ≡ true)
-    → is_before t u (writers table key (tabled (wrote whose v n k old new) ∷ h)) ≡ true → has_ended h t ≡ true
-before-step table key t u h whose v n k old new l other ih =
-    by-write table key h whose v n k old new (λ vs. is_before t u vs ≡ true → has_ended h t ≡ true)
-    (λ table_is key_is e. grind (arith, nat_tests, ih, is_before-push t u v (writers table key h), writers-written table key t h, others-ended h whose v n k old new (legal-below_mark l) (fine_mark l) t)) ih
-
 before-ended : (table : ℕ) (key : List Val) (t u : ℕ) (h : History) → Legal h → (t == u) ≡ false → is_before t u (writers table key h) ≡ true → has_ended h t ≡ true
 before-ended table key t u [] l other e = absurd (cc)
 before-ended table key t u (tabled (wrote whose v n k old new) ∷ h) l other e =
-    before-step table key t u h whose v n k old new l other (before-ended table key t u h (legal-below_mark l) other) e
+    grind (arith, nat_tests, before-ended table key t u h (legal-below_mark l) other, is_before-push t u v (writers table key h), writers-written table key t h, key_ties-is k key, others-ended h whose v n k old new (legal-below_mark l) (fine_mark l) t)
 before-ended table key t u (ended whose v c ∷ h) l other e = ended-behind h (ended whose v c) t (before-ended table key t u h (legal-below_mark l) other e)
 before-ended table key t u (_ ∷ h) l other e = before-ended table key t u h (legal-below_mark l) other e
 
@@ -106,20 +92,11 @@ ended-later [] p t e = e
 ended-later (mark ∷ later) p t e = ended-behind (later ++ p) mark t (ended-later later p t e)
 
 -- one that has ended writes no more, so nobody comes to stand before it
-still-step : (table : ℕ) (key : List Val) (t u : ℕ) (h : History) (whose : Whose) (v n : ℕ) (k : List Val) (old new : Option (List Val)) → Legal (tabled (wrote whose v n k old new) ∷ h)
-    → has_ended h u ≡ true → is_before t u (writers table key (tabled (wrote whose v n k old new) ∷ h)) ≡ is_before t u (writers table key h)
-still-step table key t u h whose v n k old new l over =
-    by-write table key h whose v n k old new (λ vs. is_before t u vs ≡ is_before t u (writers table key h))
-    (λ table_is key_is. is_before-other t u v (writers table key h) another) refl
-  where
-    another : (u == v) ≡ false
-    another = grind (arith, nat_tests, writer-unended h whose v n k old new (legal-below_mark l) (fine_mark l))
-
 still-before : (table : ℕ) (key : List Val) (t u : ℕ) (later : List Mark) (p : History) → Legal (later ++ p) → has_ended p u ≡ true
     → is_before t u (writers table key (later ++ p)) ≡ is_before t u (writers table key p)
 still-before table key t u [] p l over = refl
 still-before table key t u (tabled (wrote whose v n k old new) ∷ later) p l over =
-    still-step table key t u (later ++ p) whose v n k old new l (ended-later later p u over) ∙ still-before table key t u later p (legal-below_mark l) over
+    grind (arith, nat_tests, still-before table key t u later p (legal-below_mark l) over, ended-later later p u over, is_before-push t u v (writers table key (later ++ p)), writer-unended (later ++ p) whose v n k old new (legal-below_mark l) (fine_mark l))
 still-before table key t u (_ ∷ later) p l over = still-before table key t u later p (legal-below_mark l) over
 
 pub snapshots_see_earlier_writers : SnapshotsSeeEarlierWriters
@@ -144,18 +121,10 @@ early-ended [] t early = early
 early-ended (mark ∷ h) t early = ended-behind h mark t (early-ended h t early)
 
 -- so none of them writes
-writer-step : (table : ℕ) (key : List Val) (t : ℕ) (h : History) (whose : Whose) (v n : ℕ) (k : List Val) (old new : Option (List Val)) → Legal (tabled (wrote whose v n k old new) ∷ h)
-    → (contains t (writers table key h) ≡ true → nat_lt t 3 ≡ false) → contains t (writers table key (tabled (wrote whose v n k old new) ∷ h)) ≡ true → nat_lt t 3 ≡ false
-writer-step table key t h whose v n k old new l ih =
-    by-write table key h whose v n k old new (λ vs. contains t vs ≡ true → nat_lt t 3 ≡ false)
-    (λ table_is key_is e. by_test (λ _. nat_lt t 3 ≡ false) (contains t (writers table key h)) ih (λ none. late (grind (arith, nat_tests, contains-push t v (writers table key h))))) ih
-  where
-    late : t ≡ v → nat_lt t 3 ≡ false
-    late one = false_from_ne_true (nat_lt t 3) (λ is. cc (sym (early-ended h t is) ∙ ap (has_ended h) one ∙ writer-unended h whose v n k old new (legal-below_mark l) (fine_mark l)))
-
 writer-late : (table : ℕ) (key : List Val) (t : ℕ) (h : History) → Legal h → contains t (writers table key h) ≡ true → nat_lt t 3 ≡ false
 writer-late table key t [] l e = absurd (cc)
-writer-late table key t (tabled (wrote whose v n k old new) ∷ h) l e = writer-step table key t h whose v n k old new l (writer-late table key t h (legal-below_mark l)) e
+writer-late table key t (tabled (wrote whose v n k old new) ∷ h) l e =
+    grind (arith, nat_tests, writer-late table key t h (legal-below_mark l), contains-push t v (writers table key h), early-ended h t, writer-unended h whose v n k old new (legal-below_mark l) (fine_mark l))
 writer-late table key t (_ ∷ h) l e = writer-late table key t h (legal-below_mark l) e
 
 -- one that ends hadn't
@@ -173,26 +142,6 @@ unended-unlisted h t runs = false_from_ne_true (contains t (committed h)) (λ is
 -- of two that wrote a key, the first not rolled back and the second committed, the order of the writes is that of the commits
 abbrev IsOneOrder : History → List ℕ → ℕ → ℕ → Type 0
 IsOneOrder h vs t u = contains t vs ≡ true → contains u vs ≡ true → contains u (committed h) ≡ true → is_before t u vs ≡ is_before t u (committed h)
-
-order-wrote : (table : ℕ) (key : List Val) (t u : ℕ) (h : History) (whose : Whose) (v n : ℕ) (k : List Val) (old new : Option (List Val)) → Legal (tabled (wrote whose v n k old new) ∷ h)
-    → IsOneOrder h (writers table key h) t u → IsOneOrder h (writers table key (tabled (wrote whose v n k old new) ∷ h)) t u
-order-wrote table key t u h whose v n k old new l ih =
-    by-write table key h whose v n k old new (λ vs. IsOneOrder h vs t u)
-    (λ table_is key_is has_t has_u listed.
-    let runs : has_ended h v ≡ false = writer-unended h whose v n k old new (legal-below_mark l) (fine_mark l) in
-    grind (
-      arith,
-      nat_tests,
-      ih,
-      ended-other h u v (committed-ended h u listed) runs,
-      contains-push t v (writers table key h),
-      contains-push u v (writers table key h),
-      is_before-push t u v (writers table key h),
-      is_before-none t u (writers table key h),
-      is_before-none t u (committed h),
-      unended-unlisted h t,
-    ))
-    ih
 
 order-committed : (table : ℕ) (key : List Val) (t u : ℕ) (h : History) (whose : Whose) (v : ℕ) → Legal (ended whose v true ∷ h) → (t == u) ≡ false → has_rolled_back h t ≡ false
     → IsOneOrder h (writers table key h) t u → IsOneOrder (ended whose v true ∷ h) (writers table key h) t u
@@ -226,7 +175,11 @@ order-committed table key t u h whose v l other stays ih has_t has_u listed =
 in_one_order : (table : ℕ) (key : List Val) (t u : ℕ) (h : History) → Legal h → (t == u) ≡ false → has_rolled_back h t ≡ false → IsOneOrder h (writers table key h) t u
 in_one_order table key t u [] l other stays has_t has_u listed = refl
 in_one_order table key t u (tabled (wrote whose v n k old new) ∷ h) l other stays has_t has_u listed =
-    order-wrote table key t u h whose v n k old new l (in_one_order table key t u h (legal-below_mark l) other stays) has_t has_u listed
+    let runs : has_ended h v ≡ false = writer-unended h whose v n k old new (legal-below_mark l) (fine_mark l) in
+    let ended_u : has_ended h u ≡ true = committed-ended h u listed in
+    let push_t = contains-push t v (writers table key h) in
+    let push_u = contains-push u v (writers table key h) in
+    grind (arith, nat_tests, in_one_order table key t u h (legal-below_mark l) other stays, push_t, push_u, is_before-push t u v (writers table key h), is_before-none t u (writers table key h), is_before-none t u (committed h), unended-unlisted h t)
 in_one_order table key t u (ended whose v true ∷ h) l other stays has_t has_u listed =
     order-committed table key t u h whose v l other stays (in_one_order table key t u h (legal-below_mark l) other stays) has_t has_u listed
 in_one_order table key t u (ended whose v false ∷ h) l other stays has_t has_u listed =
