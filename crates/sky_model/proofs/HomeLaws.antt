@@ -42,15 +42,11 @@ abbrev InBlock : History → ℕ → Type 0
 InBlock h who = block who h ≢ outside → has_open who h ≡ true
 
 block-step : (h : History) (mark : Mark) → Fine h mark → (who : ℕ) → InBlock h who → InBlock (mark ∷ h) who
-block-step h _ (begins_block v e is_open) who ih =
-    by_same (λ f. (if f then inside else block who h) ≢ outside → has_open who h ≡ true) v who (λ same there. ap (λ n. has_open n h) (sym same) ∙ is_open) (λ _. ih)
-block-step h _ (fails_block v e f) who ih =
-    by_same (λ f. (if f then failed else block who h) ≢ outside → has_open who h ≡ true) v who
-    (λ same there. ih (λ out. absurd (let both : inside ≡ outside = sym e ∙ ap (λ n. block n h) same ∙ out in cc))) (λ _. ih)
-block-step h _ (ends_block v e) who ih = by_test (λ f. (if f then outside else block who h) ≢ outside → has_open who h ≡ true) (v == who) (λ _ there. absurd (there refl)) (λ _. ih)
+block-step h _ (begins_block v e is_open) who ih = λ there. grind (arith, nat_tests, ih, is_open, there)
+block-step h _ (fails_block v e f) who ih = λ there. grind (arith, nat_tests, ih, e, there)
+block-step h _ (ends_block v e) who ih = λ there. grind (arith, nat_tests, ih, there)
 block-step h _ (connects v e) who ih = λ there. grind (arith, ih there)
-block-step h _ (disconnects v quiet away) who ih =
-    by_same (λ f. block who h ≢ outside → (if f then false else has_open who h) ≡ true) v who (λ same there. absurd (there (ap (λ n. block n h) (sym same) ∙ away))) (λ _. ih)
+block-step h _ (disconnects v quiet away) who ih = λ there. grind (arith, nat_tests, ih, away, there)
 block-step h _ _ who ih = ih
 
 block-open : (h : History) → Legal h → (who : ℕ) → InBlock h who

@@ -143,35 +143,6 @@ unended-unlisted h t runs = false_from_ne_true (contains t (committed h)) (λ is
 abbrev IsOneOrder : History → List ℕ → ℕ → ℕ → Type 0
 IsOneOrder h vs t u = contains t vs ≡ true → contains u vs ≡ true → contains u (committed h) ≡ true → is_before t u vs ≡ is_before t u (committed h)
 
-order-committed : (table : ℕ) (key : List Val) (t u : ℕ) (h : History) (whose : Whose) (v : ℕ) → Legal (ended whose v true ∷ h) → (t == u) ≡ false → has_rolled_back h t ≡ false
-    → IsOneOrder h (writers table key h) t u → IsOneOrder (ended whose v true ∷ h) (writers table key h) t u
-order-committed table key t u h whose v l other stays ih has_t has_u listed =
-    of (contains u (committed h)) refl (u == v) refl (sym (contains-push u v (committed h)) ∙ listed)
-  where
-    below : Legal h
-    below = legal-below_mark l
-
-    runs : has_ended h v ≡ false
-    runs = ender-unended h whose v true below (fine_mark l)
-
-    -- the second one commits now: it ran until now, so its writes are the last ones
-    isnt : (u == v) ≡ true → is_before u t (writers table key h) ≡ false
-    isnt same = false_from_ne_true (is_before u t (writers table key h)) (λ is. cc (sym runs ∙ ap (has_ended h) (sym (eqb-true u v same)) ∙ before-ended table key u t h below (turned_test u t false other) is))
-
-    first : (u == v) ≡ true → is_before t u (writers table key h) ≡ true
-    first same = one-before t u (writers table key h) other has_t has_u (isnt same)
-
-    has_it : (u == v) ≡ true → contains t (committed h) ≡ true
-    has_it same =
-        let over : has_ended h t ≡ true = before-ended table key t u h below other (first same) in
-        committed-listed h t (has_committed-ended h below t ∙ (λ i. over i && not (stays i))) (writer-late table key t h below has_t)
-
-    of : (a : Bool) → contains u (committed h) ≡ a → (b : Bool) → (u == v) ≡ b → (a || b) ≡ true → is_before t u (writers table key h) ≡ is_before t u (committed h ++ v ∷ [])
-    of true isa b isb e = ih has_t has_u isa ∙ sym (is_before-other t u v (committed h) (ended-other h u v (committed-ended h u isa) runs))
-    of false isa true isb e =
-        first isb ∙ sym (is_before-push t u v (committed h) ∙ (λ i. is_before t u (committed h) || (has_it isb i && isb i)) ∙ or_right (is_before t u (committed h)) true refl)
-    of false isa false isb e = absurd (cc)
-
 in_one_order : (table : ℕ) (key : List Val) (t u : ℕ) (h : History) → Legal h → (t == u) ≡ false → has_rolled_back h t ≡ false → IsOneOrder h (writers table key h) t u
 in_one_order table key t u [] l other stays has_t has_u listed = refl
 in_one_order table key t u (tabled (wrote whose v n k old new) ∷ h) l other stays has_t has_u listed =
@@ -181,7 +152,15 @@ in_one_order table key t u (tabled (wrote whose v n k old new) ∷ h) l other st
     let push_u = contains-push u v (writers table key h) in
     grind (arith, nat_tests, in_one_order table key t u h (legal-below_mark l) other stays, push_t, push_u, is_before-push t u v (writers table key h), is_before-none t u (writers table key h), is_before-none t u (committed h), unended-unlisted h t)
 in_one_order table key t u (ended whose v true ∷ h) l other stays has_t has_u listed =
-    order-committed table key t u h whose v l other stays (in_one_order table key t u h (legal-below_mark l) other stays) has_t has_u listed
+    let below = legal-below_mark l in
+    let runs : has_ended h v ≡ false = ender-unended h whose v true below (fine_mark l) in
+    let earlier = before-ended table key t u h below other in
+    -- where the second one commits now, it ran until now, so its writes are the last ones
+    let later = before-ended table key u t h below (turned_test u t false other) in
+    let push = contains-push u v (committed h) in
+    let first = one-before t u (writers table key h) other in
+    let is_listed = committed-listed h t in
+    grind (arith, nat_tests, in_one_order table key t u h below other stays, push, is_before-push t u v (committed h), earlier, later, first, is_listed, has_committed-ended h below t, writer-late table key t h below, committed-ended h u)
 in_one_order table key t u (ended whose v false ∷ h) l other stays has_t has_u listed =
     in_one_order table key t u h (legal-below_mark l) other (or_parts (t == v) (has_rolled_back h t) stays).1 has_t has_u listed
 in_one_order table key t u (_ ∷ h) l other stays has_t has_u listed = in_one_order table key t u h (legal-below_mark l) other stays has_t has_u listed
