@@ -94,31 +94,12 @@ held-step h _ (ends v t c mine) l table key ih = λ u unended wrote_it.
     another : (v u t who : ℕ) → own_txid who h ≡ Some u → own_txid v h ≡ Some t → (u == t) ≡ false → (v == who) ≡ false
     another v u t who owns mine other = false_from_ne_true (v == who) (λ is.
         let same : t ≡ u = cc (sym mine ∙ ap (λ x. own_txid x h) (eqb-true v who is) ∙ owns) in absurd (grind (arith, nat_tests)))
-held-step h _ (writes v t n at_key old new mine free stands) l table key ih =
-    λ u unended wrote_it. of u unended (n == table) refl (eq_by_cmp key_cmp at_key key) refl (t == u) refl wrote_it
-  where
-    g : History
-    g = tabled (wrote (of_session v) t n at_key old new) ∷ h
-
-    pushed : (u : ℕ) → eq_by_cmp key_cmp at_key key ≡ false → has_written key (writes_of table u h ++ record { key = at_key; row = new } ∷ []) ≡ true → has_written key (writes_of table u h) ≡ true
-    pushed u tie e = grind (arith, turned key at_key, has_written-push key (writes_of table u h) (record { key = at_key; row = new }))
-
-    still : (u : ℕ) → (b : Bool) → (n == table && eq_by_cmp key_cmp at_key key) ≡ b → b ≡ false → Holding h table key u → Holding g table key u
-    still u b is off o = record { who = o.who; owns = o.owns; holds = ap (λ b. if b then Some v else holder table key h) (is ∙ off) ∙ o.holds }
-
-    of : (u : ℕ) → has_ended h u ≡ false → (a : Bool) → (n == table) ≡ a → (b : Bool) → eq_by_cmp key_cmp at_key key ≡ b → (c : Bool) → (t == u) ≡ c
-        → has_written key (if a && c then writes_of table u h ++ record { key = at_key; row = new } ∷ [] else writes_of table u h) ≡ true → Holding g table key u
-    of u unended true here true tie true same wrote_it =
-        record { who = v; owns = mine ∙ ap Some (eqb-true t u same); holds = ap (λ b. if b then Some v else holder table key h) (λ i. here i && tie i) }
-    of u unended true here true tie false other wrote_it =
-        let o = ih u unended wrote_it in
-        let key_is : key ≡ at_key = key_ties-is key at_key (turned key at_key ∙ tie) in
-        let one : v ≡ o.who = unless-own v o.who (sym (ap (other_than v) ((λ i. holder (eqb-true n table here i) (sym key_is i) h) ∙ o.holds)) ∙ free) in
-        let same : t ≡ u = cc (sym mine ∙ ap (λ x. own_txid x h) one ∙ o.owns) in
-        absurd (grind (arith, nat_tests))
-    of u unended true here false tie true same wrote_it = still u false (λ i. here i && tie i) refl (ih u unended (pushed u tie wrote_it))
-    of u unended true here false tie false other wrote_it = still u false (λ i. here i && tie i) refl (ih u unended wrote_it)
-    of u unended false there b tie c is wrote_it = still u false (λ i. there i && tie i) refl (ih u unended wrote_it)
+held-step h _ (writes v t n at_key old new mine free stands) l table key ih = λ u unended wrote_it.
+    by_test (λ _. Holding (tabled (wrote (of_session v) t n at_key old new) ∷ h) table key u) ((n == table && eq_by_cmp key_cmp at_key key) && t == u)
+    (λ is. record { who = v; owns = grind (arith, nat_tests); holds = grind (arith, nat_tests) })
+    (λ isnt.
+    let o = ih u unended (grind (arith, nat_tests, turned key at_key, has_written-push key (writes_of table u h) (record { key = at_key; row = new }))) in
+    record { who = o.who; owns = o.owns; holds = grind (arith, nat_tests, turned key at_key, key_ties-is key at_key, o.holds, o.owns) })
 held-step h _ _ l table key ih = λ u unended wrote_it. let o = ih u unended wrote_it in record { who = o.who; owns = o.owns; holds = o.holds }
 
 held : (h : History) → Legal h → (table : ℕ) (key : List Val) → Held h table key

@@ -158,11 +158,7 @@ homed-turn past homed d who marks beside b none homes own elsewhere v e =
 
 -- where its home is no other database it has no other open
 elsewhere-none : (past : Past) → Homed past → (d who : ℕ) (at : Option ℕ) → home past who ≡ at → (at ≡ None) ⊎ (at ≡ Some d) → (e : ℕ) → (d == e) ≡ false → has_open who (history_in past e) ≡ false
-elsewhere-none past homed d who at is where_it_is e other =
-    homed who e ∙ ap (λ o. stands o e) is ∙ elim where_it_is [
-      | inl none ↦ ap (λ o. stands o e) none
-      | inr some ↦ ap (λ o. stands o e) some ∙ other
-    ]
+elsewhere-none past homed d who at is where_it_is e other = grind (arith, nat_tests, homed who e)
 
 -- the same of a deed
 homed-deed : (past : Past) → Homed past → (d who : ℕ) (stmt : Stmt) (beside : List Fact) (b : Bool) → AreOutside beside

@@ -166,12 +166,13 @@ kinds is_open _ = record no_more { queues = true }
 
 -- ---- what every session leaves
 
-left-committed : (k : Kinds) (who t : ℕ) (b : Block) → EachMark (may_leave k who) (commit_of who t b)
-left-committed k who t outside = tt
-left-committed k who t _ = tt
+by_block : (P : Block → Type 0) → P outside → P inside → P failed → (b : Block) → P b
+by_block P out within aborted outside = out
+by_block P out within aborted inside = within
+by_block P out within aborted failed = aborted
 
 left-written : (k : Kinds) (who t : ℕ) (s : Session) (marks : List Mark) → EachMark (may_leave k who) marks → EachMark (may_leave k who) (written who t s marks)
-left-written k who t s marks all = of s.txid (each-append (may_leave k who) marks (commit_of who t s.block) all (left-committed k who t s.block))
+left-written k who t s marks all = of s.txid (each-append (may_leave k who) marks (commit_of who t s.block) all (by_block (λ b. EachMark (may_leave k who) (commit_of who t b)) tt tt tt s.block))
   where
     of : (o : Option ℕ) → EachMark (may_leave k who) (marks ++ commit_of who t s.block) → EachMark (may_leave k who) (begin_of who t o ++ marks ++ commit_of who t s.block)
     of None all = all
@@ -192,11 +193,6 @@ left-abort k who inside txid refusal = by (aborts refusal) txid
 left-abort k who failed txid refusal = tt
 
 -- ---- statements on rows
-
-by_block : (P : Block → Type 0) → P outside → P inside → P failed → (b : Block) → P b
-by_block P out within aborted outside = out
-by_block P out within aborted inside = within
-by_block P out within aborted failed = aborted
 
 module _ (who : ℕ) where
   -- a statement may leave such marks, and no event is its answer
