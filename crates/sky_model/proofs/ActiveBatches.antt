@@ -1,5 +1,5 @@
 -- An active batch is its consumer's, begins where the consumer stands and closes at the next tick.
-use Rattle.std.proofs.Common.{◌≡◌, ℕ, ◌+◌, List, [], ◌∷◌, Bool, true, false, ◌&&◌, ◌==◌, Option, Some, None, unwrap_or, option_map, is_some, bytes_eq, refl, sym, ◌∙◌, ap, subst, arith, if◌then◌else◌}
+use Rattle.std.proofs.Common.{◌≡◌, ℕ, ◌+◌, List, [], ◌∷◌, Bool, true, ◌&&◌, ◌==◌, Option, Some, None, unwrap_or, option_map, is_some, bytes_eq, refl, sym, ◌∙◌, ap, subst, arith, if◌then◌else◌}
 use Rattle.std.proofs.lemmas.Bool.{and_parts, or_right}
 use Rattle.std.proofs.lemmas.Bool.Decides.{nat_tests}
 use Rattle.sky_names.proofs.PlaceLemmas.{bytes_eq_refl, same_name}
@@ -8,6 +8,7 @@ use Rattle.sky_model.specs.Queues.{Tick, tick, ticks}
 use Rattle.sky_model.specs.Consumers.{subscription_id, position, active, Subscription, active_batch}
 use Rattle.sky_model.proofs.Legal.{Opens, ticks_next, registers, opens, closes, Legal, start, next}
 use Rattle.sky_model.proofs.TickOrder.{is_made, is_made-tick}
+use Rattle.sky_model.proofs.Cases.{by_test, by_same}
 
 -- what is read of a consumer is the same where the queue and the name are
 pub same_consumer : {A : Type 0} (read : ℕ → List ℕ → A) (q queue : ℕ) (name consumer : List ℕ)
@@ -69,54 +70,39 @@ active_batches [] start id b is = absurd (cc)
 active_batches _ (next {h = h} l (ticks_next p m time seq i e)) id b is =
     let a : IsActive h id b = active_batches h l id b is in
     record { named = a.named; owned = a.owned; alone = a.alone; begins = a.begins; ends = a.ends; closing = or_right (p == b.queue && m == b.cur) (is_made b.queue b.cur h) a.closing }
-active_batches _ (next {h = h} l (registers p name sub t i none f g)) id b is = of (p == b.queue && bytes_eq b.consumer name) refl (active_batches h l id b is)
-  where
-    of : (x : Bool) → (p == b.queue && bytes_eq b.consumer name) ≡ x → IsActive h id b
-        → IsActiveFor (if x then Some sub else subscription_id b.queue b.consumer h) (if x then None else active b.queue b.consumer h)
-        (if x then t else position b.queue b.consumer h) (is_made b.queue b.cur h) id b
-    of true test a =
-        let unregistered : subscription_id b.queue b.consumer h ≡ None = same_consumer (λ q c. subscription_id q c h) p b.queue name b.consumer test ∙ none in
-        let registered : subscription_id b.queue b.consumer h ≡ Some b.sub = a.owned in
-        absurd (cc)
-    of false test a = a
-active_batches _ (next {h = h} l (opens new o)) id b is = of (new.id == id) refl (active_batches h l id b) is
+active_batches _ (next {h = h} l (registers p name sub t i none f g)) id b is =
+    let a : IsActive h id b = active_batches h l id b is in
+    by_test (λ x. IsActiveFor (if x then Some sub else subscription_id b.queue b.consumer h) (if x then None else active b.queue b.consumer h) (if x then t else position b.queue b.consumer h) (is_made b.queue b.cur h) id b)
+    (p == b.queue && bytes_eq b.consumer name) (λ test. absurd (cc (sym a.owned ∙ same_consumer (λ q c. subscription_id q c h) p b.queue name b.consumer test ∙ none))) (λ _. a)
+active_batches _ (next {h = h} l (opens new o)) id b is =
+    by_same (λ x. (if x then Some new else active_batch id h) ≡ Some b → Now b) new.id id opened_now (λ _ is. old (active_batches h l id b is)) is
   where
     Now : Batch → Type 0
     Now b = IsActiveFor (subscription_id b.queue b.consumer h) (if new.queue == b.queue && bytes_eq b.consumer new.consumer then Some new.id else active b.queue b.consumer h)
         (position b.queue b.consumer h) (is_made b.queue b.cur h) id b
 
-    old : (x : Bool) → (new.queue == b.queue && bytes_eq b.consumer new.consumer) ≡ x → IsActive h id b
-        → IsActiveFor (subscription_id b.queue b.consumer h) (if x then Some new.id else active b.queue b.consumer h)
-        (position b.queue b.consumer h) (is_made b.queue b.cur h) id b
-    old true test a =
+    old : IsActive h id b → Now b
+    old a =
         let parts = subscription_parts (subscription_id new.queue new.consumer h) (position new.queue new.consumer h) (active new.queue new.consumer h) _ o.stands in
-        let idle : active b.queue b.consumer h ≡ None = same_consumer (λ q c. active q c h) new.queue b.queue new.consumer b.consumer test ∙ parts.2 in
-        let busy : active b.queue b.consumer h ≡ Some b.id = a.alone in
-        absurd (cc)
-    old false test a = a
+        by_test (λ x. IsActiveFor (subscription_id b.queue b.consumer h) (if x then Some new.id else active b.queue b.consumer h) (position b.queue b.consumer h) (is_made b.queue b.cur h) id b)
+        (new.queue == b.queue && bytes_eq b.consumer new.consumer) (λ test. absurd (cc (sym a.alone ∙ same_consumer (λ q c. active q c h) new.queue b.queue new.consumer b.consumer test ∙ parts.2))) (λ _. a)
 
-    of : (x : Bool) → (new.id == id) ≡ x → (active_batch id h ≡ Some b → IsActive h id b) → (if x then Some new else active_batch id h) ≡ Some b → Now b
-    of true test ih is =
-        let one : new ≡ b = ap (λ o. unwrap_or o new) is in
-        let same : new.id ≡ id = grind (arith, nat_tests) in
+    opened_now : new.id ≡ id → Some new ≡ Some b → Now b
+    opened_now same is =
         let fresh = new_batch h new o in
-        subst Now one (record { named = same; owned = fresh.owned; alone = fresh.alone; begins = fresh.begins; ends = fresh.ends; closing = fresh.closing })
-    of false test ih is = old (new.queue == b.queue && bytes_eq b.consumer new.consumer) refl (ih is)
-active_batches _ (next {h = h} l (closes last e)) id b is = of (last.id == id) refl (active_batches h l id b) (active_batches h l last.id last e) is
-  where
-    old : (x : Bool) → (last.queue == b.queue && bytes_eq b.consumer last.consumer) ≡ x → (last.id == id) ≡ false → IsActive h id b → IsActive h last.id last
-        → IsActiveFor (subscription_id b.queue b.consumer h) (if x then None else active b.queue b.consumer h)
-        (if x then last.cur else position b.queue b.consumer h) (is_made b.queue b.cur h) id b
-    old true test other a c =
-        let both : Some b.id ≡ Some last.id = sym a.alone ∙ same_consumer (λ q n. active q n h) last.queue b.queue last.consumer b.consumer test ∙ c.alone in
-        let one : b.id ≡ last.id = ap (λ o. unwrap_or o b.id) both in
-        let named : b.id ≡ id = a.named in
-        absurd (grind (arith, nat_tests))
-    old false test other a c = a
-
-    of : (x : Bool) → (last.id == id) ≡ x → (active_batch id h ≡ Some b → IsActive h id b) → IsActive h last.id last → (if x then None else active_batch id h) ≡ Some b
-        → IsActiveFor (subscription_id b.queue b.consumer h) (if last.queue == b.queue && bytes_eq b.consumer last.consumer then None else active b.queue b.consumer h)
-        (if last.queue == b.queue && bytes_eq b.consumer last.consumer then last.cur else position b.queue b.consumer h) (is_made b.queue b.cur h) id b
-    of true test ih c is = absurd (cc)
-    of false test ih c is = old (last.queue == b.queue && bytes_eq b.consumer last.consumer) refl test (ih is) c
+        subst Now (ap (λ o. unwrap_or o new) is) (record { named = same; owned = fresh.owned; alone = fresh.alone; begins = fresh.begins; ends = fresh.ends; closing = fresh.closing })
+active_batches _ (next {h = h} l (closes last e)) id b is =
+    let c : IsActive h last.id last = active_batches h l last.id last e in
+    by_test (λ x. (if x then None else active_batch id h) ≡ Some b
+    → IsActiveFor (subscription_id b.queue b.consumer h) (if last.queue == b.queue && bytes_eq b.consumer last.consumer then None else active b.queue b.consumer h)
+    (if last.queue == b.queue && bytes_eq b.consumer last.consumer then last.cur else position b.queue b.consumer h) (is_made b.queue b.cur h) id b) (last.id == id) (λ _ is. absurd (cc))
+    (λ other is.
+    let a : IsActive h id b = active_batches h l id b is in
+    by_test (λ x. IsActiveFor (subscription_id b.queue b.consumer h) (if x then None else active b.queue b.consumer h) (if x then last.cur else position b.queue b.consumer h) (is_made b.queue b.cur h) id b)
+    (last.queue == b.queue && bytes_eq b.consumer last.consumer)
+    (λ test.
+    let both : Some b.id ≡ Some last.id = sym a.alone ∙ same_consumer (λ q n. active q n h) last.queue b.queue last.consumer b.consumer test ∙ c.alone in
+    let one : b.id ≡ last.id = ap (λ o. unwrap_or o b.id) both in
+    let named : b.id ≡ id = a.named in
+    absurd (grind (arith, nat_tests))) (λ _. a)) is
 active_batches _ (next {h = h} l _) id b is = active_batches h l id b is

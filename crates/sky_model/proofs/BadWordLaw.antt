@@ -1,6 +1,6 @@
 -- The bad word of a line is the least one: where a line goes wrong, and the lines that begin as it does.
-use Rattle.std.proofs.Common.{◌≡◌, ℕ, ◌+◌, ◌-◌, ◌<◌, ◌≤◌, ◌==◌, zero, suc, true, false, cond, List, [], ◌∷◌, ◌++◌, length, take, drop, Some, None, Result, Ok, Err, refl, sym, ap, ◌∙◌, arith, codes}
-use Rattle.std.proofs.lemmas.Bool.{eq-eqb, eqb-true}
+use Rattle.std.proofs.Common.{◌≡◌, ℕ, ◌+◌, ◌-◌, ◌<◌, ◌≤◌, ◌==◌, zero, suc, true, false, cond, List, [], ◌∷◌, ◌++◌, length, take, drop, Some, None, Result, Ok, Err, refl, sym, ap, ◌∙◌, arith, codes, eq-eqb, eqb-true}
+use Rattle.std.proofs.lemmas.Bool.{cond_both}
 use Rattle.std.proofs.lemmas.List.{take-append-drop, take-append-le, take-take, length-take-le}
 use Rattle.sky_model.specs.declared.stmt.RowStmt.{RowStmt}
 use Rattle.sky_model.specs.declared.stmt.Stmt.{Stmt}
@@ -11,7 +11,9 @@ use Rattle.sky_model.specs.Grammar.{Row, goes_on, reads, all_forms, named_form, 
 use Rattle.sky_model.specs.LawsOfLines.{words_of, BeginsALine, IsLeastBadWord, BadWordIsLeast}
 use Rattle.sky_model.proofs.FirstWords.{has_first}
 use Rattle.sky_model.proofs.LeastBadWord.{Begins, bad_within, none_begins, some_begins}
-use Rattle.sky_model.proofs.WholeWords.{joined, words-joined, run_of-Ok, whole-line_of_words}
+use Rattle.sky_model.proofs.WholeWords.{joined, words-joined}
+use Rattle.sky_model.proofs.InFormLaw.{whole-line_of_words}
+use Rattle.sky_model.proofs.Cases.{by_test}
 
 -- where words go wrong: at the session's word, behind it where it is alone, at the first word of the statement, or behind that
 data Fault (w : List ℕ) (ws : List (List ℕ)) (k : ℕ) : Type 0 where
@@ -19,6 +21,10 @@ data Fault (w : List ℕ) (ws : List (List ℕ)) (k : ℕ) : Type 0 where
   session_alone : (name : List ℕ) → session_of w ≡ Some name → ws ≡ [] → k ≡ 2 → Fault w ws k
   no_form : (name f : List ℕ) (rest : List (List ℕ)) → session_of w ≡ Some name → ws ≡ f ∷ rest → named_form f all_forms ≡ [] → k ≡ 2 → Fault w ws k
   in_form : (name f : List ℕ) (rest : List (List ℕ)) (row : Row) (rows : List Row) (j : ℕ) → session_of w ≡ Some name → ws ≡ f ∷ rest → named_form f all_forms ≡ row ∷ rows → reads (row ∷ rows) 3 rest ≡ Err k → k ≡ suc (suc (suc j)) → j ≤ length rest → Fault w ws k
+
+run_of-Ok : (session : List ℕ) (r : Result Stmt ℕ) (says : Line) → run_of session r ≡ Ok says → (stmt : Stmt) × (r ≡ Ok stmt)
+run_of-Ok session (Ok stmt) says so = (stmt, refl)
+run_of-Ok session (Err n) says so = absurd (cc)
 
 run_of-Err : (session : List ℕ) (r : Result Stmt ℕ) (k : ℕ) → run_of session r ≡ Err k → r ≡ Err k
 run_of-Err session (Ok stmt) k so = absurd (cc)
@@ -67,7 +73,7 @@ none_begins_line w ws more k says (in_form name f rest row rows j session are fo
     let begun = rw (is, are) at good in
     let read = rw (session, form) at begun in
     let found = run_of-Ok name (reads (row ∷ rows) 3 (take (suc j) rest ++ more)) says read in
-    none_begins (row ∷ rows) rest 3 k j (omega arith) (omega (arith, ap length are)) bad (record { more = more; stmt = found.0; reads_it = found.1 })
+    none_begins (row ∷ rows) rest 3 k j (omega arith) (omega (arith, ap length are)) bad (more, found.0, found.1)
 
 -- some words of a line begin as these do before the bad one
 record BeginsWords (ws : List (List ℕ)) : Type 0 where
@@ -78,7 +84,7 @@ record BeginsWords (ws : List (List ℕ)) : Type 0 where
 some_begin_in_form : (w name f : List ℕ) (ws rest : List (List ℕ)) (row : Row) (rows : List Row) (k j : ℕ) → session_of w ≡ Some name → ws ≡ f ∷ rest → named_form f all_forms ≡ row ∷ rows → k ≡ suc (suc (suc j)) → Begins (row ∷ rows) 3 (take j rest) → BeginsWords (take (k - 1) (w ∷ ws))
 some_begin_in_form w name f ws rest row rows k j session are form is found =
     let before : k - 1 ≡ suc (suc j) = omega arith in
-    record { more = found.more; says = Run name found.stmt; is = rw (before, are, session, form, found.reads_it) refl }
+    record { more = found.0; says = Run name found.1; is = rw (before, are, session, form, found.2) refl }
 
 -- `open p`
 abbrev opens_p : Stmt
@@ -101,10 +107,8 @@ with_first-hash b (w ∷ ws) first others so = cc
 
 words-hash : (b : ℕ) (bs first : List ℕ) (others : List (List ℕ)) → words (b ∷ bs) ≡ (35 ∷ first) ∷ others → b ≡ 35
 words-hash b bs first others so =
-    elim (is_parting false b) as (λ v. cond v ([] ∷ pieces false bs) (with_first b (pieces (quoted_after false b) bs)) ≡ (35 ∷ first) ∷ others → b ≡ 35) [
-      | true ↦ λ e. absurd (cc)
-      | false ↦ λ e. with_first-hash b (pieces (quoted_after false b) bs) first others e
-    ] so
+    by_test (λ v. cond v ([] ∷ pieces false bs) (with_first b (pieces (quoted_after false b) bs)) ≡ (35 ∷ first) ∷ others → b ≡ 35) (is_parting false b) (λ _ e. absurd (cc))
+    (λ _. with_first-hash b (pieces (quoted_after false b) bs) first others) so
 
 -- the first word of a line that begins with `#`
 record Hashed (ws : List (List ℕ)) : Type 0 where
@@ -117,17 +121,11 @@ hashed-with_first [] = record { first = []; others = []; is = refl }
 hashed-with_first (w ∷ ws) = record { first = w; others = ws; is = refl }
 
 -- a line of words of the grammar is one of the grammar
-record Says (line : List ℕ) : Type 0 where
-  says : Line
-  is : line_of line ≡ Ok says
+abbrev Says : List ℕ → Type 0
+Says line = (says : Line) × (line_of line ≡ Ok says)
 
 says : (b : ℕ) (bs : List ℕ) (line : Line) → line_of_words (words (b ∷ bs)) ≡ Ok line → Says (b ∷ bs)
-says b bs line so =
-    let it = elim (b == 35) as (λ v. (line : Line) × (cond v (Ok Blank) (line_of_words (words (b ∷ bs))) ≡ Ok line)) [
-      | true ↦ (Blank, refl)
-      | false ↦ (line, so)
-    ] in
-    record { says = it.0; is = it.1 }
+says b bs line so = cond_both (b == 35) (Ok Blank) _ (λ r. (says : Line) × (r ≡ Ok says)) (λ _. (Blank, refl)) (λ _. (line, so))
 
 -- the line of words of the grammar, joined
 record IsLineOf (ws : List (List ℕ)) : Type 0 where
@@ -158,8 +156,8 @@ begins_before b bs w ws k n are fault below =
     let bounds = counted w ws k fault in
     record {
       other = line.line;
-      says = line.said.says;
-      in_grammar = line.said.is;
+      says = line.said.0;
+      in_grammar = line.said.1;
       first_words = ap (take n) line.are ∙ first_words (w ∷ ws) found.more n k below bounds.high ∙ ap (take n) (sym are);
     }
 
@@ -187,13 +185,10 @@ no_comment c cs b bs w ws k hash are no_hash some same =
 none_begins_other : (other : List ℕ) (b : ℕ) (bs w : List ℕ) (ws : List (List ℕ)) (k : ℕ) (line : Line) → words (b ∷ bs) ≡ w ∷ ws → (b == 35) ≡ false → Fault w ws k → k ≤ length (w ∷ ws) → line_of other ≡ Ok line → take k (words_of other) ≡ take k (w ∷ ws) → ⊥
 none_begins_other [] b bs w ws k line are no_hash fault inside good first = no_words k w ws (counted w ws k fault).low first
 none_begins_other (c ∷ cs) b bs w ws k line are no_hash fault inside good first =
-    elim (c == 35) as (λ v. (c == 35) ≡ v → cond v (Ok Blank) (line_of_words (words (c ∷ cs))) ≡ Ok line → ⊥) [
-      | true ↦ λ is e. no_comment c cs b bs w ws k (eqb-true c 35 is) are no_hash (counted w ws k fault).low first
-      | false ↦ λ is e.
-          let rest : List (List ℕ) = drop k (words (c ∷ cs)) in
-          let all : take k (w ∷ ws) ++ rest ≡ words (c ∷ cs) = ap (λ front. front ++ rest) (sym first) ∙ take-append-drop k (words (c ∷ cs)) in
-          none_begins_line w ws rest k line fault inside (ap line_of_words all ∙ e)
-    ] refl good
+    by_test (λ v. cond v (Ok Blank) (line_of_words (words (c ∷ cs))) ≡ Ok line → ⊥) (c == 35) (λ is _. no_comment c cs b bs w ws k (eqb-true c 35 is) are no_hash (counted w ws k fault).low first)
+    (λ _ e.
+    let all : take k (w ∷ ws) ++ drop k (words (c ∷ cs)) ≡ words (c ∷ cs) = ap (λ front. front ++ drop k (words (c ∷ cs))) (sym first) ∙ take-append-drop k (words (c ∷ cs)) in
+    none_begins_line w ws (drop k (words (c ∷ cs))) k line fault inside (ap line_of_words all ∙ e)) good
 
 least : (b : ℕ) (bs : List ℕ) (k : ℕ) → (b == 35) ≡ false → line_of_words (words (b ∷ bs)) ≡ Err k → IsLeastBadWord (b ∷ bs) k
 least b bs k no_hash bad =
@@ -209,7 +204,4 @@ least b bs k no_hash bad =
 pub bad_word_is_least : BadWordIsLeast
 bad_word_is_least [] k bad = absurd (cc)
 bad_word_is_least (b ∷ bs) k bad =
-    elim (b == 35) as (λ v. (b == 35) ≡ v → cond v (Ok Blank) (line_of_words (words (b ∷ bs))) ≡ Err k → IsLeastBadWord (b ∷ bs) k) [
-      | true ↦ λ is e. absurd (cc)
-      | false ↦ λ is e. least b bs k is e
-    ] refl bad
+    by_test (λ v. cond v (Ok Blank) (line_of_words (words (b ∷ bs))) ≡ Err k → IsLeastBadWord (b ∷ bs) k) (b == 35) (λ _ e. absurd (cc)) (λ is. least b bs k is) bad

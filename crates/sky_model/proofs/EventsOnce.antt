@@ -20,8 +20,7 @@ abbrev tally : Bool → ℕ
 tally b = if b then 1 else 0
 
 length-kept : (test : Bool) (b : Batch) (bs : List Batch) → length (if test then b ∷ bs else bs) ≡ tally test + length bs
-length-kept true b bs = omega arith
-length-kept false b bs = omega arith
+length-kept test b bs = grind arith
 
 -- what stands between two ticks stands before a tick between them, or behind it
 tally-split : (from mid to own : Bool) → (from ≡ true → mid ≡ true) → (mid ≡ true → to ≡ true)

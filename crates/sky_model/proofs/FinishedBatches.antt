@@ -8,6 +8,7 @@ use Rattle.sky_model.proofs.Legal.{ticks_next, registers, closes, Legal, start, 
 use Rattle.sky_model.proofs.SnapshotLaws.{legal_place}
 use Rattle.sky_model.proofs.TickOrder.{is_made, is_made-tick}
 use Rattle.sky_model.proofs.ActiveBatches.{same_consumer, IsActive, active_batches}
+use Rattle.sky_model.proofs.Cases.{by_test}
 
 -- a consumer's batch that begins at a tick and closes at the next one, which is made
 pub record Follows (queue : ℕ) (consumer : List ℕ) (sub : Option ℕ) (made : ℕ → Bool) (from : ℕ) (b : Batch) : Type 0 where
@@ -48,13 +49,9 @@ finished_lead _ (next {h = h} l (ticks_next p m time seq i e)) queue consumer =
     LeadFor-more queue consumer (subscription_id queue consumer h) (λ t. is_made queue t h) (λ t. (p == queue && m == t) || is_made queue t h)
     (λ t. or_right (p == queue && m == t) (is_made queue t h)) (first_tick queue consumer h) (finished queue consumer h) (position queue consumer h)
     (finished_lead h l queue consumer)
-finished_lead _ (next {h = h} l (registers p name sub t i none f g)) queue consumer = of (p == queue && bytes_eq consumer name) (finished_lead h l queue consumer)
-  where
-    of : (x : Bool) → FinishedLead h queue consumer
-        → LeadFor queue consumer (if x then Some sub else subscription_id queue consumer h) (λ t. is_made queue t h)
-        (if x then t else first_tick queue consumer h) (if x then [] else finished queue consumer h) (if x then t else position queue consumer h)
-    of true ih = refl
-    of false ih = ih
+finished_lead _ (next {h = h} l (registers p name sub t i none f g)) queue consumer =
+    by_test (λ x. LeadFor queue consumer (if x then Some sub else subscription_id queue consumer h) (λ t. is_made queue t h)
+    (if x then t else first_tick queue consumer h) (if x then [] else finished queue consumer h) (if x then t else position queue consumer h)) (p == queue && bytes_eq consumer name) (λ _. refl) (λ _. finished_lead h l queue consumer)
 finished_lead _ (next {h = h} l (closes b e)) queue consumer =
     of (b.queue == queue && bytes_eq consumer b.consumer) refl (finished_lead h l queue consumer)
   where

@@ -1,25 +1,22 @@
 -- What a gate in front of writes does: it is told of each write, refuses those that it has no room for, and leaves all else.
-use Rattle.std.proofs.Common.{◌≡◌, ℕ, Bool, true, false, List, [], ◌∷◌, ◌++◌, Option, Ok, Err, option_map, refl, ◌∙◌, ap}
-use Rattle.std.specs.Prelude.{not, ◌&&◌}
+use Rattle.std.proofs.Common.{◌≡◌, ℕ, Bool, true, false, List, [], ◌∷◌, ◌++◌, Option, Ok, Err, refl, ◌∙◌, ap, not, ◌&&◌}
 use Rattle.sky_val.specs.declared.val.Val.{Val}
-use Rattle.sky_model.specs.declared.stmt.Attempt.{Attempt}
 use Rattle.sky_model.specs.declared.stmt.RowStmt.{RowStmt}
 use Rattle.sky_model.specs.declared.stmt.RowStmt.TheVariants.{Get}
 use Rattle.sky_model.specs.declared.reply.Refusal.{Refusal}
-use Rattle.sky_model.specs.declared.reply.Refusal.TheVariants.{Deadlock, EventIdsSpent}
+use Rattle.sky_model.specs.declared.reply.Refusal.TheVariants.{EventIdsSpent}
 use Rattle.sky_model.specs.History.{Mark, of_session, tabled, wrote}
 use Rattle.sky_model.specs.Sessions.{Block}
 use Rattle.sky_model.specs.State.{RowPart, after_part, after_part_marks}
 use Rattle.sky_model.specs.ShownRows.{RowsShown, rows_by}
-use Rattle.sky_model.specs.Outcome.{Outcome, Checked, marks_of, ◌>>◌, refused_if, refused_by, abort}
-use Rattle.sky_model.specs.StepLocks.{ring, blocked}
+use Rattle.sky_model.specs.Outcome.{Outcome, Checked, marks_of, ◌>>◌, refused_if, abort}
 use Rattle.sky_model.specs.StepRows.{get}
 use Rattle.sky_model.specs.Reader.{part_by_itself}
 use Rattle.sky_model.specs.Gates.{Gate, takes, passed, takes_all, passed_all, gated, by_gate, open_gate}
 use Rattle.sky_model.specs.Settling.{Turn, behind_marks, with_settling}
 use Rattle.sky_model.specs.Calls.{row_turn}
 use Rattle.sky_model.specs.Printed.{ReplyHasMoments}
-use Rattle.sky_model.proofs.StatementMarks.{EachMark, each-map, AnyReply, each-given, after, Kinds, no_more, may_leave, gives-row_form, each-abort}
+use Rattle.sky_model.proofs.StatementMarks.{EachMark, each-map, AnyReply, each-given, Kinds, no_more, may_leave, gives-row_form, each-abort}
 use Rattle.sky_model.proofs.Turns.{ReadAlike, same-with_settling, alike-turn, Any, each-any}
 
 -- a place behind marks is the part behind them, and the gate behind them
@@ -69,25 +66,11 @@ plain-if k none who _ e = refl
 pub plain-abort : (who : ℕ) (b : Block) (txid : Option ℕ) (refusal : Refusal) → WritesNone (abort who b txid refusal)
 plain-abort who b txid refusal = each-abort AnyReply is_no_write (λ _. tt) (plain-if no_more refl) who b txid refusal
 
--- a wait, or the refusal of one
-plain-blocked : (d : RowPart) (who table : ℕ) (key : List Val) (attempt : Attempt) (holder : ℕ) → PlainOutcome (blocked d who table key attempt holder)
-plain-blocked d who table key attempt holder =
-    each-given AnyReply is_no_write (blocked d who table key attempt holder) (after AnyReply is_no_write (refused_by (option_map Deadlock (ring d who holder))) _ (tt, tt))
-
 -- `get`
 pub plain-get : (d : RowPart) (shown : RowsShown) (who : ℕ) (name : List ℕ) (key : List Val) → PlainOutcome (get d shown who name key)
 plain-get d shown who name key =
     each-map (may_leave no_more who) is_no_write (plain-if no_more refl who) (marks_of (get d shown who name key))
     (each-given ReplyHasMoments (may_leave no_more who) (get d shown who name key) (gives-row_form who d shown (Get name key)))
-
--- so the gate isn't told of a wait
-pub gated-blocked : {G : Type 0} (gate : Gate G) (g : G) (d : RowPart) (who table : ℕ) (key : List Val) (attempt : Attempt) (holder : ℕ)
-    → gated gate g (blocked d who table key attempt holder) ≡ blocked d who table key attempt holder
-gated-blocked gate g d who table key attempt holder = gated-none gate g (blocked d who table key attempt holder) (plain-blocked d who table key attempt holder)
-
-pub passed-blocked : {G : Type 0} (gate : Gate G) (g : G) (d : RowPart) (who table : ℕ) (key : List Val) (attempt : Attempt) (holder : ℕ)
-    → passed_all gate g (marks_of (blocked d who table key attempt holder)) ≡ g
-passed-blocked gate g d who table key attempt holder = passed-none gate g (marks_of (blocked d who table key attempt holder)) (plain-blocked d who table key attempt holder)
 
 -- a refusal that aborts a block tells it of nothing
 pub passed-abort : {G : Type 0} (gate : Gate G) (g : G) (who : ℕ) (b : Block) (txid : Option ℕ) (refusal : Refusal) → passed_all gate g (abort who b txid refusal) ≡ g

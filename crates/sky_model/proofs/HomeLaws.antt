@@ -1,6 +1,6 @@
 -- Each session has open the database that is its home, whatever is called.
-use Rattle.std.proofs.Common.{◌≡◌, ◌≢◌, ◌⊎◌, inl, inr, ℕ, ℤ, List, [], ◌∷◌, ◌++◌, Bool, true, false, ◌==◌, nat_le, Option, Some, None, Ok, map, length, refl, sym, ◌∙◌, ap, subst, arith, if◌then◌else◌}
-use Rattle.std.specs.Prelude.{not}
+use Rattle.std.proofs.Common.{◌≡◌, ◌≢◌, ◌⊎◌, inl, inr, ℕ, ℤ, List, [], ◌∷◌, ◌++◌, Bool, true, false, ◌==◌, nat_le, Option, Some, None, Ok, map, length, refl, sym, ◌∙◌, ap, subst, arith, if◌then◌else◌, not}
+use Rattle.std.proofs.lemmas.Bool.{false_from_ne_true}
 use Rattle.std.proofs.lemmas.Bool.Decides.{nat_tests}
 use Rattle.sky_keys.specs.Waits.{is_waiting}
 use Rattle.sky_names.specs.Places.{place_of}
@@ -31,6 +31,7 @@ use Rattle.sky_model.proofs.PastHistories.{on_top-append, history-marks, AreOuts
 use Rattle.sky_model.proofs.Histories.{AllLegal, same-turn-within, legal_past}
 use Rattle.sky_model.proofs.StatementMarks.{AnyReply, no_more, each-abort, given-runs}
 use Rattle.sky_model.proofs.Staying.{is_staying, Stay, open-stays, stays-if, IsStaying, stays-form, stay-settling}
+use Rattle.sky_model.proofs.Cases.{by_test, by_same}
 
 pub waiters_have_open : WaitersHaveOpen
 waiters_have_open p is who waits = waits-open p (legal_place p is) who waits
@@ -41,27 +42,11 @@ abbrev InBlock : History → ℕ → Type 0
 InBlock h who = block who h ≢ outside → has_open who h ≡ true
 
 block-step : (h : History) (mark : Mark) → Fine h mark → (who : ℕ) → InBlock h who → InBlock (mark ∷ h) who
-block-step h _ (begins_block v e is_open) who ih = of (v == who) refl
-  where
-    of : (f : Bool) → (v == who) ≡ f → (if f then inside else block who h) ≢ outside → has_open who h ≡ true
-    of true e there = let same : v ≡ who = grind (arith, nat_tests) in ap (λ n. has_open n h) (sym same) ∙ is_open
-    of false e there = ih there
-block-step h _ (fails_block v e f) who ih = of (v == who) refl
-  where
-    of : (f : Bool) → (v == who) ≡ f → (if f then failed else block who h) ≢ outside → has_open who h ≡ true
-    of true is there = let same : v ≡ who = grind (arith, nat_tests) in ih (λ out. absurd (let both : inside ≡ outside = sym e ∙ ap (λ n. block n h) same ∙ out in cc))
-    of false is there = ih there
-block-step h _ (ends_block v e) who ih = of (v == who)
-  where
-    of : (f : Bool) → (if f then outside else block who h) ≢ outside → has_open who h ≡ true
-    of true there = absurd (there refl)
-    of false there = ih there
+block-step h _ (begins_block v e is_open) who ih = λ there. grind (arith, nat_tests, ih, is_open, there)
+block-step h _ (fails_block v e f) who ih = λ there. grind (arith, nat_tests, ih, e, there)
+block-step h _ (ends_block v e) who ih = λ there. grind (arith, nat_tests, ih, there)
 block-step h _ (connects v e) who ih = λ there. grind (arith, ih there)
-block-step h _ (disconnects v quiet away) who ih = of (v == who) refl
-  where
-    of : (f : Bool) → (v == who) ≡ f → block who h ≢ outside → (if f then false else has_open who h) ≡ true
-    of true is there = let same : v ≡ who = grind (arith, nat_tests) in absurd (there (ap (λ n. block n h) (sym same) ∙ away))
-    of false is there = ih there
+block-step h _ (disconnects v quiet away) who ih = λ there. grind (arith, nat_tests, ih, away, there)
 block-step h _ _ who ih = ih
 
 block-open : (h : History) → Legal h → (who : ℕ) → InBlock h who
@@ -89,11 +74,7 @@ turn-opens h now who stmt b own v =
 
 -- nothing changes, where the session had it as told
 stay-opens : (h : History) (marks : List Mark) (who : ℕ) (b : Bool) → Stay marks → has_open who h ≡ b → Opens h marks who b
-stay-opens h marks who b stay is v = open-stays v h marks stay ∙ of (who == v) refl
-  where
-    of : (f : Bool) → (who == v) ≡ f → has_open v h ≡ (if f then b else has_open v h)
-    of true e = let same : v ≡ who = grind (arith, nat_tests) in ap (λ n. has_open n h) same ∙ is
-    of false e = refl
+stay-opens h marks who b stay is v = grind (arith, nat_tests, open-stays v h marks stay, is)
 
 -- a statement that opens no database and closes none
 stay-statement : (h : History) (now : ℤ) (who : ℕ) (stmt : Stmt) (may : Checked (Unit {0})) → IsStaying (has_open who h) stmt
@@ -164,40 +145,20 @@ homed-turn : (past : Past) → Homed past → (d who : ℕ) (marks : List Mark) 
     → Homed (on_top past (map (within d) marks ++ beside))
 homed-turn past homed d who marks beside b none homes own elsewhere v e =
     ap (has_open v) (history-outside past (map (within d) marks) beside e none ∙ history-marks past d marks e)
-    ∙ at (d == e) refl
+    ∙ by_same (λ c. has_open v (if c then marked (history_in past e) marks else history_in past e) ≡ stands (if who == v then home_if b d else home past v) e) d e
+    (λ one. subst (λ n. has_open v (marked (history_in past n) marks) ≡ stands (if who == v then home_if b d else home past v) n) one (own v ∙ here))
+    there
     ∙ ap (λ o. stands o e) (sym (ap (λ p. home p v) (on_top-append past (map (within d) marks) beside) ∙ homes v))
   where
-    here : (f : Bool) → (if f then b else has_open v (history_in past d)) ≡ stands (if f then home_if b d else home past v) d
-    here true = of b
-      where
-        of : (c : Bool) → c ≡ stands (home_if c d) d
-        of true = grind (arith, nat_tests)
-        of false = refl
-    here false = homed v d
+    here : (if who == v then b else has_open v (history_in past d)) ≡ stands (if who == v then home_if b d else home past v) d
+    here = grind (arith, nat_tests, homed v d)
 
-    there : (f : Bool) → (who == v) ≡ f → (d == e) ≡ false → has_open v (history_in past e) ≡ stands (if f then home_if b d else home past v) e
-    there true is other =
-        let same : v ≡ who = grind (arith, nat_tests) in
-        ap (λ n. has_open n (history_in past e)) same ∙ elsewhere e other ∙ of b other
-      where
-        of : (c : Bool) → (d == e) ≡ false → false ≡ stands (home_if c d) e
-        of true apart = sym apart
-        of false apart = refl
-    there false is other = homed v e
-
-    at : (c : Bool) → (d == e) ≡ c → has_open v (if c then marked (history_in past e) marks else history_in past e) ≡ stands (if who == v then home_if b d else home past v) e
-    at true is =
-        let one : d ≡ e = grind (arith, nat_tests) in
-        subst (λ n. has_open v (marked (history_in past n) marks) ≡ stands (if who == v then home_if b d else home past v) n) one (own v ∙ here (who == v))
-    at false is = there (who == v) refl is
+    there : (d == e) ≡ false → has_open v (history_in past e) ≡ stands (if who == v then home_if b d else home past v) e
+    there other = grind (arith, nat_tests, homed v e, elsewhere e other)
 
 -- where its home is no other database it has no other open
 elsewhere-none : (past : Past) → Homed past → (d who : ℕ) (at : Option ℕ) → home past who ≡ at → (at ≡ None) ⊎ (at ≡ Some d) → (e : ℕ) → (d == e) ≡ false → has_open who (history_in past e) ≡ false
-elsewhere-none past homed d who at is where_it_is e other =
-    homed who e ∙ ap (λ o. stands o e) is ∙ elim where_it_is [
-      | inl none ↦ ap (λ o. stands o e) none
-      | inr some ↦ ap (λ o. stands o e) some ∙ other
-    ]
+elsewhere-none past homed d who at is where_it_is e other = grind (arith, nat_tests, homed who e)
 
 -- the same of a deed
 homed-deed : (past : Past) → Homed past → (d who : ℕ) (stmt : Stmt) (beside : List Fact) (b : Bool) → AreOutside beside
@@ -214,11 +175,7 @@ homed-deed past homed d who stmt beside b none homes own elsewhere =
 
 -- a session that has none open waits nowhere
 quiet-closed : (past : Past) → AllLegal past → (d who : ℕ) → has_open who (history_in past d) ≡ false → is_waiting who (waiting (history_in past d)) ≡ false
-quiet-closed past all d who closed = of (is_waiting who (waiting (history_in past d))) refl
-  where
-    of : (b : Bool) → is_waiting who (waiting (history_in past d)) ≡ b → b ≡ false
-    of true e = let is : has_open who (history_in past d) ≡ true = waits-open (history_in past d) (all d) who e in absurd (cc)
-    of false e = refl
+quiet-closed past all d who closed = false_from_ne_true (is_waiting who (waiting (history_in past d))) (λ e. absurd (cc (sym closed ∙ waits-open (history_in past d) (all d) who e)))
 
 -- `open` of a session without a home
 opening-name : (stmt : Stmt) (name : List ℕ) → opening stmt ≡ Some name → stmt ≡ Row (OpenDb name)
@@ -274,11 +231,7 @@ module _ (past : Past) (homed : Homed past) (d who : ℕ) (at_home : home past w
   elsewhere = elsewhere-none past homed d who (Some d) at_home (inr refl)
 
   as-was : (v : ℕ) → home past v ≡ (if who == v then Some d else home past v)
-  as-was v = of (who == v) refl
-    where
-      of : (f : Bool) → (who == v) ≡ f → home past v ≡ (if f then Some d else home past v)
-      of true e = let same : v ≡ who = grind (arith, nat_tests) in ap (home past) same ∙ at_home
-      of false e = refl
+  as-was v = grind (arith, nat_tests, at_home)
 
   stays-home : (stmt : Stmt) → Stay (statement database_by_history (history_in past d) (world_of past).now who stmt).marks → After stmt false
   stays-home stmt stay =

@@ -1,6 +1,6 @@
 -- The events that tell of a write have smaller ids than those of the same queue that tell of a later write.
-use Rattle.std.proofs.Common.{◌≡◌, ℕ, zero, suc, ℤ, ◌<◌, All, Contains, List, [], ◌∷◌, ◌++◌, Bool, true, false, ◌==◌, Some, Ok, Err, length, refl, sym, ◌∙◌, ap, subst, arith, if◌then◌else◌, ◌⊎◌, inl, inr, append_assoc, length-append, slice_index_or}
-use Rattle.std.proofs.lemmas.Bool.Decides.{nat_tests}
+use Rattle.std.proofs.Common.{◌≡◌, ℕ, zero, suc, ℤ, ◌<◌, All, Contains, List, [], ◌∷◌, ◌++◌, ◌==◌, Some, Ok, Err, length, refl, sym, ◌∙◌, ap, subst, arith, if◌then◌else◌, ◌⊎◌, inl, inr, append_assoc, length-append, slice_index_or}
+use Rattle.std.proofs.lemmas.Bool.{cond_both}
 use Rattle.std.proofs.lemmas.List.Elements.{All-pop}
 use Rattle.sky_val.specs.declared.event.Event.{Event}
 use Rattle.sky_model.specs.History.{Mark, of_session, tabled, wrote, queued, put, History}
@@ -17,6 +17,7 @@ use Rattle.sky_model.proofs.StatementMarks.{each-append, each-first, each-rest}
 use Rattle.sky_model.proofs.GatedLemmas.{is_no_write, WritesNone}
 use Rattle.sky_model.proofs.WritesTold.{first, rest, events-plain}
 use Rattle.sky_model.proofs.EventIds.{event_ids_rise}
+use Rattle.sky_model.proofs.Good.{same-session}
 
 -- ---- what is told of a mark
 
@@ -109,11 +110,8 @@ below-later h later s middle q write e above told plain stands = of (above-or-be
 -- ---- the events of a queue
 
 below_mark : (queue : ℕ) (P : Event → Type 0) (mark : Mark) (h : History) → All P (events queue (mark ∷ h)) → All P (events queue h)
-below_mark queue P (queued (put q event)) h = of (q == queue)
-  where
-    of : (b : Bool) → All P (if b then events queue h ++ event ∷ [] else events queue h) → All P (events queue h)
-    of true all = (All-pop P (events queue h ++ event ∷ []) (events queue h) (Some event) refl all).0
-    of false all = all
+below_mark queue P (queued (put q event)) h =
+    cond_both (q == queue) (events queue h ++ event ∷ []) (events queue h) (λ es. All P es → All P (events queue h)) (λ _ all. (All-pop P (events queue h ++ event ∷ []) (events queue h) (Some event) refl all).0) (λ _ all. all)
 below_mark queue P _ h = λ all. all
 
 below : (queue : ℕ) (P : Event → Type 0) (marks : List Mark) (h : History) → All P (events queue (marks ++ h)) → All P (events queue h)
@@ -121,11 +119,7 @@ below queue P [] h all = all
 below queue P (mark ∷ marks) h all = below queue P marks h (below_mark queue P mark (marks ++ h) all)
 
 newest : (queue : ℕ) (P : Event → Type 0) (event : Event) (h : History) → All P (events queue (queued (put queue event) ∷ h)) → P event
-newest queue P event h = of (queue == queue) refl
-  where
-    of : (b : Bool) → (queue == queue) ≡ b → All P (if b then events queue h ++ event ∷ [] else events queue h) → P event
-    of true e all = (All-pop P (events queue h ++ event ∷ []) (events queue h) (Some event) refl all).1
-    of false e all = absurd (grind (arith, nat_tests))
+newest queue P event h all = (All-pop P (events queue h ++ event ∷ []) (events queue h) (Some event) refl (subst (λ b. All P (if b then events queue h ++ event ∷ [] else events queue h)) (same-session queue) all)).1
 
 -- ---- two writes
 

@@ -1,6 +1,5 @@
 -- Marks with marks of events among them: what they leave of a database beside its queues.
-use Rattle.std.proofs.Common.{◌≡◌, ℕ, ◌+◌, Bool, false, List, [], ◌∷◌, ◌++◌, Option, Some, None, refl}
-use Rattle.std.specs.Prelude.{◌||◌, ◌==◌}
+use Rattle.std.proofs.Common.{◌≡◌, ℕ, ◌+◌, Bool, false, List, [], ◌∷◌, ◌++◌, Option, Some, None, refl, ◌||◌, ◌==◌}
 use Rattle.sky_val.specs.declared.event.Event.{Event}
 use Rattle.sky_model.specs.History.{Batch, Mark, ended, queued, made, raised, put, ticked, registered, opened, closed, traced}
 use Rattle.sky_model.specs.Triggers.{TableTrigger}

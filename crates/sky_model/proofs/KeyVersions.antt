@@ -1,9 +1,8 @@
 -- What the versions of a key say of its rows, at each place of a legal history.
-use Rattle.std.proofs.Common.{◌≡◌, ℕ, Bool, true, false, List, [], ◌∷◌, ◌++◌, Option, Some, None, option_map, is_some, refl, sym, ◌∙◌, ap, subst, arith, if◌then◌else◌, ◌⊎◌, inl, inr}
-use Rattle.std.specs.Prelude.{◌||◌, ◌&&◌, ◌==◌, cond}
+use Rattle.std.proofs.Common.{◌≡◌, ℕ, Bool, true, false, List, [], ◌∷◌, Option, Some, None, option_map, is_some, refl, sym, ◌∙◌, ap, subst, arith, if◌then◌else◌, ◌⊎◌, inl, inr, ◌||◌, ◌&&◌, ◌==◌, cond}
 use Rattle.std.specs.Option.{option_or}
 use Rattle.std.specs.Ordering.{eq_by_cmp}
-use Rattle.std.proofs.lemmas.Bool.{or_parts, or_right}
+use Rattle.std.proofs.lemmas.Bool.{true_from_ne_false, or_parts, or_right, and_parts, eqb-true, cond_both}
 use Rattle.std.proofs.lemmas.Bool.Decides.{nat_tests}
 use Rattle.sky_val.specs.declared.val.Val.{Val}
 use Rattle.sky_val.specs.Order.{key_cmp}
@@ -11,8 +10,8 @@ use Rattle.sky_val.specs.Entries.{at}
 use Rattle.sky_keys.specs.Waits.{other_than}
 use Rattle.sky_txid.specs.Ids.{contains}
 use Rattle.sky_keys.specs.declared.version.Version.{Version}
-use Rattle.sky_keys.specs.Versions.{with_version, without, version_of, newest_by, row_of, versions_at, written}
-use Rattle.sky_keys.proofs.VersionLemmas.{left, OnlyLast, OthersPass, newest_with, newest_without, newest_more, version_of-with, version_of-without, only_more, only_without, only_with}
+use Rattle.sky_keys.specs.Versions.{with_version, without, version_of, newest_by, row_of, versions_at}
+use Rattle.sky_keys.proofs.VersionLemmas.{OnlyLast, OthersPass, newest_with, newest_without, newest_more, version_of-with, version_of-without, only_more, only_without, only_with}
 use Rattle.sky_keys.proofs.EntryLemmas.{key_ties-is, versions_at-written, versions_at-forgotten}
 use Rattle.sky_model.specs.History.{Mark, of_session, ended, tabled, wrote, History}
 use Rattle.sky_model.specs.Transactions.{has_ended}
@@ -25,6 +24,7 @@ use Rattle.sky_model.proofs.Snapshots.{own-unended}
 use Rattle.sky_model.proofs.RowWrites.{over, last_of, at-put_all, last_of-push, has_written-last_of, in_turn-push, in_turn-same, last_writer-push, last_writer-same}
 use Rattle.sky_model.proofs.RowKeys.{is_in_order-versions, committed-ended}
 use Rattle.sky_model.proofs.Holders.{nobody-else}
+use Rattle.sky_model.proofs.Cases.{by_same}
 
 -- the versions of a key at a place
 abbrev pub kept : History → ℕ → List Val → List Version
@@ -104,18 +104,9 @@ key_rolled_back h l who t unended table key k = record {
 -- where no other transaction that hasn't ended has a version, all others' pass
 others-from : (p : ℕ → Bool) (t : ℕ) (vs : List Version) → ((u : ℕ) → p u ≡ false → (t == u) ≡ false → version_of u vs ≡ None) → OthersPass p t vs
 others-from p t [] none = tt
-others-from p t (v ∷ vs) none = (of (t == v.txid) refl (p v.txid) refl, others-from p t vs (λ u unended other. later u (none u unended other)))
-  where
-    of : (b : Bool) → (t == v.txid) ≡ b → (c : Bool) → p v.txid ≡ c → (t ≡ v.txid) ⊎ (p v.txid ≡ true)
-    of true same c e = inl (grind (arith, nat_tests))
-    of false other true e = inr e
-    of false other false e =
-        let itself : (v.txid == v.txid) ≡ true = grind (arith, nat_tests) in
-        let there : (if v.txid == v.txid then Some v else version_of v.txid vs) ≡ None = none v.txid e other in
-        absurd (cc (sym (ap (λ b. if b then Some v else version_of v.txid vs) itself) ∙ there))
-
-    later : (u : ℕ) → (if u == v.txid then Some v else version_of u vs) ≡ None → version_of u vs ≡ None
-    later u e = grind arith
+others-from p t (v ∷ vs) none =
+    (by_same (λ _. (t ≡ v.txid) ⊎ (p v.txid ≡ true)) t v.txid (λ same. inl same) (λ other. inr (true_from_ne_false (p v.txid) (λ e. let there = none v.txid e other in grind (arith, nat_tests, there)))),
+      others-from p t vs (λ u unended other. grind (arith, none u unended other)))
 
 module _ (h : History) (l : Legal h) (who t n : ℕ) (at_key : List Val) (old new : Option (List Val)) (mine : own_txid who h ≡ Some t) (free : other_than who (holder n at_key h) ≡ None) where
   abbrev g : History
@@ -135,69 +126,34 @@ module _ (h : History) (l : Legal h) (who t n : ℕ) (at_key : List Val) (old ne
           absurd (nobody-else h l who t n at_key mine free u runs_on other (has_written-last_of at_key (writes_of n u h) ∙ wrote_it))
 
   pub kept-wrote : (table : ℕ) (key : List Val) → kept g table key ≡ (if (n == table) && eq_by_cmp key_cmp key at_key then with_version t new (kept h table key) else kept h table key)
-  kept-wrote table key = of (n == table)
-    where
-      of : (b : Bool) → versions_at key (if b then written t at_key new (versions table h) else versions table h)
-          ≡ (if b && eq_by_cmp key_cmp key at_key then with_version t new (kept h table key) else kept h table key)
-      of true = versions_at-written key t at_key new (versions table h)
-      of false = refl
-
-  last_of-wrote : (table u : ℕ) (key : List Val) → last_of key (writes_of table u g) ≡ (if (n == table && t == u) && eq_by_cmp key_cmp key at_key then Some new else last_of key (writes_of table u h))
-  last_of-wrote table u key = of (n == table && t == u)
-    where
-      of : (b : Bool) → last_of key (if b then writes_of table u h ++ record { key = at_key; row = new } ∷ [] else writes_of table u h)
-          ≡ (if b && eq_by_cmp key_cmp key at_key then Some new else last_of key (writes_of table u h))
-      of true = last_of-push key (writes_of table u h) (record { key = at_key; row = new })
-      of false = refl
+  kept-wrote table key = grind (arith, versions_at-written key t at_key new (versions table h))
 
   -- a write is in nobody's that has committed
   same-writes : (table u : ℕ) → contains u (committed h) ≡ true → writes_of table u g ≡ writes_of table u h
-  same-writes table u there = of (n == table) (t == u) refl
-    where
-      of : (b c : Bool) → (t == u) ≡ c → (if b && c then writes_of table u h ++ record { key = at_key; row = new } ∷ [] else writes_of table u h) ≡ writes_of table u h
-      of true true e = (let one : t ≡ u = grind (arith, nat_tests) in absurd (cc (sym unended ∙ ap (has_ended h) one ∙ committed-ended h u there)))
-      of true false e = refl
-      of false c e = refl
+  same-writes table u there = grind (arith, nat_tests, committed-ended h u there, unended)
 
   own-wrote : (table : ℕ) (key : List Val) → KeyHolds h table key → (u : ℕ) → has_ended h u ≡ false
       → option_map Version.row (version_of u (kept g table key)) ≡ last_of key (writes_of table u g)
   own-wrote table key k u runs_on =
       ap (λ vs. option_map Version.row (version_of u vs)) (kept-wrote table key)
-      ∙ of (n == table) (eq_by_cmp key_cmp key at_key) (t == u) refl
-      ∙ sym (last_of-wrote table u key)
-    where
-      of : (b c d : Bool) → (t == u) ≡ d → option_map Version.row (version_of u (if b && c then with_version t new (kept h table key) else kept h table key))
-          ≡ (if (b && d) && c then Some new else last_of key (writes_of table u h))
-      of true true true e =
-          let same : (u == t) ≡ true = grind (arith, nat_tests) in
-          ap (option_map Version.row) (version_of-with u t new (kept h table key) ∙ ap (λ x. cond x (Some (left t new)) (version_of u (kept h table key))) same)
-      of true true false e =
-          let other : (u == t) ≡ false = grind (arith, nat_tests) in
-          ap (option_map Version.row) (version_of-with u t new (kept h table key) ∙ ap (λ x. cond x (Some (left t new)) (version_of u (kept h table key))) other) ∙ k.own u runs_on
-      of true false true e = k.own u runs_on
-      of true false false e = k.own u runs_on
-      of false c d e = k.own u runs_on
+      ∙ grind (arith, nat_tests, version_of-with u t new (kept h table key), k.own u runs_on, last_of-push key (writes_of table u h) (record { key = at_key; row = new }))
 
   newest-wrote : (table : ℕ) (key : List Val) → newest_by (has_ended h) (kept g table key) ≡ newest_by (has_ended h) (kept h table key)
-  newest-wrote table key = ap (newest_by (has_ended h)) (kept-wrote table key) ∙ of ((n == table) && eq_by_cmp key_cmp key at_key)
-    where
-      of : (b : Bool) → newest_by (has_ended h) (if b then with_version t new (kept h table key) else kept h table key) ≡ newest_by (has_ended h) (kept h table key)
-      of true = newest_with (has_ended h) t new (kept h table key) unended
-      of false = refl
+  newest-wrote table key = grind (arith, kept-wrote table key, newest_with (has_ended h) t new (kept h table key) unended)
 
   only-wrote : (table : ℕ) (key : List Val) → KeyHolds h table key → OnlyLast (has_ended h) (kept g table key)
-  only-wrote table key k = subst (OnlyLast (has_ended h)) (sym (kept-wrote table key)) (of (n == table) refl (eq_by_cmp key_cmp key at_key) refl)
+  only-wrote table key k =
+      subst (OnlyLast (has_ended h)) (sym (kept-wrote table key))
+      (cond_both ((n == table) && eq_by_cmp key_cmp key at_key) (with_version t new (kept h table key)) (kept h table key) (OnlyLast (has_ended h)) there (λ _. k.only))
     where
-      of : (b : Bool) → (n == table) ≡ b → (c : Bool) → eq_by_cmp key_cmp key at_key ≡ c
-          → OnlyLast (has_ended h) (if b && c then with_version t new (kept h table key) else kept h table key)
-      of true same true tie =
-          let table_is : n ≡ table = grind (arith, nat_tests) in
-          let here : KeyHolds h n at_key = subst (λ m. KeyHolds h m at_key) (sym table_is) (subst (KeyHolds h table) (key_ties-is key at_key tie) k) in
+      there : ((n == table) && eq_by_cmp key_cmp key at_key) ≡ true → OnlyLast (has_ended h) (with_version t new (kept h table key))
+      there is =
+          let both = and_parts (n == table) (eq_by_cmp key_cmp key at_key) is in
+          let table_is : n ≡ table = eqb-true n table both.0 in
+          let key_is = key_ties-is key at_key both.1 in
+          let here : KeyHolds h n at_key = (subst (λ m. KeyHolds h m at_key) (sym table_is) (subst (KeyHolds h table) key_is k)) in
           let others : OthersPass (has_ended h) t (kept h n at_key) = others-from (has_ended h) t (kept h n at_key) (unwritten here) in
-          only_with (has_ended h) t new (kept h table key)
-          (subst (λ m. OthersPass (has_ended h) t (kept h m key)) table_is (subst (λ x. OthersPass (has_ended h) t (kept h n x)) (sym (key_ties-is key at_key tie)) others)) k.only
-      of true same false tie = k.only
-      of false same c tie = k.only
+          only_with (has_ended h) t new (kept h table key) (subst (OthersPass (has_ended h) t) (λ i. kept h (table_is i) (sym key_is i)) others) k.only
 
   pub key_written : (table : ℕ) (key : List Val) → KeyHolds h table key → KeyHolds g table key
   key_written table key k = record {

@@ -1,6 +1,6 @@
 -- Whatever is called of a database, its history is legal.
-use Rattle.std.proofs.Common.{◌≡◌, All, ℕ, suc, zero, ℤ, ◌+◌, ◌<◌, List, [], ◌∷◌, ◌++◌, Bool, true, false, ◌==◌, nat_le, Option, Some, None, Ok, Err, is_ok, option_map, length, is_some, refl, sym, ◌∙◌, ap, subst, arith, ◌^◌, if◌then◌else◌}
-use Rattle.std.specs.Prelude.{find, not}
+use Rattle.std.proofs.Common.{◌≡◌, All, ℕ, suc, zero, ℤ, ◌+◌, ◌<◌, List, [], ◌∷◌, ◌++◌, Bool, true, ◌==◌, nat_le, Option, Some, None, Ok, Err, is_ok, option_map, length, is_some, refl, sym, ◌∙◌, ap, subst, arith, ◌^◌, if◌then◌else◌, find, not}
+use Rattle.std.proofs.lemmas.Bool.{cond_both}
 use Rattle.std.proofs.lemmas.Bool.Decides.{nat_tests}
 use Rattle.sky_model.specs.declared.stmt.Stmt.{Stmt}
 use Rattle.sky_model.specs.declared.stmt.Extra.{Extra}
@@ -39,7 +39,7 @@ use Rattle.sky_model.proofs.Good.{MayStand, Good, same-session, good_test, good_
 use Rattle.sky_model.proofs.RowOutcomes.{OfRows, attempts-rows, form-rows}
 use Rattle.sky_model.proofs.LawfulTelling.{good_append, legal_behind, good_tells}
 use Rattle.sky_model.proofs.WaitersFit.{may_go_on}
-use Rattle.sky_model.proofs.LawfulRows.{good_attempts, good_row_form}
+use Rattle.sky_model.proofs.LawfulRows.{no-one, nothing, good_attempts, good_row_form}
 use Rattle.sky_model.proofs.QueueNumbers.{among-number, among-last}
 use Rattle.sky_model.proofs.Ticks.{ticks_beyond}
 use Rattle.sky_model.proofs.Selecting.{events_below-next}
@@ -133,11 +133,7 @@ good_register_consumer h who name consumer =
     good_if h who (is_some (((database_of h).queue q).sub consumer)) _ _ done (λ unregistered.
     good_test h who (nat_le 256 (length ((database_of h).queue q).members)) _ _ (λ _.
     good_test h who (nat_le (2 ^ 64) ((database_of h).last_sub_id + 1)) _ _ (λ _.
-    more (registers q consumer _ _ (among-number name (queues h) q is) (none-mapped _ (subscription_id q consumer h) unregistered) (omega arith) (omega arith)) done)))))
-  where
-    none-mapped : {A B : Type 0} (f : A → B) (o : Option A) → is_some (option_map f o) ≡ false → o ≡ None
-    none-mapped f None e = refl
-    none-mapped f (Some a) e = cc
+    more (registers q consumer _ _ (among-number name (queues h) q is) (no-one _ (subscription_id q consumer h) (nothing _ unregistered)) (omega arith) (omega arith)) done)))))
 
 good_opens_batch : (h : History) (who q : ℕ) (consumer : List ℕ) (sub : Subscription) (found : Option Tick)
     → IsQueue h q → subscription q consumer h ≡ Some (record { id = sub.id; position = sub.position; active = None }) → tick (sub.position + 1) (ticks q h) ≡ found
@@ -190,12 +186,9 @@ good_form h l now who (AddTrigger name table queue backup ignored) may = good_ad
 good_runs_if : (h : History) → Legal h → (now : ℤ) (who : ℕ) (stmt : Stmt) (may : Checked (Unit {0})) → allowed (is_waiting who (waiting h)) (has_open who h) (block who h) (where_of stmt) ≡ may
     → Chain h (runs_if (making database_by_history now who stmt) (where_of stmt) who h may).marks
 good_runs_if h l now who stmt (Err refusal) is = good_refused h who refusal
-good_runs_if h l now who stmt (Ok _) is = of (takes_sight (where_of stmt) (session h who).sight)
-  where
-    of : (b : Bool) → Chain h (if b then looking who (settled who (session (looked who ∷ h) who) (form (database_of (looked who ∷ h)) (shown_in (looked who ∷ h)) now who stmt))
-        else settled who (session h who) (form (database_of h) (shown_in h) now who stmt)).marks
-    of true = more (looks who) (good_form (looked who ∷ h) (next l (looks who)) now who stmt (ap is_ok is))
-    of false = good_form h l now who stmt (ap is_ok is)
+good_runs_if h l now who stmt (Ok _) is =
+    cond_both (takes_sight (where_of stmt) (session h who).sight) (looking who (settled who (session (looked who ∷ h) who) (form (database_of (looked who ∷ h)) (shown_in (looked who ∷ h)) now who stmt))) _ (λ o. Chain h o.marks)
+    (λ _. more (looks who) (good_form (looked who ∷ h) (next l (looks who)) now who stmt (ap is_ok is))) (λ _. good_form h l now who stmt (ap is_ok is))
 
 good_statement : (h : History) → Legal h → (now : ℤ) (who : ℕ) (stmt : Stmt) → Chain h (statement database_by_history h now who stmt).marks
 good_statement h l now who stmt = good_runs_if h l now who stmt (allowed (is_waiting who (waiting h)) (has_open who h) (block who h) (where_of stmt)) refl
@@ -230,97 +223,88 @@ by_gate-reads gate r past reads = record {
   tells = λ p l who c rows good. good_gated gate p.1 (past p.0) who (r.tells p.0 c) (reads.tells p.0 l who c rows good);
 }
 
--- the past behind marks
-pub past-behind : {P : Type 0} (r : PartReader P) (past : P → History) → ReadsPast r past → (p : P) (marks : List Mark)
-    → past (behind_marks r p marks) ≡ behind_marks part_by_history (past p) marks
-past-behind r past reads p [] = refl
-past-behind r past reads p (mark ∷ marks) = past-behind r past reads (r.behind p mark) marks ∙ ap (λ h. behind_marks part_by_history h marks) (reads.behind p mark)
+module _ {P : Type 0} (r : PartReader P) (past : P → History) (reads : ReadsPast r past) where
+  -- the past behind marks
+  pub past-behind : (p : P) (marks : List Mark) → past (behind_marks r p marks) ≡ behind_marks part_by_history (past p) marks
+  past-behind p [] = refl
+  past-behind p (mark ∷ marks) = past-behind (r.behind p mark) marks ∙ ap (λ h. behind_marks part_by_history h marks) (reads.behind p mark)
 
--- what a session does there may come, once its writes are told of
-good_told : {P : Type 0} (r : PartReader P) (past : P → History) → ReadsPast r past → (p : P) → Legal (past p) → (who : ℕ) (c : Checked Outcome) → OfRows c → Good (past p) who c
-    → Chain (past p) (settled who ((r.part p).session who) (r.tells p c)).marks
-good_told r past reads p l who c rows good =
-    subst (λ (d : RowPart). Chain (past p) (settled who (d.session who) (r.tells p c)).marks) (sym (reads.part p)) (reads.tells p l who c rows good)
+  -- what a session does there may come, once its writes are told of
+  good_told : (p : P) → Legal (past p) → (who : ℕ) (c : Checked Outcome) → OfRows c → Good (past p) who c → Chain (past p) (settled who ((r.part p).session who) (r.tells p c)).marks
+  good_told p l who c rows good =
+      subst (λ (d : RowPart). Chain (past p) (settled who (d.session who) (r.tells p c)).marks) (sym (reads.part p)) (reads.tells p l who c rows good)
 
-good_then : {P : Type 0} (r : PartReader P) (past : P → History) → ReadsPast r past → (p : P) → Legal (past p) → (turn : Turn) (rest : P → Turn) → Chain (past p) turn.marks
-    → ((q : P) → Legal (past q) → Chain (past q) (rest q).marks) → Chain (past p) (and_then r p turn rest).marks
-good_then r past reads p l turn rest chain also =
-    good_append (past p) turn.marks _ chain
-    (subst (λ h. Chain h (rest (behind_marks r p turn.marks)).marks) (past-behind r past reads p turn.marks)
-    (also (behind_marks r p turn.marks) (subst Legal (sym (past-behind r past reads p turn.marks)) (legal_behind (past p) turn.marks l chain))))
+  good_then : (p : P) → Legal (past p) → (turn : Turn) (rest : P → Turn) → Chain (past p) turn.marks → ((q : P) → Legal (past q) → Chain (past q) (rest q).marks) → Chain (past p) (and_then r p turn rest).marks
+  good_then p l turn rest chain also =
+      good_append (past p) turn.marks _ chain
+      (subst (λ h. Chain h (rest (behind_marks r p turn.marks)).marks) (past-behind p turn.marks)
+      (also (behind_marks r p turn.marks) (subst Legal (sym (past-behind p turn.marks)) (legal_behind (past p) turn.marks l chain))))
 
-good_resumed : {P : Type 0} (r : PartReader P) (past : P → History) → ReadsPast r past → (p : P) → Legal (past p) → (w : Waiting) → ready (r.part p) ≡ Some w
-    → Chain (past p) (resumed r p w).marks
-good_resumed {P = P} r past reads p l w is =
-    more (ends_waiting w.who) (subst (λ h. Chain h (attempted r w ((r.part p).attempt w.who) behind).marks) gone (good_told r past reads behind legal w.who _ (attempts-rows (r.part behind) ((r.rows behind).key w.who w.table w.key) w.who w.table w.key ((r.part p).attempt w.who)) tried))
-  where
-    behind : P
-    behind = r.behind p (tabled (waited w.who))
+  good_resumed : (p : P) → Legal (past p) → (w : Waiting) → ready (r.part p) ≡ Some w → Chain (past p) (resumed r p w).marks
+  good_resumed p l w is =
+      more (ends_waiting w.who) (subst (λ h. Chain h (attempted r w ((r.part p).attempt w.who) behind).marks) gone (good_told behind legal w.who _ (attempts-rows (r.part behind) ((r.rows behind).key w.who w.table w.key) w.who w.table w.key ((r.part p).attempt w.who)) tried))
+    where
+      behind : P
+      behind = r.behind p (tabled (waited w.who))
 
-    gone : past behind ≡ tabled (waited w.who) ∷ past p
-    gone = reads.behind p (tabled (waited w.who))
+      gone : past behind ≡ tabled (waited w.who) ∷ past p
+      gone = reads.behind p (tabled (waited w.who))
 
-    legal : Legal (past behind)
-    legal = subst Legal (sym gone) (next l (ends_waiting w.who))
+      legal : Legal (past behind)
+      legal = subst Legal (sym gone) (next l (ends_waiting w.who))
 
-    -- it no longer waits, and what it attempts fits as it did when it began to wait
-    may : MayWait (part_of (past behind)) w.who w.table w.key ((r.part p).attempt w.who)
-    may =
-        subst (λ h. MayWait (part_of h) w.who w.table w.key ((r.part p).attempt w.who)) (sym gone)
-        (subst (λ (d : RowPart). MayWait (part_of (tabled (waited w.who) ∷ past p)) w.who w.table w.key (d.attempt w.who)) (sym (reads.part p))
-        (may_go_on (past p) l w (ap ready (sym (reads.part p)) ∙ is)))
+      -- it no longer waits, and what it attempts fits as it did when it began to wait
+      may : MayWait (part_of (past behind)) w.who w.table w.key ((r.part p).attempt w.who)
+      may =
+          subst (λ h. MayWait (part_of h) w.who w.table w.key ((r.part p).attempt w.who)) (sym gone)
+          (subst (λ (d : RowPart). MayWait (part_of (tabled (waited w.who) ∷ past p)) w.who w.table w.key (d.attempt w.who)) (sym (reads.part p))
+          (may_go_on (past p) l w (ap ready (sym (reads.part p)) ∙ is)))
 
-    tried : Good (past behind) w.who (attempts (r.part behind) ((r.rows behind).key w.who w.table w.key) w.who w.table w.key ((r.part p).attempt w.who))
-    tried =
-        subst (λ d. Good (past behind) w.who (attempts d ((r.rows behind).key w.who w.table w.key) w.who w.table w.key ((r.part p).attempt w.who))) (sym (reads.part behind))
-        (subst (λ (rows : RowsShown). Good (past behind) w.who (attempts (part_of (past behind)) (rows.key w.who w.table w.key) w.who w.table w.key ((r.part p).attempt w.who))) (sym (reads.rows behind))
-        (good_attempts (past behind) legal w.who w.table w.key ((r.part p).attempt w.who) may))
+      tried : Good (past behind) w.who (attempts (r.part behind) ((r.rows behind).key w.who w.table w.key) w.who w.table w.key ((r.part p).attempt w.who))
+      tried =
+          subst (λ d. Good (past behind) w.who (attempts d ((r.rows behind).key w.who w.table w.key) w.who w.table w.key ((r.part p).attempt w.who))) (sym (reads.part behind))
+          (subst (λ (rows : RowsShown). Good (past behind) w.who (attempts (part_of (past behind)) (rows.key w.who w.table w.key) w.who w.table w.key ((r.part p).attempt w.who))) (sym (reads.rows behind))
+          (good_attempts (past behind) legal w.who w.table w.key ((r.part p).attempt w.who) may))
 
-good_goes_on : {P : Type 0} (r : PartReader P) (past : P → History) → ReadsPast r past → (p : P) → Legal (past p) → (rest : P → Turn) (o : Option Waiting) → ready (r.part p) ≡ o
-    → ((q : P) → Legal (past q) → Chain (past q) (rest q).marks) → Chain (past p) (goes_on r p rest o).marks
-good_goes_on r past reads p l rest None is also = done
-good_goes_on r past reads p l rest (Some w) is also = good_then r past reads p l (resumed r p w) rest (good_resumed r past reads p l w is) also
+  good_goes_on : (p : P) → Legal (past p) → (rest : P → Turn) (o : Option Waiting) → ready (r.part p) ≡ o → ((q : P) → Legal (past q) → Chain (past q) (rest q).marks) → Chain (past p) (goes_on r p rest o).marks
+  good_goes_on p l rest None is also = done
+  good_goes_on p l rest (Some w) is also = good_then p l (resumed r p w) rest (good_resumed p l w is) also
 
-good_settles : {P : Type 0} (r : PartReader P) (past : P → History) → ReadsPast r past → (n : ℕ) (p : P) → Legal (past p) → Chain (past p) (settles r n p).marks
-good_settles r past reads zero p l = done
-good_settles r past reads (suc n) p l = good_goes_on r past reads p l (settles r n) (ready (r.part p)) refl (good_settles r past reads n)
+  good_settles : (n : ℕ) (p : P) → Legal (past p) → Chain (past p) (settles r n p).marks
+  good_settles zero p l = done
+  good_settles (suc n) p l = good_goes_on p l (settles r n) (ready (r.part p)) refl (good_settles n)
 
--- a turn with those that it lets go on, at a place that reads as its past
-pub good_with_settling-by : {P : Type 0} (r : PartReader P) (past : P → History) → ReadsPast r past → (p : P) → Legal (past p) → (turn : Turn) → Chain (past p) turn.marks
-    → Chain (past p) (with_settling r p turn).marks
-good_with_settling-by r past reads p l turn chain = good_then r past reads p l turn (settling r) chain (λ q legal. good_settles r past reads (length (r.part q).waiting) q legal)
+  -- a turn with those that it lets go on, at a place that reads as its past
+  pub good_with_settling-by : (p : P) → Legal (past p) → (turn : Turn) → Chain (past p) turn.marks → Chain (past p) (with_settling r p turn).marks
+  good_with_settling-by p l turn chain = good_then p l turn (settling r) chain (λ q legal. good_settles (length (r.part q).waiting) q legal)
 
-good_row_runs : {P : Type 0} (r : PartReader P) (past : P → History) → ReadsPast r past → (p : P) → Legal (past p) → (who : ℕ) (stmt : RowStmt) (may : Checked (Unit {0}))
-    → allowed (is_waiting who (r.part p).waiting) ((r.part p).session who).is_open ((r.part p).session who).block (where_of_row stmt) ≡ may → Chain (past p) (runs_if (row_making r who stmt) (where_of_row stmt) who p may).marks
-good_row_runs r past reads p l who stmt (Err refusal) is =
-    subst (λ (d : RowPart). Chain (past p) (abort who (d.session who).block (d.session who).txid refusal)) (sym (reads.part p)) (good_refused (past p) who refusal)
-good_row_runs {P = P} r past reads p l who stmt (Ok _) is = of (takes_sight (where_of_row stmt) ((r.part p).session who).sight)
-  where
-    behind : P
-    behind = r.behind p (looked who)
+  good_row_runs : (p : P) → Legal (past p) → (who : ℕ) (stmt : RowStmt) (may : Checked (Unit {0}))
+      → allowed (is_waiting who (r.part p).waiting) ((r.part p).session who).is_open ((r.part p).session who).block (where_of_row stmt) ≡ may → Chain (past p) (runs_if (row_making r who stmt) (where_of_row stmt) who p may).marks
+  good_row_runs p l who stmt (Err refusal) is =
+      subst (λ (d : RowPart). Chain (past p) (abort who (d.session who).block (d.session who).txid refusal)) (sym (reads.part p)) (good_refused (past p) who refusal)
+  good_row_runs p l who stmt (Ok _) is =
+      cond_both (takes_sight (where_of_row stmt) ((r.part p).session who).sight) (looking who (settled who ((r.part behind).session who) (r.tells behind (row_form (r.part behind) (r.rows behind) who stmt)))) _ (λ o. Chain (past p) o.marks)
+      (λ _. more (looks who) (subst (λ h. Chain h (settled who ((r.part behind).session who) (r.tells behind (row_form (r.part behind) (r.rows behind) who stmt))).marks) (reads.behind p (looked who))
+      (runs_at behind (subst Legal (sym (reads.behind p (looked who))) (next l (looks who)))
+      (subst (λ h. MayStand h who (where_of_row stmt)) (sym (reads.behind p (looked who))) stands))))
+      (λ _. runs_at p l stands)
+    where
+      behind : P
+      behind = r.behind p (looked who)
 
-    stands : MayStand (past p) who (where_of_row stmt)
-    stands = ap is_ok (ap (λ (d : RowPart). allowed (is_waiting who d.waiting) (d.session who).is_open (d.session who).block (where_of_row stmt)) (sym (reads.part p)) ∙ is)
+      stands : MayStand (past p) who (where_of_row stmt)
+      stands = ap is_ok (ap (λ (d : RowPart). allowed (is_waiting who d.waiting) (d.session who).is_open (d.session who).block (where_of_row stmt)) (sym (reads.part p)) ∙ is)
 
-    runs_at : (q : P) → Legal (past q) → MayStand (past q) who (where_of_row stmt) → Chain (past q) (settled who ((r.part q).session who) (r.tells q (row_form (r.part q) (r.rows q) who stmt))).marks
-    runs_at q legal stands = good_told r past reads q legal who _ (form-rows (r.part q) (r.rows q) who stmt)
-        (subst (λ d. Good (past q) who (row_form d (r.rows q) who stmt)) (sym (reads.part q))
-        (subst (λ rows. Good (past q) who (row_form (part_of (past q)) rows who stmt)) (sym (reads.rows q)) (good_row_form (past q) legal who stmt stands)))
+      runs_at : (q : P) → Legal (past q) → MayStand (past q) who (where_of_row stmt) → Chain (past q) (settled who ((r.part q).session who) (r.tells q (row_form (r.part q) (r.rows q) who stmt))).marks
+      runs_at q legal stands = good_told q legal who _ (form-rows (r.part q) (r.rows q) who stmt)
+          (subst (λ d. Good (past q) who (row_form d (r.rows q) who stmt)) (sym (reads.part q))
+          (subst (λ rows. Good (past q) who (row_form (part_of (past q)) rows who stmt)) (sym (reads.rows q)) (good_row_form (past q) legal who stmt stands)))
 
-    of : (b : Bool) → Chain (past p) (if b then looking who (settled who ((r.part behind).session who) (r.tells behind (row_form (r.part behind) (r.rows behind) who stmt)))
-        else settled who ((r.part p).session who) (r.tells p (row_form (r.part p) (r.rows p) who stmt))).marks
-    of true =
-        more (looks who) (subst (λ h. Chain h (settled who ((r.part behind).session who) (r.tells behind (row_form (r.part behind) (r.rows behind) who stmt))).marks) (reads.behind p (looked who))
-        (runs_at behind (subst Legal (sym (reads.behind p (looked who))) (next l (looks who)))
-        (subst (λ h. MayStand h who (where_of_row stmt)) (sym (reads.behind p (looked who))) stands)))
-    of false = runs_at p l stands
-
--- and a statement on rows with those that it lets go on
-pub good_row_turn-by : {P : Type 0} (r : PartReader P) (past : P → History) → ReadsPast r past → (p : P) → Legal (past p) → (who : ℕ) (stmt : RowStmt)
-    → Chain (past p) (row_turn r p who stmt).marks
-good_row_turn-by r past reads p l who stmt =
-    good_with_settling-by r past reads p l (turn_of who (row_statement r p who stmt))
-    (good_row_runs r past reads p l who stmt (allowed (is_waiting who (r.part p).waiting) ((r.part p).session who).is_open ((r.part p).session who).block (where_of_row stmt)) refl)
+  -- and a statement on rows with those that it lets go on
+  pub good_row_turn-by : (p : P) → Legal (past p) → (who : ℕ) (stmt : RowStmt) → Chain (past p) (row_turn r p who stmt).marks
+  good_row_turn-by p l who stmt =
+      good_with_settling-by p l (turn_of who (row_statement r p who stmt))
+      (good_row_runs p l who stmt (allowed (is_waiting who (r.part p).waiting) ((r.part p).session who).is_open ((r.part p).session who).block (where_of_row stmt)) refl)
 
 -- so may a statement of a whole database by its history
 pub good_turn : (h : History) → Legal h → (now : ℤ) (who : ℕ) (stmt : Stmt) → Chain h (database_turn database_by_history h now who stmt).marks

@@ -1,6 +1,5 @@
 -- The statements on sessions, transactions, tables and rows leave a legal history legal.
-use Rattle.std.proofs.Common.{◌≡◌, ℕ, ◌^◌, ◌<◌, List, [], ◌∷◌, ◌++◌, Bool, true, false, nat_le, Option, Some, None, Ok, IfSome, option_map, length, is_some, refl, sym, ◌∙◌, ap, arith, if◌then◌else◌}
-use Rattle.std.specs.Prelude.{find}
+use Rattle.std.proofs.Common.{◌≡◌, ℕ, ◌^◌, ◌<◌, List, [], ◌∷◌, ◌++◌, Bool, true, false, nat_le, Option, Some, None, Ok, IfSome, option_map, length, is_some, refl, sym, ◌∙◌, ap, arith, if◌then◌else◌, find}
 use Rattle.sky_val.specs.declared.val.Val.{Val}
 use Rattle.sky_val.specs.declared.column.Column.{Column}
 use Rattle.sky_val.specs.Schemas.{schema_fault, row_fault, key_columns, key_of}
@@ -129,11 +128,11 @@ good_once_free h who table key attempt c may good = of (other_than who (holder t
     of None free = good free
     of (Some v) is = good_refused_by h who (option_map Deadlock (ring (part_of h) who v)) _ (λ _. more (begins_waiting who table key attempt may) done)
 
-no-one : {A B : Type 0} (f : A → B) (o : Option A) → option_map f o ≡ None → o ≡ None
+pub no-one : {A B : Type 0} (f : A → B) (o : Option A) → option_map f o ≡ None → o ≡ None
 no-one f None e = refl
 no-one f (Some a) e = absurd (cc)
 
-nothing : {A : Type 0} (o : Option A) → is_some o ≡ false → o ≡ None
+pub nothing : {A : Type 0} (o : Option A) → is_some o ≡ false → o ≡ None
 nothing None e = refl
 nothing (Some a) e = absurd (cc)
 

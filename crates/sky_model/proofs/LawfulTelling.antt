@@ -1,10 +1,10 @@
 -- A statement on rows leaves a legal history legal once its writes are told of.
-use Rattle.std.proofs.Common.{◌≡◌, ℕ, ℤ, ◌+◌, ◌^◌, List, [], ◌∷◌, ◌++◌, Bool, true, false, cond, ◌==◌, nat_le, Option, Some, Ok, Err, map, refl, sym, ◌∙◌, ap, subst, arith, if◌then◌else◌}
-use Rattle.std.specs.Prelude.{filter, not}
+use Rattle.std.proofs.Common.{◌≡◌, ℕ, ℤ, ◌+◌, ◌^◌, List, [], ◌∷◌, ◌++◌, Bool, true, false, ◌==◌, nat_le, Option, Some, Ok, Err, IfOk, map, refl, sym, ◌∙◌, ap, subst, arith, if◌then◌else◌, All}
+use Rattle.std.proofs.lemmas.List.Elements.{All-nil, All-head, All-tail, All-push, All-weaker, All-map, All-filter}
 use Rattle.sky_val.specs.declared.val.Val.{Val}
 use Rattle.sky_keys.specs.Waits.{other_than, is_waiting}
 use Rattle.sky_names.specs.Places.{place_of}
-use Rattle.sky_urlenc.specs.RowEvents.{Trigger, Write, leaves_out, event_of, RowEvent, events_of}
+use Rattle.sky_urlenc.specs.RowEvents.{Trigger, Write, event_of, RowEvent, events_of}
 use Rattle.sky_model.specs.declared.reply.Refusal.TheVariants.{EventIdsSpent}
 use Rattle.sky_model.specs.History.{Mark, of_session, began, tabled, wrote, queued, made, raised, put, traced, History}
 use Rattle.sky_model.specs.Sessions.{has_open, Block, block, own_txid}
@@ -14,13 +14,14 @@ use Rattle.sky_model.specs.State.{RowPart, part_of, after_part, database_of, aft
 use Rattle.sky_model.specs.Outcome.{Outcome, Checked, ◌>>=◌, ◌>>◌, refused_if, does_marks}
 use Rattle.sky_model.specs.Telling.{write_in, events_in, told_event, event_marks, told_by, told_of, with_told, tells}
 use Rattle.sky_model.specs.Reader.{part_by_history}
-use Rattle.sky_model.specs.Settling.{behind_marks}
-use Rattle.sky_model.specs.Settling.{marked}
+use Rattle.sky_model.specs.Settling.{behind_marks, marked}
 use Rattle.sky_model.proofs.Legal.{Replaces, MayWait, IsAmong, IsQueue, Fine, begins, ends, begins_block, fails_block, ends_block, connects, disconnects, repeats_block, looks, makes_table, writes, begins_waiting, ends_waiting, raises, puts, traces, Chain, done, more, Legal, next}
 use Rattle.sky_model.proofs.QueueNumbers.{among-before}
 use Rattle.sky_model.proofs.Marks.{part_of-mark, database_of-mark, database_of-marks}
 use Rattle.sky_model.proofs.Selecting.{events_below-next}
 use Rattle.sky_model.proofs.Good.{Good, same-session, good_refused}
+use Rattle.std.proofs.lemmas.Result.{IfOk-at_ok}
+use Rattle.sky_model.proofs.Cases.{ok-then}
 use Rattle.sky_model.proofs.StatementMarks.{each-rest}
 use Rattle.sky_model.proofs.RowOutcomes.{is_of_rows, RowMarks, OfRows}
 
@@ -35,93 +36,69 @@ legal_behind h (mark ∷ marks) l (more fine chain) = legal_behind (mark ∷ h) 
 
 -- ---- the events of triggers go to queues
 
--- the queues of triggers are among these
-abbrev pub TriggersAmong : List NamedQueue → List TableTrigger → Type 0
-TriggersAmong queues [] = Unit {0}
-TriggersAmong queues (t ∷ ts) = IsAmong t.trigger.queue queues × TriggersAmong queues ts
-
--- and those of events
-abbrev EventsAmong : List NamedQueue → List RowEvent → Type 0
-EventsAmong queues [] = Unit {0}
-EventsAmong queues (e ∷ es) = IsAmong e.queue queues × EventsAmong queues es
-
-among-more : (queues : List NamedQueue) (last : NamedQueue) (ts : List TableTrigger) → TriggersAmong queues ts → TriggersAmong (queues ++ last ∷ []) ts
-among-more queues last [] among = tt
-among-more queues last (t ∷ ts) among = (among-before queues last t.trigger.queue among.0, among-more queues last ts among.1)
-
-among-push : (queues : List NamedQueue) (ts : List TableTrigger) (t : TableTrigger) → TriggersAmong queues ts → IsAmong t.trigger.queue queues → TriggersAmong queues (ts ++ t ∷ [])
-among-push queues [] t among is = (is, tt)
-among-push queues (x ∷ xs) t among is = (among.0, among-push queues xs t among.1 is)
-
-among-of : (queues : List NamedQueue) (table : ℕ) (ts : List TableTrigger) → TriggersAmong queues ts → TriggersAmong queues (triggers_of table ts)
-among-of queues table [] among = tt
-among-of queues table (t ∷ ts) among = of (t.table == table) (among-of queues table ts among.1)
-  where
-    of : (b : Bool) → TriggersAmong queues (triggers_of table ts) → TriggersAmong queues (cond b (t ∷ triggers_of table ts) (triggers_of table ts))
-    of true ih = (among.0, ih)
-    of false ih = ih
-
 below-mark : {h : History} {mark : Mark} → Legal (mark ∷ h) → Legal h
 below-mark (next l fine) = l
 
 traced-queue : {h : History} {table : ℕ} {name : Option (List ℕ)} {trigger : Trigger} → Legal (queued (traced table name trigger) ∷ h) → IsQueue h trigger.queue
 traced-queue (next l (traces table name trigger below is new)) = is
 
+-- the queues of triggers are among these
+abbrev pub TriggersAmong : List NamedQueue → List TableTrigger → Type 0
+TriggersAmong queues ts = All (λ t. IsAmong t.trigger.queue queues) ts
+
+-- and those of events
+abbrev EventsAmong : List NamedQueue → List RowEvent → Type 0
+EventsAmong queues es = All (λ e. IsAmong e.queue queues) es
+
 -- triggers are of queues that stand
 pub trigger-queues : (h : History) → Legal h → TriggersAmong (queues h) (triggers h)
-trigger-queues [] l = tt
-trigger-queues (queued (made name) ∷ h) l = among-more (queues h) (record { number = queues_made h; name = name }) (triggers h) (trigger-queues h (below-mark l))
+trigger-queues [] l = All-nil (λ t. IsAmong t.trigger.queue [])
+trigger-queues (queued (made name) ∷ h) l =
+    let last : NamedQueue = record { number = queues_made h; name = name } in
+    All-weaker (λ t. IsAmong t.trigger.queue (queues h)) (λ t. IsAmong t.trigger.queue (queues h ++ last ∷ [])) (λ t among. among-before (queues h) last t.trigger.queue among) (triggers h) (trigger-queues h (below-mark l))
 trigger-queues (queued (traced table name trigger) ∷ h) l =
-    among-push (queues h) (triggers h) (record { table = table; name = name; trigger = trigger }) (trigger-queues h (below-mark l)) (traced-queue l)
+    All-push (λ t. IsAmong t.trigger.queue (queues h)) (triggers h) (record { table = table; name = name; trigger = trigger }) (trigger-queues h (below-mark l)) (traced-queue l)
 trigger-queues (_ ∷ h) l = trigger-queues h (below-mark l)
 
 -- so are the events of a write
 events-queues : (queues : List NamedQueue) (w : Write) (ts : List TableTrigger) → TriggersAmong queues ts → EventsAmong queues (events_of w (map TableTrigger.trigger ts))
-events-queues queues w [] among = tt
-events-queues queues w (t ∷ ts) among = of (not (leaves_out t.trigger w.columns w.old w.new)) among.0 (events-queues queues w ts among.1)
-  where
-    rest : List Trigger
-    rest = filter (λ trigger. not (leaves_out trigger w.columns w.old w.new)) (map TableTrigger.trigger ts)
-
-    of : (b : Bool) → IsAmong t.trigger.queue queues → EventsAmong queues (map (event_of w) rest) → EventsAmong queues (map (event_of w) (if b then t.trigger ∷ rest else rest))
-    of true is ih = (is, ih)
-    of false is ih = ih
+events-queues queues w ts among =
+    All-map (λ e. IsAmong e.queue queues) (event_of w) _ (All-filter _ (λ t. IsAmong t.queue queues) (map TableTrigger.trigger ts) (All-map (λ t. IsAmong t.queue queues) TableTrigger.trigger ts among))
 
 -- ---- what is told of a mark may come behind it
 
 -- marks that may come next, and leave the row part as it was; or a refusal
 abbrev ToldWell : History → Checked (List Mark) → Type 0
-ToldWell h (Ok marks) = Chain h marks × (part_of (marked h marks) ≡ part_of h)
-ToldWell h (Err refusal) = Unit {0}
+ToldWell h x = IfOk x (λ marks. Chain h marks × (part_of (marked h marks) ≡ part_of h))
 
 told-well : (h : History) → Legal h → (now : ℤ) (who t : ℕ) (es : List RowEvent) → own_txid who h ≡ Some t → EventsAmong (queues h) es
     → ToldWell h (told_by (database_of h) now t es)
 told-well h l now who t [] mine among = (done, refl)
 told-well h l now who t (e ∷ es) mine among =
     of (nat_le (2 ^ 62) id)
-    (subst (λ d. ToldWell behind (told_by d now t es)) (database_of-marks h (event_marks e.queue (told_event id now t e))) (told-well behind (next (next l raised_fine) put_fine) now who t es mine among.1))
+    (subst (λ d. ToldWell behind (told_by d now t es)) (database_of-marks h (event_marks e.queue (told_event id now t e))) (told-well behind (next (next l raised_fine) put_fine) now who t es mine (All-tail (λ e. IsAmong e.queue (queues h)) e es among)))
   where
     id : ℕ
     id = sequence e.queue h + 1
+
+    there : IsQueue h e.queue
+    there = All-head (λ e. IsAmong e.queue (queues h)) e es among
 
     behind : History
     behind = queued (put e.queue (told_event id now t e)) ∷ queued (raised e.queue id) ∷ h
 
     raised_fine : Fine h (queued (raised e.queue id))
-    raised_fine = raises e.queue id among.0 (omega arith)
+    raised_fine = raises e.queue id there (omega arith)
 
     put_fine : Fine (queued (raised e.queue id) ∷ h) (queued (put e.queue (told_event id now t e)))
-    put_fine = puts who e.queue (told_event id now t e) among.0 (ap (λ b. if b then id else sequence e.queue h) (sym (same-session e.queue))) mine (events_below-next h l e.queue)
-
-    joined : (x : Checked (List Mark)) → ToldWell behind x → ToldWell h (x >>= (λ rest. Ok (event_marks e.queue (told_event id now t e) ++ rest)))
-    joined (Err refusal) well = tt
-    joined (Ok rest) well = (more raised_fine (more put_fine well.0), well.1)
+    put_fine = puts who e.queue (told_event id now t e) there (ap (λ b. if b then id else sequence e.queue h) (sym (same-session e.queue))) mine (events_below-next h l e.queue)
 
     of : (b : Bool) → ToldWell behind (told_by (after_marks (database_of h) (event_marks e.queue (told_event id now t e))) now t es)
         → ToldWell h ((refused_if b EventIdsSpent >> Ok id) >>= (λ n. told_by (after_marks (database_of h) (event_marks e.queue (told_event n now t e))) now t es
         >>= (λ rest. Ok (event_marks e.queue (told_event n now t e) ++ rest))))
     of true well = tt
-    of false well = joined (told_by (after_marks (database_of h) (event_marks e.queue (told_event id now t e))) now t es) well
+    of false well = ok-then _ (told_by (after_marks (database_of h) (event_marks e.queue (told_event id now t e))) now t es) _ (λ rest is.
+        let told = IfOk-at_ok _ is well in (more raised_fine (more put_fine told.0), told.1))
 
 writer-owns : {h : History} {who t table : ℕ} {key : List Val} {old new : Option (List Val)} → Fine h (tabled (wrote (of_session who) t table key old new)) → own_txid who h ≡ Some t
 writer-owns (writes who t table key old new mine free stands) = mine
@@ -129,7 +106,7 @@ writer-owns (writes who t table key old new mine free stands) = mine
 told_of-well : (h : History) → Legal h → (now : ℤ) (mark : Mark) → Fine h mark → ToldWell (mark ∷ h) (told_of (database_of (mark ∷ h)) now mark)
 told_of-well h l now (tabled (wrote (of_session who) t table key old new)) fine =
     told-well (tabled (wrote (of_session who) t table key old new) ∷ h) (next l fine) now who t (events_in (database_of (tabled (wrote (of_session who) t table key old new) ∷ h)) table old new) (writer-owns fine)
-    (events-queues (queues h) (write_in (database_of (tabled (wrote (of_session who) t table key old new) ∷ h)) table old new) (triggers_of table (triggers h)) (among-of (queues h) table (triggers h) (trigger-queues h l)))
+    (events-queues (queues h) (write_in (database_of (tabled (wrote (of_session who) t table key old new) ∷ h)) table old new) (triggers_of table (triggers h)) (All-filter (λ t. t.table == table) (λ t. IsAmong t.trigger.queue (queues h)) (triggers h) (trigger-queues h l)))
 told_of-well h l now _ fine = (done, refl)
 
 -- ---- marks of rows may come wherever the row part is the same
@@ -171,28 +148,19 @@ chain-alike h g same (mark ∷ marks) rows (more fine chain) =
 -- ---- what a statement does
 
 abbrev ChainOf : History → Checked (List Mark) → Type 0
-ChainOf h (Ok marks) = Chain h marks
-ChainOf h (Err refusal) = Unit {0}
+ChainOf h x = IfOk x (Chain h)
 
 -- marks may come with what is told of them
 with_told-well : (h : History) → Legal h → (now : ℤ) (marks : List Mark) → RowMarks marks → Chain h marks → ChainOf h (with_told (database_of h) now marks)
 with_told-well h l now [] rows chain = done
 with_told-well h l now (mark ∷ marks) rows (more fine chain) =
-    of (told_of (after_mark (database_of h) mark) now mark)
-    (subst (λ d. ToldWell (mark ∷ h) (told_of d now mark)) (database_of-mark h mark) (told_of-well h l now mark fine))
-    (λ g legal. with_told-well g legal now marks (each-rest is_of_rows mark marks rows))
-  where
-    joined : (told : List Mark) → Chain (mark ∷ h) told → (x : Checked (List Mark)) → ChainOf (marked (mark ∷ h) told) x → ChainOf h (x >>= (λ rest. Ok (mark ∷ told ++ rest)))
-    joined told well (Err refusal) also = tt
-    joined told well (Ok rest) also = more fine (good_append (mark ∷ h) told rest well also)
-
-    of : (x : Checked (List Mark)) → ToldWell (mark ∷ h) x → ((g : History) → Legal g → Chain g marks → ChainOf g (with_told (database_of g) now marks))
-        → ChainOf h (x >>= (λ told. with_told (after_marks (database_of h) (mark ∷ told)) now marks >>= (λ rest. Ok (mark ∷ told ++ rest))))
-    of (Err refusal) well ih = tt
-    of (Ok told) well ih =
-        joined told well.0 (with_told (after_marks (database_of h) (mark ∷ told)) now marks)
-        (subst (λ d. ChainOf (marked (mark ∷ h) told) (with_told d now marks)) (database_of-marks h (mark ∷ told))
-        (ih (marked (mark ∷ h) told) (legal_behind (mark ∷ h) told (next l fine) well.0) (chain-alike (mark ∷ h) (marked (mark ∷ h) told) (sym well.1) marks (each-rest is_of_rows mark marks rows) chain)))
+    ok-then (Chain h) (told_of (after_mark (database_of h) mark) now mark) _ (λ told same.
+    let well = IfOk-at_ok _ same (subst (λ d. ToldWell (mark ∷ h) (told_of d now mark)) (database_of-mark h mark) (told_of-well h l now mark fine)) in
+    let g : History = marked (mark ∷ h) told in
+    let rest_rows = each-rest is_of_rows mark marks rows in
+    ok-then (Chain h) (with_told (after_marks (database_of h) (mark ∷ told)) now marks) _ (λ rest is. more fine (good_append (mark ∷ h) told rest well.0
+    (IfOk-at_ok (Chain g) is (subst (λ d. ChainOf g (with_told d now marks)) (database_of-marks h (mark ∷ told))
+    (with_told-well g (legal_behind (mark ∷ h) told (next l fine) well.0) now marks rest_rows (chain-alike (mark ∷ h) g (sym well.1) marks rest_rows chain)))))))
 
 -- so what a statement on rows does may come where it might, once its writes are told of
 pub good_tells : (h : History) → Legal h → (now : ℤ) (who : ℕ) (c : Checked Outcome) → OfRows c → Good h who c → Good h who (tells (database_of h) now c)

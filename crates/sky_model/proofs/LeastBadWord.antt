@@ -11,10 +11,8 @@ use Rattle.sky_model.specs.Kinds.{Kind, Name, Dotted, Number, OptText, Raw, Valu
 use Rattle.sky_model.specs.Grammar.{Row, stop, literal, one, either, many, text_of, next, all_next, ended, all_ended, or_else, or_bad, goes_on, reads}
 
 -- some line that the rows read begins with these words
-pub record Begins (rows : List Row) (n : ℕ) (ws : List (List ℕ)) : Type 0 where
-  pub more : List (List ℕ)
-  pub stmt : Stmt
-  pub reads_it : reads rows n (ws ++ more) ≡ Ok stmt
+abbrev pub Begins : List Row → ℕ → List (List ℕ) → Type 0
+Begins rows n ws = (more : List (List ℕ)) × (stmt : Stmt) × (reads rows n (ws ++ more) ≡ Ok stmt)
 
 or_bad-err : (n m : ℕ) (stmt : Option Stmt) → or_bad n stmt ≡ Err m → m ≡ n
 or_bad-err n m None bad = cc
@@ -39,15 +37,15 @@ bad_within rows (w ∷ ws) n m bad =
 pub none_begins : (rows : List Row) (ws : List (List ℕ)) (n m j : ℕ) → m ≡ n + j → j < length ws → reads rows n ws ≡ Err m → Begins rows n (take (suc j) ws) → ⊥
 none_begins rows [] n m j at inside bad begins = absurd (omega arith)
 none_begins rows (w ∷ ws) n m zero at inside bad begins =
-    elim (all_next rows w) as (λ left. goes_on left n (λ l. reads l (n + 1) ws) ≡ Err m → goes_on left n (λ l. reads l (n + 1) begins.more) ≡ Ok begins.stmt → ⊥) [
+    elim (all_next rows w) as (λ left. goes_on left n (λ l. reads l (n + 1) ws) ≡ Err m → goes_on left n (λ l. reads l (n + 1) begins.0) ≡ Ok begins.1 → ⊥) [
       | [] ↦ λ e good. cc
       | row ∷ left ↦ λ e good. let later = bad_within (row ∷ left) ws (n + 1) m e in absurd (omega arith)
-    ] bad begins.reads_it
+    ] bad begins.2
 none_begins rows (w ∷ ws) n m (suc j) at inside bad begins =
-    elim (all_next rows w) as (λ left. goes_on left n (λ l. reads l (n + 1) ws) ≡ Err m → goes_on left n (λ l. reads l (n + 1) (take (suc j) ws ++ begins.more)) ≡ Ok begins.stmt → ⊥) [
+    elim (all_next rows w) as (λ left. goes_on left n (λ l. reads l (n + 1) ws) ≡ Err m → goes_on left n (λ l. reads l (n + 1) (take (suc j) ws ++ begins.0)) ≡ Ok begins.1 → ⊥) [
       | [] ↦ λ e good. cc
-      | row ∷ left ↦ λ e good. none_begins (row ∷ left) ws (n + 1) m j (omega arith) (omega arith) e (record { more = begins.more; stmt = begins.stmt; reads_it = good })
-    ] bad begins.reads_it
+      | row ∷ left ↦ λ e good. none_begins (row ∷ left) ws (n + 1) m j (omega arith) (omega arith) e (begins.0, begins.1, good)
+    ] bad begins.2
 
 -- a word of a kind
 record Sample (k : Kind) : Type 0 where
@@ -87,26 +85,14 @@ reads-many k f rows n (w ∷ ws) = reads-either (f []) (one k (λ v. many k (λ 
 
 -- each row has a line
 completes : (row : Row) (rows : List Row) (n : ℕ) → Begins (row ∷ rows) n []
-completes (stop stmt) rows n = record { more = []; stmt = stmt; reads_it = refl }
-completes (literal fixed row) rows n =
-    let rest = completes row (all_next rows (text_of fixed)) (n + 1) in
-    record { more = text_of fixed ∷ rest.more; stmt = rest.stmt; reads_it = rw (same_text fixed) rest.reads_it }
+completes (stop stmt) rows n = ([], stmt, refl)
+completes (literal fixed row) rows n = let rest = completes row (all_next rows (text_of fixed)) (n + 1) in (text_of fixed ∷ rest.0, rest.1, rw (same_text fixed) rest.2)
 completes (one k f) rows n =
     let s = sample k in
     let rest = completes (f s.worth) (all_next rows s.word) (n + 1) in
-    record { more = s.word ∷ rest.more; stmt = rest.stmt; reads_it = rw s.is rest.reads_it }
-completes (either a b) rows n =
-    let rest = completes a (b ∷ rows) n in
-    record { more = rest.more; stmt = rest.stmt; reads_it = reads-either a b rows n rest.more ∙ rest.reads_it }
-completes (many k f) rows n =
-    let rest = completes (f []) (one k (λ v. many k (λ vs. f (v ∷ vs))) ∷ rows) n in
-    record { more = rest.more; stmt = rest.stmt; reads_it = reads-many k f rows n rest.more ∙ rest.reads_it }
-
--- the same behind a word
-record BeginsBehind (left : List Row) (n : ℕ) (ws : List (List ℕ)) : Type 0 where
-  more : List (List ℕ)
-  stmt : Stmt
-  reads_it : goes_on left n (λ l. reads l (n + 1) (ws ++ more)) ≡ Ok stmt
+    (s.word ∷ rest.0, rest.1, rw s.is rest.2)
+completes (either a b) rows n = let rest = completes a (b ∷ rows) n in (rest.0, rest.1, reads-either a b rows n rest.0 ∙ rest.2)
+completes (many k f) rows n = let rest = completes (f []) (one k (λ v. many k (λ vs. f (v ∷ vs))) ∷ rows) n in (rest.0, rest.1, reads-many k f rows n rest.0 ∙ rest.2)
 
 -- the words before the bad one begin a line
 pub some_begins : (row : Row) (rows : List Row) (ws : List (List ℕ)) (n m j : ℕ) → m ≡ n + j → reads (row ∷ rows) n ws ≡ Err m → Begins (row ∷ rows) n (take j ws)
@@ -114,9 +100,7 @@ some_begins row rows ws n m zero at bad = completes row rows n
 some_begins row rows [] n m (suc j) at bad =
     let here = or_bad-err n m (all_ended (row ∷ rows)) bad in absurd (omega arith)
 some_begins row rows (w ∷ ws) n m (suc j) at bad =
-    let behind = elim (all_next (row ∷ rows) w) as (λ left. goes_on left n (λ l. reads l (n + 1) ws) ≡ Err m → BeginsBehind left n (take j ws)) [
+    elim (all_next (row ∷ rows) w) as (λ left. goes_on left n (λ l. reads l (n + 1) ws) ≡ Err m → (more : List (List ℕ)) × (stmt : Stmt) × (goes_on left n (λ l. reads l (n + 1) (take j ws ++ more)) ≡ Ok stmt)) [
       | [] ↦ λ e. let here : m ≡ n = cc in absurd (omega arith)
-      | r ∷ left ↦ λ e. let rest = some_begins r left ws (n + 1) m j (omega arith) e in record { more = rest.more; stmt = rest.stmt; reads_it = rest.reads_it }
-    ] in
-    let found = behind bad in
-    record { more = found.more; stmt = found.stmt; reads_it = found.reads_it }
+      | r ∷ left ↦ λ e. some_begins r left ws (n + 1) m j (omega arith) e
+    ] bad

@@ -6,6 +6,7 @@ pub mod WorkedScripts
 mod WorkedOpening
 mod WorkedRows
 mod WorkedBatches
+pub mod Cases
 pub mod FirstWords
 pub mod NameLemmas
 pub mod LeastBadWord

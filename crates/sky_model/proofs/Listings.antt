@@ -1,12 +1,11 @@
 -- What a batch lists doesn't change once its closing tick is made: an event that is put later is of a
 -- transaction that runs, so it hadn't committed at that tick, and a tick that is made stays.
-use Rattle.std.proofs.Common.{◌≡◌, ℕ, ◌+◌, ◌<◌, ◌≤◌, List, [], ◌∷◌, ◌++◌, Bool, true, false, not, ◌&&◌, ◌==◌, Some, filter, refl, ◌∙◌, ap, subst, arith, append-nil, if◌then◌else◌}
-use Rattle.std.proofs.lemmas.Bool.{or_right}
-use Rattle.std.proofs.lemmas.Bool.Decides.{nat_tests}
+use Rattle.std.proofs.Common.{◌≡◌, ℕ, ◌+◌, ◌<◌, ◌≤◌, List, [], ◌∷◌, ◌++◌, Bool, true, false, not, ◌&&◌, ◌==◌, Some, filter, refl, sym, ◌∙◌, ap, subst, arith, append-nil, if◌then◌else◌}
+use Rattle.std.proofs.lemmas.Bool.{or_right, false_from_ne_true, eqb-true, cond_both}
 use Rattle.std.proofs.lemmas.List.Elements.{filter-append}
 use Rattle.sky_val.specs.declared.event.Event.{Event}
 use Rattle.sky_model.specs.History.{Batch, Mark, queued, ticked, History}
-use Rattle.sky_model.specs.Transactions.{has_ended, has_committed, has_rolled_back}
+use Rattle.sky_model.specs.Transactions.{has_committed, has_rolled_back}
 use Rattle.sky_model.specs.Sessions.{own_txid}
 use Rattle.sky_model.specs.Queues.{events, ticks, newest_tick, at_tick}
 use Rattle.sky_model.specs.Batches.{by_id, is_for, batch_events}
@@ -17,6 +16,7 @@ use Rattle.sky_model.proofs.Snapshots.{own-unended, has_committed-ended}
 use Rattle.sky_model.proofs.SnapshotLaws.{legal-below_mark, fine_mark, legal-below, legal_place}
 use Rattle.sky_model.proofs.TickOrder.{is_made, unmade_above, committed_since}
 use Rattle.sky_model.proofs.ActiveBatches.{IsActive, active_batches}
+use Rattle.sky_model.proofs.Cases.{by_same}
 
 -- a tick that is made stays
 made_since : (q id : ℕ) (later : List Mark) (p : History) → is_made q id p ≡ true → is_made q id (later ++ p) ≡ true
@@ -25,38 +25,28 @@ made_since q id (queued (ticked r m time seq) ∷ later) p made = or_right (r ==
 made_since q id (_ ∷ later) p made = made_since q id later p made
 
 -- the transaction of a session hadn't committed at a tick
-own-uncommitted : (h : History) → Legal h → (who t : ℕ) → own_txid who h ≡ Some t → (q id : ℕ) (b : Bool) → has_committed (at_tick q id h) t ≡ b → b ≡ false
-own-uncommitted h l who t mine q id true was =
-    let open_still : has_ended h t ≡ false = own-unended h l who t mine in
-    let over : has_committed h t ≡ true = committed_since h q id t was in
-    let none : has_committed h t ≡ false = has_committed-ended h l t ∙ ap (λ e. e && not (has_rolled_back h t)) open_still in
-    absurd (cc)
-own-uncommitted h l who t mine q id false was = refl
+own-uncommitted : (h : History) → Legal h → (who t : ℕ) → own_txid who h ≡ Some t → (q id : ℕ) → has_committed (at_tick q id h) t ≡ false
+own-uncommitted h l who t mine q id = false_from_ne_true (has_committed (at_tick q id h) t) (λ was.
+    cc (sym (committed_since h q id t was) ∙ has_committed-ended h l t ∙ ap (λ e. e && not (has_rolled_back h t)) (own-unended h l who t mine)))
 
 -- a new tick has another id than the ticks up to one that is made
-new_tick : (h : History) → Legal h → (q made id new : ℕ) → is_made q made h ≡ true → id ≤ made → id_of (newest_tick (ticks q h)) < new
-    → (b : Bool) → (new == id) ≡ b → b ≡ false
-new_tick h l q made id new there le above true test =
-    let same : new ≡ id = grind (arith, nat_tests) in
-    let not_yet : is_made q made h ≡ false = unmade_above h l q made (omega arith) in
-    absurd (cc)
-new_tick h l q made id new there le above false test = refl
+new_tick : (h : History) → Legal h → (q made id new : ℕ) → is_made q made h ≡ true → id ≤ made → id_of (newest_tick (ticks q h)) < new → (new == id) ≡ false
+new_tick h l q made id new there le above = false_from_ne_true (new == id) (λ test.
+    let same : new ≡ id = eqb-true new id test in cc (sym there ∙ unmade_above h l q made (omega arith)))
 
 -- with one more mark a batch whose closing tick is made lists the same
 same_listing : (h : History) (mark : Mark) → Legal h → Fine h mark → (b : Batch) → b.prev ≤ b.cur → is_made b.queue b.cur h ≡ true
     → batch_events (mark ∷ h) b ≡ batch_events h b
-same_listing h _ l (puts who q e i s mine newest) b le made = of (q == b.queue)
+same_listing h _ l (puts who q e i s mine newest) b le made =
+    cond_both (q == b.queue) (events b.queue h ++ e ∷ []) (events b.queue h) (λ es. by_id (filter (stands_in h b) es) ≡ batch_events h b)
+    (λ _. ap by_id (filter-append (stands_in h b) (events b.queue h) (e ∷ [])
+    ∙ ap (λ c. filter (stands_in h b) (events b.queue h) ++ (if c then e ∷ [] else [])) out
+    ∙ append-nil (filter (stands_in h b) (events b.queue h)))) (λ _. refl)
   where
     out : stands_in h b e ≡ false
     out = ap (λ c. c && not (has_committed (at_tick b.queue b.prev h) e.ev_txid) && is_for b.sub e.ev_owner)
-        (own-uncommitted h l who e.ev_txid mine b.queue b.cur (has_committed (at_tick b.queue b.cur h) e.ev_txid) refl)
-
-    of : (x : Bool) → by_id (filter (stands_in h b) (if x then events b.queue h ++ e ∷ [] else events b.queue h)) ≡ batch_events h b
-    of true = ap by_id (filter-append (stands_in h b) (events b.queue h) (e ∷ [])
-        ∙ ap (λ c. filter (stands_in h b) (events b.queue h) ++ (if c then e ∷ [] else [])) out
-        ∙ append-nil (filter (stands_in h b) (events b.queue h)))
-    of false = refl
-same_listing h _ l (ticks_next q m time seq i above) b le made = of (q == b.queue) refl
+        (own-uncommitted h l who e.ev_txid mine b.queue b.cur)
+same_listing h _ l (ticks_next q m time seq i above) b le made = by_same (λ x. lists (x && m == b.cur) (x && m == b.prev) ≡ lists false false) q b.queue there (λ _. refl)
   where
     lists : (to from : Bool) → List Event
     lists to from =
@@ -65,12 +55,10 @@ same_listing h _ l (ticks_next q m time seq i above) b le made = of (q == b.queu
         && is_for b.sub e.ev_owner)
         (events b.queue h))
 
-    of : (x : Bool) → (q == b.queue) ≡ x → lists (x && m == b.cur) (x && m == b.prev) ≡ lists false false
-    of true test =
-        let same : q ≡ b.queue = grind (arith, nat_tests) in
+    there : q ≡ b.queue → lists (m == b.cur) (m == b.prev) ≡ lists false false
+    there same =
         let newer : id_of (newest_tick (ticks b.queue h)) < m = subst (λ n. id_of (newest_tick (ticks n h)) < m) same above in
-        λ i. lists (new_tick h l b.queue b.cur b.cur m made (omega arith) newer (m == b.cur) refl i) (new_tick h l b.queue b.cur b.prev m made le newer (m == b.prev) refl i)
-    of false test = refl
+        λ i. lists (new_tick h l b.queue b.cur b.cur m made (omega arith) newer i) (new_tick h l b.queue b.cur b.prev m made le newer i)
 same_listing h _ l _ b le made = refl
 
 same_listings : (later : List Mark) (p : History) → Legal (later ++ p) → (b : Batch) → b.prev ≤ b.cur → is_made b.queue b.cur p ≡ true

@@ -1,5 +1,5 @@
 -- The laws on locks and waits.
-use Rattle.std.proofs.Common.{◌≡◌, ℕ, ℤ, List, [], ◌∷◌, length, Bool, true, false, Option, Some, None, Ok, Err, option_map, refl, sym, ◌∙◌, ap, subst}
+use Rattle.std.proofs.Common.{◌≡◌, ℕ, ℤ, List, [], ◌∷◌, length, Bool, true, false, Option, Some, None, Ok, Err, option_map, refl, sym, ◌∙◌, ap, subst, arith}
 use Rattle.sky_val.specs.declared.val.Val.{Val}
 use Rattle.sky_keys.specs.Waits.{is_waiting, waits_for, LeadsBack, way_back}
 use Rattle.sky_keys.proofs.WaitLemmas.{leads_back, way_found}
@@ -32,11 +32,7 @@ holders_have_written p is table key who = (holder-written p (legal_place p is) t
 
 -- a wait is refused with the ring that it would close
 refused-ring : (d : RowPart) (who table : ℕ) (key : List Val) (attempt : Attempt) (other : ℕ) (sessions : List ℕ) → blocked d who table key attempt other ≡ Err (Deadlock sessions) → ring d who other ≡ Some sessions
-refused-ring d who table key attempt other sessions refused = of (ring d who other) refused
-  where
-    of : (o : Option (List ℕ)) → (refused_by (option_map Deadlock o) >> does_marks (Waits other) (tabled (waits who table key attempt) ∷ [])) ≡ Err (Deadlock sessions) → o ≡ Some sessions
-    of None e = absurd (cc)
-    of (Some found) e = cc
+refused-ring d who table key attempt other sessions refused = grind arith
 
 ring-refused : (d : RowPart) (who table : ℕ) (key : List Val) (attempt : Attempt) (other : ℕ) (sessions : List ℕ) → ring d who other ≡ Some sessions → blocked d who table key attempt other ≡ Err (Deadlock sessions)
 ring-refused d who table key attempt other sessions is = ap (λ o. refused_by (option_map Deadlock o) >> does_marks (Waits other) (tabled (waits who table key attempt) ∷ [])) is

@@ -1,5 +1,5 @@
 -- What a database and the world show changes by marks and facts alone.
-use Rattle.std.proofs.Common.{◌≡◌, ℕ, ◌+◌, List, [], ◌∷◌, ◌++◌, Bool, true, false, not, ◌&&◌, ◌||◌, ◌==◌, filter, Option, Some, None, refl, sym, ◌∙◌, ap, bytes_eq, option_map, if◌then◌else◌}
+use Rattle.std.proofs.Common.{◌≡◌, ℕ, ◌+◌, List, [], ◌∷◌, ◌++◌, Bool, true, false, not, ◌&&◌, ◌||◌, ◌==◌, filter, Option, Some, None, refl, ◌∙◌, ap, bytes_eq, option_map, if◌then◌else◌}
 use Rattle.sky_keys.specs.Waits.{released}
 use Rattle.sky_keys.specs.Versions.{forgotten}
 use Rattle.sky_model.specs.History.{Mark, of_session, of_worker, began, ended, block_begun, repeats, looked, block_failed, block_ended, connected, disconnected, tabled, wrote, queued, QueueMark, made, raised, put, ticked, registered, opened, closed, traced, History, Fact, appeared, founded, entered, left, within, Past}
@@ -7,7 +7,7 @@ use Rattle.sky_model.specs.Consumers.{Subscription, subscription_id, position, a
 use Rattle.sky_model.specs.Transactions.{next_txid, running, has_rolled_back, snapshot}
 use Rattle.sky_model.specs.Sessions.{outside, inside, failed, at_each, at_first, at_place, sight, sight_by, session}
 use Rattle.sky_model.specs.Versions.{versions}
-use Rattle.sky_model.specs.State.{Queue, queue_of, part_of, database_of, changed_at, changed_for, with_batch, at_position, after_queue_mark, after_part, after_mark, after_marks}
+use Rattle.sky_model.specs.State.{queue_of, part_of, database_of, changed_at, changed_for, with_batch, at_position, after_queue_mark, after_part, after_mark, after_marks}
 use Rattle.sky_model.specs.Settling.{marked}
 use Rattle.sky_model.specs.World.{world_of, history_in, after_fact, after_facts, on_top}
 
@@ -20,59 +20,19 @@ by_case false f = refl
 abbrev sub_of : Option ℕ → ℕ → Option ℕ → Option Subscription
 sub_of id position active = option_map (λ n. record { id = n; position = position; active = active }) id
 
-registers : (c : Bool) (id : Option ℕ) (position : ℕ) (active : Option ℕ) (sub tick : ℕ)
-    → sub_of (if c then Some sub else id) (if c then tick else position) (if c then None else active)
-    ≡ (if c then Some (record { id = sub; position = tick; active = None }) else sub_of id position active)
-registers true id position active sub tick = refl
-registers false id position active sub tick = refl
+-- what is read of each name is changed for one of them
+changed_sub : (b : Bool) (name : List ℕ) (sub : Bool → List ℕ → Option Subscription) (change : Option Subscription → Option Subscription) → ((n : List ℕ) → sub true n ≡ change (sub false n))
+    → (λ n. sub (b && bytes_eq n name) n) ≡ (if b then changed_for name change (sub false) else sub false)
+changed_sub true name sub change same = λ i n. (by_case (bytes_eq n name) (λ c. sub c n) ∙ ap (λ s. if bytes_eq n name then s else sub false n) (same n)) i
+changed_sub false name sub change same = refl
 
-registered_at : (b : Bool) (x : Queue) (name : List ℕ) (id : List ℕ → Option ℕ) (position : List ℕ → ℕ) (active : List ℕ → Option ℕ) (sub tick : ℕ)
-    → x.sub ≡ (λ n. sub_of (id n) (position n) (active n))
-    → record x {
-      members = if b then x.members ++ name ∷ [] else x.members;
-      sub = λ n. sub_of (if b && bytes_eq n name then Some sub else id n) (if b && bytes_eq n name then tick else position n) (if b && bytes_eq n name then None else active n);
-    } ≡ (if b then record x {
-      members = x.members ++ name ∷ [];
-      sub = changed_for name (λ _. Some (record { id = sub; position = tick; active = None })) x.sub;
-    } else x)
-registered_at true x name id position active sub tick e = λ i. record x {
-  members = x.members ++ name ∷ [];
-  sub = ((λ j n. registers (bytes_eq n name) (id n) (position n) (active n) sub tick j)
-      ∙ ap (changed_for name (λ _. Some (record { id = sub; position = tick; active = None }))) (sym e)) i;
-}
-registered_at false x name id position active sub tick e = λ i. record x { sub = sym e i }
+opens : (id : Option ℕ) (position : ℕ) (active : Option ℕ) (batch : ℕ) → sub_of id position (Some batch) ≡ option_map (with_batch batch) (sub_of id position active)
+opens None position active batch = refl
+opens (Some id) position active batch = refl
 
-opens : (c : Bool) (id : Option ℕ) (position : ℕ) (active : Option ℕ) (batch : ℕ)
-    → sub_of id position (if c then Some batch else active) ≡ (if c then option_map (with_batch batch) (sub_of id position active) else sub_of id position active)
-opens true None position active batch = refl
-opens true (Some id) position active batch = refl
-opens false id position active batch = refl
-
-opened_at : (b : Bool) (x : Queue) (name : List ℕ) (id : List ℕ → Option ℕ) (position : List ℕ → ℕ) (active : List ℕ → Option ℕ) (batch : ℕ)
-    → x.sub ≡ (λ n. sub_of (id n) (position n) (active n))
-    → record x { sub = λ n. sub_of (id n) (position n) (if b && bytes_eq n name then Some batch else active n) }
-    ≡ (if b then record x { sub = changed_for name (option_map (with_batch batch)) x.sub } else x)
-opened_at true x name id position active batch e = λ i. record x {
-  sub = ((λ j n. opens (bytes_eq n name) (id n) (position n) (active n) batch j)
-      ∙ ap (changed_for name (option_map (with_batch batch))) (sym e)) i;
-}
-opened_at false x name id position active batch e = λ i. record x { sub = sym e i }
-
-closes : (c : Bool) (id : Option ℕ) (position : ℕ) (active : Option ℕ) (tick : ℕ)
-    → sub_of id (if c then tick else position) (if c then None else active) ≡ (if c then option_map (at_position tick) (sub_of id position active) else sub_of id position active)
-closes true None position active tick = refl
-closes true (Some id) position active tick = refl
-closes false id position active tick = refl
-
-closed_at : (b : Bool) (x : Queue) (name : List ℕ) (id : List ℕ → Option ℕ) (position : List ℕ → ℕ) (active : List ℕ → Option ℕ) (tick : ℕ)
-    → x.sub ≡ (λ n. sub_of (id n) (position n) (active n))
-    → record x { sub = λ n. sub_of (id n) (if b && bytes_eq n name then tick else position n) (if b && bytes_eq n name then None else active n) }
-    ≡ (if b then record x { sub = changed_for name (option_map (at_position tick)) x.sub } else x)
-closed_at true x name id position active tick e = λ i. record x {
-  sub = ((λ j n. closes (bytes_eq n name) (id n) (position n) (active n) tick j)
-      ∙ ap (changed_for name (option_map (at_position tick))) (sym e)) i;
-}
-closed_at false x name id position active tick e = λ i. record x { sub = sym e i }
+closes : (id : Option ℕ) (position : ℕ) (active : Option ℕ) (tick : ℕ) → sub_of id tick None ≡ option_map (at_position tick) (sub_of id position active)
+closes None position active tick = refl
+closes (Some id) position active tick = refl
 
 pub database_of-queue_mark : (h : History) (mark : QueueMark) → database_of (queued mark ∷ h) ≡ after_queue_mark (database_of h) mark
 database_of-queue_mark h (made name) = refl
@@ -85,16 +45,30 @@ database_of-queue_mark h (ticked q id time seq) = λ i. record (database_of h) {
 }
 database_of-queue_mark h (registered q name sub tick) = λ i. record (database_of h) {
   last_sub_id = sub;
-  queue = λ n. registered_at (q == n) (queue_of h n) name (λ c. subscription_id n c h) (λ c. position n c h) (λ c. active n c h) sub tick refl i;
+  queue = λ n. (ap (λ s. record (queue_of h n) { members = if q == n then (queue_of h n).members ++ name ∷ [] else (queue_of h n).members; sub = s })
+      (changed_sub (q == n) name (λ b c. sub_of (if b then Some sub else subscription_id n c h) (if b then tick else position n c h) (if b then None else active n c h)) (new sub tick) (λ c. refl))
+      ∙ by_case (q == n) (λ b. record (queue_of h n) {
+        members = if b then (queue_of h n).members ++ name ∷ [] else (queue_of h n).members;
+        sub = if b then changed_for name (new sub tick) (queue_of h n).sub else (queue_of h n).sub;
+      })) i;
 }
+  where
+    new : ℕ → ℕ → Option Subscription → Option Subscription
+    new id tick _ = Some (record { id = id; position = tick; active = None })
 database_of-queue_mark h (opened b) = λ i. record (database_of h) {
   last_batch_id = b.id;
   batch = changed_at b.id (λ _. Some b) (database_of h).batch;
-  queue = λ n. opened_at (b.queue == n) (queue_of h n) b.consumer (λ c. subscription_id n c h) (λ c. position n c h) (λ c. active n c h) b.id refl i;
+  queue = λ n. (ap (λ s. record (queue_of h n) { sub = s })
+      (changed_sub (b.queue == n) b.consumer (λ c m. sub_of (subscription_id n m h) (position n m h) (if c then Some b.id else active n m h)) (option_map (with_batch b.id))
+      (λ m. opens (subscription_id n m h) (position n m h) (active n m h) b.id))
+      ∙ by_case (b.queue == n) (λ c. record (queue_of h n) { sub = if c then changed_for b.consumer (option_map (with_batch b.id)) (queue_of h n).sub else (queue_of h n).sub })) i;
 }
 database_of-queue_mark h (closed b) = λ i. record (database_of h) {
   batch = changed_at b.id (λ _. None) (database_of h).batch;
-  queue = λ n. closed_at (b.queue == n) (queue_of h n) b.consumer (λ c. subscription_id n c h) (λ c. position n c h) (λ c. active n c h) b.cur refl i;
+  queue = λ n. (ap (λ s. record (queue_of h n) { sub = s })
+      (changed_sub (b.queue == n) b.consumer (λ c m. sub_of (subscription_id n m h) (if c then b.cur else position n m h) (if c then None else active n m h)) (option_map (at_position b.cur))
+      (λ m. closes (subscription_id n m h) (position n m h) (active n m h) b.cur))
+      ∙ by_case (b.queue == n) (λ c. record (queue_of h n) { sub = if c then changed_for b.consumer (option_map (at_position b.cur)) (queue_of h n).sub else (queue_of h n).sub })) i;
 }
 database_of-queue_mark h (traced table name trigger) = refl
 

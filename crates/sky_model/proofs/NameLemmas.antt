@@ -1,6 +1,6 @@
 -- What names are made of.
-use Rattle.std.proofs.Common.{◌≡◌, ℕ, ◌+◌, ◌==◌, true, List, [], ◌∷◌, ◌++◌, take, drop, get_or, Some, refl, sym, ap, ◌∙◌}
-use Rattle.std.proofs.lemmas.Bool.{and_parts, and_from, eqb-true}
+use Rattle.std.proofs.Common.{◌≡◌, ℕ, ◌+◌, ◌==◌, true, List, [], ◌∷◌, ◌++◌, take, drop, get_or, Some, refl, sym, ap, ◌∙◌, arith}
+use Rattle.std.proofs.lemmas.Bool.{eqb-true}
 use Rattle.std.proofs.lemmas.List.{drop_more, take-append-drop}
 use Rattle.std.proofs.lemmas.List.Quantifiers.{position-Some}
 use Rattle.std.specs.List.{list_all}
@@ -12,9 +12,7 @@ begins_name-continues b so = rw so refl
 -- every byte of a name may stand further on in one
 pub list_all-is_identifier : (w : List ℕ) → is_identifier w ≡ true → list_all continues_name w ≡ true
 list_all-is_identifier [] so = refl
-list_all-is_identifier (b ∷ bs) so =
-    let parts = and_parts (begins_name b) (list_all continues_name bs) so in
-    and_from (continues_name b) (list_all continues_name bs) (begins_name-continues b parts.0) parts.1
+list_all-is_identifier (b ∷ bs) so = grind (arith, begins_name-continues b)
 
 -- what stands around the first byte of this kind, and that byte, are the word
 pub around_first : (mark : ℕ) (w : List ℕ) (at : ℕ) → first_place mark w ≡ Some at → take at w ++ (mark ∷ drop (at + 1) w) ≡ w

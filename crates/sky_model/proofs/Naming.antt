@@ -1,6 +1,5 @@
 -- Answers whose sessions, and those that they speak of, have names.
-use Rattle.std.proofs.Common.{◌≡◌, ℕ, zero, suc, true, ◌<◌, List, [], ◌∷◌, ◌++◌, map, length, unwrap_or, refl, ap, ◌∙◌, arith, codes}
-use Rattle.std.specs.List.{All, slice_get, flat_map}
+use Rattle.std.proofs.Common.{◌≡◌, ℕ, zero, suc, true, ◌<◌, List, [], ◌∷◌, ◌++◌, map, length, unwrap_or, refl, ap, ◌∙◌, arith, codes, All, slice_get, flat_map}
 use Rattle.sky_model.specs.declared.reply.Reply.{Reply}
 use Rattle.sky_model.specs.declared.reply.Reply.TheVariants as reply
 use Rattle.sky_model.specs.declared.reply.Refusal.TheVariants as refusal

@@ -1,18 +1,18 @@
 -- Events by id: their ids don't fall, and those with equal ids stay as they stood.
-use Rattle.std.proofs.Common.{◌≡◌, ℕ, ◌<◌, ◌≤◌, List, [], ◌∷◌, ◌++◌, Bool, true, false, ◌==◌, nat_lt, refl, sym, ◌∙◌, ap, arith, append-nil, append_assoc, if◌then◌else◌}
+use Rattle.std.proofs.Common.{◌≡◌, ℕ, ◌<◌, ◌≤◌, List, [], ◌∷◌, ◌++◌, false, ◌==◌, nat_lt, refl, sym, ◌∙◌, ap, arith, append-nil, append_assoc, if◌then◌else◌}
 use Rattle.std.proofs.lemmas.Bool.Decides.{nat_tests}
 use Rattle.sky_val.specs.declared.event.Event.{Event}
 use Rattle.sky_model.specs.Batches.{with_event, by_id_onto, by_id}
 use Rattle.sky_model.specs.LawsOfBatches.{InOrder, with_id, IdsDontFall, EqualIdsStay}
 use Rattle.sky_model.proofs.Selecting.{Ordered}
+use Rattle.std.proofs.lemmas.Bool.{cond_both}
+use Rattle.sky_model.proofs.Cases.{by_test}
 
 Ordered-with_event : (low : ℕ) (e : Event) (es : List Event) → low ≤ e.ev_id → Ordered low es → Ordered low (with_event e es)
 Ordered-with_event low e [] le o = (le, tt)
-Ordered-with_event low e (x ∷ xs) le o = of (nat_lt e.ev_id x.ev_id) refl (λ more. Ordered-with_event x.ev_id e xs more o.1)
-  where
-    of : (b : Bool) → nat_lt e.ev_id x.ev_id ≡ b → (x.ev_id ≤ e.ev_id → Ordered x.ev_id (with_event e xs)) → Ordered low (if b then e ∷ x ∷ xs else x ∷ with_event e xs)
-    of true test ih = (le, ((grind (arith, nat_tests)), o.1))
-    of false test ih = (o.0, ih (grind (arith, nat_tests)))
+Ordered-with_event low e (x ∷ xs) le o =
+    cond_both (nat_lt e.ev_id x.ev_id) (e ∷ x ∷ xs) (x ∷ with_event e xs) (Ordered low) (λ test. (le, ((grind (arith, nat_tests)), o.1)))
+    (λ test. (o.0, Ordered-with_event x.ev_id e xs (grind (arith, nat_tests)) o.1))
 
 Ordered-by_id_onto : (sorted es : List Event) → Ordered 0 sorted → Ordered 0 (by_id_onto sorted es)
 Ordered-by_id_onto sorted [] o = o
@@ -37,25 +37,13 @@ with_id-below id low (e ∷ es) less o =
 -- an event goes behind those with its id
 with_id-with_event : (id low : ℕ) (e : Event) (es : List Event) → Ordered low es → with_id id (with_event e es) ≡ with_id id es ++ with_id id (e ∷ [])
 with_id-with_event id low e [] o = refl
-with_id-with_event id low e (x ∷ xs) o = of (nat_lt e.ev_id x.ev_id) refl (with_id-with_event id x.ev_id e xs o.1)
-  where
-    first : (b : Bool) → (e.ev_id == id) ≡ b → e.ev_id < x.ev_id
-        → (if b then e ∷ with_id id (x ∷ xs) else with_id id (x ∷ xs)) ≡ with_id id (x ∷ xs) ++ (if b then e ∷ [] else [])
-    first true test less =
-        let none : with_id id (x ∷ xs) ≡ [] = with_id-below id x.ev_id (x ∷ xs) (grind (arith, nat_tests)) ((omega arith), o.1) in
-        rw none refl
-    first false test less = sym (append-nil (with_id id (x ∷ xs)))
-
-    later : (b : Bool) → with_id id (with_event e xs) ≡ with_id id xs ++ with_id id (e ∷ [])
-        → (if b then x ∷ with_id id (with_event e xs) else with_id id (with_event e xs))
-        ≡ (if b then x ∷ with_id id xs else with_id id xs) ++ with_id id (e ∷ [])
-    later true ih = ap (λ es. x ∷ es) ih
-    later false ih = ih
-
-    of : (b : Bool) → nat_lt e.ev_id x.ev_id ≡ b → with_id id (with_event e xs) ≡ with_id id xs ++ with_id id (e ∷ [])
-        → with_id id (if b then e ∷ x ∷ xs else x ∷ with_event e xs) ≡ with_id id (x ∷ xs) ++ with_id id (e ∷ [])
-    of true test ih = first (e.ev_id == id) refl (grind (arith, nat_tests))
-    of false test ih = later (x.ev_id == id) ih
+with_id-with_event id low e (x ∷ xs) o =
+    let ih = with_id-with_event id x.ev_id e xs o.1 in
+    cond_both (nat_lt e.ev_id x.ev_id) (e ∷ x ∷ xs) (x ∷ with_event e xs) (λ es. with_id id es ≡ with_id id (x ∷ xs) ++ with_id id (e ∷ []))
+    (λ less. by_test (λ b. (if b then e ∷ with_id id (x ∷ xs) else with_id id (x ∷ xs)) ≡ with_id id (x ∷ xs) ++ (if b then e ∷ [] else [])) (e.ev_id == id)
+    (λ test. let none : with_id id (x ∷ xs) ≡ [] = with_id-below id x.ev_id (x ∷ xs) (grind (arith, nat_tests)) ((omega arith), o.1) in rw none refl) (λ _. sym (append-nil (with_id id (x ∷ xs)))))
+    (λ _. by_test (λ b. (if b then x ∷ with_id id (with_event e xs) else with_id id (with_event e xs)) ≡ (if b then x ∷ with_id id xs else with_id id xs) ++ with_id id (e ∷ [])) (x.ev_id == id)
+    (λ _. ap (λ es. x ∷ es) ih) (λ _. ih))
 
 with_id-first : (id : ℕ) (e : Event) (es : List Event) → with_id id (e ∷ []) ++ with_id id es ≡ with_id id (e ∷ es)
 with_id-first id e es = grind arith

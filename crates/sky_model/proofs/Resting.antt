@@ -1,8 +1,6 @@
 -- When those that a statement lets go on have been run, none is ready, and no more are run than wait.
-use Rattle.std.proofs.Common.{◌≡◌, ℕ, zero, suc, ◌<◌, ◌≤◌, Bool, true, false, ◌==◌, List, [], ◌∷◌, ◌++◌, Option, Some, None, length, is_some, refl, sym, ◌∙◌, ap, subst, arith, if◌then◌else◌}
-use Rattle.std.proofs.lemmas.Bool.{or_right}
-use Rattle.std.specs.Prelude.{is_none, ◌&&◌, ◌||◌}
-use Rattle.std.proofs.lemmas.Bool.Decides.{nat_tests}
+use Rattle.std.proofs.Common.{◌≡◌, ℕ, zero, suc, ◌<◌, ◌≤◌, Bool, true, false, ◌==◌, List, [], ◌∷◌, ◌++◌, Option, Some, None, length, is_some, refl, sym, ◌∙◌, ap, subst, arith, if◌then◌else◌, is_none, ◌&&◌, ◌||◌}
+use Rattle.std.proofs.lemmas.Bool.{or_right, eq-eqb}
 use Rattle.sky_val.specs.declared.val.Val.{Val}
 use Rattle.sky_keys.specs.Waits as waits
 use Rattle.sky_keys.specs.Waits.{Holders, other_than, other_holder, Waiting, is_waiting, without}
@@ -18,6 +16,7 @@ use Rattle.sky_model.specs.Gates.{Gate, by_gate}
 use Rattle.sky_model.specs.Settling.{Turn, rests, behind_marks, joined, and_then, ready, attempted, resumed, goes_on, settles, settling}
 use Rattle.sky_model.specs.Printed.{ReplyHasMoments}
 use Rattle.sky_model.proofs.StatementMarks.{EachMark, Gives, gives-map, Kinds, no_more, may_leave, attempt_kinds, gives-attempts, gives-gated, given-settled}
+use Rattle.sky_model.proofs.Cases.{by_test}
 
 abbrev pub is_quiet : Mark → Bool
 is_quiet (tabled (waits_mark who table key attempt)) = false
@@ -58,21 +57,14 @@ pub record IsReady (d : RowPart) (w : Waiting) : Type 0 where
 
 ready-found : (holder : Holders) (ws : List Waiting) (w : Waiting) → waits.ready holder ws ≡ Some w → (is_waiting w.who ws ≡ true) × (holder w.table w.key ≡ None)
 ready-found holder [] w e = absurd (cc)
-ready-found holder (x ∷ ws) w e = of (is_none (holder x.table x.key)) refl e (ready-found holder ws w)
+ready-found holder (x ∷ ws) w e =
+    by_test (λ b. (if b then Some x else waits.ready holder ws) ≡ Some w → (is_waiting w.who (x ∷ ws) ≡ true) × (holder w.table w.key ≡ None)) (is_none (holder x.table x.key))
+    (λ is e. let one : x ≡ w = cc in subst (λ (y : Waiting). (is_waiting y.who (x ∷ ws) ≡ true) × (holder y.table y.key ≡ None)) one (ap (λ b. b || is_waiting x.who ws) (eq-eqb x.who x.who refl), none (holder x.table x.key) is))
+    (λ _ e. let found = ready-found holder ws w e in (or_right (x.who == w.who) (is_waiting w.who ws) found.0, found.1)) e
   where
     none : (o : Option ℕ) → is_none o ≡ true → o ≡ None
     none None e = refl
     none (Some v) e = absurd (cc)
-
-    of : (b : Bool) → is_none (holder x.table x.key) ≡ b → (if b then Some x else waits.ready holder ws) ≡ Some w
-        → (waits.ready holder ws ≡ Some w → (is_waiting w.who ws ≡ true) × (holder w.table w.key ≡ None))
-        → (((x.who == w.who) || is_waiting w.who ws) ≡ true) × (holder w.table w.key ≡ None)
-    of true is e ih =
-        let one : x ≡ w = cc in
-        let who_is : x.who ≡ w.who = ap Waiting.who one in
-        let same : (x.who == w.who) ≡ true = grind (arith, nat_tests) in
-        (ap (λ b. b || is_waiting w.who ws) same, (λ i. holder (sym one i).table (sym one i).key) ∙ none (holder x.table x.key) is)
-    of false is e ih = let found : (is_waiting w.who ws ≡ true) × (holder w.table w.key ≡ None) = ih e in (or_right (x.who == w.who) (is_waiting w.who ws) found.0, found.1)
 
 pub is-ready : (d : RowPart) (w : Waiting) → ready d ≡ Some w → IsReady d w
 is-ready d w e = let found : (is_waiting w.who d.waiting ≡ true) × (d.holder w.table w.key ≡ None) = ready-found d.holder d.waiting w e in record { there = found.0; free = found.1 }

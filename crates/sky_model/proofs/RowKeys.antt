@@ -1,27 +1,21 @@
 -- What the versions of a key say of its rows, at each place of a legal history.
-use Rattle.std.proofs.Common.{◌≡◌, ℕ, ◌<◌, ◌≤◌, Bool, true, false, not, [], ◌∷◌, ◌++◌, refl, sym, ◌∙◌, arith, if◌then◌else◌}
+use Rattle.std.proofs.Common.{◌≡◌, ℕ, ◌≤◌, true, false, [], ◌∷◌, refl, sym, ◌∙◌, arith, ◌||◌, ◌==◌}
 use Rattle.std.proofs.lemmas.Bool.{or_right}
-use Rattle.std.specs.Prelude.{◌||◌, ◌&&◌, ◌==◌, nat_lt}
 use Rattle.std.proofs.lemmas.Bool.Decides.{nat_tests}
 use Rattle.sky_val.specs.Entries.{is_in_order}
 use Rattle.sky_txid.specs.Ids.{contains}
-use Rattle.sky_keys.specs.Versions.{written}
 use Rattle.sky_keys.proofs.EntryLemmas.{is_in_order-written, is_in_order-forgotten}
 use Rattle.sky_model.specs.History.{Mark, ended, tabled, wrote, History}
-use Rattle.sky_model.specs.Transactions.{next_txid, running, has_ended}
+use Rattle.sky_model.specs.Transactions.{next_txid, has_ended}
 use Rattle.sky_model.specs.Rows.{committed, writes as writes_of}
 use Rattle.sky_model.specs.Versions.{versions}
 use Rattle.sky_model.proofs.Legal.{Fine, begins, writes, Legal, start, next}
-use Rattle.sky_model.proofs.Snapshots.{contains-push, sound}
+use Rattle.sky_model.proofs.Snapshots.{contains-push, sound, runs-below}
 
 -- the versions of a table stand in the order of their keys
 pub is_in_order-versions : (table : ℕ) (h : History) → is_in_order (versions table h) ≡ true
 is_in_order-versions table [] = refl
-is_in_order-versions table (tabled (wrote who t n key old new) ∷ h) = of (n == table) (is_in_order-versions table h)
-  where
-    of : (b : Bool) → is_in_order (versions table h) ≡ true → is_in_order (if b then written t key new (versions table h) else versions table h) ≡ true
-    of true e = is_in_order-written t key new (versions table h) e
-    of false e = e
+is_in_order-versions table (tabled (wrote who t n key old new) ∷ h) = grind (arith, is_in_order-versions table h, is_in_order-written t key new (versions table h))
 is_in_order-versions table (ended who t false ∷ h) = is_in_order-forgotten t (versions table h) (is_in_order-versions table h)
 is_in_order-versions table (_ ∷ h) = is_in_order-versions table h
 
@@ -40,19 +34,7 @@ Begun h = (table t : ℕ) → next_txid h ≤ t → writes_of table t h ≡ []
 
 begun_step : (h : History) (mark : Mark) → Fine h mark → Legal h → Begun h → Begun (mark ∷ h)
 begun_step h _ (begins who e) l b = λ table t le. b table t (omega arith)
-begun_step h _ (writes who t n key old new e free stands) l b = λ table u le. of table u (n == table) (t == u) refl le
-  where
-    of : (table u : ℕ) (c d : Bool) → (t == u) ≡ d → next_txid h ≤ u → (if c && d then writes_of table u h ++ record { key = key; row = new } ∷ [] else writes_of table u h) ≡ []
-    of table u true true is le =
-        let runs : contains t (running h) ≡ true = (sound h l).owns who t e in
-        let below : t < next_txid h = runs_below (nat_lt t (next_txid h)) refl (sym ((sound h l).runs t) ∙ runs) in
-        absurd (grind (arith, nat_tests))
-      where
-        runs_below : (b : Bool) → nat_lt t (next_txid h) ≡ b → (b && not (has_ended h t)) ≡ true → t < next_txid h
-        runs_below true is e = grind (arith, nat_tests)
-        runs_below false is e = absurd (cc)
-    of table u true false is le = b table u le
-    of table u false d is le = b table u le
+begun_step h _ (writes who t n key old new e free stands) l b = λ table u le. grind (arith, nat_tests, b table u le, runs-below h (sound h l) t ((sound h l).owns who t e))
 begun_step h _ _ l b = b
 
 pub begun : (h : History) → Legal h → Begun h

@@ -1,17 +1,14 @@
 -- What the versions that are kept show at a sight is what the history shows there.
-use Rattle.std.proofs.Common.{◌≡◌, ℕ, Bool, true, false, not, List, [], ◌∷◌, Option, Some, None, option_map, is_some, refl, sym, ◌∙◌, ap, subst, arith, if◌then◌else◌}
+use Rattle.std.proofs.Common.{◌≡◌, ℕ, true, false, List, [], ◌∷◌, Option, Some, None, option_map, is_some, refl, sym, ◌∙◌, ap, subst, arith, if◌then◌else◌, ◌||◌, ◌==◌}
 use Rattle.std.proofs.lemmas.Bool.{or_right}
-use Rattle.std.specs.Prelude.{◌||◌, ◌&&◌, ◌==◌}
 use Rattle.std.specs.Option.{option_or}
-use Rattle.std.specs.Ordering.{eq_by_cmp}
 use Rattle.sky_val.specs.declared.val.Val.{Val}
-use Rattle.sky_val.specs.Order.{key_cmp}
 use Rattle.sky_val.specs.Entries.{at}
 use Rattle.sky_val.proofs.EntryLemmas.{same_entries}
 use Rattle.sky_txid.specs.Ids.{contains}
 use Rattle.sky_txid.specs.Snapshot.{sees}
 use Rattle.sky_keys.specs.declared.version.Version.{Version}
-use Rattle.sky_keys.specs.Versions.{with_version, newest_by, own_version, row_of, read, rows_read}
+use Rattle.sky_keys.specs.Versions.{newest_by, own_version, row_of, read, rows_read}
 use Rattle.sky_keys.proofs.VersionLemmas.{newest_with, newest_without}
 use Rattle.sky_keys.proofs.EntryLemmas.{versions_at-forgotten, at-rows_read, is_in_order-rows_read}
 use Rattle.sky_model.specs.History.{Mark, ended, repeats, looked, block_failed, block_ended, History}
@@ -26,6 +23,7 @@ use Rattle.sky_model.proofs.Snapshots.{contains-push, sees-snapshot, own-unended
 use Rattle.sky_model.proofs.RowWrites.{over, last_of, at-put_all, is_in_order-put_all, is_in_order-in_turn, has_written-last_of, last_writer-has}
 use Rattle.sky_model.proofs.RowKeys.{is_in_order-versions}
 use Rattle.sky_model.proofs.KeyVersions.{kept, key_holds, kept-wrote}
+use Rattle.sky_model.proofs.Cases.{by_test}
 
 -- a history goes on from another
 pub data Since (k : History) : History → Type 0 where
@@ -55,26 +53,11 @@ rolled_back-since (later {h = h} {mark = mark} since) t e = rolled_back-behind h
 -- a sight is the history as it was
 sight-since : (h : History) (who : ℕ) (k : History) → sight who h ≡ at_place k → Since k h
 sight-since [] who k is = absurd (cc)
-sight-since (looked w ∷ h) who k is = of (w == who) is (sight-since h who k)
-  where
-    of : (b : Bool) → (if b then at_place h else sight who h) ≡ at_place k → (sight who h ≡ at_place k → Since k h) → Since k (looked w ∷ h)
-    of true e ih = (let one : h ≡ k = cc in later (subst (λ x. Since x h) one here))
-    of false e ih = later (ih e)
-sight-since (repeats w ∷ h) who k is = of (w == who) is (sight-since h who k)
-  where
-    of : (b : Bool) → (if b then at_first else sight who h) ≡ at_place k → (sight who h ≡ at_place k → Since k h) → Since k (repeats w ∷ h)
-    of true e ih = absurd (cc)
-    of false e ih = later (ih e)
-sight-since (block_failed w ∷ h) who k is = of (w == who) is (sight-since h who k)
-  where
-    of : (b : Bool) → (if b then at_each else sight who h) ≡ at_place k → (sight who h ≡ at_place k → Since k h) → Since k (block_failed w ∷ h)
-    of true e ih = absurd (cc)
-    of false e ih = later (ih e)
-sight-since (block_ended w ∷ h) who k is = of (w == who) is (sight-since h who k)
-  where
-    of : (b : Bool) → (if b then at_each else sight who h) ≡ at_place k → (sight who h ≡ at_place k → Since k h) → Since k (block_ended w ∷ h)
-    of true e ih = absurd (cc)
-    of false e ih = later (ih e)
+sight-since (looked w ∷ h) who k is =
+    by_test (λ b. (if b then at_place h else sight who h) ≡ at_place k → Since k (looked w ∷ h)) (w == who) (λ _ e. (let one : h ≡ k = cc in later (subst (λ x. Since x h) one here))) (λ _ e. later (sight-since h who k e)) is
+sight-since (repeats w ∷ h) who k is = by_test (λ b. (if b then at_first else sight who h) ≡ at_place k → Since k (repeats w ∷ h)) (w == who) (λ _ e. absurd (cc)) (λ _ e. later (sight-since h who k e)) is
+sight-since (block_failed w ∷ h) who k is = by_test (λ b. (if b then at_each else sight who h) ≡ at_place k → Since k (block_failed w ∷ h)) (w == who) (λ _ e. absurd (cc)) (λ _ e. later (sight-since h who k e)) is
+sight-since (block_ended w ∷ h) who k is = by_test (λ b. (if b then at_each else sight who h) ≡ at_place k → Since k (block_ended w ∷ h)) (w == who) (λ _ e. absurd (cc)) (λ _ e. later (sight-since h who k e)) is
 sight-since (_ ∷ h) who k is = later (sight-since h who k is)
 
 abbrev pub place : History → ℕ → History
@@ -107,11 +90,7 @@ newest-behind k h since l _ (ends who t false e) table key =
     ap (newest_by (has_ended k)) (versions_at-forgotten t key (versions table h) (is_in_order-versions table h))
     ∙ newest_without (has_ended k) t (kept h table key) (unended-at since t (own-unended h l who t e))
 newest-behind k h since l _ (writes who t n at_key old new e free stands) table key =
-    ap (newest_by (has_ended k)) (kept-wrote h l who t n at_key old new e free table key) ∙ of ((n == table) && eq_by_cmp key_cmp key at_key)
-  where
-    of : (b : Bool) → newest_by (has_ended k) (if b then with_version t new (kept h table key) else kept h table key) ≡ newest_by (has_ended k) (kept h table key)
-    of true = newest_with (has_ended k) t new (kept h table key) (unended-at since t (own-unended h l who t e))
-    of false = refl
+    grind (arith, kept-wrote h l who t n at_key old new e free table key, newest_with (has_ended k) t new (kept h table key) (unended-at since t (own-unended h l who t e)))
 newest-behind k h since l _ _ table key = refl
 
 -- the newest version that has ended at a place is the row there
@@ -160,13 +139,7 @@ committed-has (_ ∷ h) t e = committed-has h t e
 
 -- one that has committed had committed at a place where it had ended
 committed-at : {k h : History} → Since k h → Legal h → (t : ℕ) → has_committed h t ≡ true → has_ended k t ≡ has_committed k t
-committed-at {k = k} {h = h} since l t e =
-    of (has_rolled_back k t) refl (has_rolled_back h t) refl ∙ sym (has_committed-ended k (legal-since since l) t)
-  where
-    of : (b : Bool) → has_rolled_back k t ≡ b → (c : Bool) → has_rolled_back h t ≡ c → has_ended k t ≡ (has_ended k t && not (has_rolled_back k t))
-    of false stays c is = grind arith
-    of true gone true is = (let over : has_committed h t ≡ (has_ended h t && not (has_rolled_back h t)) = has_committed-ended h l t in absurd (grind arith))
-    of true gone false is = absurd (cc (sym (rolled_back-since since t gone) ∙ is))
+committed-at {k = k} {h = h} since l t e = grind (arith, has_committed-ended k (legal-since since l) t, has_committed-ended h l t, rolled_back-since since t)
 
 -- the newest committed write that a sight doesn't have
 unseen-is : (h : History) → Legal h → (who table : ℕ) (key : List Val)

@@ -1,11 +1,9 @@
 -- What writes do to the rows of a table, key by key.
-use Rattle.std.proofs.Common.{◌≡◌, ℕ, Bool, true, false, cond, not, List, [], ◌∷◌, ◌++◌, Option, Some, None, T, refl, sym, subst, ap, ◌∙◌, is_some, if◌then◌else◌}
+use Rattle.std.proofs.Common.{◌≡◌, ℕ, Bool, true, false, cond, not, List, [], ◌∷◌, ◌++◌, Option, Some, None, T, refl, sym, subst, ap, ◌∙◌, is_some, if◌then◌else◌, ◌||◌, ◌==◌, arith}
 use Rattle.std.proofs.lemmas.Bool.{or_right}
-use Rattle.std.specs.Prelude.{◌||◌, ◌==◌}
 use Rattle.std.specs.Ordering.{eq_by_cmp}
 use Rattle.std.specs.Cmp.{eq_by_cmp_equiv}
 use Rattle.std.specs.FinMap.Entries.{find-where_key, is_sorted-where_key}
-use Rattle.std.proofs.Common.{arith}
 use Rattle.std.proofs.lemmas.Bool.Decides.{nat_tests}
 use Rattle.sky_val.specs.declared.val.Val.{Val}
 use Rattle.sky_val.specs.Order.{key_cmp}
@@ -14,6 +12,7 @@ use Rattle.sky_val.proofs.Orders.{key_cmp-IsTotalOrder, key_cmp-IsAntisymmetric}
 use Rattle.sky_val.proofs.EntryLemmas.{at-put, is_in_order-put}
 use Rattle.sky_txid.specs.Ids.{contains}
 use Rattle.sky_model.specs.Rows.{Write, removed, put, put_all, in_turn, has_written, last_writer}
+use Rattle.sky_model.proofs.Cases.{by_test}
 
 -- what a write left of a key, or what was there
 abbrev pub over : Option (Option (List Val)) → Option (List Val) → Option (List Val)
@@ -54,24 +53,16 @@ over-last_from : (q : List Val) (left : Option (Option (List Val))) (ws : List W
 over-last_from q left [] row = refl
 over-last_from q left (w ∷ ws) row =
     over-last_from q (if eq_by_cmp key_cmp q w.key then Some w.row else left) ws row
-    ∙ ap (over (last_of q ws)) (of (eq_by_cmp key_cmp q w.key))
+    ∙ ap (over (last_of q ws)) (grind arith)
     ∙ sym (over-last_from q (if eq_by_cmp key_cmp q w.key then Some w.row else None) ws (over left row))
-  where
-    of : (b : Bool) → over (if b then Some w.row else left) row ≡ over (if b then Some w.row else None) (over left row)
-    of true = refl
-    of false = refl
 
 -- writes leave of a key what the last of them left, or what was there
 pub at-put_all : (q : List Val) (ws : List Write) (rows : Entries (List Val)) → at q (put_all ws rows) ≡ over (last_of q ws) (at q rows)
 at-put_all q [] rows = refl
 at-put_all q (w ∷ ws) rows =
     at-put_all q ws (put w.key w.row rows)
-    ∙ ap (over (last_of q ws)) (at-put_row q w.key w.row rows ∙ of (eq_by_cmp key_cmp q w.key))
+    ∙ ap (over (last_of q ws)) (at-put_row q w.key w.row rows ∙ grind arith)
     ∙ sym (over-last_from q (if eq_by_cmp key_cmp q w.key then Some w.row else None) ws (at q rows))
-  where
-    of : (b : Bool) → cond b w.row (at q rows) ≡ over (if b then Some w.row else None) (at q rows)
-    of true = refl
-    of false = refl
 
 is_in_order-put_row : (key : List Val) (row : Option (List Val)) (rows : Entries (List Val)) → is_in_order rows ≡ true → is_in_order (put key row rows) ≡ true
 is_in_order-put_row key None rows ordered = from_T _ (is_sorted-where_key key_cmp (λ k. not (eq_by_cmp key_cmp key k)) rows (to_T _ ordered))
@@ -95,11 +86,7 @@ last_of-push q ws w = last_from-push q None ws w
 
 is_some-last_from : (q : List Val) (left : Option (Option (List Val))) (ws : List Write) → is_some (last_from q left ws) ≡ (has_written q ws || is_some left)
 is_some-last_from q left [] = refl
-is_some-last_from q left (w ∷ ws) = is_some-last_from q (if eq_by_cmp key_cmp q w.key then Some w.row else left) ws ∙ of (eq_by_cmp key_cmp q w.key)
-  where
-    of : (b : Bool) → (has_written q ws || is_some (if b then Some w.row else left)) ≡ ((b || has_written q ws) || is_some left)
-    of true = grind arith
-    of false = refl
+is_some-last_from q left (w ∷ ws) = grind (arith, is_some-last_from q (if eq_by_cmp key_cmp q w.key then Some w.row else left) ws)
 
 -- a key is written where some write left something of it
 pub has_written-last_of : (q : List Val) (ws : List Write) → has_written q ws ≡ is_some (last_of q ws)
@@ -147,8 +134,5 @@ pub last_writer-has : (q : List Val) (f : ℕ → List Write) (holds : ℕ → T
     → ((u : ℕ) → last ≡ Some u → holds u) → (t : ℕ) → last_writer q f last ts ≡ Some t → holds t
 last_writer-has q f holds last [] in_list in_front t is = in_front t is
 last_writer-has q f holds last (u ∷ ts) in_list in_front t is =
-    last_writer-has q f holds (if has_written q (f u) then Some u else last) ts (λ v e. in_list v (later-in v u ts e)) (of (has_written q (f u))) t is
-  where
-    of : (b : Bool) (v : ℕ) → (if b then Some u else last) ≡ Some v → holds v
-    of true v e = (let one : u ≡ v = cc in subst holds one (in_list u (first-in u ts)))
-    of false v e = in_front v e
+    last_writer-has q f holds (if has_written q (f u) then Some u else last) ts (λ v e. in_list v (later-in v u ts e))
+    (λ v. by_test (λ b. (if b then Some u else last) ≡ Some v → holds v) (has_written q (f u)) (λ _ e. let one : u ≡ v = cc in subst holds one (in_list u (first-in u ts))) (λ _. in_front v)) t is

@@ -1,8 +1,8 @@
 -- The events of a batch are those that its two ticks' snapshots select.
 use Rattle.std.proofs.Common.{◌≡◌, ℕ, ◌+◌, ◌<◌, ◌≤◌, All, List, [], ◌∷◌, ◌++◌, Bool, true, false, not, ◌&&◌, ◌==◌, nat_lt, filter, refl, sym, ◌∙◌, ap, arith, subst, append-nil, append_assoc, if◌then◌else◌}
-use Rattle.std.proofs.lemmas.Bool.{or_right}
+use Rattle.std.proofs.lemmas.Bool.{or_right, cond_both}
 use Rattle.std.proofs.lemmas.Bool.Decides.{nat_tests}
-use Rattle.std.proofs.lemmas.List.Elements.{All-nil, All-cons}
+use Rattle.std.proofs.lemmas.List.Elements.{All-nil, All-head, All-tail, All-push, All-weaker}
 use Rattle.sky_val.specs.declared.event.Event.{Event}
 use Rattle.sky_txid.specs.Snapshot.{sees}
 use Rattle.sky_model.specs.History.{Batch, ended, queued, ticked, History}
@@ -14,6 +14,7 @@ use Rattle.sky_model.specs.State.{database_of}
 use Rattle.sky_model.proofs.Legal.{ends, raises, puts, ticks_next, Legal, start, next}
 use Rattle.sky_model.proofs.Snapshots.{sees-snapshot, own-unended, has_committed-ended}
 use Rattle.sky_model.proofs.Ticks.{snapshot-at_tick, legal-at_tick}
+use Rattle.sky_model.proofs.Cases.{by_same}
 
 -- what had ended at a tick has ended
 ended-at_tick : (h : History) (q id t : ℕ) → has_ended (at_tick q id h) t ≡ true → has_ended h t ≡ true
@@ -41,57 +42,33 @@ abbrev pub Ordered : ℕ → List Event → Type 0
 Ordered low [] = Unit {0}
 Ordered low (e ∷ es) = (low ≤ e.ev_id) × Ordered e.ev_id es
 
-abbrev pub UpTo : ℕ → List Event → Type 0
-UpTo n [] = Unit {0}
-UpTo n (e ∷ es) = (e.ev_id ≤ n) × UpTo n es
-
-UpTo-more : (m n : ℕ) (es : List Event) → m ≤ n → UpTo m es → UpTo n es
-UpTo-more m n [] le u = tt
-UpTo-more m n (e ∷ es) le u = ((let at : e.ev_id ≤ m = u.0 in omega arith), UpTo-more m n es le u.1)
-
-Ordered-push : (low : ℕ) (es : List Event) (e : Event) → Ordered low es → low ≤ e.ev_id → UpTo e.ev_id es → Ordered low (es ++ e ∷ [])
+Ordered-push : (low : ℕ) (es : List Event) (e : Event) → Ordered low es → low ≤ e.ev_id → All (λ x. x.ev_id ≤ e.ev_id) es → Ordered low (es ++ e ∷ [])
 Ordered-push low [] e o le u = (le, tt)
-Ordered-push low (x ∷ xs) e o le u = (o.0, Ordered-push x.ev_id xs e o.1 u.0 u.1)
-
-UpTo-push : (n : ℕ) (es : List Event) (e : Event) → UpTo n es → e.ev_id ≤ n → UpTo n (es ++ e ∷ [])
-UpTo-push n [] e u le = (le, tt)
-UpTo-push n (x ∷ xs) e u le = (u.0, UpTo-push n xs e u.1 le)
+Ordered-push low (x ∷ xs) e o le u = (o.0, Ordered-push x.ev_id xs e o.1 (All-head (λ x. x.ev_id ≤ e.ev_id) x xs u) (All-tail (λ x. x.ev_id ≤ e.ev_id) x xs u))
 
 -- events by ids that don't fall, up to a number
 abbrev pub IsNumbered : ℕ → List Event → Type 0
-IsNumbered n es = Ordered 0 es × UpTo n es
+IsNumbered n es = Ordered 0 es × All (λ e. e.ev_id ≤ n) es
 
 -- events are stored by ids that don't fall, up to the value of the sequence
 pub numbered : (h : History) → Legal h → (q : ℕ) → IsNumbered (sequence q h) (events q h)
-numbered [] start q = (tt, tt)
-numbered _ (next {h = h} l (raises p v i le)) q = of (p == q) refl (numbered h l q)
-  where
-    of : (b : Bool) → (p == q) ≡ b → IsNumbered (sequence q h) (events q h) → IsNumbered (if b then v else sequence q h) (events q h)
-    of true e n =
-        let same : p ≡ q = grind (arith, nat_tests) in
-        let more : sequence q h ≤ v = subst (λ x. sequence x h ≤ v) same le in
-        (n.0, UpTo-more (sequence q h) v (events q h) more n.1)
-    of false e n = n
-numbered _ (next {h = h} l (puts who p event i is o newest)) q = of (p == q) refl (numbered h l q)
-  where
-    of : (b : Bool) → (p == q) ≡ b → IsNumbered (sequence q h) (events q h)
-        → IsNumbered (sequence q h) (if b then events q h ++ event ∷ [] else events q h)
-    of true e n =
-        let same : p ≡ q = grind (arith, nat_tests) in
-        let at : event.ev_id ≡ sequence q h = is ∙ ap (λ x. sequence x h) same in (
-          Ordered-push 0 (events q h) event n.0 (omega arith) (subst (λ x. UpTo x (events q h)) (sym at) n.1),
-          UpTo-push (sequence q h) (events q h) event n.1 (omega arith),
-        )
-    of false e n = n
+numbered [] start q = (tt, All-nil (λ e. e.ev_id ≤ 0))
+numbered _ (next {h = h} l (raises p v i le)) q =
+    let n = numbered h l q in
+    by_same (λ b. IsNumbered (if b then v else sequence q h) (events q h)) p q
+    (λ same. let more : sequence q h ≤ v = subst (λ x. sequence x h ≤ v) same le in (n.0, All-weaker (λ e. e.ev_id ≤ sequence q h) (λ e. e.ev_id ≤ v) (λ e up. omega arith) (events q h) n.1)) (λ _. n)
+numbered _ (next {h = h} l (puts who p event i is o newest)) q =
+    let n = numbered h l q in
+    by_same (λ b. IsNumbered (sequence q h) (if b then events q h ++ event ∷ [] else events q h)) p q
+    (λ same. let at : event.ev_id ≡ sequence q h = is ∙ ap (λ x. sequence x h) same in (
+      Ordered-push 0 (events q h) event n.0 (omega arith) (subst (λ x. All (λ e. e.ev_id ≤ x) (events q h)) (sym at) n.1),
+      All-push (λ e. e.ev_id ≤ sequence q h) (events q h) event n.1 (omega arith),
+    )) (λ _. n)
 numbered _ (next {h = h} l _) q = numbered h l q
-
-below-next : (n : ℕ) (es : List Event) → UpTo n es → All (λ e. e.ev_id < n + 1) es
-below-next n [] u = All-nil (λ e. e.ev_id < n + 1)
-below-next n (e ∷ es) u = All-cons (λ e. e.ev_id < n + 1) e es (omega (arith, u.0)) (below-next n es u.1)
 
 -- so each has an id below the next one
 pub events_below-next : (h : History) → Legal h → (q : ℕ) → All (λ e. e.ev_id < sequence q h + 1) (events q h)
-events_below-next h l q = below-next (sequence q h) (events q h) (numbered h l q).1
+events_below-next h l q = All-weaker (λ e. e.ev_id ≤ sequence q h) (λ e. e.ev_id < sequence q h + 1) (λ e up. omega arith) (events q h) (numbered h l q).1
 
 Ordered-less : (m n : ℕ) (es : List Event) → m ≤ n → Ordered n es → Ordered m es
 Ordered-less m n [] le o = tt
@@ -99,32 +76,29 @@ Ordered-less m n (e ∷ es) le o = ((let at : n ≤ e.ev_id = o.0 in omega arith
 
 Ordered-filter : (low : ℕ) (p : Event → Bool) (es : List Event) → Ordered low es → Ordered low (filter p es)
 Ordered-filter low p [] o = tt
-Ordered-filter low p (e ∷ es) o = of (p e) (Ordered-filter e.ev_id p es o.1)
-  where
-    of : (b : Bool) → Ordered e.ev_id (filter p es) → Ordered low (if b then e ∷ filter p es else filter p es)
-    of true ih = (o.0, ih)
-    of false ih = Ordered-less low e.ev_id (filter p es) o.0 ih
+Ordered-filter low p (e ∷ es) o =
+    let rest = Ordered-filter e.ev_id p es o.1 in
+    cond_both (p e) (e ∷ filter p es) (filter p es) (Ordered low) (λ _. (o.0, rest)) (λ _. Ordered-less low e.ev_id (filter p es) o.0 rest)
 
 -- an event whose id none is above goes to the end
-with_event-last : (e : Event) (es : List Event) → UpTo e.ev_id es → with_event e es ≡ es ++ e ∷ []
+with_event-last : (e : Event) (es : List Event) → All (λ x. x.ev_id ≤ e.ev_id) es → with_event e es ≡ es ++ e ∷ []
 with_event-last e [] u = refl
-with_event-last e (x ∷ xs) u = of (nat_lt e.ev_id x.ev_id) refl (with_event-last e xs u.1)
-  where
-    of : (b : Bool) → nat_lt e.ev_id x.ev_id ≡ b → with_event e xs ≡ xs ++ e ∷ []
-        → (if b then e ∷ x ∷ xs else x ∷ with_event e xs) ≡ x ∷ (xs ++ e ∷ [])
-    of true is ih = let at : x.ev_id ≤ e.ev_id = u.0 in absurd (grind (arith, nat_tests))
-    of false is ih = ap (λ ys. x ∷ ys) ih
+with_event-last e (x ∷ xs) u =
+    let at : x.ev_id ≤ e.ev_id = All-head (λ x. x.ev_id ≤ e.ev_id) x xs u in
+    cond_both (nat_lt e.ev_id x.ev_id) (e ∷ x ∷ xs) (x ∷ with_event e xs) (λ es. es ≡ x ∷ (xs ++ e ∷ [])) (λ is. absurd (grind (arith, nat_tests)))
+    (λ _. ap (λ ys. x ∷ ys) (with_event-last e xs (All-tail (λ x. x.ev_id ≤ e.ev_id) x xs u)))
 
-by_id_onto-ordered : (sorted es : List Event) (low : ℕ) → UpTo low sorted → Ordered low es → by_id_onto sorted es ≡ sorted ++ es
+by_id_onto-ordered : (sorted es : List Event) (low : ℕ) → All (λ x. x.ev_id ≤ low) sorted → Ordered low es → by_id_onto sorted es ≡ sorted ++ es
 by_id_onto-ordered sorted [] low u o = sym (append-nil sorted)
 by_id_onto-ordered sorted (e ∷ es) low u o =
-    ap (λ s. by_id_onto s es) (with_event-last e sorted (UpTo-more low e.ev_id sorted o.0 u))
-    ∙ by_id_onto-ordered (sorted ++ e ∷ []) es e.ev_id (UpTo-push e.ev_id sorted e (UpTo-more low e.ev_id sorted o.0 u) (omega arith)) o.1
+    let most : All (λ x. x.ev_id ≤ e.ev_id) sorted = All-weaker (λ x. x.ev_id ≤ low) (λ x. x.ev_id ≤ e.ev_id) (λ x up. omega (arith, o.0)) sorted u in
+    ap (λ s. by_id_onto s es) (with_event-last e sorted most)
+    ∙ by_id_onto-ordered (sorted ++ e ∷ []) es e.ev_id (All-push (λ x. x.ev_id ≤ e.ev_id) sorted e most (omega arith)) o.1
     ∙ append_assoc sorted (e ∷ []) es
 
 -- events whose ids don't fall are in order
 by_id-ordered : (es : List Event) → Ordered 0 es → by_id es ≡ es
-by_id-ordered es o = by_id_onto-ordered [] es 0 tt o
+by_id-ordered es o = by_id_onto-ordered [] es 0 (All-nil (λ x. x.ev_id ≤ 0)) o
 
 -- of what was seen at a tick and hasn't rolled back
 between : (to from undone own : Bool) → ((to && not undone) && not (from && not undone) && own) ≡ (to && not from && not undone && own)

@@ -1,6 +1,5 @@
 -- A row that changes that fit have changed is one of the table under the same key, if it was one before.
-use Rattle.std.proofs.Common.{◌≡◌, ℕ, suc, ℤ, ◌+◌, Bool, true, false, not, List, [], ◌∷◌, Option, Some, None, Ok, Err, IfSome, length, bytes_eq, option_map, refl, sym, ◌∙◌, ap, subst, if◌then◌else◌, arith}
-use Rattle.std.specs.Prelude.{find, ◌||◌, ◌&&◌, ◌==◌, ◌+ℤ◌}
+use Rattle.std.proofs.Common.{◌≡◌, ℕ, suc, ℤ, ◌+◌, Bool, true, false, not, List, [], ◌∷◌, Option, Some, None, Ok, Err, IfSome, length, bytes_eq, option_map, refl, sym, ◌∙◌, ap, subst, if◌then◌else◌, arith, find, ◌||◌, ◌&&◌, ◌==◌, ◌+ℤ◌}
 use Rattle.std.specs.List.{list_any}
 use Rattle.std.specs.Option.{option_or}
 use Rattle.sky_val.specs.declared.val.Val.{Val}
@@ -21,6 +20,7 @@ use Rattle.sky_model.specs.Outcome.{Checked, ◌>>=◌, found_or}
 use Rattle.sky_model.specs.StepRows.{column_called, is_change_of, bad_set, bad_sets, is_key_change, in_range, changed, with_set, with_sets, some_row}
 use Rattle.sky_model.specs.LawsOfWrites.{IsRowOf}
 use Rattle.sky_model.proofs.Legal.{ChangesFit}
+use Rattle.sky_model.proofs.Cases.{by_test}
 
 -- ---- one value
 
@@ -115,11 +115,8 @@ record Fits (columns : List Column) (row : List Val) : Type 0 where
   values : values_fault 0 columns row ≡ None
 
 row-fits : (columns : List Column) (row : List Val) → row_fault columns row ≡ None → Fits columns row
-row-fits columns row e = of (length row == length columns) refl e
-  where
-    of : (b : Bool) → (length row == length columns) ≡ b → (if b then values_fault 0 columns row else Some fault.Count) ≡ None → Fits columns row
-    of true is e = record { long = is; values = e }
-    of false is e = absurd (cc)
+row-fits columns row e =
+    by_test (λ b. (if b then values_fault 0 columns row else Some fault.Count) ≡ None → Fits columns row) (length row == length columns) (λ is e. record { long = is; values = e }) (λ _ e. absurd (cc)) e
 
 still-fits : (columns : List Column) (row next : List Val) → Fits columns row → Kept 0 columns row next → row_fault columns next ≡ None
 still-fits columns row next fits k =

@@ -1,6 +1,5 @@
 -- Which marks statements leave, once for every test of marks and every property of answers.
-use Rattle.std.proofs.Common.{◌≡◌, ℕ, zero, suc, ℤ, ◌+◌, List, [], ◌∷◌, ◌++◌, Bool, true, false, ◌==◌, Option, Some, None, Ok, Err, is_some, length, refl, sym, subst, arith, if◌then◌else◌}
-use Rattle.std.specs.Prelude.{not, ◌&&◌}
+use Rattle.std.proofs.Common.{◌≡◌, ℕ, zero, suc, ℤ, ◌+◌, List, [], ◌∷◌, ◌++◌, Bool, true, false, ◌==◌, Option, Some, None, Ok, Err, IfOk, is_some, length, refl, sym, subst, arith, if◌then◌else◌, not, ◌&&◌}
 use Rattle.std.proofs.lemmas.List.Elements.{All-cons, All-append}
 use Rattle.sky_val.specs.declared.val.Val.{Val}
 use Rattle.sky_keys.specs.Waits.{Waiting, other_holder, is_waiting}
@@ -37,6 +36,8 @@ use Rattle.sky_model.specs.Reader.{Shown, PartReader}
 use Rattle.sky_model.specs.Gates.{Gate, gated}
 use Rattle.sky_model.specs.Settling.{Turn, turn_of, behind_marks, and_then, ready, attempted, resumed, goes_on, settles, settling}
 use Rattle.sky_model.specs.Calls.{row_form, form}
+use Rattle.std.proofs.lemmas.Result.{IfOk-at_ok}
+use Rattle.sky_model.proofs.Cases.{ok-then}
 use Rattle.sky_model.proofs.Good.{same-session}
 
 -- so it is where a test holds, and nothing is where it fails
@@ -165,12 +166,13 @@ kinds is_open _ = record no_more { queues = true }
 
 -- ---- what every session leaves
 
-left-committed : (k : Kinds) (who t : ℕ) (b : Block) → EachMark (may_leave k who) (commit_of who t b)
-left-committed k who t outside = tt
-left-committed k who t _ = tt
+by_block : (P : Block → Type 0) → P outside → P inside → P failed → (b : Block) → P b
+by_block P out within aborted outside = out
+by_block P out within aborted inside = within
+by_block P out within aborted failed = aborted
 
 left-written : (k : Kinds) (who t : ℕ) (s : Session) (marks : List Mark) → EachMark (may_leave k who) marks → EachMark (may_leave k who) (written who t s marks)
-left-written k who t s marks all = of s.txid (each-append (may_leave k who) marks (commit_of who t s.block) all (left-committed k who t s.block))
+left-written k who t s marks all = of s.txid (each-append (may_leave k who) marks (commit_of who t s.block) all (by_block (λ b. EachMark (may_leave k who) (commit_of who t b)) tt tt tt s.block))
   where
     of : (o : Option ℕ) → EachMark (may_leave k who) (marks ++ commit_of who t s.block) → EachMark (may_leave k who) (begin_of who t o ++ marks ++ commit_of who t s.block)
     of None all = all
@@ -236,23 +238,6 @@ module _ (who : ℕ) where
   gives-row_or_none k None = (tt, tt)
   gives-row_or_none k (Some row) = (tt, tt)
 
-  gives-begin : (k : Kinds) (b : Block) → RowGives k (begin who b)
-  gives-begin k outside = (tt, tt)
-  gives-begin k _ = (tt, tt)
-
-  gives-begin_repeatable_read : (k : Kinds) (b : Block) → RowGives k (begin_repeatable_read who b)
-  gives-begin_repeatable_read k outside = (tt, tt)
-  gives-begin_repeatable_read k _ = (tt, tt)
-
-  gives-commit : (k : Kinds) (txid : Option ℕ) (b : Block) → RowGives k (commit who txid b)
-  gives-commit k txid outside = (tt, tt)
-  gives-commit k txid inside = (tt, left-block k true who txid)
-  gives-commit k txid failed = (tt, left-block k false who txid)
-
-  gives-rollback : (k : Kinds) (txid : Option ℕ) (b : Block) → RowGives k (rollback who txid b)
-  gives-rollback k txid outside = (tt, tt)
-  gives-rollback k txid _ = (tt, left-block k false who txid)
-
   gives-close : (txid : Option ℕ) (b : Block) → RowGives (row_kinds true Close) (close who txid b)
   gives-close txid outside = (tt, tt)
   gives-close None _ = (tt, tt)
@@ -271,10 +256,14 @@ module _ (who : ℕ) where
   gives-row_form d shown (OpenDb name) = gives-open_db (d.session who).is_open
   gives-row_form d shown Close = gives-close (d.session who).txid (d.session who).block
   gives-row_form d shown Cancel = gives-cancel (d.session who).txid (d.session who).block (is_waiting who d.waiting)
-  gives-row_form d shown Begin = gives-begin no_more (d.session who).block
-  gives-row_form d shown BeginRepeatableRead = gives-begin_repeatable_read no_more (d.session who).block
-  gives-row_form d shown Commit = gives-commit no_more (d.session who).txid (d.session who).block
-  gives-row_form d shown Rollback = gives-rollback no_more (d.session who).txid (d.session who).block
+  gives-row_form d shown Begin = by_block (λ b. RowGives no_more (begin who b)) (tt, tt) (tt, tt) (tt, tt) (d.session who).block
+  gives-row_form d shown BeginRepeatableRead = by_block (λ b. RowGives no_more (begin_repeatable_read who b)) (tt, tt) (tt, tt) (tt, tt) (d.session who).block
+  gives-row_form d shown Commit =
+      let left : (committed : Bool) → EachMark (may_leave no_more who) (leaves committed who (d.session who).txid) = λ committed. left-block no_more committed who (d.session who).txid in
+      by_block (λ b. RowGives no_more (commit who (d.session who).txid b)) (tt, tt) (tt, left true) (tt, left false) (d.session who).block
+  gives-row_form d shown Rollback =
+      let left : EachMark (may_leave no_more who) (leaves false who (d.session who).txid) = left-block no_more false who (d.session who).txid in
+      by_block (λ b. RowGives no_more (rollback who (d.session who).txid b)) (tt, tt) (tt, left) (tt, left) (d.session who).block
   gives-row_form d shown TxidCurrent = search (checked, left-written)
   gives-row_form d shown TxidCurrentSnapshot = (tt, tt)
   gives-row_form d shown (TxidVisibleInSnapshot txid snapshot) = search (checked)
@@ -289,22 +278,17 @@ module _ (who : ℕ) where
 
 -- marks that may be refused
 abbrev EachChecked : (Mark → Bool) → Checked (List Mark) → Type 0
-EachChecked p (Ok marks) = EachMark p marks
-EachChecked p (Err refusal) = Unit {0}
+EachChecked p c = IfOk c (EachMark p)
 
 module _ (p : Mark → Bool) (of_queues : (mark : QueueMark) → p (queued mark) ≡ true) where
   each-told_by : (d : Database) (now : ℤ) (t : ℕ) (es : List RowEvent) → EachChecked p (told_by d now t es)
   each-told_by d now t [] = tt
-  each-told_by d now t (e ∷ es) = of (next_event_id (d.queue e.queue)) (λ x. each-told_by x now t es)
-    where
-      joined : (id : ℕ) (c : Checked (List Mark)) → EachChecked p c → EachChecked p (c >>= (λ rest. Ok (event_marks e.queue (told_event id now t e) ++ rest)))
-      joined id (Ok rest) all = each-front p (queued (raised e.queue id)) (queued (put e.queue (told_event id now t e)) ∷ rest) (of_queues _) (each-front p (queued (put e.queue (told_event id now t e))) rest (of_queues _) all)
-      joined id (Err refusal) all = tt
-
-      of : (c : Checked ℕ) → ((x : Database) → EachChecked p (told_by x now t es))
-          → EachChecked p (c >>= (λ id. told_by (after_marks d (event_marks e.queue (told_event id now t e))) now t es >>= (λ rest. Ok (event_marks e.queue (told_event id now t e) ++ rest))))
-      of (Ok id) ih = joined id (told_by (after_marks d (event_marks e.queue (told_event id now t e))) now t es) (ih _)
-      of (Err refusal) ih = tt
+  each-told_by d now t (e ∷ es) =
+      ok-then (EachMark p) (next_event_id (d.queue e.queue)) _ (λ id _.
+      let behind : Database = after_marks d (event_marks e.queue (told_event id now t e)) in
+      ok-then (EachMark p) (told_by behind now t es) _ (λ rest is.
+      each-front p (queued (raised e.queue id)) (queued (put e.queue (told_event id now t e)) ∷ rest) (of_queues _)
+      (each-front p (queued (put e.queue (told_event id now t e))) rest (of_queues _) (IfOk-at_ok (EachMark p) is (each-told_by behind now t es)))))
 
   each-told_of : (d : Database) (now : ℤ) (mark : Mark) → EachChecked p (told_of d now mark)
   each-told_of d now (tabled (wrote (of_session who) t table key old new)) = each-told_by d now t (events_in d table old new)
@@ -313,16 +297,10 @@ module _ (p : Mark → Bool) (of_queues : (mark : QueueMark) → p (queued mark)
   each-with_told : (d : Database) (now : ℤ) (marks : List Mark) → EachMark p marks → EachChecked p (with_told d now marks)
   each-with_told d now [] all = tt
   each-with_told d now (mark ∷ marks) all =
-      of (told_of (after_mark d mark) now mark) (each-told_of (after_mark d mark) now mark) (λ x. each-with_told x now marks (each-rest p mark marks all))
-    where
-      joined : (told : List Mark) → EachMark p told → (c : Checked (List Mark)) → EachChecked p c → EachChecked p (c >>= (λ rest. Ok (mark ∷ told ++ rest)))
-      joined told silent (Ok rest) also = each-first p mark marks (told ++ rest) all (each-append p told rest silent also)
-      joined told silent (Err refusal) also = tt
-
-      of : (c : Checked (List Mark)) → EachChecked p c → ((x : Database) → EachChecked p (with_told x now marks))
-          → EachChecked p (c >>= (λ told. with_told (after_marks d (mark ∷ told)) now marks >>= (λ rest. Ok (mark ∷ told ++ rest))))
-      of (Ok told) silent ih = joined told silent (with_told (after_marks d (mark ∷ told)) now marks) (ih _)
-      of (Err refusal) silent ih = tt
+      ok-then (EachMark p) (told_of (after_mark d mark) now mark) _ (λ told same.
+      ok-then (EachMark p) (with_told (after_marks d (mark ∷ told)) now marks) _ (λ rest is.
+      each-first p mark marks (told ++ rest) all (each-append p told rest (IfOk-at_ok (EachMark p) same (each-told_of (after_mark d mark) now mark))
+      (IfOk-at_ok (EachMark p) is (each-with_told (after_marks d (mark ∷ told)) now marks (each-rest p mark marks all))))))
 
   -- a statement does the same once its writes are told of
   pub gives-tells : (R : Reply → Type 0) (d : Database) (now : ℤ) (c : Checked Outcome) → Gives R p c → Gives R p (tells d now c)

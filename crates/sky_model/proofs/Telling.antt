@@ -1,11 +1,9 @@
 -- A gate in front of the writes of a row part, and a whole database that is told of them, do the same.
-use Rattle.std.proofs.Common.{◌≡◌, ℕ, zero, suc, ℤ, ◌+◌, ◌^◌, Bool, true, false, nat_le, List, [], ◌∷◌, ◌++◌, Option, Some, None, Ok, Err, length, refl, sym, ap, subst, if◌then◌else◌}
-use Rattle.std.specs.Prelude.{not, ◌&&◌, is_ok}
+use Rattle.std.proofs.Common.{◌≡◌, ℕ, zero, suc, ℤ, ◌+◌, ◌^◌, Bool, true, false, nat_le, List, [], ◌∷◌, ◌++◌, Option, Some, None, Ok, Err, length, refl, sym, ap, subst, if◌then◌else◌, not, ◌&&◌, is_ok}
 use Rattle.sky_val.specs.declared.val.Val.{Val}
 use Rattle.sky_keys.specs.Waits.{Waiting, is_waiting}
 use Rattle.sky_urlenc.specs.RowEvents.{RowEvent}
 use Rattle.sky_model.specs.declared.stmt.RowStmt.{RowStmt}
-use Rattle.sky_model.specs.declared.stmt.Attempt.{Attempt}
 use Rattle.sky_model.specs.declared.stmt.Stmt.TheVariants.{Row}
 use Rattle.sky_model.specs.declared.reply.Reply.TheVariants.{Refused}
 use Rattle.sky_model.specs.declared.reply.Refusal.{Refusal}
@@ -17,7 +15,6 @@ use Rattle.sky_model.specs.ShownRows.{rows_by}
 use Rattle.sky_model.specs.Outcome.{Outcome, Checked, ◌>>=◌, ◌>>◌, refused_if, does_marks, abort, settled}
 use Rattle.sky_model.specs.Allowed.{where_of_row, allowed}
 use Rattle.sky_model.specs.Made.{takes_sight, looking, runs_if}
-use Rattle.sky_model.specs.StepRows.{attempts}
 use Rattle.sky_model.specs.Telling.{events_in, told_event, event_marks, told_by, told_of, with_told, tells}
 use Rattle.sky_model.specs.Reader.{part_by_itself, database_by_itself, within_part}
 use Rattle.sky_model.specs.Gates.{Gate, takes, passed, takes_all, passed_all, gated, by_gate}
@@ -28,6 +25,7 @@ use Rattle.sky_model.proofs.RowOutcomes.{is_of_rows, RowMarks, OfRows, abort-row
 use Rattle.sky_model.proofs.GatedLemmas.{gated-behind, passed-append, WritesNone, plain-abort}
 use Rattle.sky_model.proofs.DatabaseStanding.{after_marks-append, behind-all}
 use Rattle.sky_model.proofs.Inserted.{Inserted, none, kept, with_raised, with_put, inserted-same, inserted-append}
+use Rattle.sky_model.proofs.Cases.{by_test}
 
 -- a mark that is neither a session's write nor a queue's
 abbrev pub IsOther : Mark → Type 0
@@ -189,66 +187,33 @@ module _ {G : Type 0} (gate : Gate G) (now : ℤ) (related : Database → RowPar
       marks : Refusal → List Mark
       marks x = abort who s.block s.txid x
 
-  -- an attempt, and any statement on rows
-  told-attempts : (who table : ℕ) (key : List Val) (attempt : Attempt) (d : Database) (p : RowPart) (g : G) → related d p g
-      → Outcomes d p g (settled who (p.session who) (gated gate g (attempts p ((rows_by p).key who table key) who table key attempt)))
-      (settled who (d.part.session who) (tells d now (attempts d.part ((rows_by d.part).key who table key) who table key attempt)))
-  told-attempts who table key attempt d p g is =
-      subst (λ (e : RowPart). Outcomes d p g (settled who (p.session who) (gated gate g (attempts p ((rows_by p).key who table key) who table key attempt)))
-      (settled who (e.session who) (tells d now (attempts e ((rows_by e).key who table key) who table key attempt)))) (sym (alike.part d p g is))
-      (told-settled who (p.session who) (gated gate g tried) (tells d now tried) d p g is
-      (told-checked tried (attempts-rows p ((rows_by p).key who table key) who table key attempt) d p g is))
-    where
-      tried : Checked Outcome
-      tried = attempts p ((rows_by p).key who table key) who table key attempt
+  told-does : (who : ℕ) (s : Session) (c : Checked Outcome) → OfRows c → (d : Database) (p : RowPart) (g : G) → related d p g
+      → Outcomes d p g (settled who s (gated gate g c)) (settled who s (tells d now c))
+  told-does who s c rows d p g is = told-settled who s (gated gate g c) (tells d now c) d p g is (told-checked c rows d p g is)
 
-  told-form : (who : ℕ) (stmt : RowStmt) (d : Database) (p : RowPart) (g : G) → related d p g
-      → Outcomes d p g (settled who (p.session who) (gated gate g (row_form p (rows_by p) who stmt)))
-      (settled who (d.part.session who) (tells d now (row_form d.part (rows_by d.part) who stmt)))
-  told-form who stmt d p g is =
-      subst (λ (e : RowPart). Outcomes d p g (settled who (p.session who) (gated gate g (row_form p (rows_by p) who stmt)))
-      (settled who (e.session who) (tells d now (row_form e (rows_by e) who stmt)))) (sym (alike.part d p g is))
-      (told-settled who (p.session who) (gated gate g (row_form p (rows_by p) who stmt)) (tells d now (row_form p (rows_by p) who stmt)) d p g is
-      (told-checked (row_form p (rows_by p) who stmt) (form-rows p (rows_by p) who stmt) d p g is))
+  -- so with a database's own row part, and with any that is like it
+  at-own : (d : Database) (p : RowPart) (g : G) (Q : RowPart → Type 0) → related d p g → (related d d.part g → Q d.part) → Q p
+  at-own d p g Q is own = subst Q (alike.part d p g is) (own (subst (λ x. related d x g) (sym (alike.part d p g is)) is))
 
-  told-runs : (who : ℕ) (stmt : RowStmt) (may : Checked (Unit {0})) (d : Database) (p : RowPart) (g : G) → related d p g
-      → Outcomes d p g (runs_if (row_making (by_gate gate part_by_itself) who stmt) (where_of_row stmt) who (p, g) may)
+  told-runs : (who : ℕ) (stmt : RowStmt) (may : Checked (Unit {0})) (d : Database) (g : G) → related d d.part g
+      → Outcomes d d.part g (runs_if (row_making (by_gate gate part_by_itself) who stmt) (where_of_row stmt) who (d.part, g) may)
       (runs_if (making database_by_itself now who (Row stmt)) (where_of_row stmt) who d may)
-  told-runs who stmt (Err refusal) d p g is =
-      subst (λ (e : RowPart). Outcomes d p g (settled who (p.session who) (Err refusal)) (settled who (e.session who) (Err refusal))) (sym (alike.part d p g is))
-      (told-settled who (p.session who) (Err refusal) (Err refusal) d p g is refl)
-  told-runs who stmt (Ok _) d p g is =
-      subst (λ (e : RowPart). Outcomes d p g (here (looks p)) (there (looks e))) (sym (alike.part d p g is)) (of (looks p))
+  told-runs who stmt (Err refusal) d g is = told-settled who (d.part.session who) (Err refusal) (Err refusal) d d.part g is refl
+  told-runs who stmt (Ok _) d g is =
+      by_test (λ b. Outcomes d d.part g (if b then looking who (here shown) else here d) (if b then looking who (there shown) else there d)) (takes_sight (where_of_row stmt) (d.part.session who).sight)
+      (λ _. let same = told shown (alike.other d d.part g (looked who) tt is) in record { reply = same.reply; inserted = kept (looked who) same.inserted; stands = same.stands }) (λ _. told d is)
     where
-      looks : RowPart → Bool
-      looks e = takes_sight (where_of_row stmt) (e.session who).sight
-
-      seen : RowPart
-      seen = after_part p (looked who)
-
       shown : Database
       shown = after_mark d (looked who)
 
-      here : Bool → Outcome
-      here b = if b then looking who (settled who (seen.session who) (gated gate g (row_form seen (rows_by seen) who stmt)))
-          else settled who (p.session who) (gated gate g (row_form p (rows_by p) who stmt))
+      here : Database → Outcome
+      here e = settled who (e.part.session who) (gated gate g (row_form e.part (rows_by e.part) who stmt))
 
-      there : Bool → Outcome
-      there b = if b then looking who (settled who (shown.part.session who) (tells shown now (row_form shown.part (rows_by shown.part) who stmt)))
-          else settled who (d.part.session who) (tells d now (row_form d.part (rows_by d.part) who stmt))
+      there : Database → Outcome
+      there e = settled who (e.part.session who) (tells e now (row_form e.part (rows_by e.part) who stmt))
 
-      of : (b : Bool) → Outcomes d p g (here b) (there b)
-      of true =
-          let same = told-form who stmt shown seen g (alike.other d p g (looked who) tt is) in
-          record { reply = same.reply; inserted = kept (looked who) same.inserted; stands = same.stands }
-      of false = told-form who stmt d p g is
-
-  told-statement : (who : ℕ) (stmt : RowStmt) (d : Database) (p : RowPart) (g : G) → related d p g
-      → Outcomes d p g (row_statement (by_gate gate part_by_itself) (p, g) who stmt) (statement database_by_itself d now who (Row stmt))
-  told-statement who stmt d p g is =
-      subst (λ (e : RowPart). Outcomes d p g (row_statement (by_gate gate part_by_itself) (p, g) who stmt)
-      (runs_if (making database_by_itself now who (Row stmt)) (where_of_row stmt) who d (allowed (is_waiting who e.waiting) (e.session who).is_open (e.session who).block (where_of_row stmt)))) (sym (alike.part d p g is))
-      (told-runs who stmt (allowed (is_waiting who p.waiting) (p.session who).is_open (p.session who).block (where_of_row stmt)) d p g is)
+      told : (e : Database) → related e e.part g → Outcomes e e.part g (here e) (there e)
+      told e is = told-does who (e.part.session who) _ (form-rows e.part (rows_by e.part) who stmt) e e.part g is
 
   -- ---- what it lets go on
 
@@ -284,40 +249,36 @@ module _ {G : Type 0} (gate : Gate G) (now : ℤ) (related : Database → RowPar
           subst (λ x. Turns e q k (rest x) behind') (sym (gated-behind gate p g turn.marks))
           (subst (λ x. Turns e q k (rest (q, k)) (rest' x)) (sym (behind-all now d turn'.marks)) (also e q k same.stands))
 
-  told-resumed : (w : Waiting) (d : Database) (p : RowPart) (g : G) → related d p g
-      → Turns d p g (resumed (by_gate gate part_by_itself) (p, g) w) (resumed (within_part database_by_itself now) d w)
-  told-resumed w d p g is = record { answers = ap (λ reply. (w.who, reply) ∷ []) tried.reply; inserted = kept (tabled (waited w.who)) tried.inserted; stands = tried.stands }
+  told-resumed : (w : Waiting) (d : Database) (g : G) → related d d.part g
+      → Turns d d.part g (resumed (by_gate gate part_by_itself) (d.part, g) w) (resumed (within_part database_by_itself now) d w)
+  told-resumed w d g is = record { answers = ap (λ reply. (w.who, reply) ∷ []) tried.reply; inserted = kept (tabled (waited w.who)) tried.inserted; stands = tried.stands }
     where
-      behind : RowPart
-      behind = after_part p (tabled (waited w.who))
+      behind : Database
+      behind = after_mark d (tabled (waited w.who))
 
-      tried : Outcomes (after_mark d (tabled (waited w.who))) behind g (attempted (by_gate gate part_by_itself) w (p.attempt w.who) (behind, g))
-          (attempted (within_part database_by_itself now) w (d.part.attempt w.who) (after_mark d (tabled (waited w.who))))
+      tried : Outcomes behind behind.part g (attempted (by_gate gate part_by_itself) w (d.part.attempt w.who) (behind.part, g)) (attempted (within_part database_by_itself now) w (d.part.attempt w.who) behind)
       tried =
-          subst (λ (e : RowPart). Outcomes (after_mark d (tabled (waited w.who))) behind g (attempted (by_gate gate part_by_itself) w (p.attempt w.who) (behind, g))
-          (attempted (within_part database_by_itself now) w (e.attempt w.who) (after_mark d (tabled (waited w.who))))) (sym (alike.part d p g is))
-          (told-attempts w.who w.table w.key (p.attempt w.who) (after_mark d (tabled (waited w.who))) behind g (alike.other d p g (tabled (waited w.who)) tt is))
+          told-does w.who (behind.part.session w.who) _ (attempts-rows behind.part ((rows_by behind.part).key w.who w.table w.key) w.who w.table w.key (d.part.attempt w.who)) behind behind.part g
+          (alike.other d d.part g (tabled (waited w.who)) tt is)
 
-  told-goes_on : (rest : RowPart × G → Turn) (rest' : Database → Turn) (o : Option Waiting) (d : Database) (p : RowPart) (g : G) → related d p g
+  told-goes_on : (rest : RowPart × G → Turn) (rest' : Database → Turn) (o : Option Waiting) (d : Database) (g : G) → related d d.part g
       → ((e : Database) (q : RowPart) (k : G) → related e q k → Turns e q k (rest (q, k)) (rest' e))
-      → Turns d p g (goes_on (by_gate gate part_by_itself) (p, g) rest o) (goes_on (within_part database_by_itself now) d rest' o)
-  told-goes_on rest rest' None d p g is also = record { answers = refl; inserted = none; stands = is }
-  told-goes_on rest rest' (Some w) d p g is also = told-then d p g _ _ rest rest' (told-resumed w d p g is) also
+      → Turns d d.part g (goes_on (by_gate gate part_by_itself) (d.part, g) rest o) (goes_on (within_part database_by_itself now) d rest' o)
+  told-goes_on rest rest' None d g is also = record { answers = refl; inserted = none; stands = is }
+  told-goes_on rest rest' (Some w) d g is also = told-then d d.part g _ _ rest rest' (told-resumed w d g is) also
 
   told-settles : (n : ℕ) (d : Database) (p : RowPart) (g : G) → related d p g
       → Turns d p g (settles (by_gate gate part_by_itself) n (p, g)) (settles (within_part database_by_itself now) n d)
   told-settles zero d p g is = record { answers = refl; inserted = none; stands = is }
   told-settles (suc n) d p g is =
-      subst (λ (e : RowPart). Turns d p g (goes_on (by_gate gate part_by_itself) (p, g) (settles (by_gate gate part_by_itself) n) (ready p))
-      (goes_on (within_part database_by_itself now) d (settles (within_part database_by_itself now) n) (ready e))) (sym (alike.part d p g is))
-      (told-goes_on (settles (by_gate gate part_by_itself) n) (settles (within_part database_by_itself now) n) (ready p) d p g is (told-settles n))
+      at-own d p g (λ x. Turns d x g (settles (by_gate gate part_by_itself) (suc n) (x, g)) (settles (within_part database_by_itself now) (suc n) d)) is
+      (λ own. told-goes_on (settles (by_gate gate part_by_itself) n) (settles (within_part database_by_itself now) n) (ready d.part) d g own (told-settles n))
 
   -- those that go on do the same
   pub settling-told : (d : Database) (p : RowPart) (g : G) → related d p g
       → SameTold gate related d p g (settling (by_gate gate part_by_itself) (p, g)) (settling (within_part database_by_itself now) d)
   settling-told d p g is =
-      subst (λ (e : RowPart). Turns d p g (settling (by_gate gate part_by_itself) (p, g)) (settles (within_part database_by_itself now) (length e.waiting) d)) (sym (alike.part d p g is))
-      (told-settles (length p.waiting) d p g is)
+      at-own d p g (λ x. Turns d x g (settling (by_gate gate part_by_itself) (x, g)) (settling (within_part database_by_itself now) d)) is (λ own. told-settles (length d.part.waiting) d d.part g own)
 
   -- so does a turn with those that it lets go on
   pub with_settling-told : (d : Database) (p : RowPart) (g : G) (turn turn' : Turn) → SameTold gate related d p g turn turn'
@@ -329,6 +290,7 @@ module _ {G : Type 0} (gate : Gate G) (now : ℤ) (related : Database → RowPar
   pub row_turn-told : (d : Database) (p : RowPart) (g : G) (who : ℕ) (stmt : RowStmt) → related d p g
       → SameTold gate related d p g (row_turn (by_gate gate part_by_itself) (p, g) who stmt) (database_turn database_by_itself d now who (Row stmt))
   row_turn-told d p g who stmt is =
-      let same = told-statement who stmt d p g is in
-      with_settling-told d p g (turn_of who (row_statement (by_gate gate part_by_itself) (p, g) who stmt)) (turn_of who (statement database_by_itself d now who (Row stmt)))
-      (record { answers = ap (λ reply. (who, reply) ∷ []) same.reply; inserted = same.inserted; stands = same.stands })
+      at-own d p g (λ x. Turns d x g (row_turn (by_gate gate part_by_itself) (x, g) who stmt) (database_turn database_by_itself d now who (Row stmt))) is (λ own.
+      let same = told-runs who stmt (allowed (is_waiting who d.part.waiting) (d.part.session who).is_open (d.part.session who).block (where_of_row stmt)) d g own in
+      with_settling-told d d.part g (turn_of who (row_statement (by_gate gate part_by_itself) (d.part, g) who stmt)) (turn_of who (statement database_by_itself d now who (Row stmt)))
+      (record { answers = ap (λ reply. (who, reply) ∷ []) same.reply; inserted = same.inserted; stands = same.stands }))

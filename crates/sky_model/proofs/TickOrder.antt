@@ -1,5 +1,5 @@
 -- Ticks are in order: what had committed at one had committed at each later one.
-use Rattle.std.proofs.Common.{◌≡◌, ℕ, ◌<◌, List, [], ◌∷◌, ◌++◌, Bool, true, false, ◌&&◌, ◌||◌, ◌==◌, is_some, refl, sym, ◌∙◌, ap, subst, arith, if◌then◌else◌}
+use Rattle.std.proofs.Common.{◌≡◌, ℕ, ◌<◌, List, [], ◌∷◌, ◌++◌, Bool, true, false, ◌&&◌, ◌||◌, ◌==◌, is_some, refl, sym, ◌∙◌, ap, arith, if◌then◌else◌}
 use Rattle.std.proofs.lemmas.Bool.{or_right}
 use Rattle.std.proofs.lemmas.Bool.Decides.{nat_tests}
 use Rattle.sky_model.specs.History.{ended, queued, ticked, History}
@@ -8,6 +8,7 @@ use Rattle.sky_model.specs.Queues.{Tick, ticks, tick, newest_tick, at_tick}
 use Rattle.sky_model.specs.StepQueue.{id_of}
 use Rattle.sky_model.proofs.Legal.{ticks_next, Legal, start, next}
 use Rattle.sky_model.proofs.Ticks.{none_above}
+use Rattle.sky_model.proofs.Cases.{by_test}
 
 -- a queue's tick is made
 abbrev pub is_made : ℕ → ℕ → History → Bool
@@ -22,15 +23,11 @@ tick-push id (u ∷ ts) t = grind (arith, tick-push id ts t)
 -- so it is among the queue's ticks
 pub is_made-tick : (h : History) (q id : ℕ) → is_some (tick id (ticks q h)) ≡ is_made q id h
 is_made-tick [] q id = refl
-is_made-tick (queued (ticked p m time seq) ∷ h) q id = of (p == q) (is_made-tick h q id)
-  where
-    new : Tick
-    new = record { id = m; time = time; snapshot = snapshot h; seq = seq }
-
-    of : (b : Bool) → is_some (tick id (ticks q h)) ≡ is_made q id h
-        → is_some (tick id (if b then ticks q h ++ new ∷ [] else ticks q h)) ≡ ((b && m == id) || is_made q id h)
-    of true ih = tick-push id (ticks q h) new ∙ ap (λ c. m == id || c) ih
-    of false ih = ih
+is_made-tick (queued (ticked p m time seq) ∷ h) q id =
+    let new : Tick = record { id = m; time = time; snapshot = snapshot h; seq = seq } in
+    let ih = is_made-tick h q id in
+    by_test (λ b. is_some (tick id (if b then ticks q h ++ new ∷ [] else ticks q h)) ≡ ((b && m == id) || is_made q id h)) (p == q)
+    (λ _. tick-push id (ticks q h) new ∙ ap (λ c. m == id || c) ih) (λ _. ih)
 is_made-tick (_ ∷ h) q id = is_made-tick h q id
 
 -- a tick with an id above the newest one's isn't made
@@ -52,19 +49,5 @@ Grows h q from to t = has_committed (at_tick q from h) t ≡ true → has_commit
 pub committed_later : (h : History) → Legal h → (q from to t : ℕ) → from < to → is_made q to h ≡ true → Grows h q from to t
 committed_later [] start q from to t less there = absurd (cc)
 committed_later _ (next {h = h} l (ticks_next p m time seq i above)) q from to t less there =
-    of (p == q) refl (m == from) refl (m == to) refl (committed_later h l q from to t less) there
-  where
-    of : (b : Bool) → (p == q) ≡ b → (x : Bool) → (m == from) ≡ x → (y : Bool) → (m == to) ≡ y
-        → (is_made q to h ≡ true → Grows h q from to t) → ((b && y) || is_made q to h) ≡ true
-        → has_committed (if b && x then h else at_tick q from h) t ≡ true → has_committed (if b && y then h else at_tick q to h) t ≡ true
-    of false isq x isx y isy ih there e = ih there e
-    of true isq true isx true isy ih there e = absurd (grind (arith, nat_tests))
-    of true isq true isx false isy ih there e =
-        let same : p ≡ q = grind (arith, nat_tests) in
-        let at : m ≡ from = grind (arith, nat_tests) in
-        let newest : id_of (newest_tick (ticks q h)) < m = subst (λ n. id_of (newest_tick (ticks n h)) < m) same above in
-        let not_yet : is_made q to h ≡ false = unmade_above h l q to (omega arith) in
-        absurd (cc)
-    of true isq false isx true isy ih there e = committed_since h q from t e
-    of true isq false isx false isy ih there e = ih there e
+    λ e. grind (arith, nat_tests, committed_later h l q from to t less, committed_since h q from t, unmade_above h l q to, above, there, e)
 committed_later _ (next {h = h} l _) q from to t less there = committed_later h l q from to t less there

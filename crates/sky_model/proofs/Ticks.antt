@@ -1,5 +1,5 @@
 -- What ticks keep of the history as it was when they were made.
-use Rattle.std.proofs.Common.{◌≡◌, ℕ, ◌<◌, ◌≤◌, List, [], ◌∷◌, ◌++◌, Bool, true, false, ◌&&◌, ◌==◌, Option, Some, None, refl, sym, ◌∙◌, ap, subst, arith, if◌then◌else◌}
+use Rattle.std.proofs.Common.{◌≡◌, ℕ, ◌<◌, ◌≤◌, List, [], ◌∷◌, ◌++◌, false, ◌&&◌, ◌==◌, Some, None, refl, ◌∙◌, ap, subst, arith, if◌then◌else◌}
 use Rattle.std.proofs.lemmas.Bool.Decides.{nat_tests}
 use Rattle.sky_model.specs.History.{History}
 use Rattle.sky_model.specs.Transactions.{snapshot}
@@ -8,6 +8,8 @@ use Rattle.sky_model.specs.StepQueue.{id_of}
 use Rattle.sky_model.specs.Selection.{snapshot_at}
 use Rattle.sky_model.proofs.Legal.{makes, ticks_next, Legal, start, next}
 use Rattle.sky_model.proofs.QueueNumbers.{queue-below}
+use Rattle.sky_model.proofs.Cases.{by_same}
+use Rattle.std.proofs.lemmas.Bool.{cond_both}
 
 -- a queue that isn't made yet has no ticks
 pub ticks_beyond : (h : History) → Legal h → (q : ℕ) → queues_made h ≤ q → ticks q h ≡ []
@@ -43,44 +45,22 @@ NoneAbove-push ts t none is id above =
 
 pub none_above : (h : History) → Legal h → (q : ℕ) → NoneAbove (ticks q h)
 none_above [] start q = λ id above. refl
-none_above _ (next {h = h} l (ticks_next p id time seq i e)) q = of (p == q) refl (none_above h l q)
-  where
-    of : (b : Bool) → (p == q) ≡ b → NoneAbove (ticks q h)
-        → NoneAbove (if b then ticks q h ++ record { id = id; time = time; snapshot = snapshot h; seq = seq } ∷ [] else ticks q h)
-    of true e' ih =
-        let same : p ≡ q = grind (arith, nat_tests) in
-        NoneAbove-push (ticks q h) (record { id = id; time = time; snapshot = snapshot h; seq = seq }) ih (subst (λ n. id_of (newest_tick (ticks n h)) < id) same e)
-    of false e' ih = ih
+none_above _ (next {h = h} l (ticks_next p id time seq i e)) q =
+    let new : Tick = record { id = id; time = time; snapshot = snapshot h; seq = seq } in
+    by_same (λ b. NoneAbove (if b then ticks q h ++ new ∷ [] else ticks q h)) p q
+    (λ same. NoneAbove-push (ticks q h) new (none_above h l q) (subst (λ n. id_of (newest_tick (ticks n h)) < id) same e)) (λ _. none_above h l q)
 none_above _ (next {h = h} l _) q = none_above h l q
 
 -- the snapshot of the history as it was at a tick is the one that the tick keeps
 pub snapshot-at_tick : (h : History) → Legal h → (q id : ℕ) → snapshot (at_tick q id h) ≡ snapshot_at (tick id (ticks q h))
 snapshot-at_tick [] start q id = refl
-snapshot-at_tick _ (next {h = h} l (ticks_next p m time seq i e)) q id = of (p == q) refl (snapshot-at_tick h l q id)
-  where
-    both : (found : Option Tick) → tick id (ticks q h) ≡ found → (b : Bool) → (m == id) ≡ b → p ≡ q → snapshot (at_tick q id h) ≡ snapshot_at (tick id (ticks q h))
-        → snapshot (if b then h else at_tick q id h) ≡ snapshot_at (tick id (ticks q h ++ record { id = m; time = time; snapshot = snapshot h; seq = seq } ∷ []))
-    both (Some u) is true e' same ih =
-        let above : id_of (newest_tick (ticks q h)) < id = (let more : id_of (newest_tick (ticks q h)) < m = subst (λ n. id_of (newest_tick (ticks n h)) < m) same e in grind (arith, nat_tests)) in
-        let none : tick id (ticks q h) ≡ None = none_above h l q id above in
-        cc
-    both (Some u) is false e' same ih = ih ∙ ap snapshot_at is ∙ sym (ap snapshot_at (tick-push_found id (ticks q h) _ u is))
-    both None is true e' same ih = sym (ap snapshot_at (tick-push_none id (ticks q h) _ is ∙ ap (λ b. if b then Some (record { id = m; time = time; snapshot = snapshot h; seq = seq }) else None) e'))
-    both None is false e' same ih = ih ∙ ap snapshot_at is ∙ sym (ap snapshot_at (tick-push_none id (ticks q h) _ is ∙ ap (λ b. if b then Some (record { id = m; time = time; snapshot = snapshot h; seq = seq }) else None) e'))
-
-    of : (b : Bool) → (p == q) ≡ b → snapshot (at_tick q id h) ≡ snapshot_at (tick id (ticks q h))
-        → snapshot (if b && m == id then h else at_tick q id h)
-        ≡ snapshot_at (tick id (if b then ticks q h ++ record { id = m; time = time; snapshot = snapshot h; seq = seq } ∷ [] else ticks q h))
-    of true e' ih = both (tick id (ticks q h)) refl (m == id) refl (grind (arith, nat_tests)) ih
-    of false e' ih = ih
+snapshot-at_tick _ (next {h = h} l (ticks_next p m time seq i e)) q id =
+    let new : Tick = record { id = m; time = time; snapshot = snapshot h; seq = seq } in
+    grind (arith, nat_tests, snapshot-at_tick h l q id, none_above h l q id, e, tick-push_found id (ticks q h) new, tick-push_none id (ticks q h) new)
 snapshot-at_tick _ (next {h = h} l _) q id = snapshot-at_tick h l q id
 
 -- what stands below a tick is legal
 pub legal-at_tick : (h : History) → Legal h → (q id : ℕ) → Legal (at_tick q id h)
 legal-at_tick [] start q id = start
-legal-at_tick _ (next {h = h} l (ticks_next p m time seq i e)) q id = of (p == q && m == id) l (legal-at_tick h l q id)
-  where
-    of : (b : Bool) → Legal h → Legal (at_tick q id h) → Legal (if b then h else at_tick q id h)
-    of true l ih = l
-    of false l ih = ih
+legal-at_tick _ (next {h = h} l (ticks_next p m time seq i e)) q id = cond_both (p == q && m == id) h (at_tick q id h) Legal (λ _. l) (λ _. legal-at_tick h l q id)
 legal-at_tick _ (next {h = h} l _) q id = legal-at_tick h l q id

@@ -31,81 +31,72 @@ each-split r may p (x ∷ xs) ys each =
     let rest : Each r may (r.behind p x) xs × Each r may (behind_marks r (r.behind p x) xs) ys = each-split r may (r.behind p x) xs ys each.1 in
     ((each.0, rest.0), rest.1)
 
-related-behind : {P Q : Type 0} (r : PartReader P) (s : PartReader Q) (may : P → Mark → Type 0) (related : P → Q → Type 0) → ReadAlike r s may related
-    → (p : P) (q : Q) (marks : List Mark) → related p q → Each r may p marks → related (behind_marks r p marks) (behind_marks s q marks)
-related-behind r s may related alike p q [] is each = is
-related-behind r s may related alike p q (mark ∷ marks) is each =
-    related-behind r s may related alike (r.behind p mark) (s.behind q mark) marks (alike.behind p q mark is each.0) each.1
+module _ {P Q : Type 0} (r : PartReader P) (s : PartReader Q) (may : P → Mark → Type 0) (related : P → Q → Type 0) (alike : ReadAlike r s may related) where
+  related-behind : (p : P) (q : Q) (marks : List Mark) → related p q → Each r may p marks → related (behind_marks r p marks) (behind_marks s q marks)
+  related-behind p q [] is each = is
+  related-behind p q (mark ∷ marks) is each =
+      related-behind (r.behind p mark) (s.behind q mark) marks (alike.behind p q mark is each.0) each.1
 
-same-resumed : {P Q : Type 0} (r : PartReader P) (s : PartReader Q) (may : P → Mark → Type 0) (related : P → Q → Type 0) → ReadAlike r s may related
-    → (p : P) (q : Q) (w : Waiting) → related p q → may p (tabled (waited w.who)) → resumed r p w ≡ resumed s q w
-same-resumed r s may related alike p q w is may_come = λ i.
-    joined (record { answers = []; marks = tabled (waited w.who) ∷ [] })
-    (turn_of w.who (settled w.who ((parts i).session w.who)
-    (tells i (attempts (parts i) ((rows i).key w.who w.table w.key) w.who w.table w.key ((alike.parts p q is i).attempt w.who)))))
-  where
-    parts : r.part (r.behind p (tabled (waited w.who))) ≡ s.part (s.behind q (tabled (waited w.who)))
-    parts = alike.parts _ _ (alike.behind p q (tabled (waited w.who)) is may_come)
+  same-resumed : (p : P) (q : Q) (w : Waiting) → related p q → may p (tabled (waited w.who)) → resumed r p w ≡ resumed s q w
+  same-resumed p q w is may_come = λ i.
+      joined (record { answers = []; marks = tabled (waited w.who) ∷ [] })
+      (turn_of w.who (settled w.who ((parts i).session w.who)
+      (tells i (attempts (parts i) ((rows i).key w.who w.table w.key) w.who w.table w.key ((alike.parts p q is i).attempt w.who)))))
+    where
+      parts : r.part (r.behind p (tabled (waited w.who))) ≡ s.part (s.behind q (tabled (waited w.who)))
+      parts = alike.parts _ _ (alike.behind p q (tabled (waited w.who)) is may_come)
 
-    rows : r.rows (r.behind p (tabled (waited w.who))) ≡ s.rows (s.behind q (tabled (waited w.who)))
-    rows = alike.rows _ _ (alike.behind p q (tabled (waited w.who)) is may_come)
+      rows : r.rows (r.behind p (tabled (waited w.who))) ≡ s.rows (s.behind q (tabled (waited w.who)))
+      rows = alike.rows _ _ (alike.behind p q (tabled (waited w.who)) is may_come)
 
-    tells : r.tells (r.behind p (tabled (waited w.who))) ≡ s.tells (s.behind q (tabled (waited w.who)))
-    tells = alike.tells _ _ (alike.behind p q (tabled (waited w.who)) is may_come)
+      tells : r.tells (r.behind p (tabled (waited w.who))) ≡ s.tells (s.behind q (tabled (waited w.who)))
+      tells = alike.tells _ _ (alike.behind p q (tabled (waited w.who)) is may_come)
 
-same-and_then : {P Q : Type 0} (r : PartReader P) (s : PartReader Q) (may : P → Mark → Type 0) (related : P → Q → Type 0) → ReadAlike r s may related
-    → (p : P) (q : Q) (turn turn' : Turn) (rest : P → Turn) (rest' : Q → Turn) → related p q → turn ≡ turn'
-    → ((p' : P) (q' : Q) → related p' q' → Each r may p' (rest p').marks → rest p' ≡ rest' q')
-    → Each r may p (and_then r p turn rest).marks → and_then r p turn rest ≡ and_then s q turn' rest'
-same-and_then r s may related alike p q turn turn' rest rest' is same same_rest each =
-    let split : Each r may p turn.marks × Each r may (behind_marks r p turn.marks) (rest (behind_marks r p turn.marks)).marks =
-    each-split r may p turn.marks (rest (behind_marks r p turn.marks)).marks each in
-    ap (joined turn) (same_rest _ _ (related-behind r s may related alike p q turn.marks is split.0) split.1)
-    ∙ (λ i. joined (same i) (rest' (behind_marks s q (same i).marks)))
+  same-and_then : (p : P) (q : Q) (turn turn' : Turn) (rest : P → Turn) (rest' : Q → Turn) → related p q → turn ≡ turn' → ((p' : P) (q' : Q) → related p' q' → Each r may p' (rest p').marks → rest p' ≡ rest' q')
+      → Each r may p (and_then r p turn rest).marks → and_then r p turn rest ≡ and_then s q turn' rest'
+  same-and_then p q turn turn' rest rest' is same same_rest each =
+      let split : Each r may p turn.marks × Each r may (behind_marks r p turn.marks) (rest (behind_marks r p turn.marks)).marks =
+      each-split r may p turn.marks (rest (behind_marks r p turn.marks)).marks each in
+      ap (joined turn) (same_rest _ _ (related-behind p q turn.marks is split.0) split.1)
+      ∙ (λ i. joined (same i) (rest' (behind_marks s q (same i).marks)))
 
-same-goes_on : {P Q : Type 0} (r : PartReader P) (s : PartReader Q) (may : P → Mark → Type 0) (related : P → Q → Type 0) → ReadAlike r s may related
-    → (p : P) (q : Q) (rest : P → Turn) (rest' : Q → Turn) (o : Option Waiting) → related p q
-    → ((p' : P) (q' : Q) → related p' q' → Each r may p' (rest p').marks → rest p' ≡ rest' q')
-    → Each r may p (goes_on r p rest o).marks → goes_on r p rest o ≡ goes_on s q rest' o
-same-goes_on r s may related alike p q rest rest' None is same_rest each = refl
-same-goes_on r s may related alike p q rest rest' (Some w) is same_rest each =
-    same-and_then r s may related alike p q (resumed r p w) (resumed s q w) rest rest' is (same-resumed r s may related alike p q w is each.0) same_rest each
+  same-goes_on : (p : P) (q : Q) (rest : P → Turn) (rest' : Q → Turn) (o : Option Waiting) → related p q → ((p' : P) (q' : Q) → related p' q' → Each r may p' (rest p').marks → rest p' ≡ rest' q')
+      → Each r may p (goes_on r p rest o).marks → goes_on r p rest o ≡ goes_on s q rest' o
+  same-goes_on p q rest rest' None is same_rest each = refl
+  same-goes_on p q rest rest' (Some w) is same_rest each =
+      same-and_then p q (resumed r p w) (resumed s q w) rest rest' is (same-resumed p q w is each.0) same_rest each
 
-pub same-settles : {P Q : Type 0} (r : PartReader P) (s : PartReader Q) (may : P → Mark → Type 0) (related : P → Q → Type 0) → ReadAlike r s may related
-    → (n : ℕ) (p : P) (q : Q) → related p q → Each r may p (settles r n p).marks → settles r n p ≡ settles s n q
-same-settles r s may related alike zero p q is each = refl
-same-settles r s may related alike (suc n) p q is each =
-    same-goes_on r s may related alike p q (settles r n) (settles s n) (ready (r.part p)) is (same-settles r s may related alike n) each
-    ∙ ap (λ d. goes_on s q (settles s n) (ready d)) (alike.parts p q is)
+  pub same-settles : (n : ℕ) (p : P) (q : Q) → related p q → Each r may p (settles r n p).marks → settles r n p ≡ settles s n q
+  same-settles zero p q is each = refl
+  same-settles (suc n) p q is each =
+      same-goes_on p q (settles r n) (settles s n) (ready (r.part p)) is (same-settles n) each
+      ∙ ap (λ d. goes_on s q (settles s n) (ready d)) (alike.parts p q is)
 
--- so a turn with all that it lets go on is the same
-pub same-with_settling : {P Q : Type 0} (r : PartReader P) (s : PartReader Q) (may : P → Mark → Type 0) (related : P → Q → Type 0) → ReadAlike r s may related
-    → (p : P) (q : Q) (turn turn' : Turn) → related p q → turn ≡ turn' → Each r may p (with_settling r p turn).marks → with_settling r p turn ≡ with_settling s q turn'
-same-with_settling r s may related alike p q turn turn' is same each =
-    same-and_then r s may related alike p q turn turn' (settling r) (settling s) is same
-    (λ p' q' is' each'. same-settles r s may related alike _ p' q' is' each' ∙ ap (λ d. settles s (length d.waiting) q') (alike.parts p' q' is')) each
+  -- so a turn with all that it lets go on is the same
+  pub same-with_settling : (p : P) (q : Q) (turn turn' : Turn) → related p q → turn ≡ turn' → Each r may p (with_settling r p turn).marks → with_settling r p turn ≡ with_settling s q turn'
+  same-with_settling p q turn turn' is same each =
+      same-and_then p q turn turn' (settling r) (settling s) is same
+      (λ p' q' is' each'. same-settles _ p' q' is' each' ∙ ap (λ d. settles s (length d.waiting) q') (alike.parts p' q' is')) each
 
--- and so is a statement on rows, where the sight may be taken
-pub alike-statement : {P Q : Type 0} (r : PartReader P) (s : PartReader Q) (may : P → Mark → Type 0) (related : P → Q → Type 0) → ReadAlike r s may related
-    → (p : P) (q : Q) (who : ℕ) (stmt : RowStmt) → related p q → may p (looked who) → row_statement r p who stmt ≡ row_statement s q who stmt
-alike-statement {P = P} {Q = Q} r s may related alike p q who stmt is may_look =
-    same-made_by (row_making r who stmt) (row_making s who stmt) (where_of_row stmt) who p q (record {
-      sessions = ap (λ (d : RowPart). d.session who) (alike.parts p q is);
-      waiting = ap (λ (d : RowPart). is_waiting who d.waiting) (alike.parts p q is);
-      outcomes = λ i. alike.tells p q is i (row_form (alike.parts p q is i) (alike.rows p q is i) who stmt);
-      sessions_behind = ap (λ (d : RowPart). d.session who) (alike.parts _ _ behind);
-      outcomes_behind = λ i. alike.tells _ _ behind i (row_form (alike.parts _ _ behind i) (alike.rows _ _ behind i) who stmt);
-    })
-  where
-    behind : related (r.behind p (looked who)) (s.behind q (looked who))
-    behind = alike.behind p q (looked who) is may_look
+  -- and so is a statement on rows, where the sight may be taken
+  pub alike-statement : (p : P) (q : Q) (who : ℕ) (stmt : RowStmt) → related p q → may p (looked who) → row_statement r p who stmt ≡ row_statement s q who stmt
+  alike-statement p q who stmt is may_look =
+      same-made_by (row_making r who stmt) (row_making s who stmt) (where_of_row stmt) who p q (record {
+        sessions = ap (λ (d : RowPart). d.session who) (alike.parts p q is);
+        waiting = ap (λ (d : RowPart). is_waiting who d.waiting) (alike.parts p q is);
+        outcomes = λ i. alike.tells p q is i (row_form (alike.parts p q is i) (alike.rows p q is i) who stmt);
+        sessions_behind = ap (λ (d : RowPart). d.session who) (alike.parts _ _ behind);
+        outcomes_behind = λ i. alike.tells _ _ behind i (row_form (alike.parts _ _ behind i) (alike.rows _ _ behind i) who stmt);
+      })
+    where
+      behind : related (r.behind p (looked who)) (s.behind q (looked who))
+      behind = alike.behind p q (looked who) is may_look
 
--- with those that it lets go on
-pub alike-turn : {P Q : Type 0} (r : PartReader P) (s : PartReader Q) (may : P → Mark → Type 0) (related : P → Q → Type 0) → ReadAlike r s may related
-    → (p : P) (q : Q) (who : ℕ) (stmt : RowStmt) → related p q → may p (looked who) → Each r may p (row_turn r p who stmt).marks → row_turn r p who stmt ≡ row_turn s q who stmt
-alike-turn r s may related alike p q who stmt is may_look each =
-    same-with_settling r s may related alike p q (turn_of who (row_statement r p who stmt)) (turn_of who (row_statement s q who stmt)) is
-    (ap (turn_of who) (alike-statement r s may related alike p q who stmt is may_look)) each
+  -- with those that it lets go on
+  pub alike-turn : (p : P) (q : Q) (who : ℕ) (stmt : RowStmt) → related p q → may p (looked who) → Each r may p (row_turn r p who stmt).marks → row_turn r p who stmt ≡ row_turn s q who stmt
+  alike-turn p q who stmt is may_look each =
+      same-with_settling p q (turn_of who (row_statement r p who stmt)) (turn_of who (row_statement s q who stmt)) is
+      (ap (turn_of who) (alike-statement p q who stmt is may_look)) each
 
 -- where every mark may come
 abbrev pub Any : {P : Type 0} → P → Mark → Type 0

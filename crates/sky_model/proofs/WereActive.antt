@@ -1,10 +1,11 @@
 -- Each batch that a consumer has finished was active when it was closed.
-use Rattle.std.proofs.Common.{ℕ, List, [], ◌∷◌, ◌++◌, Bool, true, false, ◌&&◌, ◌==◌, bytes_eq, refl, ap, All, if◌then◌else◌}
+use Rattle.std.proofs.Common.{ℕ, List, [], ◌∷◌, ◌++◌, ◌&&◌, ◌==◌, bytes_eq, refl, ap, All}
 use Rattle.std.proofs.lemmas.List.Elements.{All-nil, All-push, All-weaker}
 use Rattle.sky_model.specs.History.{Batch, Mark, History}
 use Rattle.sky_model.specs.LawsOfBatches.{finished, WasActive, FinishedBatchesWereActive}
 use Rattle.sky_model.proofs.Legal.{Fine, registers, closes, Legal, start, next}
 use Rattle.sky_model.proofs.SnapshotLaws.{legal_place}
+use Rattle.std.proofs.lemmas.Bool.{cond_both}
 
 one_later : (h : History) (mark : Mark) (b : Batch) → WasActive h b → WasActive (mark ∷ h) b
 one_later h mark b was = record { later = mark ∷ was.later; place = was.place; below = ap (λ p. mark ∷ p) was.below; active = was.active }
@@ -14,16 +15,10 @@ all_later h mark = All-weaker (WasActive h) (WasActive (mark ∷ h)) (one_later 
 
 still_were : (h : History) (mark : Mark) → Fine h mark → (queue : ℕ) (consumer : List ℕ)
     → All (WasActive (mark ∷ h)) (finished queue consumer h) → All (WasActive (mark ∷ h)) (finished queue consumer (mark ∷ h))
-still_were h mark (registers p name sub t i none f g) queue consumer were = of (p == queue && bytes_eq consumer name)
-  where
-    of : (x : Bool) → All (WasActive (mark ∷ h)) (if x then [] else finished queue consumer h)
-    of true = All-nil (WasActive (mark ∷ h))
-    of false = were
-still_were h mark (closes b active) queue consumer were = of (b.queue == queue && bytes_eq consumer b.consumer)
-  where
-    of : (x : Bool) → All (WasActive (mark ∷ h)) (if x then finished queue consumer h ++ b ∷ [] else finished queue consumer h)
-    of true = All-push (WasActive (mark ∷ h)) (finished queue consumer h) b were (record { later = mark ∷ []; place = h; below = refl; active = active })
-    of false = were
+still_were h mark (registers p name sub t i none f g) queue consumer were = cond_both (p == queue && bytes_eq consumer name) [] (finished queue consumer h) (All (WasActive (mark ∷ h))) (λ _. All-nil (WasActive (mark ∷ h))) (λ _. were)
+still_were h mark (closes b active) queue consumer were =
+    cond_both (b.queue == queue && bytes_eq consumer b.consumer) (finished queue consumer h ++ b ∷ []) (finished queue consumer h) (All (WasActive (mark ∷ h)))
+    (λ _. All-push (WasActive (mark ∷ h)) (finished queue consumer h) b were (record { later = mark ∷ []; place = h; below = refl; active = active })) (λ _. were)
 still_were h mark _ queue consumer were = were
 
 were_active : (h : History) → Legal h → (queue : ℕ) (consumer : List ℕ) → All (WasActive h) (finished queue consumer h)

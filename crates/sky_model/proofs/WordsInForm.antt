@@ -1,65 +1,57 @@
--- What a word of a kind is worth is what a word of that kind can be worth.
-use Rattle.std.proofs.Common.{◌≡◌, ℕ, zero, suc, ◌+◌, ◌-◌, ◌^◌, ◌<◌, ◌≤◌, ◌==◌, ℤ, pos, negsuc, Bool, true, false, ◌&&◌, cond, List, [], ◌∷◌, length, take, drop, Option, Some, None, option_map, refl, subst, arith, codes, bytes_eq, nat_le, FitsSigned, w64}
-use Rattle.std.proofs.lemmas.Bool.{and_parts, and_from, leb-true}
+-- A word of a kind is whole, and what it is worth is what a word of that kind can be worth.
+use Rattle.std.proofs.Common.{◌≡◌, ℕ, zero, suc, ◌+◌, ◌-◌, ◌^◌, ◌<◌, ◌≤◌, ◌==◌, pos, Bool, true, false, not, ◌&&◌, cond, List, [], ◌∷◌, length, take, drop, Option, Some, None, IfSome, option_map, refl, sym, ap, ◌∙◌, arith, codes, bytes_eq, nat_le, FitsSigned, w64, take-append-drop}
+use Rattle.std.proofs.lemmas.Bool.{and_parts, and_from, eqb-true, leb-true}
 use Rattle.std.proofs.lemmas.Bool.Decides.{nat_tests}
 use Rattle.std.proofs.lemmas.List.Elements.{All-weaker}
 use Rattle.std.proofs.lemmas.List.Sums.{AllPass-from_list_all}
+use Rattle.std.proofs.lemmas.Option.{IfSome_then}
+use Rattle.std.proofs.lemmas.Slice.Eq.{bytes_eq-Decides}
 use Rattle.std.proofs.lemmas.Str.{IsUtf8-from_is_utf8, IsUtf8-from_ascii}
 use Rattle.std.specs.List.{list_all, onto_first}
-use Rattle.std.specs.Option.{option_or, option_and_then}
 use Rattle.std.specs.Str.{is_utf8, IsAscii}
 use Rattle.sky_val.specs.Numbers.{is_number, number_from, number_of, int_of, below_zero}
-use Rattle.sky_val.specs.declared.val.Val.{Val}
 use Rattle.sky_val.specs.declared.val.Val.TheVariants as val
-use Rattle.sky_val.specs.declared.column.Column as column
+use Rattle.sky_val.specs.declared.column.ColKind.{ColKind}
 use Rattle.sky_model.specs.declared.stmt.Change.{Change}
 use Rattle.sky_model.specs.declared.stmt.Change.TheVariants.{To, Add}
-use Rattle.sky_model.specs.declared.stmt.Set as set
-use Rattle.sky_model.specs.Kinds.{Kind, Name, Dotted, Number, OptText, Raw, Value, Column, Set, Ignore, Of, value, is_bare, is_bare_word, raw, is_name, is_dotted, first_place, value_of, column_kind, column_around, set_as, set_around, between_commas, names_of, ignore_of, is_text_byte, text_from, in_characters, quoted_text, opt_text}
+use Rattle.sky_model.specs.Kinds.{Kind, Name, Dotted, Number, OptText, Raw, Value, Column, Set, Ignore, value, is_bare, is_bare_word, raw, is_name, is_dotted, first_place, value_of, column_kind, column_around, set_as, set_by, set_around, between_commas, ignore_of, is_text_byte, text_from, in_characters, quoted_text, opt_text}
 use Rattle.sky_model.specs.InForm.{IsQuotable, IsOptText, IsValue, IsChange, IsOf}
-use Rattle.sky_model.proofs.WholeWords.{option_map-Some, cond-passed}
+use Rattle.sky_model.proofs.Cases.{if_cond, if_only, if_map, if_then, if_or}
+use Rattle.sky_model.proofs.WholeWords.{whole, whole-append, whole-is_number, whole-is_bare_word, whole-is_name, whole-is_dotted, whole-around, whole-last, continues_all-is_name, whole-between_commas}
+
+abbrev pub IsWhole : List ℕ → Type 0
+IsWhole w = whole false w ≡ true
+
+-- of a word that is this text, or else is whole
+if_text : {A : Type 0} (P : A → Type 0) (w text : List ℕ) (x : A) (rest : Option A) → IsWhole text → P x → IfSome rest (λ v. IsWhole w × P v) → IfSome (cond (bytes_eq w text) (Some x) rest) (λ v. IsWhole w × P v)
+if_text P w text x rest text_so here there =
+    if_cond (λ v. IsWhole w × P v) (bytes_eq w text) (Some x) rest (λ is. (ap (whole false) ((bytes_eq-Decides w text).0 is) ∙ text_so, here)) (λ _. there)
 
 -- ---- texts
 
--- no byte of a text in quotes is a line feed or the zero byte
-text_from-free : (quote : Bool) (bs text : List ℕ) → text_from quote bs ≡ Some text → list_all is_text_byte text ≡ true
-text_from-free true [] text so =
-    let is : [] ≡ text = cc in
-    subst (λ t. list_all is_text_byte t ≡ true) is refl
-text_from-free false [] text so = absurd (cc)
-text_from-free true (b ∷ bs) text so =
-    let inside = cond-passed (b == 39) (option_map (λ t. 39 ∷ t) (text_from false bs)) text so in
-    let inner = option_map-Some (λ t. 39 ∷ t) (text_from false bs) text inside.1 in
-    subst (λ t. list_all is_text_byte t ≡ true) inner.2 (text_from-free false bs inner.0 inner.1)
-text_from-free false (b ∷ bs) text so =
-    elim (b == 39) as (λ v. cond v (text_from true bs) (cond (is_text_byte b) (option_map (λ t. b ∷ t) (text_from false bs)) None) ≡ Some text → list_all is_text_byte text ≡ true) [
-      | true ↦ λ e. text_from-free true bs text e
-      | false ↦ λ e.
-          let inside = cond-passed (is_text_byte b) (option_map (λ t. b ∷ t) (text_from false bs)) text e in
-          let inner = option_map-Some (λ t. b ∷ t) (text_from false bs) text inside.1 in
-          subst (λ t. list_all is_text_byte t ≡ true) inner.2 (and_from (is_text_byte b) (list_all is_text_byte inner.0) inside.0 (text_from-free false bs inner.0 inner.1))
-    ] so
+-- from inside quotes, or from behind a quote, to a text's closing quote; no byte of the text is a line feed or the zero byte
+texts : (quote : Bool) (bs : List ℕ) → IfSome (text_from quote bs) (λ text. (whole (not quote) bs ≡ true) × (list_all is_text_byte text ≡ true))
+texts true [] = (refl, refl)
+texts false [] = tt
+texts true (b ∷ bs) =
+    if_only _ (b == 39) _ (λ is. if_map _ (λ t. 39 ∷ t) (text_from false bs) (IfSome_then (text_from false bs) (texts false bs) (λ t it. let quote : b ≡ 39 = eqb-true b 39 is in (rw quote it.0, it.1))))
+texts false (b ∷ bs) =
+    if_cond _ (b == 39) _ _ (λ is. IfSome_then (text_from true bs) (texts true bs) (λ t it. (rw is it.0, it.1)))
+    (λ is. if_only _ (is_text_byte b) _ (λ free. if_map _ (λ t. b ∷ t) (text_from false bs) (IfSome_then (text_from false bs) (texts false bs) (λ t it. (rw is it.0, and_from (is_text_byte b) (list_all is_text_byte t) free it.1)))))
 
-in_characters-is : (o : Option (List ℕ)) (text : List ℕ) → in_characters o ≡ Some text → (is_utf8 text ≡ true) × (o ≡ Some text)
-in_characters-is None text so = absurd (cc)
-in_characters-is (Some x) text so =
-    let inside = cond-passed (is_utf8 x) (Some x) text so in
-    let is : x ≡ text = cc in
-    (subst (λ t. is_utf8 t ≡ true) is inside.0, inside.1)
+characters : (T : Type 0) (o : Option (List ℕ)) → IfSome o (λ text. T × (list_all is_text_byte text ≡ true)) → IfSome (in_characters o) (λ text. T × IsQuotable text)
+characters T None some = tt
+characters T (Some text) some =
+    if_only _ (is_utf8 text) (Some text) (λ is. (some.0, record { characters = IsUtf8-from_is_utf8 text is; free = AllPass-from_list_all is_text_byte text some.1 }))
 
-quoted : (w text : List ℕ) → quoted_text w ≡ Some text → IsQuotable text
-quoted [] text so = absurd (cc)
-quoted (b ∷ bs) text so =
-    let inside = cond-passed (b == 39) (in_characters (text_from false bs)) text so in
-    let is = in_characters-is (text_from false bs) text inside.1 in
-    record { characters = IsUtf8-from_is_utf8 text is.0; free = AllPass-from_list_all is_text_byte text (text_from-free false bs text is.1) }
+quoted : (w : List ℕ) → IfSome (quoted_text w) (λ text. IsWhole w × IsQuotable text)
+quoted [] = tt
+quoted (b ∷ bs) =
+    if_only _ (b == 39) _ (λ is. characters (IsWhole (b ∷ bs)) (text_from false bs)
+    (IfSome_then (text_from false bs) (texts false bs) (λ t it. let quote : b ≡ 39 = eqb-true b 39 is in (rw quote it.0, it.1))))
 
-opted : (w : List ℕ) (text : Option (List ℕ)) → opt_text w ≡ Some text → IsOptText text
-opted w text so =
-    elim (bytes_eq w (codes "null")) as (λ v. cond v (Some None) (option_map (λ t. Some t) (quoted_text w)) ≡ Some text → IsOptText text) [
-      | true ↦ λ e. let is : None ≡ text = cc in subst IsOptText is tt
-      | false ↦ λ e. let inner = option_map-Some (λ t. Some t) (quoted_text w) text e in subst IsOptText inner.2 (quoted w inner.0 inner.1)
-    ] so
+opted : (w : List ℕ) → IfSome (opt_text w) (λ text. IsWhole w × IsOptText text)
+opted w = if_text IsOptText w (codes "null") None _ refl tt (if_map _ (λ t. Some t) (quoted_text w) (quoted w))
 
 -- ---- words without quotes
 
@@ -83,84 +75,64 @@ bare w so =
     let all = all_bare w so in
     record { characters = IsUtf8-from_ascii w (all_ascii w all); free = All-weaker (λ b. is_bare b ≡ true) (λ b. is_text_byte b ≡ true) bare-text w (AllPass-from_list_all is_bare w all) }
 
-raws : (w text : List ℕ) → raw w ≡ Some text → IsQuotable text
-raws w text so =
-    elim (is_bare_word w) as (λ v. is_bare_word w ≡ v → cond v (Some w) (quoted_text w) ≡ Some text → IsQuotable text) [
-      | true ↦ λ is e. let same : w ≡ text = cc in subst IsQuotable same (bare w is)
-      | false ↦ λ is e. quoted w text e
-    ] refl so
+raws : (w : List ℕ) → IfSome (raw w) (λ text. IsWhole w × IsQuotable text)
+raws w = if_cond _ (is_bare_word w) (Some w) _ (λ is. (whole-is_bare_word w is, bare w is)) (λ _. quoted w)
 
 -- ---- numbers
 
-number_within : (most : ℕ) (w : List ℕ) (n : ℕ) → number_of most w ≡ Some n → n ≤ most
-number_within most w n so =
-    let inside = cond-passed (is_number w && nat_le (number_from 0 w) most) (Some (number_from 0 w)) n so in
-    let small = leb-true (number_from 0 w) most (and_parts (is_number w) (nat_le (number_from 0 w) most) inside.0).1 in
-    let is : number_from 0 w ≡ n = cc in
-    omega arith
+numbers : (most : ℕ) (w : List ℕ) → IfSome (number_of most w) (λ n. IsWhole w × (n ≤ most))
+numbers most w =
+    if_only _ (is_number w && nat_le (number_from 0 w) most) _ (λ is.
+    let parts = and_parts (is_number w) (nat_le (number_from 0 w) most) is in
+    (whole-is_number w parts.0, leb-true (number_from 0 w) most parts.1))
 
-below_fits : (m : ℕ) (n : ℤ) → m ≤ 2 ^ 63 → below_zero m ≡ Some n → FitsSigned w64 n
-below_fits zero n small so = absurd (cc)
-below_fits (suc m) n small so =
-    let is : negsuc m ≡ n = cc in
-    subst (FitsSigned w64) is (record { sfits = omega arith })
+below_fits : (T : Type 0) (m : ℕ) → T → m ≤ 2 ^ 63 → IfSome (below_zero m) (λ n. T × FitsSigned w64 n)
+below_fits T zero t small = tt
+below_fits T (suc m) t small = (t, record { sfits = omega arith })
 
-pos_fits : (n : ℕ) → n ≤ 2 ^ 63 - 1 → FitsSigned w64 (pos n)
-pos_fits n small = record { sfits = omega arith }
-
-int_fits : (w : List ℕ) (n : ℤ) → int_of w ≡ Some n → FitsSigned w64 n
-int_fits [] n so = absurd (cc)
-int_fits (b ∷ bs) n so =
-    elim (b == 45) as (λ v. cond v (option_and_then below_zero (number_of (2 ^ 63) bs)) (option_map (λ m. pos m) (number_of (2 ^ 63 - 1) (b ∷ bs))) ≡ Some n → FitsSigned w64 n) [
-      | true ↦ λ e. elim (number_of (2 ^ 63) bs) as (λ o. number_of (2 ^ 63) bs ≡ o → option_and_then below_zero o ≡ Some n → FitsSigned w64 n) [
-        | None ↦ λ is below. absurd (cc)
-        | Some m ↦ λ is below. below_fits m n (number_within (2 ^ 63) bs m is) below
-      ] refl e
-      | false ↦ λ e.
-          let number = option_map-Some (λ m. pos m) (number_of (2 ^ 63 - 1) (b ∷ bs)) n e in
-          subst (FitsSigned w64) number.2 (pos_fits number.0 (number_within (2 ^ 63 - 1) (b ∷ bs) number.0 number.1))
-    ] so
+ints : (w : List ℕ) → IfSome (int_of w) (λ n. IsWhole w × FitsSigned w64 n)
+ints [] = tt
+ints (b ∷ bs) =
+    if_cond _ (b == 45) _ _
+    (λ is. if_then _ below_zero (number_of (2 ^ 63) bs) (IfSome_then (number_of (2 ^ 63) bs) (numbers (2 ^ 63) bs) (λ m it.
+    below_fits (IsWhole (b ∷ bs)) m (let minus : b ≡ 45 = eqb-true b 45 is in rw minus it.0) it.1)))
+    (λ _. if_map _ (λ m. pos m) (number_of (2 ^ 63 - 1) (b ∷ bs)) (IfSome_then (number_of (2 ^ 63 - 1) (b ∷ bs)) (numbers (2 ^ 63 - 1) (b ∷ bs)) (λ m it.
+    let small : m ≤ 2 ^ 63 - 1 = it.1 in (it.0, record { sfits = omega arith }))))
 
 -- ---- values, columns and changes
 
-value_is : (w : List ℕ) (v : Val) → value_of w ≡ Some v → IsValue v
-value_is w v so =
-    elim (bytes_eq w (codes "null")) as (λ t. cond t (Some val.Null) (option_or (option_map (λ n. val.Int n) (int_of w)) (option_map (λ t. val.Text t) (quoted_text w))) ≡ Some v → IsValue v) [
-      | true ↦ λ e. let is : val.Null ≡ v = cc in subst IsValue is tt
-      | false ↦ λ e. elim (int_of w) as (λ o. int_of w ≡ o → option_or (option_map (λ n. val.Int n) o) (option_map (λ t. val.Text t) (quoted_text w)) ≡ Some v → IsValue v) [
-        | None ↦ λ is text. let inner = option_map-Some (λ t. val.Text t) (quoted_text w) v text in subst IsValue inner.2 (quoted w inner.0 inner.1)
-        | Some n ↦ λ is number. let same : val.Int n ≡ v = cc in subst IsValue same (int_fits w n is)
-      ] refl e
-    ] so
+values : (w : List ℕ) → IfSome (value_of w) (λ v. IsWhole w × IsValue v)
+values w =
+    if_text IsValue w (codes "null") val.Null _ refl tt
+    (if_or _ (option_map (λ n. val.Int n) (int_of w)) _ (if_map _ (λ n. val.Int n) (int_of w) (ints w)) (if_map _ (λ t. val.Text t) (quoted_text w) (quoted w)))
 
-column_is : (w : List ℕ) (colon : Option ℕ) (c : column.Column) → column_around colon w ≡ Some c → IsOf Column c
-column_is w None c so = absurd (cc)
-column_is w (Some colon) c so =
-    let inside = cond-passed (is_name (take colon w)) _ c so in
-    let kind = option_map-Some _ (column_kind (drop (colon + 1) w)) c inside.1 in
-    subst (IsOf Column) kind.2 inside.0
+kinds : (w : List ℕ) → IfSome (column_kind w) (λ k. IsWhole w × Unit {0})
+kinds w =
+    let any : ColKind × Bool → Type 0 = λ k. Unit {0} in
+    if_text any w (codes "int") _ _ refl tt (if_text any w (codes "int:key") _ _ refl tt (if_text any w (codes "text") _ _ refl tt (if_text any w (codes "text:key") _ None refl tt tt)))
 
-set_is : (name : List ℕ) (change : Option Change) (s : set.Set) → ((c : Change) → change ≡ Some c → IsChange c) → set_as name change ≡ Some s → IsOf Set s
-set_is name change s changes so =
-    let inside = cond-passed (is_name name) _ s so in
-    let inner = option_map-Some _ change s inside.1 in
-    subst (IsOf Set) inner.2 (inside.0, changes inner.0 inner.1)
+columns : (w : List ℕ) (colon : Option ℕ) → first_place 58 w ≡ colon → IfSome (column_around colon w) (λ c. IsWhole w × IsOf Column c)
+columns w None is = tt
+columns w (Some colon) is =
+    if_only _ (is_name (take colon w)) _ (λ named. if_map _ _ (column_kind (drop (colon + 1) w)) (IfSome_then (column_kind (drop (colon + 1) w)) (kinds (drop (colon + 1) w)) (λ k it.
+    (whole-around 58 w colon (refl, refl) is (whole-is_name (take colon w) named) it.0, named))))
 
-added : (w : List ℕ) (c : Change) → option_map (λ n. Add n) (int_of w) ≡ Some c → IsChange c
-added w c so = let number = option_map-Some (λ n. Add n) (int_of w) c so in subst IsChange number.2 (int_fits w number.0 number.1)
+set_is : (T : Type 0) (name : List ℕ) (change : Option Change) → (is_name name ≡ true → IfSome change (λ c. T × IsChange c)) → IfSome (set_as name change) (λ s. T × IsOf Set s)
+set_is T name change changes = if_only _ (is_name name) _ (λ named. if_map _ _ change (IfSome_then change (changes named) (λ c it. (it.0, (named, it.1)))))
 
-made : (w : List ℕ) (c : Change) → option_map (λ v. To v) (value_of w) ≡ Some c → IsChange c
-made w c so = let worth = option_map-Some (λ v. To v) (value_of w) c so in subst IsChange worth.2 (value_is w worth.0 worth.1)
+-- both parts of a change are whole
+sets : (front back : List ℕ) → IfSome (set_by front back) (λ s. (IsWhole front × IsWhole back) × IsOf Set s)
+sets front back =
+    let both : Type 0 = IsWhole front × IsWhole back in
+    if_cond _ (bytes_eq (drop (length front - 1) front) (codes "+")) _ _
+    (λ is. set_is both (take (length front - 1) front) _ (λ named. if_map _ (λ n. Add n) (int_of back) (IfSome_then (int_of back) (ints back) (λ n it.
+    ((whole-last front (codes "+") is refl (whole-is_name (take (length front - 1) front) named), it.0), it.1)))))
+    (λ _. set_is both front _ (λ named. if_map _ (λ v. To v) (value_of back) (IfSome_then (value_of back) (values back) (λ v it. ((whole-is_name front named, it.0), it.1)))))
 
-set_around-is : (w : List ℕ) (at : Option ℕ) (s : set.Set) → set_around at w ≡ Some s → IsOf Set s
-set_around-is w None s so = absurd (cc)
-set_around-is w (Some at) s so =
-    let front : List ℕ = take at w in
-    let back : List ℕ = drop (at + 1) w in
-    elim (bytes_eq (drop (length front - 1) front) (codes "+")) as (λ v. cond v (set_as (take (length front - 1) front) (option_map (λ n. Add n) (int_of back))) (set_as front (option_map (λ v. To v) (value_of back))) ≡ Some s → IsOf Set s) [
-      | true ↦ λ e. set_is (take (length front - 1) front) (option_map (λ n. Add n) (int_of back)) s (added back) e
-      | false ↦ λ e. set_is front (option_map (λ v. To v) (value_of back)) s (made back) e
-    ] so
+sets_around : (w : List ℕ) (at : Option ℕ) → first_place 61 w ≡ at → IfSome (set_around at w) (λ s. IsWhole w × IsOf Set s)
+sets_around w None is = tt
+sets_around w (Some at) is =
+    IfSome_then (set_by (take at w) (drop (at + 1) w)) (sets (take at w) (drop (at + 1) w)) (λ s it. (whole-around 61 w at (refl, refl) is it.0.0 it.0.1, it.1))
 
 -- ---- the columns that a trigger ignores
 
@@ -176,29 +148,24 @@ some_between (b ∷ bs) =
       | false ↦ some_onto_first b (between_commas bs)
     ]
 
-ignored : (w : List ℕ) (names : List (List ℕ)) → ignore_of w ≡ Some names → IsOf Ignore names
-ignored w names so =
+ignored : (w : List ℕ) → IfSome (ignore_of w) (λ names. IsWhole w × IsOf Ignore names)
+ignored w =
     let behind : List ℕ = drop 7 w in
-    let inside = cond-passed (bytes_eq (take 7 w) (codes "ignore=")) (names_of behind) names so in
-    let all = cond-passed (list_all is_name (between_commas behind)) (Some (between_commas behind)) names inside.1 in
-    let is : between_commas behind ≡ names = cc in
-    subst (IsOf Ignore) is (some_between behind, AllPass-from_list_all is_name (between_commas behind) all.0)
+    if_only _ (bytes_eq (take 7 w) (codes "ignore=")) _ (λ is. if_only _ (list_all is_name (between_commas behind)) (Some (between_commas behind)) (λ are. (
+      ap (whole false) (sym (take-append-drop 7 w)) ∙ whole-append false (take 7 w) behind (ap (whole false) ((bytes_eq-Decides (take 7 w) (codes "ignore=")).0 is))
+          (whole-between_commas behind (continues_all-is_name (between_commas behind) are)),
+      (some_between behind, AllPass-from_list_all is_name (between_commas behind) are),
+    )))
 
 -- ---- any kind
 
-named : (test : Bool) (w v : List ℕ) (P : List ℕ → Type 0) → (test ≡ true → P w) → cond test (Some w) None ≡ Some v → P v
-named test w v P says so =
-    let inside = cond-passed test (Some w) v so in
-    let is : w ≡ v = cc in
-    subst P is (says inside.0)
-
-pub is_of : (k : Kind) (w : List ℕ) (v : Of k) → value k w ≡ Some v → IsOf k v
-is_of Name w v so = named (is_name w) w v (IsOf Name) (λ is. is) so
-is_of Dotted w v so = named (is_dotted w) w v (IsOf Dotted) (λ is. is) so
-is_of (Number most) w v so = number_within most w v so
-is_of OptText w v so = opted w v so
-is_of Raw w v so = raws w v so
-is_of Value w v so = value_is w v so
-is_of Column w v so = column_is w (first_place 58 w) v so
-is_of Set w v so = set_around-is w (first_place 61 w) v so
-is_of Ignore w v so = ignored w v so
+pub worth : (k : Kind) (w : List ℕ) → IfSome (value k w) (λ v. IsWhole w × IsOf k v)
+worth Name w = if_only _ (is_name w) (Some w) (λ is. (whole-is_name w is, is))
+worth Dotted w = if_only _ (is_dotted w) (Some w) (λ is. (whole-is_dotted w is, is))
+worth (Number most) w = numbers most w
+worth OptText w = opted w
+worth Raw w = raws w
+worth Value w = values w
+worth Column w = columns w (first_place 58 w) refl
+worth Set w = sets_around w (first_place 61 w) refl
+worth Ignore w = ignored w

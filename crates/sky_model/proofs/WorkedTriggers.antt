@@ -97,16 +97,11 @@ updated = refl
 abbrev answers : List Call → Stmt → List (ℕ × Reply)
 answers calls stmt = answers_of (past_of (calls ++ run)) (a stmt)
 
--- a table that a running transaction has written gets no trigger
-is_busy : answers (b (insert 1) ∷ b (Row Begin) ∷ []) (AddTrigger (codes "more") (codes "t") (codes "q") false []) ≡ (0, Refused (TableBusy 4)) ∷ []
-is_busy = refl
+abbrev trigger : (name : List ℕ) → List (List ℕ) → Stmt
+trigger name ignored = AddTrigger name (codes "t") (codes "q") false ignored
 
-is_free : answers (b (Row Rollback) ∷ b (insert 1) ∷ b (Row Begin) ∷ []) (AddTrigger (codes "more") (codes "t") (codes "q") false []) ≡ (0, Done) ∷ []
-is_free = refl
-
--- nor a second one of a name, nor one that ignores part of the key
-is_there : answers [] (AddTrigger (codes "all") (codes "t") (codes "q") false []) ≡ (0, Refused (TriggerExists (codes "all"))) ∷ []
-is_there = refl
-
-ignores_key : answers [] (AddTrigger (codes "more") (codes "t") (codes "q") false (codes "n" ∷ codes "id" ∷ [])) ≡ (0, Refused (BadColumn (codes "id"))) ∷ []
-ignores_key = refl
+-- a table that a running transaction has written gets no trigger, nor does any a second one of a name, nor one that ignores part of the key
+triggered : answers (b (insert 1) ∷ b (Row Begin) ∷ []) (trigger (codes "more") []) ++ answers (b (Row Rollback) ∷ b (insert 1) ∷ b (Row Begin) ∷ []) (trigger (codes "more") [])
+    ++ answers [] (trigger (codes "all") []) ++ answers [] (trigger (codes "more") (codes "n" ∷ codes "id" ∷ []))
+    ≡ (0, Refused (TableBusy 4)) ∷ (0, Done) ∷ (0, Refused (TriggerExists (codes "all"))) ∷ (0, Refused (BadColumn (codes "id"))) ∷ []
+triggered = refl

@@ -46,36 +46,20 @@ seen calls = map (sees (snapshot (then calls))) (3 ∷ 4 ∷ 5 ∷ [])
 it_waits : is_waiting 1 (waiting (then [])) ≡ true
 it_waits = refl
 
-not_yet : written [] ≡ 3 ∷ 5 ∷ []
-not_yet = refl
-
--- once `a` commits, `b` writes the key: behind 5, though its id is 4
-behind : written (a Commit ∷ []) ≡ 3 ∷ 5 ∷ 4 ∷ []
+-- once `a` commits, `b` writes the key: behind 5, though its id is 4; had `a` rolled back, its write would stand first nevertheless
+behind : map written ([] ∷ (a Commit ∷ []) ∷ (b Commit ∷ a Rollback ∷ []) ∷ []) ≡ (3 ∷ 5 ∷ []) ∷ (3 ∷ 5 ∷ 4 ∷ []) ∷ (3 ∷ 5 ∷ 4 ∷ []) ∷ []
 behind = refl
 
--- so they commit
-commits : committed (then (b Commit ∷ a Commit ∷ [])) ≡ 3 ∷ 5 ∷ 4 ∷ []
+-- so they commit, or the one that doesn't roll back does
+commits : map (λ calls. committed (then calls)) ((b Commit ∷ a Commit ∷ []) ∷ (b Commit ∷ a Rollback ∷ []) ∷ []) ≡ (3 ∷ 5 ∷ 4 ∷ []) ∷ (3 ∷ 4 ∷ []) ∷ []
 commits = refl
 
 one_order : is_before 5 4 (written (b Commit ∷ a Commit ∷ [])) ≡ true
 one_order = refl
 
 -- and snapshots see 5 first
-first_none : seen [] ≡ true ∷ false ∷ false ∷ []
-first_none = refl
-
-then_one : seen (a Commit ∷ []) ≡ true ∷ false ∷ true ∷ []
-then_one = refl
-
-then_both : seen (b Commit ∷ a Commit ∷ []) ≡ true ∷ true ∷ true ∷ []
-then_both = refl
-
--- had `a` rolled back, its write would stand first nevertheless
-rolled_back : written (b Commit ∷ a Rollback ∷ []) ≡ 3 ∷ 5 ∷ 4 ∷ []
-rolled_back = refl
-
-not_committed : committed (then (b Commit ∷ a Rollback ∷ [])) ≡ 3 ∷ 4 ∷ []
-not_committed = refl
+seen_first : map seen ([] ∷ (a Commit ∷ []) ∷ (b Commit ∷ a Commit ∷ []) ∷ []) ≡ (true ∷ false ∷ false ∷ []) ∷ (true ∷ false ∷ true ∷ []) ∷ (true ∷ true ∷ true ∷ []) ∷ []
+seen_first = refl
 
 gone : has_rolled_back (then (b Commit ∷ a Rollback ∷ [])) 5 ≡ true
 gone = refl

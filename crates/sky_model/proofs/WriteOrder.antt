@@ -1,7 +1,6 @@
 -- A key is written by one running transaction at a time, so those that write it commit in the order in which they write it.
-use Rattle.std.proofs.Common.{◌≡◌, ◌≢◌, ℕ, List, [], ◌∷◌, ◌++◌, Bool, true, false, not, refl, sym, ◌∙◌, ap, arith, if◌then◌else◌}
-use Rattle.std.proofs.lemmas.Bool.{true_from_ne_false, false_from_ne_true, or_parts, or_right}
-use Rattle.std.specs.Prelude.{◌||◌, ◌&&◌, ◌==◌, nat_lt, Option}
+use Rattle.std.proofs.Common.{◌≡◌, ◌≢◌, ℕ, List, [], ◌∷◌, ◌++◌, Bool, true, false, not, refl, sym, ◌∙◌, ap, arith, ◌||◌, ◌&&◌, ◌==◌, nat_lt, Option}
+use Rattle.std.proofs.lemmas.Bool.{true_from_ne_false, false_from_ne_true, or_parts, or_right, and_parts, eqb-true, cond_both}
 use Rattle.std.specs.Ordering.{eq_by_cmp}
 use Rattle.std.proofs.lemmas.Bool.Decides.{nat_tests}
 use Rattle.sky_val.specs.declared.val.Val.{Val}
@@ -18,6 +17,7 @@ use Rattle.sky_model.proofs.SnapshotLaws.{legal-below_mark, fine_mark, legal-bel
 use Rattle.sky_model.proofs.RowKeys.{committed-ended}
 use Rattle.sky_model.proofs.RowSights.{ended-behind}
 use Rattle.sky_model.proofs.Holders.{turned, has_written-push, nobody-else}
+use Rattle.sky_model.proofs.Cases.{by_test, by_same}
 
 -- ---- places in a list
 
@@ -53,25 +53,10 @@ turned_test : (t v : ℕ) (b : Bool) → (v == t) ≡ b → (t == v) ≡ b
 turned_test t v b e = grind (arith, nat_tests)
 
 -- they are the same as by the writes of each
-written-step : (h : History) (whose : Whose) (v n table : ℕ) (k key : List Val) (old new : Option (List Val)) (t : ℕ) → contains t (writers table key h) ≡ has_written key (writes_of table t h)
-    → contains t (writers table key (tabled (wrote whose v n k old new) ∷ h)) ≡ has_written key (writes_of table t (tabled (wrote whose v n k old new) ∷ h))
-written-step h whose v n table k key old new t ih = of (n == table) (eq_by_cmp key_cmp k key) refl (v == t) refl
-  where
-    pushed : (b : Bool) → eq_by_cmp key_cmp k key ≡ b → has_written key (writes_of table t h ++ record { key = k; row = new } ∷ []) ≡ (has_written key (writes_of table t h) || b)
-    pushed b e = has_written-push key (writes_of table t h) (record { key = k; row = new }) ∙ ap (λ c. has_written key (writes_of table t h) || c) (turned key k ∙ e)
-
-    of : (a b : Bool) → eq_by_cmp key_cmp k key ≡ b → (c : Bool) → (v == t) ≡ c
-        → contains t (if a && b then writers table key h ++ v ∷ [] else writers table key h)
-        ≡ has_written key (if a && c then writes_of table t h ++ record { key = k; row = new } ∷ [] else writes_of table t h)
-    of true true tie true is = contains-push t v (writers table key h) ∙ (λ i. ih i || turned_test t v true is i) ∙ sym (pushed true tie)
-    of true true tie false is = contains-push t v (writers table key h) ∙ (λ i. ih i || turned_test t v false is i) ∙ or_false (has_written key (writes_of table t h))
-    of true false tie true is = ih ∙ sym (pushed false tie ∙ or_false (has_written key (writes_of table t h)))
-    of true false tie false is = ih
-    of false b tie c is = ih
-
 writers-written : (table : ℕ) (key : List Val) (t : ℕ) (h : History) → contains t (writers table key h) ≡ has_written key (writes_of table t h)
 writers-written table key t [] = refl
-writers-written table key t (tabled (wrote whose v n k old new) ∷ h) = written-step h whose v n table k key old new t (writers-written table key t h)
+writers-written table key t (tabled (wrote whose v n k old new) ∷ h) =
+    grind (arith, nat_tests, writers-written table key t h, contains-push t v (writers table key h), has_written-push key (writes_of table t h) (record { key = k; row = new }), turned key k)
 writers-written table key t (_ ∷ h) = writers-written table key t h
 
 -- ---- who has ended where another one writes a key
@@ -92,39 +77,11 @@ keys_are_written_in_turn p whose u table key old new is =
     let fine : Fine p (tabled (wrote whose u table key old new)) = fine_mark l in
     (writer-unended p whose u table key old new (legal-below_mark l) fine, λ t other wrote_it. others-ended p whose u table key old new (legal-below_mark l) fine t (apart t u other) wrote_it)
 
--- a write adds its transaction to those that wrote its key, and to no other
-by-write : (table : ℕ) (key : List Val) (h : History) (whose : Whose) (v n : ℕ) (k : List Val) (old new : Option (List Val)) (holds : List ℕ → Type 0)
-    → (n ≡ table → k ≡ key → holds (writers table key h ++ v ∷ [])) → holds (writers table key h) → holds (writers table key (tabled (wrote whose v n k old new) ∷ h))
-by-write table key h whose v n k old new holds at_end before = of (n == table) refl (eq_by_cmp key_cmp k key) refl
-  where
-    of : (a : Bool) → (n == table) ≡ a → (b : Bool) → eq_by_cmp key_cmp k key ≡ b → holds (if a && b then writers table key h ++ v ∷ [] else writers table key h)
-    of true same true tie = at_end (grind (arith, nat_tests)) (key_ties-is k key tie)
-    of true same false tie = before
-    of false same b tie = before
-
 -- where one wrote a key before another, it has ended
-before-step : (table : ℕ) (key : List Val) (t u : ℕ) (h : History) (whose : Whose) (v n : ℕ) (k : List Val) (old new : Option (List Val)) → Legal (tabled (wrote whose v n k old new) ∷ h)
-    → (t == u) ≡ false → (is_before t u (writers table key h) ≡ true → has_ended h t ≡ true)
-    → is_before t u (writers table key (tabled (wrote whose v n k old new) ∷ h)) ≡ true → has_ended h t ≡ true
-before-step table key t u h whose v n k old new l other ih =
-    by-write table key h whose v n k old new (λ vs. is_before t u vs ≡ true → has_ended h t ≡ true)
-    (λ table_is key_is e. pushed table_is key_is (is_before t u (writers table key h)) refl (contains t (writers table key h)) refl (u == v) refl (sym (is_before-push t u v (writers table key h)) ∙ e))
-    ih
-  where
-    pushed : n ≡ table → k ≡ key → (b : Bool) → is_before t u (writers table key h) ≡ b → (c : Bool) → contains t (writers table key h) ≡ c → (d : Bool) → (u == v) ≡ d
-        → (b || (c && d)) ≡ true → has_ended h t ≡ true
-    pushed table_is key_is true isb c isc d isd e = ih isb
-    pushed table_is key_is false isb true isc true isd e =
-        let apart_now : (t == v) ≡ false = grind (arith, nat_tests) in
-        let wrote_it : has_written k (writes_of n t h) ≡ true = (λ i. has_written (key_is i) (writes_of (table_is i) t h)) ∙ sym (writers-written table key t h) ∙ isc in
-        others-ended h whose v n k old new (legal-below_mark l) (fine_mark l) t apart_now wrote_it
-    pushed table_is key_is false isb true isc false isd e = absurd (cc)
-    pushed table_is key_is false isb false isc d isd e = absurd (cc)
-
 before-ended : (table : ℕ) (key : List Val) (t u : ℕ) (h : History) → Legal h → (t == u) ≡ false → is_before t u (writers table key h) ≡ true → has_ended h t ≡ true
 before-ended table key t u [] l other e = absurd (cc)
 before-ended table key t u (tabled (wrote whose v n k old new) ∷ h) l other e =
-    before-step table key t u h whose v n k old new l other (before-ended table key t u h (legal-below_mark l) other) e
+    grind (arith, nat_tests, before-ended table key t u h (legal-below_mark l) other, is_before-push t u v (writers table key h), writers-written table key t h, key_ties-is k key, others-ended h whose v n k old new (legal-below_mark l) (fine_mark l) t)
 before-ended table key t u (ended whose v c ∷ h) l other e = ended-behind h (ended whose v c) t (before-ended table key t u h (legal-below_mark l) other e)
 before-ended table key t u (_ ∷ h) l other e = before-ended table key t u h (legal-below_mark l) other e
 
@@ -135,20 +92,11 @@ ended-later [] p t e = e
 ended-later (mark ∷ later) p t e = ended-behind (later ++ p) mark t (ended-later later p t e)
 
 -- one that has ended writes no more, so nobody comes to stand before it
-still-step : (table : ℕ) (key : List Val) (t u : ℕ) (h : History) (whose : Whose) (v n : ℕ) (k : List Val) (old new : Option (List Val)) → Legal (tabled (wrote whose v n k old new) ∷ h)
-    → has_ended h u ≡ true → is_before t u (writers table key (tabled (wrote whose v n k old new) ∷ h)) ≡ is_before t u (writers table key h)
-still-step table key t u h whose v n k old new l over =
-    by-write table key h whose v n k old new (λ vs. is_before t u vs ≡ is_before t u (writers table key h))
-    (λ table_is key_is. is_before-other t u v (writers table key h) another) refl
-  where
-    another : (u == v) ≡ false
-    another = grind (arith, nat_tests, writer-unended h whose v n k old new (legal-below_mark l) (fine_mark l))
-
 still-before : (table : ℕ) (key : List Val) (t u : ℕ) (later : List Mark) (p : History) → Legal (later ++ p) → has_ended p u ≡ true
     → is_before t u (writers table key (later ++ p)) ≡ is_before t u (writers table key p)
 still-before table key t u [] p l over = refl
 still-before table key t u (tabled (wrote whose v n k old new) ∷ later) p l over =
-    still-step table key t u (later ++ p) whose v n k old new l (ended-later later p u over) ∙ still-before table key t u later p (legal-below_mark l) over
+    grind (arith, nat_tests, still-before table key t u later p (legal-below_mark l) over, ended-later later p u over, is_before-push t u v (writers table key (later ++ p)), writer-unended (later ++ p) whose v n k old new (legal-below_mark l) (fine_mark l))
 still-before table key t u (_ ∷ later) p l over = still-before table key t u later p (legal-below_mark l) over
 
 pub snapshots_see_earlier_writers : SnapshotsSeeEarlierWriters
@@ -156,11 +104,7 @@ snapshots_see_earlier_writers later p is table key t u first seen =
     let l : Legal (later ++ p) = legal_place (later ++ p) is in
     let below : Legal p = legal-below later p l in
     let over : has_ended p u ≡ true = sym (sees-snapshot p below u) ∙ seen in
-    sees-snapshot p below t ∙ of below over (sym (still-before table key t u later p l over) ∙ first) (t == u) refl
-  where
-    of : Legal p → has_ended p u ≡ true → is_before t u (writers table key p) ≡ true → (b : Bool) → (t == u) ≡ b → has_ended p t ≡ true
-    of below over first true same = (let one : t ≡ u = grind (arith, nat_tests) in ap (has_ended p) one ∙ over)
-    of below over first false other = before-ended table key t u p below other first
+    sees-snapshot p below t ∙ by_same (λ _. has_ended p t ≡ true) t u (λ one. ap (has_ended p) one ∙ over) (λ other. before-ended table key t u p below other (sym (still-before table key t u later p l over) ∙ first))
 
 -- ---- commits
 
@@ -177,24 +121,10 @@ early-ended [] t early = early
 early-ended (mark ∷ h) t early = ended-behind h mark t (early-ended h t early)
 
 -- so none of them writes
-writer-step : (table : ℕ) (key : List Val) (t : ℕ) (h : History) (whose : Whose) (v n : ℕ) (k : List Val) (old new : Option (List Val)) → Legal (tabled (wrote whose v n k old new) ∷ h)
-    → (contains t (writers table key h) ≡ true → nat_lt t 3 ≡ false) → contains t (writers table key (tabled (wrote whose v n k old new) ∷ h)) ≡ true → nat_lt t 3 ≡ false
-writer-step table key t h whose v n k old new l ih =
-    by-write table key h whose v n k old new (λ vs. contains t vs ≡ true → nat_lt t 3 ≡ false)
-    (λ table_is key_is e. of (contains t (writers table key h)) refl (t == v) refl (sym (contains-push t v (writers table key h)) ∙ e)) ih
-  where
-    late : (b : Bool) → nat_lt t 3 ≡ b → t ≡ v → b ≡ false
-    late false is one = refl
-    late true is one = absurd (cc (sym (early-ended h t is) ∙ ap (has_ended h) one ∙ writer-unended h whose v n k old new (legal-below_mark l) (fine_mark l)))
-
-    of : (b : Bool) → contains t (writers table key h) ≡ b → (c : Bool) → (t == v) ≡ c → (b || c) ≡ true → nat_lt t 3 ≡ false
-    of true isb c isc e = ih isb
-    of false isb true isc e = late (nat_lt t 3) refl (grind (arith, nat_tests))
-    of false isb false isc e = absurd (cc)
-
 writer-late : (table : ℕ) (key : List Val) (t : ℕ) (h : History) → Legal h → contains t (writers table key h) ≡ true → nat_lt t 3 ≡ false
 writer-late table key t [] l e = absurd (cc)
-writer-late table key t (tabled (wrote whose v n k old new) ∷ h) l e = writer-step table key t h whose v n k old new l (writer-late table key t h (legal-below_mark l)) e
+writer-late table key t (tabled (wrote whose v n k old new) ∷ h) l e =
+    grind (arith, nat_tests, writer-late table key t h (legal-below_mark l), contains-push t v (writers table key h), early-ended h t, writer-unended h whose v n k old new (legal-below_mark l) (fine_mark l))
 writer-late table key t (_ ∷ h) l e = writer-late table key t h (legal-below_mark l) e
 
 -- one that ends hadn't
@@ -203,85 +133,34 @@ ender-unended h _ _ _ l (ends who v c mine) = own-unended h l who v mine
 
 -- who has ended is another than who hasn't
 ended-other : (h : History) (u v : ℕ) → has_ended h u ≡ true → has_ended h v ≡ false → (u == v) ≡ false
-ended-other h u v over runs = of (u == v) refl
-  where
-    of : (b : Bool) → (u == v) ≡ b → b ≡ false
-    of false is = refl
-    of true is = (let one : u ≡ v = grind (arith, nat_tests) in absurd (cc (sym over ∙ ap (has_ended h) one ∙ runs)))
+ended-other h u v over runs = false_from_ne_true (u == v) (λ is. cc (sym over ∙ ap (has_ended h) (eqb-true u v is) ∙ runs))
 
 -- who hasn't ended hasn't committed
 unended-unlisted : (h : History) (t : ℕ) → has_ended h t ≡ false → contains t (committed h) ≡ false
-unended-unlisted h t runs = of (contains t (committed h)) refl
-  where
-    of : (b : Bool) → contains t (committed h) ≡ b → b ≡ false
-    of false is = refl
-    of true is = absurd (cc (sym runs ∙ committed-ended h t is))
+unended-unlisted h t runs = false_from_ne_true (contains t (committed h)) (λ is. cc (sym runs ∙ committed-ended h t is))
 
 -- of two that wrote a key, the first not rolled back and the second committed, the order of the writes is that of the commits
 abbrev IsOneOrder : History → List ℕ → ℕ → ℕ → Type 0
 IsOneOrder h vs t u = contains t vs ≡ true → contains u vs ≡ true → contains u (committed h) ≡ true → is_before t u vs ≡ is_before t u (committed h)
 
-order-wrote : (table : ℕ) (key : List Val) (t u : ℕ) (h : History) (whose : Whose) (v n : ℕ) (k : List Val) (old new : Option (List Val)) → Legal (tabled (wrote whose v n k old new) ∷ h)
-    → IsOneOrder h (writers table key h) t u → IsOneOrder h (writers table key (tabled (wrote whose v n k old new) ∷ h)) t u
-order-wrote table key t u h whose v n k old new l ih =
-    by-write table key h whose v n k old new (λ vs. IsOneOrder h vs t u)
-    (λ table_is key_is has_t has_u listed. of (ended-other h u v (committed-ended h u listed) runs) listed
-    (contains t (writers table key h)) refl (t == v) refl (sym (contains-push t v (writers table key h)) ∙ has_t)
-    (contains u (writers table key h)) refl (sym (contains-push u v (writers table key h)) ∙ has_u))
-    ih
-  where
-    runs : has_ended h v ≡ false
-    runs = writer-unended h whose v n k old new (legal-below_mark l) (fine_mark l)
-
-    of : (u == v) ≡ false → contains u (committed h) ≡ true → (a : Bool) → contains t (writers table key h) ≡ a → (b : Bool) → (t == v) ≡ b → (a || b) ≡ true
-        → (c : Bool) → contains u (writers table key h) ≡ c → (c || u == v) ≡ true → is_before t u (writers table key h ++ v ∷ []) ≡ is_before t u (committed h)
-    of other listed a isa b isb has_t false isc has_u = absurd (cc)
-    of other listed true isa b isb has_t true isc has_u = is_before-other t u v (writers table key h) other ∙ ih isa isc listed
-    of other listed false isa true isb has_t true isc has_u =
-        let one : t ≡ v = grind (arith, nat_tests) in
-        is_before-other t u v (writers table key h) other ∙ is_before-none t u (writers table key h) isa
-        ∙ sym (is_before-none t u (committed h) (unended-unlisted h t (ap (has_ended h) one ∙ runs)))
-    of other listed false isa false isb has_t true isc has_u = absurd (cc)
-
-order-committed : (table : ℕ) (key : List Val) (t u : ℕ) (h : History) (whose : Whose) (v : ℕ) → Legal (ended whose v true ∷ h) → (t == u) ≡ false → has_rolled_back h t ≡ false
-    → IsOneOrder h (writers table key h) t u → IsOneOrder (ended whose v true ∷ h) (writers table key h) t u
-order-committed table key t u h whose v l other stays ih has_t has_u listed =
-    of (contains u (committed h)) refl (u == v) refl (sym (contains-push u v (committed h)) ∙ listed)
-  where
-    below : Legal h
-    below = legal-below_mark l
-
-    runs : has_ended h v ≡ false
-    runs = ender-unended h whose v true below (fine_mark l)
-
-    -- the second one commits now: it ran until now, so its writes are the last ones
-    isnt : (u == v) ≡ true → (b : Bool) → is_before u t (writers table key h) ≡ b → b ≡ false
-    isnt same false is = refl
-    isnt same true is =
-        let one : v ≡ u = grind (arith, nat_tests) in
-        let turned_round : (u == t) ≡ false = turned_test u t false other in
-        absurd (cc (sym runs ∙ ap (has_ended h) one ∙ before-ended table key u t h below turned_round is))
-
-    first : (u == v) ≡ true → is_before t u (writers table key h) ≡ true
-    first same = one-before t u (writers table key h) other has_t has_u (isnt same (is_before u t (writers table key h)) refl)
-
-    has_it : (u == v) ≡ true → contains t (committed h) ≡ true
-    has_it same =
-        let over : has_ended h t ≡ true = before-ended table key t u h below other (first same) in
-        committed-listed h t (has_committed-ended h below t ∙ (λ i. over i && not (stays i))) (writer-late table key t h below has_t)
-
-    of : (a : Bool) → contains u (committed h) ≡ a → (b : Bool) → (u == v) ≡ b → (a || b) ≡ true → is_before t u (writers table key h) ≡ is_before t u (committed h ++ v ∷ [])
-    of true isa b isb e = ih has_t has_u isa ∙ sym (is_before-other t u v (committed h) (ended-other h u v (committed-ended h u isa) runs))
-    of false isa true isb e =
-        first isb ∙ sym (is_before-push t u v (committed h) ∙ (λ i. is_before t u (committed h) || (has_it isb i && isb i)) ∙ or_right (is_before t u (committed h)) true refl)
-    of false isa false isb e = absurd (cc)
-
 in_one_order : (table : ℕ) (key : List Val) (t u : ℕ) (h : History) → Legal h → (t == u) ≡ false → has_rolled_back h t ≡ false → IsOneOrder h (writers table key h) t u
 in_one_order table key t u [] l other stays has_t has_u listed = refl
 in_one_order table key t u (tabled (wrote whose v n k old new) ∷ h) l other stays has_t has_u listed =
-    order-wrote table key t u h whose v n k old new l (in_one_order table key t u h (legal-below_mark l) other stays) has_t has_u listed
+    let runs : has_ended h v ≡ false = writer-unended h whose v n k old new (legal-below_mark l) (fine_mark l) in
+    let ended_u : has_ended h u ≡ true = committed-ended h u listed in
+    let push_t = contains-push t v (writers table key h) in
+    let push_u = contains-push u v (writers table key h) in
+    grind (arith, nat_tests, in_one_order table key t u h (legal-below_mark l) other stays, push_t, push_u, is_before-push t u v (writers table key h), is_before-none t u (writers table key h), is_before-none t u (committed h), unended-unlisted h t)
 in_one_order table key t u (ended whose v true ∷ h) l other stays has_t has_u listed =
-    order-committed table key t u h whose v l other stays (in_one_order table key t u h (legal-below_mark l) other stays) has_t has_u listed
+    let below = legal-below_mark l in
+    let runs : has_ended h v ≡ false = ender-unended h whose v true below (fine_mark l) in
+    let earlier = before-ended table key t u h below other in
+    -- where the second one commits now, it ran until now, so its writes are the last ones
+    let later = before-ended table key u t h below (turned_test u t false other) in
+    let push = contains-push u v (committed h) in
+    let first = one-before t u (writers table key h) other in
+    let is_listed = committed-listed h t in
+    grind (arith, nat_tests, in_one_order table key t u h below other stays, push, is_before-push t u v (committed h), earlier, later, first, is_listed, has_committed-ended h below t, writer-late table key t h below, committed-ended h u)
 in_one_order table key t u (ended whose v false ∷ h) l other stays has_t has_u listed =
     in_one_order table key t u h (legal-below_mark l) other (or_parts (t == v) (has_rolled_back h t) stays).1 has_t has_u listed
 in_one_order table key t u (_ ∷ h) l other stays has_t has_u listed = in_one_order table key t u h (legal-below_mark l) other stays has_t has_u listed

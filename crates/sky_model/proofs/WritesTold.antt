@@ -1,5 +1,5 @@
 -- In the history that calls make the events that tell of a write stand right behind it.
-use Rattle.std.proofs.Common.{◌≡◌, ℕ, zero, suc, ℤ, List, [], ◌∷◌, ◌++◌, Bool, true, false, Option, Some, None, Ok, Err, length, refl, sym, ap, subst, if◌then◌else◌}
+use Rattle.std.proofs.Common.{◌≡◌, ℕ, zero, suc, ℤ, List, [], ◌∷◌, ◌++◌, Bool, true, false, Option, Some, None, Ok, Err, IfOk, length, refl, sym, ap, subst}
 use Rattle.sky_val.specs.declared.val.Val.{Val}
 use Rattle.sky_keys.specs.Waits.{Waiting, is_waiting}
 use Rattle.sky_model.specs.declared.stmt.Stmt.{Stmt}
@@ -25,9 +25,12 @@ use Rattle.sky_model.proofs.Marks.{database_of-mark, database_of-marks}
 use Rattle.sky_model.proofs.Lawful.{database-reads, past-behind}
 use Rattle.sky_model.proofs.StatementMarks.{each-first, each-rest, AnyReply, gives-map, Kinds, no_more, may_leave, kinds, gives-form, each-failure, given-settled}
 use Rattle.sky_model.proofs.GatedLemmas.{is_no_write, WritesNone, plain-if, plain-abort}
+use Rattle.std.proofs.lemmas.Result.{IfOk-at_ok}
+use Rattle.sky_model.proofs.Cases.{ok-then}
 use Rattle.sky_model.proofs.Resting.{behind-append}
 use Rattle.sky_model.proofs.Inserted.{Inserted, none, with_raised, with_put}
 use Rattle.sky_model.proofs.Telling.{EventMarks, told_by-events}
+use Rattle.std.proofs.lemmas.Bool.{cond_both}
 
 -- the first of a list, and the rest
 abbrev pub first : Mark → List Mark → Mark
@@ -88,8 +91,7 @@ write-told h time write events same told (x ∷ later) p whose t table key old n
 
 -- behind a mark and what is told of it, or where that is refused
 abbrev MarkTold : History → Checked (List Mark) → Type 0
-MarkTold h (Ok marks) = AllTold (marked h marks)
-MarkTold h (Err refusal) = Unit {0}
+MarkTold h x = IfOk x (λ marks. AllTold (marked h marks))
 
 mark-told : (h : History) → AllTold h → (now : ℤ) (mark : Mark) → MarkTold (mark ∷ h) (told_of (database_of (mark ∷ h)) now mark)
 mark-told h told now (tabled (wrote (of_session who) t table key old new)) =
@@ -107,19 +109,11 @@ mark-told h told now mark = plain-told h (mark ∷ []) tt told
 with_told-told : (h : History) → AllTold h → (now : ℤ) (marks : List Mark) → MarkTold h (with_told (database_of h) now marks)
 with_told-told h told now [] = told
 with_told-told h told now (mark ∷ marks) =
-    of (told_of (after_mark (database_of h) mark) now mark) (subst (λ d. MarkTold (mark ∷ h) (told_of d now mark)) (database_of-mark h mark) (mark-told h told now mark))
-    (λ g all. with_told-told g all now marks)
-  where
-    joined : (events : List Mark) (x : Checked (List Mark)) → MarkTold (marked (mark ∷ h) events) x → MarkTold h (x >>= (λ more. Ok (mark ∷ events ++ more)))
-    joined events (Ok more) all = subst AllTold (sym (behind-append part_by_history (mark ∷ h) events more)) all
-    joined events (Err refusal) all = tt
-
-    of : (x : Checked (List Mark)) → MarkTold (mark ∷ h) x → ((g : History) → AllTold g → MarkTold g (with_told (database_of g) now marks))
-        → MarkTold h (x >>= (λ events. with_told (after_marks (database_of h) (mark ∷ events)) now marks >>= (λ more. Ok (mark ∷ events ++ more))))
-    of (Ok events) all ih =
-        joined events (with_told (after_marks (database_of h) (mark ∷ events)) now marks)
-        (subst (λ d. MarkTold (marked (mark ∷ h) events) (with_told d now marks)) (database_of-marks h (mark ∷ events)) (ih (marked (mark ∷ h) events) all))
-    of (Err refusal) all ih = tt
+    ok-then _ (told_of (after_mark (database_of h) mark) now mark) _ (λ events same.
+    let g : History = marked (mark ∷ h) events in
+    let all : AllTold g = IfOk-at_ok _ same (subst (λ d. MarkTold (mark ∷ h) (told_of d now mark)) (database_of-mark h mark) (mark-told h told now mark)) in
+    ok-then _ (with_told (after_marks (database_of h) (mark ∷ events)) now marks) _ (λ more is. subst AllTold (sym (behind-append part_by_history (mark ∷ h) events more))
+    (IfOk-at_ok _ is (subst (λ d. MarkTold g (with_told d now marks)) (database_of-marks h (mark ∷ events)) (with_told-told g all now marks)))))
 
 -- ---- a statement
 
@@ -141,12 +135,9 @@ form-told h told now who stmt =
 
 runs-told : (h : History) → AllTold h → (now : ℤ) (who : ℕ) (stmt : Stmt) (may : Checked (Unit {0})) → AllTold (marked h (runs_if (making database_by_history now who stmt) (where_of stmt) who h may).marks)
 runs-told h told now who stmt (Err refusal) = plain-told h (abort who (session h who).block (session h who).txid refusal) (plain-abort who (session h who).block (session h who).txid refusal) told
-runs-told h told now who stmt (Ok _) = of (takes_sight (where_of stmt) (session h who).sight)
-  where
-    of : (b : Bool) → AllTold (marked h (if b then looking who (settled who (session (looked who ∷ h) who) (form (database_of (looked who ∷ h)) (shown_in (looked who ∷ h)) now who stmt))
-        else settled who (session h who) (form (database_of h) (shown_in h) now who stmt)).marks)
-    of true = form-told (looked who ∷ h) (plain-told h (looked who ∷ []) tt told) now who stmt
-    of false = form-told h told now who stmt
+runs-told h told now who stmt (Ok _) =
+    cond_both (takes_sight (where_of stmt) (session h who).sight) (looking who (settled who (session (looked who ∷ h) who) (form (database_of (looked who ∷ h)) (shown_in (looked who ∷ h)) now who stmt))) _ (λ o. AllTold (marked h o.marks))
+    (λ _. form-told (looked who ∷ h) (plain-told h (looked who ∷ []) tt told) now who stmt) (λ _. form-told h told now who stmt)
 
 statement-told : (h : History) → AllTold h → (now : ℤ) (who : ℕ) (stmt : Stmt) → AllTold (marked h (statement database_by_history h now who stmt).marks)
 statement-told h told now who stmt = runs-told h told now who stmt (allowed (is_waiting who (waiting h)) (has_open who h) (block who h) (where_of stmt))

@@ -1,9 +1,9 @@
 -- Writes name the rows that stand, and what they leave are rows of their tables.
-use Rattle.std.proofs.Common.{◌≡◌, ℕ, ◌+◌, ◌<◌, Bool, true, false, List, [], ◌∷◌, ◌++◌, Option, Some, None, IfSome, length, refl, sym, ◌∙◌, ap, subst, arith, if◌then◌else◌, length-append}
-use Rattle.std.specs.Prelude.{◌&&◌, ◌==◌}
-use Rattle.std.specs.Option.{option_or}
+use Rattle.std.proofs.Common.{◌≡◌, ℕ, ◌+◌, ◌<◌, Bool, true, false, List, [], ◌∷◌, ◌++◌, Option, Some, None, IfSome, length, refl, sym, ◌∙◌, ap, subst, arith, if◌then◌else◌, length-append, ◌&&◌, ◌==◌, All}
 use Rattle.std.specs.Ordering.{eq_by_cmp}
+use Rattle.std.proofs.lemmas.Bool.{cond_both}
 use Rattle.std.proofs.lemmas.Bool.Decides.{nat_tests}
+use Rattle.std.proofs.lemmas.List.Elements.{All-nil, All-cons, All-head, All-tail, All-weaker}
 use Rattle.sky_val.specs.declared.val.Val.{Val}
 use Rattle.sky_val.specs.declared.column.Column.{Column}
 use Rattle.sky_val.specs.Order.{key_cmp}
@@ -22,60 +22,35 @@ use Rattle.sky_model.specs.ShownRows.{RowsShown, rows_by, snapshot_now}
 use Rattle.sky_model.specs.LawsOfWrites.{IsRowOf, WritesNameWhatStands, WrittenRowsFit, StandingRowsFit}
 use Rattle.sky_model.proofs.Legal.{Replaces, Fine, ends, makes_table, writes, Legal, start, next}
 use Rattle.sky_model.proofs.SnapshotLaws.{legal_place, legal-below_mark, fine_mark}
+use Rattle.sky_model.proofs.Cases.{if_or}
 use Rattle.sky_model.proofs.RowKeys.{is_in_order-versions}
 use Rattle.sky_model.proofs.KeyVersions.{kept, key_holds, kept-wrote}
 use Rattle.sky_model.proofs.RowSights.{same-rows}
 
 -- ---- each version of a list
 
-abbrev Each : (Version → Type 0) → List Version → Type 0
-Each P [] = Unit {0}
-Each P (v ∷ vs) = P v × Each P vs
+all-with : (P : Version → Type 0) (t : ℕ) (row : Option (List Val)) (vs : List Version) → All P vs → P (record { txid = t; row = row }) → All P (with_version t row vs)
+all-with P t row [] all this = All-cons P (record { txid = t; row = row }) [] this all
+all-with P t row (v ∷ vs) all this =
+    let rest = All-tail P v vs all in
+    cond_both (t == v.txid) (record { txid = t; row = row } ∷ vs) (v ∷ with_version t row vs) (All P) (λ _. All-cons P (record { txid = t; row = row }) vs this rest)
+    (λ _. All-cons P v (with_version t row vs) (All-head P v vs all) (all-with P t row vs rest this))
 
-abbrev If : (Version → Type 0) → Option Version → Type 0
-If P None = Unit {0}
-If P (Some v) = P v
+all-without : (P : Version → Type 0) (t : ℕ) (vs : List Version) → All P vs → All P (without t vs)
+all-without P t [] all = all
+all-without P t (v ∷ vs) all =
+    let rest = all-without P t vs (All-tail P v vs all) in
+    cond_both (t == v.txid) (without t vs) (v ∷ without t vs) (All P) (λ _. rest) (λ _. All-cons P v (without t vs) (All-head P v vs all) rest)
 
-each-map : (P Q : Version → Type 0) (vs : List Version) → ((v : Version) → P v → Q v) → Each P vs → Each Q vs
-each-map P Q [] f all = tt
-each-map P Q (v ∷ vs) f all = (f v all.0, each-map P Q vs f all.1)
+newest-of : (P : Version → Type 0) (p : ℕ → Bool) (vs : List Version) (newest : Option Version) → All P vs → IfSome newest P → IfSome (newest_from p newest vs) P
+newest-of P p [] newest all this = this
+newest-of P p (v ∷ vs) newest all this =
+    newest-of P p vs (if p v.txid then Some v else newest) (All-tail P v vs all) (cond_both (p v.txid) (Some v) newest (λ o. IfSome o P) (λ _. All-head P v vs all) (λ _. this))
 
-each-with : (P : Version → Type 0) (t : ℕ) (row : Option (List Val)) (vs : List Version) → Each P vs → P (record { txid = t; row = row }) → Each P (with_version t row vs)
-each-with P t row [] all this = (this, tt)
-each-with P t row (v ∷ vs) all this = of (t == v.txid) (each-with P t row vs all.1 this)
-  where
-    of : (b : Bool) → Each P (with_version t row vs) → Each P (if b then record { txid = t; row = row } ∷ vs else v ∷ with_version t row vs)
-    of true rest = (this, all.1)
-    of false rest = (all.0, rest)
-
-each-without : (P : Version → Type 0) (t : ℕ) (vs : List Version) → Each P vs → Each P (without t vs)
-each-without P t [] all = tt
-each-without P t (v ∷ vs) all = of (t == v.txid) (each-without P t vs all.1)
-  where
-    of : (b : Bool) → Each P (without t vs) → Each P (if b then without t vs else v ∷ without t vs)
-    of true rest = rest
-    of false rest = (all.0, rest)
-
-if-newest : (P : Version → Type 0) (p : ℕ → Bool) (vs : List Version) (newest : Option Version) → Each P vs → If P newest → If P (newest_from p newest vs)
-if-newest P p [] newest all this = this
-if-newest P p (v ∷ vs) newest all this = of (p v.txid) (λ o one. if-newest P p vs o all.1 one)
-  where
-    of : (b : Bool) → ((o : Option Version) → If P o → If P (newest_from p o vs)) → If P (newest_from p (if b then Some v else newest) vs)
-    of true ih = ih (Some v) all.0
-    of false ih = ih newest this
-
-if-own : (P : Version → Type 0) (own : Option ℕ) (vs : List Version) → Each P vs → If P (own_version own vs)
-if-own P None vs all = tt
-if-own P (Some t) [] all = tt
-if-own P (Some t) (v ∷ vs) all = of (t == v.txid) (if-own P (Some t) vs all.1)
-  where
-    of : (b : Bool) → If P (version_of t vs) → If P (if b then Some v else version_of t vs)
-    of true rest = all.0
-    of false rest = rest
-
-if-or : (P : Version → Type 0) (own newest : Option Version) → If P own → If P newest → If P (option_or own newest)
-if-or P None newest this also = also
-if-or P (Some v) newest this also = this
+own-of : (P : Version → Type 0) (own : Option ℕ) (vs : List Version) → All P vs → IfSome (own_version own vs) P
+own-of P None vs all = tt
+own-of P (Some t) [] all = tt
+own-of P (Some t) (v ∷ vs) all = cond_both (t == v.txid) (Some v) (version_of t vs) (λ o. IfSome o P) (λ _. All-head P v vs all) (λ _. own-of P (Some t) vs (All-tail P v vs all))
 
 -- ---- the versions that are kept
 
@@ -85,9 +60,9 @@ record Left (h : History) (table : ℕ) (key : List Val) (v : Version) : Type 0 
   fits : IfSome v.row (IsRowOf (columns_of table h) key)
 
 abbrev AllLeft : History → Type 0
-AllLeft h = (table : ℕ) (key : List Val) → Each (Left h table key) (kept h table key)
+AllLeft h = (table : ℕ) (key : List Val) → All (Left h table key) (kept h table key)
 
-row-left : (h : History) (table : ℕ) (key : List Val) (o : Option Version) → If (Left h table key) o → IfSome (row_of o) (IsRowOf (columns_of table h) key)
+row-left : (h : History) (table : ℕ) (key : List Val) (o : Option Version) → IfSome o (Left h table key) → IfSome (row_of o) (IsRowOf (columns_of table h) key)
 row-left h table key None this = tt
 row-left h table key (Some v) this = this.fits
 
@@ -95,9 +70,9 @@ row-left h table key (Some v) this = this.fits
 standing-left : (h : History) → AllLeft h → (who table : ℕ) (key : List Val) → IfSome ((rows_by (part_of h)).key who table key).standing (IsRowOf (columns_of table h) key)
 standing-left h all who table key =
     row-left h table key _
-    (if-or (Left h table key) (own_version (own_txid who h) (kept h table key)) (newest_by (sees (snapshot_now (part_of h))) (kept h table key))
-    (if-own (Left h table key) (own_txid who h) (kept h table key) (all table key))
-    (if-newest (Left h table key) (sees (snapshot_now (part_of h))) (kept h table key) None (all table key) tt))
+    (if_or (Left h table key) (own_version (own_txid who h) (kept h table key)) (newest_by (sees (snapshot_now (part_of h))) (kept h table key))
+    (own-of (Left h table key) (own_txid who h) (kept h table key) (all table key))
+    (newest-of (Left h table key) (sees (snapshot_now (part_of h))) (kept h table key) None (all table key) tt))
 
 -- a write over what stands leaves a row of its table
 new-fits : (h : History) → AllLeft h → (who table : ℕ) (key : List Val) (old new : Option (List Val)) → Replaces (part_of h) who table key old new → IfSome new (IsRowOf (columns_of table h) key)
@@ -106,7 +81,7 @@ new-fits h all who table key old new is = is.fits (subst (λ o. IfSome o (IsRowO
 left-same : (h : History) (mark : Mark) → ((table : ℕ) (key : List Val) (v : Version) → Left h table key v → Left (mark ∷ h) table key v)
     → ((table : ℕ) (key : List Val) → kept (mark ∷ h) table key ≡ kept h table key) → AllLeft h → AllLeft (mark ∷ h)
 left-same h mark still same all table key =
-    subst (Each (Left (mark ∷ h) table key)) (sym (same table key)) (each-map (Left h table key) (Left (mark ∷ h) table key) (kept h table key) (still table key) (all table key))
+    subst (All (Left (mark ∷ h) table key)) (sym (same table key)) (All-weaker (Left h table key) (Left (mark ∷ h) table key) (still table key) (kept h table key) (all table key))
 
 left-step : (h : History) (mark : Mark) → Fine h mark → Legal h → AllLeft h → AllLeft (mark ∷ h)
 left-step h _ (makes_table name columns new) l all = left-same h (tabled (table_made name columns)) still (λ table key. refl) all
@@ -120,33 +95,33 @@ left-step h _ (makes_table name columns new) l all = left-same h (tabled (table_
         other : table < length (table_names h) → (length (table_names h) == table) ≡ false
         other below = grind (arith, nat_tests)
 left-step h _ (writes who t n at_key old new mine free stands) l all = λ table key.
-    subst (Each (Left g table key)) (sym (kept-wrote h l who t n at_key old new mine free table key)) (of table key (n == table) refl (eq_by_cmp key_cmp key at_key) refl)
+    subst (All (Left g table key)) (sym (kept-wrote h l who t n at_key old new mine free table key)) (of table key (n == table) refl (eq_by_cmp key_cmp key at_key) refl)
   where
     g : History
     g = tabled (wrote (of_session who) t n at_key old new) ∷ h
 
-    before : (table : ℕ) (key : List Val) → Each (Left g table key) (kept h table key)
-    before table key = each-map (Left h table key) (Left g table key) (kept h table key) (λ v is. record { within = is.within; fits = is.fits }) (all table key)
+    before : (table : ℕ) (key : List Val) → All (Left g table key) (kept h table key)
+    before table key = All-weaker (Left h table key) (Left g table key) (λ v is. record { within = is.within; fits = is.fits }) (kept h table key) (all table key)
 
     written : Left g n at_key (record { txid = t; row = new })
     written = record { within = stands.within; fits = new-fits h all who n at_key old new stands }
 
     of : (table : ℕ) (key : List Val) (b : Bool) → (n == table) ≡ b → (c : Bool) → eq_by_cmp key_cmp key at_key ≡ c
-        → Each (Left g table key) (if b && c then with_version t new (kept h table key) else kept h table key)
+        → All (Left g table key) (if b && c then with_version t new (kept h table key) else kept h table key)
     of table key true here true tie =
         let table_is : n ≡ table = grind (arith, nat_tests) in
-        each-with (Left g table key) t new (kept h table key) (before table key)
+        all-with (Left g table key) t new (kept h table key) (before table key)
         (subst (λ m. Left g m key (record { txid = t; row = new })) table_is (subst (λ k. Left g n k (record { txid = t; row = new })) (sym (key_ties-is key at_key tie)) written))
     of table key true here false tie = before table key
     of table key false there c tie = before table key
 left-step h _ (ends who t false mine) l all = λ table key.
-    subst (Each (Left (ended (of_session who) t false ∷ h) table key)) (sym (versions_at-forgotten t key (versions table h) (is_in_order-versions table h)))
-    (each-without (Left (ended (of_session who) t false ∷ h) table key) t (kept h table key)
-    (each-map (Left h table key) (Left (ended (of_session who) t false ∷ h) table key) (kept h table key) (λ v is. record { within = is.within; fits = is.fits }) (all table key)))
+    subst (All (Left (ended (of_session who) t false ∷ h) table key)) (sym (versions_at-forgotten t key (versions table h) (is_in_order-versions table h)))
+    (all-without (Left (ended (of_session who) t false ∷ h) table key) t (kept h table key)
+    (All-weaker (Left h table key) (Left (ended (of_session who) t false ∷ h) table key) (λ v is. record { within = is.within; fits = is.fits }) (kept h table key) (all table key)))
 left-step h mark _ l all = left-same h mark (λ table key v is. record { within = is.within; fits = is.fits }) (λ table key. refl) all
 
 all-left : (h : History) → Legal h → AllLeft h
-all-left _ start = λ table key. tt
+all-left _ start = λ table key. All-nil (Left [] table key)
 all-left _ (next {h = h} {mark = mark} l fine) = left-step h mark fine l (all-left h l)
 
 -- ---- the laws
@@ -174,4 +149,4 @@ standing_rows_fit p is table key row stands =
     let l : Legal p = legal_place p is in
     subst (λ o. IfSome o (IsRowOf (columns_of table p) key)) ((key_holds p l table key).newest ∙ stands)
     (row-left p table key (newest_by (has_ended p) (kept p table key))
-    (if-newest (Left p table key) (has_ended p) (kept p table key) None (all-left p l table key) tt))
+    (newest-of (Left p table key) (has_ended p) (kept p table key) None (all-left p l table key) tt))
