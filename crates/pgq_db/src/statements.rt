@@ -222,7 +222,7 @@ impl Db {
     /// The number of the queue of this name.
     fn queue_called(&self, queue: &Text) -> Result<usize, Stop>
         ensures ok { IfOk result (λ number. queue_called queue.now (seen_database self.now) ≡ Ok number) }
-        ensures within { IfOk result (λ number. number < length self.now.queues.queues) }
+        ensures within { IfOk result (λ number. number < length self.now.queues.names) }
         ensures err { IfErr result (λ stop. StopsAs stop (queue_called queue.now (seen_database self.now))) }
     {
         match self.queues.number(queue) {
@@ -401,7 +401,7 @@ impl Db {
         sub: &Subscription,
         replies: &mut Replies,
     ) -> Result<(), Stop>
-        requires { queue < length self.old.queues.queues }
+        requires { queue < length self.old.queues.names }
         ensures { Ran self.old self.new replies.old replies.new who result (opens_batch (seen_database self.old) queue consumer.now sub.now (tick (sub.now.position + 1) ((seen_database self.old).queue queue).tick_list)) }
     {
         let Some(next) = self.queue(queue).ticks().next_after(sub.position()) else {

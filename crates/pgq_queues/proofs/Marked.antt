@@ -152,23 +152,20 @@ one-set v i old new f lt at is = λ j n. pointwise n j
     pointwise : (n : ℕ) → seen_queue (get_or (slice_set v.queues i new) n no_queue) ≡ (if i == n then f (seen_queue (get_or v.queues n no_queue)) else seen_queue (get_or v.queues n no_queue))
     pointwise n = ap seen_queue (get_or-slice_set v.queues i n new lt) ∙ by n (i == n) refl
 
-here-too : (v now : QueuesView) (i : ℕ) → v ≡ now → i < length now.queues → i < length v.queues
-here-too v now i same lt = subst (λ (w : QueuesView). i < length w.queues) (sym same) lt
-
-pub queues-set : (v now : QueuesView) (i : ℕ) (old new : QueueView) (f : Queue → Queue) → v ≡ now → i < length now.queues → old ≡ get_or v.queues i old → seen_queue new ≡ f (seen_queue old)
+pub queues-set : (v now : QueuesView) (i : ℕ) (old new : QueueView) (f : Queue → Queue) → v ≡ now → i < length v.queues → old ≡ get_or v.queues i old → seen_queue new ≡ f (seen_queue old)
     → (part : RowPart) → seen_with part (record v { queues = slice_set v.queues i new }) ≡ record (seen_with part now) { queue = changed_at i f (queue_at now) }
 queues-set v now i old new f same lt at is part =
-    (λ j. record (seen_with part v) { queue = one-set v i old new f (here-too v now i same lt) at is j })
+    (λ j. record (seen_with part v) { queue = one-set v i old new f lt at is j })
     ∙ ap (λ (w : QueuesView). record (seen_with part w) { queue = changed_at i f (queue_at w) }) same
 
 -- the queue at a place is what is shown there
-pub queue-at : (v now : QueuesView) (i : ℕ) (q : QueueView) → v ≡ now → i < length now.queues → q ≡ get_or v.queues i q → seen_queue q ≡ queue_at now i
+pub queue-at : (v now : QueuesView) (i : ℕ) (q : QueueView) → v ≡ now → i < length v.queues → q ≡ get_or v.queues i q → seen_queue q ≡ queue_at now i
 queue-at v now i q same lt at =
-    ap seen_queue (sym (get_or_from_slice_get v.queues i q no_queue (slice_get_read v.queues (length v.queues) i q refl (here-too v now i same lt) at)))
+    ap seen_queue (sym (get_or_from_slice_get v.queues i q no_queue (slice_get_read v.queues (length v.queues) i q refl lt at)))
     ∙ ap (λ (w : QueuesView). queue_at w i) same
 
 -- a tick that is stored is one with the snapshot as it was
-pub ticked-as : (v now : QueuesView) (i : ℕ) (old new : QueueView) (t : Tick) → v ≡ now → i < length now.queues → old ≡ get_or v.queues i old → new ≡ record old { ticks = old.ticks ++ t ∷ [] }
+pub ticked-as : (v now : QueuesView) (i : ℕ) (old new : QueueView) (t : Tick) → v ≡ now → i < length v.queues → old ≡ get_or v.queues i old → new ≡ record old { ticks = old.ticks ++ t ∷ [] }
     → (part : RowPart) → t.snapshot ≡ snapshot_now part → seen_with part (record v { queues = slice_set v.queues i new }) ≡ after_mark (seen_with part now) (queued (ticked i t.id t.time t.seq))
 ticked-as v now i old new t same lt at is part snap =
     queues-set v now i old new (λ q. record q { tick_list = q.tick_list ++ t ∷ [] }) same lt at (ap seen_queue is) part
@@ -177,7 +174,7 @@ ticked-as v now i old new t same lt at is part snap =
     }) snap
 
 -- so is one with the value of the sequence
-pub ticked-next : (v now : QueuesView) (i id : ℕ) (time : ℤ) (snapshot : SnapshotView) (old new : QueueView) → v ≡ now → i < length now.queues → old ≡ get_or v.queues i old
+pub ticked-next : (v now : QueuesView) (i id : ℕ) (time : ℤ) (snapshot : SnapshotView) (old new : QueueView) → v ≡ now → i < length v.queues → old ≡ get_or v.queues i old
     → new ≡ record old { ticks = old.ticks ++ record { id = id; time = time; snapshot = snapshot; seq = old.seq } ∷ [] }
     → (part : RowPart) → snapshot ≡ snapshot_now part → seen_with part (record v { queues = slice_set v.queues i new }) ≡ after_mark (seen_with part now) (queued (ticked i id time (queue_at now i).seq))
 ticked-next v now i id time snapshot old new same lt at is part snap =
@@ -217,7 +214,7 @@ made-as v now names queues q name t same more one new count id seq part snap =
     is = λ i. record { id = id i; time = t.time; snapshot = snap i; seq = seq i }
 
 -- a consumer that is registered stands at the newest tick
-pub registered-as : (v now : QueuesView) (i id newest : ℕ) (name : List ℕ) (old new : QueueView) → v ≡ now → i < length now.queues → old ≡ get_or v.queues i old
+pub registered-as : (v now : QueuesView) (i id newest : ℕ) (name : List ℕ) (old new : QueueView) → v ≡ now → i < length v.queues → old ≡ get_or v.queues i old
     → seen_queue new ≡ record (seen_queue old) {
       members = (seen_queue old).members ++ name ∷ [];
       sub = changed_for name (λ _. Some (record { id = id; position = newest; active = None })) (seen_queue old).sub;
@@ -234,7 +231,7 @@ registered-as v now i id newest name old new same lt at is next last part =
     ∙ (λ j. after_mark (seen_with part now) (queued (registered i name (next j) (last j))))
 
 -- a batch is open once its consumer has it and it is noted
-pub opened-as : (v now : QueuesView) (more : List (ℕ × Batch)) (id : ℕ) (batch : Batch) (old new : QueueView) → v ≡ now → batch.queue < length now.queues → old ≡ get_or v.queues batch.queue old
+pub opened-as : (v now : QueuesView) (more : List (ℕ × Batch)) (id : ℕ) (batch : Batch) (old new : QueueView) → v ≡ now → batch.queue < length v.queues → old ≡ get_or v.queues batch.queue old
     → seen_queue new ≡ record (seen_queue old) { sub = changed_for batch.consumer (option_map (with_batch id)) (seen_queue old).sub }
     → ((q : ℕ) → lookup (is_at (nat_cmp q)) more ≡ cond (is_at (nat_cmp id) q) (Some batch) (lookup (is_at (nat_cmp q)) v.batches))
     → (part : RowPart) → seen_with part (record v { last_batch_id = id; queues = slice_set v.queues batch.queue new; batches = more })
@@ -242,7 +239,7 @@ pub opened-as : (v now : QueuesView) (more : List (ℕ × Batch)) (id : ℕ) (ba
 opened-as v now more id batch old new same lt at is updates part =
     (λ i. record (seen_with part v) {
       last_batch_id = id;
-      queue = one-set v batch.queue old new (λ q. record q { sub = changed_for batch.consumer (option_map (with_batch id)) q.sub }) (here-too v now batch.queue same lt) at is i;
+      queue = one-set v batch.queue old new (λ q. record q { sub = changed_for batch.consumer (option_map (with_batch id)) q.sub }) lt at is i;
       batch = batches-insert v.batches more id batch updates i;
     })
     ∙ ap (λ (w : QueuesView). after_mark (seen_with part w) (queued (opened (seen_batch id batch)))) same

@@ -69,6 +69,11 @@ impl Queue {
         })
     }
 
+    /// The allocator that it was made with.
+    pub(crate) fn alloc(&self) -> Global {
+        *self.events.allocator()
+    }
+
     /// The value of the sequence.
     pub fn seq(&self) -> u64
         ensures { result ≡ self.now.seq }
@@ -125,7 +130,7 @@ impl Queue {
         requires { HasMoment event.ev_time }
         ensures { OnOk result (self.new ≡ record self.old { events = self.old.events ++ event ∷ [] }) }
     {
-        let stored = Stored::new(*self.events.allocator(), event)?;
+        let stored = Stored::new(self.alloc(), event)?;
         self.events.push(stored)?;
         Ok(())
     }
@@ -138,7 +143,7 @@ impl Queue {
         ensures err { OnErr result (self.new ≡ self.old) }
     {
         let id = self.seq + 1;
-        let stored = Stored::new(*self.events.allocator(), told_event(id, now, txid, event))?;
+        let stored = Stored::new(self.alloc(), told_event(id, now, txid, event))?;
         self.events.push(stored)?;
         self.seq = id;
         Ok(())

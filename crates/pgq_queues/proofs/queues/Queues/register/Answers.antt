@@ -7,10 +7,10 @@ use Rattle.pgq_queues.proofs.queues.Queues.register.Goals as goal
 
 pub returns-clause-mark : goal.returns-clause-mark
 returns-clause-mark c =
-    registered-as _ _ c.args.queue _ _ c.args.consumer.now _ c.register.new.self c.self.view_is c.requires.queue c.index_mut.ensures.value c.in_ok-register.ensures
+    registered-as _ _ c.args.queue _ _ c.args.consumer.now _ c.register.new.self c.self.view_is c.get_mut.ensures.within c.get_mut.ensures.value c.in_ok-register.ensures
     (ap (λ (w : QueuesView). w.last_sub_id + 1) c.self.view_is)
     (c.id-newest.ensures ∙ ap id_of (sym c.newest.ensures.newest) ∙ ap (λ ts. id_of (newest_tick ts)) c.ticks.ensures
-    ∙ ap newest_id (queue-at _ _ c.args.queue _ c.self.view_is c.requires.queue c.index.ensures))
+    ∙ ap newest_id (queue-at _ _ c.args.queue _ c.self.view_is c.get.ensures.within c.get.ensures.value))
 
 pub returns-in_err-register-clause-tables : goal.returns-in_err-register-clause-tables
 returns-in_err-register-clause-tables c = tables-kept _ _ c.self.view_is
