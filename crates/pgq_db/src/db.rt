@@ -29,7 +29,8 @@ ghost use Rattle.pgq_db.specs.Waiters.{StaysWithin};
 ghost use Rattle.pgq_db.specs.Gives.{Gives, Adds};
 
 use crate::noting::undo_aborted;
-use pgq_queues::{Batch, Queue, Queues, Subscription, TableTrigger};
+use pgq_queues::{Batch, Queue, Queues, TableTrigger};
+use pgq_sub::Sub;
 use sky_model::{Refusal, Replies, RowStmt, Stop};
 use sky_session::{RowDb, RowStep};
 use sky_trans::TransFault;
@@ -89,7 +90,7 @@ impl Db {
     }
 
     /// The subscription of a queue's consumer, if it is registered.
-    pub(crate) fn subscription(&self, queue: usize, consumer: &Text) -> Option<Subscription>
+    pub(crate) fn subscription(&self, queue: usize, consumer: &Text) -> Option<Sub>
         requires { queue < length self.now.queues.names }
         ensures { result ≡ ((seen_database self.now).queue queue).sub consumer.now }
     {

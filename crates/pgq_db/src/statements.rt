@@ -29,7 +29,8 @@ ghost use Rattle.pgq_db.specs.Gives.{is_row, Gives, Adds, Answers, Ran};
 ghost use Rattle.sky_model.specs.Stops.{StopsAs};
 
 use crate::db::Db;
-use pgq_queues::{Batch, EVENT_ID_END, Subscription, TableTrigger};
+use pgq_queues::{Batch, EVENT_ID_END, TableTrigger};
+use pgq_sub::Sub;
 use sky_model::{BoxedExtra, ColumnNames, Events, Limit, Refusal, Replies, Reply, Stmt, Stop};
 use sky_urlenc::Trigger;
 use sky_val::{Event, NoMemory, SessionId, Text, copy_option};
@@ -398,7 +399,7 @@ impl Db {
         who: SessionId,
         queue: usize,
         consumer: &Text,
-        sub: &Subscription,
+        sub: &Sub,
         replies: &mut Replies,
     ) -> Result<(), Stop>
         requires { queue < length self.old.queues.names }

@@ -21,6 +21,7 @@ use Rattle.sky_model.specs.Selection.{snapshot_at, is_selected, selected_in, sel
 use Rattle.sky_model.specs.State.{Queue, RowPart, Database, changed_at, changed_for, with_batch, at_position, after_mark, after_marks}
 use Rattle.sky_model.specs.ShownRows.{snapshot_now}
 use Rattle.pgq_queues.specs.declared.batch.Batch.{Batch}
+use Rattle.pgq_sub.specs.Seen.{SubsSeen, seen_subs, no_subs}
 use Rattle.pgq_queues.specs.Views.{QueueView, TracedTableView, QueuesView}
 use Rattle.pgq_queues.specs.Seen.{seen_queue, no_queue, seen_batch, keeps, numbered, queue_at, seen_with}
 use Rattle.pgq_queues.specs.Traced.{AreTables}
@@ -62,12 +63,12 @@ batches-remove old new id updates = λ i n. pointwise n i
 
 -- a queue that is made has its first tick alone
 pub queues-made : (queues : List QueueView) (t : Tick) (count : ℕ) → count ≡ length queues
-    → (λ n. seen_queue (get_or (queues ++ record { seq = 0; events = []; ticks = t ∷ []; subs = record { names = []; values = [] } } ∷ []) n no_queue))
+    → (λ n. seen_queue (get_or (queues ++ record { seq = 0; events = []; ticks = t ∷ []; subs = no_subs } ∷ []) n no_queue))
     ≡ changed_at count (λ q. record q { tick_list = q.tick_list ++ t ∷ [] }) (λ n. seen_queue (get_or queues n no_queue))
 queues-made queues t count is = λ i n. pointwise queues n count is i
   where
     new : QueueView
-    new = record { seq = 0; events = []; ticks = t ∷ []; subs = record { names = []; values = [] } }
+    new = record { seq = 0; events = []; ticks = t ∷ []; subs = no_subs }
 
     at : (b : Bool) (n : ℕ) → (zero == suc n) ≡ b → seen_queue no_queue ≡ (if b then record (seen_queue no_queue) { tick_list = t ∷ [] } else seen_queue no_queue)
     at true n e = absurd (grind (arith, nat_tests))
@@ -81,7 +82,7 @@ queues-made queues t count is = λ i n. pointwise queues n count is i
     shift m n = grind (arith, nat_tests)
 
     pointwise : (qs : List QueueView) (n m : ℕ) → m ≡ length qs
-        → seen_queue (get_or (qs ++ record { seq = 0; events = []; ticks = t ∷ []; subs = record { names = []; values = [] } } ∷ []) n no_queue)
+        → seen_queue (get_or (qs ++ record { seq = 0; events = []; ticks = t ∷ []; subs = no_subs } ∷ []) n no_queue)
         ≡ (if m == n then record (seen_queue (get_or qs n no_queue)) { tick_list = (seen_queue (get_or qs n no_queue)).tick_list ++ t ∷ [] } else seen_queue (get_or qs n no_queue))
     pointwise [] zero m e =
         let yes_it_is : true ≡ (m == zero) = grind (arith, nat_tests) in
@@ -102,6 +103,10 @@ get_or-slice_set xs i n x lt = by (i == n) refl
     by : (b : Bool) → (i == n) ≡ b → get_or (slice_set xs i x) n no_queue ≡ (if b then x else get_or xs n no_queue)
     by true e = let same : i ≡ n = grind (arith, nat_tests) in ap (λ m. get_or (slice_set xs i x) m no_queue) (sym same) ∙ get_or-set_same xs i x no_queue lt
     by false e = let other : n ≢ i = grind (arith, nat_tests) in get_or-set_other xs i n x no_queue other
+
+-- a queue whose subscriptions alone have changed
+pub subs-changed : (old new : QueueView) (subs : SubsSeen) → new ≡ record old { subs = new.subs } → seen_subs new.subs ≡ subs → seen_queue new ≡ record (seen_queue old) { members = subs.members; sub = subs.sub }
+subs-changed old new subs but is = ap seen_queue but ∙ (λ i. record (seen_queue old) { members = (is i).members; sub = (is i).sub })
 
 -- what is selected between two ticks are the events of a batch
 pub selects : (undone : ℕ → Bool) (v now : QueueView) (batch : Batch) (prev cur : Option Tick) (events : List Event) (id : ℕ) (r : Result (Vec Event Global) AllocError) → v ≡ now
@@ -188,7 +193,7 @@ queue-kept v now i old new same at is part =
 
 -- a queue that is made has its first tick, with the snapshot as it was
 pub made-as : (v now : QueuesView) (names : List (List ℕ)) (queues : List QueueView) (q : QueueView) (name : List ℕ) (t : Tick) → v ≡ now
-    → names ≡ v.names ++ name ∷ [] → queues ≡ v.queues ++ q ∷ [] → q ≡ record { seq = 0; events = []; ticks = t ∷ []; subs = record { names = []; values = [] } } → length v.queues ≡ length v.names
+    → names ≡ v.names ++ name ∷ [] → queues ≡ v.queues ++ q ∷ [] → q ≡ record { seq = 0; events = []; ticks = t ∷ []; subs = no_subs } → length v.queues ≡ length v.names
     → t.id ≡ 1 → t.seq ≡ 0 → (part : RowPart) → t.snapshot ≡ snapshot_now part
     → seen_with part (record v { names = names; queues = queues }) ≡ after_marks (seen_with part now) (queued (made name) ∷ queued (ticked (length now.names) 1 t.time 0) ∷ [])
 made-as v now names queues q name t same more one new count id seq part snap =

@@ -4,6 +4,7 @@ use Rattle.sky_names.specs.Named.{NamedView}
 use Rattle.sky_model.specs.Moment.{HasMoment}
 use Rattle.pgq_queues.specs.Batches.{BatchesWithin}
 use Rattle.pgq_queues.specs.Traced.{TracedWithin}
+use Rattle.pgq_sub.specs.Seen.{no_subs}
 use Rattle.pgq_queues.specs.Views.{QueueView}
 use Rattle.pgq_queues.proofs.Marked.{made-as, tables-kept}
 use Rattle.pgq_queues.proofs.TracedLists.{batches-more, within-more}
@@ -21,7 +22,7 @@ add-requires-clause-room c =
 pub returns-clause-marks : goal.returns-clause-marks
 returns-clause-marks c =
     made-as _ _ _ _ c.in_ok-queue.queue _ (record { id = 1; time = c.args.now; snapshot = c.args.snapshot; seq = 0 }) c.self.view_is (ap NamedView.names c.in_ok-add.ensures.added) (ap NamedView.values c.in_ok-add.ensures.added)
-    (c.in_ok-queue.ensures ∙ ap (λ (t : ℤ). record { seq = 0; events = []; ticks = record { id = 1; time = t; snapshot = c.args.snapshot; seq = 0 } ∷ []; subs = record { names = []; values = [] } }) (to_z-of_z w64 c.args.now c.ranges.now))
+    (c.in_ok-queue.ensures ∙ ap (λ (t : ℤ). record { seq = 0; events = []; ticks = record { id = 1; time = t; snapshot = c.args.snapshot; seq = 0 } ∷ []; subs = no_subs }) (to_z-of_z w64 c.args.now c.ranges.now))
     c.in_ok-add.ensures.values refl refl
 
 pub invariant_of-self : goal.invariant_of-self
