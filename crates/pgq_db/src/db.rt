@@ -22,14 +22,14 @@ ghost use Rattle.sky_model.specs.Calls.{database_turn};
 ghost use Rattle.sky_model.specs.SessionMarks.{Enters, entry, entry_place, failing};
 ghost use Rattle.sky_model.specs.DatabaseCalls.{entered, failed};
 ghost use Rattle.sky_model.specs.DatabaseSteps.{DatabaseSteps};
-ghost use Rattle.pgq_queues.specs.Seen.{seen_queue, seen_batch};
+ghost use Rattle.pgq_queues.specs.Seen.{seen_batch};
 ghost use Rattle.pgq_tick.specs.Ticks.{IsTime};
 ghost use Rattle.pgq_db.specs.Seen.{seen_database};
 ghost use Rattle.pgq_db.specs.Waiters.{StaysWithin};
 ghost use Rattle.pgq_db.specs.Gives.{Gives, Adds};
 
 use crate::noting::undo_aborted;
-use pgq_queues::{Batch, Queue, Queues, TableTrigger};
+use pgq_queues::{Batch, Queues, TableTrigger};
 use pgq_sub::Sub;
 use sky_model::{Refusal, Replies, RowStmt, Stop};
 use sky_session::{RowDb, RowStep};
@@ -81,34 +81,12 @@ impl Db {
         }
     }
 
-    /// The queue of this number.
-    pub(crate) fn queue(&self, number: usize) -> &Queue
-        requires { number < length self.now.queues.names }
-        ensures { seen_queue result.now ≡ (seen_database self.now).queue number }
-    {
-        self.queues.queue(number)
-    }
-
     /// The subscription of a queue's consumer, if it is registered.
     pub(crate) fn subscription(&self, queue: usize, consumer: &Text) -> Option<Sub>
         requires { queue < length self.now.queues.names }
         ensures { result ≡ ((seen_database self.now).queue queue).sub consumer.now }
     {
-        self.queue(queue).subscription(consumer)
-    }
-
-    /// The last subscription id that was given.
-    pub(crate) fn last_sub(&self) -> u64
-        ensures { result ≡ (seen_database self.now).last_sub_id }
-    {
-        self.queues.last_sub()
-    }
-
-    /// The last batch id that was given.
-    pub(crate) fn last_batch(&self) -> u64
-        ensures { result ≡ (seen_database self.now).last_batch_id }
-    {
-        self.queues.last_batch()
+        self.queues.queue(queue).subscription(consumer)
     }
 
     /// Refuses where the session's transaction has no id, and none is left.
