@@ -1,6 +1,7 @@
 -- What a database shows, after what the code changed in it.
 use Rattle.std.proofs.Common.{Err, is_ok, drop, ◌≡◌, ℕ, suc, zero, ℤ, ◌+◌, ◌<◌, ◌≤◌, ◌^◌, List, [], ◌∷◌, ◌++◌, Bool, true, false, ◌==◌, nat_le, Option, Some, None, Result, Ok, IfOk, OnOk, IfSome, IfNone, is_some, length, append_assoc, get_or, option_map, refl, sym, ◌∙◌, ap, subst, arith, if◌then◌else◌, ◌↔◌}
 use Rattle.std.proofs.lemmas.Bool.Decides.{nat_tests}
+use Rattle.std.proofs.lemmas.List.{drop_more}
 use Rattle.sky_val.specs.declared.event.Event.{Event}
 use Rattle.sky_txid.specs.Snapshot.{SnapshotView}
 use Rattle.sky_names.specs.Places.{place_of}
@@ -96,11 +97,9 @@ event-written : (d : Database) (who t : ℕ) (o : Option ℕ) (b : Block) (q id 
     → after_mark (after_mark (after_marks d (begin_of who t o ++ commit_of who t b)) (queued (raised q id))) (queued (put q event))
     ≡ after_marks d (begin_of who t o ++ (queued (raised q id) ∷ queued (put q event) ∷ []) ++ commit_of who t b)
 event-written d who t None outside q id event = refl
-event-written d who t None inside q id event = refl
-event-written d who t None failed q id event = refl
 event-written d who t (Some own) outside q id event = refl
-event-written d who t (Some own) inside q id event = refl
-event-written d who t (Some own) failed q id event = refl
+event-written d who t None _ q id event = refl
+event-written d who t (Some own) _ q id event = refl
 
 -- what a form gives that isn't refused
 abbrev Runs : Database → Database → (before after : List (ℕ × Reply)) → ℕ → Checked Outcome → Type 0
@@ -172,11 +171,9 @@ queue-written : (d : Database) (who t : ℕ) (o : Option ℕ) (b : Block) (n : �
     → after_marks (after_marks d (begin_of who t o ++ commit_of who t b)) (queued (made name) ∷ queued (ticked n 1 time 0) ∷ [])
     ≡ after_marks d ((begin_of who t o ++ (queued (made name) ∷ []) ++ commit_of who t b) ++ queued (ticked n 1 time 0) ∷ [])
 queue-written d who t None outside n name time = refl
-queue-written d who t None inside n name time = refl
-queue-written d who t None failed n name time = refl
 queue-written d who t (Some own) outside n name time = refl
-queue-written d who t (Some own) inside n name time = refl
-queue-written d who t (Some own) failed n name time = refl
+queue-written d who t None _ n name time = refl
+queue-written d who t (Some own) _ n name time = refl
 
 -- a queue that is made, in a transaction of its own
 pub made-queue : (d s1 s2 : Database) (now time : ℤ) (who t count : ℕ) (name copied : List ℕ) → copied ≡ name → count ≡ d.queues_made → time ≡ now
@@ -246,12 +243,6 @@ noted-as d s1 s2 marks before after rows none told changed but noted =
     ∙ (λ i. record d { part = changed i; undone = (undone-as d marks before after rows none told ∙ ap Database.undone (after-row_marks true d marks rows)) i })
     ∙ sym (after-row_marks true d marks rows)
 
--- the rest of a list from a place on begins with what stands there
-pub drop-at : {A : Type 0} (xs : List A) (i : ℕ) (x d : A) → i < length xs → x ≡ get_or xs i d → drop i xs ≡ x ∷ drop (suc i) xs
-drop-at [] i x d lt is = absurd (omega arith)
-drop-at (y ∷ ys) zero x d lt is = ap (λ z. z ∷ ys) (sym is)
-drop-at (y ∷ ys) (suc i) x d lt is = drop-at ys i x d (omega arith) is
-
 undone-step : (d s whole : Database) (rest all : List Effect) (effect : Effect) → s ≡ record d { undone = undone_by (effect ∷ []) d.undone } → all ≡ effect ∷ rest
     → record d { undone = undone_by all d.undone } ≡ whole → record s { undone = undone_by rest s.undone } ≡ whole
 undone-step d s whole rest all effect noted is before =
@@ -260,29 +251,25 @@ undone-step d s whole rest all effect noted is before =
     ∙ ap (λ effects. record d { undone = undone_by effects d.undone }) (sym is) ∙ before
   where
     one : (e : Effect) → undone_by rest (undone_by (e ∷ []) d.undone) ≡ undone_by (e ∷ rest) d.undone
-    one (Wrote txid table op old new) = refl
-    one (Committed txid) = refl
     one (Aborted txid) = refl
+    one _ = refl
 
 -- what one more effect undoes
 pub undone-at : (d s whole : Database) (items effects : List Effect) (i : ℕ) (effect : Effect) → s ≡ record d { undone = undone_by (effect ∷ []) d.undone } → items ≡ effects
     → i < length items → effect ≡ get_or items i effect → record d { undone = undone_by (drop i effects) d.undone } ≡ whole
     → record s { undone = undone_by (drop (i + 1) effects) s.undone } ≡ whole
 undone-at d s whole items effects i effect noted same lt is before =
-    let next : suc i ≡ i + 1 = omega arith in
     undone-step d s whole (drop (i + 1) effects) (drop i effects) effect noted
-    (ap (drop i) (sym same) ∙ drop-at items i effect effect lt is ∙ ap (λ n. effect ∷ drop n items) next ∙ ap (λ es. effect ∷ drop (i + 1) es) same) before
+    (ap (drop i) (sym same) ∙ drop_more items i effect lt ∙ ap (λ e. e ∷ drop (i + 1) items) (sym is) ∙ ap (λ es. effect ∷ drop (i + 1) es) same) before
 
 -- a refusal that aborts leaves what a block does that is aborted
 pub abort-failure : (who : ℕ) (txid : Option ℕ) (b : Block) (refusal : Refusal) → aborts refusal ≡ true → abort who b txid refusal ≡ failure who txid b
-abort-failure who txid outside refusal is = refl
 abort-failure who txid inside refusal is = ap (λ b. if b then end_of false who txid ++ block_failed who ∷ [] else []) is
-abort-failure who txid failed refusal is = refl
+abort-failure who txid _ refusal is = refl
 
 pub abort-nothing : (who : ℕ) (txid : Option ℕ) (b : Block) (refusal : Refusal) → aborts refusal ≡ false → abort who b txid refusal ≡ []
-abort-nothing who txid outside refusal is = refl
 abort-nothing who txid inside refusal is = ap (λ b. if b then end_of false who txid ++ block_failed who ∷ [] else []) is
-abort-nothing who txid failed refusal is = refl
+abort-nothing who txid _ refusal is = refl
 
 -- what a statement answers that came in
 pub answers-entered : (d s1 s2 : Database) (time now : ℤ) (who : ℕ) (stmt : Stmt) (place : Where) (before after : List (ℕ × Reply)) → time ≡ now → place ≡ where_of stmt
@@ -404,8 +391,7 @@ took d taken left who t id begins ends =
 
     single : (b : Block) → single_end who (Some t) b ≡ commit_of who t b
     single outside = refl
-    single inside = refl
-    single failed = refl
+    single _ = refl
 
     marks_are : single_end who (taken.session who).txid (taken.session who).block ≡ commit_of who t (d.part.session who).block
     marks_are =
@@ -415,11 +401,9 @@ took d taken left who t id begins ends =
 
     joined : (o : Option ℕ) (b : Block) → record d { part = after_part_marks (after_part_marks d.part (begin_of who t o)) (commit_of who t b) } ≡ after_marks d (begin_of who t o ++ commit_of who t b)
     joined None outside = refl
-    joined None inside = refl
-    joined None failed = refl
     joined (Some u) outside = refl
-    joined (Some u) inside = refl
-    joined (Some u) failed = refl
+    joined None _ = refl
+    joined (Some u) _ = refl
 
 -- a session that entered, or was refused, keeps its promise
 pub entered-steps : {E : Type 0} (d s : Database) (who : ℕ) (alone : Bool) (r : Result (Option Refusal) E) → IfOk r (λ refusal. Enters d.part s.part who (entry_place alone) refusal)

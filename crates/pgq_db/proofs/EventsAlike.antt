@@ -154,18 +154,10 @@ module _ (now : ℤ) (undone : List ℕ) where
 
   whole-other : (d : Database) (p : RowPart) (q : QueuesView) (mark : Mark) → IsOther mark → d ≡ record (seen_with p q) { undone = d.undone }
       → after_mark d mark ≡ record (seen_with (after_part p mark) q) { undone = (after_mark d mark).undone }
-  whole-other d p q (began who t) other is = ap (λ x. after_mark x (began who t)) is
   whole-other d p q (ended who t true) other is = ap (λ x. after_mark x (ended who t true)) is
   whole-other d p q (ended who t false) other is = ap (λ x. after_mark x (ended who t false)) is
-  whole-other d p q (block_begun who) other is = ap (λ x. after_mark x (block_begun who)) is
-  whole-other d p q (repeats who) other is = ap (λ x. after_mark x (repeats who)) is
-  whole-other d p q (looked who) other is = ap (λ x. after_mark x (looked who)) is
-  whole-other d p q (block_failed who) other is = ap (λ x. after_mark x (block_failed who)) is
-  whole-other d p q (block_ended who) other is = ap (λ x. after_mark x (block_ended who)) is
-  whole-other d p q (connected who) other is = ap (λ x. after_mark x (connected who)) is
-  whole-other d p q (disconnected who) other is = ap (λ x. after_mark x (disconnected who)) is
-  whole-other d p q (tabled mark) other is = ap (λ x. after_mark x (tabled mark)) is
   whole-other d p q (queued mark) other is = absurd other
+  whole-other d p q mark other is = ap (λ x. after_mark x mark) is
 
   other-alike : (d : Database) (p : RowPart) (q : QueuesView) (mark : Mark) → IsOther mark → Here d p q → Here (after_mark d mark) (after_part p mark) q
   other-alike d p q mark other is = record { whole = whole-other d p q mark other is.whole; time = is.time; noted = is.noted; tables = tables-kept p mark q is.tables; within = is.within }
@@ -266,6 +258,12 @@ alike-at now at p was q is time tables within = record {
   tables = subst (AreTables p) (sym is) tables;
   within = within;
 }
+
+-- behind a turn from there what is kept of tables is true
+pub tables-behind_turn : (now at : ℤ) (p after : RowPart) (was q left : QueuesView) (gated told : Turn) → (Alike now was.undone (seen_with p was) p q → SameTold event_rule (Alike now was.undone) (seen_with p was) p q gated told)
+    → q ≡ record was { time = at } → at ≡ now → AreTables p was → All (λ t. t.trigger.queue < length q.queues) q.triggers → after ≡ after_part_marks p gated.marks → left ≡ passed_all event_rule q gated.marks → AreTables after left
+tables-behind_turn now at p after was q left gated told tells is time tables within =
+    told-tables now was.undone (seen_with p was) p after q left gated told (tells (alike-at now at p was q is time tables within))
 
 -- the turns of rows do marks of rows, and list no event
 pub step-rows : (p : RowPart) (q : QueuesView) (who : ℕ) (stmt : RowStmt) → TurnOfRows (row_turn (by_gate event_rule part_by_itself) (p, q) who stmt)

@@ -22,14 +22,15 @@ ghost use Rattle.sky_model.specs.Calls.{database_turn};
 ghost use Rattle.sky_model.specs.SessionMarks.{Enters, entry, entry_place, failing};
 ghost use Rattle.sky_model.specs.DatabaseCalls.{entered, failed};
 ghost use Rattle.sky_model.specs.DatabaseSteps.{DatabaseSteps};
-ghost use Rattle.pgq_queues.specs.Seen.{seen_queue, seen_batch};
+ghost use Rattle.pgq_queues.specs.Seen.{seen_batch};
 ghost use Rattle.pgq_tick.specs.Ticks.{IsTime};
 ghost use Rattle.pgq_db.specs.Seen.{seen_database};
 ghost use Rattle.pgq_db.specs.Waiters.{StaysWithin};
 ghost use Rattle.pgq_db.specs.Gives.{Gives, Adds};
 
 use crate::noting::undo_aborted;
-use pgq_queues::{Batch, Queue, Queues, Subscription, TableTrigger};
+use pgq_queues::{Batch, Queues, TableTrigger};
+use pgq_sub::Sub;
 use sky_model::{Refusal, Replies, RowStmt, Stop};
 use sky_session::{RowDb, RowStep};
 use sky_trans::TransFault;
@@ -80,34 +81,12 @@ impl Db {
         }
     }
 
-    /// The queue of this number.
-    pub(crate) fn queue(&self, number: usize) -> &Queue
-        requires { number < length self.now.queues.queues }
-        ensures { seen_queue result.now ≡ (seen_database self.now).queue number }
-    {
-        self.queues.queue(number)
-    }
-
     /// The subscription of a queue's consumer, if it is registered.
-    pub(crate) fn subscription(&self, queue: usize, consumer: &Text) -> Option<Subscription>
-        requires { queue < length self.now.queues.queues }
+    pub(crate) fn subscription(&self, queue: usize, consumer: &Text) -> Option<Sub>
+        requires { queue < length self.now.queues.names }
         ensures { result ≡ ((seen_database self.now).queue queue).sub consumer.now }
     {
-        self.queue(queue).subscription(consumer)
-    }
-
-    /// The last subscription id that was given.
-    pub(crate) fn last_sub(&self) -> u64
-        ensures { result ≡ (seen_database self.now).last_sub_id }
-    {
-        self.queues.last_sub()
-    }
-
-    /// The last batch id that was given.
-    pub(crate) fn last_batch(&self) -> u64
-        ensures { result ≡ (seen_database self.now).last_batch_id }
-    {
-        self.queues.last_batch()
+        self.queues.queue(queue).subscription(consumer)
     }
 
     /// Refuses where the session's transaction has no id, and none is left.
@@ -285,16 +264,16 @@ impl Db {
 
     /// The sequence of a queue has this value from now on.
     pub(crate) fn raise(&mut self, queue: usize, value: u64)
-        requires { queue < length self.old.queues.queues }
+        requires { queue < length self.old.queues.names }
         ensures mark { seen_database self.new ≡ after_mark (seen_database self.old) (queued (raised queue value)) }
-        ensures queues { length self.new.queues.queues ≡ length self.old.queues.queues }
+        ensures names { self.new.queues.names ≡ self.old.queues.names }
     {
         self.queues.raise(queue, value);
     }
 
     /// Stores an event in a queue, whether its transaction commits or not.
     pub(crate) fn put(&mut self, queue: usize, event: Event) -> Result<(), AllocError>
-        requires queue { queue < length self.old.queues.queues }
+        requires queue { queue < length self.old.queues.names }
         requires time { HasMoment event.ev_time }
         ensures { OnOk result (seen_database self.new ≡ after_mark (seen_database self.old) (queued (put queue event))) }
     {
@@ -303,7 +282,7 @@ impl Db {
 
     /// One more tick of a queue, with the next id, which it gives, or a refusal where there is none.
     pub(crate) fn tick(&mut self, queue: usize, now: i64) -> Result<u64, Stop>
-        requires queue { queue < length self.old.queues.queues }
+        requires queue { queue < length self.old.queues.names }
         requires time { IsTime now }
         ensures id { IfOk result (λ id. id ≡ newest_id ((seen_database self.old).queue queue) + 1) }
         ensures left { OnOk result (nat_le (2 ^ 64) (newest_id ((seen_database self.old).queue queue) + 1) ≡ false) }
@@ -329,7 +308,7 @@ impl Db {
 
     /// Registers a new consumer, which stands at the newest tick.
     pub(crate) fn register(&mut self, queue: usize, consumer: &Text) -> Result<(), AllocError>
-        requires queue { queue < length self.old.queues.queues }
+        requires queue { queue < length self.old.queues.names }
         requires new { ((seen_database self.old).queue queue).sub consumer.now ≡ None }
         requires room { length ((seen_database self.old).queue queue).members < 256 }
         requires id { (seen_database self.old).last_sub_id + 1 < 2 ^ 64 }
@@ -341,7 +320,7 @@ impl Db {
 
     /// The batch is active from now on, and is its consumer's.
     pub(crate) fn open_batch(&mut self, id: u64, batch: Batch) -> Result<(), AllocError>
-        requires { batch.queue < length self.old.queues.queues }
+        requires { batch.queue < length self.old.queues.names }
         ensures { OnOk result (seen_database self.new ≡ after_mark (seen_database self.old) (queued (opened (seen_batch id batch)))) }
     {
         self.queues.open_batch(id, batch)
@@ -350,7 +329,7 @@ impl Db {
     /// One more trigger of the table of this name.
     pub(crate) fn trace(&mut self, name: &Text, trigger: TableTrigger) -> Result<(), AllocError>
         requires table { place_of name.now (seen_database self.old).part.tables ≡ Some trigger.table }
-        requires queue { trigger.trigger.queue < length self.old.queues.queues }
+        requires queue { trigger.trigger.queue < length self.old.queues.names }
         ensures ok { OnOk result (seen_database self.new ≡ after_mark (seen_database self.old) (queued (traced trigger.table trigger.name trigger.trigger))) }
         ensures err { OnErr result (seen_database self.new ≡ seen_database self.old) }
     {

@@ -1,6 +1,6 @@
 //! Notes in the queues which transactions a step on rows rolled back.
 
-ghost use Rattle.std.specs.Prelude.{◌≡◌, [], ◌∷◌, OnOk, length};
+ghost use Rattle.std.specs.Prelude.{◌≡◌, [], ◌∷◌, OnOk};
 ghost use Rattle.sky_model.specs.State.{RowPart};
 ghost use Rattle.pgq_queues.specs.Seen.{seen_with};
 ghost use Rattle.pgq_queues.specs.Traced.{AreTables};
@@ -14,7 +14,7 @@ use std::alloc::AllocError;
 pub(crate) fn undo_aborted(queues: &mut Queues, effects: &Effects) -> Result<(), AllocError>
     ensures noted { OnOk result ((part : RowPart) → seen_with part queues.new
         ≡ record (seen_with part queues.old) { undone = undone_by effects.now.items (seen_with part queues.old).undone }) }
-    ensures queues { length queues.new.queues ≡ length queues.old.queues }
+    ensures names { queues.new.names ≡ queues.old.names }
     ensures tables { (part : RowPart) → AreTables part queues.old → AreTables part queues.new }
 {
     for effect in effects.as_slice() {
@@ -27,7 +27,7 @@ pub(crate) fn undo_aborted(queues: &mut Queues, effects: &Effects) -> Result<(),
 fn note(queues: &mut Queues, effect: &Effect) -> Result<(), AllocError>
     ensures noted { OnOk result ((part : RowPart) → seen_with part queues.new
         ≡ record (seen_with part queues.old) { undone = undone_by (effect.now ∷ []) (seen_with part queues.old).undone }) }
-    ensures queues { length queues.new.queues ≡ length queues.old.queues }
+    ensures names { queues.new.names ≡ queues.old.names }
     ensures tables { (part : RowPart) → AreTables part queues.old → AreTables part queues.new }
 {
     match effect {

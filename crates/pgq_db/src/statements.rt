@@ -29,7 +29,8 @@ ghost use Rattle.pgq_db.specs.Gives.{is_row, Gives, Adds, Answers, Ran};
 ghost use Rattle.sky_model.specs.Stops.{StopsAs};
 
 use crate::db::Db;
-use pgq_queues::{Batch, EVENT_ID_END, Subscription, TableTrigger};
+use pgq_queues::{Batch, EVENT_ID_END, TableTrigger};
+use pgq_sub::Sub;
 use sky_model::{BoxedExtra, ColumnNames, Events, Limit, Refusal, Replies, Reply, Stmt, Stop};
 use sky_urlenc::Trigger;
 use sky_val::{Event, NoMemory, SessionId, Text, copy_option};
@@ -222,7 +223,7 @@ impl Db {
     /// The number of the queue of this name.
     fn queue_called(&self, queue: &Text) -> Result<usize, Stop>
         ensures ok { IfOk result (λ number. queue_called queue.now (seen_database self.now) ≡ Ok number) }
-        ensures within { IfOk result (λ number. number < length self.now.queues.queues) }
+        ensures within { IfOk result (λ number. number < length self.now.queues.names) }
         ensures err { IfErr result (λ stop. StopsAs stop (queue_called queue.now (seen_database self.now))) }
     {
         match self.queues.number(queue) {
@@ -287,7 +288,7 @@ impl Db {
     {
         let queue = self.queue_called(name)?;
         self.id_left(who)?;
-        let seq = self.queue(queue).seq();
+        let seq = self.queues.queue(queue).seq();
         if seq >= EVENT_ID_END - 1 {
             return Err(Stop::Refused(Refusal::EventIdsSpent));
         }
@@ -312,7 +313,7 @@ impl Db {
         ensures { Ran self.old self.new replies.old replies.new who result (ticker (seen_database self.old) now name.now) }
     {
         let queue = self.queue_called(name)?;
-        if !self.queue(queue).is_due(now) {
+        if !self.queues.queue(queue).is_due(now) {
             replies.push(who, Reply::Null)?;
             return Ok(());
         }
@@ -326,12 +327,12 @@ impl Db {
         ensures { Ran self.old self.new replies.old replies.new who result (force_tick (seen_database self.old) name.now) }
     {
         let queue = self.queue_called(name)?;
-        let seq = self.queue(queue).seq();
-        let forced = 2 * self.queue(queue).config().ticker_max_count() + 1000;
+        let seq = self.queues.queue(queue).seq();
+        let forced = 2 * self.queues.queue(queue).config().ticker_max_count() + 1000;
         if seq >= EVENT_ID_END - forced {
             return Err(Stop::Refused(Refusal::EventIdsSpent));
         }
-        let newest = self.queue(queue).ticks().newest().id();
+        let newest = self.queues.queue(queue).ticks().newest().id();
         self.raise(queue, seq + forced);
         replies.push(who, Reply::Number(newest))?;
         Ok(())
@@ -355,10 +356,10 @@ impl Db {
             replies.push(who, Reply::Number(0))?;
             return Ok(());
         }
-        if self.queue(queue).consumer_count() >= Limit::Consumers.most() {
+        if self.queues.queue(queue).consumer_count() >= Limit::Consumers.most() {
             return Err(Stop::Refused(Refusal::TooMany(Limit::Consumers)));
         }
-        if self.last_sub() == u64::MAX {
+        if self.queues.last_sub() == u64::MAX {
             return Err(Stop::Refused(Refusal::IdsSpent));
         }
         self.register(queue, consumer)?;
@@ -398,21 +399,21 @@ impl Db {
         who: SessionId,
         queue: usize,
         consumer: &Text,
-        sub: &Subscription,
+        sub: &Sub,
         replies: &mut Replies,
     ) -> Result<(), Stop>
-        requires { queue < length self.old.queues.queues }
+        requires { queue < length self.old.queues.names }
         ensures { Ran self.old self.new replies.old replies.new who result (opens_batch (seen_database self.old) queue consumer.now sub.now (tick (sub.now.position + 1) ((seen_database self.old).queue queue).tick_list)) }
     {
-        let Some(next) = self.queue(queue).ticks().next_after(sub.position()) else {
+        let Some(next) = self.queues.queue(queue).ticks().next_after(sub.position()) else {
             replies.push(who, Reply::Null)?;
             return Ok(());
         };
         let cur = next.id();
-        if self.last_batch() == u64::MAX {
+        if self.queues.last_batch() == u64::MAX {
             return Err(Stop::Refused(Refusal::IdsSpent));
         }
-        let id = self.last_batch() + 1;
+        let id = self.queues.last_batch() + 1;
         let batch = Batch {
             queue,
             consumer: consumer.copy(self.alloc)?,

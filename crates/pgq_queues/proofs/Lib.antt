@@ -1,4 +1,3 @@
-pub mod SubLists
 pub mod NumberedQueues
 pub mod Marked
 pub mod TracedLists

@@ -21,6 +21,7 @@ use Rattle.sky_model.specs.Selection.{snapshot_at, is_selected, selected_in, sel
 use Rattle.sky_model.specs.State.{Queue, RowPart, Database, changed_at, changed_for, with_batch, at_position, after_mark, after_marks}
 use Rattle.sky_model.specs.ShownRows.{snapshot_now}
 use Rattle.pgq_queues.specs.declared.batch.Batch.{Batch}
+use Rattle.pgq_sub.specs.Seen.{SubsSeen, seen_subs, no_subs}
 use Rattle.pgq_queues.specs.Views.{QueueView, TracedTableView, QueuesView}
 use Rattle.pgq_queues.specs.Seen.{seen_queue, no_queue, seen_batch, keeps, numbered, queue_at, seen_with}
 use Rattle.pgq_queues.specs.Traced.{AreTables}
@@ -62,12 +63,12 @@ batches-remove old new id updates = λ i n. pointwise n i
 
 -- a queue that is made has its first tick alone
 pub queues-made : (queues : List QueueView) (t : Tick) (count : ℕ) → count ≡ length queues
-    → (λ n. seen_queue (get_or (queues ++ record { seq = 0; events = []; ticks = t ∷ []; subs = record { names = []; values = [] } } ∷ []) n no_queue))
+    → (λ n. seen_queue (get_or (queues ++ record { seq = 0; events = []; ticks = t ∷ []; subs = no_subs } ∷ []) n no_queue))
     ≡ changed_at count (λ q. record q { tick_list = q.tick_list ++ t ∷ [] }) (λ n. seen_queue (get_or queues n no_queue))
 queues-made queues t count is = λ i n. pointwise queues n count is i
   where
     new : QueueView
-    new = record { seq = 0; events = []; ticks = t ∷ []; subs = record { names = []; values = [] } }
+    new = record { seq = 0; events = []; ticks = t ∷ []; subs = no_subs }
 
     at : (b : Bool) (n : ℕ) → (zero == suc n) ≡ b → seen_queue no_queue ≡ (if b then record (seen_queue no_queue) { tick_list = t ∷ [] } else seen_queue no_queue)
     at true n e = absurd (grind (arith, nat_tests))
@@ -81,7 +82,7 @@ queues-made queues t count is = λ i n. pointwise queues n count is i
     shift m n = grind (arith, nat_tests)
 
     pointwise : (qs : List QueueView) (n m : ℕ) → m ≡ length qs
-        → seen_queue (get_or (qs ++ record { seq = 0; events = []; ticks = t ∷ []; subs = record { names = []; values = [] } } ∷ []) n no_queue)
+        → seen_queue (get_or (qs ++ record { seq = 0; events = []; ticks = t ∷ []; subs = no_subs } ∷ []) n no_queue)
         ≡ (if m == n then record (seen_queue (get_or qs n no_queue)) { tick_list = (seen_queue (get_or qs n no_queue)).tick_list ++ t ∷ [] } else seen_queue (get_or qs n no_queue))
     pointwise [] zero m e =
         let yes_it_is : true ≡ (m == zero) = grind (arith, nat_tests) in
@@ -102,6 +103,10 @@ get_or-slice_set xs i n x lt = by (i == n) refl
     by : (b : Bool) → (i == n) ≡ b → get_or (slice_set xs i x) n no_queue ≡ (if b then x else get_or xs n no_queue)
     by true e = let same : i ≡ n = grind (arith, nat_tests) in ap (λ m. get_or (slice_set xs i x) m no_queue) (sym same) ∙ get_or-set_same xs i x no_queue lt
     by false e = let other : n ≢ i = grind (arith, nat_tests) in get_or-set_other xs i n x no_queue other
+
+-- a queue whose subscriptions alone have changed
+pub subs-changed : (old new : QueueView) (subs : SubsSeen) → new ≡ record old { subs = new.subs } → seen_subs new.subs ≡ subs → seen_queue new ≡ record (seen_queue old) { members = subs.members; sub = subs.sub }
+subs-changed old new subs but is = ap seen_queue but ∙ (λ i. record (seen_queue old) { members = (is i).members; sub = (is i).sub })
 
 -- what is selected between two ticks are the events of a batch
 pub selects : (undone : ℕ → Bool) (v now : QueueView) (batch : Batch) (prev cur : Option Tick) (events : List Event) (id : ℕ) (r : Result (Vec Event Global) AllocError) → v ≡ now
@@ -152,23 +157,20 @@ one-set v i old new f lt at is = λ j n. pointwise n j
     pointwise : (n : ℕ) → seen_queue (get_or (slice_set v.queues i new) n no_queue) ≡ (if i == n then f (seen_queue (get_or v.queues n no_queue)) else seen_queue (get_or v.queues n no_queue))
     pointwise n = ap seen_queue (get_or-slice_set v.queues i n new lt) ∙ by n (i == n) refl
 
-here-too : (v now : QueuesView) (i : ℕ) → v ≡ now → i < length now.queues → i < length v.queues
-here-too v now i same lt = subst (λ (w : QueuesView). i < length w.queues) (sym same) lt
-
-pub queues-set : (v now : QueuesView) (i : ℕ) (old new : QueueView) (f : Queue → Queue) → v ≡ now → i < length now.queues → old ≡ get_or v.queues i old → seen_queue new ≡ f (seen_queue old)
+pub queues-set : (v now : QueuesView) (i : ℕ) (old new : QueueView) (f : Queue → Queue) → v ≡ now → i < length v.queues → old ≡ get_or v.queues i old → seen_queue new ≡ f (seen_queue old)
     → (part : RowPart) → seen_with part (record v { queues = slice_set v.queues i new }) ≡ record (seen_with part now) { queue = changed_at i f (queue_at now) }
 queues-set v now i old new f same lt at is part =
-    (λ j. record (seen_with part v) { queue = one-set v i old new f (here-too v now i same lt) at is j })
+    (λ j. record (seen_with part v) { queue = one-set v i old new f lt at is j })
     ∙ ap (λ (w : QueuesView). record (seen_with part w) { queue = changed_at i f (queue_at w) }) same
 
 -- the queue at a place is what is shown there
-pub queue-at : (v now : QueuesView) (i : ℕ) (q : QueueView) → v ≡ now → i < length now.queues → q ≡ get_or v.queues i q → seen_queue q ≡ queue_at now i
+pub queue-at : (v now : QueuesView) (i : ℕ) (q : QueueView) → v ≡ now → i < length v.queues → q ≡ get_or v.queues i q → seen_queue q ≡ queue_at now i
 queue-at v now i q same lt at =
-    ap seen_queue (sym (get_or_from_slice_get v.queues i q no_queue (slice_get_read v.queues (length v.queues) i q refl (here-too v now i same lt) at)))
+    ap seen_queue (sym (get_or_from_slice_get v.queues i q no_queue (slice_get_read v.queues (length v.queues) i q refl lt at)))
     ∙ ap (λ (w : QueuesView). queue_at w i) same
 
 -- a tick that is stored is one with the snapshot as it was
-pub ticked-as : (v now : QueuesView) (i : ℕ) (old new : QueueView) (t : Tick) → v ≡ now → i < length now.queues → old ≡ get_or v.queues i old → new ≡ record old { ticks = old.ticks ++ t ∷ [] }
+pub ticked-as : (v now : QueuesView) (i : ℕ) (old new : QueueView) (t : Tick) → v ≡ now → i < length v.queues → old ≡ get_or v.queues i old → new ≡ record old { ticks = old.ticks ++ t ∷ [] }
     → (part : RowPart) → t.snapshot ≡ snapshot_now part → seen_with part (record v { queues = slice_set v.queues i new }) ≡ after_mark (seen_with part now) (queued (ticked i t.id t.time t.seq))
 ticked-as v now i old new t same lt at is part snap =
     queues-set v now i old new (λ q. record q { tick_list = q.tick_list ++ t ∷ [] }) same lt at (ap seen_queue is) part
@@ -177,7 +179,7 @@ ticked-as v now i old new t same lt at is part snap =
     }) snap
 
 -- so is one with the value of the sequence
-pub ticked-next : (v now : QueuesView) (i id : ℕ) (time : ℤ) (snapshot : SnapshotView) (old new : QueueView) → v ≡ now → i < length now.queues → old ≡ get_or v.queues i old
+pub ticked-next : (v now : QueuesView) (i id : ℕ) (time : ℤ) (snapshot : SnapshotView) (old new : QueueView) → v ≡ now → i < length v.queues → old ≡ get_or v.queues i old
     → new ≡ record old { ticks = old.ticks ++ record { id = id; time = time; snapshot = snapshot; seq = old.seq } ∷ [] }
     → (part : RowPart) → snapshot ≡ snapshot_now part → seen_with part (record v { queues = slice_set v.queues i new }) ≡ after_mark (seen_with part now) (queued (ticked i id time (queue_at now i).seq))
 ticked-next v now i id time snapshot old new same lt at is part snap =
@@ -191,7 +193,7 @@ queue-kept v now i old new same at is part =
 
 -- a queue that is made has its first tick, with the snapshot as it was
 pub made-as : (v now : QueuesView) (names : List (List ℕ)) (queues : List QueueView) (q : QueueView) (name : List ℕ) (t : Tick) → v ≡ now
-    → names ≡ v.names ++ name ∷ [] → queues ≡ v.queues ++ q ∷ [] → q ≡ record { seq = 0; events = []; ticks = t ∷ []; subs = record { names = []; values = [] } } → length v.queues ≡ length v.names
+    → names ≡ v.names ++ name ∷ [] → queues ≡ v.queues ++ q ∷ [] → q ≡ record { seq = 0; events = []; ticks = t ∷ []; subs = no_subs } → length v.queues ≡ length v.names
     → t.id ≡ 1 → t.seq ≡ 0 → (part : RowPart) → t.snapshot ≡ snapshot_now part
     → seen_with part (record v { names = names; queues = queues }) ≡ after_marks (seen_with part now) (queued (made name) ∷ queued (ticked (length now.names) 1 t.time 0) ∷ [])
 made-as v now names queues q name t same more one new count id seq part snap =
@@ -217,7 +219,7 @@ made-as v now names queues q name t same more one new count id seq part snap =
     is = λ i. record { id = id i; time = t.time; snapshot = snap i; seq = seq i }
 
 -- a consumer that is registered stands at the newest tick
-pub registered-as : (v now : QueuesView) (i id newest : ℕ) (name : List ℕ) (old new : QueueView) → v ≡ now → i < length now.queues → old ≡ get_or v.queues i old
+pub registered-as : (v now : QueuesView) (i id newest : ℕ) (name : List ℕ) (old new : QueueView) → v ≡ now → i < length v.queues → old ≡ get_or v.queues i old
     → seen_queue new ≡ record (seen_queue old) {
       members = (seen_queue old).members ++ name ∷ [];
       sub = changed_for name (λ _. Some (record { id = id; position = newest; active = None })) (seen_queue old).sub;
@@ -234,7 +236,7 @@ registered-as v now i id newest name old new same lt at is next last part =
     ∙ (λ j. after_mark (seen_with part now) (queued (registered i name (next j) (last j))))
 
 -- a batch is open once its consumer has it and it is noted
-pub opened-as : (v now : QueuesView) (more : List (ℕ × Batch)) (id : ℕ) (batch : Batch) (old new : QueueView) → v ≡ now → batch.queue < length now.queues → old ≡ get_or v.queues batch.queue old
+pub opened-as : (v now : QueuesView) (more : List (ℕ × Batch)) (id : ℕ) (batch : Batch) (old new : QueueView) → v ≡ now → batch.queue < length v.queues → old ≡ get_or v.queues batch.queue old
     → seen_queue new ≡ record (seen_queue old) { sub = changed_for batch.consumer (option_map (with_batch id)) (seen_queue old).sub }
     → ((q : ℕ) → lookup (is_at (nat_cmp q)) more ≡ cond (is_at (nat_cmp id) q) (Some batch) (lookup (is_at (nat_cmp q)) v.batches))
     → (part : RowPart) → seen_with part (record v { last_batch_id = id; queues = slice_set v.queues batch.queue new; batches = more })
@@ -242,7 +244,7 @@ pub opened-as : (v now : QueuesView) (more : List (ℕ × Batch)) (id : ℕ) (ba
 opened-as v now more id batch old new same lt at is updates part =
     (λ i. record (seen_with part v) {
       last_batch_id = id;
-      queue = one-set v batch.queue old new (λ q. record q { sub = changed_for batch.consumer (option_map (with_batch id)) q.sub }) (here-too v now batch.queue same lt) at is i;
+      queue = one-set v batch.queue old new (λ q. record q { sub = changed_for batch.consumer (option_map (with_batch id)) q.sub }) lt at is i;
       batch = batches-insert v.batches more id batch updates i;
     })
     ∙ ap (λ (w : QueuesView). after_mark (seen_with part w) (queued (opened (seen_batch id batch)))) same

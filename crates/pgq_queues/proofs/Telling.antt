@@ -5,6 +5,7 @@ use Rattle.std.proofs.lemmas.Bool.Decides.{nat_tests}
 use Rattle.std.proofs.lemmas.List.{take_more, drop_more, append-nil, map-append, set-set, set-get_or, get_or_read, get_or-set_same, length-set}
 use Rattle.std.proofs.lemmas.List.Elements.{filter-append}
 use Rattle.sky_val.specs.declared.val.Val.{Val}
+use Rattle.sky_names.specs.Named.{NamedView}
 use Rattle.sky_urlenc.specs.RowEvents.{Write, Trigger, RowEvent, leaves_out, event_of}
 use Rattle.sky_model.specs.Triggers.{TableTrigger}
 use Rattle.sky_model.specs.State.{changed_at}
@@ -163,11 +164,11 @@ taken-back : (queues : List QueueView) (i : ℕ) (x : QueueView) → slice_set (
 taken-back queues i x = set-set queues i x (get_or queues i no_queue) ∙ set-get_or queues i no_queue
 
 -- the queue at a place
-pub found-at : (queues : List QueueView) (q n : ℕ) (found : QueueView) → q ≡ n → n < length queues → found ≡ get_or queues q found → found ≡ get_or queues n no_queue
-found-at queues q n found same lt is = get_or_read queues q found (subst (λ m. m < length queues) (sym same) lt) is no_queue ∙ ap (λ m. get_or queues m no_queue) same
+pub found-at : (queues : List QueueView) (q n : ℕ) (found : QueueView) → q ≡ n → q < length queues → found ≡ get_or queues q found → found ≡ get_or queues n no_queue
+found-at queues q n found same lt is = get_or_read queues q found lt is no_queue ∙ ap (λ m. get_or queues m no_queue) same
 
 -- the next event is stored in its queue
-pub told-there : (queues : List QueueView) (now at : ℤ) (txid q : ℕ) (event e : RowEvent) (was is : QueueView) → q ≡ e.queue → event ≡ e → at ≡ now → e.queue < length queues → was ≡ get_or queues q was
+pub told-there : (queues : List QueueView) (now at : ℤ) (txid q : ℕ) (event e : RowEvent) (was is : QueueView) → q ≡ e.queue → event ≡ e → at ≡ now → q < length queues → was ≡ get_or queues q was
     → is ≡ telling at txid event was → slice_set queues q is ≡ slice_set queues e.queue (telling now txid e (get_or queues e.queue no_queue))
 told-there queues now at txid q event e was is there same time lt found told = λ i. slice_set queues (there i) (new i)
   where
@@ -175,20 +176,17 @@ told-there queues now at txid q event e was is there same time lt found told = �
     new = told ∙ (λ i. telling (time i) txid (same i) (found-at queues q e.queue was there lt found i))
 
 -- and that queue takes it back
-pub back-there : (queues told : List QueueView) (now : ℤ) (txid q : ℕ) (e : RowEvent) (was is : QueueView) → q ≡ e.queue → e.queue < length queues
+pub back-there : (queues told : List QueueView) (now : ℤ) (txid q : ℕ) (e : RowEvent) (was is : QueueView) → q ≡ e.queue → q < length queues → q < length told
     → told ≡ slice_set queues e.queue (telling now txid e (get_or queues e.queue no_queue)) → was ≡ get_or told q was
     → ((m : ℤ) (t : ℕ) (event : RowEvent) (old : QueueView) → was ≡ telling m t event old → is ≡ old) → slice_set told q is ≡ queues
-back-there queues told now txid q e was is there lt after found back =
+back-there queues told now txid q e was is there lt low after found back =
     (λ i. slice_set (after i) (there i) (back now txid e (get_or queues e.queue no_queue) here i)) ∙ taken-back queues e.queue new
   where
     new : QueueView
     new = telling now txid e (get_or queues e.queue no_queue)
 
-    low : e.queue < length told
-    low = subst (λ xs. e.queue < length xs) (sym after) (subst (λ n. e.queue < n) (sym (length-set queues e.queue new)) lt)
-
     here : was ≡ new
-    here = found-at told q e.queue was there low found ∙ ap (λ xs. get_or xs e.queue no_queue) after ∙ get_or-set_same queues e.queue new no_queue lt
+    here = found-at told q e.queue was there low found ∙ ap (λ xs. get_or xs e.queue no_queue) after ∙ get_or-set_same queues e.queue new no_queue (subst (λ n. n < length queues) there lt)
 
 -- ---- a whole write
 
@@ -199,15 +197,16 @@ telling-length now txid (e ∷ es) queues =
     let next : QueueView = telling now txid e (get_or queues e.queue no_queue) in
     telling-length now txid es (slice_set queues e.queue next) ∙ length-set queues e.queue next
 
-pub told-length : {A E : Type 0} (r : Result A E) (now : ℤ) (txid : ℕ) (es : List RowEvent) (old new : List QueueView) → OnOk r (new ≡ telling_all now txid es old) → OnErr r (new ≡ old) → length new ≡ length old
-told-length (Ok a) now txid es old new ok err = ap length ok ∙ telling-length now txid es old
-told-length (Err e) now txid es old new ok err = ap length err
+pub told-names : {A E : Type 0} (r : Result A E) (old new : NamedView QueueView) (queues : List QueueView) → OnOk r (new ≡ record old { values = queues }) → OnErr r (new ≡ old) → new.names ≡ old.names
+told-names (Ok a) old new queues ok err = ap NamedView.names ok
+told-names (Err e) old new queues ok err = ap NamedView.names err
 
 -- the queues are then as the rule says
-pub wrote-as : {A E : Type 0} (r : Result A E) (v now : QueuesView) (queues : List QueueView) (at : ℤ) (txid table : ℕ) (old new : Option (List Val)) (t : TracedView) → v ≡ now → at ≡ v.time
-    → Some t ≡ traced_at now table → OnOk r (queues ≡ telling_all at txid (table_events t old new) v.queues)
-    → OnOk r (record v { queues = queues } ≡ event_rule.after now txid (record { table = table; old = old; new = new }))
+pub wrote-as : {A E : Type 0} (r : Result A E) (v now : QueuesView) (queues : NamedView QueueView) (at : ℤ) (txid table : ℕ) (old new : Option (List Val)) (t : TracedView) → v ≡ now → at ≡ v.time
+    → Some t ≡ traced_at now table → OnOk r (queues ≡ record { names = v.names; values = telling_all at txid (table_events t old new) v.queues })
+    → OnOk r (record v { names = queues.names; queues = queues.values } ≡ event_rule.after now txid (record { table = table; old = old; new = new }))
 wrote-as (Err e) v now queues at txid table old new t same time found is = tt
 wrote-as (Ok a) v now queues at txid table old new t same time found is =
-    (λ i. record v { queues = (is ∙ ap (λ m. telling_all m txid (table_events t old new) v.queues) time) i })
+    (λ i. record v { names = NamedView.names (is i); queues = NamedView.values (is i) })
+    ∙ (λ i. record v { queues = telling_all (time i) txid (table_events t old new) v.queues })
     ∙ (λ i. record (same i) { queues = telling_all (same i).time txid (events_at (found i) (record { table = table; old = old; new = new })) (same i).queues })

@@ -1,16 +1,15 @@
 -- The tables with triggers that a database keeps, after one of them changed.
-use Rattle.std.proofs.lemmas.List.{map-append, append-nil, length-set}
-use Rattle.std.proofs.Common.{◌≡◌, ℕ, ℤ, zero, suc, ◌+◌, ◌<◌, ◌≤◌, length-append, Bool, true, false, ◌==◌, List, [], ◌∷◌, ◌++◌, Option, Some, None, option_copied, Bor, IfSome, is_some, length, get_or, slice_set, option_map, nat_cmp, cond, refl, sym, ◌∙◌, ap, subst, arith, if◌then◌else◌}
+use Rattle.std.proofs.lemmas.List.{map-append, append-nil}
+use Rattle.std.proofs.Common.{◌≡◌, ℕ, zero, suc, ◌<◌, ◌≤◌, length-append, Bool, true, false, ◌==◌, List, [], ◌∷◌, ◌++◌, Option, Some, None, option_copied, Bor, IfSome, is_some, length, get_or, option_map, nat_cmp, cond, refl, sym, ◌∙◌, ap, subst, arith, if◌then◌else◌}
 use Rattle.std.proofs.lemmas.Bool.Decides.{nat_tests}
 use Rattle.std.proofs.lemmas.List.Elements.{All-cons, All-append, filter-append}
 use Rattle.std.specs.List.{All}
 use Rattle.std.specs.BTreeMap.{is_at}
 use Rattle.std.specs.Map.{lookup}
 use Rattle.sky_val.specs.declared.column.Column.{Column}
-use Rattle.sky_model.specs.Moment.{HasMoment}
 use Rattle.sky_model.specs.Triggers.{TableTrigger, triggers_of}
 use Rattle.sky_model.specs.State.{RowPart}
-use Rattle.pgq_queues.specs.Views.{QueueView, TracedTableView, TracedView, QueuesView}
+use Rattle.pgq_queues.specs.Views.{TracedTableView, TracedView, QueuesView}
 use Rattle.pgq_queues.specs.Seen.{kept}
 use Rattle.pgq_queues.specs.Traced.{no_trigger, triggers_at, traced_by, traced_at, places_of, ArePlaced, TracedWithin, IsTable, IsTraced, AreTables}
 use Rattle.pgq_queues.specs.declared.batch.Batch.{Batch}
@@ -154,22 +153,6 @@ pub queues-more : (count : ℕ) (xs : List TableTrigger) (x : TableTrigger) → 
 queues-more count xs x all lt =
     All-append (λ (y : TableTrigger). y.trigger.queue < count) xs (x ∷ []) all (All-cons (λ (y : TableTrigger). y.trigger.queue < count) x [] lt (λ k d low. absurd (omega arith)))
 
--- what is true of queues, where one of them and what is kept of batches has changed
-abbrev pub AreWithin : ℤ → ℕ → List (List ℕ) → List (ℕ × Batch) → List TableTrigger → List (ℕ × TracedTableView) → Type 0
-AreWithin time count names batches triggers all = (HasMoment time × (count ≡ length names)) × (BatchesWithin count batches × TracedWithin count triggers all)
-
-pub within-set : (time : ℤ) (queues : List QueueView) (names : List (List ℕ)) (batches : List (ℕ × Batch)) (triggers : List TableTrigger) (all : List (ℕ × TracedTableView)) (i : ℕ) (q : QueueView)
-    → AreWithin time (length queues) names batches triggers all → AreWithin time (length (slice_set queues i q)) names batches triggers all
-within-set time queues names batches triggers all i q are = subst (λ count. AreWithin time count names batches triggers all) (sym (length-set queues i q)) are
-
-pub lengths : (xs ys zs : List QueueView) (q : QueueView) (ns ms : List (List ℕ)) (n : List ℕ) → ys ≡ zs ++ q ∷ [] → zs ≡ xs → ms ≡ ns ++ n ∷ [] → length xs ≡ length ns
-    → (length ys ≡ length ms) × (length xs ≤ length ys)
-lengths xs ys zs q ns ms n one two three same =
-    let l : length ys ≡ length zs + 1 = ap length one ∙ length-append zs (q ∷ []) in
-    let m : length ms ≡ length ns + 1 = ap length three ∙ length-append ns (n ∷ []) in
-    let z : length zs ≡ length xs = ap length two in
-    (omega (arith, l, m, z, same), omega (arith, l, z))
-
 -- what is kept of the triggers and their tables, where nothing has come to them
 pub traced-kept : (count : ℕ) (ts triggers : List TableTrigger) (old new : List (ℕ × TracedTableView)) (n : ℕ) (t was : TracedTableView) → ts ≡ triggers → Updated old new n (Some t)
     → Some was ≡ kept old n → t ≡ was → TracedWithin count triggers old → TracedWithin count ts new
@@ -258,11 +241,11 @@ traced-found v now n slice t found same all at is placed =
 
 -- the queues of its triggers are there
 pub found-within : (v now : QueuesView) (n : ℕ) (slice : List TableTrigger) (t : TracedTableView) (found : TracedView) → v ≡ now → slice ≡ v.triggers → Some t ≡ kept v.traced n
-    → found ≡ traced_by (triggers_at slice t.places) t → TracedWithin (length v.queues) v.triggers v.traced → All (λ (x : TableTrigger). x.trigger.queue < length now.queues) found.triggers
+    → found ≡ traced_by (triggers_at slice t.places) t → TracedWithin (length v.names) v.triggers v.traced → All (λ (x : TableTrigger). x.trigger.queue < length now.names) found.triggers
 found-within v now n slice t found same all at is within =
-    subst (λ (w : QueuesView). All (λ (x : TableTrigger). x.trigger.queue < length w.queues) found.triggers) same
-    (subst (All (λ (x : TableTrigger). x.trigger.queue < length v.queues)) (sym (ap TracedView.triggers is ∙ ap (λ ts. triggers_at ts t.places) all))
-    (at-queues (length v.queues) v.triggers t.places within.queues (placed-at v.triggers v.traced n (Some t) at within.places).within))
+    subst (λ (w : QueuesView). All (λ (x : TableTrigger). x.trigger.queue < length w.names) found.triggers) same
+    (subst (All (λ (x : TableTrigger). x.trigger.queue < length v.names)) (sym (ap TracedView.triggers is ∙ ap (λ ts. triggers_at ts t.places) all))
+    (at-queues (length v.names) v.triggers t.places within.queues (placed-at v.triggers v.traced n (Some t) at within.places).within))
 
 -- one of which nothing is kept has none
 pub none-found : (v now : QueuesView) (n : ℕ) (o : Option TracedTableView) → v ≡ now → o ≡ kept v.traced n → o ≡ None → ((m : ℕ) → ArePlaced v.triggers m (places_of (kept v.traced m)))

@@ -4,11 +4,11 @@ use Rattle.std.specs.List.{list_any}
 use Rattle.std.specs.Ordering.{nat_cmp}
 use Rattle.std.specs.BTreeMap.{is_at}
 use Rattle.std.specs.Map.{lookup}
-use Rattle.sky_names.specs.Named.{value_of}
 use Rattle.sky_model.specs.History as model
 use Rattle.sky_model.specs.Queues.{NamedQueue}
 use Rattle.sky_model.specs.Config.{default_config}
 use Rattle.sky_model.specs.State.{Queue, RowPart, Database}
+use Rattle.pgq_sub.specs.Seen.{seen_subs, no_subs}
 use Rattle.pgq_queues.specs.declared.batch.Batch.{Batch}
 use Rattle.pgq_queues.specs.Views.{QueueView, QueuesView}
 
@@ -18,13 +18,13 @@ seen_queue q = record {
   seq = q.seq;
   stored = q.events;
   tick_list = q.ticks;
-  members = q.subs.names;
-  sub = λ name. value_of name q.subs;
+  members = (seen_subs q.subs).members;
+  sub = (seen_subs q.subs).sub;
 }
 
 -- a queue that isn't made
 abbrev pub no_queue : QueueView
-no_queue = record { seq = 0; events = []; ticks = []; subs = record { names = []; values = [] } }
+no_queue = record { seq = 0; events = []; ticks = []; subs = no_subs }
 
 -- a batch that is kept under an id
 abbrev pub seen_batch : ℕ → Batch → model.Batch

@@ -9,6 +9,7 @@ use crate::queue::Queue;
 use crate::queues::Queues;
 use crate::traced::Traced;
 use sky_model::WriteGate;
+use sky_names::Named;
 use sky_val::{NoMemory, Op, Row};
 
 /// The number at which the event ids of a queue are spent.
@@ -19,7 +20,7 @@ impl WriteGate for Queues {
 
     fn room(&self, table: u32, _op: Op, old: Option<&Row>, new: Option<&Row>) -> bool {
         match self.traced(table) {
-            Some(traced) => has_ids(self.queues.as_slice(), &traced, old, new),
+            Some(traced) => has_ids(&self.queues, &traced, old, new),
             None => true,
         }
     }
@@ -62,9 +63,9 @@ fn told_before(
 }
 
 /// Whether there are ids for all events of the write.
-fn has_ids(queues: &[Queue], traced: &Traced<'_>, old: Option<&Row>, new: Option<&Row>) -> bool
-    requires { All (λ x. x.trigger.queue < length queues.now) traced.now.triggers }
-    ensures { result ≡ ids_left (sequences queues.now) (table_events traced.now (option_copied old.entry) (option_copied new.entry)) }
+fn has_ids(queues: &Named<Queue>, traced: &Traced<'_>, old: Option<&Row>, new: Option<&Row>) -> bool
+    requires { All (λ x. x.trigger.queue < length queues.now.names) traced.now.triggers }
+    ensures { result ≡ ids_left (sequences queues.now.values) (table_events traced.now (option_copied old.entry) (option_copied new.entry)) }
 {
     for place in 0..traced.count() {
         let trigger = traced.trigger(place);
@@ -72,7 +73,7 @@ fn has_ids(queues: &[Queue], traced: &Traced<'_>, old: Option<&Row>, new: Option
             continue;
         }
         let queue = trigger.queue();
-        let seq = queues[queue].seq();
+        let seq = queues.get(queue).seq();
         let before = told_before(traced, place, queue, old, new) as u64;
         if seq >= EVENT_ID_END - 1 || before >= EVENT_ID_END - 1 - seq {
             return false;
@@ -83,7 +84,7 @@ fn has_ids(queues: &[Queue], traced: &Traced<'_>, old: Option<&Row>, new: Option
 
 /// Tells of the write by the events of the triggers from this place on, each with the next id of its queue.
 fn tell(
-    queues: &mut Vec<Queue>,
+    queues: &mut Named<Queue>,
     traced: &Traced<'_>,
     place: usize,
     now: i64,
@@ -92,12 +93,13 @@ fn tell(
     new: Option<&Row>,
 ) -> Result<(), NoMemory>
     requires place { place ≤ length traced.now.triggers }
-    requires within { All (λ x. x.trigger.queue < length queues.old.items) traced.now.triggers }
+    requires within { All (λ x. x.trigger.queue < length queues.old.names) traced.now.triggers }
     requires time { HasMoment now }
-    requires room { ids_left (sequences queues.old.items) (events_by traced.now (option_copied old) (option_copied new) (drop place traced.now.triggers)) ≡ true }
-    ensures ok { OnOk result (queues.new.items
-        ≡ telling_all now txid (events_by traced.now (option_copied old.entry) (option_copied new.entry) (drop place traced.now.triggers)) queues.old.items) }
-    ensures err { OnErr result (queues.new.items ≡ queues.old.items) }
+    requires room { ids_left (sequences queues.old.values) (events_by traced.now (option_copied old) (option_copied new) (drop place traced.now.triggers)) ≡ true }
+    ensures ok { OnOk result (queues.new ≡ record queues.old {
+      values = telling_all now txid (events_by traced.now (option_copied old.entry) (option_copied new.entry) (drop place traced.now.triggers)) queues.old.values;
+    }) }
+    ensures err { OnErr result (queues.new ≡ queues.old) }
 {
     if place == traced.count() {
         return Ok(());
@@ -106,14 +108,14 @@ fn tell(
     if trigger.leaves_out(traced.schema(), old, new) {
         return tell(queues, traced, place + 1, now, txid, old, new);
     }
-    let alloc = *queues.allocator();
-    let event = trigger.event(alloc, traced.name(), traced.schema(), old, new)?;
     let queue = trigger.queue();
-    queues[queue].tell(now, txid, event)?;
+    let alloc = queues.get(queue).alloc();
+    let event = trigger.event(alloc, traced.name(), traced.schema(), old, new)?;
+    queues.get_mut(queue).tell(now, txid, event)?;
     match tell(queues, traced, place + 1, now, txid, old, new) {
         Ok(()) => Ok(()),
         Err(no_memory) => {
-            queues[queue].take_back();
+            queues.get_mut(queue).take_back();
             Err(no_memory)
         }
     }

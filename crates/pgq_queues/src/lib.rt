@@ -11,12 +11,10 @@ mod gate;
 mod queue;
 mod queues;
 mod stored;
-mod subscription;
 mod traced;
 
 pub use batch::Batch;
 pub use gate::EVENT_ID_END;
 pub use queue::Queue;
 pub use queues::Queues;
-pub use subscription::Subscription;
 pub use traced::TableTrigger;

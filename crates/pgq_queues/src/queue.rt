@@ -1,7 +1,8 @@
-ghost use Rattle.std.specs.Prelude.{◌≡◌, ℕ, ℤ, ◌+◌, ◌<◌, ◌^◌, [], ◌∷◌, ◌++◌, Some, None, IfOk, OnOk, OnErr, IfSome, option_copied, option_map, length, ◌↔◌, ◌≤◌, Err};
+ghost use Rattle.std.specs.Prelude.{◌≡◌, ℕ, ℤ, ◌+◌, ◌<◌, ◌^◌, [], ◌∷◌, ◌++◌, Some, None, IfOk, OnOk, OnErr, length, ◌↔◌, ◌≤◌, Err};
 ghost use Rattle.sky_model.specs.Queues.{newest_tick};
 ghost use Rattle.sky_model.specs.Selection.{selected_in};
-ghost use Rattle.sky_model.specs.State.{changed_for, with_batch, at_position};
+ghost use Rattle.sky_model.specs.State.{with_batch, at_position};
+ghost use Rattle.pgq_sub.specs.Seen.{seen_subs, no_subs, with_member, with_sub};
 ghost use Rattle.sky_model.specs.StepQueue.{id_of, is_due};
 ghost use Rattle.pgq_tick.specs.Ticks.{IsTime};
 ghost use Rattle.pgq_queues.specs.Seen.{keeps, seen_queue, seen_batch};
@@ -14,9 +15,8 @@ ghost use Rattle.sky_urlenc.specs.RowEvents.{RowEvent};
 
 use crate::batch::{Batch, select};
 use crate::stored::Stored;
-use crate::subscription::Subscription;
+use pgq_sub::{Sub, Subs};
 use pgq_tick::{QueueConfig, Tick, TickFault, Ticks};
-use sky_names::Named;
 use sky_txid::Snapshot;
 use sky_urlenc::RowEvent;
 use sky_val::{Event, NoMemory, Text};
@@ -31,7 +31,7 @@ pub struct Queue {
     seq: u64,
     events: Vec<Stored>,
     ticks: Ticks,
-    subs: Named<Subscription>,
+    subs: Subs,
 }
 
 impl Model for Queue {
@@ -51,7 +51,7 @@ impl Queue {
     /// A queue with its first tick.
     pub(crate) fn new(alloc: Global, now: i64, snapshot: Snapshot) -> Result<Queue, NoMemory>
         requires { IsTime now }
-        ensures { IfOk result (λ queue. queue ≡ record { seq = 0; events = []; ticks = record { id = 1; time = now; snapshot = snapshot; seq = 0 } ∷ []; subs = record { names = []; values = [] } }) }
+        ensures { IfOk result (λ queue. queue ≡ record { seq = 0; events = []; ticks = record { id = 1; time = now; snapshot = snapshot; seq = 0 } ∷ []; subs = no_subs }) }
     {
         let first = Tick {
             id: 1,
@@ -65,8 +65,13 @@ impl Queue {
             seq: 0,
             events: Vec::new(alloc),
             ticks,
-            subs: Named::new(alloc),
+            subs: Subs::new(alloc),
         })
+    }
+
+    /// The allocator that it was made with.
+    pub(crate) fn alloc(&self) -> Global {
+        *self.events.allocator()
     }
 
     /// The value of the sequence.
@@ -106,11 +111,11 @@ impl Queue {
     }
 
     /// The subscription of a consumer, if it is registered.
-    pub fn subscription(&self, consumer: &Text) -> Option<Subscription>
+    pub fn subscription(&self, consumer: &Text) -> Option<Sub>
         ensures { result ≡ (seen_queue self.now).sub consumer.now }
     {
-        let number = self.subs.number(consumer)?;
-        Some(self.subs.get(number as usize).copy())
+        let sub = self.subs.get(consumer)?;
+        Some(sub.copy())
     }
 
     /// The sequence has this value from now on.
@@ -125,7 +130,7 @@ impl Queue {
         requires { HasMoment event.ev_time }
         ensures { OnOk result (self.new ≡ record self.old { events = self.old.events ++ event ∷ [] }) }
     {
-        let stored = Stored::new(*self.events.allocator(), event)?;
+        let stored = Stored::new(self.alloc(), event)?;
         self.events.push(stored)?;
         Ok(())
     }
@@ -138,7 +143,7 @@ impl Queue {
         ensures err { OnErr result (self.new ≡ self.old) }
     {
         let id = self.seq + 1;
-        let stored = Stored::new(*self.events.allocator(), told_event(id, now, txid, event))?;
+        let stored = Stored::new(self.alloc(), told_event(id, now, txid, event))?;
         self.events.push(stored)?;
         self.seq = id;
         Ok(())
@@ -174,32 +179,27 @@ impl Queue {
     ) -> Result<(), NoMemory>
         requires new { (seen_queue self.old).sub consumer.now ≡ None }
         requires room { length (seen_queue self.old).members < 256 }
-        ensures { OnOk result (seen_queue self.new ≡ record (seen_queue self.old) {
-          members = (seen_queue self.old).members ++ consumer.now ∷ [];
-          sub = changed_for consumer.now (λ _. Some (record { id = id; position = position; active = None })) (seen_queue self.old).sub;
-        }) }
+        ensures subs { OnOk result (seen_subs self.new.subs ≡ with_member consumer.now id position (seen_subs self.old.subs)) }
+        ensures but { self.new ≡ record self.old { subs = self.new.subs } }
     {
-        let sub = Subscription::new(id, position);
-        self.subs.add(consumer.copy(alloc)?, sub)?;
+        self.subs.register(alloc, consumer, id, position)?;
         Ok(())
     }
 
     /// A consumer has this batch from now on.
     pub(crate) fn open_batch(&mut self, consumer: &Text, batch: u64)
-        ensures { seen_queue self.new ≡ record (seen_queue self.old) { sub = changed_for consumer.now (option_map (with_batch batch)) (seen_queue self.old).sub } }
+        ensures subs { seen_subs self.new.subs ≡ with_sub consumer.now (with_batch batch) (seen_subs self.old.subs) }
+        ensures but { self.new ≡ record self.old { subs = self.new.subs } }
     {
-        if let Some(number) = self.subs.number(consumer) {
-            self.subs.get_mut(number as usize).open_batch(batch);
-        }
+        self.subs.open_batch(consumer, batch);
     }
 
     /// A consumer has finished its batch, and stands at its closing tick.
     pub(crate) fn close_batch(&mut self, consumer: &Text, position: u64)
-        ensures { seen_queue self.new ≡ record (seen_queue self.old) { sub = changed_for consumer.now (option_map (at_position position)) (seen_queue self.old).sub } }
+        ensures subs { seen_subs self.new.subs ≡ with_sub consumer.now (at_position position) (seen_subs self.old.subs) }
+        ensures but { self.new ≡ record self.old { subs = self.new.subs } }
     {
-        if let Some(number) = self.subs.number(consumer) {
-            self.subs.get_mut(number as usize).close_batch(position);
-        }
+        self.subs.finish(consumer, position);
     }
 
     /// The events of a batch of this queue, without those of the transactions that were rolled back.

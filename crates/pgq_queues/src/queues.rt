@@ -18,7 +18,7 @@ use crate::batch::Batch;
 use crate::queue::Queue;
 use crate::traced::{TableTrigger, Traced, TracedTable};
 use pgq_tick::TickFault;
-use sky_names::Names;
+use sky_names::Named;
 use sky_txid::Snapshot;
 use sky_val::{Event, NoMemory, Schema, Text};
 use std::alloc::Global;
@@ -34,8 +34,7 @@ pub struct Queues {
     pub(crate) time: i64,
     last_batch_id: u64,
     last_sub_id: u64,
-    names: Names,
-    pub(crate) queues: Vec<Queue>,
+    pub(crate) queues: Named<Queue>,
     batches: BTreeMap<u64, Batch>,
     // The transactions that were rolled back.
     undone: BTreeSet<u64>,
@@ -46,7 +45,7 @@ pub struct Queues {
 }
 
 impl Model for Queues {
-    ghost use Rattle.std.specs.Prelude.{◌≡◌, length};
+    ghost use Rattle.std.specs.Prelude.{length};
     ghost use Rattle.sky_model.specs.Moment.{HasMoment};
     ghost use Rattle.pgq_queues.specs.Views.{QueuesView};
     ghost use Rattle.pgq_queues.specs.Batches.{BatchesWithin};
@@ -58,16 +57,16 @@ impl Model for Queues {
       time = q.time;
       last_batch_id = q.last_batch_id;
       last_sub_id = q.last_sub_id;
-      names = q.names;
-      queues = q.queues.items;
+      names = q.queues.names;
+      queues = q.queues.values;
       batches = q.batches.entries;
       undone = q.undone.keys;
       triggers = q.triggers.items;
       traced = q.traced.entries;
     } };
 
-    ghost invariant = { λ q. (HasMoment q.time × (length q.queues.items ≡ length q.names))
-        × (BatchesWithin (length q.queues.items) q.batches.entries × TracedWithin (length q.queues.items) q.triggers.items q.traced.entries) };
+    ghost invariant = { λ q. HasMoment q.time
+        × (BatchesWithin (length q.queues.names) q.batches.entries × TracedWithin (length q.queues.names) q.triggers.items q.traced.entries) };
 }
 
 impl Queues {
@@ -80,8 +79,7 @@ impl Queues {
             time: 0,
             last_batch_id: 0,
             last_sub_id: 0,
-            names: Names::new(alloc),
-            queues: Vec::new(alloc),
+            queues: Named::new(alloc),
             batches: BTreeMap::new(alloc),
             undone: BTreeSet::new(alloc),
             triggers: Vec::new(alloc),
@@ -95,6 +93,7 @@ impl Queues {
         ensures time { self.new ≡ record self.old { time = time } }
         ensures within { All (λ t. t.trigger.queue < length self.new.queues) self.new.triggers }
     {
+        let _ = self.queues.len();
         self.time = time;
     }
 
@@ -102,24 +101,24 @@ impl Queues {
     pub fn count(&self) -> usize
         ensures { result ≡ length (queues_of self.now) }
     {
-        self.names.len()
+        self.queues.len()
     }
 
     /// The number of a queue, if there is one of this name.
     pub fn number(&self, queue: &Text) -> Option<usize>
         ensures number { result ≡ queue_number queue.now (queues_of self.now) }
-        ensures within { IfSome result (λ n. n < length self.now.queues) }
+        ensures within { IfSome result (λ n. n < length self.now.names) }
     {
-        let number = self.names.number(queue)?;
+        let number = self.queues.number(queue)?;
         Some(number as usize)
     }
 
     /// The queue of this number.
     pub fn queue(&self, number: usize) -> &Queue
-        requires { number < length self.now.queues }
+        requires { number < length self.now.names }
         ensures { seen_queue result.now ≡ queue_at self.now number }
     {
-        &self.queues[number]
+        self.queues.get(number)
     }
 
     /// The last subscription id that was given.
@@ -139,14 +138,14 @@ impl Queues {
     /// An active batch, by its id.
     pub fn batch(&self, id: u64) -> Option<&Batch>
         ensures batch { option_map (seen_batch id) (option_copied result) ≡ batch_at self.now id }
-        ensures within { IfSome result (λ b. b.now.queue < length self.now.queues) }
+        ensures within { IfSome result (λ b. b.now.queue < length self.now.names) }
     {
         self.batches.get(&id)
     }
 
     /// The events of a batch, without those of the transactions that were rolled back.
     pub fn batch_events(&self, batch: &Batch) -> Result<Vec<Event>, NoMemory>
-        requires { batch.now.queue < length self.now.queues }
+        requires { batch.now.queue < length self.now.names }
         ensures events { (part : RowPart) (id : ℕ) → IfOk result (λ events. events.items ≡ selected (seen_with part self.now) (seen_batch id batch.now)) }
         ensures moments { IfOk result (λ events. EventsHaveMoments events.items) }
     {
@@ -157,7 +156,7 @@ impl Queues {
     /// A table with its triggers, if anything is kept of it.
     pub(crate) fn traced(&self, table: u32) -> Option<Traced<'_>>
         ensures traced { result ≡ traced_at self.now table }
-        ensures within { IfSome result (λ t. All (λ x. x.trigger.queue < length self.now.queues) t.triggers) }
+        ensures within { IfSome result (λ t. All (λ x. x.trigger.queue < length self.now.names) t.triggers) }
         ensures none { IfNone result (triggers_of table self.now.triggers ≡ []) }
     {
         let traced = self.traced.get(&table)?;
@@ -188,7 +187,7 @@ impl Queues {
     pub fn undo(&mut self, txid: u64) -> Result<(), NoMemory>
         ensures noted { OnOk result ((part : RowPart) → seen_with part self.new
             ≡ record (seen_with part self.old) { undone = λ u. u == txid || (seen_with part self.old).undone u }) }
-        ensures queues { length self.new.queues ≡ length self.old.queues }
+        ensures names { self.new.names ≡ self.old.names }
         ensures tables { (part : RowPart) → AreTables part self.old → AreTables part self.new }
     {
         self.undone.insert(txid)?;
@@ -205,37 +204,35 @@ impl Queues {
         ensures tables { (part : RowPart) → AreTables part self.old → AreTables part self.new }
     {
         let queue = Queue::new(self.alloc, now, snapshot)?;
-        self.queues.reserve(1)?;
-        self.names.add(name)?;
-        self.queues.push_reserved(queue);
+        self.queues.add(name, queue)?;
         Ok(())
     }
 
     /// The sequence of a queue has this value from now on.
     pub fn raise(&mut self, queue: usize, value: u64)
-        requires { queue < length self.old.queues }
+        requires { queue < length self.old.names }
         ensures mark { (part : RowPart) → seen_with part self.new ≡ after_mark (seen_with part self.old) (queued (raised queue value)) }
-        ensures queues { length self.new.queues ≡ length self.old.queues }
+        ensures names { self.new.names ≡ self.old.names }
         ensures tables { (part : RowPart) → AreTables part self.old → AreTables part self.new }
     {
-        self.queues[queue].raise(value);
+        self.queues.get_mut(queue).raise(value);
     }
 
     /// Stores an event in a queue, whether its transaction commits or not.
     pub fn put(&mut self, queue: usize, event: Event) -> Result<(), NoMemory>
-        requires queue { queue < length self.old.queues }
+        requires queue { queue < length self.old.names }
         requires time { HasMoment event.ev_time }
         ensures mark { OnOk result ((part : RowPart) → seen_with part self.new ≡ after_mark (seen_with part self.old) (queued (put queue event))) }
-        ensures queues { length self.new.queues ≡ length self.old.queues }
+        ensures names { self.new.names ≡ self.old.names }
         ensures tables { (part : RowPart) → AreTables part self.old → AreTables part self.new }
     {
-        self.queues[queue].put(event)?;
+        self.queues.get_mut(queue).put(event)?;
         Ok(())
     }
 
     /// One more tick of a queue, with the snapshot as it is now and the next id, which it gives.
     pub fn tick(&mut self, queue: usize, now: i64, snapshot: Snapshot) -> Result<u64, TickFault>
-        requires queue { queue < length self.old.queues }
+        requires queue { queue < length self.old.names }
         requires time { IsTime now }
         ensures id { IfOk result (λ id. id ≡ newest_id (queue_at self.old queue) + 1) }
         ensures mark { IfOk result (λ id. (part : RowPart) → snapshot ≡ snapshot_now part → seen_with part self.new
@@ -244,12 +241,12 @@ impl Queues {
         ensures err { OnErr result ((part : RowPart) → seen_with part self.new ≡ seen_with part self.old) }
         ensures tables { (part : RowPart) → AreTables part self.old → AreTables part self.new }
     {
-        self.queues[queue].tick(now, snapshot)
+        self.queues.get_mut(queue).tick(now, snapshot)
     }
 
     /// Registers a new consumer, with the next subscription id, which stands at the newest tick.
     pub fn register(&mut self, queue: usize, consumer: &Text) -> Result<(), NoMemory>
-        requires queue { queue < length self.old.queues }
+        requires queue { queue < length self.old.names }
         requires new { (queue_at self.old queue).sub consumer.now ≡ None }
         requires room { length (queue_at self.old queue).members < 256 }
         requires id { self.old.last_sub_id + 1 < 2 ^ 64 }
@@ -257,19 +254,23 @@ impl Queues {
             ≡ after_mark (seen_with part self.old) (queued (registered queue consumer.now (self.old.last_sub_id + 1) (newest_id (queue_at self.old queue))))) }
         ensures tables { (part : RowPart) → AreTables part self.old → AreTables part self.new }
     {
-        let newest = self.queues[queue].ticks().newest().id();
+        let newest = self.queues.get(queue).ticks().newest().id();
         self.last_sub_id += 1;
-        self.queues[queue].register(self.alloc, consumer, self.last_sub_id, newest)?;
+        self.queues
+            .get_mut(queue)
+            .register(self.alloc, consumer, self.last_sub_id, newest)?;
         Ok(())
     }
 
     /// The batch is active from now on, is its consumer's, and is the last that was made.
     pub fn open_batch(&mut self, id: u64, batch: Batch) -> Result<(), NoMemory>
-        requires { batch.queue < length self.old.queues }
+        requires { batch.queue < length self.old.names }
         ensures mark { OnOk result ((part : RowPart) → seen_with part self.new ≡ after_mark (seen_with part self.old) (queued (opened (seen_batch id batch)))) }
         ensures tables { (part : RowPart) → AreTables part self.old → AreTables part self.new }
     {
-        self.queues[batch.queue].open_batch(&batch.consumer, id);
+        self.queues
+            .get_mut(batch.queue)
+            .open_batch(&batch.consumer, id);
         self.last_batch_id = id;
         self.batches.insert(id, batch)?;
         Ok(())
@@ -283,7 +284,9 @@ impl Queues {
         ensures tables { (part : RowPart) → AreTables part self.old → AreTables part self.new }
     {
         let batch = self.batches.remove(&id)?;
-        self.queues[batch.queue].close_batch(&batch.consumer, batch.cur);
+        self.queues
+            .get_mut(batch.queue)
+            .close_batch(&batch.consumer, batch.cur);
         Some(batch)
     }
 
@@ -294,7 +297,7 @@ impl Queues {
         schema: &Schema,
         trigger: TableTrigger,
     ) -> Result<(), NoMemory>
-        requires { trigger.trigger.queue < length self.old.queues }
+        requires { trigger.trigger.queue < length self.old.names }
         ensures ok { OnOk result ((part : RowPart) → seen_with part self.new
             ≡ after_mark (seen_with part self.old) (queued (traced trigger.table trigger.name trigger.trigger))) }
         ensures err { OnErr result ((part : RowPart) → seen_with part self.new ≡ seen_with part self.old) }
@@ -308,7 +311,7 @@ impl Queues {
     /// Keeps what events say of a table, where that isn't kept yet.
     fn keep_table(&mut self, name: &Text, schema: &Schema, number: u32) -> Result<(), NoMemory>
         ensures same { (part : RowPart) → seen_with part self.new ≡ seen_with part self.old }
-        ensures queues { length self.new.queues ≡ length self.old.queues }
+        ensures names { self.new.names ≡ self.old.names }
         ensures kept { OnOk result (is_some (kept self.new.traced number) ≡ true) }
         ensures tables { (part : RowPart) → IsTable part number name.now schema.now → AreTables part self.old → AreTables part self.new }
     {
@@ -323,7 +326,7 @@ impl Queues {
     /// One more trigger of a table of which is kept what events say of it.
     fn store_trigger(&mut self, trigger: TableTrigger) -> Result<(), NoMemory>
         requires table { is_some (kept self.old.traced trigger.table) ≡ true }
-        requires queue { trigger.trigger.queue < length self.old.queues }
+        requires queue { trigger.trigger.queue < length self.old.names }
         ensures ok { OnOk result ((part : RowPart) → seen_with part self.new
             ≡ after_mark (seen_with part self.old) (queued (traced trigger.table trigger.name trigger.trigger))) }
         ensures err { OnErr result ((part : RowPart) → seen_with part self.new ≡ seen_with part self.old) }

@@ -10,7 +10,7 @@ loop-effect-preserved c = record {
   undone = λ part.
       undone-at (seen_with part c.loop-effect.queues) (seen_with part c.note.new.queues) _ _ c.args.effects.now.items c.loop-effect.effect-index _ (c.in_ok-note.ensures.noted part) c.as_slice-effect-items.ensures (omega (arith, c.loop-effect-test.true))
       c.effect-item.is (c.loop-effect.invariant.undone part);
-  queues = c.note.ensures.queues ∙ c.loop-effect.invariant.queues;
+  names = c.note.ensures.names ∙ c.loop-effect.invariant.names;
   tables = λ part are. c.note.ensures.tables part (c.loop-effect.invariant.tables part are);
 }
 

@@ -8,7 +8,7 @@ use Rattle.pgq_queues.proofs.gate.has_ids.Goals as goal
 
 pub loop-place-preserved : goal.loop-place-preserved
 loop-place-preserved c =
-    let seq = sequences c.args.queues.now in
+    let seq = sequences c.args.queues.now.values in
     let t = c.args.traced.now in
     let old = option_copied c.args.old in
     let new = option_copied c.args.new in
@@ -19,5 +19,5 @@ loop-place-preserved c =
     let queue : c.queue-queue.result ≡ (get_or t.triggers i no_trigger).trigger.queue = c.queue-queue.ensures ∙ ap Trigger.queue same in
     sym (ids-told t old new seq i fits out
     (room-for c.seq-seq.result c.told_before-before.result (seq (get_or t.triggers i no_trigger).trigger.queue) (count_of (get_or t.triggers i no_trigger).trigger.queue (upto t old new i))
-    (c.seq-seq.ensures ∙ ap QueueView.seq (found-at c.args.queues.now c.queue-queue.result (get_or t.triggers i no_trigger).trigger.queue c.index-queues-queue.result queue (c.requires i no_trigger fits) c.index-queues-queue.is)) (c.told_before-before.ensures ∙ ap (λ q. count_of q (upto t old new i)) queue) (λ h. omega (arith, h, c.if-seq.false)) (λ h. omega (arith, h, c.if-before-seq.false))))
+    (c.seq-seq.ensures ∙ ap QueueView.seq (found-at c.args.queues.now.values c.queue-queue.result (get_or t.triggers i no_trigger).trigger.queue c.get.result.now queue c.get.ensures.within c.get.ensures.value)) (c.told_before-before.ensures ∙ ap (λ q. count_of q (upto t old new i)) queue) (λ h. omega (arith, h, c.if-seq.false)) (λ h. omega (arith, h, c.if-before-seq.false))))
     ∙ c.loop-place.invariant

@@ -11,5 +11,5 @@ invariant_of-self c = λ e. c.raise.ensures.tables (seen c.self.inside.rows) (c.
 pub returns-clause-mark : goal.returns-clause-mark
 returns-clause-mark c = marked-as _ _ c.raise.new.self (λ q. raised c.args.queue c.args.value) c.self.view_is c.raise.ensures.mark
 
-pub returns-clause-queues : goal.returns-clause-queues
-returns-clause-queues c = c.raise.ensures.queues ∙ ap (λ (v : DbView). length v.queues.queues) c.self.view_is
+pub returns-clause-names : goal.returns-clause-names
+returns-clause-names c = c.raise.ensures.names ∙ ap (λ (v : DbView). v.queues.names) c.self.view_is

@@ -16,7 +16,7 @@ use Rattle.pgq_db.specs.Views.{DbView}
 use Rattle.pgq_db.specs.Seen.{seen_database}
 use Rattle.pgq_db.specs.Gives.{Adds}
 use Rattle.pgq_db.proofs.Databases.{undone-as}
-use Rattle.pgq_db.proofs.EventsAlike.{Alike, alike-at, step-told, step-rows, told-changed, told-tables}
+use Rattle.pgq_db.proofs.EventsAlike.{Alike, alike-at, step-told, step-rows, told-changed, tables-behind_turn}
 use Rattle.pgq_db.proofs.Moments.{same-moments}
 use Rattle.pgq_db.proofs.db.Db.step_rows.Goals as goal
 
@@ -24,21 +24,17 @@ pub invariant_of-self : goal.invariant_of-self
 invariant_of-self c = λ e.
     let was : QueuesView = c.self.inside.queues in
     let p : RowPart = seen c.self.inside.rows in
-    let d : Database = seen_with p was in
-    let q : QueuesView = c.set_time.new.self in
-    let alike : Alike c.args.now was.undone d p q = alike-at c.args.now (to_z w64 (of_z w64 c.args.now)) p was q c.set_time.ensures.time (to_z-of_z w64 c.args.now c.ranges.now) (c.self.invariant c.if-self.false) c.set_time.ensures.within in
     c.undo_aborted.ensures.tables (seen c.step_into-stepped.new.self)
-    (told-tables c.args.now was.undone d p (seen c.step_into-stepped.new.self) q c.step_into-stepped.new.gate _ _ (step-told c.args.now was.undone d p q c.args.who c.args.stmt.now alike) c.in-Ok.ensures.exact.changed c.in-Ok.ensures.passed)
+    (tables-behind_turn c.args.now _ p _ was c.set_time.new.self _ _ _ (λ alike. step-told c.args.now was.undone (seen_with p was) p c.set_time.new.self c.args.who c.args.stmt.now alike) c.set_time.ensures.time
+    (to_z-of_z w64 c.args.now c.ranges.now) (c.self.invariant c.if-self.false) c.set_time.ensures.within c.in-Ok.ensures.exact.changed c.in-Ok.ensures.passed)
 
 pub invariant_of-self-in-Ok : goal.invariant_of-self-in-Ok
 invariant_of-self-in-Ok c = λ e.
     let was : QueuesView = c.self.inside.queues in
     let p : RowPart = seen c.self.inside.rows in
-    let d : Database = seen_with p was in
-    let q : QueuesView = c.set_time.new.self in
-    let alike : Alike c.args.now was.undone d p q = alike-at c.args.now (to_z w64 (of_z w64 c.args.now)) p was q c.set_time.ensures.time (to_z-of_z w64 c.args.now c.ranges.now) (c.self.invariant c.if-self.false) c.set_time.ensures.within in
     c.undo_aborted.ensures.tables (seen c.step_into-stepped.new.self)
-    (told-tables c.args.now was.undone d p (seen c.step_into-stepped.new.self) q c.step_into-stepped.new.gate _ _ (step-told c.args.now was.undone d p q c.args.who c.args.stmt.now alike) c.in-Ok.ensures.exact.changed c.in-Ok.ensures.passed)
+    (tables-behind_turn c.args.now _ p _ was c.set_time.new.self _ _ _ (λ alike. step-told c.args.now was.undone (seen_with p was) p c.set_time.new.self c.args.who c.args.stmt.now alike) c.set_time.ensures.time
+    (to_z-of_z w64 c.args.now c.ranges.now) (c.self.invariant c.if-self.false) c.set_time.ensures.within c.in-Ok.ensures.exact.changed c.in-Ok.ensures.passed)
 
 pub returns-in_ok-undo_aborted-in-Ok-clause-adds : goal.returns-in_ok-undo_aborted-in-Ok-clause-adds
 returns-in_ok-undo_aborted-in-Ok-clause-adds c =

@@ -1,11 +1,14 @@
-use Rattle.std.proofs.Common.{◌<◌, List, Some, length, sym, ◌∙◌, subst, arith, option_copied, to_z, of_z, w64}
+use Rattle.std.proofs.Common.{ℕ, ◌<◌, List, Some, length, sym, ◌∙◌, subst, arith, option_copied, to_z, of_z, w64}
 use Rattle.std.specs.List.{All}
 use Rattle.std.proofs.lemmas.Int.{to_z-of_z}
 use Rattle.sky_model.specs.Triggers.{TableTrigger}
+use Rattle.sky_model.specs.Moment.{HasMoment}
+use Rattle.pgq_queues.specs.Batches.{BatchesWithin}
+use Rattle.pgq_queues.specs.Traced.{TracedWithin}
 use Rattle.pgq_queues.specs.Views.{QueuesView}
-use Rattle.pgq_queues.specs.EventRule.{table_events, events_at, sequences, ids_left}
-use Rattle.pgq_queues.proofs.TracedLists.{AreWithin, placed-at, traced-found, found-within}
-use Rattle.pgq_queues.proofs.Telling.{told-length, wrote-as}
+use Rattle.pgq_queues.specs.EventRule.{events_at, sequences, ids_left}
+use Rattle.pgq_queues.proofs.TracedLists.{placed-at, traced-found, found-within}
+use Rattle.pgq_queues.proofs.Telling.{told-names, wrote-as}
 use Rattle.pgq_queues.proofs.gate.QueuesWriteGate.wrote.Goals as goal
 
 pub new-traced-requires : goal.new-traced-requires
@@ -15,7 +18,7 @@ new-traced-requires c =
 
 pub tell-requires-clause-within : goal.tell-requires-clause-within
 tell-requires-clause-within c =
-    subst (λ (v : QueuesView). All (λ (x : TableTrigger). x.trigger.queue < length v.queues) c.new-traced.result.triggers) (sym c.self.view_is)
+    subst (λ (v : QueuesView). All (λ (x : TableTrigger). x.trigger.queue < length v.names) c.new-traced.result.triggers) (sym c.self.view_is)
     (found-within _ _ c.args.table _ c.in-Some.table.now _ c.self.view_is c.as_slice.ensures.value c.in-Some.ensures.value c.new-traced.ensures c.self.invariant.1.1)
 
 pub tell-requires-clause-room : goal.tell-requires-clause-room
@@ -28,12 +31,11 @@ tell-requires-clause-room c =
 
 pub invariant_of-self : goal.invariant_of-self
 invariant_of-self c =
-    subst (λ count. AreWithin c.self.inside.time count c.self.inside.names c.self.inside.batches.entries c.self.inside.triggers.items c.self.inside.traced.entries)
-    (sym (told-length c.tell.result (to_z w64 (of_z w64 c.self.inside.time)) c.args.txid (table_events c.new-traced.result (option_copied c.args.old) (option_copied c.args.new)) c.self.inside.queues.items c.tell.new.queues.items
-    c.tell.ensures.ok c.tell.ensures.err)) c.self.invariant
+    subst (λ (names : List (List ℕ)). HasMoment c.self.inside.time × (BatchesWithin (length names) c.self.inside.batches.entries × TracedWithin (length names) c.self.inside.triggers.items c.self.inside.traced.entries))
+    (sym (told-names c.tell.result c.self.inside.queues c.tell.new.queues _ c.tell.ensures.ok c.tell.ensures.err)) c.self.invariant
 
 pub returns-clause-ok : goal.returns-clause-ok
 returns-clause-ok c =
-    wrote-as c.tell.result _ c.args.self.now c.tell.new.queues.items (to_z w64 (of_z w64 c.self.inside.time)) c.args.txid c.args.table (option_copied c.args.old) (option_copied c.args.new) c.new-traced.result c.self.view_is
+    wrote-as c.tell.result _ c.args.self.now c.tell.new.queues (to_z w64 (of_z w64 c.self.inside.time)) c.args.txid c.args.table (option_copied c.args.old) (option_copied c.args.new) c.new-traced.result c.self.view_is
     (to_z-of_z w64 c.self.inside.time (record { sfits = omega arith }))
     (traced-found _ _ c.args.table _ c.in-Some.table.now _ c.self.view_is c.as_slice.ensures.value c.in-Some.ensures.value c.new-traced.ensures c.self.invariant.1.1.places) c.tell.ensures.ok

@@ -1,37 +1,34 @@
 use Rattle.std.proofs.Common.{◌<◌, None, IfSome, length, sym, subst, arith}
-use Rattle.pgq_queues.proofs.Marked.{closed-as, tables-kept}
-use Rattle.pgq_queues.proofs.TracedLists.{within-set, batches-updated}
+use Rattle.pgq_queues.proofs.Marked.{subs-changed, closed-as, tables-kept}
+use Rattle.pgq_queues.proofs.TracedLists.{batches-updated}
 use Rattle.pgq_queues.proofs.queues.Queues.close_batch.Goals as goal
 
 pub invariant_of-self : goal.invariant_of-self
 invariant_of-self c = (
   c.self.invariant.0,
   (
-    batches-updated (length c.self.inside.queues.items) c.self.inside.batches.entries c.remove.new.self.entries c.args.id None c.remove.ensures.updates.0 tt c.self.invariant.1.0,
+    batches-updated (length c.self.inside.queues.names) c.self.inside.batches.entries c.remove.new.self.entries c.args.id None c.remove.ensures.updates.0 tt c.self.invariant.1.0,
     c.self.invariant.1.1,
   ),
 )
 
-pub index_mut-requires : goal.index_mut-requires
-index_mut-requires c =
-    let low : c.in_ok-batch.batch.queue < length c.self.inside.queues.items = subst (λ o. IfSome o (λ b. b.queue < length c.self.inside.queues.items)) (sym c.in_ok-batch.ensures.value) (c.self.invariant.1.0 c.args.id) in
+pub get_mut-requires : goal.get_mut-requires
+get_mut-requires c =
+    let low : c.in_ok-batch.batch.queue < length c.self.inside.queues.names = subst (λ o. IfSome o (λ b. b.queue < length c.self.inside.queues.names)) (sym c.in_ok-batch.ensures.value) (c.self.invariant.1.0 c.args.id) in
     omega arith
 
 pub invariant_of-self-2 : goal.invariant_of-self-2
-invariant_of-self-2 c =
-    within-set c.self.inside.time c.self.inside.queues.items c.self.inside.names c.remove.new.self.entries c.self.inside.triggers.items c.self.inside.traced.entries c.in_ok-batch.batch.queue c.close_batch.new.self (
-      c.self.invariant.0,
-      (
-        batches-updated (length c.self.inside.queues.items) c.self.inside.batches.entries c.remove.new.self.entries c.args.id None c.remove.ensures.updates.0 tt c.self.invariant.1.0,
-        c.self.invariant.1.1,
-      ),
-    )
+invariant_of-self-2 c = (
+  c.self.invariant.0,
+  (
+    batches-updated (length c.self.inside.queues.names) c.self.inside.batches.entries c.remove.new.self.entries c.args.id None c.remove.ensures.updates.0 tt c.self.invariant.1.0,
+    c.self.invariant.1.1,
+  ),
+)
 
 pub returns-clause-mark : goal.returns-clause-mark
 returns-clause-mark c =
-    closed-as _ _ c.remove.new.self.entries c.args.id c.in_ok-batch.batch _ c.close_batch.new.self c.self.view_is
-    (subst (λ o. IfSome o (λ b. b.queue < length c.self.inside.queues.items)) (sym c.in_ok-batch.ensures.value) (c.self.invariant.1.0 c.args.id))
-    c.index_mut.ensures.value c.close_batch.ensures c.remove.ensures.updates.0
+    closed-as _ _ c.remove.new.self.entries c.args.id c.in_ok-batch.batch _ c.close_batch.new.self c.self.view_is c.get_mut.ensures.within c.get_mut.ensures.value (subs-changed c.get_mut.result.now _ _ c.close_batch.ensures.but c.close_batch.ensures.subs) c.remove.ensures.updates.0
 
 pub returns-in_err-batch-clause-tables : goal.returns-in_err-batch-clause-tables
 returns-in_err-batch-clause-tables c = tables-kept _ _ c.self.view_is

@@ -1,5 +1,4 @@
-use Rattle.std.proofs.Common.{rules, ◌≡◌, ◌<◌, Some, length, sym, subst, arith}
-use Rattle.sky_names.proofs.PlaceLemmas.{place_of_within}
+use Rattle.std.proofs.Common.{rules, ◌<◌, Some, length, subst}
 use Rattle.pgq_queues.specs.Views.{QueuesView}
 use Rattle.pgq_queues.proofs.NumberedQueues.{number-shown}
 use Rattle.pgq_queues.proofs.queues.Queues.number.Goals as goal
@@ -8,11 +7,7 @@ pub returns-in_err-number-clause-number : goal.returns-in_err-number-clause-numb
 returns-in_err-number-clause-number c = number-shown _ _ c.args.queue.now c.from_residual.result c.self.view_is (search rules)
 
 pub returns-clause-number : goal.returns-clause-number
-returns-clause-number c = number-shown _ _ c.args.queue.now (Some c.in_ok-number.number) c.self.view_is c.in_ok-number.ensures
+returns-clause-number c = number-shown _ _ c.args.queue.now (Some c.in_ok-number.number) c.self.view_is c.in_ok-number.ensures.number
 
 pub returns-clause-within : goal.returns-clause-within
-returns-clause-within c =
-    let within : c.in_ok-number.number < length c.self.inside.names = place_of_within _ _ _ (sym c.in_ok-number.ensures) in
-    let same : length c.self.inside.queues.items ≡ length c.self.inside.names = c.self.invariant.0.1 in
-    let inside : c.in_ok-number.number < length c.self.inside.queues.items = omega arith in
-    subst (λ (v : QueuesView). c.in_ok-number.number < length v.queues) c.self.view_is inside
+returns-clause-within c = subst (λ (v : QueuesView). c.in_ok-number.number < length v.names) c.self.view_is c.in_ok-number.ensures.within

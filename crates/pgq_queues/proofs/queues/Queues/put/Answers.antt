@@ -5,7 +5,7 @@ use Rattle.pgq_queues.proofs.queues.Queues.put.Goals as goal
 
 pub returns-clause-mark : goal.returns-clause-mark
 returns-clause-mark c =
-    queues-set _ _ c.args.queue _ c.put.new.self (λ q. record q { stored = q.stored ++ c.args.event ∷ [] }) c.self.view_is c.requires.queue c.index_mut.ensures.value (ap seen_queue c.in_ok-put.ensures)
+    queues-set _ _ c.args.queue _ c.put.new.self (λ q. record q { stored = q.stored ++ c.args.event ∷ [] }) c.self.view_is c.get_mut.ensures.within c.get_mut.ensures.value (ap seen_queue c.in_ok-put.ensures)
 
 pub returns-in_err-put-clause-tables : goal.returns-in_err-put-clause-tables
 returns-in_err-put-clause-tables c = tables-kept _ _ c.self.view_is

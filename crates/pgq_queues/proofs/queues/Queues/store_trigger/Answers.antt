@@ -12,7 +12,7 @@ invariant_of-self-in_err-add-in-Some c =
       c.self.invariant.0,
       (
         c.self.invariant.1.0,
-        traced-kept (length c.self.inside.queues.items) c.reserve.new.self.items c.self.inside.triggers.items old new c.trigger.inside.table c.add.new.self c.in-Some.table.now
+        traced-kept (length c.self.inside.queues.names) c.reserve.new.self.items c.self.inside.triggers.items old new c.trigger.inside.table c.add.new.self c.in-Some.table.now
             c.in_ok-reserve.ensures.items updates c.in-Some.ensures.value c.in_err-add-in-Some.ensures.err c.self.invariant.1.1,
       ),
     )
@@ -22,11 +22,11 @@ invariant_of-self-2 c =
     let old = c.self.inside.traced.entries in
     let new = (c.get_mut.follows.lender c.add.new.self).entries in
     let updates : Updated old new c.trigger.inside.table (Some c.add.new.self) = ((c.get_mut.follows.holds c.add.new.self).3 (sym (ap is_some c.in-Some.ensures.value))).0 in
-    let low : c.args.trigger.trigger.queue < length c.self.inside.queues.items = subst (λ (v : QueuesView). c.args.trigger.trigger.queue < length v.queues) (sym c.self.view_is) c.requires.queue in (
+    let low : c.args.trigger.trigger.queue < length c.self.inside.queues.names = subst (λ (v : QueuesView). c.args.trigger.trigger.queue < length v.names) (sym c.self.view_is) c.requires.queue in (
       c.self.invariant.0,
       (
         c.self.invariant.1.0,
-        traced-more (length c.self.inside.queues.items) c.self.inside.triggers.items c.reserve.new.self.items c.push_reserved.new.self.items c.args.trigger old new c.trigger.inside.table c.len-place.result
+        traced-more (length c.self.inside.queues.names) c.self.inside.triggers.items c.reserve.new.self.items c.push_reserved.new.self.items c.args.trigger old new c.trigger.inside.table c.len-place.result
             c.add.new.self c.in-Some.table.now c.in_ok-reserve.ensures.items c.push_reserved.ensures.items updates (sym (ap TableTrigger.table c.trigger.view_is)) c.in-Some.ensures.value c.in_ok-add-in-Some.ensures.ok (search rules) low
             c.self.invariant.1.1,
       ),

@@ -5,13 +5,13 @@ use std::marker::Model;
 
 /// A subscription of a queue: its number, the tick where it stands, and its active batch.
 #[derive(Debug, Drop)]
-pub struct Subscription {
+pub struct Sub {
     id: u64,
     position: u64,
     active: Option<u64>,
 }
 
-impl Model for Subscription {
+impl Model for Sub {
     ghost use Rattle.sky_model.specs.Consumers as model;
 
     ghost Value = { model.Subscription };
@@ -19,12 +19,12 @@ impl Model for Subscription {
     ghost view = { λ s. record { id = s.id; position = s.position; active = s.active } };
 }
 
-impl Subscription {
+impl Sub {
     /// One that stands at this tick, without a batch.
-    pub(crate) fn new(id: u64, position: u64) -> Subscription
+    pub(crate) fn new(id: u64, position: u64) -> Sub
         ensures { result ≡ record { id = id; position = position; active = None } }
     {
-        Subscription {
+        Sub {
             id,
             position,
             active: None,
@@ -32,10 +32,10 @@ impl Subscription {
     }
 
     /// The same once more.
-    pub(crate) fn copy(&self) -> Subscription
+    pub fn copy(&self) -> Sub
         ensures { result ≡ self.now }
     {
-        Subscription {
+        Sub {
             id: self.id,
             position: self.position,
             active: self.active,
@@ -50,7 +50,7 @@ impl Subscription {
     }
 
     /// It has finished its batch, and stands at its closing tick.
-    pub(crate) fn close_batch(&mut self, tick: u64)
+    pub(crate) fn finish(&mut self, tick: u64)
         ensures { self.new ≡ at_position tick self.old }
     {
         self.position = tick;
