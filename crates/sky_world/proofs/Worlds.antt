@@ -2,6 +2,7 @@
 use Rattle.std.proofs.Common.{◌≡◌, ℕ, suc, zero, ◌+◌, ◌<◌, ◌≤◌, List, [], ◌∷◌, ◌++◌, Bool, true, false, ◌==◌, nat_le, Option, Some, None, map, length, append-nil, length-append, get_or, slice_set, get_or-set_same, get_or-set_other, ◌≢◌, refl, sym, ◌∙◌, ap, subst, arith, All, if◌then◌else◌, IfSome, ℤ, pos}
 use Rattle.std.proofs.lemmas.List.Elements.{All-append, All-set, All-get_or, All-from_recursion, All-weaker}
 use Rattle.std.proofs.lemmas.Bool.Decides.{nat_tests}
+use Rattle.std.proofs.lemmas.List.{get_or_past}
 use Rattle.std.proofs.lemmas.Option.{get_or_from_slice_get, slice_get_read}
 use Rattle.sky_keys.specs.Waits.{Waiting}
 use Rattle.sky_names.specs.Places.{place_of}
@@ -80,8 +81,7 @@ homes-at v now who home same all lt is =
 -- ---- what is shown
 
 none-there : {A : Type 0} (n : ℕ) (d : A) → get_or [] n d ≡ d
-none-there zero d = refl
-none-there (suc n) d = refl
+none-there n d = get_or_past [] n d (omega arith)
 
 pub world-new : (sessions : NamedView (Option ℕ)) (databases : NamedView DbView) → sessions ≡ record { names = []; values = [] } → databases ≡ record { names = []; values = [] }
     → seen_world (record { now = pos 0; sessions = sessions; databases = databases }) ≡ world_of []

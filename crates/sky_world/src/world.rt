@@ -94,7 +94,7 @@ impl World {
         requires form { IsInForm stmt.now }
         ensures { OnOk result (AddsCall (seen_world self.old) (seen_world self.new) (record { who = name.now; stmt = stmt.now }) replies.old replies.new) }
     {
-        match self.sessions.number(name) {
+        match self.number(name) {
             Some(who) => self.answer_known(who, name, stmt, replies),
             None => self.answer_new(name, stmt, replies),
         }
@@ -134,6 +134,13 @@ impl World {
         self.appear(name)?;
         self.run(who, stmt, replies)?;
         Ok(())
+    }
+
+    fn number(&self, name: &Text) -> Option<SessionId>
+        ensures number { result ≡ place_of name.now self.now.sessions.names }
+        ensures within { IfSome result (λ who. who < length self.now.sessions.names) }
+    {
+        self.sessions.number(name)
     }
 
     fn session_count(&self) -> SessionId
@@ -282,7 +289,7 @@ impl World {
         requires form { IsInForm stmt.now }
         ensures { OnOk result (AddsDeed self.old self.new replies.old replies.new (opens by_world (seen_world self.old) who stmt.now name.now (place_of name.now (seen_world self.old).databases))) }
     {
-        match self.databases.number(name) {
+        match self.database_number(name) {
             Some(database) => self.open_in(database as usize, who, stmt, replies),
             None => self.open_new(who, stmt, name, replies),
         }
@@ -301,7 +308,7 @@ impl World {
         requires new { place_of name.now self.old.databases.names ≡ None }
         ensures { OnOk result (AddsDeed self.old self.new replies.old replies.new (opens by_world (seen_world self.old) who stmt.now name.now None)) }
     {
-        let number = self.databases.len();
+        let number = self.database_count();
         if number >= Limit::Databases.most() {
             replies.push(who, Reply::Refused(Refusal::TooMany(Limit::Databases)))?;
             return Ok(());
@@ -329,13 +336,26 @@ impl World {
         Ok(())
     }
 
+    fn database_number(&self, name: &Text) -> Option<u32>
+        ensures number { result ≡ place_of name.now self.now.databases.names }
+        ensures within { IfSome result (λ database. database < length self.now.databases.names) }
+    {
+        self.databases.number(name)
+    }
+
+    fn database_count(&self) -> usize
+        ensures { result ≡ length self.now.databases.names }
+    {
+        self.databases.len()
+    }
+
     /// A new database, in which nothing has happened.
     fn found(&mut self, name: &Text) -> Result<(), AllocError>
         requires new { place_of name.now self.old.databases.names ≡ None }
         requires room { length self.old.databases.names < 16 }
         ensures fact { OnOk result (seen_world self.new ≡ after_fact (seen_world self.old) (founded name.now)) }
         ensures databases { OnOk result (length self.new.databases.names ≡ length self.old.databases.names + 1) }
-        ensures sessions { OnOk result (self.new.sessions ≡ self.old.sessions) }
+        ensures sessions { OnOk result (self.new.sessions.names ≡ self.old.sessions.names) }
     {
         let copied = name.copy(self.alloc)?;
         self.databases.add(copied, Db::new(self.alloc))?;

@@ -6,7 +6,9 @@ use Rattle.sky_world.proofs.Worlds.{homes-push, waiters-more, appeared-as}
 use Rattle.sky_world.proofs.world.World.appear.Goals as goal
 
 pub add-requires-clause-new : goal.add-requires-clause-new
-add-requires-clause-new c = ?
+add-requires-clause-new c =
+    ap (option_and_then (slice_get c.self.inside.sessions.values))
+    (ap (λ name. place_of name c.self.inside.sessions.names) c.in_ok-copied.ensures ∙ ap (λ (v : WorldView). place_of c.args.name.now v.sessions.names) c.self.view_is ∙ c.requires.new)
 
 pub invariant_of-self-2 : goal.invariant_of-self-2
 invariant_of-self-2 c =

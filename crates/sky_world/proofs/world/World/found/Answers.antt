@@ -7,7 +7,9 @@ use Rattle.sky_world.proofs.Worlds.{homes-more, waiters-founded, founded-as}
 use Rattle.sky_world.proofs.world.World.found.Goals as goal
 
 pub add-requires-clause-new : goal.add-requires-clause-new
-add-requires-clause-new c = ?
+add-requires-clause-new c =
+    ap (option_and_then (slice_get c.self.inside.databases.values))
+    (ap (λ name. place_of name c.self.inside.databases.names) c.in_ok-copied.ensures ∙ ap (λ (v : WorldView). place_of c.args.name.now v.databases.names) c.self.view_is ∙ c.requires.new)
 
 pub invariant_of-self-2 : goal.invariant_of-self-2
 invariant_of-self-2 c =
