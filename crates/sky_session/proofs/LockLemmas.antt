@@ -1,12 +1,15 @@
 -- Writes that wait, and those that go on.
-use Rattle.std.proofs.Common.{◌≡◌, ℕ, ◌<◌, [], ◌∷◌, ◌++◌, true, Option, Some, None, length, refl, sym, ◌∙◌, ap, subst, append-nil}
+use Rattle.std.proofs.Common.{◌≡◌, ℕ, ◌<◌, [], ◌∷◌, ◌++◌, true, Option, Some, None, length, option_map, Err, List, refl, sym, ◌∙◌, ap, subst, append-nil}
 use Rattle.sky_keys.specs.Waits.{Waiting, is_waiting}
-use Rattle.sky_model.specs.declared.reply.Reply.TheVariants.{Refused}
-use Rattle.sky_model.specs.declared.reply.Refusal.TheVariants.{Canceled}
-use Rattle.sky_model.specs.History.{tabled, waited}
+use Rattle.sky_model.specs.declared.reply.Reply.TheVariants.{Refused, Waits}
+use Rattle.sky_model.specs.declared.reply.Refusal.TheVariants.{Canceled, Deadlock}
+use Rattle.sky_model.specs.History.{tabled, waits, waited}
 use Rattle.sky_model.specs.Sessions.{Block, outside, inside, failed}
 use Rattle.sky_model.specs.State.{RowPart, after_part, after_part_marks}
-use Rattle.sky_model.specs.Outcome.{abort}
+use Rattle.sky_model.specs.Outcome.{◌>>◌, refused_by, does_marks, abort}
+use Rattle.sky_model.specs.declared.stmt.Attempt.{Attempt}
+use Rattle.sky_val.specs.declared.val.Val.{Val}
+use Rattle.sky_model.specs.StepLocks.{ring, blocked}
 use Rattle.sky_model.specs.StepSession.{cancel}
 use Rattle.sky_model.specs.Reader.{PartReader, part_by_itself}
 use Rattle.sky_model.specs.Gates.{Gate, by_gate}
@@ -78,3 +81,14 @@ does-cancel d mid new before after who busy left back replied told =
   where
     same : failure who (mid.session who).txid (mid.session who).block ≡ abort who (d.session who).block (d.session who).txid Canceled
     same = ap (λ (p : RowPart). failure who (p.session who).txid (p.session who).block) left ∙ failure-abort who (d.session who).txid (d.session who).block
+
+-- a session waits for the holder of a key
+pub does-wait : (d new : RowPart) (before after : RowStep) (who table : ℕ) (key : List Val) (attempt : Attempt) (holder : ℕ) → ring d who holder ≡ None → after.replies ≡ before.replies ++ (who, Waits holder) ∷ []
+    → after.effects ≡ with_effects before.effects [] → new ≡ after_part d (tabled (waits who table key attempt)) → Does d new before after who (blocked d who table key attempt holder)
+does-wait d new before after who table key attempt holder none replied told changed =
+    subst (λ r. Does d new before after who (refused_by (option_map Deadlock r) >> does_marks (Waits holder) (tabled (waits who table key attempt) ∷ []))) (sym none)
+    (record { accepted = refl; replied = replied; told = told; changed = changed })
+
+-- where it would wait for itself it is refused
+pub ring-refused : (d : RowPart) (who table : ℕ) (key : List Val) (attempt : Attempt) (holder : ℕ) (closed : List ℕ) → ring d who holder ≡ Some closed → blocked d who table key attempt holder ≡ Err (Deadlock closed)
+ring-refused d who table key attempt holder closed is = ap (λ r. refused_by (option_map Deadlock r) >> does_marks (Waits holder) (tabled (waits who table key attempt) ∷ [])) is

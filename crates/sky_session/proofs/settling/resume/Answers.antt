@@ -1,4 +1,4 @@
-use Rattle.std.proofs.Common.{◌≡◌, ◌<◌, length, sym, ap, ◌∙◌, subst}
+use Rattle.std.proofs.Common.{◌<◌, length, sym, ap, ◌∙◌, subst}
 use Rattle.sky_keys.specs.Waits.{is_waiting}
 use Rattle.sky_locks.specs.Locks.{entry}
 use Rattle.sky_model.specs.State.{RowPart}
