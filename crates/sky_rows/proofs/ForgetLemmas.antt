@@ -21,7 +21,7 @@ use Rattle.sky_keys.proofs.EntryLemmas.{key_ties-is}
 use Rattle.sky_rows.specs.Table.{forgotten_at}
 use Rattle.sky_rows.specs.declared.written.Written.{Written}
 use Rattle.sky_rows.specs.Written.{listed, wrote, IsKept, AllKept}
-use Rattle.sky_rows.proofs.TableLemmas.{all_kept_more}
+use Rattle.sky_rows.proofs.TableLemmas.{lookup-at, in_order-sorted, all_kept_more}
 use Rattle.std.proofs.lemmas.Bool.Decides.{nat_tests}
 
 -- ---- at one key
@@ -160,3 +160,6 @@ kept_forgotten v w t (e ∷ es) same kept =
 -- or had none
 pub kept_unlisted : (v w : ℕ → List Val → Bool) (t : ℕ) (es : Entries (List Version)) → ((u : ℕ) (q : List Val) → (u == t) ≡ false → w u q ≡ v u q) → ((q : List Val) → v t q ≡ false) → AllKept v es → AllKept w es
 kept_unlisted v w t es same none kept = all_kept_more v w es (λ u q unlisted. grind (arith, nat_tests, unlisted, same u q, none q)) kept
+
+-- what the calls on the map of a table do to its entries where a version goes
+pub ruleset forget_calls = (lookup-at, in_order-sorted, forgotten_at-none, forgotten_at-left, forgotten_at-remove)
