@@ -53,6 +53,7 @@ pub(crate) fn append_parts(
 }
 
 /// The bytes before the first such byte, and those behind it.
+#[tactic(auto, using(crate::proofs::Reading::cuts))]
 fn cut(text: &[u8], byte: u8) -> Option<(&[u8], &[u8])>
     ensures parts { MatchOption result (parts_at byte text.now ≡ text.now ∷ [])
         (λ cut. parts_at byte text.now ≡ cut.0.now ∷ parts_at byte cut.1.now) }
@@ -80,6 +81,7 @@ pub(crate) fn three_parts(text: &[u8]) -> Option<(&[u8], &[u8], &[u8])>
 }
 
 /// The number that one digit or more write, where it is below `2^64`.
+#[tactic(auto, using(crate::proofs::Reading::digit_steps))]
 pub(crate) fn number(digits: &[u8]) -> Option<u64>
     ensures { result ≡ parse_number digits.now }
 {
