@@ -110,9 +110,6 @@ kept_above t k keys (e ∷ es) below kept =
     let parts = and_parts (is_lt (key_cmp k e.0)) (below_all key_cmp k es) below in
     (kept_other t k e.0 keys e.1 (no_tie (key_cmp k e.0) parts.0) kept.0, kept_above t k keys es parts.1 kept.1)
 
-not_asked : (b c : Bool) → (not b || c) ≡ false → b ≡ true
-not_asked b c e = grind (arith, e)
-
 -- what is left at the key has none of the transaction
 kept_left : (t : ℕ) (k : List Val) (keys : List (List Val)) (vs new : List Version) (es : Entries (List Version)) → new ≡ without t vs → AllKept (may_have t keys) es → AllKept (may_have t keys) (and_entry k (unless_empty new) es)
 kept_left t k keys vs [] es is kept = kept
