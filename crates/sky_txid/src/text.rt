@@ -68,6 +68,7 @@ fn cut(text: &[u8], byte: u8) -> Option<(&[u8], &[u8])>
 }
 
 /// The three parts round two colons, where there are no more.
+#[tactic(auto, using(crate::proofs::Reading::four_parts))]
 pub(crate) fn three_parts(text: &[u8]) -> Option<(&[u8], &[u8], &[u8])>
     ensures { MatchOption result (parse_snapshot text.now ≡ None)
         (λ parts. parts_at colon text.now ≡ parts.0.now ∷ parts.1.now ∷ parts.2.now ∷ []) }
