@@ -21,7 +21,7 @@ use Rattle.sky_keys.proofs.EntryLemmas.{key_ties-is}
 use Rattle.sky_rows.specs.Table.{forgotten_at}
 use Rattle.sky_rows.specs.declared.written.Written.{Written}
 use Rattle.sky_rows.specs.Written.{listed, wrote, IsKept, AllKept}
-use Rattle.sky_rows.proofs.TableLemmas.{all_kept_more}
+use Rattle.sky_rows.proofs.TableLemmas.{lookup-at, in_order-sorted, all_kept_more}
 use Rattle.std.proofs.lemmas.Bool.Decides.{nat_tests}
 
 -- ---- at one key
@@ -110,9 +110,6 @@ kept_above t k keys (e ∷ es) below kept =
     let parts = and_parts (is_lt (key_cmp k e.0)) (below_all key_cmp k es) below in
     (kept_other t k e.0 keys e.1 (no_tie (key_cmp k e.0) parts.0) kept.0, kept_above t k keys es parts.1 kept.1)
 
-not_asked : (b c : Bool) → (not b || c) ≡ false → b ≡ true
-not_asked b c e = grind (arith, e)
-
 -- what is left at the key has none of the transaction
 kept_left : (t : ℕ) (k : List Val) (keys : List (List Val)) (vs new : List Version) (es : Entries (List Version)) → new ≡ without t vs → AllKept (may_have t keys) es → AllKept (may_have t keys) (and_entry k (unless_empty new) es)
 kept_left t k keys vs [] es is kept = kept
@@ -160,3 +157,6 @@ kept_forgotten v w t (e ∷ es) same kept =
 -- or had none
 pub kept_unlisted : (v w : ℕ → List Val → Bool) (t : ℕ) (es : Entries (List Version)) → ((u : ℕ) (q : List Val) → (u == t) ≡ false → w u q ≡ v u q) → ((q : List Val) → v t q ≡ false) → AllKept v es → AllKept w es
 kept_unlisted v w t es same none kept = all_kept_more v w es (λ u q unlisted. grind (arith, nat_tests, unlisted, same u q, none q)) kept
+
+-- what the calls on the map of a table do to its entries where a version goes
+pub ruleset forget_calls = (lookup-at, in_order-sorted, forgotten_at-none, forgotten_at-left, forgotten_at-remove)

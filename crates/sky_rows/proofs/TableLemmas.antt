@@ -123,3 +123,6 @@ pub kept_either : {U E : Type 0} (v w : ℕ → List Val → Bool) (t : ℕ) (ke
     → w t key ≡ true → ((u : ℕ) (q : List Val) → w u q ≡ false → v u q ≡ false) → OnOk r (new ≡ written t key row es) → OnErr r (new ≡ es) → AllKept v es → AllKept w new
 kept_either v w t key row es new (Ok _) listed more ok err kept = subst (AllKept w) (sym ok) (kept_written v w t key row es listed more kept)
 kept_either v w t key row es new (Err _) listed more ok err kept = subst (AllKept w) (sym err) (all_kept_more v w es more kept)
+
+-- what the calls on the map of a table do to its entries
+pub ruleset map_calls = (lookup-at, in_order-sorted, written-set, unchanged-set, written-insert)

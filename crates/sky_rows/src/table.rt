@@ -63,6 +63,7 @@ impl Table {
     }
 
     /// The versions of the key, if it has any.
+    #[tactic(auto, using(crate::proofs::TableLemmas::map_calls))]
     fn versions(&self, key: &Key) -> Option<&Versions>
         ensures { option_copied result ≡ at key.now self.now.versions }
     {
@@ -197,6 +198,7 @@ impl Table {
 
 /// Puts the version at the key. Where its transaction may have one there already, that is looked for
 /// and replaced.
+#[tactic(auto, using(crate::proofs::TableLemmas::map_calls))]
 fn put_version(
     alloc: Global,
     rows: &mut BTreeMap<Key, Versions>,
@@ -237,6 +239,7 @@ fn forget_everywhere(rows: &mut BTreeMap<Key, Versions>, txid: u64)
 }
 
 /// Takes out the transaction's version at the key, and the key with its last.
+#[tactic(auto, using(crate::proofs::ForgetLemmas::forget_calls))]
 fn forget_at(rows: &mut BTreeMap<Key, Versions>, key: &Key, txid: u64)
     ensures entries { rows.new.entries ≡ forgotten_at txid key.now rows.old.entries }
     ensures in_order { IsTrue (is_in_order rows.old.entries) }

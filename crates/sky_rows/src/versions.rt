@@ -45,6 +45,7 @@ impl Versions {
     }
 
     /// The newest version that isn't of this transaction.
+    #[tactic(auto, using(crate::proofs::VersionsBack::newest_found, crate::proofs::VersionsBack::newest_before, crate::proofs::VersionsBack::differs))]
     pub(crate) fn newest(&self, except: Option<u64>) -> Option<&Version>
         ensures { option_copied result ≡ newest_but except self.now }
     {
@@ -57,6 +58,7 @@ impl Versions {
     }
 
     /// The newest version that the snapshot sees.
+    #[tactic(auto, using(crate::proofs::VersionsBack::newest_found, crate::proofs::VersionsBack::newest_before))]
     pub(crate) fn newest_seen(&self, snapshot: &Snapshot) -> Option<&Version>
         ensures { option_copied result ≡ newest_by (sees snapshot.now) self.now }
     {
@@ -83,6 +85,7 @@ impl Versions {
     }
 
     /// The transaction's version.
+    #[tactic(auto, using(crate::proofs::PlaceLemmas::own_found))]
     pub(crate) fn own(&self, txid: u64) -> Option<&Version>
         ensures { option_copied result ≡ version_of txid self.now }
     {

@@ -30,6 +30,7 @@ fn op_mark(op: Op) -> &'static str
     }
 }
 
+#[tactic(auto, using(crate::proofs::RowTexts::key_next, crate::proofs::RowTexts::next_as_first, crate::proofs::RowTexts::next_behind_byte))]
 fn append_key_names(columns: &[Column], into: &mut String) -> Result<(), NoMemory>
     ensures { OnOk result (string_bytes into.new ≡ string_bytes into.old
         ++ join_with_byte comma (map (λ column. column.name) (key_columns columns.now))) }

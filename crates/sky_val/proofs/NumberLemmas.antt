@@ -1,7 +1,6 @@
 -- Going over the digits of a number.
-use Rattle.std.proofs.Common.{◌≡◌, ℕ, ◌+◌, ◌-◌, ◌*◌, ◌<◌, ◌≤◌, true, List, [], ◌∷◌, length, drop, get_or, sym, ap, ◌∙◌, arith}
+use Rattle.std.proofs.Common.{◌≡◌, ℕ, ◌+◌, ◌-◌, ◌*◌, ◌<◌, ◌≤◌, true, List, [], ◌∷◌, length, drop, get_or, arith}
 use Rattle.std.proofs.lemmas.List.{drop_more}
-use Rattle.std.proofs.lemmas.Bool.{and_parts}
 use Rattle.std.specs.Char.{is_ascii_digit}
 use Rattle.std.specs.List.{list_all}
 use Rattle.sky_val.specs.Numbers.{number_from}
@@ -18,8 +17,8 @@ pub record Counts (word : List ℕ) (n i : ℕ) : Type 0 where
 
 pub counts_more : (word : List ℕ) (n i : ℕ) → i < length word → Counts word n i → Counts word (n * 10 + (get_or word i 0 - 48)) (i + 1)
 counts_more word n i inside so = record {
-  so_far = so.so_far ∙ ap (number_from n) (drop_more word i 0 inside);
-  digits = (and_parts (is_ascii_digit (get_or word i 0)) (list_all is_ascii_digit (drop (i + 1) word)) (ap (list_all is_ascii_digit) (sym (drop_more word i 0 inside)) ∙ so.digits)).1;
+  so_far = grind (arith, so.so_far, drop_more word i 0 inside);
+  digits = grind (arith, so.digits, drop_more word i 0 inside);
 }
 
 -- the number with the digit of a place is at most the whole

@@ -1,5 +1,5 @@
 -- The test of the text is that of the definition.
-use Rattle.std.proofs.Common.{◌≡◌, true, false, IsUtf8, refl, subst, ◌∙◌}
+use Rattle.std.proofs.Common.{arith, ◌≡◌, false, IsUtf8, refl, subst, ◌∙◌}
 use Rattle.std.specs.Str.{is_utf8}
 use Rattle.std.proofs.lemmas.Str.{is_utf8-from_IsUtf8, IsUtf8-from_is_utf8}
 use Rattle.form_urlencoded.specs.Form.{decode}
@@ -13,8 +13,5 @@ pub returns-in-Err-NotUtf8-clause-refused : goal.returns-in-Err-NotUtf8-clause-r
 returns-in-Err-NotUtf8-clause-refused c =
     let same = c.deref.ensures.value ∙ c.in_ok-bytes.ensures in
     let none = subst (λ bytes. ¬ (IsUtf8 bytes)) same (c.from_bytes.ensures.not_utf8.0 (cc)) in
-    let fails : is_utf8 (decode c.args.side.now) ≡ false = elim (is_utf8 (decode c.args.side.now)) as (λ b. is_utf8 (decode c.args.side.now) ≡ b → b ≡ false) [
-      | true ↦ λ is. absurd (none (IsUtf8-from_is_utf8 _ is))
-      | false ↦ λ is. refl
-    ] refl in
+    let fails : is_utf8 (decode c.args.side.now) ≡ false = grind (arith, none, IsUtf8-from_is_utf8 (decode c.args.side.now)) in
     λ _. (fails, refl)
