@@ -31,7 +31,7 @@ use Rattle.sky_model.proofs.PastHistories.{on_top-append, history-marks, AreOuts
 use Rattle.sky_model.proofs.Histories.{AllLegal, same-turn-within, legal_past}
 use Rattle.sky_model.proofs.StatementMarks.{AnyReply, no_more, each-abort, given-runs}
 use Rattle.sky_model.proofs.Staying.{is_staying, Stay, open-stays, stays-if, IsStaying, stays-form, stay-settling}
-use Rattle.sky_model.proofs.Cases.{by_test, by_same}
+use Rattle.sky_model.proofs.Cases.{by_same}
 
 pub waiters_have_open : WaitersHaveOpen
 waiters_have_open p is who waits = waits-open p (legal_place p is) who waits

@@ -104,9 +104,10 @@ key_rolled_back h l who t unended table key k = record {
 -- where no other transaction that hasn't ended has a version, all others' pass
 others-from : (p : ℕ → Bool) (t : ℕ) (vs : List Version) → ((u : ℕ) → p u ≡ false → (t == u) ≡ false → version_of u vs ≡ None) → OthersPass p t vs
 others-from p t [] none = tt
-others-from p t (v ∷ vs) none =
-    (by_same (λ _. (t ≡ v.txid) ⊎ (p v.txid ≡ true)) t v.txid (λ same. inl same) (λ other. inr (true_from_ne_false (p v.txid) (λ e. let there = none v.txid e other in grind (arith, nat_tests, there)))),
-      others-from p t vs (λ u unended other. grind (arith, none u unended other)))
+others-from p t (v ∷ vs) none = (
+  by_same (λ _. (t ≡ v.txid) ⊎ (p v.txid ≡ true)) t v.txid (λ same. inl same) (λ other. inr (true_from_ne_false (p v.txid) (λ e. let there = none v.txid e other in grind (arith, nat_tests, there)))),
+  others-from p t vs (λ u unended other. grind (arith, none u unended other)),
+)
 
 module _ (h : History) (l : Legal h) (who t n : ℕ) (at_key : List Val) (old new : Option (List Val)) (mine : own_txid who h ≡ Some t) (free : other_than who (holder n at_key h) ≡ None) where
   abbrev g : History

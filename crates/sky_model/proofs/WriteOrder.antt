@@ -1,10 +1,8 @@
 -- A key is written by one running transaction at a time, so those that write it commit in the order in which they write it.
-use Rattle.std.proofs.Common.{◌≡◌, ◌≢◌, ℕ, List, [], ◌∷◌, ◌++◌, Bool, true, false, not, refl, sym, ◌∙◌, ap, arith, ◌||◌, ◌&&◌, ◌==◌, nat_lt, Option}
-use Rattle.std.proofs.lemmas.Bool.{true_from_ne_false, false_from_ne_true, or_parts, or_right, and_parts, eqb-true, cond_both}
-use Rattle.std.specs.Ordering.{eq_by_cmp}
+use Rattle.std.proofs.Common.{◌≡◌, ◌≢◌, ℕ, List, [], ◌∷◌, ◌++◌, Bool, true, false, refl, sym, ◌∙◌, ap, arith, ◌||◌, ◌&&◌, ◌==◌, nat_lt, Option}
+use Rattle.std.proofs.lemmas.Bool.{true_from_ne_false, false_from_ne_true, or_parts, eqb-true}
 use Rattle.std.proofs.lemmas.Bool.Decides.{nat_tests}
 use Rattle.sky_val.specs.declared.val.Val.{Val}
-use Rattle.sky_val.specs.Order.{key_cmp}
 use Rattle.sky_txid.specs.Ids.{contains}
 use Rattle.sky_keys.proofs.EntryLemmas.{key_ties-is}
 use Rattle.sky_model.specs.History.{Mark, Whose, ended, tabled, wrote, History}
@@ -17,7 +15,7 @@ use Rattle.sky_model.proofs.SnapshotLaws.{legal-below_mark, fine_mark, legal-bel
 use Rattle.sky_model.proofs.RowKeys.{committed-ended}
 use Rattle.sky_model.proofs.RowSights.{ended-behind}
 use Rattle.sky_model.proofs.Holders.{turned, has_written-push, nobody-else}
-use Rattle.sky_model.proofs.Cases.{by_test, by_same}
+use Rattle.sky_model.proofs.Cases.{by_same}
 
 -- ---- places in a list
 
