@@ -6,19 +6,17 @@ use Rattle.sky_model.specs.declared.stmt.Stmt.{Stmt}
 use Rattle.sky_model.specs.InForm.{IsInForm}
 use Rattle.sky_keys.specs.Waits.{is_waiting}
 use Rattle.sky_names.specs.Places.{place_of}
-use Rattle.sky_model.specs.History.{Mark, looked, History, Fact, appeared, founded, entered as came, within, Past}
+use Rattle.sky_model.specs.History.{Mark, History, Fact, appeared, founded, entered as came, within, Past}
 use Rattle.sky_model.specs.Sessions.{has_open, block, session}
-use Rattle.sky_model.specs.Telling.{tells}
 use Rattle.sky_model.specs.Locks.{waiting}
-use Rattle.sky_model.specs.State.{part_of, database_of}
-use Rattle.sky_model.specs.ShownRows.{rows_in}
+use Rattle.sky_model.specs.State.{part_of}
 use Rattle.sky_model.specs.Outcome.{Checked}
-use Rattle.sky_model.specs.Allowed.{where_of, allowed}
+use Rattle.sky_model.specs.Allowed.{allowed}
 use Rattle.sky_model.specs.World.{world_of, history_in, on_top, session_names, database_names, home}
-use Rattle.sky_model.specs.Reader.{shown_in, database_by_history, within_part, within_database, by_past, Deed, appears}
+use Rattle.sky_model.specs.Reader.{database_by_history, within_part, within_database, by_past, Deed, appears}
 use Rattle.sky_model.specs.Made.{takes_sight}
-use Rattle.sky_model.specs.Settling.{Turn, turn_of, marked}
-use Rattle.sky_model.specs.Calls.{form, making, statement, database_turn, deed_in, opening, opens, outside_does, is_leaving, left_if, session_does, turn, Call, called, past_of}
+use Rattle.sky_model.specs.Settling.{Turn, marked}
+use Rattle.sky_model.specs.Calls.{database_turn, deed_in, opening, opens, outside_does, is_leaving, left_if, session_does, turn, Call, called, past_of}
 use Rattle.sky_model.specs.SessionMarks.{look_of, entry_place, enters, failing}
 use Rattle.sky_model.specs.Promises.{after_all}
 use Rattle.sky_model.specs.DatabaseCalls.{DatabaseCall, stepped, entered, failed, IsDatabaseCallInForm, database_does, database_part}
@@ -28,8 +26,7 @@ use Rattle.sky_model.specs.LawsOfHistories.{HistoriesAreMadeByOwnCalls}
 use Rattle.sky_model.proofs.Legal.{looks, Chain, done, more, Legal, start}
 use Rattle.sky_model.proofs.Good.{same-session, good_failure}
 use Rattle.sky_model.proofs.LawfulTelling.{legal_behind}
-use Rattle.sky_model.proofs.MadeAt.{same-made_by}
-use Rattle.sky_model.proofs.Turns.{ReadAlike, same-with_settling, Any, each-any}
+use Rattle.sky_model.proofs.Turns.{same-turn_read}
 use Rattle.sky_model.proofs.Lawful.{database-reads, good_with_settling-by, good_turn}
 use Rattle.sky_model.proofs.PastHistories.{on_top-append, history-marks, AreOutside, history-outside, left-outside}
 
@@ -56,30 +53,14 @@ legal_calls (call ∷ calls) =
 
 -- ---- calls of the world
 
--- in the past a statement reads its database's history
-same-within : (past : Past) (d : ℕ) (now : ℤ) (who : ℕ) (stmt : Stmt) → statement (within_database by_past d) past now who stmt ≡ statement database_by_history (history_in past d) now who stmt
-same-within past d now who stmt =
-    same-made_by (making (within_database by_past d) now who stmt) (making database_by_history now who stmt) (where_of stmt) who past (history_in past d) (record {
-      sessions = refl;
-      waiting = refl;
-      outcomes = refl;
-      sessions_behind = ap (λ b. session (if b then looked who ∷ history_in past d else history_in past d) who) (same-session d);
-      outcomes_behind = ap (λ b. form (database_of (if b then looked who ∷ history_in past d else history_in past d)) (shown_in (if b then looked who ∷ history_in past d else history_in past d)) now who stmt) (same-session d);
-    })
-
-in-database : (d : ℕ) (now : ℤ) → ReadAlike (within_part (within_database by_past d) now) (within_part database_by_history now) Any (λ past h. history_in past d ≡ h)
-in-database d now = record {
-  parts = λ past h is. ap part_of is;
-  rows = λ past h is. ap rows_in is;
-  tells = λ past h is. λ i checked. tells (database_of (is i)) now checked;
-  behind = λ past h mark is _. ap (λ b. if b then mark ∷ history_in past d else history_in past d) (same-session d) ∙ ap (λ g. mark ∷ g) is;
-}
-
--- and what it lets go on does
+-- in the past a statement, with what it lets go on, reads its database's history
 pub same-turn-within : (past : Past) (d : ℕ) (now : ℤ) (who : ℕ) (stmt : Stmt) → database_turn (within_database by_past d) past now who stmt ≡ database_turn database_by_history (history_in past d) now who stmt
 same-turn-within past d now who stmt =
-    same-with_settling (within_part (within_database by_past d) now) (within_part database_by_history now) Any (λ p h. history_in p d ≡ h) (in-database d now) past (history_in past d) _ _ refl
-    (ap (turn_of who) (same-within past d now who stmt)) (each-any (within_part (within_database by_past d) now) past _)
+    same-turn_read (within_database by_past d) database_by_history (λ p. history_in p d) (record {
+      database = λ p. refl;
+      shown = λ p. refl;
+      behind = λ p mark. ap (λ b. if b then mark ∷ history_in p d else history_in p d) (same-session d);
+    }) past now who stmt
 
 -- calls of a database make a history, and are in form if this holds
 record Made (formed : Type 0) (h : History) : Type 0 where
