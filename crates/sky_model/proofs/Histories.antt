@@ -29,6 +29,7 @@ use Rattle.sky_model.proofs.LawfulTelling.{legal_behind}
 use Rattle.sky_model.proofs.Turns.{same-turn_read}
 use Rattle.sky_model.proofs.Lawful.{database-reads, good_with_settling-by, good_turn}
 use Rattle.sky_model.proofs.PastHistories.{on_top-append, history-marks, AreOutside, history-outside, left-outside}
+use Rattle.sky_model.proofs.Cases.{by_same}
 
 -- ---- calls of a database
 
@@ -88,7 +89,9 @@ made_if formed past false x y all also = also
 made_deed : (formed : Type 0) (past : Past) (d who : ℕ) (stmt : Stmt) (outside : List Fact) → AreOutside outside → (formed → IsInForm stmt) → AllMade formed past
     → AllMade formed (on_top past (deed_in d outside (database_turn (within_database by_past d) past (world_of past).now who stmt)).facts)
 made_deed formed past d who stmt outside none is_form all = λ n.
-    subst (Made formed) (sym (history-outside past (map (within d) turn_within.marks) outside n none ∙ history-marks past d turn_within.marks n)) (of n (d == n) refl)
+    subst (Made formed) (sym (history-outside past (map (within d) turn_within.marks) outside n none ∙ history-marks past d turn_within.marks n))
+    (by_same (λ b. Made formed (if b then marked (history_in past n) turn_within.marks else history_in past n)) d n
+    (λ same. subst (λ m. Made formed (marked (history_in past m) turn_within.marks)) same here) (λ _. all n))
   where
     turn_within : Turn
     turn_within = database_turn (within_database by_past d) past (world_of past).now who stmt
@@ -96,10 +99,6 @@ made_deed formed past d who stmt outside none is_form all = λ n.
     here : Made formed (marked (history_in past d) turn_within.marks)
     here = subst (λ (x : Turn). Made formed (marked (history_in past d) x.marks)) (sym (same-turn-within past d (world_of past).now who stmt))
         (made_turn formed (history_in past d) (world_of past).now who stmt is_form (all d))
-
-    of : (n : ℕ) (b : Bool) → (d == n) ≡ b → Made formed (if b then marked (history_in past n) turn_within.marks else history_in past n)
-    of n true e = (let same : d ≡ n = grind (arith, nat_tests) in subst (λ m. Made formed (marked (history_in past m) turn_within.marks)) same here)
-    of n false e = all n
 
 made_opens : (formed : Type 0) (past : Past) (who : ℕ) (stmt : Stmt) (name : List ℕ) (found : Option ℕ) → (formed → IsInForm stmt) → AllMade formed past
     → AllMade formed (on_top past (opens by_past past who stmt name found).facts)

@@ -2,7 +2,7 @@
 use Rattle.std.proofs.Common.{◌≡◌, ℕ, Bool, true, false, List, [], ◌∷◌, Option, Some, None, option_map, is_some, refl, sym, ◌∙◌, ap, subst, arith, if◌then◌else◌, ◌⊎◌, inl, inr, ◌||◌, ◌&&◌, ◌==◌, cond}
 use Rattle.std.specs.Option.{option_or}
 use Rattle.std.specs.Ordering.{eq_by_cmp}
-use Rattle.std.proofs.lemmas.Bool.{true_from_ne_false, or_parts, or_right, and_parts, eqb-true, cond_both}
+use Rattle.std.proofs.lemmas.Bool.{true_from_ne_false, false_from_ne_true, or_parts, or_right, and_parts, eqb-true, cond_both}
 use Rattle.std.proofs.lemmas.Bool.Decides.{nat_tests}
 use Rattle.sky_val.specs.declared.val.Val.{Val}
 use Rattle.sky_val.specs.Order.{key_cmp}
@@ -16,7 +16,7 @@ use Rattle.sky_keys.proofs.EntryLemmas.{key_ties-is, versions_at-written, versio
 use Rattle.sky_model.specs.History.{Mark, of_session, ended, tabled, wrote, History}
 use Rattle.sky_model.specs.Transactions.{has_ended}
 use Rattle.sky_model.specs.Sessions.{own_txid}
-use Rattle.sky_model.specs.Rows.{committed, writes as writes_of, rows, last_writer}
+use Rattle.sky_model.specs.Rows.{committed, has_written, writes as writes_of, rows, last_writer}
 use Rattle.sky_model.specs.Versions.{versions}
 use Rattle.sky_model.specs.Locks.{holder}
 use Rattle.sky_model.proofs.Legal.{Fine, ends, writes, Legal, start, next}
@@ -118,13 +118,9 @@ module _ (h : History) (l : Legal h) (who t n : ℕ) (at_key : List Val) (old ne
 
   -- nobody else that runs has a version of the key
   unwritten : (k : KeyHolds h n at_key) (u : ℕ) → has_ended h u ≡ false → (t == u) ≡ false → version_of u (kept h n at_key) ≡ None
-  unwritten k u runs_on other = of (version_of u (kept h n at_key)) refl
-    where
-      of : (o : Option Version) → version_of u (kept h n at_key) ≡ o → o ≡ None
-      of None e = refl
-      of (Some v) e =
-          let wrote_it : is_some (last_of at_key (writes_of n u h)) ≡ true = ap is_some (sym (k.own u runs_on)) ∙ ap (λ x. is_some (option_map Version.row x)) e in
-          absurd (nobody-else h l who t n at_key mine free u runs_on other (has_written-last_of at_key (writes_of n u h) ∙ wrote_it))
+  unwritten k u runs_on other =
+      let quiet = false_from_ne_true (has_written at_key (writes_of n u h)) (nobody-else h l who t n at_key mine free u runs_on other) in
+      grind (arith, has_written-last_of at_key (writes_of n u h), k.own u runs_on, quiet)
 
   pub kept-wrote : (table : ℕ) (key : List Val) → kept g table key ≡ (if (n == table) && eq_by_cmp key_cmp key at_key then with_version t new (kept h table key) else kept h table key)
   kept-wrote table key = grind (arith, versions_at-written key t at_key new (versions table h))

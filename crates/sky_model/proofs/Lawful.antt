@@ -91,14 +91,11 @@ good_insert_event : (h : History) → Legal h → (now : ℤ) (who : ℕ) (name 
 good_insert_event h l now who name ev_type ev_data extra =
     good_found h who (queue_number name (queues h)) (NoQueue name) _ (λ q is. by_own q (among-number name (queues h) q is) (own_txid who h) refl)
   where
-    same : (q : ℕ) → (q == q) ≡ true
-    same q = grind (arith, nat_tests)
-
     body : (g : History) → Legal g → (q n t : ℕ) (b : Block) → own_txid who g ≡ Some t → IsQueue g q → sequence q g ≡ n
         → Chain g (queued (raised q (n + 1)) ∷ queued (put q (made_event (n + 1) now t ev_type ev_data extra)) ∷ commit_of who t b)
     body g l q n t b mine below is =
         more (raises q (n + 1) below (omega arith))
-        (more (puts who q _ below (ap (λ b. if b then n + 1 else sequence q g) (sym (same q))) mine (subst (λ m. All (λ e. e.ev_id < m + 1) (events q g)) is (events_below-next g l q)))
+        (more (puts who q _ below (ap (λ b. if b then n + 1 else sequence q g) (sym (same-session q))) mine (subst (λ m. All (λ e. e.ev_id < m + 1) (events q g)) is (events_below-next g l q)))
         (good_commits (queued (put q (made_event (n + 1) now t ev_type ev_data extra)) ∷ queued (raised q (n + 1)) ∷ g) who t b mine))
 
     by_own : (q : ℕ) → IsQueue h q → (o : Option ℕ) → own_txid who h ≡ o → Good h who (own_or_next (part_of h) o >>= (λ t.

@@ -27,10 +27,6 @@ is_before-push : (t u x : ℕ) (xs : List ℕ) → is_before t u (xs ++ x ∷ []
 is_before-push t u x [] = grind arith
 is_before-push t u x (y ∷ ys) = grind (arith, contains-push u x ys, is_before-push t u x ys)
 
--- with another at the end
-is_before-other : (t u x : ℕ) (xs : List ℕ) → (u == x) ≡ false → is_before t u (xs ++ x ∷ []) ≡ is_before t u xs
-is_before-other t u x xs other = grind (arith, is_before-push t u x xs)
-
 -- who isn't in a list stands before nobody
 is_before-none : (t u : ℕ) (xs : List ℕ) → contains t xs ≡ false → is_before t u xs ≡ false
 is_before-none t u [] none = refl
@@ -128,10 +124,6 @@ writer-late table key t (_ ∷ h) l e = writer-late table key t h (legal-below_m
 -- one that ends hadn't
 ender-unended : (h : History) (whose : Whose) (v : ℕ) (c : Bool) → Legal h → Fine h (ended whose v c) → has_ended h v ≡ false
 ender-unended h _ _ _ l (ends who v c mine) = own-unended h l who v mine
-
--- who has ended is another than who hasn't
-ended-other : (h : History) (u v : ℕ) → has_ended h u ≡ true → has_ended h v ≡ false → (u == v) ≡ false
-ended-other h u v over runs = false_from_ne_true (u == v) (λ is. cc (sym over ∙ ap (has_ended h) (eqb-true u v is) ∙ runs))
 
 -- who hasn't ended hasn't committed
 unended-unlisted : (h : History) (t : ℕ) → has_ended h t ≡ false → contains t (committed h) ≡ false
