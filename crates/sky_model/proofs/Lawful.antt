@@ -109,29 +109,6 @@ good_insert_event h l now who name ev_type ev_data extra =
         good_test_then h who (nat_le (2 ^ 62) (sequence q h + 1)) EventIdsSpent (sequence q h + 1) _
         (body h l q (sequence q h) t (block who h) mine below refl)
 
-good_ticker : (h : History) (now : ℤ) (who : ℕ) (name : List ℕ) → Good h who (ticker (database_of h) now name)
-good_ticker h now who name =
-    good_found h who (queue_number name (queues h)) (NoQueue name) _ (λ q is.
-    good_if h who (is_due now ((database_of h).queue q)) _ _
-    (good_test h who (nat_le (2 ^ 64) (newest_id ((database_of h).queue q) + 1)) _ _ (λ _.
-    more (ticks_next q _ now _ (among-number name (queues h) q is) (omega arith)) done))
-    (λ _. done))
-
-good_force_tick : (h : History) (who : ℕ) (name : List ℕ) → Good h who (force_tick (database_of h) name)
-good_force_tick h who name =
-    good_found h who (queue_number name (queues h)) (NoQueue name) _ (λ q is.
-    good_test h who (nat_le (2 ^ 62) (sequence q h + forced default_config)) _ _ (λ _.
-    more (raises q _ (among-number name (queues h) q is) (omega arith)) done))
-
-good_register_consumer : (h : History) (who : ℕ) (name consumer : List ℕ) → Good h who (register_consumer (database_of h) name consumer)
-good_register_consumer h who name consumer =
-    good_found h who (queue_number name (queues h)) (NoQueue name) _ (λ q is.
-    good_test h who (has_dot consumer) _ _ (λ _.
-    good_if h who (is_some (((database_of h).queue q).sub consumer)) _ _ done (λ unregistered.
-    good_test h who (nat_le 256 (length ((database_of h).queue q).members)) _ _ (λ _.
-    good_test h who (nat_le (2 ^ 64) ((database_of h).last_sub_id + 1)) _ _ (λ _.
-    more (registers q consumer _ _ (among-number name (queues h) q is) (no-one _ (subscription_id q consumer h) (nothing _ unregistered)) (omega arith) (omega arith)) done)))))
-
 good_opens_batch : (h : History) (who q : ℕ) (consumer : List ℕ) (sub : Subscription) (found : Option Tick)
     → IsQueue h q → subscription q consumer h ≡ Some (record { id = sub.id; position = sub.position; active = None }) → tick (sub.position + 1) (ticks q h) ≡ found
     → Good h who (opens_batch (database_of h) q consumer sub found)
@@ -146,20 +123,39 @@ good_takes_batch : (h : History) (who q : ℕ) (consumer : List ℕ) (sub : Subs
 good_takes_batch h who q consumer sub (Some batch) below stands = done
 good_takes_batch h who q consumer sub None below stands = good_opens_batch h who q consumer sub (tick (sub.position + 1) (ticks q h)) below stands refl
 
-good_next_batch : (h : History) (who : ℕ) (name consumer : List ℕ) → Good h who (next_batch (database_of h) name consumer)
-good_next_batch h who name consumer =
-    good_found h who (queue_number name (queues h)) (NoQueue name) _ (λ q is.
-    good_test h who (has_dot consumer) _ _ (λ _.
-    good_found h who (((database_of h).queue q).sub consumer) (NoConsumer consumer) _ (λ sub stands.
-    good_takes_batch h who q consumer sub sub.active (among-number name (queues h) q is) stands)))
-
 good_finishes : (h : History) (who id : ℕ) (batch : Option Batch) → active_batch id h ≡ batch → Good h who (finishes batch)
 good_finishes h who id None is = done
 good_finishes h who id (Some batch) is = more (closes batch (ap (λ n. active_batch n h) (active_batch-id h id batch is) ∙ is)) done
 
-good_add_trigger : (h : History) (who : ℕ) (name table_name queue_name : List ℕ) (backup : Bool) (ignored : List (List ℕ))
-    → Good h who (add_trigger (database_of h) name table_name queue_name backup ignored)
-good_add_trigger h who name table_name queue_name backup ignored =
+good_form : (h : History) → Legal h → (now : ℤ) (who : ℕ) (stmt : Stmt) → MayStand h who (where_of stmt) → Good h who (form (database_of h) (shown_in h) now who stmt)
+good_form h l now who (Row stmt) may = good_tells h l now who _ (form-rows (part_of h) (rows_in h) who stmt) (good_row_form h l who stmt may)
+good_form h l now who (CreateQueue queue) may = good_create_queue h l now who queue
+good_form h l now who (InsertEvent queue ev_type ev_data extra) may = good_insert_event h l now who queue ev_type ev_data extra
+good_form h l now who (Ticker name) may =
+    good_found h who (queue_number name (queues h)) (NoQueue name) _ (λ q is.
+    good_if h who (is_due now ((database_of h).queue q)) _ _
+    (good_test h who (nat_le (2 ^ 64) (newest_id ((database_of h).queue q) + 1)) _ _ (λ _.
+    more (ticks_next q _ now _ (among-number name (queues h) q is) (omega arith)) done))
+    (λ _. done))
+good_form h l now who (ForceTick name) may =
+    good_found h who (queue_number name (queues h)) (NoQueue name) _ (λ q is.
+    good_test h who (nat_le (2 ^ 62) (sequence q h + forced default_config)) _ _ (λ _.
+    more (raises q _ (among-number name (queues h) q is) (omega arith)) done))
+good_form h l now who (RegisterConsumer name consumer) may =
+    good_found h who (queue_number name (queues h)) (NoQueue name) _ (λ q is.
+    good_test h who (has_dot consumer) _ _ (λ _.
+    good_if h who (is_some (((database_of h).queue q).sub consumer)) _ _ done (λ unregistered.
+    good_test h who (nat_le 256 (length ((database_of h).queue q).members)) _ _ (λ _.
+    good_test h who (nat_le (2 ^ 64) ((database_of h).last_sub_id + 1)) _ _ (λ _.
+    more (registers q consumer _ _ (among-number name (queues h) q is) (no-one _ (subscription_id q consumer h) (nothing _ unregistered)) (omega arith) (omega arith)) done)))))
+good_form h l now who (NextBatch name consumer) may =
+    good_found h who (queue_number name (queues h)) (NoQueue name) _ (λ q is.
+    good_test h who (has_dot consumer) _ _ (λ _.
+    good_found h who (((database_of h).queue q).sub consumer) (NoConsumer consumer) _ (λ sub stands.
+    good_takes_batch h who q consumer sub sub.active (among-number name (queues h) q is) stands)))
+good_form h l now who (GetBatchEvents batch) may = good_found h who ((database_of h).batch batch) _ _ (λ b _. done)
+good_form h l now who (FinishBatch batch) may = good_finishes h who batch (active_batch batch h) refl
+good_form h l now who (AddTrigger name table_name queue_name backup ignored) may =
     good_found h who (place_of table_name (table_names h)) (NoTable table_name) _ (λ table there.
     good_found h who (queue_number queue_name (queues h)) (NoQueue queue_name) _ (λ queue is.
     good_test h who (has_trigger name (triggers_of table (triggers h))) (TriggerExists name) _ (λ new.
@@ -167,18 +163,6 @@ good_add_trigger h who name table_name queue_name backup ignored =
     good_refused_by h who (option_map BadColumn (find (λ column. not (may_ignore (columns_of table h) column)) ignored)) _ (λ _.
     good_refused_by h who (option_map TableBusy (least_writer (part_of h) table)) _ (λ _.
     more (traces table (Some name) _ (place_of_within table_name (table_names h) table there) (among-number queue_name (queues h) queue is) new) done))))))
-
-good_form : (h : History) → Legal h → (now : ℤ) (who : ℕ) (stmt : Stmt) → MayStand h who (where_of stmt) → Good h who (form (database_of h) (shown_in h) now who stmt)
-good_form h l now who (Row stmt) may = good_tells h l now who _ (form-rows (part_of h) (rows_in h) who stmt) (good_row_form h l who stmt may)
-good_form h l now who (CreateQueue queue) may = good_create_queue h l now who queue
-good_form h l now who (InsertEvent queue ev_type ev_data extra) may = good_insert_event h l now who queue ev_type ev_data extra
-good_form h l now who (Ticker queue) may = good_ticker h now who queue
-good_form h l now who (ForceTick queue) may = good_force_tick h who queue
-good_form h l now who (RegisterConsumer queue consumer) may = good_register_consumer h who queue consumer
-good_form h l now who (NextBatch queue consumer) may = good_next_batch h who queue consumer
-good_form h l now who (GetBatchEvents batch) may = good_found h who ((database_of h).batch batch) _ _ (λ b _. done)
-good_form h l now who (FinishBatch batch) may = good_finishes h who batch (active_batch batch h) refl
-good_form h l now who (AddTrigger name table queue backup ignored) may = good_add_trigger h who name table queue backup ignored
 
 good_runs_if : (h : History) → Legal h → (now : ℤ) (who : ℕ) (stmt : Stmt) (may : Checked (Unit {0})) → allowed (is_waiting who (waiting h)) (has_open who h) (block who h) (where_of stmt) ≡ may
     → Chain h (runs_if (making database_by_history now who stmt) (where_of stmt) who h may).marks
