@@ -35,15 +35,11 @@ use Rattle.sky_model.proofs.Legal.{MayWait, Legal, begins, ends, begins_block, r
 use Rattle.sky_model.proofs.SetsFit.{sets-fit, none-fits, changes-fit}
 use Rattle.sky_model.proofs.SeenRows.{seen-stands, stands-by, stands-begun}
 use Rattle.sky_model.proofs.Good.{MayStand, Good, same-session, good_refused, good_test, good_test_then, good_found, good_refused_by, good_checked, good_commits}
-use Rattle.sky_model.proofs.Cases.{by_block}
+use Rattle.sky_model.proofs.Cases.{by_test, by_block}
 
 good_leaves : (h : History) (who : ℕ) (committed : Bool) (o : Option ℕ) → own_txid who h ≡ o → Chain h (leaves committed who o)
 good_leaves h who committed None none = more (ends_block who none) done
 good_leaves h who committed (Some t) mine = more (ends who t committed mine) (more (ends_block who (ap (λ b. if b then None else own_txid who h) (same-session who))) done)
-
-good_open_db : (h : History) (who : ℕ) (b : Bool) → has_open who h ≡ b → Good h who (open_db who b)
-good_open_db h who true is = good_refused h who AlreadyOpen
-good_open_db h who false is = more (connects who is) done
 
 over : (who : ℕ) (h : History) → block who (block_ended who ∷ h) ≡ outside
 over who h = ap (λ b. if b then outside else block who h) (same-session who)
@@ -52,14 +48,6 @@ good_closes : (h : History) (who : ℕ) (o : Option ℕ) → own_txid who h ≡ 
 good_closes h who None none quiet = more (ends_block who none) (more (disconnects who quiet (over who h)) done)
 good_closes h who (Some t) mine quiet =
     more (ends who t false mine) (more (ends_block who (ap (λ b. if b then None else own_txid who h) (same-session who))) (more (disconnects who quiet (over who (ended (of_session who) t false ∷ h))) done))
-
-good_close : (h : History) (who : ℕ) (b : Block) → block who h ≡ b → is_waiting who (waiting h) ≡ false → Good h who (close who (own_txid who h) b)
-good_close h who outside is quiet = more (disconnects who quiet is) done
-good_close h who _ is quiet = good_closes h who (own_txid who h) refl quiet
-
-good_cancel : (h : History) (who : ℕ) (waits : Bool) → Good h who (cancel who (own_txid who h) (block who h) waits)
-good_cancel h who false = done
-good_cancel h who true = more (ends_waiting who) (good_refused (tabled (waited who) ∷ h) who Canceled)
 
 good_txid_current : (h : History) (who : ℕ) (o : Option ℕ) → own_txid who h ≡ o
     → Good h who (own_or_next (part_of h) o >>= (λ t. does_marks (Number t) (begin_of who t o ++ [] ++ commit_of who t (block who h))))
@@ -145,52 +133,19 @@ good_attempts h l who table key (Changes sets) may =
 good_attempts h l who table key Deletion may =
     good_changes h l who table key Deletion may (λ row. Ok None) (λ row new same _. none-fits (columns_of table h) key new same) ((rows_in h).key who table key).row refl
 
-good_insert : (h : History) → Legal h → (who : ℕ) → is_waiting who (waiting h) ≡ false → has_open who h ≡ true → (name : List ℕ) (row : List Val) → Good h who (insert (part_of h) (rows_in h) who name row)
-good_insert h l who quiet is_open name row =
-    good_found h who (place_of name (table_names h)) (NoTable name) _ (λ table there.
-    good_refused_by h who (option_map (bad_values (columns_of table h)) (row_fault (columns_of table h) row)) _ (λ fits.
-    good_attempts h l who table (key_of (columns_of table h) row) (Insertion row) (record {
-      within = place_of_within name (table_names h) table there;
-      fits = (no-one (bad_values (columns_of table h)) (row_fault (columns_of table h) row) fits, refl);
-      quiet = quiet;
-      is_open = is_open;
-    })))
-
-good_update : (h : History) → Legal h → (who : ℕ) → is_waiting who (waiting h) ≡ false → has_open who h ≡ true → (name : List ℕ) (key : List Val) (sets : List Set)
-    → Good h who (update (part_of h) (rows_in h) who name key sets)
-good_update h l who quiet is_open name key sets =
-    good_found h who (place_of name (table_names h)) (NoTable name) _ (λ table there.
-    good_refused_by h who (option_map (bad_values (key_columns (columns_of table h))) (row_fault (key_columns (columns_of table h)) key)) _ (λ _.
-    good_refused_by h who (option_map BadRow (bad_sets (columns_of table h) [] sets)) _ (λ well.
-    good_refused_by h who (option_map (λ (set : Set). KeyChange set.column) (find (is_key_change (columns_of table h)) sets)) _ (λ stays.
-    good_attempts h l who table key (Changes sets) (record {
-      within = place_of_within name (table_names h) table there;
-      fits = changes-fit (columns_of table h) [] sets (no-one BadRow (bad_sets (columns_of table h) [] sets) well)
-          (no-one (λ (set : Set). KeyChange set.column) (find (is_key_change (columns_of table h)) sets) stays);
-      quiet = quiet;
-      is_open = is_open;
-    })))))
-
-good_delete : (h : History) → Legal h → (who : ℕ) → is_waiting who (waiting h) ≡ false → has_open who h ≡ true → (name : List ℕ) (key : List Val) → Good h who (delete (part_of h) (rows_in h) who name key)
-good_delete h l who quiet is_open name key =
-    good_found h who (place_of name (table_names h)) (NoTable name) _ (λ table there.
-    good_refused_by h who (option_map (bad_values (key_columns (columns_of table h))) (row_fault (key_columns (columns_of table h)) key)) _ (λ fits.
-    good_attempts h l who table key Deletion (record {
-      within = place_of_within name (table_names h) table there;
-      fits = no-one (bad_values (key_columns (columns_of table h))) (row_fault (key_columns (columns_of table h)) key) fits;
-      quiet = quiet;
-      is_open = is_open;
-    })))
-
 good_row_or_none : (h : History) (who : ℕ) (row : Option (List Val)) → Good h who (row_or_none row)
 good_row_or_none h who None = done
 good_row_or_none h who (Some row) = done
 
 -- a statement that its session may make there
 pub good_row_form : (h : History) → Legal h → (who : ℕ) (stmt : RowStmt) → MayStand h who (where_of_row stmt) → Good h who (row_form (part_of h) (rows_in h) who stmt)
-good_row_form h l who (OpenDb name) may = good_open_db h who (has_open who h) refl
-good_row_form h l who Close may = good_close h who (block who h) refl (quiet-closing h who may)
-good_row_form h l who Cancel may = good_cancel h who (is_waiting who (waiting h))
+good_row_form h l who (OpenDb name) may = by_test (λ b. has_open who h ≡ b → Good h who (open_db who b)) (has_open who h) (λ _ _. good_refused h who AlreadyOpen) (λ _ is. more (connects who is) done) refl
+good_row_form h l who Close may =
+    let quiet = quiet-closing h who may in
+    let left = good_closes h who (own_txid who h) refl quiet in
+    by_block (λ b. block who h ≡ b → Good h who (close who (own_txid who h) b)) (λ is. more (disconnects who quiet is) done) (λ _. left) (λ _. left) (block who h) refl
+good_row_form h l who Cancel may =
+    by_test (λ b. Good h who (cancel who (own_txid who h) (block who h) b)) (is_waiting who (waiting h)) (λ _. more (ends_waiting who) (good_refused (tabled (waited who) ∷ h) who Canceled)) (λ _. done)
 good_row_form h l who Begin may =
     by_block (λ b. block who h ≡ b → Good h who (begin who b)) (λ is. more (begins_block who is (open-beginning h who may)) done) (λ _. done) (λ _. done) (block who h) refl
 good_row_form h l who BeginRepeatableRead may =
@@ -208,9 +163,36 @@ good_row_form h l who (CreateTable name columns) may =
     good_test h who (nat_le 64 (length (table_names h))) (TooMany Tables) _ (λ _.
     good_refused_by h who (option_map (schema_refusal columns) (schema_fault columns)) _ (λ _.
     more (makes_table name columns (nothing (place_of name (table_names h)) new)) done)))
-good_row_form h l who (Insert table row) may = good_insert h l who (quiet-reading h who may) (open-reading h who may) table row
-good_row_form h l who (Update table key sets) may = good_update h l who (quiet-reading h who may) (open-reading h who may) table key sets
-good_row_form h l who (Delete table key) may = good_delete h l who (quiet-reading h who may) (open-reading h who may) table key
+good_row_form h l who (Insert name row) may =
+    good_found h who (place_of name (table_names h)) (NoTable name) _ (λ table there.
+    good_refused_by h who (option_map (bad_values (columns_of table h)) (row_fault (columns_of table h) row)) _ (λ fits.
+    good_attempts h l who table (key_of (columns_of table h) row) (Insertion row) (record {
+      within = place_of_within name (table_names h) table there;
+      fits = (no-one (bad_values (columns_of table h)) (row_fault (columns_of table h) row) fits, refl);
+      quiet = quiet-reading h who may;
+      is_open = open-reading h who may;
+    })))
+good_row_form h l who (Update name key sets) may =
+    good_found h who (place_of name (table_names h)) (NoTable name) _ (λ table there.
+    good_refused_by h who (option_map (bad_values (key_columns (columns_of table h))) (row_fault (key_columns (columns_of table h)) key)) _ (λ _.
+    good_refused_by h who (option_map BadRow (bad_sets (columns_of table h) [] sets)) _ (λ well.
+    good_refused_by h who (option_map (λ (set : Set). KeyChange set.column) (find (is_key_change (columns_of table h)) sets)) _ (λ stays.
+    good_attempts h l who table key (Changes sets) (record {
+      within = place_of_within name (table_names h) table there;
+      fits = changes-fit (columns_of table h) [] sets (no-one BadRow (bad_sets (columns_of table h) [] sets) well)
+          (no-one (λ (set : Set). KeyChange set.column) (find (is_key_change (columns_of table h)) sets) stays);
+      quiet = quiet-reading h who may;
+      is_open = open-reading h who may;
+    })))))
+good_row_form h l who (Delete name key) may =
+    good_found h who (place_of name (table_names h)) (NoTable name) _ (λ table there.
+    good_refused_by h who (option_map (bad_values (key_columns (columns_of table h))) (row_fault (key_columns (columns_of table h)) key)) _ (λ fits.
+    good_attempts h l who table key Deletion (record {
+      within = place_of_within name (table_names h) table there;
+      fits = no-one (bad_values (key_columns (columns_of table h))) (row_fault (key_columns (columns_of table h)) key) fits;
+      quiet = quiet-reading h who may;
+      is_open = open-reading h who may;
+    })))
 good_row_form h l who (Get name key) may =
     good_found h who (place_of name (table_names h)) (NoTable name) _ (λ table _.
     good_refused_by h who (option_map (bad_values (key_columns (columns_of table h))) (row_fault (key_columns (columns_of table h)) key)) _ (λ _.
