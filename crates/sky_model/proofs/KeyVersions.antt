@@ -50,28 +50,11 @@ version_of-txid t (w ∷ vs) v e = grind (arith, nat_tests, version_of-txid t vs
 ended-or : (h : History) (t u : ℕ) → ((u == t) || has_ended h u) ≡ ((t == u) || has_ended h u)
 ended-or h t u = grind (arith, nat_tests)
 
--- a commit makes a transaction's last write the row
-row-committed : (left : Option Version) (before : Option Version) (last : Option (Option (List Val))) → option_map Version.row left ≡ last → row_of (option_or left before) ≡ over last (row_of before)
-row-committed None before last e = ap (λ o. over o (row_of before)) e
-row-committed (Some v) before last e = ap (λ o. over o (row_of before)) e
-
--- and it the last writer
-writer-committed : (t : ℕ) (own : Option Version) (before : Option Version) (last : Option (Option (List Val))) (earlier : Option ℕ) → option_map Version.row own ≡ last
-    → ((v : Version) → own ≡ Some v → v.txid ≡ t) → option_map Version.txid before ≡ earlier → option_map Version.txid (option_or own before) ≡ (if is_some last then Some t else earlier)
-writer-committed t None before last earlier e mine is = is ∙ ap (λ o. if is_some o then Some t else earlier) e
-writer-committed t (Some v) before last earlier e mine is = ap Some (mine v refl) ∙ ap (λ o. if is_some o then Some t else earlier) e
-
 key_committed : (h : History) → Legal h → (who t : ℕ) → has_ended h t ≡ false → (table : ℕ) (key : List Val) → KeyHolds h table key → KeyHolds (ended (of_session who) t true ∷ h) table key
 key_committed h l who t unended table key k = record {
-  newest = ap row_of newer
-      ∙ row-committed (version_of t (kept h table key)) (newest_by (has_ended h) (kept h table key)) (last_of key (writes_of table t h)) (k.own t unended)
-      ∙ ap (over (last_of key (writes_of table t h))) k.newest
-      ∙ sym (ap (at key) (in_turn-push (λ u. writes_of table u h) (committed h) t []) ∙ at-put_all key (writes_of table t h) (rows table h));
+  newest = ap row_of newer ∙ grind (arith, k.own t unended, k.newest, in_turn-push (λ u. writes_of table u h) (committed h) t [], at-put_all key (writes_of table t h) (rows table h));
   writer = ap (option_map Version.txid) newer
-      ∙ writer-committed t (version_of t (kept h table key)) (newest_by (has_ended h) (kept h table key)) (last_of key (writes_of table t h)) _ (k.own t unended)
-      (version_of-txid t (kept h table key)) k.writer
-      ∙ ap (λ b. if b then Some t else last_writer key (λ u. writes_of table u h) None (committed h)) (sym (has_written-last_of key (writes_of table t h)))
-      ∙ sym (last_writer-push key (λ u. writes_of table u h) (committed h) t);
+      ∙ grind (arith, k.own t unended, k.writer, version_of-txid t (kept h table key), has_written-last_of key (writes_of table t h), last_writer-push key (λ u. writes_of table u h) (committed h) t);
   own = λ u e. k.own u ((or_parts (u == t) (has_ended h u) e).1);
   only = only_more (has_ended h) (has_ended (ended (of_session who) t true ∷ h)) (kept h table key) (λ u e. or_right (u == t) (has_ended h u) e) k.only;
 }

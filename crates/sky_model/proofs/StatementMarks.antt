@@ -38,7 +38,7 @@ use Rattle.sky_model.specs.Settling.{Turn, turn_of, behind_marks, and_then, read
 use Rattle.sky_model.specs.Calls.{row_form, form}
 use Rattle.std.proofs.lemmas.Bool.{cond_both}
 use Rattle.std.proofs.lemmas.Result.{IfOk-at_ok}
-use Rattle.sky_model.proofs.Cases.{ok-then, by_block}
+use Rattle.sky_model.proofs.Cases.{by_test, ok-then, by_block}
 use Rattle.sky_model.proofs.Good.{same-session}
 
 -- so it is where a test holds, and nothing is where it fails
@@ -239,19 +239,13 @@ module _ (who : ℕ) where
   gives-close None _ = (tt, tt)
   gives-close (Some t) _ = (tt, tt)
 
-  gives-cancel : (txid : Option ℕ) (b : Block) (waits : Bool) → RowGives (row_kinds true Cancel) (cancel who txid b waits)
-  gives-cancel txid b false = (tt, tt)
-  gives-cancel txid b true = (tt, left-abort (row_kinds true Cancel) who b txid Canceled)
-
-  gives-open_db : (is_open : Bool) → RowGives (record no_more { moves = not is_open }) (open_db who is_open)
-  gives-open_db true = tt
-  gives-open_db false = (tt, tt)
-
   -- a statement on rows
   pub gives-row_form : (d : RowPart) (shown : RowsShown) (stmt : RowStmt) → RowGives (row_kinds (d.session who).is_open stmt) (row_form d shown who stmt)
-  gives-row_form d shown (OpenDb name) = gives-open_db (d.session who).is_open
+  gives-row_form d shown (OpenDb name) = by_test (λ b. RowGives (record no_more { moves = not b }) (open_db who b)) (d.session who).is_open (λ _. tt) (λ _. (tt, tt))
   gives-row_form d shown Close = gives-close (d.session who).txid (d.session who).block
-  gives-row_form d shown Cancel = gives-cancel (d.session who).txid (d.session who).block (is_waiting who d.waiting)
+  gives-row_form d shown Cancel =
+      by_test (λ b. RowGives (row_kinds true Cancel) (cancel who (d.session who).txid (d.session who).block b)) (is_waiting who d.waiting)
+      (λ _. (tt, left-abort (row_kinds true Cancel) who (d.session who).block (d.session who).txid Canceled)) (λ _. (tt, tt))
   gives-row_form d shown Begin = by_block (λ b. RowGives no_more (begin who b)) (tt, tt) (tt, tt) (tt, tt) (d.session who).block
   gives-row_form d shown BeginRepeatableRead = by_block (λ b. RowGives no_more (begin_repeatable_read who b)) (tt, tt) (tt, tt) (tt, tt) (d.session who).block
   gives-row_form d shown Commit =
