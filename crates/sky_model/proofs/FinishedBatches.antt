@@ -1,5 +1,5 @@
 -- The batches that a consumer finishes lead from the tick at which it registered to its position.
-use Rattle.std.proofs.Common.{◌≡◌, ℕ, ◌+◌, List, [], ◌∷◌, ◌++◌, Bool, true, false, ◌&&◌, ◌||◌, ◌==◌, Option, Some, bytes_eq, refl, sym, ◌∙◌, subst, if◌then◌else◌}
+use Rattle.std.proofs.Common.{◌≡◌, ℕ, ◌+◌, List, [], ◌∷◌, ◌++◌, Bool, true, ◌&&◌, ◌||◌, ◌==◌, Option, Some, bytes_eq, refl, sym, ◌∙◌, subst, if◌then◌else◌}
 use Rattle.std.proofs.lemmas.Bool.{or_right}
 use Rattle.sky_model.specs.History.{Batch, History}
 use Rattle.sky_model.specs.Consumers.{subscription_id, position}

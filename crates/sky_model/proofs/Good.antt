@@ -7,7 +7,7 @@ use Rattle.sky_keys.specs.Waits.{is_waiting}
 use Rattle.sky_model.specs.History.{block_failed, History}
 use Rattle.sky_model.specs.Locks.{waiting}
 use Rattle.sky_model.specs.Allowed.{allowed}
-use Rattle.sky_model.specs.Sessions.{Block, outside, inside, failed, has_open, block, own_txid, session}
+use Rattle.sky_model.specs.Sessions.{Block, outside, inside, has_open, block, own_txid, session}
 use Rattle.sky_model.specs.Outcome.{Outcome, Checked, ◌>>=◌, ◌>>◌, refused_if, refused_by, found_or, end_of, aborts, abort, settled}
 use Rattle.sky_model.specs.OwnTransaction.{commit_of}
 use Rattle.sky_model.specs.SessionMarks.{failure}

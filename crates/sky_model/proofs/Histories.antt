@@ -1,6 +1,5 @@
 -- Whatever is called, the history of each database is one that its own calls make; and those are legal.
-use Rattle.std.proofs.Common.{◌≡◌, All, ℕ, ℤ, List, [], ◌∷◌, ◌++◌, Bool, true, false, ◌==◌, nat_le, Option, Some, None, Ok, Err, map, length, refl, sym, ◌∙◌, ap, subst, arith, if◌then◌else◌}
-use Rattle.std.proofs.lemmas.Bool.Decides.{nat_tests}
+use Rattle.std.proofs.Common.{◌≡◌, All, ℕ, ℤ, List, [], ◌∷◌, ◌++◌, Bool, true, false, nat_le, Option, Some, None, Ok, Err, map, length, refl, sym, ◌∙◌, ap, subst, if◌then◌else◌}
 use Rattle.std.proofs.lemmas.List.Elements.{All-nil, All-cons, All-head, All-tail}
 use Rattle.sky_model.specs.declared.stmt.Stmt.{Stmt}
 use Rattle.sky_model.specs.InForm.{IsInForm}

@@ -1,5 +1,5 @@
 -- What the versions of a key say of its rows, at each place of a legal history.
-use Rattle.std.proofs.Common.{◌≡◌, ℕ, Bool, true, false, List, [], ◌∷◌, Option, Some, None, option_map, is_some, refl, sym, ◌∙◌, ap, subst, arith, if◌then◌else◌, ◌⊎◌, inl, inr, ◌||◌, ◌&&◌, ◌==◌, cond}
+use Rattle.std.proofs.Common.{◌≡◌, ℕ, Bool, true, false, List, [], ◌∷◌, Option, Some, None, option_map, refl, sym, ◌∙◌, ap, subst, arith, if◌then◌else◌, ◌⊎◌, inl, inr, ◌||◌, ◌&&◌, ◌==◌, cond}
 use Rattle.std.specs.Option.{option_or}
 use Rattle.std.specs.Ordering.{eq_by_cmp}
 use Rattle.std.proofs.lemmas.Bool.{true_from_ne_false, false_from_ne_true, or_parts, or_right, and_parts, eqb-true, cond_both}
@@ -21,7 +21,7 @@ use Rattle.sky_model.specs.Versions.{versions}
 use Rattle.sky_model.specs.Locks.{holder}
 use Rattle.sky_model.proofs.Legal.{Fine, ends, writes, Legal, start, next}
 use Rattle.sky_model.proofs.Snapshots.{own-unended}
-use Rattle.sky_model.proofs.RowWrites.{over, last_of, at-put_all, last_of-push, has_written-last_of, in_turn-push, in_turn-same, last_writer-push, last_writer-same}
+use Rattle.sky_model.proofs.RowWrites.{last_of, at-put_all, last_of-push, has_written-last_of, in_turn-push, in_turn-same, last_writer-push, last_writer-same}
 use Rattle.sky_model.proofs.RowKeys.{is_in_order-versions, committed-ended}
 use Rattle.sky_model.proofs.Holders.{nobody-else}
 use Rattle.sky_model.proofs.Cases.{by_same}

@@ -1,5 +1,5 @@
 -- A row that changes that fit have changed is one of the table under the same key, if it was one before.
-use Rattle.std.proofs.Common.{◌≡◌, ℕ, suc, ℤ, ◌+◌, Bool, true, false, not, List, [], ◌∷◌, Option, Some, None, Ok, Err, IfSome, length, bytes_eq, option_map, refl, sym, ◌∙◌, ap, subst, if◌then◌else◌, arith, find, ◌||◌, ◌&&◌, ◌==◌, ◌+ℤ◌}
+use Rattle.std.proofs.Common.{◌≡◌, ℕ, suc, ℤ, ◌+◌, Bool, true, false, List, [], ◌∷◌, Option, Some, None, Ok, Err, IfSome, length, bytes_eq, option_map, refl, sym, ◌∙◌, ap, subst, if◌then◌else◌, arith, find, ◌||◌, ◌==◌, ◌+ℤ◌}
 use Rattle.std.specs.List.{list_any}
 use Rattle.std.specs.Option.{option_or}
 use Rattle.sky_val.specs.declared.val.Val.{Val}
@@ -7,13 +7,11 @@ use Rattle.sky_val.specs.declared.val.Val.TheVariants as value
 use Rattle.sky_val.specs.declared.column.ColKind.{ColKind}
 use Rattle.sky_val.specs.declared.column.ColKind.TheVariants as kind
 use Rattle.sky_val.specs.declared.column.Column.{Column}
-use Rattle.sky_val.specs.declared.schema.RowFault.{RowFault}
 use Rattle.sky_val.specs.declared.schema.RowFault.TheVariants as fault
-use Rattle.sky_val.specs.Schemas.{is_null, is_of_kind, value_fault, values_fault, row_fault, key_columns, key_of}
+use Rattle.sky_val.specs.Schemas.{is_of_kind, value_fault, values_fault, row_fault, key_columns, key_of}
 use Rattle.sky_model.specs.declared.stmt.Change.{Change}
 use Rattle.sky_model.specs.declared.stmt.Change.TheVariants.{To, Add}
 use Rattle.sky_model.specs.declared.stmt.Set.{Set}
-use Rattle.sky_model.specs.declared.reply.BadRow as bad
 use Rattle.sky_model.specs.declared.reply.BadRow.TheVariants as badly
 use Rattle.sky_model.specs.declared.reply.Refusal.TheVariants.{OutOfRange}
 use Rattle.sky_model.specs.Outcome.{Checked, ◌>>=◌, found_or}
