@@ -2,6 +2,7 @@
 use Rattle.std.proofs.Common.{◌≡◌, ℕ, Bool, true, false, ◌==◌, cond, Option, Some, None, IfSome, option_map, Ok, Err, IfOk, refl}
 use Rattle.std.specs.Option.{option_or, option_and_then}
 use Rattle.std.proofs.lemmas.Bool.{eqb-true, cond_both}
+use Rattle.sky_model.specs.Sessions.{Block, outside, inside, failed}
 use Rattle.sky_model.specs.Outcome.{Checked, ◌>>=◌}
 
 -- what holds of a test where it holds and where it fails
@@ -12,6 +13,12 @@ by_test P false here there = there refl
 -- and of whether two numbers are the same
 pub by_same : (P : Bool → Type 0) (m n : ℕ) → (m ≡ n → P true) → ((m == n) ≡ false → P false) → P (m == n)
 by_same P m n here there = by_test P (m == n) (λ is. here (eqb-true m n is)) there
+
+-- and of a block
+pub by_block : (P : Block → Type 0) → P outside → P inside → P failed → (b : Block) → P b
+by_block P out within aborted outside = out
+by_block P out within aborted inside = within
+by_block P out within aborted failed = aborted
 
 -- ---- what holds of a value, if there is one
 

@@ -1,5 +1,5 @@
 -- The batches that a consumer finishes lead from the tick at which it registered to its position.
-use Rattle.std.proofs.Common.{◌≡◌, ℕ, ◌+◌, List, [], ◌∷◌, ◌++◌, Bool, true, false, ◌&&◌, ◌||◌, ◌==◌, Option, Some, bytes_eq, refl, sym, ◌∙◌, subst, if◌then◌else◌}
+use Rattle.std.proofs.Common.{◌≡◌, ℕ, ◌+◌, List, [], ◌∷◌, ◌++◌, Bool, true, ◌&&◌, ◌||◌, ◌==◌, Option, Some, bytes_eq, refl, sym, ◌∙◌, subst, if◌then◌else◌}
 use Rattle.std.proofs.lemmas.Bool.{or_right}
 use Rattle.sky_model.specs.History.{Batch, History}
 use Rattle.sky_model.specs.Consumers.{subscription_id, position}
@@ -53,23 +53,18 @@ finished_lead _ (next {h = h} l (registers p name sub t i none f g)) queue consu
     by_test (λ x. LeadFor queue consumer (if x then Some sub else subscription_id queue consumer h) (λ t. is_made queue t h)
     (if x then t else first_tick queue consumer h) (if x then [] else finished queue consumer h) (if x then t else position queue consumer h)) (p == queue && bytes_eq consumer name) (λ _. refl) (λ _. finished_lead h l queue consumer)
 finished_lead _ (next {h = h} l (closes b e)) queue consumer =
-    of (b.queue == queue && bytes_eq consumer b.consumer) refl (finished_lead h l queue consumer)
-  where
-    a : IsActive h b.id b
-    a = active_batches h l b.id b e
-
-    of : (x : Bool) → (b.queue == queue && bytes_eq consumer b.consumer) ≡ x → FinishedLead h queue consumer
-        → LeadFor queue consumer (subscription_id queue consumer h) (λ t. is_made queue t h) (first_tick queue consumer h)
-        (if x then finished queue consumer h ++ b ∷ [] else finished queue consumer h) (if x then b.cur else position queue consumer h)
-    of true test ih = LeadFor-push queue consumer (subscription_id queue consumer h) (λ t. is_made queue t h) (first_tick queue consumer h) (finished queue consumer h) (position queue consumer h) b ih (record {
+    let ih = finished_lead h l queue consumer in
+    let a : IsActive h b.id b = active_batches h l b.id b e in
+    by_test (λ x. LeadFor queue consumer (subscription_id queue consumer h) (λ t. is_made queue t h) (first_tick queue consumer h)
+    (if x then finished queue consumer h ++ b ∷ [] else finished queue consumer h) (if x then b.cur else position queue consumer h)) (b.queue == queue && bytes_eq consumer b.consumer)
+    (λ test. LeadFor-push queue consumer (subscription_id queue consumer h) (λ t. is_made queue t h) (first_tick queue consumer h) (finished queue consumer h) (position queue consumer h) b ih (record {
       within = sym (same_consumer (λ q c. q) b.queue queue b.consumer consumer test);
       by = sym (same_consumer (λ q c. c) b.queue queue b.consumer consumer test);
       owned = same_consumer (λ q c. subscription_id q c h) b.queue queue b.consumer consumer test ∙ a.owned;
       begins = sym (same_consumer (λ q c. position q c h) b.queue queue b.consumer consumer test ∙ a.begins);
       ends = a.ends;
       closing = same_consumer (λ q c. is_made q b.cur h) b.queue queue b.consumer consumer test ∙ a.closing;
-    })
-    of false test ih = ih
+    })) (λ _. ih)
 finished_lead _ (next {h = h} l _) queue consumer = finished_lead h l queue consumer
 
 lead_of : (p : History) (queue : ℕ) (consumer : List ℕ) (from : ℕ) (bs : List Batch) (to : ℕ)

@@ -7,11 +7,13 @@ use Rattle.sky_keys.specs.Waits.{is_waiting}
 use Rattle.sky_model.specs.History.{block_failed, History}
 use Rattle.sky_model.specs.Locks.{waiting}
 use Rattle.sky_model.specs.Allowed.{allowed}
-use Rattle.sky_model.specs.Sessions.{Block, outside, inside, failed, has_open, block, own_txid, session}
+use Rattle.sky_model.specs.Sessions.{Block, outside, inside, has_open, block, own_txid, session}
 use Rattle.sky_model.specs.Outcome.{Outcome, Checked, ◌>>=◌, ◌>>◌, refused_if, refused_by, found_or, end_of, aborts, abort, settled}
 use Rattle.sky_model.specs.OwnTransaction.{commit_of}
 use Rattle.sky_model.specs.SessionMarks.{failure}
 use Rattle.sky_model.proofs.Legal.{ends, fails_block, Chain, done, more}
+use Rattle.std.proofs.lemmas.Bool.{cond_both}
+use Rattle.sky_model.proofs.Cases.{by_block}
 
 -- a session is itself
 pub same-session : (who : ℕ) → (who == who) ≡ true
@@ -35,25 +37,13 @@ good_rolled_back h who is = of (own_txid who h) refl
 
 -- those of a failure may
 pub good_failure : (h : History) (who : ℕ) → Chain h (failure who (own_txid who h) (block who h))
-good_failure h who = of (block who h) refl
-  where
-    of : (b : Block) → block who h ≡ b → Chain h (failure who (own_txid who h) b)
-    of outside is = done
-    of inside is = good_rolled_back h who is
-    of failed is = done
+good_failure h who = by_block (λ b. block who h ≡ b → Chain h (failure who (own_txid who h) b)) (λ _. done) (good_rolled_back h who) (λ _. done) (block who h) refl
 
 -- a refusal's may
 pub good_refused : (h : History) (who : ℕ) (refusal : Refusal) → Chain h (abort who (block who h) (own_txid who h) refusal)
-good_refused h who refusal = by_block (block who h) refl
-  where
-    by_kind : (b : Bool) → block who h ≡ inside → Chain h (if b then end_of false who (own_txid who h) ++ block_failed who ∷ [] else [])
-    by_kind true is = good_rolled_back h who is
-    by_kind false is = done
-
-    by_block : (b : Block) → block who h ≡ b → Chain h (abort who b (own_txid who h) refusal)
-    by_block outside is = done
-    by_block inside is = by_kind (aborts refusal) is
-    by_block failed is = done
+good_refused h who refusal =
+    by_block (λ b. block who h ≡ b → Chain h (abort who b (own_txid who h) refusal)) (λ _. done)
+    (λ is. cond_both (aborts refusal) (end_of false who (own_txid who h) ++ block_failed who ∷ []) [] (Chain h) (λ _. good_rolled_back h who is) (λ _. done)) (λ _. done) (block who h) refl
 
 pub good_test : (h : History) (who : ℕ) (b : Bool) (refusal : Refusal) (c : Checked Outcome) → (b ≡ false → Good h who c) → Good h who (refused_if b refusal >> c)
 good_test h who true refusal c good = good_refused h who refusal

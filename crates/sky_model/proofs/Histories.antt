@@ -1,24 +1,21 @@
 -- Whatever is called, the history of each database is one that its own calls make; and those are legal.
-use Rattle.std.proofs.Common.{◌≡◌, All, ℕ, ℤ, List, [], ◌∷◌, ◌++◌, Bool, true, false, ◌==◌, nat_le, Option, Some, None, Ok, Err, map, length, refl, sym, ◌∙◌, ap, subst, arith, if◌then◌else◌}
-use Rattle.std.proofs.lemmas.Bool.Decides.{nat_tests}
+use Rattle.std.proofs.Common.{◌≡◌, All, ℕ, ℤ, List, [], ◌∷◌, ◌++◌, Bool, true, false, nat_le, Option, Some, None, Ok, Err, map, length, refl, sym, ◌∙◌, ap, subst, if◌then◌else◌}
 use Rattle.std.proofs.lemmas.List.Elements.{All-nil, All-cons, All-head, All-tail}
 use Rattle.sky_model.specs.declared.stmt.Stmt.{Stmt}
 use Rattle.sky_model.specs.InForm.{IsInForm}
 use Rattle.sky_keys.specs.Waits.{is_waiting}
 use Rattle.sky_names.specs.Places.{place_of}
-use Rattle.sky_model.specs.History.{Mark, looked, History, Fact, appeared, founded, entered as came, within, Past}
+use Rattle.sky_model.specs.History.{Mark, History, Fact, appeared, founded, entered as came, within, Past}
 use Rattle.sky_model.specs.Sessions.{has_open, block, session}
-use Rattle.sky_model.specs.Telling.{tells}
 use Rattle.sky_model.specs.Locks.{waiting}
-use Rattle.sky_model.specs.State.{part_of, database_of}
-use Rattle.sky_model.specs.ShownRows.{rows_in}
+use Rattle.sky_model.specs.State.{part_of}
 use Rattle.sky_model.specs.Outcome.{Checked}
-use Rattle.sky_model.specs.Allowed.{where_of, allowed}
+use Rattle.sky_model.specs.Allowed.{allowed}
 use Rattle.sky_model.specs.World.{world_of, history_in, on_top, session_names, database_names, home}
-use Rattle.sky_model.specs.Reader.{shown_in, database_by_history, within_part, within_database, by_past, Deed, appears}
+use Rattle.sky_model.specs.Reader.{database_by_history, within_part, within_database, by_past, Deed, appears}
 use Rattle.sky_model.specs.Made.{takes_sight}
-use Rattle.sky_model.specs.Settling.{Turn, turn_of, marked}
-use Rattle.sky_model.specs.Calls.{form, making, statement, database_turn, deed_in, opening, opens, outside_does, is_leaving, left_if, session_does, turn, Call, called, past_of}
+use Rattle.sky_model.specs.Settling.{Turn, marked}
+use Rattle.sky_model.specs.Calls.{database_turn, deed_in, opening, opens, outside_does, is_leaving, left_if, session_does, turn, Call, called, past_of}
 use Rattle.sky_model.specs.SessionMarks.{look_of, entry_place, enters, failing}
 use Rattle.sky_model.specs.Promises.{after_all}
 use Rattle.sky_model.specs.DatabaseCalls.{DatabaseCall, stepped, entered, failed, IsDatabaseCallInForm, database_does, database_part}
@@ -28,10 +25,10 @@ use Rattle.sky_model.specs.LawsOfHistories.{HistoriesAreMadeByOwnCalls}
 use Rattle.sky_model.proofs.Legal.{looks, Chain, done, more, Legal, start}
 use Rattle.sky_model.proofs.Good.{same-session, good_failure}
 use Rattle.sky_model.proofs.LawfulTelling.{legal_behind}
-use Rattle.sky_model.proofs.MadeAt.{same-made_by}
-use Rattle.sky_model.proofs.Turns.{ReadAlike, same-with_settling, Any, each-any}
+use Rattle.sky_model.proofs.Turns.{same-turn_read}
 use Rattle.sky_model.proofs.Lawful.{database-reads, good_with_settling-by, good_turn}
 use Rattle.sky_model.proofs.PastHistories.{on_top-append, history-marks, AreOutside, history-outside, left-outside}
+use Rattle.sky_model.proofs.Cases.{by_same}
 
 -- ---- calls of a database
 
@@ -56,30 +53,14 @@ legal_calls (call ∷ calls) =
 
 -- ---- calls of the world
 
--- in the past a statement reads its database's history
-same-within : (past : Past) (d : ℕ) (now : ℤ) (who : ℕ) (stmt : Stmt) → statement (within_database by_past d) past now who stmt ≡ statement database_by_history (history_in past d) now who stmt
-same-within past d now who stmt =
-    same-made_by (making (within_database by_past d) now who stmt) (making database_by_history now who stmt) (where_of stmt) who past (history_in past d) (record {
-      sessions = refl;
-      waiting = refl;
-      outcomes = refl;
-      sessions_behind = ap (λ b. session (if b then looked who ∷ history_in past d else history_in past d) who) (same-session d);
-      outcomes_behind = ap (λ b. form (database_of (if b then looked who ∷ history_in past d else history_in past d)) (shown_in (if b then looked who ∷ history_in past d else history_in past d)) now who stmt) (same-session d);
-    })
-
-in-database : (d : ℕ) (now : ℤ) → ReadAlike (within_part (within_database by_past d) now) (within_part database_by_history now) Any (λ past h. history_in past d ≡ h)
-in-database d now = record {
-  parts = λ past h is. ap part_of is;
-  rows = λ past h is. ap rows_in is;
-  tells = λ past h is. λ i checked. tells (database_of (is i)) now checked;
-  behind = λ past h mark is _. ap (λ b. if b then mark ∷ history_in past d else history_in past d) (same-session d) ∙ ap (λ g. mark ∷ g) is;
-}
-
--- and what it lets go on does
+-- in the past a statement, with what it lets go on, reads its database's history
 pub same-turn-within : (past : Past) (d : ℕ) (now : ℤ) (who : ℕ) (stmt : Stmt) → database_turn (within_database by_past d) past now who stmt ≡ database_turn database_by_history (history_in past d) now who stmt
 same-turn-within past d now who stmt =
-    same-with_settling (within_part (within_database by_past d) now) (within_part database_by_history now) Any (λ p h. history_in p d ≡ h) (in-database d now) past (history_in past d) _ _ refl
-    (ap (turn_of who) (same-within past d now who stmt)) (each-any (within_part (within_database by_past d) now) past _)
+    same-turn_read (within_database by_past d) database_by_history (λ p. history_in p d) (record {
+      database = λ p. refl;
+      shown = λ p. refl;
+      behind = λ p mark. ap (λ b. if b then mark ∷ history_in p d else history_in p d) (same-session d);
+    }) past now who stmt
 
 -- calls of a database make a history, and are in form if this holds
 record Made (formed : Type 0) (h : History) : Type 0 where
@@ -107,7 +88,9 @@ made_if formed past false x y all also = also
 made_deed : (formed : Type 0) (past : Past) (d who : ℕ) (stmt : Stmt) (outside : List Fact) → AreOutside outside → (formed → IsInForm stmt) → AllMade formed past
     → AllMade formed (on_top past (deed_in d outside (database_turn (within_database by_past d) past (world_of past).now who stmt)).facts)
 made_deed formed past d who stmt outside none is_form all = λ n.
-    subst (Made formed) (sym (history-outside past (map (within d) turn_within.marks) outside n none ∙ history-marks past d turn_within.marks n)) (of n (d == n) refl)
+    subst (Made formed) (sym (history-outside past (map (within d) turn_within.marks) outside n none ∙ history-marks past d turn_within.marks n))
+    (by_same (λ b. Made formed (if b then marked (history_in past n) turn_within.marks else history_in past n)) d n
+    (λ same. subst (λ m. Made formed (marked (history_in past m) turn_within.marks)) same here) (λ _. all n))
   where
     turn_within : Turn
     turn_within = database_turn (within_database by_past d) past (world_of past).now who stmt
@@ -115,10 +98,6 @@ made_deed formed past d who stmt outside none is_form all = λ n.
     here : Made formed (marked (history_in past d) turn_within.marks)
     here = subst (λ (x : Turn). Made formed (marked (history_in past d) x.marks)) (sym (same-turn-within past d (world_of past).now who stmt))
         (made_turn formed (history_in past d) (world_of past).now who stmt is_form (all d))
-
-    of : (n : ℕ) (b : Bool) → (d == n) ≡ b → Made formed (if b then marked (history_in past n) turn_within.marks else history_in past n)
-    of n true e = (let same : d ≡ n = grind (arith, nat_tests) in subst (λ m. Made formed (marked (history_in past m) turn_within.marks)) same here)
-    of n false e = all n
 
 made_opens : (formed : Type 0) (past : Past) (who : ℕ) (stmt : Stmt) (name : List ℕ) (found : Option ℕ) → (formed → IsInForm stmt) → AllMade formed past
     → AllMade formed (on_top past (opens by_past past who stmt name found).facts)

@@ -31,7 +31,7 @@ use Rattle.sky_model.proofs.PastHistories.{on_top-append, history-marks, AreOuts
 use Rattle.sky_model.proofs.Histories.{AllLegal, same-turn-within, legal_past}
 use Rattle.sky_model.proofs.StatementMarks.{AnyReply, no_more, each-abort, given-runs}
 use Rattle.sky_model.proofs.Staying.{is_staying, Stay, open-stays, stays-if, IsStaying, stays-form, stay-settling}
-use Rattle.sky_model.proofs.Cases.{by_test, by_same}
+use Rattle.sky_model.proofs.Cases.{by_same}
 
 pub waiters_have_open : WaitersHaveOpen
 waiters_have_open p is who waits = waits-open p (legal_place p is) who waits
@@ -146,15 +146,9 @@ homed-turn : (past : Past) → Homed past → (d who : ℕ) (marks : List Mark) 
 homed-turn past homed d who marks beside b none homes own elsewhere v e =
     ap (has_open v) (history-outside past (map (within d) marks) beside e none ∙ history-marks past d marks e)
     ∙ by_same (λ c. has_open v (if c then marked (history_in past e) marks else history_in past e) ≡ stands (if who == v then home_if b d else home past v) e) d e
-    (λ one. subst (λ n. has_open v (marked (history_in past n) marks) ≡ stands (if who == v then home_if b d else home past v) n) one (own v ∙ here))
-    there
+    (λ one. subst (λ n. has_open v (marked (history_in past n) marks) ≡ stands (if who == v then home_if b d else home past v) n) one (own v ∙ grind (arith, nat_tests, homed v d)))
+    (λ other. grind (arith, nat_tests, homed v e, elsewhere e other))
     ∙ ap (λ o. stands o e) (sym (ap (λ p. home p v) (on_top-append past (map (within d) marks) beside) ∙ homes v))
-  where
-    here : (if who == v then b else has_open v (history_in past d)) ≡ stands (if who == v then home_if b d else home past v) d
-    here = grind (arith, nat_tests, homed v d)
-
-    there : (d == e) ≡ false → has_open v (history_in past e) ≡ stands (if who == v then home_if b d else home past v) e
-    there other = grind (arith, nat_tests, homed v e, elsewhere e other)
 
 -- where its home is no other database it has no other open
 elsewhere-none : (past : Past) → Homed past → (d who : ℕ) (at : Option ℕ) → home past who ≡ at → (at ≡ None) ⊎ (at ≡ Some d) → (e : ℕ) → (d == e) ≡ false → has_open who (history_in past e) ≡ false

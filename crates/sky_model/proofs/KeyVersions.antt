@@ -1,8 +1,8 @@
 -- What the versions of a key say of its rows, at each place of a legal history.
-use Rattle.std.proofs.Common.{◌≡◌, ℕ, Bool, true, false, List, [], ◌∷◌, Option, Some, None, option_map, is_some, refl, sym, ◌∙◌, ap, subst, arith, if◌then◌else◌, ◌⊎◌, inl, inr, ◌||◌, ◌&&◌, ◌==◌, cond}
+use Rattle.std.proofs.Common.{◌≡◌, ℕ, Bool, true, false, List, [], ◌∷◌, Option, Some, None, option_map, refl, sym, ◌∙◌, ap, subst, arith, if◌then◌else◌, ◌⊎◌, inl, inr, ◌||◌, ◌&&◌, ◌==◌, cond}
 use Rattle.std.specs.Option.{option_or}
 use Rattle.std.specs.Ordering.{eq_by_cmp}
-use Rattle.std.proofs.lemmas.Bool.{true_from_ne_false, or_parts, or_right, and_parts, eqb-true, cond_both}
+use Rattle.std.proofs.lemmas.Bool.{true_from_ne_false, false_from_ne_true, or_parts, or_right, and_parts, eqb-true, cond_both}
 use Rattle.std.proofs.lemmas.Bool.Decides.{nat_tests}
 use Rattle.sky_val.specs.declared.val.Val.{Val}
 use Rattle.sky_val.specs.Order.{key_cmp}
@@ -16,12 +16,12 @@ use Rattle.sky_keys.proofs.EntryLemmas.{key_ties-is, versions_at-written, versio
 use Rattle.sky_model.specs.History.{Mark, of_session, ended, tabled, wrote, History}
 use Rattle.sky_model.specs.Transactions.{has_ended}
 use Rattle.sky_model.specs.Sessions.{own_txid}
-use Rattle.sky_model.specs.Rows.{committed, writes as writes_of, rows, last_writer}
+use Rattle.sky_model.specs.Rows.{committed, has_written, writes as writes_of, rows, last_writer}
 use Rattle.sky_model.specs.Versions.{versions}
 use Rattle.sky_model.specs.Locks.{holder}
 use Rattle.sky_model.proofs.Legal.{Fine, ends, writes, Legal, start, next}
 use Rattle.sky_model.proofs.Snapshots.{own-unended}
-use Rattle.sky_model.proofs.RowWrites.{over, last_of, at-put_all, last_of-push, has_written-last_of, in_turn-push, in_turn-same, last_writer-push, last_writer-same}
+use Rattle.sky_model.proofs.RowWrites.{last_of, at-put_all, last_of-push, has_written-last_of, in_turn-push, in_turn-same, last_writer-push, last_writer-same}
 use Rattle.sky_model.proofs.RowKeys.{is_in_order-versions, committed-ended}
 use Rattle.sky_model.proofs.Holders.{nobody-else}
 use Rattle.sky_model.proofs.Cases.{by_same}
@@ -50,28 +50,11 @@ version_of-txid t (w ∷ vs) v e = grind (arith, nat_tests, version_of-txid t vs
 ended-or : (h : History) (t u : ℕ) → ((u == t) || has_ended h u) ≡ ((t == u) || has_ended h u)
 ended-or h t u = grind (arith, nat_tests)
 
--- a commit makes a transaction's last write the row
-row-committed : (left : Option Version) (before : Option Version) (last : Option (Option (List Val))) → option_map Version.row left ≡ last → row_of (option_or left before) ≡ over last (row_of before)
-row-committed None before last e = ap (λ o. over o (row_of before)) e
-row-committed (Some v) before last e = ap (λ o. over o (row_of before)) e
-
--- and it the last writer
-writer-committed : (t : ℕ) (own : Option Version) (before : Option Version) (last : Option (Option (List Val))) (earlier : Option ℕ) → option_map Version.row own ≡ last
-    → ((v : Version) → own ≡ Some v → v.txid ≡ t) → option_map Version.txid before ≡ earlier → option_map Version.txid (option_or own before) ≡ (if is_some last then Some t else earlier)
-writer-committed t None before last earlier e mine is = is ∙ ap (λ o. if is_some o then Some t else earlier) e
-writer-committed t (Some v) before last earlier e mine is = ap Some (mine v refl) ∙ ap (λ o. if is_some o then Some t else earlier) e
-
 key_committed : (h : History) → Legal h → (who t : ℕ) → has_ended h t ≡ false → (table : ℕ) (key : List Val) → KeyHolds h table key → KeyHolds (ended (of_session who) t true ∷ h) table key
 key_committed h l who t unended table key k = record {
-  newest = ap row_of newer
-      ∙ row-committed (version_of t (kept h table key)) (newest_by (has_ended h) (kept h table key)) (last_of key (writes_of table t h)) (k.own t unended)
-      ∙ ap (over (last_of key (writes_of table t h))) k.newest
-      ∙ sym (ap (at key) (in_turn-push (λ u. writes_of table u h) (committed h) t []) ∙ at-put_all key (writes_of table t h) (rows table h));
+  newest = ap row_of newer ∙ grind (arith, k.own t unended, k.newest, in_turn-push (λ u. writes_of table u h) (committed h) t [], at-put_all key (writes_of table t h) (rows table h));
   writer = ap (option_map Version.txid) newer
-      ∙ writer-committed t (version_of t (kept h table key)) (newest_by (has_ended h) (kept h table key)) (last_of key (writes_of table t h)) _ (k.own t unended)
-      (version_of-txid t (kept h table key)) k.writer
-      ∙ ap (λ b. if b then Some t else last_writer key (λ u. writes_of table u h) None (committed h)) (sym (has_written-last_of key (writes_of table t h)))
-      ∙ sym (last_writer-push key (λ u. writes_of table u h) (committed h) t);
+      ∙ grind (arith, k.own t unended, k.writer, version_of-txid t (kept h table key), has_written-last_of key (writes_of table t h), last_writer-push key (λ u. writes_of table u h) (committed h) t);
   own = λ u e. k.own u ((or_parts (u == t) (has_ended h u) e).1);
   only = only_more (has_ended h) (has_ended (ended (of_session who) t true ∷ h)) (kept h table key) (λ u e. or_right (u == t) (has_ended h u) e) k.only;
 }
@@ -104,9 +87,10 @@ key_rolled_back h l who t unended table key k = record {
 -- where no other transaction that hasn't ended has a version, all others' pass
 others-from : (p : ℕ → Bool) (t : ℕ) (vs : List Version) → ((u : ℕ) → p u ≡ false → (t == u) ≡ false → version_of u vs ≡ None) → OthersPass p t vs
 others-from p t [] none = tt
-others-from p t (v ∷ vs) none =
-    (by_same (λ _. (t ≡ v.txid) ⊎ (p v.txid ≡ true)) t v.txid (λ same. inl same) (λ other. inr (true_from_ne_false (p v.txid) (λ e. let there = none v.txid e other in grind (arith, nat_tests, there)))),
-      others-from p t vs (λ u unended other. grind (arith, none u unended other)))
+others-from p t (v ∷ vs) none = (
+  by_same (λ _. (t ≡ v.txid) ⊎ (p v.txid ≡ true)) t v.txid (λ same. inl same) (λ other. inr (true_from_ne_false (p v.txid) (λ e. let there = none v.txid e other in grind (arith, nat_tests, there)))),
+  others-from p t vs (λ u unended other. grind (arith, none u unended other)),
+)
 
 module _ (h : History) (l : Legal h) (who t n : ℕ) (at_key : List Val) (old new : Option (List Val)) (mine : own_txid who h ≡ Some t) (free : other_than who (holder n at_key h) ≡ None) where
   abbrev g : History
@@ -117,13 +101,9 @@ module _ (h : History) (l : Legal h) (who t n : ℕ) (at_key : List Val) (old ne
 
   -- nobody else that runs has a version of the key
   unwritten : (k : KeyHolds h n at_key) (u : ℕ) → has_ended h u ≡ false → (t == u) ≡ false → version_of u (kept h n at_key) ≡ None
-  unwritten k u runs_on other = of (version_of u (kept h n at_key)) refl
-    where
-      of : (o : Option Version) → version_of u (kept h n at_key) ≡ o → o ≡ None
-      of None e = refl
-      of (Some v) e =
-          let wrote_it : is_some (last_of at_key (writes_of n u h)) ≡ true = ap is_some (sym (k.own u runs_on)) ∙ ap (λ x. is_some (option_map Version.row x)) e in
-          absurd (nobody-else h l who t n at_key mine free u runs_on other (has_written-last_of at_key (writes_of n u h) ∙ wrote_it))
+  unwritten k u runs_on other =
+      let quiet = false_from_ne_true (has_written at_key (writes_of n u h)) (nobody-else h l who t n at_key mine free u runs_on other) in
+      grind (arith, has_written-last_of at_key (writes_of n u h), k.own u runs_on, quiet)
 
   pub kept-wrote : (table : ℕ) (key : List Val) → kept g table key ≡ (if (n == table) && eq_by_cmp key_cmp key at_key then with_version t new (kept h table key) else kept h table key)
   kept-wrote table key = grind (arith, versions_at-written key t at_key new (versions table h))

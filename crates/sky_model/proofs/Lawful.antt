@@ -1,5 +1,5 @@
 -- Whatever is called of a database, its history is legal.
-use Rattle.std.proofs.Common.{◌≡◌, All, ℕ, suc, zero, ℤ, ◌+◌, ◌<◌, List, [], ◌∷◌, ◌++◌, Bool, true, ◌==◌, nat_le, Option, Some, None, Ok, Err, is_ok, option_map, length, is_some, refl, sym, ◌∙◌, ap, subst, arith, ◌^◌, if◌then◌else◌, find, not}
+use Rattle.std.proofs.Common.{◌≡◌, All, ℕ, suc, zero, ℤ, ◌+◌, ◌<◌, List, [], ◌∷◌, ◌++◌, true, nat_le, Option, Some, None, Ok, Err, is_ok, option_map, length, is_some, refl, sym, ◌∙◌, ap, subst, arith, ◌^◌, if◌then◌else◌, find, not}
 use Rattle.std.proofs.lemmas.Bool.{cond_both}
 use Rattle.std.proofs.lemmas.Bool.Decides.{nat_tests}
 use Rattle.sky_model.specs.declared.stmt.Stmt.{Stmt}
@@ -16,7 +16,7 @@ use Rattle.sky_model.specs.Transactions.{next_txid}
 use Rattle.sky_model.specs.Sessions.{Block, outside, has_open, block, own_txid, session}
 use Rattle.sky_model.specs.Rows.{table_names, columns_of}
 use Rattle.sky_model.specs.Triggers.{triggers, triggers_of}
-use Rattle.sky_model.specs.StepTrigger.{has_trigger, may_ignore, add_trigger}
+use Rattle.sky_model.specs.StepTrigger.{has_trigger, may_ignore}
 use Rattle.sky_model.specs.Config.{default_config}
 use Rattle.sky_model.specs.Queues.{queues_made, queues, queue_number, Tick, ticks, tick, newest_tick, sequence, events}
 use Rattle.sky_model.specs.Consumers.{subscription_id, Subscription, subscription, active_batch}
@@ -27,8 +27,8 @@ use Rattle.sky_model.specs.OwnTransaction.{own_or_next, begin_of, commit_of, wri
 use Rattle.sky_model.specs.Outcome.{Outcome, Checked, ◌>>=◌, ◌>>◌, refused_if, answers, does_marks, abort, settled}
 use Rattle.sky_model.specs.Allowed.{where_of_row, where_of, allowed}
 use Rattle.sky_model.specs.StepRows.{attempts}
-use Rattle.sky_model.specs.StepQueue.{create_queue, insert_event, ticker, force_tick, is_due, forced, newest_id, id_of, next_event_id, made_event}
-use Rattle.sky_model.specs.StepConsumer.{has_dot, register_consumer, next_batch, opens_batch, takes_batch, finishes}
+use Rattle.sky_model.specs.StepQueue.{create_queue, insert_event, is_due, forced, newest_id, id_of, next_event_id, made_event}
+use Rattle.sky_model.specs.StepConsumer.{has_dot, opens_batch, takes_batch, finishes}
 use Rattle.sky_model.specs.Reader.{shown_in, PartReader, part_by_history, database_by_history, within_part}
 use Rattle.sky_model.specs.Gates.{Gate, takes_all, gated, by_gate}
 use Rattle.sky_model.specs.Made.{takes_sight, looking, runs_if}
@@ -91,14 +91,11 @@ good_insert_event : (h : History) → Legal h → (now : ℤ) (who : ℕ) (name 
 good_insert_event h l now who name ev_type ev_data extra =
     good_found h who (queue_number name (queues h)) (NoQueue name) _ (λ q is. by_own q (among-number name (queues h) q is) (own_txid who h) refl)
   where
-    same : (q : ℕ) → (q == q) ≡ true
-    same q = grind (arith, nat_tests)
-
     body : (g : History) → Legal g → (q n t : ℕ) (b : Block) → own_txid who g ≡ Some t → IsQueue g q → sequence q g ≡ n
         → Chain g (queued (raised q (n + 1)) ∷ queued (put q (made_event (n + 1) now t ev_type ev_data extra)) ∷ commit_of who t b)
     body g l q n t b mine below is =
         more (raises q (n + 1) below (omega arith))
-        (more (puts who q _ below (ap (λ b. if b then n + 1 else sequence q g) (sym (same q))) mine (subst (λ m. All (λ e. e.ev_id < m + 1) (events q g)) is (events_below-next g l q)))
+        (more (puts who q _ below (ap (λ b. if b then n + 1 else sequence q g) (sym (same-session q))) mine (subst (λ m. All (λ e. e.ev_id < m + 1) (events q g)) is (events_below-next g l q)))
         (good_commits (queued (put q (made_event (n + 1) now t ev_type ev_data extra)) ∷ queued (raised q (n + 1)) ∷ g) who t b mine))
 
     by_own : (q : ℕ) → IsQueue h q → (o : Option ℕ) → own_txid who h ≡ o → Good h who (own_or_next (part_of h) o >>= (λ t.
@@ -111,29 +108,6 @@ good_insert_event h l now who name ev_type ev_data extra =
     by_own q below (Some t) mine =
         good_test_then h who (nat_le (2 ^ 62) (sequence q h + 1)) EventIdsSpent (sequence q h + 1) _
         (body h l q (sequence q h) t (block who h) mine below refl)
-
-good_ticker : (h : History) (now : ℤ) (who : ℕ) (name : List ℕ) → Good h who (ticker (database_of h) now name)
-good_ticker h now who name =
-    good_found h who (queue_number name (queues h)) (NoQueue name) _ (λ q is.
-    good_if h who (is_due now ((database_of h).queue q)) _ _
-    (good_test h who (nat_le (2 ^ 64) (newest_id ((database_of h).queue q) + 1)) _ _ (λ _.
-    more (ticks_next q _ now _ (among-number name (queues h) q is) (omega arith)) done))
-    (λ _. done))
-
-good_force_tick : (h : History) (who : ℕ) (name : List ℕ) → Good h who (force_tick (database_of h) name)
-good_force_tick h who name =
-    good_found h who (queue_number name (queues h)) (NoQueue name) _ (λ q is.
-    good_test h who (nat_le (2 ^ 62) (sequence q h + forced default_config)) _ _ (λ _.
-    more (raises q _ (among-number name (queues h) q is) (omega arith)) done))
-
-good_register_consumer : (h : History) (who : ℕ) (name consumer : List ℕ) → Good h who (register_consumer (database_of h) name consumer)
-good_register_consumer h who name consumer =
-    good_found h who (queue_number name (queues h)) (NoQueue name) _ (λ q is.
-    good_test h who (has_dot consumer) _ _ (λ _.
-    good_if h who (is_some (((database_of h).queue q).sub consumer)) _ _ done (λ unregistered.
-    good_test h who (nat_le 256 (length ((database_of h).queue q).members)) _ _ (λ _.
-    good_test h who (nat_le (2 ^ 64) ((database_of h).last_sub_id + 1)) _ _ (λ _.
-    more (registers q consumer _ _ (among-number name (queues h) q is) (no-one _ (subscription_id q consumer h) (nothing _ unregistered)) (omega arith) (omega arith)) done)))))
 
 good_opens_batch : (h : History) (who q : ℕ) (consumer : List ℕ) (sub : Subscription) (found : Option Tick)
     → IsQueue h q → subscription q consumer h ≡ Some (record { id = sub.id; position = sub.position; active = None }) → tick (sub.position + 1) (ticks q h) ≡ found
@@ -149,20 +123,39 @@ good_takes_batch : (h : History) (who q : ℕ) (consumer : List ℕ) (sub : Subs
 good_takes_batch h who q consumer sub (Some batch) below stands = done
 good_takes_batch h who q consumer sub None below stands = good_opens_batch h who q consumer sub (tick (sub.position + 1) (ticks q h)) below stands refl
 
-good_next_batch : (h : History) (who : ℕ) (name consumer : List ℕ) → Good h who (next_batch (database_of h) name consumer)
-good_next_batch h who name consumer =
-    good_found h who (queue_number name (queues h)) (NoQueue name) _ (λ q is.
-    good_test h who (has_dot consumer) _ _ (λ _.
-    good_found h who (((database_of h).queue q).sub consumer) (NoConsumer consumer) _ (λ sub stands.
-    good_takes_batch h who q consumer sub sub.active (among-number name (queues h) q is) stands)))
-
 good_finishes : (h : History) (who id : ℕ) (batch : Option Batch) → active_batch id h ≡ batch → Good h who (finishes batch)
 good_finishes h who id None is = done
 good_finishes h who id (Some batch) is = more (closes batch (ap (λ n. active_batch n h) (active_batch-id h id batch is) ∙ is)) done
 
-good_add_trigger : (h : History) (who : ℕ) (name table_name queue_name : List ℕ) (backup : Bool) (ignored : List (List ℕ))
-    → Good h who (add_trigger (database_of h) name table_name queue_name backup ignored)
-good_add_trigger h who name table_name queue_name backup ignored =
+good_form : (h : History) → Legal h → (now : ℤ) (who : ℕ) (stmt : Stmt) → MayStand h who (where_of stmt) → Good h who (form (database_of h) (shown_in h) now who stmt)
+good_form h l now who (Row stmt) may = good_tells h l now who _ (form-rows (part_of h) (rows_in h) who stmt) (good_row_form h l who stmt may)
+good_form h l now who (CreateQueue queue) may = good_create_queue h l now who queue
+good_form h l now who (InsertEvent queue ev_type ev_data extra) may = good_insert_event h l now who queue ev_type ev_data extra
+good_form h l now who (Ticker name) may =
+    good_found h who (queue_number name (queues h)) (NoQueue name) _ (λ q is.
+    good_if h who (is_due now ((database_of h).queue q)) _ _
+    (good_test h who (nat_le (2 ^ 64) (newest_id ((database_of h).queue q) + 1)) _ _ (λ _.
+    more (ticks_next q _ now _ (among-number name (queues h) q is) (omega arith)) done))
+    (λ _. done))
+good_form h l now who (ForceTick name) may =
+    good_found h who (queue_number name (queues h)) (NoQueue name) _ (λ q is.
+    good_test h who (nat_le (2 ^ 62) (sequence q h + forced default_config)) _ _ (λ _.
+    more (raises q _ (among-number name (queues h) q is) (omega arith)) done))
+good_form h l now who (RegisterConsumer name consumer) may =
+    good_found h who (queue_number name (queues h)) (NoQueue name) _ (λ q is.
+    good_test h who (has_dot consumer) _ _ (λ _.
+    good_if h who (is_some (((database_of h).queue q).sub consumer)) _ _ done (λ unregistered.
+    good_test h who (nat_le 256 (length ((database_of h).queue q).members)) _ _ (λ _.
+    good_test h who (nat_le (2 ^ 64) ((database_of h).last_sub_id + 1)) _ _ (λ _.
+    more (registers q consumer _ _ (among-number name (queues h) q is) (no-one _ (subscription_id q consumer h) (nothing _ unregistered)) (omega arith) (omega arith)) done)))))
+good_form h l now who (NextBatch name consumer) may =
+    good_found h who (queue_number name (queues h)) (NoQueue name) _ (λ q is.
+    good_test h who (has_dot consumer) _ _ (λ _.
+    good_found h who (((database_of h).queue q).sub consumer) (NoConsumer consumer) _ (λ sub stands.
+    good_takes_batch h who q consumer sub sub.active (among-number name (queues h) q is) stands)))
+good_form h l now who (GetBatchEvents batch) may = good_found h who ((database_of h).batch batch) _ _ (λ b _. done)
+good_form h l now who (FinishBatch batch) may = good_finishes h who batch (active_batch batch h) refl
+good_form h l now who (AddTrigger name table_name queue_name backup ignored) may =
     good_found h who (place_of table_name (table_names h)) (NoTable table_name) _ (λ table there.
     good_found h who (queue_number queue_name (queues h)) (NoQueue queue_name) _ (λ queue is.
     good_test h who (has_trigger name (triggers_of table (triggers h))) (TriggerExists name) _ (λ new.
@@ -170,18 +163,6 @@ good_add_trigger h who name table_name queue_name backup ignored =
     good_refused_by h who (option_map BadColumn (find (λ column. not (may_ignore (columns_of table h) column)) ignored)) _ (λ _.
     good_refused_by h who (option_map TableBusy (least_writer (part_of h) table)) _ (λ _.
     more (traces table (Some name) _ (place_of_within table_name (table_names h) table there) (among-number queue_name (queues h) queue is) new) done))))))
-
-good_form : (h : History) → Legal h → (now : ℤ) (who : ℕ) (stmt : Stmt) → MayStand h who (where_of stmt) → Good h who (form (database_of h) (shown_in h) now who stmt)
-good_form h l now who (Row stmt) may = good_tells h l now who _ (form-rows (part_of h) (rows_in h) who stmt) (good_row_form h l who stmt may)
-good_form h l now who (CreateQueue queue) may = good_create_queue h l now who queue
-good_form h l now who (InsertEvent queue ev_type ev_data extra) may = good_insert_event h l now who queue ev_type ev_data extra
-good_form h l now who (Ticker queue) may = good_ticker h now who queue
-good_form h l now who (ForceTick queue) may = good_force_tick h who queue
-good_form h l now who (RegisterConsumer queue consumer) may = good_register_consumer h who queue consumer
-good_form h l now who (NextBatch queue consumer) may = good_next_batch h who queue consumer
-good_form h l now who (GetBatchEvents batch) may = good_found h who ((database_of h).batch batch) _ _ (λ b _. done)
-good_form h l now who (FinishBatch batch) may = good_finishes h who batch (active_batch batch h) refl
-good_form h l now who (AddTrigger name table queue backup ignored) may = good_add_trigger h who name table queue backup ignored
 
 good_runs_if : (h : History) → Legal h → (now : ℤ) (who : ℕ) (stmt : Stmt) (may : Checked (Unit {0})) → allowed (is_waiting who (waiting h)) (has_open who h) (block who h) (where_of stmt) ≡ may
     → Chain h (runs_if (making database_by_history now who stmt) (where_of stmt) who h may).marks

@@ -1,7 +1,6 @@
 -- The statements on sessions, transactions, tables and rows leave a legal history legal.
 use Rattle.std.proofs.Common.{◌≡◌, ℕ, ◌^◌, ◌<◌, List, [], ◌∷◌, ◌++◌, Bool, true, false, nat_le, Option, Some, None, Ok, IfSome, option_map, length, is_some, refl, sym, ◌∙◌, ap, arith, if◌then◌else◌, find}
 use Rattle.sky_val.specs.declared.val.Val.{Val}
-use Rattle.sky_val.specs.declared.column.Column.{Column}
 use Rattle.sky_val.specs.Schemas.{schema_fault, row_fault, key_columns, key_of}
 use Rattle.sky_keys.specs.Waits.{other_than, is_waiting}
 use Rattle.sky_names.specs.Places.{place_of}
@@ -16,7 +15,7 @@ use Rattle.sky_model.specs.declared.stmt.Attempt.{Attempt}
 use Rattle.sky_model.specs.declared.stmt.Attempt.TheVariants.{Insertion, Changes, Deletion}
 use Rattle.sky_model.specs.History.{of_session, began, ended, block_ended, disconnected, tabled, wrote, waited, History}
 use Rattle.sky_model.specs.Transactions.{next_txid}
-use Rattle.sky_model.specs.Sessions.{Block, outside, inside, failed, has_open, block, own_txid}
+use Rattle.sky_model.specs.Sessions.{outside, has_open, block, own_txid}
 use Rattle.sky_model.specs.Rows.{table_names, columns_of}
 use Rattle.sky_model.specs.Locks.{holder, waiting}
 use Rattle.sky_model.specs.State.{part_of}
@@ -24,7 +23,7 @@ use Rattle.sky_model.specs.ShownRows.{rows_in}
 use Rattle.sky_model.specs.Outcome.{Outcome, Checked, ◌>>=◌, does_marks}
 use Rattle.sky_model.specs.OwnTransaction.{own_or_next, begin_of, commit_of}
 use Rattle.sky_model.specs.StepLocks.{ring, once_free}
-use Rattle.sky_model.specs.StepRows.{schema_refusal, create_table, bad_values, bad_sets, is_key_change, writes_key, changes, attempts, insert, update, delete, row_or_none, get}
+use Rattle.sky_model.specs.StepRows.{schema_refusal, bad_values, bad_sets, is_key_change, writes_key, changes, attempts, row_or_none}
 use Rattle.sky_model.specs.StepSession.{open_db, begin, begin_repeatable_read, leaves, commit, rollback, close, cancel}
 use Rattle.sky_model.specs.Calls.{row_form}
 use Rattle.sky_model.specs.Allowed.{where_of_row}
@@ -35,27 +34,11 @@ use Rattle.sky_model.proofs.Legal.{MayWait, Legal, begins, ends, begins_block, r
 use Rattle.sky_model.proofs.SetsFit.{sets-fit, none-fits, changes-fit}
 use Rattle.sky_model.proofs.SeenRows.{seen-stands, stands-by, stands-begun}
 use Rattle.sky_model.proofs.Good.{MayStand, Good, same-session, good_refused, good_test, good_test_then, good_found, good_refused_by, good_checked, good_commits}
-
-good_begin : (h : History) (who : ℕ) (b : Block) → block who h ≡ b → has_open who h ≡ true → Good h who (begin who b)
-good_begin h who outside is is_open = more (begins_block who is is_open) done
-good_begin h who _ is is_open = done
+use Rattle.sky_model.proofs.Cases.{by_test, by_block}
 
 good_leaves : (h : History) (who : ℕ) (committed : Bool) (o : Option ℕ) → own_txid who h ≡ o → Chain h (leaves committed who o)
 good_leaves h who committed None none = more (ends_block who none) done
 good_leaves h who committed (Some t) mine = more (ends who t committed mine) (more (ends_block who (ap (λ b. if b then None else own_txid who h) (same-session who))) done)
-
-good_commit : (h : History) (who : ℕ) (b : Block) → Good h who (commit who (own_txid who h) b)
-good_commit h who outside = done
-good_commit h who inside = good_leaves h who true (own_txid who h) refl
-good_commit h who failed = good_leaves h who false (own_txid who h) refl
-
-good_rollback : (h : History) (who : ℕ) (b : Block) → Good h who (rollback who (own_txid who h) b)
-good_rollback h who outside = done
-good_rollback h who _ = good_leaves h who false (own_txid who h) refl
-
-good_open_db : (h : History) (who : ℕ) (b : Bool) → has_open who h ≡ b → Good h who (open_db who b)
-good_open_db h who true is = good_refused h who AlreadyOpen
-good_open_db h who false is = more (connects who is) done
 
 over : (who : ℕ) (h : History) → block who (block_ended who ∷ h) ≡ outside
 over who h = ap (λ b. if b then outside else block who h) (same-session who)
@@ -64,18 +47,6 @@ good_closes : (h : History) (who : ℕ) (o : Option ℕ) → own_txid who h ≡ 
 good_closes h who None none quiet = more (ends_block who none) (more (disconnects who quiet (over who h)) done)
 good_closes h who (Some t) mine quiet =
     more (ends who t false mine) (more (ends_block who (ap (λ b. if b then None else own_txid who h) (same-session who))) (more (disconnects who quiet (over who (ended (of_session who) t false ∷ h))) done))
-
-good_close : (h : History) (who : ℕ) (b : Block) → block who h ≡ b → is_waiting who (waiting h) ≡ false → Good h who (close who (own_txid who h) b)
-good_close h who outside is quiet = more (disconnects who quiet is) done
-good_close h who _ is quiet = good_closes h who (own_txid who h) refl quiet
-
-good_cancel : (h : History) (who : ℕ) (waits : Bool) → Good h who (cancel who (own_txid who h) (block who h) waits)
-good_cancel h who false = done
-good_cancel h who true = more (ends_waiting who) (good_refused (tabled (waited who) ∷ h) who Canceled)
-
-good_begin_repeatable_read : (h : History) (who : ℕ) (b : Block) → block who h ≡ b → has_open who h ≡ true → Good h who (begin_repeatable_read who b)
-good_begin_repeatable_read h who outside is is_open = more (begins_block who is is_open) (more (repeats_block who) done)
-good_begin_repeatable_read h who _ is is_open = done
 
 good_txid_current : (h : History) (who : ℕ) (o : Option ℕ) → own_txid who h ≡ o
     → Good h who (own_or_next (part_of h) o >>= (λ t. does_marks (Number t) (begin_of who t o ++ [] ++ commit_of who t (block who h))))
@@ -161,20 +132,46 @@ good_attempts h l who table key (Changes sets) may =
 good_attempts h l who table key Deletion may =
     good_changes h l who table key Deletion may (λ row. Ok None) (λ row new same _. none-fits (columns_of table h) key new same) ((rows_in h).key who table key).row refl
 
-good_insert : (h : History) → Legal h → (who : ℕ) → is_waiting who (waiting h) ≡ false → has_open who h ≡ true → (name : List ℕ) (row : List Val) → Good h who (insert (part_of h) (rows_in h) who name row)
-good_insert h l who quiet is_open name row =
+good_row_or_none : (h : History) (who : ℕ) (row : Option (List Val)) → Good h who (row_or_none row)
+good_row_or_none h who None = done
+good_row_or_none h who (Some row) = done
+
+-- a statement that its session may make there
+pub good_row_form : (h : History) → Legal h → (who : ℕ) (stmt : RowStmt) → MayStand h who (where_of_row stmt) → Good h who (row_form (part_of h) (rows_in h) who stmt)
+good_row_form h l who (OpenDb name) may = by_test (λ b. has_open who h ≡ b → Good h who (open_db who b)) (has_open who h) (λ _ _. good_refused h who AlreadyOpen) (λ _ is. more (connects who is) done) refl
+good_row_form h l who Close may =
+    let quiet = quiet-closing h who may in
+    let left = good_closes h who (own_txid who h) refl quiet in
+    by_block (λ b. block who h ≡ b → Good h who (close who (own_txid who h) b)) (λ is. more (disconnects who quiet is) done) (λ _. left) (λ _. left) (block who h) refl
+good_row_form h l who Cancel may =
+    by_test (λ b. Good h who (cancel who (own_txid who h) (block who h) b)) (is_waiting who (waiting h)) (λ _. more (ends_waiting who) (good_refused (tabled (waited who) ∷ h) who Canceled)) (λ _. done)
+good_row_form h l who Begin may =
+    by_block (λ b. block who h ≡ b → Good h who (begin who b)) (λ is. more (begins_block who is (open-beginning h who may)) done) (λ _. done) (λ _. done) (block who h) refl
+good_row_form h l who BeginRepeatableRead may =
+    by_block (λ b. block who h ≡ b → Good h who (begin_repeatable_read who b)) (λ is. more (begins_block who is (open-beginning h who may)) (more (repeats_block who) done)) (λ _. done) (λ _. done) (block who h) refl
+good_row_form h l who Commit may =
+    by_block (λ b. Good h who (commit who (own_txid who h) b)) done (good_leaves h who true (own_txid who h) refl) (good_leaves h who false (own_txid who h) refl) (block who h)
+good_row_form h l who Rollback may =
+    let left = good_leaves h who false (own_txid who h) refl in
+    by_block (λ b. Good h who (rollback who (own_txid who h) b)) done left left (block who h)
+good_row_form h l who TxidCurrent may = good_txid_current h who (own_txid who h) refl
+good_row_form h l who TxidCurrentSnapshot may = done
+good_row_form h l who (TxidVisibleInSnapshot txid snapshot) may = good_found h who (parse_snapshot snapshot) BadSnapshot _ (λ s _. done)
+good_row_form h l who (CreateTable name columns) may =
+    good_test h who (is_some (place_of name (table_names h))) (TableExists name) _ (λ new.
+    good_test h who (nat_le 64 (length (table_names h))) (TooMany Tables) _ (λ _.
+    good_refused_by h who (option_map (schema_refusal columns) (schema_fault columns)) _ (λ _.
+    more (makes_table name columns (nothing (place_of name (table_names h)) new)) done)))
+good_row_form h l who (Insert name row) may =
     good_found h who (place_of name (table_names h)) (NoTable name) _ (λ table there.
     good_refused_by h who (option_map (bad_values (columns_of table h)) (row_fault (columns_of table h) row)) _ (λ fits.
     good_attempts h l who table (key_of (columns_of table h) row) (Insertion row) (record {
       within = place_of_within name (table_names h) table there;
       fits = (no-one (bad_values (columns_of table h)) (row_fault (columns_of table h) row) fits, refl);
-      quiet = quiet;
-      is_open = is_open;
+      quiet = quiet-reading h who may;
+      is_open = open-reading h who may;
     })))
-
-good_update : (h : History) → Legal h → (who : ℕ) → is_waiting who (waiting h) ≡ false → has_open who h ≡ true → (name : List ℕ) (key : List Val) (sets : List Set)
-    → Good h who (update (part_of h) (rows_in h) who name key sets)
-good_update h l who quiet is_open name key sets =
+good_row_form h l who (Update name key sets) may =
     good_found h who (place_of name (table_names h)) (NoTable name) _ (λ table there.
     good_refused_by h who (option_map (bad_values (key_columns (columns_of table h))) (row_fault (key_columns (columns_of table h)) key)) _ (λ _.
     good_refused_by h who (option_map BadRow (bad_sets (columns_of table h) [] sets)) _ (λ well.
@@ -183,53 +180,20 @@ good_update h l who quiet is_open name key sets =
       within = place_of_within name (table_names h) table there;
       fits = changes-fit (columns_of table h) [] sets (no-one BadRow (bad_sets (columns_of table h) [] sets) well)
           (no-one (λ (set : Set). KeyChange set.column) (find (is_key_change (columns_of table h)) sets) stays);
-      quiet = quiet;
-      is_open = is_open;
+      quiet = quiet-reading h who may;
+      is_open = open-reading h who may;
     })))))
-
-good_delete : (h : History) → Legal h → (who : ℕ) → is_waiting who (waiting h) ≡ false → has_open who h ≡ true → (name : List ℕ) (key : List Val) → Good h who (delete (part_of h) (rows_in h) who name key)
-good_delete h l who quiet is_open name key =
+good_row_form h l who (Delete name key) may =
     good_found h who (place_of name (table_names h)) (NoTable name) _ (λ table there.
     good_refused_by h who (option_map (bad_values (key_columns (columns_of table h))) (row_fault (key_columns (columns_of table h)) key)) _ (λ fits.
     good_attempts h l who table key Deletion (record {
       within = place_of_within name (table_names h) table there;
       fits = no-one (bad_values (key_columns (columns_of table h))) (row_fault (key_columns (columns_of table h)) key) fits;
-      quiet = quiet;
-      is_open = is_open;
+      quiet = quiet-reading h who may;
+      is_open = open-reading h who may;
     })))
-
-good_row_or_none : (h : History) (who : ℕ) (row : Option (List Val)) → Good h who (row_or_none row)
-good_row_or_none h who None = done
-good_row_or_none h who (Some row) = done
-
-good_get : (h : History) (who : ℕ) (name : List ℕ) (key : List Val) → Good h who (get (part_of h) (rows_in h) who name key)
-good_get h who name key =
+good_row_form h l who (Get name key) may =
     good_found h who (place_of name (table_names h)) (NoTable name) _ (λ table _.
     good_refused_by h who (option_map (bad_values (key_columns (columns_of table h))) (row_fault (key_columns (columns_of table h)) key)) _ (λ _.
     good_row_or_none h who ((rows_in h).key who table key).row))
-
-good_create_table : (h : History) (who : ℕ) (name : List ℕ) (columns : List Column) → Good h who (create_table (part_of h) name columns)
-good_create_table h who name columns =
-    good_test h who (is_some (place_of name (table_names h))) (TableExists name) _ (λ new.
-    good_test h who (nat_le 64 (length (table_names h))) (TooMany Tables) _ (λ _.
-    good_refused_by h who (option_map (schema_refusal columns) (schema_fault columns)) _ (λ _.
-    more (makes_table name columns (nothing (place_of name (table_names h)) new)) done)))
-
--- a statement that its session may make there
-pub good_row_form : (h : History) → Legal h → (who : ℕ) (stmt : RowStmt) → MayStand h who (where_of_row stmt) → Good h who (row_form (part_of h) (rows_in h) who stmt)
-good_row_form h l who (OpenDb name) may = good_open_db h who (has_open who h) refl
-good_row_form h l who Close may = good_close h who (block who h) refl (quiet-closing h who may)
-good_row_form h l who Cancel may = good_cancel h who (is_waiting who (waiting h))
-good_row_form h l who Begin may = good_begin h who (block who h) refl (open-beginning h who may)
-good_row_form h l who BeginRepeatableRead may = good_begin_repeatable_read h who (block who h) refl (open-beginning h who may)
-good_row_form h l who Commit may = good_commit h who (block who h)
-good_row_form h l who Rollback may = good_rollback h who (block who h)
-good_row_form h l who TxidCurrent may = good_txid_current h who (own_txid who h) refl
-good_row_form h l who TxidCurrentSnapshot may = done
-good_row_form h l who (TxidVisibleInSnapshot txid snapshot) may = good_found h who (parse_snapshot snapshot) BadSnapshot _ (λ s _. done)
-good_row_form h l who (CreateTable table columns) may = good_create_table h who table columns
-good_row_form h l who (Insert table row) may = good_insert h l who (quiet-reading h who may) (open-reading h who may) table row
-good_row_form h l who (Update table key sets) may = good_update h l who (quiet-reading h who may) (open-reading h who may) table key sets
-good_row_form h l who (Delete table key) may = good_delete h l who (quiet-reading h who may) (open-reading h who may) table key
-good_row_form h l who (Get table key) may = good_get h who table key
 good_row_form h l who (Scan table) may = good_found h who (place_of table (table_names h)) (NoTable table) _ (λ _ _. done)

@@ -1,5 +1,4 @@
 mod WorkedLines
-mod WorkedRowLines
 mod WorkedForms
 mod WorkedMoments
 pub mod WorkedScripts

@@ -107,8 +107,7 @@ own-last h l who table key = of (own_txid who h) refl
     of (Some t) is = (key_holds h l table key).own t (own-unended h l who t is)
 
 row-or : (own newest : Option Version) → row_of (option_or own newest) ≡ over (option_map Version.row own) (row_of newest)
-row-or None newest = refl
-row-or (Some v) newest = refl
+row-or own newest = grind arith
 
 -- the row at a place, with the own transaction's write on top, is what is read under the snapshot of the place
 read-at : (k h : History) → Since k h → Legal h → (who table : ℕ) (key : List Val)
@@ -156,12 +155,8 @@ unseen-is h l who table key =
     seen : (t : ℕ) → sees (place_of_sight (snapshot h) (sight_by snapshot (sight who h))) t ≡ has_ended (place h who) t
     seen t = ap (λ s. sees s t) (snapshot-place h who) ∙ sees-snapshot (place h who) (legal-since (place-since h who) l) t
 
-    mapped : (o : Option Version) → is_some (option_map Version.row o) ≡ is_some o
-    mapped None = refl
-    mapped (Some v) = refl
-
     own_is : has_written key (own_writes table (own_txid who h) h) ≡ is_some (own_version (own_txid who h) (kept h table key))
-    own_is = has_written-last_of key (own_writes table (own_txid who h) h) ∙ ap is_some (sym (own-last h l who table key)) ∙ mapped (own_version (own_txid who h) (kept h table key))
+    own_is = grind (arith, has_written-last_of key (own_writes table (own_txid who h) h), own-last h l who table key)
 
     by_commit : (o : Option ℕ) → last ≡ o → unless (has_committed (place h who)) last ≡ unless (has_ended (place h who)) last
     by_commit None is = ap (unless (has_committed (place h who))) is ∙ sym (ap (unless (has_ended (place h who))) is)

@@ -1,20 +1,17 @@
 -- A statement on rows, in its part of a database: from what the part keeps to the history, and to the whole database.
 use Rattle.std.proofs.Common.{◌≡◌, ℕ, ℤ, List, [], ◌∷◌, true, refl, ◌∙◌, ap, if◌then◌else◌}
 use Rattle.sky_model.specs.declared.stmt.Stmt.{Stmt}
-use Rattle.sky_model.specs.History.{Mark, ended, looked, queued, made, History}
+use Rattle.sky_model.specs.History.{Mark, ended, queued, made, History}
 use Rattle.sky_model.specs.State.{RowPart, part_of, after_part, after_part_marks, Database, after_mark}
 use Rattle.sky_model.specs.ShownRows.{rows_by}
-use Rattle.sky_model.specs.Allowed.{where_of}
 use Rattle.sky_model.specs.World.{World}
-use Rattle.sky_model.specs.Telling.{tells}
-use Rattle.sky_model.specs.Reader.{part_by_history, part_by_itself, database_by_itself, within_part, within_database, by_world, shown_by}
-use Rattle.sky_model.specs.Settling.{turn_of, marked}
-use Rattle.sky_model.specs.Calls.{form, making, statement, database_turn}
+use Rattle.sky_model.specs.Reader.{part_by_history, part_by_itself, database_by_itself, within_database, by_world}
+use Rattle.sky_model.specs.Settling.{marked}
+use Rattle.sky_model.specs.Calls.{database_turn}
 use Rattle.sky_model.proofs.Legal.{Fine, Legal, next}
 use Rattle.sky_model.proofs.Marks.{part_of-mark}
 use Rattle.sky_model.proofs.Good.{same-session}
-use Rattle.sky_model.proofs.MadeAt.{same-made_by}
-use Rattle.sky_model.proofs.Turns.{ReadAlike, same-with_settling, Any, each-any}
+use Rattle.sky_model.proofs.Turns.{ReadAlike, same-turn_read}
 use Rattle.sky_model.proofs.RowSights.{same-rows}
 
 -- a legal history reads as what the part keeps of it
@@ -40,27 +37,11 @@ part-behind d (ended who t true) = refl
 part-behind d (queued (made name)) = refl
 part-behind d _ = refl
 
--- within the world a statement is one of the database
-pub statement-within : (w : World) (d : ℕ) (now : ℤ) (who : ℕ) (stmt : Stmt) → statement (within_database by_world d) w now who stmt ≡ statement database_by_itself (w.database d) now who stmt
-statement-within w d now who stmt =
-    same-made_by (making (within_database by_world d) now who stmt) (making database_by_itself now who stmt) (where_of stmt) who w (w.database d) (record {
-      sessions = refl;
-      waiting = refl;
-      outcomes = refl;
-      sessions_behind = ap (λ b. (if b then after_mark (w.database d) (looked who) else w.database d).part.session who) (same-session d);
-      outcomes_behind = ap (λ b. form (if b then after_mark (w.database d) (looked who) else w.database d) (shown_by (if b then after_mark (w.database d) (looked who) else w.database d)) now who stmt) (same-session d);
-    })
-
-in-world : (d : ℕ) (now : ℤ) → ReadAlike (within_part (within_database by_world d) now) (within_part database_by_itself now) Any (λ w x. w.database d ≡ x)
-in-world d now = record {
-  parts = λ w x is. ap Database.part is;
-  rows = λ w x is. ap (λ (y : Database). rows_by y.part) is;
-  tells = λ w x is. λ i checked. tells (is i) now checked;
-  behind = λ w x mark is _. ap (λ b. if b then after_mark (w.database d) mark else w.database d) (same-session d) ∙ ap (λ y. after_mark y mark) is;
-}
-
--- the same with those that it lets go on
+-- within the world a statement, with what it lets go on, is one of the database
 pub turn-within : (w : World) (d : ℕ) (now : ℤ) (who : ℕ) (stmt : Stmt) → database_turn (within_database by_world d) w now who stmt ≡ database_turn database_by_itself (w.database d) now who stmt
 turn-within w d now who stmt =
-    same-with_settling (within_part (within_database by_world d) now) (within_part database_by_itself now) Any (λ v x. v.database d ≡ x) (in-world d now) w (w.database d) _ _ refl
-    (ap (turn_of who) (statement-within w d now who stmt)) (each-any (within_part (within_database by_world d) now) w _)
+    same-turn_read (within_database by_world d) database_by_itself (λ (v : World). v.database d) (record {
+      database = λ v. refl;
+      shown = λ v. refl;
+      behind = λ v mark. ap (λ b. if b then after_mark (v.database d) mark else v.database d) (same-session d);
+    }) w now who stmt

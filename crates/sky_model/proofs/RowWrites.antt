@@ -36,8 +36,7 @@ to_T : (b : Bool) → b ≡ true → T b
 to_T b h = subst T (sym h) tt
 
 turned : {A : Type 0} (b : Bool) (x y : A) → cond (not b) x y ≡ cond b y x
-turned true x y = refl
-turned false x y = refl
+turned b x y = grind arith
 
 at-removed : (q key : List Val) (rows : Entries (List Val)) → at q (removed key rows) ≡ cond (eq_by_cmp key_cmp q key) None (at q rows)
 at-removed q key rows =

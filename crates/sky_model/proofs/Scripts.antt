@@ -1,5 +1,5 @@
 -- What a script prints and where it is bad, a line at a time.
-use Rattle.std.proofs.Common.{◌≡◌, ℕ, ◌+◌, ◌<◌, ◌≤◌, true, false, List, [], ◌∷◌, ◌++◌, nat_lt, Some, option_map, length, ap, ◌∙◌, arith, if◌then◌else◌, length-append}
+use Rattle.std.proofs.Common.{◌≡◌, ℕ, ◌+◌, ◌<◌, ◌≤◌, List, [], ◌∷◌, ◌++◌, Some, option_map, length, ap, ◌∙◌, arith, if◌then◌else◌, length-append}
 use Rattle.std.specs.Str.{is_utf8}
 use Rattle.std.proofs.lemmas.Bool.Decides.{nat_tests}
 use Rattle.sky_model.specs.declared.line.Cause.{Cause}
@@ -65,15 +65,11 @@ transcript_from-unbroken past taken bytes unbroken = ap (λ (s : Split). text_fr
 
 unended-short : (rest : List ℕ) → 0 < length rest → length rest ≤ most_in_line → unended rest ≡ Some Truncated
 unended-short [] some fits = absurd (omega arith)
-unended-short (b ∷ rest) some fits =
-    let short : nat_lt most_in_line (length (b ∷ rest)) ≡ false = grind (arith, nat_tests) in
-    ap (λ long. Some (if long then TooLong else Truncated)) short
+unended-short (b ∷ rest) some fits = grind (arith, nat_tests)
 
 unended-long : (rest : List ℕ) → most_in_line < length rest → unended rest ≡ Some TooLong
 unended-long [] over = absurd (omega arith)
-unended-long (b ∷ rest) over =
-    let long : nat_lt most_in_line (length (b ∷ rest)) ≡ true = grind (arith, nat_tests) in
-    ap (λ is. Some (if is then TooLong else Truncated)) long
+unended-long (b ∷ rest) over = grind (arith, nat_tests)
 
 -- and are bad, if there are any
 pub stops_unended : (n taken : ℕ) (bytes : List ℕ) → IsUnbroken bytes → 0 < length bytes → length bytes ≤ most_in_line → StopsHere n taken Truncated bytes
@@ -84,27 +80,15 @@ stops_unended n taken bytes unbroken some fits = record {
 
 -- a line with too many bytes
 pub said-too_long : (taken : ℕ) (line : List ℕ) → most_in_line < length line → said taken line ≡ bad TooLong
-said-too_long taken line over =
-    let long : nat_lt most_in_line (length line) ≡ true = grind (arith, nat_tests) in
-    ap (λ is. if is then bad TooLong else if nat_lt most_in_script (taken + length line + 1) then bad ScriptTooLong else if is_utf8 line then said_by (line_of line) else bad NotUtf8) long
-
-said-short : (taken : ℕ) (line : List ℕ) → length line ≤ most_in_line
-    → said taken line ≡ (if nat_lt most_in_script (taken + length line + 1) then bad ScriptTooLong else if is_utf8 line then said_by (line_of line) else bad NotUtf8)
-said-short taken line fits =
-    let short : nat_lt most_in_line (length line) ≡ false = grind (arith, nat_tests) in
-    ap (λ is. if is then bad TooLong else if nat_lt most_in_script (taken + length line + 1) then bad ScriptTooLong else if is_utf8 line then said_by (line_of line) else bad NotUtf8) short
+said-too_long taken line over = grind (arith, nat_tests)
 
 -- one that ends behind too many
 pub said-too_late : (taken : ℕ) (line : List ℕ) → length line ≤ most_in_line → most_in_script < taken + length line + 1 → said taken line ≡ bad ScriptTooLong
-said-too_late taken line fits over =
-    let late : nat_lt most_in_script (taken + length line + 1) ≡ true = grind (arith, nat_tests) in
-    said-short taken line fits ∙ ap (λ is. if is then bad ScriptTooLong else if is_utf8 line then said_by (line_of line) else bad NotUtf8) late
+said-too_late taken line fits over = grind (arith, nat_tests)
 
 -- one that has room says what its words say
 pub said-fits : (taken : ℕ) (line : List ℕ) → length line ≤ most_in_line → taken + length line + 1 ≤ most_in_script → said taken line ≡ (if is_utf8 line then said_by (line_of line) else bad NotUtf8)
-said-fits taken line fits in_time =
-    let early : nat_lt most_in_script (taken + length line + 1) ≡ false = grind (arith, nat_tests) in
-    said-short taken line fits ∙ ap (λ is. if is then bad ScriptTooLong else if is_utf8 line then said_by (line_of line) else bad NotUtf8) early
+said-fits taken line fits in_time = grind (arith, nat_tests)
 
 stops_long : (n taken : ℕ) (bytes front : List ℕ) (lines : List (List ℕ)) (rest : List ℕ) → split bytes ≡ with_bytes front lines rest → most_in_line < length front → StopsHere n taken TooLong bytes
 stops_long n taken bytes front [] rest splits over = record {

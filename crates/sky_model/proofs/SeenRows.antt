@@ -1,5 +1,5 @@
 -- Where no writer is unseen, the row that a session is shown is the one that stands.
-use Rattle.std.proofs.Common.{◌≡◌, ℕ, ◌⊎◌, inl, inr, Bool, true, false, List, [], ◌∷◌, Option, Some, None, option_map, is_some, refl, sym, ◌∙◌, ap, subst, le_refl, if◌then◌else◌}
+use Rattle.std.proofs.Common.{◌≡◌, ℕ, ◌⊎◌, inl, inr, Bool, true, List, [], ◌∷◌, Option, Some, None, option_map, is_some, refl, sym, ◌∙◌, ap, subst, le_refl, if◌then◌else◌}
 use Rattle.std.specs.Option.{option_or}
 use Rattle.sky_val.specs.declared.val.Val.{Val}
 use Rattle.sky_val.specs.Entries.{at}
@@ -13,6 +13,8 @@ use Rattle.sky_model.specs.Rows.{own_writes, put_all, rows, unless}
 use Rattle.sky_model.specs.State.{part_of}
 use Rattle.sky_model.specs.ShownRows.{RowsShown, rows_in, rows_by, snapshot_now, snapshot_for}
 use Rattle.sky_model.proofs.Legal.{begins, Legal, next}
+use Rattle.std.proofs.lemmas.Bool.{false_from_ne_true}
+use Rattle.sky_model.proofs.Cases.{by_test}
 use Rattle.sky_model.proofs.Good.{same-session}
 use Rattle.sky_model.proofs.Snapshots.{sees-snapshot}
 use Rattle.sky_model.proofs.RowKeys.{begun}
@@ -25,19 +27,12 @@ newest-seen : (p q : ℕ → Bool) → ((t : ℕ) → q t ≡ true → p t ≡ t
     → unless q (option_map Version.txid (newest_from p a vs)) ≡ None → newest_from q b vs ≡ newest_from p a vs
 newest-seen p q within [] a b (inl same) none = same
 newest-seen p q within [] a b (inr unseen) none = absurd (unseen none)
-newest-seen p q within (v ∷ vs) a b so none = of (p v.txid) refl (q v.txid) refl none (newest-seen p q within vs)
-  where
-    of : (c : Bool) → p v.txid ≡ c → (d : Bool) → q v.txid ≡ d → unless q (option_map Version.txid (newest_from p (if c then Some v else a) vs)) ≡ None
-        → ((a b : Option Version) → (b ≡ a) ⊎ (unless q (option_map Version.txid a) ≡ None → ⊥)
-        → unless q (option_map Version.txid (newest_from p a vs)) ≡ None → newest_from q b vs ≡ newest_from p a vs)
-        → newest_from q (if d then Some v else b) vs ≡ newest_from p (if c then Some v else a) vs
-    of true isc true isd none ih = ih (Some v) (Some v) (inl refl) none
-    of true isc false isd none ih = ih (Some v) b (inr unseen) none
-      where
-        unseen : (if q v.txid then None else Some v.txid) ≡ None → ⊥
-        unseen e = cc (sym (ap (λ x. if x then None else Some v.txid) isd) ∙ e)
-    of false isc true isd none ih = absurd (cc (sym isc ∙ within v.txid isd))
-    of false isc false isd none ih = ih a b so none
+newest-seen p q within (v ∷ vs) a b so none =
+    newest-seen p q within vs (if p v.txid then Some v else a) (if q v.txid then Some v else b)
+    (by_test (λ c. ((if q v.txid then Some v else b) ≡ (if c then Some v else a)) ⊎ (unless q (option_map Version.txid (if c then Some v else a)) ≡ None → ⊥)) (p v.txid)
+    (λ isc. by_test (λ d. ((if d then Some v else b) ≡ Some v) ⊎ ((if d then None else Some v.txid) ≡ None → ⊥)) (q v.txid) (λ _. inl refl) (λ _. inr (λ e. absurd (cc))))
+    (λ isc. subst (λ d. ((if d then Some v else b) ≡ a) ⊎ (unless q (option_map Version.txid a) ≡ None → ⊥)) (sym (false_from_ne_true (q v.txid) (λ isd. cc (sym isc ∙ within v.txid isd)))) so))
+    none
 
 read-stands : (p q : ℕ → Bool) → ((t : ℕ) → q t ≡ true → p t ≡ true) → (own : Option Version) (vs : List Version)
     → (if is_some own then None else unless q (option_map Version.txid (newest_by p vs))) ≡ None → row_of (option_or own (newest_by q vs)) ≡ row_of (option_or own (newest_by p vs))

@@ -1,5 +1,5 @@
 -- A row that changes that fit have changed is one of the table under the same key, if it was one before.
-use Rattle.std.proofs.Common.{◌≡◌, ℕ, suc, ℤ, ◌+◌, Bool, true, false, not, List, [], ◌∷◌, Option, Some, None, Ok, Err, IfSome, length, bytes_eq, option_map, refl, sym, ◌∙◌, ap, subst, if◌then◌else◌, arith, find, ◌||◌, ◌&&◌, ◌==◌, ◌+ℤ◌}
+use Rattle.std.proofs.Common.{◌≡◌, ℕ, suc, ℤ, ◌+◌, Bool, true, false, List, [], ◌∷◌, Option, Some, None, Ok, Err, IfSome, length, bytes_eq, option_map, refl, sym, ◌∙◌, ap, subst, if◌then◌else◌, arith, find, ◌||◌, ◌==◌, ◌+ℤ◌}
 use Rattle.std.specs.List.{list_any}
 use Rattle.std.specs.Option.{option_or}
 use Rattle.sky_val.specs.declared.val.Val.{Val}
@@ -7,13 +7,11 @@ use Rattle.sky_val.specs.declared.val.Val.TheVariants as value
 use Rattle.sky_val.specs.declared.column.ColKind.{ColKind}
 use Rattle.sky_val.specs.declared.column.ColKind.TheVariants as kind
 use Rattle.sky_val.specs.declared.column.Column.{Column}
-use Rattle.sky_val.specs.declared.schema.RowFault.{RowFault}
 use Rattle.sky_val.specs.declared.schema.RowFault.TheVariants as fault
-use Rattle.sky_val.specs.Schemas.{is_null, is_of_kind, value_fault, values_fault, row_fault, key_columns, key_of}
+use Rattle.sky_val.specs.Schemas.{is_of_kind, value_fault, values_fault, row_fault, key_columns, key_of}
 use Rattle.sky_model.specs.declared.stmt.Change.{Change}
 use Rattle.sky_model.specs.declared.stmt.Change.TheVariants.{To, Add}
 use Rattle.sky_model.specs.declared.stmt.Set.{Set}
-use Rattle.sky_model.specs.declared.reply.BadRow as bad
 use Rattle.sky_model.specs.declared.reply.BadRow.TheVariants as badly
 use Rattle.sky_model.specs.declared.reply.Refusal.TheVariants.{OutOfRange}
 use Rattle.sky_model.specs.Outcome.{Checked, ◌>>=◌, found_or}
@@ -41,11 +39,9 @@ value-kind : (place : ℕ) (column : Column) (v : Val) → value_fault place col
 value-kind place column v e = grind arith
 
 value-fits : (place : ℕ) (column : Column) (w : Val) → is_of_kind column.kind w ≡ true → column.key ≡ false → value_fault place column w ≡ None
-value-fits place column w kind_is plain =
-    ap (λ b. if not b then Some (fault.Kind place) else if column.key && is_null w then Some (fault.NullKey place) else None) kind_is
-    ∙ ap (λ b. if b && is_null w then Some (fault.NullKey place) else None) plain
+value-fits place column w kind_is plain = grind arith
 
-first-none : (a b : Option RowFault) → option_or a b ≡ None → (a ≡ None) × (b ≡ None)
+first-none : {A : Type 0} (a b : Option A) → option_or a b ≡ None → (a ≡ None) × (b ≡ None)
 first-none None b e = (refl, e)
 first-none (Some x) b e = absurd (cc)
 
@@ -170,11 +166,5 @@ apart before set (Some column) e = grind arith
 pub changes-fit : (columns : List Column) (before : List (List ℕ)) (sets : List Set) → bad_sets columns before sets ≡ None → find (is_key_change columns) sets ≡ None → ChangesFit columns sets
 changes-fit columns before [] e none = tt
 changes-fit columns before (set ∷ sets) e none =
-    of (bad_set before set (column_called set.column columns)) refl e (is_key_change columns set) refl none (changes-fit columns (set.column ∷ before) sets)
-  where
-    of : (o : Option bad.BadRow) → bad_set before set (column_called set.column columns) ≡ o → option_or o (bad_sets columns (set.column ∷ before) sets) ≡ None
-        → (b : Bool) → is_key_change columns set ≡ b → (if b then Some set else find (is_key_change columns) sets) ≡ None
-        → (bad_sets columns (set.column ∷ before) sets ≡ None → find (is_key_change columns) sets ≡ None → ChangesFit columns sets) → ChangesFit columns (set ∷ sets)
-    of (Some x) is e b isb none ih = absurd (cc)
-    of None is e true isb none ih = absurd (cc)
-    of None is e false isb none ih = ((apart before set (column_called set.column columns) is, isb), ih e none)
+    let both = first-none (bad_set before set (column_called set.column columns)) (bad_sets columns (set.column ∷ before) sets) e in
+    ((apart before set (column_called set.column columns) both.0, grind arith), changes-fit columns (set.column ∷ before) sets both.1 (grind arith))

@@ -36,8 +36,9 @@ use Rattle.sky_model.specs.Reader.{Shown, PartReader}
 use Rattle.sky_model.specs.Gates.{Gate, gated}
 use Rattle.sky_model.specs.Settling.{Turn, turn_of, behind_marks, and_then, ready, attempted, resumed, goes_on, settles, settling}
 use Rattle.sky_model.specs.Calls.{row_form, form}
+use Rattle.std.proofs.lemmas.Bool.{cond_both}
 use Rattle.std.proofs.lemmas.Result.{IfOk-at_ok}
-use Rattle.sky_model.proofs.Cases.{ok-then}
+use Rattle.sky_model.proofs.Cases.{by_test, ok-then, by_block}
 use Rattle.sky_model.proofs.Good.{same-session}
 
 -- so it is where a test holds, and nothing is where it fails
@@ -166,11 +167,6 @@ kinds is_open _ = record no_more { queues = true }
 
 -- ---- what every session leaves
 
-by_block : (P : Block → Type 0) → P outside → P inside → P failed → (b : Block) → P b
-by_block P out within aborted outside = out
-by_block P out within aborted inside = within
-by_block P out within aborted failed = aborted
-
 left-written : (k : Kinds) (who t : ℕ) (s : Session) (marks : List Mark) → EachMark (may_leave k who) marks → EachMark (may_leave k who) (written who t s marks)
 left-written k who t s marks all = of s.txid (each-append (may_leave k who) marks (commit_of who t s.block) all (by_block (λ b. EachMark (may_leave k who) (commit_of who t b)) tt tt tt s.block))
   where
@@ -243,19 +239,13 @@ module _ (who : ℕ) where
   gives-close None _ = (tt, tt)
   gives-close (Some t) _ = (tt, tt)
 
-  gives-cancel : (txid : Option ℕ) (b : Block) (waits : Bool) → RowGives (row_kinds true Cancel) (cancel who txid b waits)
-  gives-cancel txid b false = (tt, tt)
-  gives-cancel txid b true = (tt, left-abort (row_kinds true Cancel) who b txid Canceled)
-
-  gives-open_db : (is_open : Bool) → RowGives (record no_more { moves = not is_open }) (open_db who is_open)
-  gives-open_db true = tt
-  gives-open_db false = (tt, tt)
-
   -- a statement on rows
   pub gives-row_form : (d : RowPart) (shown : RowsShown) (stmt : RowStmt) → RowGives (row_kinds (d.session who).is_open stmt) (row_form d shown who stmt)
-  gives-row_form d shown (OpenDb name) = gives-open_db (d.session who).is_open
+  gives-row_form d shown (OpenDb name) = by_test (λ b. RowGives (record no_more { moves = not b }) (open_db who b)) (d.session who).is_open (λ _. tt) (λ _. (tt, tt))
   gives-row_form d shown Close = gives-close (d.session who).txid (d.session who).block
-  gives-row_form d shown Cancel = gives-cancel (d.session who).txid (d.session who).block (is_waiting who d.waiting)
+  gives-row_form d shown Cancel =
+      by_test (λ b. RowGives (row_kinds true Cancel) (cancel who (d.session who).txid (d.session who).block b)) (is_waiting who d.waiting)
+      (λ _. (tt, left-abort (row_kinds true Cancel) who (d.session who).block (d.session who).txid Canceled)) (λ _. (tt, tt))
   gives-row_form d shown Begin = by_block (λ b. RowGives no_more (begin who b)) (tt, tt) (tt, tt) (tt, tt) (d.session who).block
   gives-row_form d shown BeginRepeatableRead = by_block (λ b. RowGives no_more (begin_repeatable_read who b)) (tt, tt) (tt, tt) (tt, tt) (d.session who).block
   gives-row_form d shown Commit =
@@ -376,16 +366,11 @@ module _ (R : Reply → Type 0) (p : Mark → Bool) (refuses : (refusal : Refusa
   pub given-runs : {P : Type 0} (m : Making P) (place : Where) (who : ℕ) (x : P) (may : Checked (Unit {0})) → Gives R p (m.outcome x) → Gives R p (m.outcome (m.behind x (looked who)))
       → Given R p (runs_if m place who x may)
   given-runs m place who x (Err refusal) here behind = given-settled who (m.session x) (Err refusal) tt
-  given-runs {P = P} m place who x (Ok _) here behind = of (takes_sight place (m.session x).sight)
-    where
-      y : P
-      y = m.behind x (looked who)
-
-      of : (b : Bool) → Given R p (if b then looking who (settled who (m.session y) (m.outcome y)) else settled who (m.session x) (m.outcome x))
-      of true =
-          let given : Given R p (settled who (m.session y) (m.outcome y)) = given-settled who (m.session y) (m.outcome y) behind in
-          (given.0, each-front p (looked who) (settled who (m.session y) (m.outcome y)).marks (plain who (looked who) refl) given.1)
-      of false = given-settled who (m.session x) (m.outcome x) here
+  given-runs {P = P} m place who x (Ok _) here behind =
+      let y : P = m.behind x (looked who) in
+      let given : Given R p (settled who (m.session y) (m.outcome y)) = given-settled who (m.session y) (m.outcome y) behind in
+      cond_both (takes_sight place (m.session x).sight) (looking who (settled who (m.session y) (m.outcome y))) (settled who (m.session x) (m.outcome x)) (Given R p)
+      (λ _. (given.0, each-front p (looked who) (settled who (m.session y) (m.outcome y)).marks (plain who (looked who) refl) given.1)) (λ _. given-settled who (m.session x) (m.outcome x) here)
 
 -- a place whose statements leave such marks still, once their writes are told of
 pub record KeepsMarks {P : Type 0} (p : Mark → Bool) (r : PartReader P) : Type 0 where

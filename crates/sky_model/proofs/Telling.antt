@@ -1,5 +1,5 @@
 -- A gate in front of the writes of a row part, and a whole database that is told of them, do the same.
-use Rattle.std.proofs.Common.{◌≡◌, ℕ, zero, suc, ℤ, ◌+◌, ◌^◌, Bool, true, false, nat_le, List, [], ◌∷◌, ◌++◌, Option, Some, None, Ok, Err, length, refl, sym, ap, subst, if◌then◌else◌, not, ◌&&◌, is_ok}
+use Rattle.std.proofs.Common.{◌≡◌, ℕ, zero, suc, ℤ, ◌+◌, ◌^◌, Bool, true, false, nat_le, List, [], ◌∷◌, ◌++◌, Option, Some, None, Ok, Err, MatchResult, length, refl, sym, ap, subst, if◌then◌else◌, not, ◌&&◌, is_ok}
 use Rattle.sky_val.specs.declared.val.Val.{Val}
 use Rattle.sky_keys.specs.Waits.{Waiting, is_waiting}
 use Rattle.sky_urlenc.specs.RowEvents.{RowEvent}
@@ -102,10 +102,7 @@ module _ {G : Type 0} (gate : Gate G) (now : ℤ) (related : Database → RowPar
 
   -- a gate takes a mark, and it is told of; or neither
   abbrev ToldMark : Database → RowPart → G → Mark → Bool → Checked (List Mark) → Type 0
-  ToldMark d p g mark true (Ok told) = Inserted [] told × related (after_marks d (mark ∷ told)) (after_part p mark) (passed gate g mark)
-  ToldMark d p g mark true (Err refusal) = ⊥
-  ToldMark d p g mark false (Ok told) = ⊥
-  ToldMark d p g mark false (Err refusal) = refusal ≡ EventIdsSpent
+  ToldMark d p g mark b x = MatchResult x (λ told. (b ≡ true) × Inserted [] told × related (after_marks d (mark ∷ told)) (after_part p mark) (passed gate g mark)) (λ refusal. (b ≡ false) × (refusal ≡ EventIdsSpent))
 
   told-mark : (mark : Mark) (marks : List Mark) → RowMarks (mark ∷ marks) → (d : Database) (p : RowPart) (g : G) → related d p g
       → ToldMark d p g mark (takes gate g mark) (told_of (after_mark d mark) now mark)
@@ -118,41 +115,37 @@ module _ {G : Type 0} (gate : Gate G) (now : ℤ) (related : Database → RowPar
       write = tabled (wrote (of_session who) t table key old new)
 
       of : (b : Bool) (x : Checked (List Mark)) → told_of (after_mark d write) now write ≡ x → b ≡ is_ok x → EventMarks x → ToldMark d p g write b x
-      of b (Ok told) same room only = subst (λ c. ToldMark d p g write c (Ok told)) (sym room) (only, alike.wrote d p g who t table key old new told is same)
-      of b (Err refusal) same room only = subst (λ c. ToldMark d p g write c (Err refusal)) (sym room) only
-  told-mark mark marks rows d p g is = (none, alike.other d p g mark tt is)
+      of b (Ok told) same room only = (room, only, alike.wrote d p g who t table key old new told is same)
+      of b (Err refusal) same room only = (room, only)
+  told-mark mark marks rows d p g is = (refl, none, alike.other d p g mark tt is)
 
   -- the same of marks
   abbrev ToldMarks : Database → RowPart → G → List Mark → Bool → Checked (List Mark) → Type 0
-  ToldMarks d p g marks true (Ok told) = Inserted marks told × related (after_marks d told) (after_part_marks p marks) (passed_all gate g marks)
-  ToldMarks d p g marks true (Err refusal) = ⊥
-  ToldMarks d p g marks false (Ok told) = ⊥
-  ToldMarks d p g marks false (Err refusal) = refusal ≡ EventIdsSpent
+  ToldMarks d p g marks b x = MatchResult x (λ told. (b ≡ true) × Inserted marks told × related (after_marks d told) (after_part_marks p marks) (passed_all gate g marks)) (λ refusal. (b ≡ false) × (refusal ≡ EventIdsSpent))
 
   told-marks : (marks : List Mark) → RowMarks marks → (d : Database) (p : RowPart) (g : G) → related d p g → ToldMarks d p g marks (takes_all gate g marks) (with_told d now marks)
-  told-marks [] rows d p g is = (none, is)
+  told-marks [] rows d p g is = (refl, none, is)
   told-marks (mark ∷ marks) rows d p g is =
       of (takes gate g mark) (told_of (after_mark d mark) now mark) (told-mark mark marks rows d p g is) (told-marks marks (each-rest is_of_rows mark marks rows))
     where
       joined : (told : List Mark) → Inserted [] told → (b : Bool) (x : Checked (List Mark)) → ToldMarks (after_marks d (mark ∷ told)) (after_part p mark) (passed gate g mark) marks b x
           → ToldMarks d p g (mark ∷ marks) b (x >>= (λ rest. Ok (mark ∷ told ++ rest)))
-      joined told only true (Ok rest) same = (
-        kept mark (inserted-append only same.0),
-        subst (λ e. related e (after_part_marks p (mark ∷ marks)) (passed_all gate g (mark ∷ marks))) (sym (after_marks-append (after_mark d mark) told rest)) same.1,
+      joined told only b (Ok rest) same = (
+        same.0,
+        kept mark (inserted-append only same.1),
+        subst (λ e. related e (after_part_marks p (mark ∷ marks)) (passed_all gate g (mark ∷ marks))) (sym (after_marks-append (after_mark d mark) told rest)) same.2,
       )
-      joined told only true (Err refusal) same = absurd same
-      joined told only false (Ok rest) same = absurd same
-      joined told only false (Err refusal) same = same
+      joined told only b (Err refusal) same = same
 
       of : (b : Bool) (x : Checked (List Mark)) → ToldMark d p g mark b x
           → ((e : Database) (q : RowPart) (k : G) → related e q k → ToldMarks e q k marks (takes_all gate k marks) (with_told e now marks))
           → ToldMarks d p g (mark ∷ marks) (b && takes_all gate (passed gate g mark) marks) (x >>= (λ told. with_told (after_marks d (mark ∷ told)) now marks >>= (λ rest. Ok (mark ∷ told ++ rest))))
-      of true (Ok told) same ih =
-          joined told same.0 (takes_all gate (passed gate g mark) marks) (with_told (after_marks d (mark ∷ told)) now marks)
-          (ih (after_marks d (mark ∷ told)) (after_part p mark) (passed gate g mark) same.1)
-      of true (Err refusal) same ih = absurd same
-      of false (Ok told) same ih = absurd same
-      of false (Err refusal) same ih = same
+      of b (Ok told) same ih =
+          let all : Bool = takes_all gate (passed gate g mark) marks in
+          let more = with_told (after_marks d (mark ∷ told)) now marks in
+          subst (λ c. ToldMarks d p g (mark ∷ marks) (c && all) (more >>= (λ rest. Ok (mark ∷ told ++ rest)))) (sym same.0)
+          (joined told same.1 all more (ih (after_marks d (mark ∷ told)) (after_part p mark) (passed gate g mark) same.2))
+      of b (Err refusal) same ih = (ap (λ c. c && takes_all gate (passed gate g mark) marks) same.0, same.1)
 
   -- ---- what a statement does
 
@@ -167,10 +160,8 @@ module _ {G : Type 0} (gate : Gate G) (now : ℤ) (related : Database → RowPar
   told-checked (Ok o) rows d p g is = of (takes_all gate g o.marks) (with_told d now o.marks) (told-marks o.marks rows.1 d p g is)
     where
       of : (b : Bool) (x : Checked (List Mark)) → ToldMarks d p g o.marks b x → SameChecked d p g (refused_if (not b) EventIdsSpent >> Ok o) (x >>= (λ marks. does_marks o.reply marks))
-      of true (Ok told) same = record { reply = refl; inserted = same.0; stands = same.1 }
-      of true (Err refusal) same = absurd same
-      of false (Ok told) same = absurd same
-      of false (Err refusal) same = same
+      of b (Ok told) same = subst (λ c. SameChecked d p g (refused_if (not c) EventIdsSpent >> Ok o) (does_marks o.reply told)) (sym same.0) (record { reply = refl; inserted = same.1; stands = same.2 })
+      of b (Err refusal) same = subst (λ c. SameChecked d p g (refused_if (not c) EventIdsSpent >> Ok o) (Err refusal)) (sym same.0) same.1
 
   told-settled : (who : ℕ) (s : Session) (c c' : Checked Outcome) (d : Database) (p : RowPart) (g : G) → related d p g → SameChecked d p g c c'
       → Outcomes d p g (settled who s c) (settled who s c')

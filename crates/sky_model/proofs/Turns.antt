@@ -1,15 +1,17 @@
 -- What is let go on is the same at places that read alike.
-use Rattle.std.proofs.Common.{◌≡◌, ℕ, suc, zero, List, [], ◌∷◌, ◌++◌, Option, Some, None, length, refl, ◌∙◌, ap}
+use Rattle.std.proofs.Common.{◌≡◌, ℕ, ℤ, suc, zero, List, [], ◌∷◌, ◌++◌, Option, Some, None, length, refl, ◌∙◌, ap}
 use Rattle.sky_keys.specs.Waits.{Waiting, is_waiting}
 use Rattle.sky_model.specs.declared.stmt.RowStmt.{RowStmt}
+use Rattle.sky_model.specs.declared.stmt.Stmt.{Stmt}
 use Rattle.sky_model.specs.History.{Mark, looked, tabled, waited}
-use Rattle.sky_model.specs.State.{RowPart}
+use Rattle.sky_model.specs.State.{RowPart, Database}
 use Rattle.sky_model.specs.Outcome.{settled}
-use Rattle.sky_model.specs.Allowed.{where_of_row}
+use Rattle.sky_model.specs.Allowed.{where_of_row, where_of}
 use Rattle.sky_model.specs.StepRows.{attempts}
-use Rattle.sky_model.specs.Reader.{PartReader}
+use Rattle.sky_model.specs.Telling.{tells}
+use Rattle.sky_model.specs.Reader.{PartReader, DatabaseReader, Shown, within_part}
 use Rattle.sky_model.specs.Settling.{Turn, turn_of, behind_marks, joined, and_then, ready, resumed, goes_on, settles, settling, with_settling}
-use Rattle.sky_model.specs.Calls.{row_form, row_making, row_statement, row_turn}
+use Rattle.sky_model.specs.Calls.{row_form, form, row_making, making, row_statement, row_turn, database_turn}
 use Rattle.sky_model.proofs.MadeAt.{same-made_by}
 
 -- marks come one after the other, each where it may
@@ -105,3 +107,27 @@ Any p mark = Unit {0}
 pub each-any : {P : Type 0} (r : PartReader P) (p : P) (marks : List Mark) → Each r Any p marks
 each-any r p [] = tt
 each-any r p (mark ∷ marks) = (tt, each-any r (r.behind p mark) marks)
+
+-- a database that is read as another one at a place of its own
+pub record ReadsAs {P Q : Type 0} (r : DatabaseReader P) (s : DatabaseReader Q) (at : P → Q) : Type 0 where
+  pub database : (p : P) → r.database p ≡ s.database (at p)
+  pub shown : (p : P) → r.shown p ≡ s.shown (at p)
+  pub behind : (p : P) (mark : Mark) → at (r.behind p mark) ≡ s.behind (at p) mark
+
+-- a statement does the same there, with what it lets go on
+pub same-turn_read : {P Q : Type 0} (r : DatabaseReader P) (s : DatabaseReader Q) (at : P → Q) → ReadsAs r s at → (p : P) (now : ℤ) (who : ℕ) (stmt : Stmt)
+    → database_turn r p now who stmt ≡ database_turn s (at p) now who stmt
+same-turn_read r s at reads p now who stmt =
+    same-with_settling (within_part r now) (within_part s now) Any (λ x y. at x ≡ y) (record {
+      parts = λ x y is. ap Database.part (reads.database x) ∙ ap (λ z. (s.database z).part) is;
+      rows = λ x y is. ap Shown.rows (reads.shown x) ∙ ap (λ z. (s.shown z).rows) is;
+      tells = λ x y is. λ i checked. tells ((reads.database x ∙ ap s.database is) i) now checked;
+      behind = λ x y mark is _. reads.behind x mark ∙ ap (λ z. s.behind z mark) is;
+    }) p (at p) _ _ refl
+    (ap (turn_of who) (same-made_by (making r now who stmt) (making s now who stmt) (where_of stmt) who p (at p) (record {
+      sessions = ap (λ (d : Database). d.part.session who) (reads.database p);
+      waiting = ap (λ (d : Database). is_waiting who d.part.waiting) (reads.database p);
+      outcomes = λ i. form (reads.database p i) (reads.shown p i) now who stmt;
+      sessions_behind = ap (λ (d : Database). d.part.session who) (reads.database (r.behind p (looked who)) ∙ ap s.database (reads.behind p (looked who)));
+      outcomes_behind = λ i. form ((reads.database (r.behind p (looked who)) ∙ ap s.database (reads.behind p (looked who))) i) ((reads.shown (r.behind p (looked who)) ∙ ap s.shown (reads.behind p (looked who))) i) now who stmt;
+    }))) (each-any (within_part r now) p _)

@@ -1,10 +1,8 @@
 -- A key is written by one running transaction at a time, so those that write it commit in the order in which they write it.
-use Rattle.std.proofs.Common.{◌≡◌, ◌≢◌, ℕ, List, [], ◌∷◌, ◌++◌, Bool, true, false, not, refl, sym, ◌∙◌, ap, arith, ◌||◌, ◌&&◌, ◌==◌, nat_lt, Option}
-use Rattle.std.proofs.lemmas.Bool.{true_from_ne_false, false_from_ne_true, or_parts, or_right, and_parts, eqb-true, cond_both}
-use Rattle.std.specs.Ordering.{eq_by_cmp}
+use Rattle.std.proofs.Common.{◌≡◌, ◌≢◌, ℕ, List, [], ◌∷◌, ◌++◌, Bool, true, false, refl, sym, ◌∙◌, ap, arith, ◌||◌, ◌&&◌, ◌==◌, nat_lt, Option}
+use Rattle.std.proofs.lemmas.Bool.{true_from_ne_false, false_from_ne_true, or_parts}
 use Rattle.std.proofs.lemmas.Bool.Decides.{nat_tests}
 use Rattle.sky_val.specs.declared.val.Val.{Val}
-use Rattle.sky_val.specs.Order.{key_cmp}
 use Rattle.sky_txid.specs.Ids.{contains}
 use Rattle.sky_keys.proofs.EntryLemmas.{key_ties-is}
 use Rattle.sky_model.specs.History.{Mark, Whose, ended, tabled, wrote, History}
@@ -17,7 +15,7 @@ use Rattle.sky_model.proofs.SnapshotLaws.{legal-below_mark, fine_mark, legal-bel
 use Rattle.sky_model.proofs.RowKeys.{committed-ended}
 use Rattle.sky_model.proofs.RowSights.{ended-behind}
 use Rattle.sky_model.proofs.Holders.{turned, has_written-push, nobody-else}
-use Rattle.sky_model.proofs.Cases.{by_test, by_same}
+use Rattle.sky_model.proofs.Cases.{by_same}
 
 -- ---- places in a list
 
@@ -28,10 +26,6 @@ apart t u other = false_from_ne_true (t == u) (λ is. other (grind (arith, nat_t
 is_before-push : (t u x : ℕ) (xs : List ℕ) → is_before t u (xs ++ x ∷ []) ≡ (is_before t u xs || (contains t xs && u == x))
 is_before-push t u x [] = grind arith
 is_before-push t u x (y ∷ ys) = grind (arith, contains-push u x ys, is_before-push t u x ys)
-
--- with another at the end
-is_before-other : (t u x : ℕ) (xs : List ℕ) → (u == x) ≡ false → is_before t u (xs ++ x ∷ []) ≡ is_before t u xs
-is_before-other t u x xs other = grind (arith, is_before-push t u x xs)
 
 -- who isn't in a list stands before nobody
 is_before-none : (t u : ℕ) (xs : List ℕ) → contains t xs ≡ false → is_before t u xs ≡ false
@@ -130,10 +124,6 @@ writer-late table key t (_ ∷ h) l e = writer-late table key t h (legal-below_m
 -- one that ends hadn't
 ender-unended : (h : History) (whose : Whose) (v : ℕ) (c : Bool) → Legal h → Fine h (ended whose v c) → has_ended h v ≡ false
 ender-unended h _ _ _ l (ends who v c mine) = own-unended h l who v mine
-
--- who has ended is another than who hasn't
-ended-other : (h : History) (u v : ℕ) → has_ended h u ≡ true → has_ended h v ≡ false → (u == v) ≡ false
-ended-other h u v over runs = false_from_ne_true (u == v) (λ is. cc (sym over ∙ ap (has_ended h) (eqb-true u v is) ∙ runs))
 
 -- who hasn't ended hasn't committed
 unended-unlisted : (h : History) (t : ℕ) → has_ended h t ≡ false → contains t (committed h) ≡ false

@@ -1,7 +1,7 @@
 -- Writes name the rows that stand, and what they leave are rows of their tables.
 use Rattle.std.proofs.Common.{◌≡◌, ℕ, ◌+◌, ◌<◌, Bool, true, false, List, [], ◌∷◌, ◌++◌, Option, Some, None, IfSome, length, refl, sym, ◌∙◌, ap, subst, arith, if◌then◌else◌, length-append, ◌&&◌, ◌==◌, All}
 use Rattle.std.specs.Ordering.{eq_by_cmp}
-use Rattle.std.proofs.lemmas.Bool.{cond_both}
+use Rattle.std.proofs.lemmas.Bool.{cond_both, and_parts, eqb-true}
 use Rattle.std.proofs.lemmas.Bool.Decides.{nat_tests}
 use Rattle.std.proofs.lemmas.List.Elements.{All-nil, All-cons, All-head, All-tail, All-weaker}
 use Rattle.sky_val.specs.declared.val.Val.{Val}
@@ -95,7 +95,8 @@ left-step h _ (makes_table name columns new) l all = left-same h (tabled (table_
         other : table < length (table_names h) → (length (table_names h) == table) ≡ false
         other below = grind (arith, nat_tests)
 left-step h _ (writes who t n at_key old new mine free stands) l all = λ table key.
-    subst (All (Left g table key)) (sym (kept-wrote h l who t n at_key old new mine free table key)) (of table key (n == table) refl (eq_by_cmp key_cmp key at_key) refl)
+    subst (All (Left g table key)) (sym (kept-wrote h l who t n at_key old new mine free table key))
+    (cond_both ((n == table) && eq_by_cmp key_cmp key at_key) (with_version t new (kept h table key)) (kept h table key) (All (Left g table key)) (there table key) (λ _. before table key))
   where
     g : History
     g = tabled (wrote (of_session who) t n at_key old new) ∷ h
@@ -106,14 +107,11 @@ left-step h _ (writes who t n at_key old new mine free stands) l all = λ table 
     written : Left g n at_key (record { txid = t; row = new })
     written = record { within = stands.within; fits = new-fits h all who n at_key old new stands }
 
-    of : (table : ℕ) (key : List Val) (b : Bool) → (n == table) ≡ b → (c : Bool) → eq_by_cmp key_cmp key at_key ≡ c
-        → All (Left g table key) (if b && c then with_version t new (kept h table key) else kept h table key)
-    of table key true here true tie =
-        let table_is : n ≡ table = grind (arith, nat_tests) in
+    there : (table : ℕ) (key : List Val) → ((n == table) && eq_by_cmp key_cmp key at_key) ≡ true → All (Left g table key) (with_version t new (kept h table key))
+    there table key is =
+        let both = and_parts (n == table) (eq_by_cmp key_cmp key at_key) is in
         all-with (Left g table key) t new (kept h table key) (before table key)
-        (subst (λ m. Left g m key (record { txid = t; row = new })) table_is (subst (λ k. Left g n k (record { txid = t; row = new })) (sym (key_ties-is key at_key tie)) written))
-    of table key true here false tie = before table key
-    of table key false there c tie = before table key
+        (subst (λ m. Left g m key (record { txid = t; row = new })) (eqb-true n table both.0) (subst (λ k. Left g n k (record { txid = t; row = new })) (sym (key_ties-is key at_key both.1)) written))
 left-step h _ (ends who t false mine) l all = λ table key.
     subst (All (Left (ended (of_session who) t false ∷ h) table key)) (sym (versions_at-forgotten t key (versions table h) (is_in_order-versions table h)))
     (all-without (Left (ended (of_session who) t false ∷ h) table key) t (kept h table key)
