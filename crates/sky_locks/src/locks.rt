@@ -1,4 +1,4 @@
-ghost use Rattle.std.specs.Prelude.{◌≡◌, ◌<◌, [], ◌∷◌, true, false, None, Some, length, is_some, option_map, vec_len, vec_capacity, IfOk, OnOk, OnErr};
+ghost use Rattle.std.specs.Prelude.{◌≡◌, ◌↔◌, ◌<◌, [], ◌∷◌, true, false, None, Some, length, is_some, option_map, vec_len, vec_capacity, IsTrue, IfOk, OnOk, OnErr};
 ghost use Rattle.sky_keys.specs.Waits.{is_waiting, entry_of, without, first_waiter, ready, other_holder, taken, given_back, released, way_back};
 ghost use Rattle.sky_locks.specs.Waiters.{entry};
 ghost use Rattle.sky_locks.specs.Freed.{is_waited, noted};
@@ -61,6 +61,13 @@ impl Locks {
         ensures { option_map (λ key. entry who key.now) result ≡ entry_of who self.now.waiting }
     {
         self.waiters.key(who)
+    }
+
+    /// Whether nobody waits.
+    pub fn is_at_rest(&self) -> bool
+        ensures { IsTrue result ↔ (self.now.waiting ≡ []) }
+    {
+        self.waiters.len() == 0
     }
 
     /// The first that waits for the key.

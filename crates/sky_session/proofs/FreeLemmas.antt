@@ -9,13 +9,15 @@ use Rattle.sky_model.specs.declared.stmt.Attempt.TheVariants.{Insertion}
 use Rattle.sky_model.specs.History.{Mark}
 use Rattle.sky_model.specs.State.{RowPart, after_part_marks}
 use Rattle.sky_model.specs.ShownRows.{KeyShown}
-use Rattle.sky_model.specs.Outcome.{Outcome, Checked, ◌>>=◌, ◌>>◌, refused_if, does_marks}
+use Rattle.sky_model.specs.Outcome.{Outcome, Checked, marks_of, ◌>>=◌, ◌>>◌, refused_if, does_marks}
 use Rattle.sky_model.specs.StepLocks.{once_free}
 use Rattle.sky_model.specs.StepRows.{is_seen, writes_key, changes, attempts}
-use Rattle.sky_model.specs.Gates.{Gate, gated}
+use Rattle.sky_model.specs.Gates.{Gate, passed_all, gated}
 use Rattle.sky_session.specs.declared.answer.RowStep.{RowStep}
 use Rattle.sky_session.specs.Effects.{with_effects}
-use Rattle.sky_session.specs.Gives.{Does}
+use Rattle.sky_session.specs.Gives.{Does, Writes}
+use Rattle.sky_state.specs.Views.{RowStateView}
+use Rattle.sky_state.specs.Seen.{seen}
 
 pub insert-free : {G : Type 0} (gate : Gate G) (g : G) (d : RowPart) (shown : KeyShown) (who table : ℕ) (key row made : List Val) → other_holder d.holder who table key ≡ None → is_some shown.standing ≡ false
     → made ≡ row → gated gate g (attempts d shown who table key (Insertion row)) ≡ gated gate g (writes_key d who table key None (Some made))
@@ -33,7 +35,11 @@ change-free gate g d shown who table key attempt new_of row old new is free sees
     ∙ ap (λ c. gated gate g (c >> (new_of old >>= (λ w. writes_key d who table key (Some old) w)))) sees
     ∙ ap (λ c. gated gate g (c >>= (λ w. writes_key d who table key (Some old) w))) made
 
-pub does-told : (d new : RowPart) (before after : RowStep) (who : ℕ) (checked : Checked Outcome) (reply : Reply) (marks : List Mark) → checked ≡ does_marks reply marks
-    → after.replies ≡ before.replies ++ (who, reply) ∷ [] → after.effects ≡ with_effects before.effects marks → new ≡ after_part_marks d marks → Does d new before after who checked
-does-told d new before after who checked reply marks is replied told changed =
-    subst (Does d new before after who) (sym is) (record { accepted = refl; replied = replied; told = told; changed = changed })
+-- it adds its answer, and its gate has been told of it
+pub writes-told : {G : Type 0} (gate : Gate G) (g g' : G) (old new : RowStateView) (before after : RowStep) (who : ℕ) (checked write : Checked Outcome) (reply : Reply) (marks : List Mark)
+    → gated gate g checked ≡ gated gate g write → gated gate g write ≡ does_marks reply marks → g' ≡ passed_all gate g (marks_of (gated gate g write))
+    → after.replies ≡ before.replies ++ (who, reply) ∷ [] → after.effects ≡ with_effects before.effects marks → seen new ≡ after_part_marks (seen old) marks → Writes gate (old, g) (new, g') before after who (Ok tt) checked
+writes-told gate g g' old new before after who checked write reply marks same is passed replied told changed = record {
+  ran = subst (Does (seen old) (seen new) before after who) (sym (same ∙ is)) (record { accepted = refl; replied = replied; told = told; changed = changed });
+  passes = passed ∙ ap (λ c. passed_all gate g (marks_of c)) (sym same);
+}

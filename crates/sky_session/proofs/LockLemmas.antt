@@ -1,23 +1,25 @@
 -- Writes that wait, and those that go on.
-use Rattle.std.proofs.Common.{◌≡◌, ℕ, ◌<◌, [], ◌∷◌, ◌++◌, true, Option, Some, None, length, refl, sym, ◌∙◌, ap, subst, append-nil}
+use Rattle.std.proofs.Common.{◌≡◌, ℕ, ◌<◌, [], ◌∷◌, ◌++◌, true, Option, Some, None, length, option_map, Err, List, refl, sym, ◌∙◌, ap, subst, append-nil}
 use Rattle.sky_keys.specs.Waits.{Waiting, is_waiting}
-use Rattle.sky_model.specs.declared.reply.Reply.TheVariants.{Refused}
-use Rattle.sky_model.specs.declared.reply.Refusal.TheVariants.{Canceled}
-use Rattle.sky_model.specs.History.{tabled, waited}
+use Rattle.sky_model.specs.declared.reply.Reply.TheVariants.{Refused, Waits}
+use Rattle.sky_model.specs.declared.reply.Refusal.TheVariants.{Canceled, Deadlock}
+use Rattle.sky_model.specs.History.{tabled, waits, waited}
 use Rattle.sky_model.specs.Sessions.{Block, outside, inside, failed}
 use Rattle.sky_model.specs.State.{RowPart, after_part, after_part_marks}
-use Rattle.sky_model.specs.Outcome.{abort}
+use Rattle.sky_model.specs.Outcome.{◌>>◌, refused_by, does_marks, abort}
+use Rattle.sky_model.specs.declared.stmt.Attempt.{Attempt}
+use Rattle.sky_val.specs.declared.val.Val.{Val}
+use Rattle.sky_model.specs.StepLocks.{ring, blocked}
 use Rattle.sky_model.specs.StepSession.{cancel}
 use Rattle.sky_model.specs.Reader.{PartReader, part_by_itself}
-use Rattle.sky_model.specs.Gates.{Gate, passed_all, by_gate}
-use Rattle.sky_model.specs.Settling.{Turn, turn_of, joined, behind_marks, ready, attempted, resumed, settling}
+use Rattle.sky_model.specs.Gates.{Gate, by_gate}
+use Rattle.sky_model.specs.Settling.{turn_of, ready, attempted, resumed, settling}
 use Rattle.sky_model.proofs.Resting.{gated-keeps, fewer-wait, settling-none, settling-some}
-use Rattle.sky_model.proofs.GatedLemmas.{gated-behind, passed-append}
 use Rattle.sky_session.specs.declared.answer.RowStep.{RowStep}
 use Rattle.sky_model.specs.SessionMarks.{failure}
 use Rattle.sky_session.specs.Effects.{with_effects}
 use Rattle.sky_session.specs.Gives.{Adds, Does}
-use Rattle.sky_session.proofs.Steps.{adds-behind}
+use Rattle.sky_session.proofs.Steps.{place-behind, adds-settled}
 
 -- a cancelled statement is refused
 pub failure-abort : (who : ℕ) (txid : Option ℕ) (b : Block) → failure who txid b ≡ abort who b txid Canceled
@@ -26,63 +28,42 @@ failure-abort who txid inside = refl
 failure-abort who txid failed = refl
 
 -- one that goes on adds its answer
-pub adds-resumed : {G : Type 0} (gate : Gate G) (g : G) (d mid new : RowPart) (before after : RowStep) (w : Waiting) → mid ≡ after_part d (tabled (waited w.who))
-    → Adds mid new before after (turn_of w.who (attempted (by_gate gate part_by_itself) w (d.attempt w.who) (mid, g))) → Adds d new before after (resumed (by_gate gate part_by_itself) (d, g) w)
+pub adds-resumed : {G : Type 0} (gate : Gate G) (g : G) (d mid : RowPart) (new : RowPart × G) (before after : RowStep) (w : Waiting) → mid ≡ after_part d (tabled (waited w.who))
+    → Adds gate (mid, g) new before after (turn_of w.who (attempted (by_gate gate part_by_itself) w (d.attempt w.who) (mid, g))) → Adds gate (d, g) new before after (resumed (by_gate gate part_by_itself) (d, g) w)
 adds-resumed gate g d mid new before after w left adds =
-    let here : Adds (after_part d (tabled (waited w.who))) new before after (turn_of w.who (attempted (by_gate gate part_by_itself) w (d.attempt w.who) (after_part d (tabled (waited w.who)), g)))
-    = subst (λ p. Adds p new before after (turn_of w.who (attempted (by_gate gate part_by_itself) w (d.attempt w.who) (p, g)))) left adds in
-    record { replied = here.replied; told = here.told; changed = here.changed }
-
--- the gate is told of what it does
-pub passed-resumed : {G : Type 0} (gate : Gate G) (g g' : G) (d mid : RowPart) (w : Waiting) → mid ≡ after_part d (tabled (waited w.who))
-    → g' ≡ passed_all gate g (attempted (by_gate gate part_by_itself) w (d.attempt w.who) (mid, g)).marks → g' ≡ passed_all gate g (resumed (by_gate gate part_by_itself) (d, g) w).marks
-passed-resumed gate g g' d mid w left told = told ∙ ap (λ p. passed_all gate g (attempted (by_gate gate part_by_itself) w (d.attempt w.who) (p, g)).marks) left
+    let here : Adds gate (after_part d (tabled (waited w.who)), g) new before after (turn_of w.who (attempted (by_gate gate part_by_itself) w (d.attempt w.who) (after_part d (tabled (waited w.who)), g)))
+    = subst (λ p. Adds gate (p, g) new before after (turn_of w.who (attempted (by_gate gate part_by_itself) w (d.attempt w.who) (p, g)))) left adds in
+    record { replied = here.replied; told = here.told; changed = here.changed; passed = here.passed }
 
 -- what is left to do, behind what was given, is the whole
-pub record Remains {G : Type 0} (gate : Gate G) (begun g : G) (first d : RowPart) (start step : RowStep) : Type 0 where
-  pub adds : (new : RowPart) (after : RowStep) → Adds d new step after (settling (by_gate gate part_by_itself) (d, g)) → Adds first new start after (settling (by_gate gate part_by_itself) (first, begun))
-  pub passed : passed_all gate g (settling (by_gate gate part_by_itself) (d, g)).marks ≡ passed_all gate begun (settling (by_gate gate part_by_itself) (first, begun)).marks
+abbrev pub Remains : {G : Type 0} → Gate G → (begun here : RowPart × G) → (start step : RowStep) → Type 0
+Remains {G} gate begun here start step = (new : RowPart × G) (after : RowStep) → Adds gate here new step after (settling (by_gate gate part_by_itself) here) → Adds gate begun new start after (settling (by_gate gate part_by_itself) begun)
 
-pub remains-resumed : {G : Type 0} (gate : Gate G) (begun g g' : G) (first d new : RowPart) (start before after : RowStep) (w : Waiting) → ready d ≡ Some w
-    → Adds d new before after (resumed (by_gate gate part_by_itself) (d, g) w) → g' ≡ passed_all gate g (resumed (by_gate gate part_by_itself) (d, g) w).marks
-    → Remains gate begun g first d start before → Remains gate begun g' first new start after
-remains-resumed {G} gate begun g g' first d new start before after w is adds told remains = record {
-  adds = λ last given rest. remains.adds last given (subst (Adds d last before given) (sym whole)
-      (adds-behind d new last before after given turn (settling reader (behind_marks reader (d, g) turn.marks)) adds (subst (λ p. Adds new last after given (settling reader p)) behind rest)));
-  passed = ap (λ p. passed_all gate g' (settling reader p).marks) behind
-      ∙ ap (λ x. passed_all gate x (settling reader (behind_marks reader (d, g) turn.marks)).marks) told
-      ∙ sym (passed-append gate g turn.marks (settling reader (behind_marks reader (d, g) turn.marks)).marks)
-      ∙ ap (λ (t : Turn). passed_all gate g t.marks) (sym whole) ∙ remains.passed;
-}
+pub remains-resumed : {G : Type 0} (gate : Gate G) (begun here mid : RowPart × G) (start before after : RowStep) (w : Waiting) → ready here.0 ≡ Some w
+    → Adds gate here mid before after (resumed (by_gate gate part_by_itself) here w) → Remains gate begun here start before → Remains gate begun mid start after
+remains-resumed {G} gate begun here mid start before after w is adds remains last given rest =
+    remains last given (subst (Adds gate here last before given) (sym (settling-some reader (gated-keeps gate) here w is))
+    (adds-settled gate here mid last before after given (resumed reader here w) adds rest))
   where
     reader : PartReader (RowPart × G)
     reader = by_gate gate part_by_itself
 
-    turn : Turn
-    turn = resumed reader (d, g) w
-
-    behind : (new, g') ≡ behind_marks reader (d, g) turn.marks
-    behind = (λ i. (adds.changed i, told i)) ∙ sym (gated-behind gate d g turn.marks)
-
-    whole : settling reader (d, g) ≡ joined turn (settling reader (behind_marks reader (d, g) turn.marks))
-    whole = settling-some reader (gated-keeps gate) (d, g) w is
-
-pub remains-done : {G : Type 0} (gate : Gate G) (begun g : G) (first d : RowPart) (start step : RowStep) → ready d ≡ None → Remains gate begun g first d start step
-    → Adds first d start step (settling (by_gate gate part_by_itself) (first, begun))
-remains-done gate begun g first d start step is remains =
-    remains.adds d step (subst (Adds d d step step) (sym (settling-none (by_gate gate part_by_itself) (gated-keeps gate) (d, g) is)) (record {
+pub remains-done : {G : Type 0} (gate : Gate G) (begun here : RowPart × G) (start step : RowStep) → ready here.0 ≡ None → Remains gate begun here start step
+    → Adds gate begun here start step (settling (by_gate gate part_by_itself) begun)
+remains-done gate begun here start step is remains =
+    remains here step (subst (Adds gate here here step step) (sym (settling-none (by_gate gate part_by_itself) (gated-keeps gate) here is)) (record {
       replied = sym (append-nil step.replies);
       told = ap (λ items. record step.effects { items = items }) (sym (append-nil step.effects.items));
       changed = refl;
+      passed = refl;
     }))
 
 -- each time fewer wait
-pub fewer-left : {G : Type 0} (gate : Gate G) (g : G) (d new : RowPart) (before after : RowStep) (w : Waiting) → ready d ≡ Some w → Adds d new before after (resumed (by_gate gate part_by_itself) (d, g) w)
-    → length new.waiting < length d.waiting
-fewer-left {G} gate g d new before after w is adds =
-    subst (λ (p : RowPart). length p.waiting < length d.waiting)
-    (sym (adds.changed ∙ ap (λ (p : RowPart × G). p.0) (sym (gated-behind gate d g (resumed (by_gate gate part_by_itself) (d, g) w).marks))))
-    (fewer-wait (by_gate gate part_by_itself) (gated-keeps gate) (d, g) w is)
+pub fewer-left : {G : Type 0} (gate : Gate G) (here mid : RowPart × G) (before after : RowStep) (w : Waiting) → ready here.0 ≡ Some w → Adds gate here mid before after (resumed (by_gate gate part_by_itself) here w)
+    → length mid.0.waiting < length here.0.waiting
+fewer-left {G} gate here mid before after w is adds =
+    subst (λ (p : RowPart × G). length p.0.waiting < length here.0.waiting) (sym (place-behind gate here mid before after (resumed (by_gate gate part_by_itself) here w) adds))
+    (fewer-wait (by_gate gate part_by_itself) (gated-keeps gate) here w is)
 
 -- a session that waits is cancelled
 pub does-cancel : (d mid new : RowPart) (before after : RowStep) (who : ℕ) → is_waiting who d.waiting ≡ true → mid ≡ after_part d (tabled (waited who))
@@ -100,3 +81,14 @@ does-cancel d mid new before after who busy left back replied told =
   where
     same : failure who (mid.session who).txid (mid.session who).block ≡ abort who (d.session who).block (d.session who).txid Canceled
     same = ap (λ (p : RowPart). failure who (p.session who).txid (p.session who).block) left ∙ failure-abort who (d.session who).txid (d.session who).block
+
+-- a session waits for the holder of a key
+pub does-wait : (d new : RowPart) (before after : RowStep) (who table : ℕ) (key : List Val) (attempt : Attempt) (holder : ℕ) → ring d who holder ≡ None → after.replies ≡ before.replies ++ (who, Waits holder) ∷ []
+    → after.effects ≡ with_effects before.effects [] → new ≡ after_part d (tabled (waits who table key attempt)) → Does d new before after who (blocked d who table key attempt holder)
+does-wait d new before after who table key attempt holder none replied told changed =
+    subst (λ r. Does d new before after who (refused_by (option_map Deadlock r) >> does_marks (Waits holder) (tabled (waits who table key attempt) ∷ []))) (sym none)
+    (record { accepted = refl; replied = replied; told = told; changed = changed })
+
+-- where it would wait for itself it is refused
+pub ring-refused : (d : RowPart) (who table : ℕ) (key : List Val) (attempt : Attempt) (holder : ℕ) (closed : List ℕ) → ring d who holder ≡ Some closed → blocked d who table key attempt holder ≡ Err (Deadlock closed)
+ring-refused d who table key attempt holder closed is = ap (λ r. refused_by (option_map Deadlock r) >> does_marks (Waits holder) (tabled (waits who table key attempt) ∷ [])) is

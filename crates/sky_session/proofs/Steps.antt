@@ -1,5 +1,5 @@
 -- What a step gives, part by part.
-use Rattle.std.proofs.Common.{◌≡◌, ℕ, List, [], ◌∷◌, ◌++◌, Bool, true, false, Option, Some, None, Result, Ok, Err, IfOk, OnOk, is_ok, refl, sym, ◌∙◌, ap, subst, append_assoc, eq-eqb, if◌then◌else◌}
+use Rattle.std.proofs.Common.{◌≡◌, ◌≢◌, ℕ, List, [], ◌∷◌, ◌++◌, Bool, true, false, Option, Some, None, Result, Ok, Err, IfOk, OnOk, refl, sym, ◌∙◌, ap, subst, append_assoc, append-nil, eq-eqb, if◌then◌else◌}
 use Rattle.sky_model.specs.declared.reply.Reply.TheVariants.{Number}
 use Rattle.sky_model.specs.declared.reply.Refusal.{Refusal}
 use Rattle.sky_model.specs.declared.stmt.RowStmt.{RowStmt}
@@ -7,7 +7,7 @@ use Rattle.sky_model.specs.declared.stmt.Where.{Where}
 use Rattle.sky_model.specs.declared.stmt.Where.TheVariants.{WhenReading}
 use Rattle.sky_urlenc.specs.RowEvents.{op_of}
 use Rattle.sky_keys.specs.Waits.{is_waiting}
-use Rattle.sky_model.specs.History.{Mark, began, ended, block_begun, repeats, looked, block_failed, block_ended, connected, disconnected, tabled, table_made, wrote, waits, waited, queued}
+use Rattle.sky_model.specs.History.{Mark, ended, looked, tabled, wrote}
 use Rattle.sky_model.specs.State.{RowPart, with_txid, after_part, after_part_marks}
 use Rattle.sky_model.specs.ShownRows.{rows_by}
 use Rattle.sky_model.specs.Outcome.{Outcome, Checked, ◌>>=◌, does_marks, settled}
@@ -16,7 +16,7 @@ use Rattle.sky_model.specs.Made.{Making, takes_sight, runs, looking, runs_if}
 use Rattle.sky_model.specs.OwnTransaction.{own_or_next, txid_for, begin_of, commit_of, written}
 use Rattle.sky_model.specs.StepSession.{txid_current}
 use Rattle.sky_model.specs.Reader.{part_by_itself}
-use Rattle.sky_model.specs.Gates.{Gate, passed_all, gated, by_gate}
+use Rattle.sky_model.specs.Gates.{Gate, passed_all, gated, by_gate, open_gate}
 use Rattle.sky_model.specs.Calls.{row_form, row_making, row_statement}
 use Rattle.sky_model.specs.Settling.{Turn, turn_of, joined, behind_marks, settling, with_settling}
 use Rattle.sky_model.proofs.GatedLemmas.{gated-behind, passed-append, passed-abort, passed-none, gated-none, PlainOutcome}
@@ -24,14 +24,15 @@ use Rattle.sky_session.specs.declared.answer.RowStep.{RowStep}
 use Rattle.sky_session.specs.declared.effect.Effect.TheVariants.{Wrote, Committed, Aborted}
 use Rattle.sky_session.specs.Effects.{EffectsView, effects_by, with_effects}
 use Rattle.sky_state.specs.Views.{RowStateView}
+use Rattle.sky_state.specs.Seen.{seen}
 use Rattle.sky_model.specs.declared.stop.Stop.{Stop}
 use Rattle.sky_model.specs.declared.stop.Stop.TheVariants as stop
 use Rattle.sky_model.specs.Sessions.{Block, outside, inside, failed, Session}
-use Rattle.sky_model.specs.SessionMarks.{look_of, sight_marks, failure, Enters, entry, entry_place}
-use Rattle.sky_model.specs.RowCalls.{row_entered}
+use Rattle.sky_model.specs.SessionMarks.{look_of, sight_marks, failure, failing, Enters, entry, entry_place}
+use Rattle.sky_model.specs.RowCalls.{RowCall, row_entered}
 use Rattle.sky_model.specs.RowSteps.{RowSteps}
 use Rattle.sky_model.proofs.RowCallStanding.{row_enter_from_exact}
-use Rattle.sky_session.specs.Gives.{GivesTurn, Adds, Does, Ran, Passes}
+use Rattle.sky_session.specs.Gives.{nothing, Adds, Settles, Gives, Does, Ran, Passes, Writes}
 use Rattle.sky_model.specs.Stops.{Refuses}
 use Rattle.sky_model.specs.Outcome.{marks_of}
 
@@ -43,22 +44,11 @@ after-append d (x ∷ xs) ys = after-append (after_part d x) xs ys
 -- the effects of two lists of marks, one after the other
 pub effects-append : (w : Bool) (xs ys : List Mark) → effects_by w (xs ++ ys) ≡ effects_by w xs ++ effects_by w ys
 effects-append w [] ys = refl
-effects-append w (began who t ∷ xs) ys = effects-append w xs ys
 effects-append w (ended who t true ∷ xs) ys = ap (λ es. Committed t ∷ es) (effects-append w xs ys)
 effects-append w (ended who t false ∷ xs) ys = ap (λ es. Aborted t ∷ es) (effects-append w xs ys)
-effects-append w (block_begun who ∷ xs) ys = effects-append w xs ys
-effects-append w (repeats who ∷ xs) ys = effects-append w xs ys
-effects-append w (looked who ∷ xs) ys = effects-append w xs ys
-effects-append w (block_failed who ∷ xs) ys = effects-append w xs ys
-effects-append w (block_ended who ∷ xs) ys = effects-append w xs ys
-effects-append w (connected who ∷ xs) ys = effects-append w xs ys
-effects-append w (disconnected who ∷ xs) ys = effects-append w xs ys
-effects-append w (tabled (table_made name columns) ∷ xs) ys = effects-append w xs ys
 effects-append true (tabled (wrote who t table key old new) ∷ xs) ys = ap (λ es. Wrote t table (op_of old new) old new ∷ es) (effects-append true xs ys)
 effects-append false (tabled (wrote who t table key old new) ∷ xs) ys = effects-append false xs ys
-effects-append w (tabled (waits who table key attempt) ∷ xs) ys = effects-append w xs ys
-effects-append w (tabled (waited who) ∷ xs) ys = effects-append w xs ys
-effects-append w (queued mark ∷ xs) ys = effects-append w xs ys
+effects-append w (mark ∷ xs) ys = effects-append w xs ys
 
 pub with-append : (e : EffectsView) (xs ys : List Mark) → with_effects (with_effects e xs) ys ≡ with_effects e (xs ++ ys)
 with-append e xs ys =
@@ -116,134 +106,102 @@ does-take d begun new before after who t is begin end replied told =
     blocks = ap (λ (p : RowPart). (p.session who).block) begin ∙ begun-block d who t (d.session who).txid
 
 -- a turn is added behind another
-pub adds-behind : (d mid new : RowPart) (before middle after : RowStep) (turn rest : Turn) → Adds d mid before middle turn → Adds mid new middle after rest → Adds d new before after (joined turn rest)
-adds-behind d mid new before middle after turn rest first second = record {
+pub adds-behind : {G : Type 0} (gate : Gate G) (old mid new : RowPart × G) (before middle after : RowStep) (turn rest : Turn) → Adds gate old mid before middle turn → Adds gate mid new middle after rest
+    → Adds gate old new before after (joined turn rest)
+adds-behind gate old mid new before middle after turn rest first second = record {
   replied = second.replied ∙ ap (λ rs. rs ++ rest.answers) first.replied ∙ append_assoc before.replies turn.answers rest.answers;
   told = second.told ∙ ap (λ e. with_effects e rest.marks) first.told ∙ with-append before.effects turn.marks rest.marks;
-  changed = second.changed ∙ ap (λ p. after_part_marks p rest.marks) first.changed ∙ sym (after-append d turn.marks rest.marks);
+  changed = second.changed ∙ ap (λ p. after_part_marks p rest.marks) first.changed ∙ sym (after-append old.0 turn.marks rest.marks);
+  passed = second.passed ∙ ap (λ g. passed_all gate g rest.marks) first.passed ∙ sym (passed-append gate old.1 turn.marks rest.marks);
 }
+
+-- the place behind a turn that was added
+pub place-behind : {G : Type 0} (gate : Gate G) (old mid : RowPart × G) (before middle : RowStep) (turn : Turn) → Adds gate old mid before middle turn → mid ≡ behind_marks (by_gate gate part_by_itself) old turn.marks
+place-behind gate old mid before middle turn adds = (λ i. (adds.changed i, adds.passed i)) ∙ sym (gated-behind gate old.0 old.1 turn.marks)
 
 -- and so are those that it lets go on
-pub adds-settled : {G : Type 0} (gate : Gate G) (g g' : G) (d mid new : RowPart) (before middle after : RowStep) (turn : Turn) → Adds d mid before middle turn → g' ≡ passed_all gate g turn.marks
-    → Adds mid new middle after (settling (by_gate gate part_by_itself) (mid, g')) → Adds d new before after (with_settling (by_gate gate part_by_itself) (d, g) turn)
-adds-settled gate g g' d mid new before middle after turn first told rest =
-    adds-behind d mid new before middle after turn _ first
-    (subst (λ p. Adds mid new middle after (settling (by_gate gate part_by_itself) p)) ((λ i. (first.changed i, told i)) ∙ sym (gated-behind gate d g turn.marks)) rest)
+pub adds-settled : {G : Type 0} (gate : Gate G) (old mid new : RowPart × G) (before middle after : RowStep) (turn : Turn) → Adds gate old mid before middle turn
+    → Adds gate mid new middle after (settling (by_gate gate part_by_itself) mid) → Adds gate old new before after (with_settling (by_gate gate part_by_itself) old turn)
+adds-settled gate old mid new before middle after turn first rest =
+    adds-behind gate old mid new before middle after turn _ first
+    (subst (λ p. Adds gate mid new middle after (settling (by_gate gate part_by_itself) p)) (place-behind gate old mid before middle turn first) rest)
 
--- and the gate has been told of both
-pub passed-settled : {G : Type 0} (gate : Gate G) (g g' last : G) (d mid : RowPart) (turn : Turn) → mid ≡ after_part_marks d turn.marks → g' ≡ passed_all gate g turn.marks
-    → last ≡ passed_all gate g' (settling (by_gate gate part_by_itself) (mid, g')).marks → last ≡ passed_all gate g (with_settling (by_gate gate part_by_itself) (d, g) turn).marks
-passed-settled gate g g' last d mid turn is told rest =
-    rest ∙ ap (λ p. passed_all gate g' (settling (by_gate gate part_by_itself) p).marks) ((λ i. (is i, told i)) ∙ sym (gated-behind gate d g turn.marks))
-    ∙ ap (λ x. passed_all gate x (settling (by_gate gate part_by_itself) (behind_marks (by_gate gate part_by_itself) (d, g) turn.marks)).marks) told
-    ∙ sym (passed-append gate g turn.marks (settling (by_gate gate part_by_itself) (behind_marks (by_gate gate part_by_itself) (d, g) turn.marks)).marks)
-
--- all that was added to nothing is given
-pub gives-all : (whole : Bool) (d new : RowPart) (before after : RowStep) (turn : Turn) → before.replies ≡ [] → before.effects ≡ record { whole = whole; items = [] } → Adds d new before after turn
-    → GivesTurn whole d new after turn
-gives-all whole d new before after turn none silent adds = record {
-  replied = adds.replied ∙ ap (λ rs. rs ++ turn.answers) none;
-  told = adds.told ∙ ap (λ e. with_effects e turn.marks) silent;
-  changed = adds.changed;
-}
-
--- what holds holds where nothing fails, and so does what follows from that
-pub on-ok : {A E P : Type 0} (r : Result A E) → P → OnOk r P
-on-ok (Ok a) p = p
-on-ok (Err e) p = tt
-
-pub on-ok-weaker : {A E P Q : Type 0} (r : Result A E) → (P → Q) → OnOk r P → OnOk r Q
-on-ok-weaker (Ok a) f p = f p
-on-ok-weaker (Err e) f p = tt
+-- all that was added to nothing is given, without a gate too
+pub gives-all : (old new : RowPart) (before after : RowStep) (call : RowCall) (turn told : Turn) → before ≡ nothing true → turn ≡ told → Settles open_gate (old, tt) (new, tt) before after call turn
+    → Gives old new after call told
+gives-all old new before after call turn told first same settles = subst (Gives old new after call) same (subst (λ b. Settles open_gate (old, tt) (new, tt) b after call turn) first settles)
 
 -- a statement may be made as far as its place in a block says, or not
 pub entered : (d mid : RowPart) (who : ℕ) (place there : Where) (found r : Option Refusal) → place ≡ there → found ≡ r → Enters d mid who place found → Enters d mid who there r
 entered d mid who place there found r same is enters = subst (λ p. Enters d mid who p r) same (subst (λ o. Enters d mid who place o) is enters)
 
--- a statement that its session may not make is refused
+-- a statement that its session may not make is refused, of which no gate is told
 pub adds-barred : {G : Type 0} (gate : Gate G) (g : G) (d mid new : RowPart) (before after : RowStep) (who : ℕ) (stmt : RowStmt) (refusal : Refusal) → allowed (is_waiting who d.waiting) (d.session who).is_open (d.session who).block (where_of_row stmt) ≡ Err refusal
-    → mid ≡ d → Adds mid new before after (turn_of who (settled who (mid.session who) (Err refusal))) → Adds d new before after (turn_of who (row_statement (by_gate gate part_by_itself) (d, g) who stmt))
-adds-barred gate g d mid new before after who stmt refusal is same adds =
-    subst (λ checked. Adds d new before after (turn_of who (runs_if (row_making (by_gate gate part_by_itself) who stmt) (where_of_row stmt) who (d, g) checked))) (sym is)
-    (subst (λ (p : RowPart). Adds p new before after (turn_of who (settled who (p.session who) (Err refusal)))) same adds)
+    → mid ≡ d → Does mid new before after who (Ok (settled who (mid.session who) (Err refusal))) → Adds gate (d, g) (new, g) before after (turn_of who (row_statement (by_gate gate part_by_itself) (d, g) who stmt))
+adds-barred gate g d mid new before after who stmt refusal is same does =
+    subst (λ checked. Adds gate (d, g) (new, g) before after (turn_of who (runs_if (row_making (by_gate gate part_by_itself) who stmt) (where_of_row stmt) who (d, g) checked))) (sym is)
+    (let here : Does d new before after who (Ok (settled who (d.session who) (Err refusal))) = subst (λ (p : RowPart). Does p new before after who (Ok (settled who (p.session who) (Err refusal)))) same does in
+    record { replied = here.replied; told = here.told; changed = here.changed; passed = sym (passed-abort gate g who (d.session who).block (d.session who).txid refusal) })
 
 -- one that is refused where it is run aborts its session's block
-pub adds-refused : (d mid new : RowPart) (before middle after : RowStep) (who : ℕ) (refusal : Refusal) (checked : Checked Outcome) → Refuses d mid refusal checked × (middle ≡ before)
-    → Adds mid new middle after (turn_of who (settled who (mid.session who) (Err refusal))) → Adds d new before after (turn_of who (settled who (d.session who) checked))
-adds-refused d mid new before middle after who refusal checked stops adds =
-    subst (λ o. Adds d new before after (turn_of who (settled who (d.session who) o))) (sym stops.0.refused)
-    (subst (λ (p : RowPart × RowStep). Adds p.0 new p.1 after (turn_of who (settled who (p.0.session who) (Err refusal)))) (λ i. (stops.0.same i, stops.1 i)) adds)
-
--- its gate is told of nothing
-pub passed-refused : {G : Type 0} (gate : Gate G) (g g' : G) (d mid : RowPart) (who : ℕ) (refusal : Refusal) (checked : Checked Outcome) → Refuses d mid refusal checked → g' ≡ g
-    → g' ≡ passed_all gate g (settled who (d.session who) checked).marks
-passed-refused gate g g' d mid who refusal checked refuses same =
-    same ∙ sym (ap (λ o. passed_all gate g (settled who (d.session who) o).marks) refuses.refused ∙ passed-abort gate g who (d.session who).block (d.session who).txid refusal)
-
--- nor where its session may not make it
-pub passed-barred : {G : Type 0} (gate : Gate G) (g : G) (d : RowPart) (who : ℕ) (stmt : RowStmt) (refusal : Refusal) → allowed (is_waiting who d.waiting) (d.session who).is_open (d.session who).block (where_of_row stmt) ≡ Err refusal
-    → g ≡ passed_all gate g (row_statement (by_gate gate part_by_itself) (d, g) who stmt).marks
-passed-barred gate g d who stmt refusal is =
-    sym (ap (λ checked. passed_all gate g (runs_if (row_making (by_gate gate part_by_itself) who stmt) (where_of_row stmt) who (d, g) checked).marks) is
-    ∙ passed-abort gate g who (d.session who).block (d.session who).txid refusal)
+pub does-refused : (d mid new : RowPart) (before middle after : RowStep) (who : ℕ) (refusal : Refusal) (checked : Checked Outcome) → Refuses d mid refusal checked × (middle ≡ before)
+    → Does mid new middle after who (Ok (settled who (mid.session who) (Err refusal))) → Does d new before after who (Ok (settled who (d.session who) checked))
+does-refused d mid new before middle after who refusal checked stops does =
+    subst (λ o. Does d new before after who (Ok (settled who (d.session who) o))) (sym stops.0.refused)
+    (subst (λ (p : RowPart × RowStep). Does p.0 new p.1 after who (Ok (settled who (p.0.session who) (Err refusal)))) (λ i. (stops.0.same i, stops.1 i)) does)
 
 -- and one that isn't refused does what its outcome says
-pub adds-done : (d new : RowPart) (before after : RowStep) (who : ℕ) (checked : Checked Outcome) → Does d new before after who checked → Adds d new before after (turn_of who (settled who (d.session who) checked))
-adds-done d new before after who (Ok outcome) does = record { replied = does.replied; told = does.told; changed = does.changed }
-adds-done d new before after who (Err refusal) does = absurd (cc)
+pub does-done : (d new : RowPart) (before after : RowStep) (who : ℕ) (checked : Checked Outcome) → Does d new before after who checked → Does d new before after who (Ok (settled who (d.session who) checked))
+does-done d new before after who (Ok outcome) does = does
+does-done d new before after who (Err refusal) does = absurd (cc)
 
--- of which its gate is told
-pub passed-done : {G : Type 0} (gate : Gate G) (g g' : G) (who : ℕ) (s : Session) (checked : Checked Outcome) → is_ok checked ≡ true → g' ≡ passed_all gate g (marks_of checked)
-    → g' ≡ passed_all gate g (settled who s checked).marks
-passed-done gate g g' who s (Ok outcome) accepted told = told
-passed-done gate g g' who s (Err refusal) accepted told = absurd (cc)
+-- its gate has been told of what it did, and of nothing where it was refused
+passed-run : {G : Type 0} (gate : Gate G) (g g' : G) (old new : RowStateView) (before after : RowStep) (who : ℕ) (s : Session) (ran : Result (Unit {0}) Stop) (checked : Checked Outcome)
+    → ran ≢ Err stop.NoMemory → Ran old new before after who ran checked → Passes gate g g' ran checked → g' ≡ passed_all gate g (settled who s checked).marks
+passed-run gate g g' old new before after who s (Ok _) (Ok outcome) memory does told = told
+passed-run gate g g' old new before after who s (Ok _) (Err refusal) memory does told = absurd (cc (Does.accepted does))
+passed-run gate g g' old new before after who s (Err (stop.Refused refusal)) checked memory stops same =
+    same ∙ sym (ap (λ o. passed_all gate g (settled who s o).marks) stops.0.refused ∙ passed-abort gate g who s.block s.txid refusal)
+passed-run gate g g' old new before after who s (Err stop.NoMemory) checked memory does told = absurd (memory refl)
+
+-- a statement that was run adds its answer, be it a refusal
+pub adds-run : {G : Type 0} (gate : Gate G) (g g' : G) (old mid : RowStateView) (new : RowPart) (before middle after : RowStep) (who : ℕ) (ran : Result (Unit {0}) Stop) (checked : Checked Outcome)
+    → Writes gate (old, g) (mid, g') before middle who ran checked → ran ≢ Err stop.NoMemory
+    → Does (seen old) new before after who (Ok (settled who ((seen old).session who) (gated gate g checked)))
+    → Adds gate (seen old, g) (new, g') before after (turn_of who (settled who ((seen old).session who) (gated gate g checked)))
+adds-run gate g g' old mid new before middle after who ran checked writes memory does = record {
+  replied = does.replied;
+  told = does.told;
+  changed = does.changed;
+  passed = passed-run gate g g' old mid before middle who ((seen old).session who) ran (gated gate g checked) memory writes.ran writes.passes;
+}
 
 -- a statement that is made where its sight was taken in front
-pub adds-made : {G : Type 0} (gate : Gate G) (g : G) (d mid new : RowPart) (before after : RowStep) (who : ℕ) (stmt : RowStmt) → allowed (is_waiting who d.waiting) (d.session who).is_open (d.session who).block (where_of_row stmt) ≡ Ok tt
-    → mid ≡ after_part_marks d (sight_marks d who (where_of_row stmt)) → Adds mid new before after (turn_of who (settled who (mid.session who) (gated gate g (row_form mid (rows_by mid) who stmt))))
-    → Adds d new before after (turn_of who (row_statement (by_gate gate part_by_itself) (d, g) who stmt))
+pub adds-made : {G : Type 0} (gate : Gate G) (g : G) (d mid : RowPart) (new : RowPart × G) (before after : RowStep) (who : ℕ) (stmt : RowStmt) → allowed (is_waiting who d.waiting) (d.session who).is_open (d.session who).block (where_of_row stmt) ≡ Ok tt
+    → mid ≡ after_part_marks d (sight_marks d who (where_of_row stmt)) → Adds gate (mid, g) new before after (turn_of who (settled who (mid.session who) (gated gate g (row_form mid (rows_by mid) who stmt))))
+    → Adds gate (d, g) new before after (turn_of who (row_statement (by_gate gate part_by_itself) (d, g) who stmt))
 adds-made {G} gate g d mid new before after who stmt is look adds =
-    subst (λ checked. Adds d new before after (turn_of who (runs_if making (where_of_row stmt) who (d, g) checked))) (sym is)
+    subst (λ checked. Adds gate (d, g) new before after (turn_of who (runs_if making (where_of_row stmt) who (d, g) checked))) (sym is)
     (by (takes_sight (where_of_row stmt) (d.session who).sight) look)
   where
     making : Making (RowPart × G)
     making = row_making (by_gate gate part_by_itself) who stmt
 
     there : RowPart → Type 0
-    there p = Adds p new before after (turn_of who (runs making who (p, g)))
+    there p = Adds gate (p, g) new before after (turn_of who (runs making who (p, g)))
 
     by : (b : Bool) → mid ≡ after_part_marks d (look_of who b)
-        → Adds d new before after (turn_of who (if b then looking who (runs making who (after_part d (looked who), g)) else runs making who (d, g)))
-    by true e = let behind : there (after_part d (looked who)) = subst there e adds in record { replied = behind.replied; told = behind.told; changed = behind.changed }
+        → Adds gate (d, g) new before after (turn_of who (if b then looking who (runs making who (after_part d (looked who), g)) else runs making who (d, g)))
+    by true e = let behind : there (after_part d (looked who)) = subst there e adds in record { replied = behind.replied; told = behind.told; changed = behind.changed; passed = behind.passed }
     by false e = subst there e adds
 
--- and its gate is told of what is done
-pub passed-made : {G : Type 0} (gate : Gate G) (g g' : G) (d mid : RowPart) (who : ℕ) (stmt : RowStmt) → allowed (is_waiting who d.waiting) (d.session who).is_open (d.session who).block (where_of_row stmt) ≡ Ok tt
-    → mid ≡ after_part_marks d (sight_marks d who (where_of_row stmt)) → g' ≡ passed_all gate g (settled who (mid.session who) (gated gate g (row_form mid (rows_by mid) who stmt))).marks
-    → g' ≡ passed_all gate g (row_statement (by_gate gate part_by_itself) (d, g) who stmt).marks
-passed-made {G} gate g g' d mid who stmt is look told =
-    subst (λ checked. g' ≡ passed_all gate g (runs_if making (where_of_row stmt) who (d, g) checked).marks) (sym is)
-    (by (takes_sight (where_of_row stmt) (d.session who).sight) look)
-  where
-    making : Making (RowPart × G)
-    making = row_making (by_gate gate part_by_itself) who stmt
-
-    there : RowPart → Type 0
-    there p = g' ≡ passed_all gate g (runs making who (p, g)).marks
-
-    by : (b : Bool) → mid ≡ after_part_marks d (look_of who b)
-        → g' ≡ passed_all gate g (if b then looking who (runs making who (after_part d (looked who), g)) else runs making who (d, g)).marks
-    by true e = subst there e told
-    by false e = subst there e told
-
--- what writes nothing is done as without the gate
-pub ran-plain : {G : Type 0} (gate : Gate G) (g : G) (old new : RowStateView) (before after : RowStep) (who : ℕ) (result : Result (Unit {0}) Stop) (checked : Checked Outcome) → PlainOutcome checked
-    → Ran old new before after who result checked → Ran old new before after who result (gated gate g checked)
-ran-plain gate g old new before after who result checked plain ran = subst (Ran old new before after who result) (sym (gated-none gate g checked plain)) ran
-
--- which is told of nothing
-pub passes-plain : {G : Type 0} (gate : Gate G) (g : G) (result : Result (Unit {0}) Stop) (checked : Checked Outcome) → PlainOutcome checked → Passes gate g g result (gated gate g checked)
-passes-plain gate g result checked plain = subst (Passes gate g g result) (sym (gated-none gate g checked plain)) (of result)
+-- what writes nothing is done as without the gate, which is told of nothing
+pub writes-plain : {G : Type 0} (gate : Gate G) (g : G) (old new : RowStateView) (before after : RowStep) (who : ℕ) (result : Result (Unit {0}) Stop) (checked : Checked Outcome) → PlainOutcome checked
+    → Ran old new before after who result checked → Writes gate (old, g) (new, g) before after who result checked
+writes-plain gate g old new before after who result checked plain ran = record {
+  ran = subst (Ran old new before after who result) (sym (gated-none gate g checked plain)) ran;
+  passes = subst (Passes gate g g result) (sym (gated-none gate g checked plain)) (of result);
+}
   where
     of : (r : Result (Unit {0}) Stop) → Passes gate g g r checked
     of (Ok _) = sym (passed-none gate g (marks_of checked) plain)
@@ -270,9 +228,14 @@ pub entered-steps : {E : Type 0} (old new : RowPart) (who : ℕ) (alone : Bool) 
 entered-steps old new who alone (Ok refusal) enters = row_enter_from_exact old new who alone refusal enters
 entered-steps old new who alone (Err e) enters = tt
 
--- no gate is told of a rollback
-pub passed-failing : {G : Type 0} (gate : Gate G) (g : G) (who : ℕ) (txid : Option ℕ) (b : Block) → passed_all gate g (failure who txid b) ≡ g
-passed-failing gate g who txid outside = refl
-passed-failing gate g who None inside = refl
-passed-failing gate g who (Some t) inside = refl
-passed-failing gate g who txid failed = refl
+-- a rollback is added, of which no gate is told
+pub adds-failing : {G : Type 0} (gate : Gate G) (g : G) (d new : RowPart) (before after : RowStep) (who : ℕ) → after.replies ≡ before.replies → after.effects ≡ with_effects before.effects (failing d who).marks
+    → new ≡ after_part_marks d (failing d who).marks → Adds gate (d, g) (new, g) before after (failing d who)
+adds-failing gate g d new before after who replied told changed =
+    record { replied = replied ∙ sym (append-nil before.replies); told = told; changed = changed; passed = sym (none (d.session who).txid (d.session who).block) }
+  where
+    none : (txid : Option ℕ) (b : Block) → passed_all gate g (failure who txid b) ≡ g
+    none txid outside = refl
+    none None inside = refl
+    none (Some t) inside = refl
+    none txid failed = refl

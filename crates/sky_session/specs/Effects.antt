@@ -18,13 +18,6 @@ effects_by whole (ended whose t true ∷ marks) = Committed t ∷ effects_by who
 effects_by whole (ended whose t false ∷ marks) = Aborted t ∷ effects_by whole marks
 effects_by whole (_ ∷ marks) = effects_by whole marks
 
--- all effects of marks, and those that are ends of transactions
-abbrev pub effects_of : List Mark → List Effect
-effects_of = effects_by true
-
-abbrev pub ends_of : List Mark → List Effect
-ends_of = effects_by false
-
 -- a list of effects with those of marks at its end
 abbrev pub with_effects : EffectsView → List Mark → EffectsView
 with_effects e marks = record e { items = e.items ++ effects_by e.whole marks }

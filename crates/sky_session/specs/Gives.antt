@@ -1,28 +1,39 @@
 -- What a method of the code gives, by what the database showed.
-use Rattle.std.specs.Prelude.{◌≡◌, ℕ, Bool, true, [], ◌∷◌, ◌++◌, Result, Ok, Err, is_ok}
+use Rattle.std.specs.Prelude.{◌≡◌, ℕ, Bool, true, [], ◌∷◌, ◌++◌, None, Result, Ok, Err, is_ok}
 use Rattle.sky_model.specs.State.{RowPart, after_part_marks}
 use Rattle.sky_model.specs.declared.stop.Stop.{Stop}
 use Rattle.sky_model.specs.Outcome.{Outcome, Checked, reply_of, marks_of}
 use Rattle.sky_model.specs.Stops.{Stops, Keeps}
-use Rattle.sky_model.specs.Gates.{Gate, passed_all}
-use Rattle.sky_model.specs.Settling.{Turn}
+use Rattle.sky_model.specs.Gates.{Gate, passed_all, gated, open_gate}
+use Rattle.sky_model.specs.Settling.{Turn, ready}
+use Rattle.sky_model.specs.RowCalls.{RowCall}
+use Rattle.sky_model.specs.RowSteps.{RowSteps}
 use Rattle.sky_session.specs.declared.answer.RowStep.{RowStep}
-use Rattle.sky_session.specs.Effects.{effects_by, with_effects}
+use Rattle.sky_session.specs.Effects.{with_effects}
 use Rattle.sky_state.specs.Views.{RowStateView}
 use Rattle.sky_state.specs.Seen.{seen}
 
--- a turn is added to what was given: its replies and effects stand at the end, and the database is then as after its marks
-pub record Adds (old new : RowPart) (before after : RowStep) (turn : Turn) : Type 0 where
+-- no answer and no effect, in a list of effects that is whole or not
+abbrev pub nothing : Bool → RowStep
+nothing whole = record { replies = []; effects = record { whole = whole; items = [] } }
+
+-- a turn is added to what was given: its replies and effects stand at the end, the part is then as after its marks, and the
+-- gate in front of its writes has been told of them
+pub record Adds {G : Type 0} (gate : Gate G) (old new : RowPart × G) (before after : RowStep) (turn : Turn) : Type 0 where
   pub replied : after.replies ≡ before.replies ++ turn.answers
   pub told : after.effects ≡ with_effects before.effects turn.marks
-  pub changed : new ≡ after_part_marks old turn.marks
+  pub changed : new.0 ≡ after_part_marks old.0 turn.marks
+  pub passed : new.1 ≡ passed_all gate old.1 turn.marks
 
--- the replies are the turn's, the effects are those of its marks, with the writes or without them, and the database is
--- then as after these
-pub record GivesTurn (whole : Bool) (old new : RowPart) (step : RowStep) (turn : Turn) : Type 0 where
-  pub replied : step.replies ≡ turn.answers
-  pub told : step.effects ≡ record { whole = whole; items = effects_by whole turn.marks }
-  pub changed : new ≡ after_part_marks old turn.marks
+-- a call adds its turn, leaves nobody who may go on, and keeps its promise
+pub record Settles {G : Type 0} (gate : Gate G) (old new : RowPart × G) (before after : RowStep) (call : RowCall) (turn : Turn) : Type 0 where
+  pub exact : Adds gate old new before after turn
+  pub rests : ready new.0 ≡ None
+  pub steps : RowSteps old.0 new.0 call turn
+
+-- the same with no gate, to nothing that was given before, with all effects
+abbrev pub Gives : RowPart → RowPart → RowStep → RowCall → Turn → Type 0
+Gives old new step call turn = Settles open_gate (old, tt) (new, tt) (nothing true) step call turn
 
 -- a statement isn't refused: its answer and its effects are added, and the database is then as after its marks
 pub record Does (old new : RowPart) (before after : RowStep) (who : ℕ) (checked : Checked Outcome) : Type 0 where
@@ -40,3 +51,8 @@ Ran old new before after who (Err stop) checked = Stops stop (seen old) (seen ne
 abbrev pub Passes : {G : Type 0} → Gate G → G → G → Result (Unit {0}) Stop → Checked Outcome → Type 0
 Passes gate old new (Ok _) checked = new ≡ passed_all gate old (marks_of checked)
 Passes gate old new (Err stop) checked = Keeps stop old new
+
+-- a statement was run behind a gate, which refuses what it has no room for, and has passed what was done
+pub record Writes {G : Type 0} (gate : Gate G) (old new : RowStateView × G) (before after : RowStep) (who : ℕ) (result : Result (Unit {0}) Stop) (checked : Checked Outcome) : Type 0 where
+  pub ran : Ran old.0 new.0 before after who result (gated gate old.1 checked)
+  pub passes : Passes gate old.1 new.1 result (gated gate old.1 checked)

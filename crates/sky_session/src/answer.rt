@@ -1,5 +1,6 @@
 ghost use Rattle.std.specs.Prelude.{◌≡◌, [], ◌∷◌, ◌++◌, true, false, OnOk};
 ghost use Rattle.sky_session.specs.Effects.{with_effects};
+ghost use Rattle.sky_session.specs.Gives.{nothing};
 
 use crate::effect::Effects;
 use sky_model::{Replies, Reply};
@@ -17,8 +18,7 @@ pub struct RowStep {
 impl RowStep {
     /// Nothing yet; all effects will stand in it. No memory is taken.
     pub fn whole(alloc: Global) -> RowStep
-        ensures replies { result.replies ≡ [] }
-        ensures effects { result.effects ≡ record { whole = true; items = [] } }
+        ensures { result ≡ nothing true }
     {
         RowStep {
             replies: Replies::new(alloc),
@@ -28,8 +28,7 @@ impl RowStep {
 
     /// Nothing yet; of the effects the ends of transactions alone will stand in it. No memory is taken.
     pub fn ends(alloc: Global) -> RowStep
-        ensures replies { result.replies ≡ [] }
-        ensures effects { result.effects ≡ record { whole = false; items = [] } }
+        ensures { result ≡ nothing false }
     {
         RowStep {
             replies: Replies::new(alloc),

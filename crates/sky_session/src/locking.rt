@@ -4,10 +4,9 @@ ghost use Rattle.std.specs.Prelude.{◌≡◌, ◌<◌, false, None, Some, lengt
 ghost use Rattle.sky_keys.specs.Waits.{other_holder, is_waiting};
 ghost use Rattle.sky_model.specs.declared.stmt.Attempt.TheVariants.{Insertion, Changes, Deletion};
 ghost use Rattle.sky_model.specs.ShownRows.{rows_by};
-ghost use Rattle.sky_model.specs.Gates.{gated};
 ghost use Rattle.sky_model.specs.StepLocks.{blocked};
 ghost use Rattle.sky_model.specs.StepRows.{attempts};
-ghost use Rattle.sky_session.specs.Gives.{Ran, Passes};
+ghost use Rattle.sky_session.specs.Gives.{Ran, Writes};
 ghost use Rattle.sky_state.specs.Seen.{seen};
 
 use crate::answer::RowStep;
@@ -49,8 +48,7 @@ pub fn insert_key<G: WriteGate>(
 ) -> Result<(), Stop>
     requires within { key.table < length (seen state.old).tables }
     requires awake { is_waiting who (seen state.old).waiting ≡ false }
-    ensures ran { Ran state.old state.new step.old step.new who result (gated G.rule gate.old (attempts (seen state.old) ((rows_by (seen state.old)).key who key.table key.key) who key.table key.key (Insertion row.now))) }
-    ensures passes { Passes G.rule gate.old gate.new result (gated G.rule gate.old (attempts (seen state.old) ((rows_by (seen state.old)).key who key.table key.key) who key.table key.key (Insertion row.now))) }
+    ensures { Writes G.rule (state.old, gate.old) (state.new, gate.new) step.old step.new who result (attempts (seen state.old) ((rows_by (seen state.old)).key who key.table key.key) who key.table key.key (Insertion row.now)) }
 {
     if let Some(holder) = state.other_holder(who, &key) {
         let attempt = Attempt::Insertion(row.copy(state.alloc())?);
@@ -61,15 +59,7 @@ pub fn insert_key<G: WriteGate>(
         return Err(Stop::Refused(Refusal::Duplicate));
     }
     let row = row.copy(state.alloc())?;
-    let txid = tell_write(
-        state,
-        who,
-        key.table,
-        None,
-        Some(&row),
-        gate,
-        &mut step.effects,
-    )?;
+    let txid = tell_write(state, who, &key, None, Some(&row), gate, &mut step.effects)?;
     Ok(write_key(state, who, txid, key, Some(row), step)?)
 }
 
@@ -84,8 +74,7 @@ pub fn change_key<G: WriteGate>(
 ) -> Result<(), Stop>
     requires within { key.table < length (seen state.old).tables }
     requires awake { is_waiting who (seen state.old).waiting ≡ false }
-    ensures ran { Ran state.old state.new step.old step.new who result (gated G.rule gate.old (attempts (seen state.old) ((rows_by (seen state.old)).key who key.table key.key) who key.table key.key (Changes sets.now))) }
-    ensures passes { Passes G.rule gate.old gate.new result (gated G.rule gate.old (attempts (seen state.old) ((rows_by (seen state.old)).key who key.table key.key) who key.table key.key (Changes sets.now))) }
+    ensures { Writes G.rule (state.old, gate.old) (state.new, gate.new) step.old step.new who result (attempts (seen state.old) ((rows_by (seen state.old)).key who key.table key.key) who key.table key.key (Changes sets.now)) }
 {
     let now = state.snapshot_now()?;
     let Some(old) = state.row_shown(who, key.table, &key.key, &now) else {
@@ -101,7 +90,7 @@ pub fn change_key<G: WriteGate>(
     let txid = tell_write(
         state,
         who,
-        key.table,
+        &key,
         Some(old),
         Some(&new),
         gate,
@@ -120,8 +109,7 @@ pub fn delete_key<G: WriteGate>(
 ) -> Result<(), Stop>
     requires within { key.table < length (seen state.old).tables }
     requires awake { is_waiting who (seen state.old).waiting ≡ false }
-    ensures ran { Ran state.old state.new step.old step.new who result (gated G.rule gate.old (attempts (seen state.old) ((rows_by (seen state.old)).key who key.table key.key) who key.table key.key Deletion)) }
-    ensures passes { Passes G.rule gate.old gate.new result (gated G.rule gate.old (attempts (seen state.old) ((rows_by (seen state.old)).key who key.table key.key) who key.table key.key Deletion)) }
+    ensures { Writes G.rule (state.old, gate.old) (state.new, gate.new) step.old step.new who result (attempts (seen state.old) ((rows_by (seen state.old)).key who key.table key.key) who key.table key.key Deletion) }
 {
     let now = state.snapshot_now()?;
     let Some(old) = state.row_shown(who, key.table, &key.key, &now) else {
@@ -131,15 +119,7 @@ pub fn delete_key<G: WriteGate>(
         return wait(state, who, &key, Attempt::Deletion, holder, step);
     }
     check_seen(state, who, key.table, &key.key, &now)?;
-    let txid = tell_write(
-        state,
-        who,
-        key.table,
-        Some(old),
-        None,
-        gate,
-        &mut step.effects,
-    )?;
+    let txid = tell_write(state, who, &key, Some(old), None, gate, &mut step.effects)?;
     Ok(write_key(state, who, txid, key, None, step)?)
 }
 
@@ -154,8 +134,7 @@ pub fn attempt_key<G: WriteGate>(
 ) -> Result<(), Stop>
     requires within { key.table < length (seen state.old).tables }
     requires awake { is_waiting who (seen state.old).waiting ≡ false }
-    ensures ran { Ran state.old state.new step.old step.new who result (gated G.rule gate.old (attempts (seen state.old) ((rows_by (seen state.old)).key who key.table key.key) who key.table key.key attempt.now)) }
-    ensures passes { Passes G.rule gate.old gate.new result (gated G.rule gate.old (attempts (seen state.old) ((rows_by (seen state.old)).key who key.table key.key) who key.table key.key attempt.now)) }
+    ensures { Writes G.rule (state.old, gate.old) (state.new, gate.new) step.old step.new who result (attempts (seen state.old) ((rows_by (seen state.old)).key who key.table key.key) who key.table key.key attempt.now) }
 {
     match attempt {
         Attempt::Insertion(row) => insert_key(state, who, key, row, gate, step),

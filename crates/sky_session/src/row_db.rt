@@ -1,4 +1,4 @@
-ghost use Rattle.std.specs.Prelude.{◌≡◌, ◌↔◌, ◌≢◌, [], true, false, None, Some, Ok, Err, IfOk, OnOk, OnErr, MatchOption, IsTrue, is_ok};
+ghost use Rattle.std.specs.Prelude.{◌≡◌, ◌↔◌, ◌≢◌, [], false, None, Some, Ok, Err, IfOk, OnOk, OnErr, MatchOption, IsTrue, is_ok};
 ghost use Rattle.sky_keys.specs.Waits.{is_waiting};
 ghost use Rattle.sky_names.specs.Places.{place_of};
 ghost use Rattle.sky_model.specs.declared.reply.Refusal.TheVariants.{TxidsSpent};
@@ -9,14 +9,14 @@ ghost use Rattle.sky_model.specs.ShownRows.{snapshot_now, snapshot_for, least_wr
 ghost use Rattle.sky_model.specs.OwnTransaction.{txid_for, begin_of};
 ghost use Rattle.sky_model.specs.SessionMarks.{Enters, entry, entry_place, failing, taking, ending};
 ghost use Rattle.sky_model.specs.Reader.{part_by_itself};
-ghost use Rattle.sky_model.specs.Gates.{by_gate, passed_all};
+ghost use Rattle.sky_model.specs.Gates.{by_gate};
 ghost use Rattle.sky_model.specs.Rooms.{any_room, room_of};
 ghost use Rattle.sky_model.specs.Calls.{row_turn};
 ghost use Rattle.sky_model.specs.RowCalls.{row_stepped, row_entered, row_failed, row_settled, rolled_back, txid_taken, single_ended};
 ghost use Rattle.sky_model.specs.RowSteps.{RowSteps};
-ghost use Rattle.sky_model.specs.Settling.{ready, settling, with_settling};
+ghost use Rattle.sky_model.specs.Settling.{settling, with_settling};
 ghost use Rattle.sky_session.specs.Effects.{with_effects};
-ghost use Rattle.sky_session.specs.Gives.{Adds, GivesTurn};
+ghost use Rattle.sky_session.specs.Gives.{Settles, Gives, nothing};
 ghost use Rattle.sky_state.specs.Seen.{seen};
 
 use crate::answer::RowStep;
@@ -118,9 +118,7 @@ impl RowDb {
     /// Runs a statement of a session that has this database open, and those that it lets go on.
     pub fn step(&mut self, who: SessionId, stmt: &RowStmt) -> Result<RowStep, NoMemory>
         requires { IsRowInForm stmt.now }
-        ensures exact { IfOk result (λ step. GivesTurn true (seen self.old) (seen self.new) step (row_turn part_by_itself (seen self.old) who stmt.now)) }
-        ensures rests { OnOk result (ready (seen self.new) ≡ None) }
-        ensures steps { OnOk result (RowSteps (seen self.old) (seen self.new) (row_stepped any_room who stmt.now) (row_turn part_by_itself (seen self.old) who stmt.now)) }
+        ensures { IfOk result (λ step. Gives (seen self.old) (seen self.new) step (row_stepped any_room who stmt.now) (row_turn part_by_itself (seen self.old) who stmt.now)) }
     {
         let mut gate = OpenGate;
         let mut step = RowStep::whole(self.state.alloc());
@@ -138,11 +136,8 @@ impl RowDb {
         gate: &mut G,
     ) -> Result<RowStep, NoMemory>
         requires { IsRowInForm stmt.now }
-        ensures exact { IfOk result (λ step. GivesTurn false (seen self.old) (seen self.new) step (row_turn (by_gate G.rule part_by_itself) (seen self.old, gate.old) who stmt.now)) }
-        ensures passed { OnOk result (gate.new ≡ passed_all G.rule gate.old (row_turn (by_gate G.rule part_by_itself) (seen self.old, gate.old) who stmt.now).marks) }
-        ensures rests { OnOk result (ready (seen self.new) ≡ None) }
-        ensures steps { OnOk result (RowSteps (seen self.old) (seen self.new) (row_stepped (room_of G.rule gate.old) who stmt.now)
-            (row_turn (by_gate G.rule part_by_itself) (seen self.old, gate.old) who stmt.now)) }
+        ensures { IfOk result (λ step. Settles G.rule (seen self.old, gate.old) (seen self.new, gate.new) (nothing false) step
+            (row_stepped (room_of G.rule gate.old) who stmt.now) (row_turn (by_gate G.rule part_by_itself) (seen self.old, gate.old) who stmt.now)) }
     {
         let mut step = RowStep::ends(self.state.alloc());
         self.step_into(who, stmt, gate, &mut step)?;
@@ -158,11 +153,8 @@ impl RowDb {
         step: &mut RowStep,
     ) -> Result<(), NoMemory>
         requires { IsRowInForm stmt.now }
-        ensures exact { OnOk result (Adds (seen self.old) (seen self.new) step.old step.new (row_turn (by_gate G.rule part_by_itself) (seen self.old, gate.old) who stmt.now)) }
-        ensures passed { OnOk result (gate.new ≡ passed_all G.rule gate.old (row_turn (by_gate G.rule part_by_itself) (seen self.old, gate.old) who stmt.now).marks) }
-        ensures rests { OnOk result (ready (seen self.new) ≡ None) }
-        ensures steps { OnOk result (RowSteps (seen self.old) (seen self.new) (row_stepped (room_of G.rule gate.old) who stmt.now)
-            (row_turn (by_gate G.rule part_by_itself) (seen self.old, gate.old) who stmt.now)) }
+        ensures { OnOk result (Settles G.rule (seen self.old, gate.old) (seen self.new, gate.new) step.old step.new
+            (row_stepped (room_of G.rule gate.old) who stmt.now) (row_turn (by_gate G.rule part_by_itself) (seen self.old, gate.old) who stmt.now)) }
     {
         own_answer(&mut self.state, who, stmt, gate, step)?;
         settle_behind(&mut self.state, gate, step)?;
@@ -172,10 +164,7 @@ impl RowDb {
     /// Rolls back the session's block, which stays aborted, and runs what this lets go on. Where it is in none, or that
     /// is aborted, nothing is rolled back.
     pub fn fail(&mut self, who: SessionId) -> Result<RowStep, NoMemory>
-        ensures gives { IfOk result (λ step. GivesTurn true (seen self.old) (seen self.new) step (with_settling part_by_itself (seen self.old) (failing (seen self.old) who))) }
-        ensures rests { OnOk result (ready (seen self.new) ≡ None) }
-        ensures steps { OnOk result (RowSteps (seen self.old) (seen self.new) (row_failed any_room who)
-            (with_settling part_by_itself (seen self.old) (failing (seen self.old) who))) }
+        ensures { IfOk result (λ step. Gives (seen self.old) (seen self.new) step (row_failed any_room who) (with_settling part_by_itself (seen self.old) (failing (seen self.old) who))) }
     {
         let mut gate = OpenGate;
         let mut step = RowStep::whole(self.state.alloc());
@@ -189,13 +178,8 @@ impl RowDb {
         who: SessionId,
         gate: &mut G,
     ) -> Result<RowStep, NoMemory>
-        ensures gives { IfOk result (λ step. GivesTurn false (seen self.old) (seen self.new) step
-            (with_settling (by_gate G.rule part_by_itself) (seen self.old, gate.old) (failing (seen self.old) who))) }
-        ensures passed { OnOk result (gate.new ≡ passed_all G.rule gate.old
-            (with_settling (by_gate G.rule part_by_itself) (seen self.old, gate.old) (failing (seen self.old) who)).marks) }
-        ensures rests { OnOk result (ready (seen self.new) ≡ None) }
-        ensures steps { OnOk result (RowSteps (seen self.old) (seen self.new) (row_failed (room_of G.rule gate.old) who)
-            (with_settling (by_gate G.rule part_by_itself) (seen self.old, gate.old) (failing (seen self.old) who))) }
+        ensures { IfOk result (λ step. Settles G.rule (seen self.old, gate.old) (seen self.new, gate.new) (nothing false) step
+            (row_failed (room_of G.rule gate.old) who) (with_settling (by_gate G.rule part_by_itself) (seen self.old, gate.old) (failing (seen self.old) who))) }
     {
         let mut step = RowStep::ends(self.state.alloc());
         self.fail_into(who, gate, &mut step)?;
@@ -208,13 +192,8 @@ impl RowDb {
         gate: &mut G,
         step: &mut RowStep,
     ) -> Result<(), NoMemory>
-        ensures gives { OnOk result (Adds (seen self.old) (seen self.new) step.old step.new
-            (with_settling (by_gate G.rule part_by_itself) (seen self.old, gate.old) (failing (seen self.old) who))) }
-        ensures passed { OnOk result (gate.new ≡ passed_all G.rule gate.old
-            (with_settling (by_gate G.rule part_by_itself) (seen self.old, gate.old) (failing (seen self.old) who)).marks) }
-        ensures rests { OnOk result (ready (seen self.new) ≡ None) }
-        ensures steps { OnOk result (RowSteps (seen self.old) (seen self.new) (row_failed (room_of G.rule gate.old) who)
-            (with_settling (by_gate G.rule part_by_itself) (seen self.old, gate.old) (failing (seen self.old) who))) }
+        ensures { OnOk result (Settles G.rule (seen self.old, gate.old) (seen self.new, gate.new) step.old step.new
+            (row_failed (room_of G.rule gate.old) who) (with_settling (by_gate G.rule part_by_itself) (seen self.old, gate.old) (failing (seen self.old) who))) }
     {
         abort_block(&mut self.state, who, &mut step.effects)?;
         settle_behind(&mut self.state, gate, step)?;
@@ -229,13 +208,18 @@ impl RowDb {
         gate: &mut G,
         step: &mut RowStep,
     ) -> Result<(), NoMemory>
-        ensures gives { OnOk result (Adds (seen self.old) (seen self.new) step.old step.new (settling (by_gate G.rule part_by_itself) (seen self.old, gate.old))) }
-        ensures passed { OnOk result (gate.new ≡ passed_all G.rule gate.old (settling (by_gate G.rule part_by_itself) (seen self.old, gate.old)).marks) }
-        ensures rests { OnOk result (ready (seen self.new) ≡ None) }
-        ensures steps { OnOk result (RowSteps (seen self.old) (seen self.new) (row_settled (room_of G.rule gate.old)) (settling (by_gate G.rule part_by_itself) (seen self.old, gate.old))) }
+        ensures { OnOk result (Settles G.rule (seen self.old, gate.old) (seen self.new, gate.new) step.old step.new
+            (row_settled (room_of G.rule gate.old)) (settling (by_gate G.rule part_by_itself) (seen self.old, gate.old))) }
     {
         settle_behind(&mut self.state, gate, step)?;
         Ok(())
+    }
+
+    /// Whether nobody waits. So nobody may go on either.
+    pub fn is_at_rest(&self) -> bool
+        ensures { IsTrue result ↔ ((seen self.now).waiting ≡ []) }
+    {
+        self.state.is_at_rest()
     }
 
     /// Whether the session's transaction has an id, or can get one.

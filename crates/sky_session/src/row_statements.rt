@@ -15,7 +15,7 @@ ghost use Rattle.sky_model.specs.Gates.{gated, passed_all};
 ghost use Rattle.sky_model.specs.History.{of_session, tabled, wrote};
 ghost use Rattle.sky_val.specs.declared.val.Val.{Val};
 ghost use Rattle.sky_session.specs.Effects.{EffectsView, with_effects};
-ghost use Rattle.sky_session.specs.Gives.{Ran, Passes};
+ghost use Rattle.sky_session.specs.Gives.{Ran, Writes};
 ghost use Rattle.sky_model.specs.Stops.{StopsAs, Keeps};
 ghost use Rattle.sky_state.specs.Seen.{seen};
 
@@ -117,27 +117,27 @@ fn add_write(
 pub fn tell_write<G: WriteGate>(
     state: &RowState,
     who: SessionId,
-    table: u32,
+    key: &LockKey,
     old: Option<&Row>,
     new: Option<&Row>,
     gate: &mut G,
     effects: &mut Effects,
 ) -> Result<u64, Stop>
     ensures id { IfOk result (λ txid. txid_for (seen state.now) who ≡ Ok txid) }
-    ensures does { (key : List Val) → IfOk result (λ txid. gated G.rule gate.old (writes_key (seen state.now) who table key (option_copied old.entry) (option_copied new.entry))
-        ≡ does_marks (Number 1) (written who txid ((seen state.now).session who) (tabled (wrote (of_session who) txid table key (option_copied old.entry) (option_copied new.entry)) ∷ []))) }
-    ensures told { (key : List Val) → IfOk result (λ txid. effects.new ≡ with_effects effects.old (tabled (wrote (of_session who) txid table key (option_copied old.entry) (option_copied new.entry)) ∷ [])) }
-    ensures passed { (key : List Val) → OnOk result (gate.new ≡ passed_all G.rule gate.old (marks_of (gated G.rule gate.old (writes_key (seen state.now) who table key (option_copied old.entry) (option_copied new.entry))))) }
-    ensures err { (key : List Val) → IfErr result (λ stop. StopsAs stop (gated G.rule gate.old (writes_key (seen state.now) who table key (option_copied old.entry) (option_copied new.entry)))) }
+    ensures does { IfOk result (λ txid. gated G.rule gate.old (writes_key (seen state.now) who key.now.table key.now.key (option_copied old.entry) (option_copied new.entry))
+        ≡ does_marks (Number 1) (written who txid ((seen state.now).session who) (tabled (wrote (of_session who) txid key.now.table key.now.key (option_copied old.entry) (option_copied new.entry)) ∷ []))) }
+    ensures told { IfOk result (λ txid. effects.new ≡ with_effects effects.old (tabled (wrote (of_session who) txid key.now.table key.now.key (option_copied old.entry) (option_copied new.entry)) ∷ [])) }
+    ensures passed { OnOk result (gate.new ≡ passed_all G.rule gate.old (marks_of (gated G.rule gate.old (writes_key (seen state.now) who key.now.table key.now.key (option_copied old.entry) (option_copied new.entry))))) }
+    ensures err { IfErr result (λ stop. StopsAs stop (gated G.rule gate.old (writes_key (seen state.now) who key.now.table key.now.key (option_copied old.entry) (option_copied new.entry)))) }
     ensures same { IfErr result (λ stop. Keeps stop gate.old gate.new × Keeps stop effects.old effects.new) }
 {
     let txid = txid_for(state, who)?;
     let op = op_of(old, new);
-    if !gate.room(table, op, old, new) {
+    if !gate.room(key.table, op, old, new) {
         return Err(Stop::Refused(Refusal::EventIdsSpent));
     }
-    gate.wrote(txid, table, op, old, new)?;
-    add_write(effects, state.alloc(), txid, table, op, old, new)?;
+    gate.wrote(txid, key.table, op, old, new)?;
+    add_write(effects, state.alloc(), txid, key.table, op, old, new)?;
     Ok(txid)
 }
 
@@ -197,8 +197,7 @@ pub fn insert<G: WriteGate>(
     step: &mut RowStep,
 ) -> Result<(), Stop>
     requires { is_waiting who (seen state.old).waiting ≡ false }
-    ensures ran { Ran state.old state.new step.old step.new who result (gated G.rule gate.old (insert (seen state.old) (rows_by (seen state.old)) who table.now row.now)) }
-    ensures passes { Passes G.rule gate.old gate.new result (gated G.rule gate.old (insert (seen state.old) (rows_by (seen state.old)) who table.now row.now)) }
+    ensures { Writes G.rule (state.old, gate.old) (state.new, gate.new) step.old step.new who result (insert (seen state.old) (rows_by (seen state.old)) who table.now row.now) }
 {
     let table = table_called(state, table)?;
     let schema = state.schema(table);
@@ -218,8 +217,7 @@ pub fn update<G: WriteGate>(
     step: &mut RowStep,
 ) -> Result<(), Stop>
     requires { is_waiting who (seen state.old).waiting ≡ false }
-    ensures ran { Ran state.old state.new step.old step.new who result (gated G.rule gate.old (update (seen state.old) (rows_by (seen state.old)) who table.now key.now sets.now)) }
-    ensures passes { Passes G.rule gate.old gate.new result (gated G.rule gate.old (update (seen state.old) (rows_by (seen state.old)) who table.now key.now sets.now)) }
+    ensures { Writes G.rule (state.old, gate.old) (state.new, gate.new) step.old step.new who result (update (seen state.old) (rows_by (seen state.old)) who table.now key.now sets.now) }
 {
     let table = table_called(state, table)?;
     let columns = state.schema(table).columns();
@@ -240,8 +238,7 @@ pub fn delete<G: WriteGate>(
     step: &mut RowStep,
 ) -> Result<(), Stop>
     requires { is_waiting who (seen state.old).waiting ≡ false }
-    ensures ran { Ran state.old state.new step.old step.new who result (gated G.rule gate.old (delete (seen state.old) (rows_by (seen state.old)) who table.now key.now)) }
-    ensures passes { Passes G.rule gate.old gate.new result (gated G.rule gate.old (delete (seen state.old) (rows_by (seen state.old)) who table.now key.now)) }
+    ensures { Writes G.rule (state.old, gate.old) (state.new, gate.new) step.old step.new who result (delete (seen state.old) (rows_by (seen state.old)) who table.now key.now) }
 {
     let table = table_called(state, table)?;
     key_fits(state.alloc(), state.schema(table).columns(), key)?;

@@ -1,22 +1,25 @@
 //! A statement of a session, and those on sessions and transactions. A refusal changes nothing in them: it is `refuse`
 //! that aborts the block that its session is in.
 
-ghost use Rattle.std.specs.Prelude.{◌≡◌, [], ◌∷◌, true, false, Err, OnOk};
+ghost use Rattle.std.specs.Prelude.{◌≡◌, ◌≢◌, [], ◌∷◌, true, false, Ok, Err, Result, OnOk};
 ghost use Rattle.sky_keys.specs.Waits.{is_waiting};
 ghost use Rattle.sky_model.specs.declared.stmt.Where.TheVariants.{WhenReading};
+ghost use Rattle.sky_model.specs.declared.stop.Stop.TheVariants.{NoMemory};
 ghost use Rattle.sky_model.specs.InForm.{IsRowInForm};
 ghost use Rattle.sky_model.specs.Allowed.{where_of_row};
 ghost use Rattle.sky_model.specs.Sessions.{outside};
 ghost use Rattle.sky_model.specs.State.{after_part_marks};
 ghost use Rattle.sky_model.specs.ShownRows.{rows_by};
-ghost use Rattle.sky_model.specs.Outcome.{settled};
+ghost use Rattle.sky_model.specs.Outcome.{Outcome, Checked, settled};
 ghost use Rattle.sky_model.specs.StepSession.{open_db, begin, begin_repeatable_read, commit, rollback, close, cancel, leaves, txid_current, txid_current_snapshot, txid_visible_in_snapshot};
 ghost use Rattle.sky_model.specs.Calls.{row_form, row_statement};
 ghost use Rattle.sky_model.specs.Reader.{part_by_itself};
 ghost use Rattle.sky_model.specs.Settling.{turn_of};
-ghost use Rattle.sky_model.specs.Gates.{gated, by_gate, passed_all};
+ghost use Rattle.sky_model.specs.Gates.{by_gate};
 ghost use Rattle.sky_session.specs.Effects.{with_effects};
-ghost use Rattle.sky_session.specs.Gives.{Adds, Ran, Passes};
+ghost use Rattle.sky_session.specs.Gives.{Adds, Does, Ran, Writes};
+ghost use Rattle.sky_session.specs.declared.answer.RowStep.{RowStep};
+ghost use Rattle.sky_state.specs.Views.{RowStateView};
 ghost use Rattle.sky_state.specs.Seen.{seen};
 
 use crate::answer::RowStep;
@@ -39,46 +42,46 @@ pub fn own_answer<G: WriteGate>(
     step: &mut RowStep,
 ) -> Result<(), NoMemory>
     requires { IsRowInForm stmt.now }
-    ensures adds { OnOk result (Adds (seen state.old) (seen state.new) step.old step.new (turn_of who (row_statement (by_gate G.rule part_by_itself) (seen state.old, gate.old) who stmt.now))) }
-    ensures passed { OnOk result (gate.new ≡ passed_all G.rule gate.old (row_statement (by_gate G.rule part_by_itself) (seen state.old, gate.old) who stmt.now).marks) }
+    ensures { OnOk result (Adds G.rule (seen state.old, gate.old) (seen state.new, gate.new) step.old step.new (turn_of who (row_statement (by_gate G.rule part_by_itself) (seen state.old, gate.old) who stmt.now))) }
 {
-    match admit(state, who, where_of(stmt))? {
-        Some(refusal) => refuse(state, who, refusal, step),
-        None => run(state, who, stmt, gate, step),
+    if let Some(refusal) = admit(state, who, where_of(stmt))? {
+        refuse(state, who, refusal, step)?;
+        return Ok(());
     }
+    let ran = run_form(state, who, stmt, gate, step);
+    or_refuse(state, who, ran, step)?;
+    Ok(())
 }
 
-/// Runs a statement that its session may make, which has taken its sight. A refusal is an answer too.
-fn run<G: WriteGate>(
+/// Answers with the refusal, where a statement that was run is refused.
+pub fn or_refuse(
     state: &mut RowState,
     who: SessionId,
-    stmt: &RowStmt,
-    gate: &mut G,
+    ran: Result<(), Stop>,
     step: &mut RowStep,
 ) -> Result<(), NoMemory>
-    requires form { IsRowInForm stmt.now }
-    requires admitted { where_of_row stmt.now ≡ WhenReading → is_waiting who (seen state.old).waiting ≡ false }
-    ensures adds { let outcome = settled who ((seen state.old).session who) (gated G.rule gate.old (row_form (seen state.old) (rows_by (seen state.old)) who stmt.now)) in
-        OnOk result (Adds (seen state.old) (seen state.new) step.old step.new (turn_of who outcome)) }
-    ensures passed { let outcome = settled who ((seen state.old).session who) (gated G.rule gate.old (row_form (seen state.old) (rows_by (seen state.old)) who stmt.now)) in
-        OnOk result (gate.new ≡ passed_all G.rule gate.old outcome.marks) }
+    ensures answered { (old : RowStateView) (before : RowStep) (checked : Checked Outcome) → Ran old state.old before step.old who ran checked
+        → OnOk result (Does (seen old) (seen state.new) before step.new who (Ok (settled who ((seen old).session who) checked))) }
+    ensures memory { OnOk result (ran ≢ Err NoMemory) }
 {
-    match run_form(state, who, stmt, gate, step) {
+    match ran {
         Ok(()) => Ok(()),
-        Err(Stop::Refused(refusal)) => refuse(state, who, refusal, step),
+        Err(Stop::Refused(refusal)) => {
+            refuse(state, who, refusal, step)?;
+            Ok(())
+        }
         Err(Stop::NoMemory) => Err(AllocError),
     }
 }
 
 /// Answers with a refusal, which aborts the block that its session is in.
-pub fn refuse(
+fn refuse(
     state: &mut RowState,
     who: SessionId,
     refusal: Refusal,
     step: &mut RowStep,
 ) -> Result<(), NoMemory>
-    ensures { let outcome = settled who ((seen state.old).session who) (Err refusal) in
-        OnOk result (Adds (seen state.old) (seen state.new) step.old step.new (turn_of who outcome)) }
+    ensures { OnOk result (Does (seen state.old) (seen state.new) step.old step.new who (Ok (settled who ((seen state.old).session who) (Err refusal)))) }
 {
     if refusal.aborts() {
         abort_block(state, who, &mut step.effects)?;
@@ -96,8 +99,7 @@ fn run_form<G: WriteGate>(
 ) -> Result<(), Stop>
     requires form { IsRowInForm stmt.now }
     requires admitted { where_of_row stmt.now ≡ WhenReading → is_waiting who (seen state.old).waiting ≡ false }
-    ensures ran { Ran state.old state.new step.old step.new who result (gated G.rule gate.old (row_form (seen state.old) (rows_by (seen state.old)) who stmt.now)) }
-    ensures passes { Passes G.rule gate.old gate.new result (gated G.rule gate.old (row_form (seen state.old) (rows_by (seen state.old)) who stmt.now)) }
+    ensures { Writes G.rule (state.old, gate.old) (state.new, gate.new) step.old step.new who result (row_form (seen state.old) (rows_by (seen state.old)) who stmt.now) }
 {
     match stmt {
         RowStmt::OpenDb { name: _ } => open_db(state, who, step),

@@ -1,31 +1,18 @@
 -- What a database shows in which nothing has happened.
-use Rattle.std.proofs.Common.{◌≡◌, ℕ, zero, suc, [], refl}
+use Rattle.std.proofs.Common.{◌≡◌, ℕ, [], get_or, arith}
+use Rattle.std.proofs.lemmas.List.{get_or_past}
 use Rattle.sky_model.specs.declared.stmt.Attempt.TheVariants.{Deletion}
-use Rattle.sky_model.specs.Sessions.{session}
 use Rattle.sky_model.specs.State.{part_of}
 use Rattle.sky_state.specs.Views.{no_rows}
-use Rattle.sky_state.specs.Seen.{session_of, table_of, attempt_of, seen}
+use Rattle.sky_state.specs.Seen.{seen_session, rest, no_table, seen}
 
 pub seen-no_rows : seen no_rows ≡ part_of []
 seen-no_rows = λ i. record (part_of []) {
-  session = λ who. resting who i;
-  columns = λ n. no_columns n i;
-  versions = λ n. no_versions n i;
-  attempt = λ who. nothing who i;
+  session = λ who. seen_session (none who rest i);
+  columns = λ n. (none n no_table i).columns;
+  versions = λ n. (none n no_table i).versions;
+  attempt = λ who. none who Deletion i;
 }
   where
-    resting : (who : ℕ) → session_of [] who ≡ session [] who
-    resting zero = refl
-    resting (suc who) = refl
-
-    nothing : (who : ℕ) → attempt_of [] who ≡ Deletion
-    nothing zero = refl
-    nothing (suc who) = refl
-
-    no_columns : (n : ℕ) → (table_of [] n).columns ≡ []
-    no_columns zero = refl
-    no_columns (suc n) = refl
-
-    no_versions : (n : ℕ) → (table_of [] n).versions ≡ []
-    no_versions zero = refl
-    no_versions (suc n) = refl
+    none : {A : Type 0} (n : ℕ) (d : A) → get_or [] n d ≡ d
+    none n d = get_or_past [] n d (omega arith)

@@ -1,6 +1,7 @@
 -- What sessions own stays so, mark by mark.
 use Rattle.std.proofs.Common.{◌≡◌, ℕ, ◌<◌, ◌≤◌, List, [], ◌∷◌, ◌++◌, Bool, true, false, not, is_none, ◌||◌, ◌&&◌, ◌==◌, filter, Some, None, unwrap_or, refl, sym, ◌∙◌, ap, subst, arith, if◌then◌else◌}
 use Rattle.std.proofs.lemmas.Bool.Decides.{nat_tests}
+use Rattle.std.proofs.lemmas.List.Elements.{All-nil, All-cons, All-head, All-tail, All-append, All-filter, All-weaker}
 use Rattle.sky_keys.specs.Waits.{Holders, Waiting, without, ready}
 use Rattle.sky_txid.specs.Ids.{contains}
 use Rattle.sky_txid.proofs.Rising.{contains-push, contains-without}
@@ -76,34 +77,30 @@ owned-more old new before after t is more owned = subst (λ s. AreOwned s after)
   once = owned.once;
 }))
 
+abbrev IsWithin : ℕ → Waiting → Type 0
+IsWithin tables w = w.table < tables
+
 -- what waits is within the tables, when nothing of both has changed
 pub within-kept : (tables more : ℕ) (ws vs : List Waiting) → more ≡ tables → vs ≡ ws → AreWithin tables ws → AreWithin more vs
 within-kept tables more ws vs same also within = subst (λ n. AreWithin n vs) (sym same) (subst (AreWithin tables) (sym also) within)
 
 -- when there are more tables
 pub within-more : (tables more : ℕ) (ws : List Waiting) → tables ≤ more → AreWithin tables ws → AreWithin more ws
-within-more tables more [] le within = tt
-within-more tables more (w ∷ ws) le within = (omega (arith, le, within.0), within-more tables more ws le within.1)
+within-more tables more ws le within = All-weaker (IsWithin tables) (IsWithin more) (λ w lt. omega (arith, lt, le)) ws within
 
 -- when one more waits
 pub within-push : (tables : ℕ) (ws : List Waiting) (w : Waiting) → w.table < tables → AreWithin tables ws → AreWithin tables (ws ++ w ∷ [])
-within-push tables [] w lt within = (lt, tt)
-within-push tables (x ∷ ws) w lt within = (within.0, within-push tables ws w lt within.1)
+within-push tables ws w lt within = All-append (IsWithin tables) ws (w ∷ []) within (All-cons (IsWithin tables) w [] lt (All-nil (IsWithin tables)))
 
 -- when a session waits no longer
 pub within-without : (tables who : ℕ) (ws : List Waiting) → AreWithin tables ws → AreWithin tables (without who ws)
-within-without tables who [] within = tt
-within-without tables who (w ∷ ws) within = of (w.who == who) (within-without tables who ws within.1)
-  where
-    of : (b : Bool) → AreWithin tables (without who ws) → AreWithin tables (if not b then w ∷ without who ws else without who ws)
-    of true rest = rest
-    of false rest = (within.0, rest)
+within-without tables who ws within = All-filter (λ (w : Waiting). not (w.who == who)) (IsWithin tables) ws within
 
 -- one that may go on is within them
 pub within-ready : (tables : ℕ) (holder : Holders) (ws : List Waiting) (w : Waiting) → AreWithin tables ws → ready holder ws ≡ Some w → w.table < tables
 within-ready tables holder [] w within e = absurd (cc)
-within-ready tables holder (x ∷ ws) w within e = of (is_none (holder x.table x.key)) e (within-ready tables holder ws w within.1)
+within-ready tables holder (x ∷ ws) w within e = of (is_none (holder x.table x.key)) e (within-ready tables holder ws w (All-tail (IsWithin tables) x ws within))
   where
     of : (b : Bool) → (if b then Some x else ready holder ws) ≡ Some w → (ready holder ws ≡ Some w → w.table < tables) → w.table < tables
-    of true e ih = (let one : x ≡ w = cc in subst (λ (y : Waiting). y.table < tables) one within.0)
+    of true e ih = (let one : x ≡ w = cc in subst (IsWithin tables) one (All-head (IsWithin tables) x ws within))
     of false e ih = ih e

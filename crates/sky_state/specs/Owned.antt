@@ -1,5 +1,5 @@
 -- What the sessions of a database own, and wait for.
-use Rattle.std.specs.Prelude.{◌≡◌, ◌<◌, ℕ, List, [], ◌∷◌, true, Some}
+use Rattle.std.specs.Prelude.{◌≡◌, ◌<◌, ℕ, List, true, Some, All}
 use Rattle.sky_keys.specs.Waits.{Waiting}
 use Rattle.sky_txid.specs.Ids.{contains}
 use Rattle.sky_model.specs.Sessions.{Session}
@@ -11,5 +11,4 @@ pub record AreOwned (session : ℕ → Session) (running : List ℕ) : Type 0 wh
 
 -- each session that waits does so for a key of one of the tables, which are so many
 abbrev pub AreWithin : ℕ → List Waiting → Type 0
-AreWithin tables [] = Unit {0}
-AreWithin tables (w ∷ ws) = (w.table < tables) × AreWithin tables ws
+AreWithin tables waiting = All (λ w. w.table < tables) waiting

@@ -1,6 +1,6 @@
 //! Which sessions hold keys, which wait for one, and that a session begins to wait.
 
-ghost use Rattle.std.specs.Prelude.{◌≡◌, ◌<◌, ℕ, false, true, IfOk, IfNone, IfSome, Some, is_some, length, option_map};
+ghost use Rattle.std.specs.Prelude.{◌≡◌, ◌↔◌, ◌<◌, ℕ, [], false, true, IsTrue, IfOk, IfNone, IfSome, Some, is_some, length, option_map};
 ghost use Rattle.sky_keys.specs.Waits.{other_holder, is_waiting};
 ghost use Rattle.sky_locks.specs.Locks.{entry};
 ghost use Rattle.sky_model.specs.History.{tabled, waits};
@@ -31,6 +31,13 @@ impl RowState {
         ensures { result ≡ is_waiting who (seen self.now).waiting }
     {
         self.locks.waits_on(who).is_some()
+    }
+
+    /// Whether nobody waits.
+    pub fn is_at_rest(&self) -> bool
+        ensures { IsTrue result ↔ ((seen self.now).waiting ≡ []) }
+    {
+        self.locks.is_at_rest()
     }
 
     /// The first session whose statement may go on, with the key for which it waits.

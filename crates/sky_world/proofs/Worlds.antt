@@ -2,10 +2,11 @@
 use Rattle.std.proofs.Common.{◌≡◌, ℕ, suc, zero, ◌+◌, ◌<◌, ◌≤◌, List, [], ◌∷◌, ◌++◌, Bool, true, false, ◌==◌, nat_le, Option, Some, None, map, length, append-nil, length-append, get_or, slice_set, get_or-set_same, get_or-set_other, ◌≢◌, refl, sym, ◌∙◌, ap, subst, arith, All, if◌then◌else◌, IfSome, ℤ, pos}
 use Rattle.std.proofs.lemmas.List.Elements.{All-append, All-set, All-get_or, All-from_recursion, All-weaker}
 use Rattle.std.proofs.lemmas.Bool.Decides.{nat_tests}
+use Rattle.std.proofs.lemmas.List.{get_or_past}
 use Rattle.std.proofs.lemmas.Option.{get_or_from_slice_get, slice_get_read}
 use Rattle.sky_keys.specs.Waits.{Waiting}
 use Rattle.sky_names.specs.Places.{place_of}
-use Rattle.sky_names.proofs.PlaceLemmas.{place_of_within}
+use Rattle.sky_names.specs.Named.{NamedView, with_value}
 use Rattle.sky_model.specs.declared.stmt.Stmt.{Stmt}
 use Rattle.sky_model.specs.declared.reply.Reply.TheVariants.{Refused}
 use Rattle.sky_model.specs.declared.reply.Refusal.TheVariants.{TooMany}
@@ -47,92 +48,46 @@ after_facts-within w d (mark ∷ marks) =
     by true x = refl
     by false x = refl
 
-pub home-within : (count : ℕ) (homes : List (Option ℕ)) (who d : ℕ) → HomesWithin count homes → who < length homes → get_or homes who None ≡ Some d → d < count
-home-within count [] who d all lt is = absurd (omega arith)
-home-within count (None ∷ homes) zero d all lt is = absurd (cc)
-home-within count (Some e ∷ homes) zero d all lt is = (let same : e ≡ d = cc in let below : e < count = all.0 in omega arith)
-home-within count (None ∷ homes) (suc who) d all lt is = home-within count homes who d all (omega arith) is
-home-within count (Some e ∷ homes) (suc who) d all lt is = home-within count homes who d all.1 (omega arith) is
+-- ---- the databases that sessions have open
 
-pub homes-push : (count : ℕ) (homes : List (Option ℕ)) → HomesWithin count homes → HomesWithin count (homes ++ None ∷ [])
-homes-push count [] all = tt
-homes-push count (None ∷ homes) all = homes-push count homes all
-homes-push count (Some d ∷ homes) all = (all.0, homes-push count homes all.1)
+abbrev IsHome : ℕ → Option ℕ → Type 0
+IsHome count home = IfSome home (λ d. d < count)
 
+-- another session has none open
+pub homes-push : (count : ℕ) (homes longer : List (Option ℕ)) → longer ≡ homes ++ None ∷ [] → HomesWithin count homes → HomesWithin count longer
+homes-push count homes longer is all = subst (All (IsHome count)) (sym is) (All-append (IsHome count) homes (None ∷ []) all (All-from_recursion (IsHome count) (None ∷ []) (tt, tt)))
+
+-- with more databases
 pub homes-more : (count more : ℕ) (homes : List (Option ℕ)) → count ≤ more → HomesWithin count homes → HomesWithin more homes
-homes-more count more [] le all = tt
-homes-more count more (None ∷ homes) le all = homes-more count more homes le all
-homes-more count more (Some d ∷ homes) le all = ((let below : d < count = all.0 in omega arith), homes-more count more homes le all.1)
-
-pub homes-clear : (count : ℕ) (homes : List (Option ℕ)) (who : ℕ) → HomesWithin count homes → HomesWithin count (slice_set homes who None)
-homes-clear count [] who all = tt
-homes-clear count (None ∷ homes) zero all = all
-homes-clear count (Some d ∷ homes) zero all = all.1
-homes-clear count (None ∷ homes) (suc who) all = homes-clear count homes who all
-homes-clear count (Some d ∷ homes) (suc who) all = (all.0, homes-clear count homes who all.1)
-
-pub homes-set : (count : ℕ) (homes : List (Option ℕ)) (who d : ℕ) → d < count → HomesWithin count homes → HomesWithin count (slice_set homes who (Some d))
-homes-set count [] who d lt all = tt
-homes-set count (None ∷ homes) zero d lt all = (lt, all)
-homes-set count (Some e ∷ homes) zero d lt all = (lt, all.1)
-homes-set count (None ∷ homes) (suc who) d lt all = homes-set count homes who d lt all
-homes-set count (Some e ∷ homes) (suc who) d lt all = (all.0, homes-set count homes who d lt all.1)
-
--- what the world keeps of sessions and databases
-pub homes-at : (v now : WorldView) (who : ℕ) (at : Option ℕ) → v ≡ now → HomesWithin (length v.stores) v.homes → who < length now.homes → at ≡ get_or v.homes who at
-    → IfSome at (λ d. d < length now.stores)
-homes-at v now who None same all lt is = tt
-homes-at v now who (Some d) same all lt is =
-    let there : who < length v.homes = subst (λ (w : WorldView). who < length w.homes) (sym same) lt in
-    let at : get_or v.homes who None ≡ Some d = get_or_from_slice_get v.homes who (Some d) None (slice_get_read v.homes (length v.homes) who (Some d) refl there is) in
-    subst (λ (w : WorldView). d < length w.stores) same (home-within (length v.stores) v.homes who d all there at)
-
-pub session-within : (v now : WorldView) (name : List ℕ) (found : Option ℕ) → v ≡ now → length v.homes ≡ length v.sessions → found ≡ place_of name v.sessions
-    → IfSome found (λ who. who < length now.homes)
-session-within v now name None same many is = tt
-session-within v now name (Some who) same many is =
-    subst (λ (w : WorldView). who < length w.homes) same (subst (λ n. who < n) (sym many) (place_of_within name v.sessions who (sym is)))
-
-pub database-within : (v now : WorldView) (name : List ℕ) (d : ℕ) → v ≡ now → length v.stores ≡ length v.databases → place_of name v.databases ≡ Some d → d < length now.stores
-database-within v now name d same many is = subst (λ (w : WorldView). d < length w.stores) same (subst (λ n. d < n) (sym many) (place_of_within name v.databases d is))
-
-pub counted-push : {A B : Type 0} (xs : List A) (x : A) (ys : List B) (y : B) (longer : List A) (more : List B) → length xs ≡ length ys → longer ≡ xs ++ x ∷ [] → more ≡ ys ++ y ∷ []
-    → length longer ≡ length more
-counted-push xs x ys y longer more same is and =
-    ap length is ∙ length-append xs (x ∷ []) ∙ ap (λ n. n + 1) same ∙ sym (length-append ys (y ∷ [])) ∙ ap length (sym and)
-
-pub world-new : (sessions : List (List ℕ)) (homes : List (Option ℕ)) (databases : List (List ℕ)) (stores : List DbView) → sessions ≡ [] → homes ≡ [] → databases ≡ [] → stores ≡ []
-    → seen_world (record { now = pos 0; sessions = sessions; homes = homes; databases = databases; stores = stores }) ≡ world_of []
-world-new sessions homes databases stores none-appeared none-home none-made none-stored = λ i. record {
-  now = pos 0;
-  sessions = none-appeared i;
-  databases = none-made i;
-  homes = λ who. nowhere homes none-home who i;
-  database = λ d. nothing stores none-stored d i;
-}
+homes-more count more homes le all = All-weaker (IsHome count) (IsHome more) weaker homes all
   where
-    nowhere : (all : List (Option ℕ)) → all ≡ [] → (who : ℕ) → get_or all who None ≡ None
-    nowhere [] is zero = refl
-    nowhere [] is (suc who) = refl
-    nowhere (_ ∷ all) is who = absurd (cc)
+    weaker : (home : Option ℕ) → IsHome count home → IsHome more home
+    weaker None lt = tt
+    weaker (Some d) lt = omega (arith, lt, le)
 
-    nothing : (all : List DbView) → all ≡ [] → (d : ℕ) → seen_database (get_or all d no_database) ≡ database_of []
-    nothing [] is zero = no_database-is
-    nothing [] is (suc d) = no_database-is
-    nothing (_ ∷ all) is d = absurd (cc)
+-- a session opens one of them, or none
+pub homes-set : (v now : WorldView) (who : ℕ) (home : Option ℕ) → v ≡ now → HomesWithin (length v.databases.names) v.sessions.values → IfSome home (λ d. d < length now.databases.names)
+    → HomesWithin (length v.databases.names) (slice_set v.sessions.values who home)
+homes-set v now who home same all is =
+    All-set (IsHome (length v.databases.names)) v.sessions.values who home (subst (λ (w : WorldView). IsHome (length w.databases.names) home) (sym same) is) all
 
-pub entered-within : (v now : WorldView) (who d : ℕ) → v ≡ now → HomesWithin (length v.stores) v.homes → d < length now.stores → HomesWithin (length v.stores) (slice_set v.homes who (Some d))
-entered-within v now who d same all lt =
-    homes-set (length v.stores) v.homes who d (subst (λ (w : WorldView). d < length w.stores) (sym same) lt) all
+-- what the world keeps of a session
+pub homes-at : (v now : WorldView) (who : ℕ) (home : Option ℕ) → v ≡ now → HomesWithin (length v.databases.names) v.sessions.values → who < length v.sessions.values → home ≡ get_or v.sessions.values who home
+    → IfSome home (λ d. d < length now.databases.names)
+homes-at v now who home same all lt is =
+    subst (λ (w : WorldView). IsHome (length w.databases.names) home) same
+    (subst (IsHome (length v.databases.names)) (sym is) (All-get_or (IsHome (length v.databases.names)) v.sessions.values who home lt all))
 
-pub stored-more : (old longer : List DbView) (new : DbView) (homes : List (Option ℕ)) → longer ≡ old ++ new ∷ [] → HomesWithin (length old) homes → HomesWithin (length longer) homes
-stored-more old longer new homes is all =
-    subst (λ n. HomesWithin n homes) (sym (ap length is ∙ length-append old (new ∷ []))) (homes-more (length old) (length old + 1) homes (omega arith) all)
+-- ---- what is shown
 
-pub length-changed : {A : Type 0} (xs : List A) (i : ℕ) (x : A) → length (slice_set xs i x) ≡ length xs
-length-changed [] i x = refl
-length-changed (_ ∷ xs) zero x = refl
-length-changed (_ ∷ xs) (suc i) x = ap suc (length-changed xs i x)
+none-there : {A : Type 0} (n : ℕ) (d : A) → get_or [] n d ≡ d
+none-there n d = get_or_past [] n d (omega arith)
+
+pub world-new : (sessions : NamedView (Option ℕ)) (databases : NamedView DbView) → sessions ≡ record { names = []; values = [] } → databases ≡ record { names = []; values = [] }
+    → seen_world (record { now = pos 0; sessions = sessions; databases = databases }) ≡ world_of []
+world-new sessions databases nobody nothing =
+    (λ i. seen_world (record { now = pos 0; sessions = nobody i; databases = nothing i }))
+    ∙ (λ i. record (world_of []) { homes = λ who. none-there who None i; database = λ d. (ap seen_database (none-there d no_database) ∙ no_database-is) i })
 
 -- an entry that is read as those past the end changes nothing that is shown
 seen-push : {A B : Type 0} (f : A → B) (xs : List A) (x d : A) (n : ℕ) → f x ≡ f d → f (get_or (xs ++ x ∷ []) n d) ≡ f (get_or xs n d)
@@ -140,12 +95,6 @@ seen-push f [] x d zero same = same
 seen-push f [] x d (suc n) same = refl
 seen-push f (y ∷ xs) x d zero same = refl
 seen-push f (y ∷ xs) x d (suc n) same = seen-push f xs x d n same
-
-pub get_or-push : {A : Type 0} (xs : List A) (d : A) (n : ℕ) → get_or (xs ++ d ∷ []) n d ≡ get_or xs n d
-get_or-push [] d zero = refl
-get_or-push [] d (suc n) = refl
-get_or-push (x ∷ xs) d zero = refl
-get_or-push (x ∷ xs) d (suc n) = get_or-push xs d n
 
 get_or-changed : {A : Type 0} (xs : List A) (i n : ℕ) (x d : A) → i < length xs → get_or (slice_set xs i x) n d ≡ (if i == n then x else get_or xs n d)
 get_or-changed xs i n x d lt = by (i == n) refl
@@ -155,38 +104,36 @@ get_or-changed xs i n x d lt = by (i == n) refl
     by false e = let other : n ≢ i = grind (arith, nat_tests) in get_or-set_other xs i n x d other
 
 -- a session that opened a database
-pub entered-as : (v now : WorldView) (who d : ℕ) → v ≡ now → who < length v.homes
-    → seen_world (record v { homes = slice_set v.homes who (Some d) }) ≡ after_fact (seen_world now) (entered who d)
+pub entered-as : (v now : WorldView) (who d : ℕ) → v ≡ now → who < length v.sessions.values
+    → seen_world (record v { sessions = with_value v.sessions who (Some d) }) ≡ after_fact (seen_world now) (entered who d)
 entered-as v now who d same lt =
-    (λ i. record (seen_world v) { homes = λ n. get_or-changed v.homes who n (Some d) None lt i })
+    (λ i. record (seen_world v) { homes = λ n. get_or-changed v.sessions.values who n (Some d) None lt i })
     ∙ ap (λ w. after_fact (seen_world w) (entered who d)) same
 
+-- a session that left its database
+pub left-as : (v now : WorldView) (who : ℕ) → v ≡ now → who < length v.sessions.values → seen_world (record v { sessions = with_value v.sessions who None }) ≡ after_fact (seen_world now) (left who)
+left-as v now who same lt =
+    (λ i. record (seen_world v) { homes = λ n. get_or-changed v.sessions.values who n None None lt i })
+    ∙ ap (λ w. after_fact (seen_world w) (left who)) same
+
 -- a session that appeared has none open
-pub appeared-as : (v now : WorldView) (sessions : List (List ℕ)) (homes : List (Option ℕ)) (name copied : List ℕ) → v ≡ now → sessions ≡ v.sessions ++ copied ∷ [] → copied ≡ name
-    → homes ≡ v.homes ++ None ∷ [] → seen_world (record v { sessions = sessions; homes = homes }) ≡ after_fact (seen_world now) (appeared name)
-appeared-as v now sessions homes name copied same more is longer =
-    (λ i. record (seen_world v) {
-      sessions = (more ∙ ap (λ n. v.sessions ++ n ∷ []) is) i;
-      homes = (ap (λ (hs : List (Option ℕ)). λ n. get_or hs n None) longer ∙ (λ j n. get_or-push v.homes None n j)) i;
-    })
+pub appeared-as : (v now : WorldView) (sessions : NamedView (Option ℕ)) (name copied : List ℕ) → v ≡ now → sessions ≡ record { names = v.sessions.names ++ copied ∷ []; values = v.sessions.values ++ None ∷ [] } → copied ≡ name
+    → seen_world (record v { sessions = sessions }) ≡ after_fact (seen_world now) (appeared name)
+appeared-as v now sessions name copied same more is =
+    (λ i. seen_world (record v { sessions = more i }))
+    ∙ (λ i. record (seen_world v) { sessions = v.sessions.names ++ is i ∷ []; homes = λ n. seen-push (λ (home : Option ℕ). home) v.sessions.values None None n refl i })
     ∙ ap (λ w. after_fact (seen_world w) (appeared name)) same
 
 -- a database that is made shows nothing yet
-pub founded-as : (v now : WorldView) (names : List (List ℕ)) (stores : List DbView) (new : DbView) (name copied : List ℕ) → v ≡ now → names ≡ v.databases ++ copied ∷ [] → copied ≡ name
-    → stores ≡ v.stores ++ new ∷ [] → seen_database new ≡ database_of [] → seen_world (record v { databases = names; stores = stores }) ≡ after_fact (seen_world now) (founded name)
-founded-as v now names stores new name copied same more is longer empty =
-    (λ i. record (seen_world v) {
-      databases = (more ∙ ap (λ n. v.databases ++ n ∷ []) is) i;
-      database = (ap (λ (ds : List DbView). λ n. seen_database (get_or ds n no_database)) longer
-          ∙ (λ j n. seen-push seen_database v.stores new no_database n (empty ∙ sym no_database-is) j)) i;
+pub founded-as : (v now : WorldView) (databases : NamedView DbView) (new : DbView) (name copied : List ℕ) → v ≡ now → databases ≡ record { names = v.databases.names ++ copied ∷ []; values = v.databases.values ++ new ∷ [] }
+    → copied ≡ name → seen_database new ≡ database_of [] → seen_world (record v { databases = databases }) ≡ after_fact (seen_world now) (founded name)
+founded-as v now databases new name copied same more is empty =
+    (λ i. seen_world (record v { databases = more i }))
+    ∙ (λ i. record (seen_world v) {
+      databases = v.databases.names ++ is i ∷ [];
+      database = λ n. seen-push seen_database v.databases.values new no_database n (empty ∙ sym no_database-is) i;
     })
     ∙ ap (λ w. after_fact (seen_world w) (founded name)) same
-
--- a session that left its database
-pub left-as : (v now : WorldView) (who : ℕ) → v ≡ now → who < length v.homes → seen_world (record v { homes = slice_set v.homes who None }) ≡ after_fact (seen_world now) (left who)
-left-as v now who same lt =
-    (λ i. record (seen_world v) { homes = λ n. get_or-changed v.homes who n None None lt i })
-    ∙ ap (λ w. after_fact (seen_world w) (left who)) same
 
 -- facts one after the other
 after_facts-append : (w : World) (xs ys : List Fact) → after_facts w (xs ++ ys) ≡ after_facts (after_facts w xs) ys
@@ -207,30 +154,27 @@ known-numbered : (count more : ℕ) (replies : List (ℕ × Reply)) → count �
 known-numbered count more replies le all = All-weaker (IsKnown count) (IsWithin more) (λ answer lt. omega (arith, lt, le)) replies all
 
 -- what a statement of a database adds in the world
-pub adds-within : (v now : WorldView) (d who : ℕ) (old new : DbView) (stmt : Stmt) (before after : List (ℕ × Reply)) (t : ℤ) → v ≡ now → d < length now.stores
-    → old ≡ get_or v.stores d old → t ≡ v.now
+pub adds-within : (v now : WorldView) (d who : ℕ) (old new : DbView) (stmt : Stmt) (before after : List (ℕ × Reply)) (t : ℤ) → v ≡ now → d < length v.databases.values
+    → old ≡ get_or v.databases.values d old → t ≡ v.now
     → Adds (seen_database old) (seen_database new) before after (database_turn database_by_itself (seen_database old) t who stmt)
     → HaveMoments (database_turn database_by_itself (seen_database old) t who stmt).answers
-    → All (λ (answer : ℕ × Reply). answer.0 < length now.homes) (database_turn database_by_itself (seen_database old) t who stmt).answers
-    → AddsDeed now (record v { stores = slice_set v.stores d new }) before after
+    → All (λ (answer : ℕ × Reply). answer.0 < length now.sessions.names) (database_turn database_by_itself (seen_database old) t who stmt).answers
+    → AddsDeed now (record v { databases = with_value v.databases d new }) before after
     (deed_in d [] (database_turn (within_database by_world d) (seen_world now) (seen_world now).now who stmt))
 adds-within v now d who old new stmt before after t same lt at is adds moments known = record {
   answered = adds.replied ∙ ap (λ (u : Turn). before ++ u.answers) turn_is;
-  known = subst (λ (u : Turn). All (IsKnown (length now.homes)) u.answers) turn_is known;
+  known = subst (λ (u : Turn). All (IsKnown (length now.sessions.names)) u.answers) turn_is known;
   moments = subst (λ (u : Turn). HaveMoments u.answers) turn_is moments;
   changed = shown
       ∙ ap (λ (u : Turn). record (seen_world v) { database = changed_at d (λ y. after_marks y u.marks) (seen_world v).database }) turn_is
       ∙ sym (after_facts-within (seen_world v) d whole.marks)
       ∙ ap (λ w. after_facts (seen_world w) (map (within d) whole.marks)) same
       ∙ ap (λ facts. after_facts (seen_world now) facts) (sym (append-nil (map (within d) whole.marks)));
-  sessions = ap WorldView.sessions same;
+  sessions = ap (λ (w : WorldView). w.sessions.names) same;
 }
   where
-    lt_there : d < length v.stores
-    lt_there = subst (λ (w : WorldView). d < length w.stores) (sym same) lt
-
-    there : get_or v.stores d no_database ≡ old
-    there = get_or_from_slice_get v.stores d old no_database (slice_get_read v.stores (length v.stores) d old refl lt_there at)
+    there : get_or v.databases.values d no_database ≡ old
+    there = get_or_from_slice_get v.databases.values d old no_database (slice_get_read v.databases.values (length v.databases.values) d old refl lt at)
 
     whole : Turn
     whole = database_turn (within_database by_world d) (seen_world now) (seen_world now).now who stmt
@@ -245,23 +189,23 @@ adds-within v now d who old new stmt before after t same lt at is adds moments k
         ∙ ap (λ (w : WorldView). database_turn database_by_itself ((seen_world w).database d) w.now who stmt) same
         ∙ sym (turn-within (seen_world now) d (seen_world now).now who stmt)
 
-    by : (n : ℕ) (b : Bool) → (d == n) ≡ b → seen_database (if b then new else get_or v.stores n no_database)
-        ≡ (if b then after_marks (seen_database (get_or v.stores n no_database)) done.marks else seen_database (get_or v.stores n no_database))
+    by : (n : ℕ) (b : Bool) → (d == n) ≡ b → seen_database (if b then new else get_or v.databases.values n no_database)
+        ≡ (if b then after_marks (seen_database (get_or v.databases.values n no_database)) done.marks else seen_database (get_or v.databases.values n no_database))
     by n true e =
         let one : d ≡ n = grind (arith, nat_tests) in
         adds.changed
         ∙ ap (λ x. after_marks (seen_database x) done.marks) (sym there)
-        ∙ ap (λ m. after_marks (seen_database (get_or v.stores m no_database)) done.marks) one
+        ∙ ap (λ m. after_marks (seen_database (get_or v.databases.values m no_database)) done.marks) one
     by n false e = refl
 
-    shown : seen_world (record v { stores = slice_set v.stores d new }) ≡ record (seen_world v) { database = changed_at d (λ y. after_marks y done.marks) (seen_world v).database }
+    shown : seen_world (record v { databases = with_value v.databases d new }) ≡ record (seen_world v) { database = changed_at d (λ y. after_marks y done.marks) (seen_world v).database }
     shown = λ i. record (seen_world v) {
-      database = λ n. (ap seen_database (get_or-changed v.stores d n new no_database lt_there) ∙ by n (d == n) refl) i;
+      database = λ n. (ap seen_database (get_or-changed v.databases.values d n new no_database lt) ∙ by n (d == n) refl) i;
     }
 
 -- and what it changes outside of databases
 pub adds-moved : (old s new : WorldView) (d : ℕ) (fact : Fact) (before after : List (ℕ × Reply)) (turn : Turn) → AddsDeed old s before after (deed_in d [] turn)
-    → seen_world new ≡ after_fact (seen_world s) fact → new.sessions ≡ s.sessions → AddsDeed old new before after (deed_in d (fact ∷ []) turn)
+    → seen_world new ≡ after_fact (seen_world s) fact → new.sessions.names ≡ s.sessions.names → AddsDeed old new before after (deed_in d (fact ∷ []) turn)
 adds-moved old s new d fact before after turn adds is same = record {
   answered = adds.answered;
   known = adds.known;
@@ -273,65 +217,65 @@ adds-moved old s new d fact before after turn adds is same = record {
 
 -- a statement with which its session leaves
 pub adds-left : (old s new : WorldView) (d who : ℕ) (leaving : Bool) (before after : List (ℕ × Reply)) (turn : Turn) → leaving ≡ true → AddsDeed old s before after (deed_in d [] turn)
-    → seen_world new ≡ after_fact (seen_world s) (left who) → new.sessions ≡ s.sessions → AddsDeed old new before after (deed_in d (left_if who leaving) turn)
+    → seen_world new ≡ after_fact (seen_world s) (left who) → new.sessions.names ≡ s.sessions.names → AddsDeed old new before after (deed_in d (left_if who leaving) turn)
 adds-left old s new d who leaving before after turn leaves adds is same =
     subst (λ b. AddsDeed old new before after (deed_in d (left_if who b) turn)) (sym leaves) (adds-moved old s new d (left who) before after turn adds is same)
 
 -- `open` in a database that is made by it
-pub opens-new : (old s new : WorldView) (who number : ℕ) (stmt : Stmt) (name : List ℕ) (before after : List (ℕ × Reply)) → length old.databases < 16 → number ≡ length old.databases
-    → seen_world s ≡ after_fact (seen_world old) (founded name) → s.homes ≡ old.homes → s.sessions ≡ old.sessions
+pub opens-new : (old s new : WorldView) (who number : ℕ) (stmt : Stmt) (name : List ℕ) (before after : List (ℕ × Reply)) → length old.databases.names < 16 → number ≡ length old.databases.names
+    → seen_world s ≡ after_fact (seen_world old) (founded name) → s.sessions ≡ old.sessions
     → AddsDeed s new before after (opens_in by_world who stmt number (seen_world s)) → AddsDeed old new before after (opens by_world (seen_world old) who stmt name None)
-opens-new old s new who number stmt name before after room numbered is homes same adds = subst (AddsDeed old new before after) (sym whole) (record {
+opens-new old s new who number stmt name before after room numbered is same adds = subst (AddsDeed old new before after) (sym whole) (record {
   answered = adds.answered ∙ ap (λ (x : Deed). before ++ x.answers) there;
-  known = subst (λ n. All (IsKnown n) then_does.answers) (ap length homes) (subst (λ (x : Deed). All (IsKnown (length s.homes)) x.answers) there adds.known);
+  known = subst (λ n. All (IsKnown n) then_does.answers) (ap length same) (subst (λ (x : Deed). All (IsKnown (length s.sessions.names)) x.answers) there adds.known);
   moments = subst (λ (x : Deed). HaveMoments x.answers) there adds.moments;
   changed = adds.changed ∙ ap (λ (x : Deed). after_facts (seen_world s) x.facts) there ∙ ap (λ w. after_facts w then_does.facts) is;
   sessions = adds.sessions ∙ same;
 })
   where
     then_does : Deed
-    then_does = opens_in by_world who stmt (length old.databases) (after_fact (seen_world old) (founded name))
+    then_does = opens_in by_world who stmt (length old.databases.names) (after_fact (seen_world old) (founded name))
 
     there : opens_in by_world who stmt number (seen_world s) ≡ then_does
-    there = ap (λ n. opens_in by_world who stmt n (seen_world s)) numbered ∙ ap (opens_in by_world who stmt (length old.databases)) is
+    there = ap (λ n. opens_in by_world who stmt n (seen_world s)) numbered ∙ ap (opens_in by_world who stmt (length old.databases.names)) is
 
-    left_over : nat_le 16 (length old.databases) ≡ false
+    left_over : nat_le 16 (length old.databases.names) ≡ false
     left_over = grind (arith, nat_tests)
 
-    whole : opens by_world (seen_world old) who stmt name None ≡ followed by_world (seen_world old) (opens_in by_world who stmt (length old.databases)) (founds name)
-    whole = ap (λ b. if b then refuses who (TooMany Databases) else followed by_world (seen_world old) (opens_in by_world who stmt (length old.databases)) (founds name)) left_over
+    whole : opens by_world (seen_world old) who stmt name None ≡ followed by_world (seen_world old) (opens_in by_world who stmt (length old.databases.names)) (founds name)
+    whole = ap (λ b. if b then refuses who (TooMany Databases) else followed by_world (seen_world old) (opens_in by_world who stmt (length old.databases.names)) (founds name)) left_over
 
 -- one answer, where nothing happens
-pub adds-answer : (w : WorldView) (before after : List (ℕ × Reply)) (who : ℕ) (reply : Reply) → who < length w.homes → ReplyHasMoments reply → after ≡ before ++ (who, reply) ∷ []
+pub adds-answer : (w : WorldView) (before after : List (ℕ × Reply)) (who : ℕ) (reply : Reply) → who < length w.sessions.names → ReplyHasMoments reply → after ≡ before ++ (who, reply) ∷ []
     → AddsDeed w w before after (answers_with who reply [])
 adds-answer w before after who reply lt has pushed = record {
   answered = pushed;
-  known = All-from_recursion (IsKnown (length w.homes)) ((who, reply) ∷ []) (lt, tt);
+  known = All-from_recursion (IsKnown (length w.sessions.names)) ((who, reply) ∷ []) (lt, tt);
   moments = All-from_recursion HasMoments ((who, reply) ∷ []) (has, tt);
   changed = refl;
   sessions = refl;
 }
 
 -- where there is no room for a database
-pub opens-full : (w : WorldView) (before after : List (ℕ × Reply)) (who : ℕ) (stmt : Stmt) (name : List ℕ) → who < length w.homes → 16 ≤ length w.databases
+pub opens-full : (w : WorldView) (before after : List (ℕ × Reply)) (who : ℕ) (stmt : Stmt) (name : List ℕ) → who < length w.sessions.names → 16 ≤ length w.databases
     → after ≡ before ++ (who, Refused (TooMany Databases)) ∷ [] → AddsDeed w w before after (opens by_world (seen_world w) who stmt name None)
 opens-full w before after who stmt name lt full pushed =
     subst (AddsDeed w w before after) (sym whole) (adds-answer w before after who (Refused (TooMany Databases)) lt tt pushed)
   where
-    no_room : nat_le 16 (length w.databases) ≡ true
+    no_room : nat_le 16 (length w.databases.names) ≡ true
     no_room = grind (arith, nat_tests)
 
     whole : opens by_world (seen_world w) who stmt name None ≡ refuses who (TooMany Databases)
-    whole = ap (λ b. if b then refuses who (TooMany Databases) else followed by_world (seen_world w) (opens_in by_world who stmt (length w.databases)) (founds name)) no_room
+    whole = ap (λ b. if b then refuses who (TooMany Databases) else followed by_world (seen_world w) (opens_in by_world who stmt (length w.databases.names)) (founds name)) no_room
 
 -- a call of a session that is known
-pub answers-known : (old new : WorldView) (call : Call) (who : ℕ) (before after : List (ℕ × Reply)) → Some who ≡ place_of call.who old.sessions → length old.homes ≡ length old.sessions
+pub answers-known : (old new : WorldView) (call : Call) (who : ℕ) (before after : List (ℕ × Reply)) → Some who ≡ place_of call.who old.sessions
     → AddsDeed old new before after (turn by_world who call.stmt (seen_world old)) → AddsCall (seen_world old) (seen_world new) call before after
-answers-known old new call who before after place counted adds = record {
+answers-known old new call who before after place adds = record {
   replies = (turn by_world who call.stmt (seen_world old)).answers;
   answered = adds.answered;
   steps = steps_from_exact (seen_world old) (seen_world new) call _ (ap Deed.answers whole) (adds.changed ∙ ap (λ (x : Deed). after_facts (seen_world old) x.facts) whole);
-  numbered = known-numbered _ _ _ (omega (arith, counted, ap length adds.sessions)) adds.known;
+  numbered = known-numbered _ _ _ (omega (arith, ap length adds.sessions)) adds.known;
   moments = adds.moments;
 }
   where
@@ -361,14 +305,14 @@ answers-full w call who before after place full is pushed = record {
 
 -- the first call of a session
 pub answers-new : (old with_it new : WorldView) (call : Call) (who : ℕ) (before after : List (ℕ × Reply)) → place_of call.who old.sessions ≡ None → length old.sessions < 256
-    → seen_world with_it ≡ after_fact (seen_world old) (appeared call.who) → who ≡ length old.sessions → length with_it.homes ≤ length with_it.sessions
+    → seen_world with_it ≡ after_fact (seen_world old) (appeared call.who) → who ≡ length old.sessions
     → AddsDeed with_it new before after (turn by_world who call.stmt (seen_world with_it)) → AddsCall (seen_world old) (seen_world new) call before after
-answers-new old with_it new call who before after place room is number counted adds = record {
+answers-new old with_it new call who before after place room is number adds = record {
   replies = (turn by_world who call.stmt (seen_world with_it)).answers;
   answered = adds.answered;
   steps = steps_from_exact (seen_world old) (seen_world new) call _ (sym (ap Deed.answers (whole ∙ same)))
       (adds.changed ∙ ap (λ w. after_facts w (turn by_world who call.stmt (seen_world with_it)).facts) is ∙ ap (λ (x : Deed). after_facts (seen_world old) x.facts) (sym (whole ∙ same)));
-  numbered = known-numbered _ _ _ (omega (arith, counted, ap length adds.sessions)) adds.known;
+  numbered = known-numbered _ _ _ (omega (arith, ap length adds.sessions)) adds.known;
   moments = adds.moments;
 }
   where
@@ -410,29 +354,25 @@ waiters-founded count old longer new is empty all =
     (All-from_recursion (HasWaitersWithin count) (new ∷ []) (subst (λ (d : Database). WaitersWithin count d.part.waiting) (sym empty) (λ k w at. absurd (omega arith)), tt)))
 
 -- a statement of a database is answered to sessions that are there, and leaves none waiting that isn't
-pub known-within : (v now : WorldView) (d who : ℕ) (old new : DbView) (replies : List (ℕ × Reply)) → v ≡ now → d < length now.stores
-    → old ≡ get_or v.stores d old → who < length now.homes → AllWaitersWithin (length v.homes) v.stores → StaysWithin (seen_database old) (seen_database new) who replies
-    → All (λ (answer : ℕ × Reply). answer.0 < length now.homes) replies × AllWaitersWithin (length v.homes) (slice_set v.stores d new)
+pub known-within : (v now : WorldView) (d who : ℕ) (old new : DbView) (replies : List (ℕ × Reply)) → v ≡ now → d < length v.databases.values
+    → old ≡ get_or v.databases.values d old → who < length now.sessions.names → AllWaitersWithin (length v.sessions.names) v.databases.values → StaysWithin (seen_database old) (seen_database new) who replies
+    → All (λ (answer : ℕ × Reply). answer.0 < length now.sessions.names) replies × AllWaitersWithin (length v.sessions.names) (slice_set v.databases.values d new)
 known-within v now d who old new replies same lt at known all stays = (
-  subst (λ (w : WorldView). All (IsKnown (length w.homes)) replies) same (stays.answers (length v.homes) known_there within),
-  All-set (HasWaitersWithin (length v.homes)) v.stores d new (stays.waiters (length v.homes) known_there within) all,
+  subst (λ (w : WorldView). All (IsKnown (length w.sessions.names)) replies) same (stays.answers (length v.sessions.names) known_there within),
+  All-set (HasWaitersWithin (length v.sessions.names)) v.databases.values d new (stays.waiters (length v.sessions.names) known_there within) all,
 )
   where
-    lt_there : d < length v.stores
-    lt_there = subst (λ (w : WorldView). d < length w.stores) (sym same) lt
+    there : get_or v.databases.values d no_database ≡ old
+    there = get_or_from_slice_get v.databases.values d old no_database (slice_get_read v.databases.values (length v.databases.values) d old refl lt at)
 
-    there : get_or v.stores d no_database ≡ old
-    there = get_or_from_slice_get v.stores d old no_database (slice_get_read v.stores (length v.stores) d old refl lt_there at)
+    known_there : who < length v.sessions.names
+    known_there = subst (λ (w : WorldView). who < length w.sessions.names) (sym same) known
 
-    known_there : who < length v.homes
-    known_there = subst (λ (w : WorldView). who < length w.homes) (sym same) known
-
-    within : WaitersWithin (length v.homes) (seen_database old).part.waiting
-    within = subst (HasWaitersWithin (length v.homes)) there (All-get_or (HasWaitersWithin (length v.homes)) v.stores d no_database lt_there all)
+    within : WaitersWithin (length v.sessions.names) (seen_database old).part.waiting
+    within = subst (HasWaitersWithin (length v.sessions.names)) there (All-get_or (HasWaitersWithin (length v.sessions.names)) v.databases.values d no_database lt all)
 
 -- the database at a place is what is shown there
-pub store-at : (v now : WorldView) (d : ℕ) (store : DbView) → v ≡ now → d < length now.stores → store ≡ get_or v.stores d store → seen_database store ≡ (seen_world now).database d
+pub store-at : (v now : WorldView) (d : ℕ) (store : DbView) → v ≡ now → d < length v.databases.values → store ≡ get_or v.databases.values d store → seen_database store ≡ (seen_world now).database d
 store-at v now d store same lt at =
-    let there : d < length v.stores = subst (λ (w : WorldView). d < length w.stores) (sym same) lt in
-    ap seen_database (sym (get_or_from_slice_get v.stores d store no_database (slice_get_read v.stores (length v.stores) d store refl there at)))
+    ap seen_database (sym (get_or_from_slice_get v.databases.values d store no_database (slice_get_read v.databases.values (length v.databases.values) d store refl lt at)))
     ∙ ap (λ (w : WorldView). (seen_world w).database d) same

@@ -13,10 +13,10 @@ use Rattle.sky_world.specs.Seen.{seen_world}
 -- printed; and the world is then as after the deed's facts, with the same sessions
 pub record AddsDeed (old new : WorldView) (before after : List (ℕ × Reply)) (deed : Deed) : Type 0 where
   pub answered : after ≡ before ++ deed.answers
-  pub known : All (λ answer. answer.0 < length old.homes) deed.answers
+  pub known : All (λ answer. answer.0 < length old.sessions.names) deed.answers
   pub moments : HaveMoments deed.answers
   pub changed : seen_world new ≡ after_facts (seen_world old) deed.facts
-  pub sessions : new.sessions ≡ old.sessions
+  pub sessions : new.sessions.names ≡ old.sessions.names
 
 -- a call's replies stand behind those that were given before, each of a session that there is, or of one too many, with
 -- times that are printed

@@ -7,8 +7,8 @@ use Rattle.sky_world.specs.Views.{WorldView}
 abbrev pub seen_world : WorldView → World
 seen_world w = record {
   now = w.now;
-  sessions = w.sessions;
-  databases = w.databases;
-  homes = λ who. slice_index_or w.homes who None;
-  database = λ d. seen_database (slice_index_or w.stores d no_database);
+  sessions = w.sessions.names;
+  databases = w.databases.names;
+  homes = λ who. slice_index_or w.sessions.values who None;
+  database = λ d. seen_database (slice_index_or w.databases.values d no_database);
 }

@@ -15,7 +15,7 @@ ghost use Rattle.sky_world.specs.Adds.{AddsDeed, AddsCall};
 
 use pgq_db::Db;
 use sky_model::{Limit, Refusal, Replies, Reply, RowStmt, Stmt};
-use sky_names::Names;
+use sky_names::Named;
 use sky_val::{NoMemory, SessionId, Text};
 use std::alloc::{AllocError, Global};
 use std::marker::Model;
@@ -25,17 +25,16 @@ use std::marker::Model;
 pub struct World {
     alloc: Global,
     clock: i64,
-    sessions: Names,
-    homes: Vec<Option<usize>>,
-    databases: Names,
-    stores: Vec<Db>,
+    // The database that each session has open.
+    sessions: Named<Option<usize>>,
+    databases: Named<Db>,
     // Whether memory was wanting in the midst of a statement of a database. Who waits there isn't known
     // then, so no statement is run in a database from then on.
     is_cut: bool,
 }
 
 impl Model for World {
-    ghost use Rattle.std.specs.Prelude.{◌≡◌, ◌≤◌, false, length};
+    ghost use Rattle.std.specs.Prelude.{◌≡◌, false, length};
     ghost use Rattle.sky_world.specs.Views.{WorldView};
     ghost use Rattle.pgq_tick.specs.Ticks.{IsTime};
     ghost use Rattle.sky_world.specs.Homes.{HomesWithin};
@@ -43,17 +42,10 @@ impl Model for World {
 
     ghost Value = { WorldView };
 
-    ghost view = { λ w. record {
-      now = w.clock;
-      sessions = w.sessions;
-      homes = w.homes.items;
-      databases = w.databases;
-      stores = w.stores.items;
-    } };
+    ghost view = { λ w. record { now = w.clock; sessions = w.sessions; databases = w.databases } };
 
-    ghost invariant = { λ w. IsTime w.clock × (length w.homes.items ≡ length w.sessions)
-        × (length w.stores.items ≡ length w.databases) × HomesWithin (length w.stores.items) w.homes.items
-        × (w.is_cut ≡ false → AllWaitersWithin (length w.homes.items) w.stores.items) };
+    ghost invariant = { λ w. IsTime w.clock × HomesWithin (length w.databases.names) w.sessions.values
+        × (w.is_cut ≡ false → AllWaitersWithin (length w.sessions.names) w.databases.values) };
 }
 
 impl World {
@@ -64,10 +56,8 @@ impl World {
         World {
             alloc,
             clock: 0,
-            sessions: Names::new(alloc),
-            homes: Vec::new(alloc),
-            databases: Names::new(alloc),
-            stores: Vec::new(alloc),
+            sessions: Named::new(alloc),
+            databases: Named::new(alloc),
             is_cut: false,
         }
     }
@@ -76,7 +66,7 @@ impl World {
     pub fn session_names(&self) -> &[Text]
         ensures { result.now ≡ (seen_world self.now).sessions }
     {
-        self.sessions.as_slice()
+        self.sessions.names()
     }
 
     /// Runs a statement of the session of this name, and answers it and those that it lets go on. After want of
@@ -118,9 +108,8 @@ impl World {
         replies: &mut Replies,
     ) -> Result<(), AllocError>
         requires form { IsInForm stmt.now }
-        requires known { Some who ≡ place_of name.now self.old.sessions }
-        requires within { who < length self.old.homes }
-        requires counted { length self.old.homes ≡ length self.old.sessions }
+        requires known { Some who ≡ place_of name.now self.old.sessions.names }
+        requires within { who < length self.old.sessions.names }
         ensures { OnOk result (AddsCall (seen_world self.old) (seen_world self.new) (record { who = name.now; stmt = stmt.now }) replies.old replies.new) }
     {
         self.run(who, stmt, replies)?;
@@ -134,7 +123,7 @@ impl World {
         replies: &mut Replies,
     ) -> Result<(), AllocError>
         requires form { IsInForm stmt.now }
-        requires new { place_of name.now self.old.sessions ≡ None }
+        requires new { place_of name.now self.old.sessions.names ≡ None }
         ensures { OnOk result (AddsCall (seen_world self.old) (seen_world self.new) (record { who = name.now; stmt = stmt.now }) replies.old replies.new) }
     {
         let who = self.session_count();
@@ -148,40 +137,33 @@ impl World {
     }
 
     fn number(&self, name: &Text) -> Option<SessionId>
-        ensures number { result ≡ place_of name.now self.now.sessions }
-        ensures within { IfSome result (λ who. who < length self.now.homes) }
-        ensures counted { length self.now.homes ≡ length self.now.sessions }
+        ensures number { result ≡ place_of name.now self.now.sessions.names }
+        ensures within { IfSome result (λ who. who < length self.now.sessions.names) }
     {
-        // That each session has its place among the homes is the world's invariant.
-        let _ = &self.homes;
         self.sessions.number(name)
     }
 
     fn session_count(&self) -> SessionId
-        ensures count { result ≡ length self.now.sessions }
-        ensures homes { result ≡ length self.now.homes }
+        ensures { result ≡ length self.now.sessions.names }
     {
         self.sessions.len() as SessionId
     }
 
     /// A new session, which has no database open.
     fn appear(&mut self, name: &Text) -> Result<(), AllocError>
-        requires new { place_of name.now self.old.sessions ≡ None }
-        requires room { length self.old.sessions < 256 }
+        requires new { place_of name.now self.old.sessions.names ≡ None }
+        requires room { length self.old.sessions.names < 256 }
         ensures fact { OnOk result (seen_world self.new ≡ after_fact (seen_world self.old) (appeared name.now)) }
-        ensures homes { OnOk result (length self.new.homes ≡ length self.old.homes + 1) }
-        ensures sessions { OnOk result (length self.new.sessions ≡ length self.old.sessions + 1) }
+        ensures sessions { OnOk result (length self.new.sessions.names ≡ length self.old.sessions.names + 1) }
     {
         let copied = name.copy(self.alloc)?;
-        self.homes.reserve(1)?;
-        self.sessions.add(copied)?;
-        self.homes.push_reserved(None);
+        self.sessions.add(copied, None)?;
         Ok(())
     }
 
     /// Runs a statement of a session.
     fn run(&mut self, who: SessionId, stmt: &Stmt, replies: &mut Replies) -> Result<(), AllocError>
-        requires who { who < length self.old.homes }
+        requires who { who < length self.old.sessions.names }
         requires form { IsInForm stmt.now }
         ensures { OnOk result (AddsDeed self.old self.new replies.old replies.new (turn by_world who stmt.now (seen_world self.old))) }
     {
@@ -193,11 +175,11 @@ impl World {
 
     /// The database that a session has open.
     fn home(&self, who: SessionId) -> Option<usize>
-        requires { who < length self.now.homes }
+        requires { who < length self.now.sessions.names }
         ensures home { result ≡ (seen_world self.now).homes who }
-        ensures within { IfSome result (λ d. d < length self.now.stores) }
+        ensures within { IfSome result (λ d. d < length self.now.databases.names) }
     {
-        self.homes[who as usize]
+        *self.sessions.get(who as usize)
     }
 
     fn run_in(
@@ -207,8 +189,8 @@ impl World {
         stmt: &Stmt,
         replies: &mut Replies,
     ) -> Result<(), AllocError>
-        requires who { who < length self.old.homes }
-        requires database { database < length self.old.stores }
+        requires who { who < length self.old.sessions.names }
+        requires database { database < length self.old.databases.names }
         requires form { IsInForm stmt.now }
         ensures { OnOk result (AddsDeed self.old self.new replies.old replies.new (session_does by_world (seen_world self.old) who stmt.now (Some database))) }
     {
@@ -222,7 +204,7 @@ impl World {
 
     /// Whether the session leaves the database by the statement: by `close`, unless it waits.
     fn is_leaving(&self, database: usize, who: SessionId, stmt: &Stmt) -> bool
-        requires { database < length self.now.stores }
+        requires { database < length self.now.databases.names }
         ensures { result ≡ is_leaving (is_waiting who ((seen_world self.now).database database).part.waiting) stmt.now }
     {
         match stmt {
@@ -233,10 +215,10 @@ impl World {
 
     /// The database of this number.
     fn store(&self, database: usize) -> &Db
-        requires { database < length self.now.stores }
+        requires { database < length self.now.databases.names }
         ensures { seen_database result.now ≡ (seen_world self.now).database database }
     {
-        &self.stores[database]
+        self.databases.get(database)
     }
 
     /// Runs a statement in a database.
@@ -247,17 +229,17 @@ impl World {
         stmt: &Stmt,
         replies: &mut Replies,
     ) -> Result<(), AllocError>
-        requires who { who < length self.old.homes }
-        requires database { database < length self.old.stores }
+        requires who { who < length self.old.sessions.names }
+        requires database { database < length self.old.databases.names }
         requires form { IsInForm stmt.now }
         ensures adds { OnOk result (AddsDeed self.old self.new replies.old replies.new (deed_in database [] (database_turn (within_database by_world database) (seen_world self.old) (seen_world self.old).now who stmt.now))) }
-        ensures homes { OnOk result (length self.new.homes ≡ length self.old.homes) }
-        ensures stores { OnOk result (length self.new.stores ≡ length self.old.stores) }
+        ensures databases { OnOk result (self.new.databases.names ≡ self.old.databases.names) }
     {
         if self.is_cut {
             return Err(AllocError);
         }
-        match self.stores[database].step_into(who, stmt, self.clock, replies) {
+        let store = self.databases.get_mut(database);
+        match store.step_into(who, stmt, self.clock, replies) {
             Ok(()) => Ok(()),
             Err(fault) => {
                 self.is_cut = true;
@@ -268,11 +250,11 @@ impl World {
 
     /// A session has no database open from now on.
     fn leave(&mut self, who: SessionId)
-        requires { who < length self.old.homes }
+        requires { who < length self.old.sessions.names }
         ensures fact { seen_world self.new ≡ after_fact (seen_world self.old) (left who) }
-        ensures sessions { self.new.sessions ≡ self.old.sessions }
+        ensures sessions { self.new.sessions.names ≡ self.old.sessions.names }
     {
-        self.homes[who as usize] = None;
+        *self.sessions.get_mut(who as usize) = None;
     }
 
     /// Runs a statement of a session that has no database open.
@@ -282,7 +264,7 @@ impl World {
         stmt: &Stmt,
         replies: &mut Replies,
     ) -> Result<(), AllocError>
-        requires who { who < length self.old.homes }
+        requires who { who < length self.old.sessions.names }
         requires form { IsInForm stmt.now }
         ensures { OnOk result (AddsDeed self.old self.new replies.old replies.new (outside_does by_world (seen_world self.old) who stmt.now (opening stmt.now))) }
     {
@@ -303,12 +285,12 @@ impl World {
         name: &Text,
         replies: &mut Replies,
     ) -> Result<(), AllocError>
-        requires who { who < length self.old.homes }
+        requires who { who < length self.old.sessions.names }
         requires form { IsInForm stmt.now }
         ensures { OnOk result (AddsDeed self.old self.new replies.old replies.new (opens by_world (seen_world self.old) who stmt.now name.now (place_of name.now (seen_world self.old).databases))) }
     {
         match self.database_number(name) {
-            Some(database) => self.open_in(database, who, stmt, replies),
+            Some(database) => self.open_in(database as usize, who, stmt, replies),
             None => self.open_new(who, stmt, name, replies),
         }
     }
@@ -321,9 +303,9 @@ impl World {
         name: &Text,
         replies: &mut Replies,
     ) -> Result<(), AllocError>
-        requires who { who < length self.old.homes }
+        requires who { who < length self.old.sessions.names }
         requires form { IsInForm stmt.now }
-        requires new { place_of name.now self.old.databases ≡ None }
+        requires new { place_of name.now self.old.databases.names ≡ None }
         ensures { OnOk result (AddsDeed self.old self.new replies.old replies.new (opens by_world (seen_world self.old) who stmt.now name.now None)) }
     {
         let number = self.database_count();
@@ -344,8 +326,8 @@ impl World {
         stmt: &Stmt,
         replies: &mut Replies,
     ) -> Result<(), AllocError>
-        requires who { who < length self.old.homes }
-        requires database { database < length self.old.stores }
+        requires who { who < length self.old.sessions.names }
+        requires database { database < length self.old.databases.names }
         requires form { IsInForm stmt.now }
         ensures { OnOk result (AddsDeed self.old self.new replies.old replies.new (opens_in by_world who stmt.now database (seen_world self.old))) }
     {
@@ -354,46 +336,39 @@ impl World {
         Ok(())
     }
 
-    fn database_number(&self, name: &Text) -> Option<usize>
-        ensures number { result ≡ place_of name.now self.now.databases }
-        ensures within { IfSome result (λ d. d < length self.now.stores) }
+    fn database_number(&self, name: &Text) -> Option<u32>
+        ensures number { result ≡ place_of name.now self.now.databases.names }
+        ensures within { IfSome result (λ database. database < length self.now.databases.names) }
     {
-        // That each database has its store is the world's invariant.
-        let _ = &self.stores;
-        let number = self.databases.number(name)?;
-        Some(number as usize)
+        self.databases.number(name)
     }
 
     fn database_count(&self) -> usize
-        ensures count { result ≡ length self.now.databases }
-        ensures stores { result ≡ length self.now.stores }
+        ensures { result ≡ length self.now.databases.names }
     {
         self.databases.len()
     }
 
     /// A new database, in which nothing has happened.
     fn found(&mut self, name: &Text) -> Result<(), AllocError>
-        requires new { place_of name.now self.old.databases ≡ None }
-        requires room { length self.old.databases < 16 }
+        requires new { place_of name.now self.old.databases.names ≡ None }
+        requires room { length self.old.databases.names < 16 }
         ensures fact { OnOk result (seen_world self.new ≡ after_fact (seen_world self.old) (founded name.now)) }
-        ensures homes { OnOk result (self.new.homes ≡ self.old.homes) }
-        ensures stores { OnOk result (length self.new.stores ≡ length self.old.stores + 1) }
-        ensures sessions { OnOk result (self.new.sessions ≡ self.old.sessions) }
+        ensures databases { OnOk result (length self.new.databases.names ≡ length self.old.databases.names + 1) }
+        ensures sessions { OnOk result (self.new.sessions.names ≡ self.old.sessions.names) }
     {
         let copied = name.copy(self.alloc)?;
-        self.stores.reserve(1)?;
-        self.databases.add(copied)?;
-        self.stores.push_reserved(Db::new(self.alloc));
+        self.databases.add(copied, Db::new(self.alloc))?;
         Ok(())
     }
 
     fn enter(&mut self, who: SessionId, database: usize)
-        requires who { who < length self.old.homes }
-        requires database { database < length self.old.stores }
+        requires who { who < length self.old.sessions.names }
+        requires database { database < length self.old.databases.names }
         ensures fact { seen_world self.new ≡ after_fact (seen_world self.old) (entered who database) }
-        ensures sessions { self.new.sessions ≡ self.old.sessions }
+        ensures sessions { self.new.sessions.names ≡ self.old.sessions.names }
     {
-        self.homes[who as usize] = Some(database);
+        *self.sessions.get_mut(who as usize) = Some(database);
     }
 }
 

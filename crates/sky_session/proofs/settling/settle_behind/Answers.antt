@@ -7,15 +7,15 @@ use Rattle.sky_session.proofs.settling.settle_behind.Goals as goal
 
 pub loop-who-smaller : goal.loop-who-smaller
 loop-who-smaller g c =
-    fewer-left g.G.WriteGate.rule c.loop-who.gate (seen c.loop-who.state) (seen c.resume.new.state) c.loop-who.step c.resume.new.step (entry c.in-Some.who c.in-Some.key)
-    (sym c.in_ok-who.ensures.found ∙ ap (option_map (λ f. entry f.0 f.1)) c.in-Some.is) c.in_ok-resume.ensures.adds
+    fewer-left g.G.WriteGate.rule (seen c.loop-who.state, c.loop-who.gate) (seen c.resume.new.state, c.resume.new.gate) c.loop-who.step c.resume.new.step (entry c.in-Some.who c.in-Some.key)
+    (sym c.in_ok-who.ensures.found ∙ ap (option_map (λ f. entry f.0 f.1)) c.in-Some.is) c.in_ok-resume.ensures
 
 pub loop-who-preserved : goal.loop-who-preserved
 loop-who-preserved g c =
-    remains-resumed g.G.WriteGate.rule c.args.gate.now c.loop-who.gate c.resume.new.gate (seen c.args.state.now) (seen c.loop-who.state) (seen c.resume.new.state) c.args.step.now c.loop-who.step c.resume.new.step (entry c.in-Some.who c.in-Some.key)
-    (sym c.in_ok-who.ensures.found ∙ ap (option_map (λ f. entry f.0 f.1)) c.in-Some.is) c.in_ok-resume.ensures.adds c.in_ok-resume.ensures.passed c.loop-who.invariant
+    remains-resumed g.G.WriteGate.rule (seen c.args.state.now, c.args.gate.now) (seen c.loop-who.state, c.loop-who.gate) (seen c.resume.new.state, c.resume.new.gate) c.args.step.now c.loop-who.step c.resume.new.step (entry c.in-Some.who c.in-Some.key)
+    (sym c.in_ok-who.ensures.found ∙ ap (option_map (λ f. entry f.0 f.1)) c.in-Some.is) c.in_ok-resume.ensures c.loop-who.invariant
 
 pub returns-in_default-clause-adds : goal.returns-in_default-clause-adds
 returns-in_default-clause-adds g c =
-    remains-done g.G.WriteGate.rule c.args.gate.now c.loop-who.gate (seen c.args.state.now) (seen c.loop-who.state) c.args.step.now c.loop-who.step
+    remains-done g.G.WriteGate.rule (seen c.args.state.now, c.args.gate.now) (seen c.loop-who.state, c.loop-who.gate) c.args.step.now c.loop-who.step
     (sym c.in_ok-who.ensures.found ∙ ap (option_map (λ f. entry f.0 f.1)) c.in_default.is) c.loop-who.invariant

@@ -26,7 +26,7 @@ invariant_of-self c = λ e.
     let p : RowPart = seen c.self.inside.rows in
     c.undo_aborted.ensures.tables (seen c.step_into-stepped.new.self)
     (tables-behind_turn c.args.now _ p _ was c.set_time.new.self _ _ _ (λ alike. step-told c.args.now was.undone (seen_with p was) p c.set_time.new.self c.args.who c.args.stmt.now alike) c.set_time.ensures.time
-    (to_z-of_z w64 c.args.now c.ranges.now) (c.self.invariant c.if-self.false) c.set_time.ensures.within c.in-Ok.ensures.exact.changed c.in-Ok.ensures.passed)
+    (to_z-of_z w64 c.args.now c.ranges.now) (c.self.invariant c.if-self.false) c.set_time.ensures.within c.in-Ok.ensures.exact.changed c.in-Ok.ensures.exact.passed)
 
 pub invariant_of-self-in-Ok : goal.invariant_of-self-in-Ok
 invariant_of-self-in-Ok c = λ e.
@@ -34,7 +34,7 @@ invariant_of-self-in-Ok c = λ e.
     let p : RowPart = seen c.self.inside.rows in
     c.undo_aborted.ensures.tables (seen c.step_into-stepped.new.self)
     (tables-behind_turn c.args.now _ p _ was c.set_time.new.self _ _ _ (λ alike. step-told c.args.now was.undone (seen_with p was) p c.set_time.new.self c.args.who c.args.stmt.now alike) c.set_time.ensures.time
-    (to_z-of_z w64 c.args.now c.ranges.now) (c.self.invariant c.if-self.false) c.set_time.ensures.within c.in-Ok.ensures.exact.changed c.in-Ok.ensures.passed)
+    (to_z-of_z w64 c.args.now c.ranges.now) (c.self.invariant c.if-self.false) c.set_time.ensures.within c.in-Ok.ensures.exact.changed c.in-Ok.ensures.exact.passed)
 
 pub returns-in_ok-undo_aborted-in-Ok-clause-adds : goal.returns-in_ok-undo_aborted-in-Ok-clause-adds
 returns-in_ok-undo_aborted-in-Ok-clause-adds c =
@@ -48,7 +48,7 @@ returns-in_ok-undo_aborted-in-Ok-clause-adds c =
     let turn : Turn = row_turn (by_gate event_rule part_by_itself) (p, q) c.args.who c.args.stmt.now in
     subst (λ (v : DbView). Adds (seen_database v) (seen_with after c.undo_aborted.new.queues) c.args.replies.now c.swap-2.new.y (database_turn database_by_itself (seen_database v) c.args.now c.args.who (Row c.args.stmt.now))) c.self.view_is (record {
       replied = c.swap-2.ensures.y_after ∙ c.in-Ok.ensures.exact.replied ∙ ap (λ before. before ++ turn.answers) c.swap.ensures.x_after ∙ ap (λ answers. c.args.replies.now ++ answers) (sym same.answers);
-      changed = told-changed c.args.now was.undone d p after q c.step_into-stepped.new.gate c.undo_aborted.new.queues turn _ c.step_into-stepped.new.step.effects.items same c.in-Ok.ensures.exact.changed c.in-Ok.ensures.passed
+      changed = told-changed c.args.now was.undone d p after q c.step_into-stepped.new.gate c.undo_aborted.new.queues turn _ c.step_into-stepped.new.step.effects.items same c.in-Ok.ensures.exact.changed c.in-Ok.ensures.exact.passed
           (undone-as d turn.marks c.clear.new.self c.step_into-stepped.new.step.effects (step-rows p q c.args.who c.args.stmt.now).marks (ap EffectsView.items c.clear.ensures) c.in-Ok.ensures.exact.told) (c.in_ok-undo_aborted-in-Ok.ensures.noted after);
     })
 

@@ -2,4 +2,4 @@ use Rattle.sky_world.proofs.Worlds.{answers-known}
 use Rattle.sky_world.proofs.world.World.answer_known.Goals as goal
 
 pub returns : goal.returns
-returns c = answers-known _ _ _ c.args.who _ _ c.requires.known c.requires.counted c.in_ok-run.ensures
+returns c = answers-known _ _ _ c.args.who _ _ c.requires.known c.in_ok-run.ensures

@@ -4,6 +4,5 @@ use Rattle.sky_world.proofs.world.World.answer_new.Goals as goal
 
 pub returns : goal.returns
 returns c =
-    let room : length c.args.self.now.sessions < 256 = grind (arith, c.most.ensures, c.if-who-most.false, c.session_count-who.ensures.count) in
-    answers-new _ _ _ _ _ _ _ c.requires.new room c.in_ok-appear.ensures.fact c.session_count-who.ensures.count
-    (omega (arith, c.in_ok-appear.ensures.homes, c.in_ok-appear.ensures.sessions, c.session_count-who.ensures.count, c.session_count-who.ensures.homes)) c.in_ok-run.ensures
+    let room : length c.args.self.now.sessions.names < 256 = grind (arith, c.most.ensures, c.if-who-most.false, c.session_count-who.ensures) in
+    answers-new _ _ _ _ _ _ _ c.requires.new room c.in_ok-appear.ensures.fact c.session_count-who.ensures c.in_ok-run.ensures

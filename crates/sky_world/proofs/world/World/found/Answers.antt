@@ -1,21 +1,23 @@
-use Rattle.std.proofs.Common.{◌≡◌, List, ◌++◌, ◌∷◌, [], ap, ◌∙◌}
+use Rattle.std.proofs.Common.{◌≡◌, ℕ, ◌∷◌, [], ap, length, length-append, option_and_then, slice_get, arith, ◌∙◌}
+use Rattle.sky_names.specs.Places.{place_of}
+use Rattle.sky_names.specs.Named.{NamedView}
 use Rattle.pgq_db.specs.Views.{DbView}
-use Rattle.sky_world.proofs.Worlds.{counted-push, stored-more, waiters-founded, founded-as}
+use Rattle.sky_world.specs.Views.{WorldView}
+use Rattle.sky_world.proofs.Worlds.{homes-more, waiters-founded, founded-as}
 use Rattle.sky_world.proofs.world.World.found.Goals as goal
+
+pub add-requires-clause-new : goal.add-requires-clause-new
+add-requires-clause-new c =
+    ap (option_and_then (slice_get c.self.inside.databases.values))
+    (ap (λ name. place_of name c.self.inside.databases.names) c.in_ok-copied.ensures ∙ ap (λ (v : WorldView). place_of c.args.name.now v.databases.names) c.self.view_is ∙ c.requires.new)
 
 pub invariant_of-self-2 : goal.invariant_of-self-2
 invariant_of-self-2 c =
-    let longer : c.push_reserved.new.self.items ≡ c.self.inside.stores.items ++ c.new.result ∷ [] =
-    c.push_reserved.ensures.items ∙ ap (λ (stores : List DbView). stores ++ c.new.result ∷ []) c.in_ok-reserve.ensures.items in (
+    let longer = c.in_ok-add.ensures.added in (
       c.self.invariant.0,
-      c.self.invariant.1,
-      counted-push c.self.inside.stores.items c.new.result c.self.inside.databases _ _ _ c.self.invariant.2 longer c.in_ok-add.ensures.added,
-      stored-more c.self.inside.stores.items _ c.new.result c.self.inside.homes.items longer c.self.invariant.3,
-      (λ whole. waiters-founded _ c.self.inside.stores.items _ c.new.result longer c.new.ensures (c.self.invariant.4 whole)),
+      homes-more _ _ c.self.inside.sessions.values (omega (arith, ap (λ (n : NamedView DbView). length n.names) longer, length-append c.self.inside.databases.names (c.in_ok-copied.copied ∷ []))) c.self.invariant.1,
+      (λ whole. waiters-founded _ c.self.inside.databases.values _ c.new.result (ap (λ (n : NamedView DbView). n.values) longer) c.new.ensures (c.self.invariant.2 whole)),
     )
 
 pub returns-clause-fact : goal.returns-clause-fact
-returns-clause-fact c =
-    let longer : c.push_reserved.new.self.items ≡ c.self.inside.stores.items ++ c.new.result ∷ [] =
-    c.push_reserved.ensures.items ∙ ap (λ (stores : List DbView). stores ++ c.new.result ∷ []) c.in_ok-reserve.ensures.items in
-    founded-as _ _ _ _ c.new.result c.args.name.now _ c.self.view_is c.in_ok-add.ensures.added c.in_ok-copied.ensures longer c.new.ensures
+returns-clause-fact c = founded-as _ _ _ c.new.result c.args.name.now _ c.self.view_is c.in_ok-add.ensures.added c.in_ok-copied.ensures c.new.ensures

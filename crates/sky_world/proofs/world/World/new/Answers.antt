@@ -2,4 +2,4 @@ use Rattle.sky_world.proofs.Worlds.{world-new}
 use Rattle.sky_world.proofs.world.World.new.Goals as goal
 
 pub returns : goal.returns
-returns c = world-new _ _ _ _ c.new.ensures c.new-2.ensures.items c.new-3.ensures c.new-4.ensures.items
+returns c = world-new _ _ c.new.ensures c.new-2.ensures
