@@ -11,11 +11,11 @@ loop-effect-preserved c = record {
       undone-at (seen_with part c.loop-effect.queues) (seen_with part c.note.new.queues) _ _ c.args.effects.now.items c.loop-effect.effect-index _ (c.in_ok-note.ensures.noted part) c.as_slice-effect-items.ensures (omega (arith, c.loop-effect-test.true))
       c.effect-item.is (c.loop-effect.invariant.undone part);
   names = c.note.ensures.names ∙ c.loop-effect.invariant.names;
-  tables = λ part are. c.note.ensures.tables part (c.loop-effect.invariant.tables part are);
+  tables = (c.note.ensures.tables.0 ∙ c.loop-effect.invariant.tables.0, c.note.ensures.tables.1 ∙ c.loop-effect.invariant.tables.1);
 }
 
 pub returns-in_err-note-clause-tables : goal.returns-in_err-note-clause-tables
-returns-in_err-note-clause-tables c = λ part are. c.note.ensures.tables part (c.loop-effect.invariant.tables part are)
+returns-in_err-note-clause-tables c = (c.note.ensures.tables.0 ∙ c.loop-effect.invariant.tables.0, c.note.ensures.tables.1 ∙ c.loop-effect.invariant.tables.1)
 
 pub returns-clause-noted : goal.returns-clause-noted
 returns-clause-noted c = λ part.
