@@ -15,7 +15,7 @@ use Rattle.sky_model.specs.State.{RowPart, after_part, after_part_marks, changed
 use Rattle.sky_model.specs.SessionMarks.{sight_marks, Enters}
 use Rattle.pgq_queues.specs.Views.{TracedTableView, QueuesView}
 use Rattle.pgq_queues.specs.Seen.{kept}
-use Rattle.pgq_queues.specs.Traced.{IsTable, IsTraced, AreTables, KeepsTables}
+use Rattle.pgq_queues.specs.Traced.{IsTable, IsTraced, AreTables, KeepsRest}
 
 get-more : {A : Type 0} (xs ys : List A) (n : ℕ) (a : A) → slice_get xs n ≡ Some a → slice_get (xs ++ ys) n ≡ Some a
 get-more [] ys n a is = absurd (cc)
@@ -47,8 +47,8 @@ tables-behind p [] q are = are
 tables-behind p (mark ∷ marks) q are = tables-behind (after_part p mark) marks q (tables-kept p mark q are)
 
 -- queues that keep of tables what they kept
-pub tables-stay : (p : RowPart) (old new : QueuesView) → KeepsTables old new → AreTables p old → AreTables p new
-tables-stay p old new keeps = subst (λ (s : List TableTrigger × List (ℕ × TracedTableView)). (n : ℕ) → IsTraced p n s.0 (kept s.1 n)) (λ i. (sym keeps.0 i, sym keeps.1 i))
+pub tables-stay : (p : RowPart) (old new : QueuesView) → KeepsRest old new → AreTables p old → AreTables p new
+tables-stay p old new keeps = subst (λ (s : List TableTrigger × List (ℕ × TracedTableView)). (n : ℕ) → IsTraced p n s.0 (kept s.1 n)) (λ i. (sym keeps.triggers i, sym keeps.traced i))
 
 -- a row part after marks
 pub tables-then : (old new : RowPart) (marks : List Mark) (q : QueuesView) → new ≡ after_part_marks old marks → AreTables old q → AreTables new q
