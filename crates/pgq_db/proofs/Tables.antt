@@ -2,23 +2,20 @@
 use Rattle.std.proofs.Common.{◌≡◌, ℕ, zero, suc, ◌<◌, Bool, true, false, ◌==◌, List, [], ◌∷◌, ◌++◌, Option, Some, None, Result, Ok, Err, IfOk, OnErr, length, refl, sym, ◌∙◌, ap, subst, arith, if◌then◌else◌}
 use Rattle.std.specs.Prelude.{slice_get}
 use Rattle.std.proofs.lemmas.Bool.Decides.{nat_tests}
+use Rattle.std.proofs.lemmas.Option.{slice_get_within}
 use Rattle.std.specs.declared.alloc.AllocError.{AllocError}
 use Rattle.sky_val.specs.declared.column.Column.{Column}
 use Rattle.sky_names.specs.Places.{place_of}
 use Rattle.sky_names.proofs.PlaceLemmas.{slice_get-place_of}
 use Rattle.sky_model.specs.declared.reply.Refusal.{Refusal}
 use Rattle.sky_model.specs.declared.stmt.Where.{Where}
-use Rattle.sky_model.specs.History.{Mark, began, ended, block_begun, repeats, looked, block_failed, block_ended, connected, disconnected, tabled, table_made, wrote, waits, waited, queued}
+use Rattle.sky_model.specs.History.{Mark, ended, tabled, table_made}
+use Rattle.sky_model.specs.Triggers.{TableTrigger}
 use Rattle.sky_model.specs.State.{RowPart, after_part, after_part_marks, changed_at}
 use Rattle.sky_model.specs.SessionMarks.{sight_marks, Enters}
 use Rattle.pgq_queues.specs.Views.{TracedTableView, QueuesView}
 use Rattle.pgq_queues.specs.Seen.{kept}
-use Rattle.pgq_queues.specs.Traced.{IsTable, IsTraced, AreTables}
-
-get-within : {A : Type 0} (xs : List A) (n : ℕ) (a : A) → slice_get xs n ≡ Some a → n < length xs
-get-within [] n a is = absurd (cc)
-get-within (x ∷ xs) zero a is = omega arith
-get-within (x ∷ xs) (suc n) a is = let lt = get-within xs n a is in omega arith
+use Rattle.pgq_queues.specs.Traced.{IsTable, IsTraced, AreTables, KeepsRest}
 
 get-more : {A : Type 0} (xs ys : List A) (n : ℕ) (a : A) → slice_get xs n ≡ Some a → slice_get (xs ++ ys) n ≡ Some a
 get-more [] ys n a is = absurd (cc)
@@ -33,22 +30,10 @@ other-columns m n columns f lt = by (m == n) refl
     by false e = refl
 
 table-kept : (p : RowPart) (mark : Mark) (n : ℕ) (called : List ℕ) (shape : List Column) → IsTable p n called shape → IsTable (after_part p mark) n called shape
-table-kept p (began who t') n called shape is = is
-table-kept p (ended who t' true) n called shape is = is
-table-kept p (ended who t' false) n called shape is = is
-table-kept p (block_begun who) n called shape is = is
-table-kept p (repeats who) n called shape is = is
-table-kept p (looked who) n called shape is = is
-table-kept p (block_failed who) n called shape is = is
-table-kept p (block_ended who) n called shape is = is
-table-kept p (connected who) n called shape is = is
-table-kept p (disconnected who) n called shape is = is
 table-kept p (tabled (table_made name columns)) n called shape is =
-    (get-more p.tables (name ∷ []) n called is.0, other-columns (length p.tables) n columns p.columns (get-within p.tables n called is.0) ∙ is.1)
-table-kept p (tabled (wrote who t' table key old new)) n called shape is = is
-table-kept p (tabled (waits who table key attempt)) n called shape is = is
-table-kept p (tabled (waited who)) n called shape is = is
-table-kept p (queued mark) n called shape is = is
+    (get-more p.tables (name ∷ []) n called is.0, other-columns (length p.tables) n columns p.columns (slice_get_within p.tables n called is.0) ∙ is.1)
+table-kept p (ended who t true) n called shape is = is
+table-kept p mark n called shape is = is
 
 pub tables-kept : (p : RowPart) (mark : Mark) (q : QueuesView) → AreTables p q → AreTables (after_part p mark) q
 tables-kept p mark q are n = of (kept q.traced n) (are n)
@@ -60,6 +45,10 @@ tables-kept p mark q are n = of (kept q.traced n) (are n)
 tables-behind : (p : RowPart) (marks : List Mark) (q : QueuesView) → AreTables p q → AreTables (after_part_marks p marks) q
 tables-behind p [] q are = are
 tables-behind p (mark ∷ marks) q are = tables-behind (after_part p mark) marks q (tables-kept p mark q are)
+
+-- queues that keep of tables what they kept
+pub tables-stay : (p : RowPart) (old new : QueuesView) → KeepsRest old new → AreTables p old → AreTables p new
+tables-stay p old new keeps = subst (λ (s : List TableTrigger × List (ℕ × TracedTableView)). (n : ℕ) → IsTraced p n s.0 (kept s.1 n)) (λ i. (sym keeps.triggers i, sym keeps.traced i))
 
 -- a row part after marks
 pub tables-then : (old new : RowPart) (marks : List Mark) (q : QueuesView) → new ≡ after_part_marks old marks → AreTables old q → AreTables new q

@@ -3,7 +3,7 @@
 ghost use Rattle.std.specs.Prelude.{◌≡◌, [], ◌∷◌, OnOk};
 ghost use Rattle.sky_model.specs.State.{RowPart};
 ghost use Rattle.pgq_queues.specs.Seen.{seen_with};
-ghost use Rattle.pgq_queues.specs.Traced.{AreTables};
+ghost use Rattle.pgq_queues.specs.Traced.{KeepsRest};
 ghost use Rattle.pgq_db.specs.Undone.{undone_by};
 
 use pgq_queues::Queues;
@@ -15,7 +15,7 @@ pub(crate) fn undo_aborted(queues: &mut Queues, effects: &Effects) -> Result<(),
     ensures noted { OnOk result ((part : RowPart) → seen_with part queues.new
         ≡ record (seen_with part queues.old) { undone = undone_by effects.now.items (seen_with part queues.old).undone }) }
     ensures names { queues.new.names ≡ queues.old.names }
-    ensures tables { (part : RowPart) → AreTables part queues.old → AreTables part queues.new }
+    ensures rest { KeepsRest queues.old queues.new }
 {
     for effect in effects.as_slice() {
         note(queues, effect)?;
@@ -28,7 +28,7 @@ fn note(queues: &mut Queues, effect: &Effect) -> Result<(), AllocError>
     ensures noted { OnOk result ((part : RowPart) → seen_with part queues.new
         ≡ record (seen_with part queues.old) { undone = undone_by (effect.now ∷ []) (seen_with part queues.old).undone }) }
     ensures names { queues.new.names ≡ queues.old.names }
-    ensures tables { (part : RowPart) → AreTables part queues.old → AreTables part queues.new }
+    ensures rest { KeepsRest queues.old queues.new }
 {
     match effect {
         Effect::Aborted(txid) => queues.undo(*txid),

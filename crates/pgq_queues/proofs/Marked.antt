@@ -3,6 +3,8 @@ use Rattle.std.proofs.Common.{◌≡◌, ℕ, ℤ, suc, zero, ◌+◌, ◌<◌, 
 use Rattle.std.proofs.lemmas.Bool.Decides.{nat_tests}
 use Rattle.std.proofs.lemmas.List.Elements.{All-filter}
 use Rattle.std.proofs.lemmas.List.{set-get_or}
+use Rattle.std.proofs.Math.ListN.{get_or-eq_default}
+use Rattle.std.proofs.Math.Seq.{get_or-append_seam}
 use Rattle.std.proofs.lemmas.Result.{IfOk-weaker}
 use Rattle.std.specs.declared.alloc.AllocError.{AllocError}
 use Rattle.std.proofs.lemmas.Option.{get_or_from_slice_get, slice_get_read}
@@ -31,71 +33,42 @@ use Rattle.pgq_queues.proofs.NumberedQueues.{numbered-more}
 pub is_at-nat : (k n : ℕ) → is_at (nat_cmp k) n ≡ (k == n)
 is_at-nat k n = grind (arith, nat_tests)
 
--- a batch under a new id
-pub batches-insert : (old new : List (ℕ × Batch)) (id : ℕ) (batch : Batch)
-    → ((q : ℕ) → lookup (is_at (nat_cmp q)) new ≡ cond (is_at (nat_cmp id) q) (Some batch) (lookup (is_at (nat_cmp q)) old))
-    → (λ n. option_map (seen_batch n) (lookup (is_at (nat_cmp n)) new)) ≡ changed_at id (λ _. Some (seen_batch id batch)) (λ n. option_map (seen_batch n) (lookup (is_at (nat_cmp n)) old))
-batches-insert old new id batch updates = λ i n. pointwise n i
+-- a batch under a new id, or one that is gone
+pub batches-updated : (old new : List (ℕ × Batch)) (id : ℕ) (o : Option Batch) → ((q : ℕ) → lookup (is_at (nat_cmp q)) new ≡ cond (is_at (nat_cmp id) q) o (lookup (is_at (nat_cmp q)) old))
+    → (λ n. option_map (seen_batch n) (lookup (is_at (nat_cmp n)) new)) ≡ changed_at id (λ _. option_map (seen_batch id) o) (λ n. option_map (seen_batch n) (lookup (is_at (nat_cmp n)) old))
+batches-updated old new id o updates = λ i n. pointwise n i
   where
-    by : (n : ℕ) (b : Bool) → (id == n) ≡ b → option_map (seen_batch n) (cond b (Some batch) (lookup (is_at (nat_cmp n)) old))
-        ≡ (if b then Some (seen_batch id batch) else option_map (seen_batch n) (lookup (is_at (nat_cmp n)) old))
-    by n true e = let same : id ≡ n = grind (arith, nat_tests) in ap (λ m. Some (seen_batch m batch)) (sym same)
+    by : (n : ℕ) (b : Bool) → (id == n) ≡ b → option_map (seen_batch n) (cond b o (lookup (is_at (nat_cmp n)) old)) ≡ (if b then option_map (seen_batch id) o else option_map (seen_batch n) (lookup (is_at (nat_cmp n)) old))
+    by n true e = let same : id ≡ n = grind (arith, nat_tests) in ap (λ m. option_map (seen_batch m) o) (sym same)
     by n false e = refl
 
-    pointwise : (n : ℕ) → option_map (seen_batch n) (lookup (is_at (nat_cmp n)) new)
-        ≡ (if id == n then Some (seen_batch id batch) else option_map (seen_batch n) (lookup (is_at (nat_cmp n)) old))
-    pointwise n = ap (option_map (seen_batch n)) (updates n ∙ ap (λ b. cond b (Some batch) (lookup (is_at (nat_cmp n)) old)) (is_at-nat id n)) ∙ by n (id == n) refl
-
--- and one that is gone
-pub batches-remove : (old new : List (ℕ × Batch)) (id : ℕ)
-    → ((q : ℕ) → lookup (is_at (nat_cmp q)) new ≡ cond (is_at (nat_cmp id) q) None (lookup (is_at (nat_cmp q)) old))
-    → (λ n. option_map (seen_batch n) (lookup (is_at (nat_cmp n)) new)) ≡ changed_at id (λ _. None) (λ n. option_map (seen_batch n) (lookup (is_at (nat_cmp n)) old))
-batches-remove old new id updates = λ i n. pointwise n i
-  where
-    by : (n : ℕ) (b : Bool) → option_map (seen_batch n) (cond b None (lookup (is_at (nat_cmp n)) old))
-        ≡ (if b then None else option_map (seen_batch n) (lookup (is_at (nat_cmp n)) old))
-    by n true = refl
-    by n false = refl
-
-    pointwise : (n : ℕ) → option_map (seen_batch n) (lookup (is_at (nat_cmp n)) new)
-        ≡ (if id == n then None else option_map (seen_batch n) (lookup (is_at (nat_cmp n)) old))
-    pointwise n = ap (option_map (seen_batch n)) (updates n ∙ ap (λ b. cond b None (lookup (is_at (nat_cmp n)) old)) (is_at-nat id n)) ∙ by n (id == n)
+    pointwise : (n : ℕ) → option_map (seen_batch n) (lookup (is_at (nat_cmp n)) new) ≡ (if id == n then option_map (seen_batch id) o else option_map (seen_batch n) (lookup (is_at (nat_cmp n)) old))
+    pointwise n = ap (option_map (seen_batch n)) (updates n ∙ ap (λ b. cond b o (lookup (is_at (nat_cmp n)) old)) (is_at-nat id n)) ∙ by n (id == n) refl
 
 -- a queue that is made has its first tick alone
 pub queues-made : (queues : List QueueView) (t : Tick) (count : ℕ) → count ≡ length queues
     → (λ n. seen_queue (get_or (queues ++ record { seq = 0; events = []; ticks = t ∷ []; subs = no_subs } ∷ []) n no_queue))
     ≡ changed_at count (λ q. record q { tick_list = q.tick_list ++ t ∷ [] }) (λ n. seen_queue (get_or queues n no_queue))
-queues-made queues t count is = λ i n. pointwise queues n count is i
+queues-made queues t count is = λ i n. pointwise n (count == n) refl i
   where
     new : QueueView
     new = record { seq = 0; events = []; ticks = t ∷ []; subs = no_subs }
 
-    at : (b : Bool) (n : ℕ) → (zero == suc n) ≡ b → seen_queue no_queue ≡ (if b then record (seen_queue no_queue) { tick_list = t ∷ [] } else seen_queue no_queue)
-    at true n e = absurd (grind (arith, nat_tests))
-    at false n e = refl
+    ticked : Queue → Queue
+    ticked q = record q { tick_list = q.tick_list ++ t ∷ [] }
 
-    first : (b : Bool) (qs : List QueueView) (x : QueueView) → (suc (length qs) == zero) ≡ b → seen_queue x ≡ (if b then record (seen_queue x) { tick_list = (seen_queue x).tick_list ++ t ∷ [] } else seen_queue x)
-    first true qs x e = absurd (grind (arith, nat_tests))
-    first false qs x e = refl
+    apart : (qs : List QueueView) (n : ℕ) → (length qs ≡ n → ⊥) → get_or (qs ++ new ∷ []) n no_queue ≡ get_or qs n no_queue
+    apart [] zero other = absurd (other refl)
+    apart [] (suc n) other = refl
+    apart (q ∷ qs) zero other = refl
+    apart (q ∷ qs) (suc n) other = apart qs n (λ e. other (ap suc e))
 
-    shift : (m n : ℕ) → (m == n) ≡ (suc m == suc n)
-    shift m n = grind (arith, nat_tests)
-
-    pointwise : (qs : List QueueView) (n m : ℕ) → m ≡ length qs
-        → seen_queue (get_or (qs ++ record { seq = 0; events = []; ticks = t ∷ []; subs = no_subs } ∷ []) n no_queue)
-        ≡ (if m == n then record (seen_queue (get_or qs n no_queue)) { tick_list = (seen_queue (get_or qs n no_queue)).tick_list ++ t ∷ [] } else seen_queue (get_or qs n no_queue))
-    pointwise [] zero m e =
-        let yes_it_is : true ≡ (m == zero) = grind (arith, nat_tests) in
-        ap (λ b. if b then record (seen_queue no_queue) { tick_list = t ∷ [] } else seen_queue no_queue) yes_it_is
-    pointwise [] (suc n) m e =
-        at (zero == suc n) n refl ∙ ap (λ k. if k == suc n then record (seen_queue no_queue) { tick_list = t ∷ [] } else seen_queue no_queue) (sym e)
-    pointwise (x ∷ qs) zero m e =
-        first (suc (length qs) == zero) qs x refl
-        ∙ ap (λ k. if k == zero then record (seen_queue x) { tick_list = (seen_queue x).tick_list ++ t ∷ [] } else seen_queue x) (sym e)
-    pointwise (x ∷ qs) (suc n) m e =
-        pointwise qs n (length qs) refl
-        ∙ ap (λ b. if b then record (seen_queue (get_or qs n no_queue)) { tick_list = (seen_queue (get_or qs n no_queue)).tick_list ++ t ∷ [] } else seen_queue (get_or qs n no_queue)) (shift (length qs) n)
-        ∙ ap (λ k. if k == suc n then record (seen_queue (get_or qs n no_queue)) { tick_list = (seen_queue (get_or qs n no_queue)).tick_list ++ t ∷ [] } else seen_queue (get_or qs n no_queue)) (sym e)
+    pointwise : (n : ℕ) (b : Bool) → (count == n) ≡ b → seen_queue (get_or (queues ++ new ∷ []) n no_queue) ≡ (if b then ticked (seen_queue (get_or queues n no_queue)) else seen_queue (get_or queues n no_queue))
+    pointwise n true e =
+        let here : length queues ≡ n = grind (arith, nat_tests) in
+        ap seen_queue (ap (λ m. get_or (queues ++ new ∷ []) m no_queue) (sym here) ∙ get_or-append_seam queues new [] no_queue)
+        ∙ ap (λ q. ticked (seen_queue q)) (sym (get_or-eq_default queues no_queue (omega (arith, here))))
+    pointwise n false e = ap seen_queue (apart queues n (λ here. let yes : (count == n) ≡ true = grind (arith, nat_tests) in absurd (cc)))
 
 pub get_or-slice_set : (xs : List QueueView) (i n : ℕ) (x : QueueView) → i < length xs → get_or (slice_set xs i x) n no_queue ≡ (if i == n then x else get_or xs n no_queue)
 get_or-slice_set xs i n x lt = by (i == n) refl
@@ -169,22 +142,15 @@ queue-at v now i q same lt at =
     ap seen_queue (sym (get_or_from_slice_get v.queues i q no_queue (slice_get_read v.queues (length v.queues) i q refl lt at)))
     ∙ ap (λ (w : QueuesView). queue_at w i) same
 
--- a tick that is stored is one with the snapshot as it was
-pub ticked-as : (v now : QueuesView) (i : ℕ) (old new : QueueView) (t : Tick) → v ≡ now → i < length v.queues → old ≡ get_or v.queues i old → new ≡ record old { ticks = old.ticks ++ t ∷ [] }
-    → (part : RowPart) → t.snapshot ≡ snapshot_now part → seen_with part (record v { queues = slice_set v.queues i new }) ≡ after_mark (seen_with part now) (queued (ticked i t.id t.time t.seq))
-ticked-as v now i old new t same lt at is part snap =
-    queues-set v now i old new (λ q. record q { tick_list = q.tick_list ++ t ∷ [] }) same lt at (ap seen_queue is) part
-    ∙ ap (λ x. record (seen_with part now) {
-      queue = changed_at i (λ q. record q { tick_list = q.tick_list ++ record { id = t.id; time = t.time; snapshot = x; seq = t.seq } ∷ [] }) (queue_at now);
-    }) snap
-
--- so is one with the value of the sequence
-pub ticked-next : (v now : QueuesView) (i id : ℕ) (time : ℤ) (snapshot : SnapshotView) (old new : QueueView) → v ≡ now → i < length v.queues → old ≡ get_or v.queues i old
+-- a tick that is stored is one with the snapshot as it was and with the value of the sequence
+pub ticked-as : (v now : QueuesView) (i id : ℕ) (time : ℤ) (snapshot : SnapshotView) (old new : QueueView) → v ≡ now → i < length v.queues → old ≡ get_or v.queues i old
     → new ≡ record old { ticks = old.ticks ++ record { id = id; time = time; snapshot = snapshot; seq = old.seq } ∷ [] }
     → (part : RowPart) → snapshot ≡ snapshot_now part → seen_with part (record v { queues = slice_set v.queues i new }) ≡ after_mark (seen_with part now) (queued (ticked i id time (queue_at now i).seq))
-ticked-next v now i id time snapshot old new same lt at is part snap =
-    ticked-as v now i old new (record { id = id; time = time; snapshot = snapshot; seq = old.seq }) same lt at is part snap
-    ∙ ap (λ (q : Queue). after_mark (seen_with part now) (queued (ticked i id time q.seq))) (queue-at v now i old same lt at)
+ticked-as v now i id time snapshot old new same lt at is part snap =
+    queues-set v now i old new (λ q. record q { tick_list = q.tick_list ++ record { id = id; time = time; snapshot = snapshot; seq = old.seq } ∷ [] }) same lt at (ap seen_queue is) part
+    ∙ (λ j. record (seen_with part now) {
+      queue = changed_at i (λ q. record q { tick_list = q.tick_list ++ record { id = id; time = time; snapshot = snap j; seq = (queue-at v now i old same lt at j).seq } ∷ [] }) (queue_at now);
+    })
 
 -- nothing changes where a queue stays as it was
 pub queue-kept : (v now : QueuesView) (i : ℕ) (old new : QueueView) → v ≡ now → old ≡ get_or v.queues i old → new ≡ old → (part : RowPart) → seen_with part (record v { queues = slice_set v.queues i new }) ≡ seen_with part now
@@ -245,7 +211,7 @@ opened-as v now more id batch old new same lt at is updates part =
     (λ i. record (seen_with part v) {
       last_batch_id = id;
       queue = one-set v batch.queue old new (λ q. record q { sub = changed_for batch.consumer (option_map (with_batch id)) q.sub }) lt at is i;
-      batch = batches-insert v.batches more id batch updates i;
+      batch = batches-updated v.batches more id (Some batch) updates i;
     })
     ∙ ap (λ (w : QueuesView). after_mark (seen_with part w) (queued (opened (seen_batch id batch)))) same
 
@@ -258,7 +224,7 @@ pub closed-as : (v now : QueuesView) (rest : List (ℕ × Batch)) (id : ℕ) (ba
 closed-as v now rest id batch old new same lt at is updates part =
     (λ i. record (seen_with part v) {
       queue = one-set v batch.queue old new (λ q. record q { sub = changed_for batch.consumer (option_map (at_position batch.cur)) q.sub }) lt at is i;
-      batch = batches-remove v.batches rest id updates i;
+      batch = batches-updated v.batches rest id None updates i;
     })
     ∙ ap (λ (w : QueuesView). after_mark (seen_with part w) (queued (closed (seen_batch id batch)))) same
 

@@ -1,8 +1,10 @@
 -- The tables with triggers that a database keeps, after one of them changed.
 use Rattle.std.proofs.lemmas.List.{map-append, append-nil}
-use Rattle.std.proofs.Common.{◌≡◌, ℕ, zero, suc, ◌<◌, ◌≤◌, length-append, Bool, true, false, ◌==◌, List, [], ◌∷◌, ◌++◌, Option, Some, None, option_copied, Bor, IfSome, is_some, length, get_or, option_map, nat_cmp, cond, refl, sym, ◌∙◌, ap, subst, arith, if◌then◌else◌}
+use Rattle.std.proofs.Common.{◌≡◌, ℕ, suc, ◌<◌, ◌≤◌, length-append, Bool, true, false, ◌==◌, List, [], ◌∷◌, ◌++◌, Option, Some, None, option_copied, Bor, IfSome, is_some, length, get_or, option_map, nat_cmp, cond, refl, sym, ◌∙◌, ap, subst, arith, if◌then◌else◌}
 use Rattle.std.proofs.lemmas.Bool.Decides.{nat_tests}
 use Rattle.std.proofs.lemmas.List.Elements.{All-cons, All-append, filter-append}
+use Rattle.std.proofs.Math.ListN.{get_or-append}
+use Rattle.std.proofs.Math.Seq.{get_or-append_seam}
 use Rattle.std.specs.List.{All}
 use Rattle.std.specs.BTreeMap.{is_at}
 use Rattle.std.specs.Map.{lookup}
@@ -22,15 +24,6 @@ Updated old new n o = (q : ℕ) → lookup (is_at (nat_cmp q)) new ≡ cond (is_
 
 kept-updated : (old new : List (ℕ × TracedTableView)) (n : ℕ) (o : Option TracedTableView) → Updated old new n o → (m : ℕ) → kept new m ≡ (if n == m then o else kept old m)
 kept-updated old new n o updates m = updates m ∙ ap (λ b. cond b o (kept old m)) (is_at-nat n m)
-
--- what held of each holds of each, where it holds of that one
-pub each-updated : (P : ℕ → TracedTableView → Type 0) (old new : List (ℕ × TracedTableView)) (n : ℕ) (o : Option TracedTableView) → Updated old new n o → IfSome o (P n)
-    → ((m : ℕ) → IfSome (kept old m) (P m)) → (m : ℕ) → IfSome (kept new m) (P m)
-each-updated P old new n o updates here each m = subst (λ x. IfSome x (P m)) (sym (kept-updated old new n o updates m)) (by (n == m) refl)
-  where
-    by : (b : Bool) → (n == m) ≡ b → IfSome (if b then o else kept old m) (P m)
-    by true e = let same : n ≡ m = grind (arith, nat_tests) in subst (λ k. IfSome o (P k)) same here
-    by false e = each m
 
 if-some : {A : Type 0} (o : Option A) (P Q : A → Type 0) → ((a : A) → P a → Q a) → IfSome o P → IfSome o Q
 if-some None P Q f is = tt
@@ -64,17 +57,7 @@ at-more : (ts : List TableTrigger) (x : TableTrigger) (places : List ℕ) → Al
 at-more ts x [] within = refl
 at-more ts x (p ∷ ps) within =
     let low : p < length ts = within 0 0 (omega arith) in
-    λ i. get_or-before ts x p low i ∷ at-more ts x ps (λ k d lt. within (suc k) d (omega (arith, lt))) i
-  where
-    get_or-before : (ts : List TableTrigger) (x : TableTrigger) (p : ℕ) → p < length ts → get_or (ts ++ x ∷ []) p no_trigger ≡ get_or ts p no_trigger
-    get_or-before [] x p low = absurd (omega arith)
-    get_or-before (t ∷ ts) x zero low = refl
-    get_or-before (t ∷ ts) x (suc p) low = get_or-before ts x p (omega (arith, low))
-
--- and the next place shows it
-get_or-last : (ts : List TableTrigger) (x : TableTrigger) → get_or (ts ++ x ∷ []) (length ts) no_trigger ≡ x
-get_or-last [] x = refl
-get_or-last (t ∷ ts) x = get_or-last ts x
+    λ i. get_or-append ts (x ∷ []) no_trigger p low i ∷ at-more ts x ps (λ k d lt. within (suc k) d (omega (arith, lt))) i
 
 within-next : (ts : List TableTrigger) (x : TableTrigger) (places : List ℕ) → All (λ place. place < length ts) places → All (λ place. place < length (ts ++ x ∷ [])) places
 within-next ts x places within k d lt = let low = within k d lt in omega (arith, low, length-append ts (x ∷ []))
@@ -88,7 +71,7 @@ placed-own n ts x places own are = record {
   within = All-append (λ place. place < length (ts ++ x ∷ [])) places (length ts ∷ []) (within-next ts x places are.within)
       (All-cons (λ place. place < length (ts ++ x ∷ [])) (length ts) [] (omega (arith, length-append ts (x ∷ []))) (λ k d low. absurd (omega arith)));
   own = map-append (λ place. get_or (ts ++ x ∷ []) place no_trigger) places (length ts ∷ [])
-      ∙ (λ i. (at-more ts x places are.within ∙ are.own) i ++ get_or-last ts x i ∷ [])
+      ∙ (λ i. (at-more ts x places are.within ∙ are.own) i ++ get_or-append_seam ts x [] no_trigger i ∷ [])
       ∙ ap (λ b. triggers_of n ts ++ (if b then x ∷ [] else [])) (sym own)
       ∙ sym (triggers_of-more n ts x);
 }
@@ -124,16 +107,6 @@ places-more ts x old new n t updates its more placed m = subst (λ o. ArePlaced 
         subst (ArePlaced (ts ++ x ∷ []) m) (sym (more ∙ ap (λ k. places_of (kept old k) ++ length ts ∷ []) one))
         (placed-own m ts x (places_of (kept old m)) (grind (arith, nat_tests)) (placed m))
     by false e = placed-other m ts x (places_of (kept old m)) (grind (arith, nat_tests)) (placed m)
-
--- what stands at the nth of places
-pub at-length : (ts : List TableTrigger) (places : List ℕ) → length (triggers_at ts places) ≡ length places
-at-length ts [] = refl
-at-length ts (p ∷ ps) = ap suc (at-length ts ps)
-
-pub at-nth : (ts : List TableTrigger) (places : List ℕ) (n d : ℕ) → n < length places → get_or (triggers_at ts places) n no_trigger ≡ get_or ts (get_or places n d) no_trigger
-at-nth ts [] n d lt = absurd (omega arith)
-at-nth ts (p ∷ ps) zero d lt = refl
-at-nth ts (p ∷ ps) (suc n) d lt = at-nth ts ps n d (omega arith)
 
 -- the places that are kept of a table are its own
 pub placed-at : (ts : List TableTrigger) (all : List (ℕ × TracedTableView)) (n : ℕ) (o : Option TracedTableView) → o ≡ kept all n → ((m : ℕ) → ArePlaced ts m (places_of (kept all m)))

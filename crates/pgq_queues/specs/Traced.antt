@@ -38,6 +38,12 @@ pub record TracedWithin (count : ℕ) (triggers : List TableTrigger) (traced : L
   pub queues : All (λ t. t.trigger.queue < count) triggers
   pub places : (n : ℕ) → ArePlaced triggers n (places_of (kept traced n))
 
+-- the time of the statement that runs, and what is kept of triggers and of tables with triggers, stay the same
+pub record KeepsRest (old new : QueuesView) : Type 0 where
+  pub time : new.time ≡ old.time
+  pub triggers : new.triggers ≡ old.triggers
+  pub traced : new.traced ≡ old.traced
+
 -- a table of a row part, by its name and its columns
 abbrev pub IsTable : RowPart → ℕ → List ℕ → List Column → Type 0
 IsTable part n name columns = (slice_get part.tables n ≡ Some name) × (part.columns n ≡ columns)

@@ -128,7 +128,8 @@ impl Queue {
     /// Stores an event.
     pub(crate) fn put(&mut self, event: Event) -> Result<(), NoMemory>
         requires { HasMoment event.ev_time }
-        ensures { OnOk result (self.new ≡ record self.old { events = self.old.events ++ event ∷ [] }) }
+        ensures ok { OnOk result (self.new ≡ record self.old { events = self.old.events ++ event ∷ [] }) }
+        ensures err { OnErr result (self.new ≡ self.old) }
     {
         let stored = Stored::new(self.alloc(), event)?;
         self.events.push(stored)?;
@@ -181,6 +182,7 @@ impl Queue {
         requires room { length (seen_queue self.old).members < 256 }
         ensures subs { OnOk result (seen_subs self.new.subs ≡ with_member consumer.now id position (seen_subs self.old.subs)) }
         ensures but { self.new ≡ record self.old { subs = self.new.subs } }
+        ensures err { OnErr result (self.new ≡ self.old) }
     {
         self.subs.register(alloc, consumer, id, position)?;
         Ok(())

@@ -12,7 +12,7 @@ ghost use Rattle.sky_model.specs.StepTrigger.{has_trigger};
 ghost use Rattle.sky_model.specs.Triggers.{triggers_of};
 ghost use Rattle.pgq_queues.specs.Seen.{kept, seen_with, seen_queue, seen_batch, queues_of, queue_at, batch_at, no_queues};
 ghost use Rattle.pgq_tick.specs.Ticks.{IsTime};
-ghost use Rattle.pgq_queues.specs.Traced.{traced_at, IsTable, AreTables};
+ghost use Rattle.pgq_queues.specs.Traced.{traced_at, IsTable, AreTables, KeepsRest};
 
 use crate::batch::Batch;
 use crate::queue::Queue;
@@ -188,7 +188,8 @@ impl Queues {
         ensures noted { OnOk result ((part : RowPart) → seen_with part self.new
             ≡ record (seen_with part self.old) { undone = λ u. u == txid || (seen_with part self.old).undone u }) }
         ensures names { self.new.names ≡ self.old.names }
-        ensures tables { (part : RowPart) → AreTables part self.old → AreTables part self.new }
+        ensures err { OnErr result (self.new ≡ self.old) }
+        ensures rest { KeepsRest self.old self.new }
     {
         self.undone.insert(txid)?;
         Ok(())
@@ -201,7 +202,8 @@ impl Queues {
         requires time { IsTime now }
         ensures marks { OnOk result ((part : RowPart) → snapshot ≡ snapshot_now part → seen_with part self.new
             ≡ after_marks (seen_with part self.old) (queued (made name) ∷ queued (ticked (length self.old.names) 1 now 0) ∷ [])) }
-        ensures tables { (part : RowPart) → AreTables part self.old → AreTables part self.new }
+        ensures err { OnErr result (self.new ≡ self.old) }
+        ensures rest { KeepsRest self.old self.new }
     {
         let queue = Queue::new(self.alloc, now, snapshot)?;
         self.queues.add(name, queue)?;
@@ -213,7 +215,7 @@ impl Queues {
         requires { queue < length self.old.names }
         ensures mark { (part : RowPart) → seen_with part self.new ≡ after_mark (seen_with part self.old) (queued (raised queue value)) }
         ensures names { self.new.names ≡ self.old.names }
-        ensures tables { (part : RowPart) → AreTables part self.old → AreTables part self.new }
+        ensures rest { KeepsRest self.old self.new }
     {
         self.queues.get_mut(queue).raise(value);
     }
@@ -224,7 +226,8 @@ impl Queues {
         requires time { HasMoment event.ev_time }
         ensures mark { OnOk result ((part : RowPart) → seen_with part self.new ≡ after_mark (seen_with part self.old) (queued (put queue event))) }
         ensures names { self.new.names ≡ self.old.names }
-        ensures tables { (part : RowPart) → AreTables part self.old → AreTables part self.new }
+        ensures err { OnErr result ((part : RowPart) → seen_with part self.new ≡ seen_with part self.old) }
+        ensures rest { KeepsRest self.old self.new }
     {
         self.queues.get_mut(queue).put(event)?;
         Ok(())
@@ -239,7 +242,7 @@ impl Queues {
             ≡ after_mark (seen_with part self.old) (queued (ticked queue id now (queue_at self.old queue).seq))) }
         ensures spent { (result ≡ Err TickFault.IdsSpent) ↔ (2 ^ 64 ≤ newest_id (queue_at self.old queue) + 1) }
         ensures err { OnErr result ((part : RowPart) → seen_with part self.new ≡ seen_with part self.old) }
-        ensures tables { (part : RowPart) → AreTables part self.old → AreTables part self.new }
+        ensures rest { KeepsRest self.old self.new }
     {
         self.queues.get_mut(queue).tick(now, snapshot)
     }
@@ -252,13 +255,15 @@ impl Queues {
         requires id { self.old.last_sub_id + 1 < 2 ^ 64 }
         ensures mark { OnOk result ((part : RowPart) → seen_with part self.new
             ≡ after_mark (seen_with part self.old) (queued (registered queue consumer.now (self.old.last_sub_id + 1) (newest_id (queue_at self.old queue))))) }
-        ensures tables { (part : RowPart) → AreTables part self.old → AreTables part self.new }
+        ensures err { OnErr result ((part : RowPart) → seen_with part self.new ≡ seen_with part self.old) }
+        ensures rest { KeepsRest self.old self.new }
     {
         let newest = self.queues.get(queue).ticks().newest().id();
-        self.last_sub_id += 1;
+        let id = self.last_sub_id + 1;
         self.queues
             .get_mut(queue)
-            .register(self.alloc, consumer, self.last_sub_id, newest)?;
+            .register(self.alloc, consumer, id, newest)?;
+        self.last_sub_id = id;
         Ok(())
     }
 
@@ -266,7 +271,7 @@ impl Queues {
     pub fn open_batch(&mut self, id: u64, batch: Batch) -> Result<(), NoMemory>
         requires { batch.queue < length self.old.names }
         ensures mark { OnOk result ((part : RowPart) → seen_with part self.new ≡ after_mark (seen_with part self.old) (queued (opened (seen_batch id batch)))) }
-        ensures tables { (part : RowPart) → AreTables part self.old → AreTables part self.new }
+        ensures rest { KeepsRest self.old self.new }
     {
         self.queues
             .get_mut(batch.queue)
@@ -281,7 +286,7 @@ impl Queues {
         ensures batch { option_map (seen_batch id) result ≡ batch_at self.old id }
         ensures mark { IfSome result (λ b. (part : RowPart) → seen_with part self.new ≡ after_mark (seen_with part self.old) (queued (closed (seen_batch id b)))) }
         ensures none { IfNone result ((part : RowPart) → seen_with part self.new ≡ seen_with part self.old) }
-        ensures tables { (part : RowPart) → AreTables part self.old → AreTables part self.new }
+        ensures rest { KeepsRest self.old self.new }
     {
         let batch = self.batches.remove(&id)?;
         self.queues

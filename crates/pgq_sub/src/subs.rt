@@ -1,4 +1,4 @@
-ghost use Rattle.std.specs.Prelude.{◌≡◌, ◌<◌, ◌^◌, ◌-◌, None, OnOk, length, option_copied};
+ghost use Rattle.std.specs.Prelude.{◌≡◌, ◌<◌, ◌^◌, ◌-◌, None, OnOk, OnErr, length, option_copied};
 ghost use Rattle.sky_model.specs.State.{with_batch, at_position};
 ghost use Rattle.pgq_sub.specs.Seen.{seen_subs, no_subs, with_member, with_sub};
 
@@ -58,7 +58,8 @@ impl Subs {
     ) -> Result<(), NoMemory>
         requires new { (seen_subs self.old).sub consumer.now ≡ None }
         requires room { length self.old.names < 2 ^ 32 - 1 }
-        ensures { OnOk result (seen_subs self.new ≡ with_member consumer.now id position (seen_subs self.old)) }
+        ensures ok { OnOk result (seen_subs self.new ≡ with_member consumer.now id position (seen_subs self.old)) }
+        ensures err { OnErr result (self.new ≡ self.old) }
     {
         let sub = Sub::new(id, position);
         self.subs.add(consumer.copy(alloc)?, sub)?;

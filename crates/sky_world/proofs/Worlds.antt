@@ -1,5 +1,5 @@
 -- What the world shows, after what the code changed in it.
-use Rattle.std.proofs.Common.{◌≡◌, ℕ, suc, zero, ◌+◌, ◌<◌, ◌≤◌, List, [], ◌∷◌, ◌++◌, Bool, true, false, ◌==◌, nat_le, Option, Some, None, map, length, append-nil, length-append, get_or, slice_set, get_or-set_same, get_or-set_other, ◌≢◌, refl, sym, ◌∙◌, ap, subst, arith, All, if◌then◌else◌, IfSome, ℤ, pos}
+use Rattle.std.proofs.Common.{◌≡◌, ℕ, suc, zero, ◌<◌, ◌≤◌, List, [], ◌∷◌, ◌++◌, Bool, true, false, ◌==◌, nat_le, Option, Some, None, map, length, append-nil, get_or, slice_set, get_or-set_same, get_or-set_other, ◌≢◌, refl, sym, ◌∙◌, ap, subst, arith, All, if◌then◌else◌, IfSome, ℤ, pos}
 use Rattle.std.proofs.lemmas.List.Elements.{All-append, All-set, All-get_or, All-from_recursion, All-weaker}
 use Rattle.std.proofs.lemmas.Bool.Decides.{nat_tests}
 use Rattle.std.proofs.lemmas.List.{get_or_past}
@@ -8,15 +8,14 @@ use Rattle.sky_keys.specs.Waits.{Waiting}
 use Rattle.sky_names.specs.Places.{place_of}
 use Rattle.sky_names.specs.Named.{NamedView, with_value}
 use Rattle.sky_model.specs.declared.stmt.Stmt.{Stmt}
-use Rattle.sky_model.specs.declared.reply.Reply.TheVariants.{Refused}
 use Rattle.sky_model.specs.declared.reply.Refusal.TheVariants.{TooMany}
 use Rattle.sky_model.specs.declared.reply.Limit.TheVariants.{Sessions, Databases}
 use Rattle.sky_model.specs.declared.reply.Reply.{Reply}
-use Rattle.sky_model.specs.History.{Mark, Fact, appeared, founded, entered, left, within}
+use Rattle.sky_model.specs.History.{Mark, Fact, appeared, founded, left, within}
 use Rattle.sky_model.specs.State.{Database, database_of, changed_at, after_mark, after_marks}
 use Rattle.sky_model.specs.World.{World, world_of, after_fact, after_facts}
-use Rattle.sky_model.specs.Printed.{ReplyHasMoments, HaveMoments}
-use Rattle.sky_model.specs.Reader.{database_by_itself, within_database, by_world, Deed, answers_with, refuses, appears, founds, joined, followed}
+use Rattle.sky_model.specs.Printed.{HaveMoments}
+use Rattle.sky_model.specs.Reader.{database_by_itself, within_database, by_world, Deed, refuses, appears, founds, joined, followed}
 use Rattle.sky_model.specs.Settling.{Turn}
 use Rattle.sky_model.specs.Calls.{Call, database_turn, deed_in, left_if, opens_in, opens, turn, called}
 use Rattle.sky_model.specs.Steps.{Steps, deed_at}
@@ -103,18 +102,12 @@ get_or-changed xs i n x d lt = by (i == n) refl
     by true e = let same : i ≡ n = grind (arith, nat_tests) in ap (λ m. get_or (slice_set xs i x) m d) (sym same) ∙ get_or-set_same xs i x d lt
     by false e = let other : n ≢ i = grind (arith, nat_tests) in get_or-set_other xs i n x d other
 
--- a session that opened a database
-pub entered-as : (v now : WorldView) (who d : ℕ) → v ≡ now → who < length v.sessions.values
-    → seen_world (record v { sessions = with_value v.sessions who (Some d) }) ≡ after_fact (seen_world now) (entered who d)
-entered-as v now who d same lt =
-    (λ i. record (seen_world v) { homes = λ n. get_or-changed v.sessions.values who n (Some d) None lt i })
-    ∙ ap (λ w. after_fact (seen_world w) (entered who d)) same
-
--- a session that left its database
-pub left-as : (v now : WorldView) (who : ℕ) → v ≡ now → who < length v.sessions.values → seen_world (record v { sessions = with_value v.sessions who None }) ≡ after_fact (seen_world now) (left who)
-left-as v now who same lt =
-    (λ i. record (seen_world v) { homes = λ n. get_or-changed v.sessions.values who n None None lt i })
-    ∙ ap (λ w. after_fact (seen_world w) (left who)) same
+-- a session that opened a database, or left it
+pub home-as : (v now : WorldView) (who : ℕ) (home : Option ℕ) → v ≡ now → who < length v.sessions.values
+    → seen_world (record v { sessions = with_value v.sessions who home }) ≡ record (seen_world now) { homes = changed_at who (λ _. home) (seen_world now).homes }
+home-as v now who home same lt =
+    (λ i. record (seen_world v) { homes = λ n. get_or-changed v.sessions.values who n home None lt i })
+    ∙ ap (λ w. record (seen_world w) { homes = changed_at who (λ _. home) (seen_world w).homes }) same
 
 -- a session that appeared has none open
 pub appeared-as : (v now : WorldView) (sessions : NamedView (Option ℕ)) (name copied : List ℕ) → v ≡ now → sessions ≡ record { names = v.sessions.names ++ copied ∷ []; values = v.sessions.values ++ None ∷ [] } → copied ≡ name
@@ -140,10 +133,7 @@ after_facts-append : (w : World) (xs ys : List Fact) → after_facts w (xs ++ ys
 after_facts-append w [] ys = refl
 after_facts-append w (x ∷ xs) ys = after_facts-append (after_fact w x) xs ys
 
--- answers of sessions that are there, with times that are printed
-abbrev HasMoments : ℕ × Reply → Type 0
-HasMoments answer = ReplyHasMoments answer.1
-
+-- answers of sessions that are there
 abbrev IsKnown : ℕ → ℕ × Reply → Type 0
 IsKnown count answer = answer.0 < count
 
@@ -223,7 +213,7 @@ adds-left old s new d who leaving before after turn leaves adds is same =
 
 -- `open` in a database that is made by it
 pub opens-new : (old s new : WorldView) (who number : ℕ) (stmt : Stmt) (name : List ℕ) (before after : List (ℕ × Reply)) → length old.databases.names < 16 → number ≡ length old.databases.names
-    → seen_world s ≡ after_fact (seen_world old) (founded name) → s.sessions ≡ old.sessions
+    → seen_world s ≡ after_fact (seen_world old) (founded name) → s.sessions.names ≡ old.sessions.names
     → AddsDeed s new before after (opens_in by_world who stmt number (seen_world s)) → AddsDeed old new before after (opens by_world (seen_world old) who stmt name None)
 opens-new old s new who number stmt name before after room numbered is same adds = subst (AddsDeed old new before after) (sym whole) (record {
   answered = adds.answered ∙ ap (λ (x : Deed). before ++ x.answers) there;
@@ -245,31 +235,8 @@ opens-new old s new who number stmt name before after room numbered is same adds
     whole : opens by_world (seen_world old) who stmt name None ≡ followed by_world (seen_world old) (opens_in by_world who stmt (length old.databases.names)) (founds name)
     whole = ap (λ b. if b then refuses who (TooMany Databases) else followed by_world (seen_world old) (opens_in by_world who stmt (length old.databases.names)) (founds name)) left_over
 
--- one answer, where nothing happens
-pub adds-answer : (w : WorldView) (before after : List (ℕ × Reply)) (who : ℕ) (reply : Reply) → who < length w.sessions.names → ReplyHasMoments reply → after ≡ before ++ (who, reply) ∷ []
-    → AddsDeed w w before after (answers_with who reply [])
-adds-answer w before after who reply lt has pushed = record {
-  answered = pushed;
-  known = All-from_recursion (IsKnown (length w.sessions.names)) ((who, reply) ∷ []) (lt, tt);
-  moments = All-from_recursion HasMoments ((who, reply) ∷ []) (has, tt);
-  changed = refl;
-  sessions = refl;
-}
-
--- where there is no room for a database
-pub opens-full : (w : WorldView) (before after : List (ℕ × Reply)) (who : ℕ) (stmt : Stmt) (name : List ℕ) → who < length w.sessions.names → 16 ≤ length w.databases
-    → after ≡ before ++ (who, Refused (TooMany Databases)) ∷ [] → AddsDeed w w before after (opens by_world (seen_world w) who stmt name None)
-opens-full w before after who stmt name lt full pushed =
-    subst (AddsDeed w w before after) (sym whole) (adds-answer w before after who (Refused (TooMany Databases)) lt tt pushed)
-  where
-    no_room : nat_le 16 (length w.databases.names) ≡ true
-    no_room = grind (arith, nat_tests)
-
-    whole : opens by_world (seen_world w) who stmt name None ≡ refuses who (TooMany Databases)
-    whole = ap (λ b. if b then refuses who (TooMany Databases) else followed by_world (seen_world w) (opens_in by_world who stmt (length w.databases.names)) (founds name)) no_room
-
 -- a call of a session that is known
-pub answers-known : (old new : WorldView) (call : Call) (who : ℕ) (before after : List (ℕ × Reply)) → Some who ≡ place_of call.who old.sessions
+pub answers-known : (old new : WorldView) (call : Call) (who : ℕ) (before after : List (ℕ × Reply)) → Some who ≡ place_of call.who old.sessions.names
     → AddsDeed old new before after (turn by_world who call.stmt (seen_world old)) → AddsCall (seen_world old) (seen_world new) call before after
 answers-known old new call who before after place adds = record {
   replies = (turn by_world who call.stmt (seen_world old)).answers;
@@ -286,26 +253,9 @@ answers-known old new call who before after place adds = record {
 abbrev unknown : World → Call → Bool → Deed
 unknown w call full = if full then refuses (length w.sessions) (TooMany Sessions) else followed by_world w (turn by_world (length w.sessions) call.stmt) (appears call.who)
 
--- a call that would bring a session too many
-pub answers-full : (w : WorldView) (call : Call) (who : ℕ) (before after : List (ℕ × Reply)) → place_of call.who w.sessions ≡ None → 256 ≤ length w.sessions → who ≡ length w.sessions
-    → after ≡ before ++ (who, Refused (TooMany Sessions)) ∷ [] → AddsCall (seen_world w) (seen_world w) call before after
-answers-full w call who before after place full is pushed = record {
-  replies = (who, Refused (TooMany Sessions)) ∷ [];
-  answered = pushed;
-  steps = steps_from_exact (seen_world w) (seen_world w) call _ (ap (λ n. (n, Refused (TooMany Sessions)) ∷ []) is ∙ sym (ap Deed.answers whole))
-      (ap (λ (x : Deed). after_facts (seen_world w) x.facts) (sym whole));
-  numbered = All-from_recursion (IsWithin (length w.sessions)) ((who, Refused (TooMany Sessions)) ∷ []) (omega (arith, is), tt);
-  moments = All-from_recursion HasMoments ((who, Refused (TooMany Sessions)) ∷ []) (tt, tt);
-}
-  where
-    whole : deed_at (seen_world w) call ≡ refuses (length w.sessions) (TooMany Sessions)
-    whole =
-        let many : nat_le 256 (length w.sessions) ≡ true = grind (arith, nat_tests) in
-        ap (called by_world (seen_world w) call) place ∙ ap (unknown (seen_world w) call) many
-
 -- the first call of a session
-pub answers-new : (old with_it new : WorldView) (call : Call) (who : ℕ) (before after : List (ℕ × Reply)) → place_of call.who old.sessions ≡ None → length old.sessions < 256
-    → seen_world with_it ≡ after_fact (seen_world old) (appeared call.who) → who ≡ length old.sessions
+pub answers-new : (old with_it new : WorldView) (call : Call) (who : ℕ) (before after : List (ℕ × Reply)) → place_of call.who old.sessions.names ≡ None → length old.sessions.names < 256
+    → seen_world with_it ≡ after_fact (seen_world old) (appeared call.who) → who ≡ length old.sessions.names
     → AddsDeed with_it new before after (turn by_world who call.stmt (seen_world with_it)) → AddsCall (seen_world old) (seen_world new) call before after
 answers-new old with_it new call who before after place room is number adds = record {
   replies = (turn by_world who call.stmt (seen_world with_it)).answers;
@@ -316,12 +266,12 @@ answers-new old with_it new call who before after place room is number adds = re
   moments = adds.moments;
 }
   where
-    whole : deed_at (seen_world old) call ≡ followed by_world (seen_world old) (turn by_world (length old.sessions) call.stmt) (appears call.who)
+    whole : deed_at (seen_world old) call ≡ followed by_world (seen_world old) (turn by_world (length old.sessions.names) call.stmt) (appears call.who)
     whole =
-        let few : nat_le 256 (length old.sessions) ≡ false = grind (arith, nat_tests) in
+        let few : nat_le 256 (length old.sessions.names) ≡ false = grind (arith, nat_tests) in
         ap (called by_world (seen_world old) call) place ∙ ap (unknown (seen_world old) call) few
 
-    same : followed by_world (seen_world old) (turn by_world (length old.sessions) call.stmt) (appears call.who) ≡ joined (appears call.who) (turn by_world who call.stmt (seen_world with_it))
+    same : followed by_world (seen_world old) (turn by_world (length old.sessions.names) call.stmt) (appears call.who) ≡ joined (appears call.who) (turn by_world who call.stmt (seen_world with_it))
     same = ap (joined (appears call.who)) (ap (λ n. turn by_world n call.stmt (after_fact (seen_world old) (appeared call.who))) (sym number) ∙ ap (turn by_world who call.stmt) (sym is))
 
 -- a call's replies in a list that was empty
@@ -370,9 +320,3 @@ known-within v now d who old new replies same lt at known all stays = (
 
     within : WaitersWithin (length v.sessions.names) (seen_database old).part.waiting
     within = subst (HasWaitersWithin (length v.sessions.names)) there (All-get_or (HasWaitersWithin (length v.sessions.names)) v.databases.values d no_database lt all)
-
--- the database at a place is what is shown there
-pub store-at : (v now : WorldView) (d : ℕ) (store : DbView) → v ≡ now → d < length v.databases.values → store ≡ get_or v.databases.values d store → seen_database store ≡ (seen_world now).database d
-store-at v now d store same lt at =
-    ap seen_database (sym (get_or_from_slice_get v.databases.values d store no_database (slice_get_read v.databases.values (length v.databases.values) d store refl lt at)))
-    ∙ ap (λ (w : WorldView). (seen_world w).database d) same

@@ -1,7 +1,7 @@
-use Rattle.std.proofs.Common.{◌≡◌, drop, length}
+use Rattle.std.proofs.Common.{◌≡◌, drop}
 use Rattle.sky_model.specs.State.{RowPart}
 use Rattle.pgq_queues.specs.Seen.{seen_with}
-use Rattle.pgq_queues.specs.Traced.{AreTables}
+use Rattle.pgq_queues.specs.Traced.{KeepsRest}
 use Rattle.pgq_db.specs.Undone.{undone_by}
 use Rattle.pgq_db.proofs.noting.undo_aborted.Given as goal
 
@@ -11,5 +11,5 @@ invariant-loop-effect l = record {
   undone : (part : RowPart) → record (seen_with part l.queues) { undone = undone_by (drop l.effect-index l.effects.items) (seen_with part l.queues).undone }
       ≡ record (seen_with part l.fn.queues) { undone = undone_by l.effects.items (seen_with part l.fn.queues).undone };
   names : l.queues.names ≡ l.fn.queues.names;
-  tables : (part : RowPart) → AreTables part l.fn.queues → AreTables part l.queues;
+  rest : KeepsRest l.fn.queues l.queues;
 }

@@ -1,14 +1,7 @@
 use Rattle.std.proofs.Common.{is_some, sym, ◌∙◌, ap, if◌then◌else◌}
-use Rattle.sky_state.specs.Seen.{seen}
 use Rattle.pgq_db.proofs.Databases.{gives-finish}
 use Rattle.pgq_db.proofs.db.Db.finish_batch.Goals.{in-Some, in-None}
 use Rattle.pgq_db.proofs.db.Db.finish_batch.Goals as goal
-
-pub invariant_of-self : goal.invariant_of-self
-invariant_of-self c = λ e. c.close_batch.ensures.tables (seen c.self.inside.rows) (c.self.invariant e)
-
-pub invariant_of-self-2 : goal.invariant_of-self-2
-invariant_of-self-2 c = λ e. c.close_batch.ensures.tables (seen c.self.inside.rows) (c.self.invariant e)
 
 pub returns : goal.returns
 returns c =

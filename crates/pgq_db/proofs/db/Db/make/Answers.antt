@@ -3,14 +3,10 @@ use Rattle.std.proofs.lemmas.Int.{to_z-of_z}
 use Rattle.std.proofs.lemmas.Result.{on_ok_weaker}
 use Rattle.sky_model.specs.History.{queued, made, ticked}
 use Rattle.sky_model.specs.State.{after_marks}
-use Rattle.sky_state.specs.Seen.{seen}
 use Rattle.pgq_queues.specs.Views.{QueuesView}
 use Rattle.pgq_queues.specs.Seen.{seen_with}
 use Rattle.pgq_db.proofs.Databases.{ticked-as}
 use Rattle.pgq_db.proofs.db.Db.make.Goals as goal
-
-pub invariant_of-self : goal.invariant_of-self
-invariant_of-self c = λ e. c.make.ensures.tables (seen c.self.inside.rows) (c.self.invariant e)
 
 pub returns : goal.returns
 returns c =

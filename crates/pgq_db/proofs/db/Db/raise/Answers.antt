@@ -1,12 +1,8 @@
-use Rattle.std.proofs.Common.{length, ◌∙◌, ap}
+use Rattle.std.proofs.Common.{◌∙◌, ap}
 use Rattle.sky_model.specs.History.{raised}
-use Rattle.sky_state.specs.Seen.{seen}
 use Rattle.pgq_db.specs.Views.{DbView}
 use Rattle.pgq_db.proofs.Databases.{marked-as}
 use Rattle.pgq_db.proofs.db.Db.raise.Goals as goal
-
-pub invariant_of-self : goal.invariant_of-self
-invariant_of-self c = λ e. c.raise.ensures.tables (seen c.self.inside.rows) (c.self.invariant e)
 
 pub returns-clause-mark : goal.returns-clause-mark
 returns-clause-mark c = marked-as _ _ c.raise.new.self (λ q. raised c.args.queue c.args.value) c.self.view_is c.raise.ensures.mark

@@ -2,14 +2,10 @@ use Rattle.std.proofs.Common.{◌+◌}
 use Rattle.std.proofs.lemmas.Result.{on_ok_weaker}
 use Rattle.sky_model.specs.History.{registered}
 use Rattle.sky_model.specs.StepQueue.{newest_id}
-use Rattle.sky_state.specs.Seen.{seen}
 use Rattle.pgq_queues.specs.Views.{QueuesView}
 use Rattle.pgq_queues.specs.Seen.{queue_at}
 use Rattle.pgq_db.proofs.Databases.{marked-as}
 use Rattle.pgq_db.proofs.db.Db.register.Goals as goal
-
-pub invariant_of-self : goal.invariant_of-self
-invariant_of-self c = λ e. c.register.ensures.tables (seen c.self.inside.rows) (c.self.invariant e)
 
 pub returns : goal.returns
 returns c =

@@ -18,13 +18,14 @@ use Rattle.pgq_db.specs.Gives.{Adds}
 use Rattle.pgq_db.proofs.Databases.{undone-as}
 use Rattle.pgq_db.proofs.EventsAlike.{Alike, alike-at, step-told, step-rows, told-changed, tables-behind_turn}
 use Rattle.pgq_db.proofs.Moments.{same-moments}
+use Rattle.pgq_db.proofs.Tables.{tables-stay}
 use Rattle.pgq_db.proofs.db.Db.step_rows.Goals as goal
 
 pub invariant_of-self : goal.invariant_of-self
 invariant_of-self c = λ e.
     let was : QueuesView = c.self.inside.queues in
     let p : RowPart = seen c.self.inside.rows in
-    c.undo_aborted.ensures.tables (seen c.step_into-stepped.new.self)
+    tables-stay (seen c.step_into-stepped.new.self) c.step_into-stepped.new.gate c.undo_aborted.new.queues c.undo_aborted.ensures.rest
     (tables-behind_turn c.args.now _ p _ was c.set_time.new.self _ _ _ (λ alike. step-told c.args.now was.undone (seen_with p was) p c.set_time.new.self c.args.who c.args.stmt.now alike) c.set_time.ensures.time
     (to_z-of_z w64 c.args.now c.ranges.now) (c.self.invariant c.if-self.false) c.set_time.ensures.within c.in-Ok.ensures.exact.changed c.in-Ok.ensures.exact.passed)
 
@@ -32,7 +33,7 @@ pub invariant_of-self-in-Ok : goal.invariant_of-self-in-Ok
 invariant_of-self-in-Ok c = λ e.
     let was : QueuesView = c.self.inside.queues in
     let p : RowPart = seen c.self.inside.rows in
-    c.undo_aborted.ensures.tables (seen c.step_into-stepped.new.self)
+    tables-stay (seen c.step_into-stepped.new.self) c.step_into-stepped.new.gate c.undo_aborted.new.queues c.undo_aborted.ensures.rest
     (tables-behind_turn c.args.now _ p _ was c.set_time.new.self _ _ _ (λ alike. step-told c.args.now was.undone (seen_with p was) p c.set_time.new.self c.args.who c.args.stmt.now alike) c.set_time.ensures.time
     (to_z-of_z w64 c.args.now c.ranges.now) (c.self.invariant c.if-self.false) c.set_time.ensures.within c.in-Ok.ensures.exact.changed c.in-Ok.ensures.exact.passed)
 

@@ -1,4 +1,4 @@
-use Rattle.std.proofs.Common.{◌≡◌, ◌+◌, ℤ, [], ◌∷◌, w64, ap, ◌∙◌}
+use Rattle.std.proofs.Common.{◌+◌, ℤ, [], ◌∷◌, w64, ap, ◌∙◌}
 use Rattle.std.proofs.lemmas.Int.{to_z-of_z}
 use Rattle.sky_model.specs.StepQueue.{newest_id}
 use Rattle.sky_model.specs.History.{queued, ticked}
@@ -10,12 +10,6 @@ use Rattle.pgq_queues.specs.Seen.{queue_at, seen_with}
 use Rattle.pgq_db.specs.Views.{DbView}
 use Rattle.pgq_db.proofs.Databases.{ticked-as, tick-stops, unmarked-as, err-and}
 use Rattle.pgq_db.proofs.db.Db.tick.Goals as goal
-
-pub invariant_of-self : goal.invariant_of-self
-invariant_of-self c = λ e. c.tick.ensures.tables (seen c.self.inside.rows) (c.self.invariant e)
-
-pub invariant_of-self-2 : goal.invariant_of-self-2
-invariant_of-self-2 c = λ e. c.tick.ensures.tables (seen c.self.inside.rows) (c.self.invariant e)
 
 pub returns-in_err-id-clause-err : goal.returns-in_err-id-clause-err
 returns-in_err-id-clause-err c =

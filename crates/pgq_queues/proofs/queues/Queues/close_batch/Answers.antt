@@ -1,5 +1,5 @@
 use Rattle.std.proofs.Common.{◌<◌, None, IfSome, length, sym, subst, arith}
-use Rattle.pgq_queues.proofs.Marked.{subs-changed, closed-as, tables-kept}
+use Rattle.pgq_queues.proofs.Marked.{subs-changed, closed-as}
 use Rattle.pgq_queues.proofs.TracedLists.{batches-updated}
 use Rattle.pgq_queues.proofs.queues.Queues.close_batch.Goals as goal
 
@@ -29,9 +29,3 @@ invariant_of-self-2 c = (
 pub returns-clause-mark : goal.returns-clause-mark
 returns-clause-mark c =
     closed-as _ _ c.remove.new.self.entries c.args.id c.in_ok-batch.batch _ c.close_batch.new.self c.self.view_is c.get_mut.ensures.within c.get_mut.ensures.value (subs-changed c.get_mut.result.now _ _ c.close_batch.ensures.but c.close_batch.ensures.subs) c.remove.ensures.updates.0
-
-pub returns-in_err-batch-clause-tables : goal.returns-in_err-batch-clause-tables
-returns-in_err-batch-clause-tables c = tables-kept _ _ c.self.view_is
-
-pub returns-clause-tables : goal.returns-clause-tables
-returns-clause-tables c = tables-kept _ _ c.self.view_is

@@ -6,7 +6,7 @@ use Rattle.pgq_queues.specs.Batches.{BatchesWithin}
 use Rattle.pgq_queues.specs.Traced.{TracedWithin}
 use Rattle.pgq_sub.specs.Seen.{no_subs}
 use Rattle.pgq_queues.specs.Views.{QueueView}
-use Rattle.pgq_queues.proofs.Marked.{made-as, tables-kept}
+use Rattle.pgq_queues.proofs.Marked.{made-as}
 use Rattle.pgq_queues.proofs.TracedLists.{batches-more, within-more}
 use Rattle.pgq_queues.proofs.NumberedQueues.{number-new, length-shown}
 use Rattle.pgq_queues.proofs.queues.Queues.make.Goals as goal
@@ -35,9 +35,3 @@ invariant_of-self-2 c =
     let more : length c.add.new.self.names ≡ length c.self.inside.queues.names + 1 = ap (λ (n : NamedView QueueView). length n.names) c.in_ok-add.ensures.added ∙ length-append c.self.inside.queues.names (c.args.name ∷ []) in
     let le : length c.self.inside.queues.names ≤ length c.add.new.self.names = omega (arith, more) in
     (c.self.invariant.0, (batches-more _ _ c.self.inside.batches.entries le c.self.invariant.1.0, within-more _ _ c.self.inside.triggers.items c.self.inside.traced.entries le c.self.invariant.1.1))
-
-pub returns-in_err-add-clause-tables : goal.returns-in_err-add-clause-tables
-returns-in_err-add-clause-tables c = tables-kept _ _ c.self.view_is
-
-pub returns-clause-tables : goal.returns-clause-tables
-returns-clause-tables c = tables-kept _ _ c.self.view_is

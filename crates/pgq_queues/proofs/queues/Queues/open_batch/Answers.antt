@@ -1,7 +1,7 @@
 use Rattle.std.proofs.Common.{◌<◌, Some, length, sym, subst}
 use Rattle.pgq_queues.specs.Views.{QueuesView}
 use Rattle.pgq_queues.specs.Batches.{BatchesWithin}
-use Rattle.pgq_queues.proofs.Marked.{subs-changed, opened-as, tables-kept}
+use Rattle.pgq_queues.proofs.Marked.{subs-changed, opened-as}
 use Rattle.pgq_queues.proofs.TracedLists.{batches-updated}
 use Rattle.pgq_queues.proofs.queues.Queues.open_batch.Goals as goal
 
@@ -21,9 +21,3 @@ invariant_of-self-2 c =
         c.self.invariant.1.1,
       ),
     )
-
-pub returns-in_err-insert-clause-tables : goal.returns-in_err-insert-clause-tables
-returns-in_err-insert-clause-tables c = tables-kept _ _ c.self.view_is
-
-pub returns-clause-tables : goal.returns-clause-tables
-returns-clause-tables c = tables-kept _ _ c.self.view_is

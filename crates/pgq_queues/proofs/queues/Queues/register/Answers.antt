@@ -2,7 +2,7 @@ use Rattle.std.proofs.Common.{ap, sym, ◌+◌, ◌∙◌}
 use Rattle.sky_model.specs.Queues.{newest_tick}
 use Rattle.sky_model.specs.StepQueue.{id_of, newest_id}
 use Rattle.pgq_queues.specs.Views.{QueuesView}
-use Rattle.pgq_queues.proofs.Marked.{subs-changed, queue-at, registered-as, tables-kept}
+use Rattle.pgq_queues.proofs.Marked.{subs-changed, queue-at, registered-as}
 use Rattle.pgq_queues.proofs.queues.Queues.register.Goals as goal
 
 pub returns-clause-mark : goal.returns-clause-mark
@@ -11,9 +11,3 @@ returns-clause-mark c =
     (ap (λ (w : QueuesView). w.last_sub_id + 1) c.self.view_is)
     (c.id-newest.ensures ∙ ap id_of (sym c.newest.ensures.newest) ∙ ap (λ ts. id_of (newest_tick ts)) c.ticks.ensures
     ∙ ap newest_id (queue-at _ _ c.args.queue _ c.self.view_is c.get.ensures.within c.get.ensures.value))
-
-pub returns-in_err-register-clause-tables : goal.returns-in_err-register-clause-tables
-returns-in_err-register-clause-tables c = tables-kept _ _ c.self.view_is
-
-pub returns-clause-tables : goal.returns-clause-tables
-returns-clause-tables c = tables-kept _ _ c.self.view_is

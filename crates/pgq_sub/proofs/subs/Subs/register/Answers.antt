@@ -8,8 +8,8 @@ use Rattle.pgq_sub.proofs.subs.Subs.register.Goals as goal
 pub add-requires-clause-new : goal.add-requires-clause-new
 add-requires-clause-new c = ap (λ name. value_of name c.self.inside.subs) c.in_ok-copy.ensures ∙ ap (value_of c.args.consumer.now) c.self.view_is ∙ c.requires.new
 
-pub returns : goal.returns
-returns c =
+pub returns-clause-ok : goal.returns-clause-ok
+returns-clause-ok c =
     let old = c.self.inside.subs in
     let name = c.args.consumer.now in
     let new : Subscription = record { id = c.args.id; position = c.args.position; active = None } in

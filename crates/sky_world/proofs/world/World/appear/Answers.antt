@@ -1,4 +1,4 @@
-use Rattle.std.proofs.Common.{◌≡◌, ℕ, Option, None, ◌∷◌, [], ap, length, length-append, option_and_then, slice_get, arith, ◌∙◌}
+use Rattle.std.proofs.Common.{ℕ, Option, ◌∷◌, [], ap, length, length-append, option_and_then, slice_get, arith, ◌∙◌}
 use Rattle.sky_names.specs.Places.{place_of}
 use Rattle.sky_names.specs.Named.{NamedView}
 use Rattle.sky_world.specs.Views.{WorldView}

@@ -1,4 +1,4 @@
-use Rattle.std.proofs.Common.{◌≡◌, ℕ, ◌∷◌, [], ap, length, length-append, option_and_then, slice_get, arith, ◌∙◌}
+use Rattle.std.proofs.Common.{◌∷◌, [], ap, length, length-append, option_and_then, slice_get, arith, ◌∙◌}
 use Rattle.sky_names.specs.Places.{place_of}
 use Rattle.sky_names.specs.Named.{NamedView}
 use Rattle.pgq_db.specs.Views.{DbView}
