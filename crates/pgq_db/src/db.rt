@@ -3,7 +3,7 @@ ghost use Rattle.sky_keys.specs.Waits.{is_waiting};
 ghost use Rattle.sky_names.specs.Places.{place_of};
 ghost use Rattle.sky_model.specs.InForm.{IsRowInForm};
 ghost use Rattle.sky_model.specs.History.{queued, made, raised, put, ticked, registered, opened, traced};
-ghost use Rattle.sky_model.specs.Moment.{HasMoment};
+ghost use Rattle.sky_model.specs.Moment.{HasMoment, IsTime};
 ghost use Rattle.sky_model.specs.Queues.{queue_number};
 ghost use Rattle.sky_model.specs.ShownRows.{snapshot_now};
 ghost use Rattle.sky_model.specs.StepQueue.{newest_id};
@@ -23,7 +23,6 @@ ghost use Rattle.sky_model.specs.SessionMarks.{Enters, entry, entry_place, faili
 ghost use Rattle.sky_model.specs.DatabaseCalls.{entered, failed};
 ghost use Rattle.sky_model.specs.DatabaseSteps.{DatabaseSteps};
 ghost use Rattle.pgq_queues.specs.Seen.{seen_batch};
-ghost use Rattle.pgq_tick.specs.Ticks.{IsTime};
 ghost use Rattle.pgq_db.specs.Seen.{seen_database};
 ghost use Rattle.pgq_db.specs.Waiters.{StaysWithin};
 ghost use Rattle.pgq_db.specs.Gives.{Gives, Adds};
@@ -101,7 +100,7 @@ impl Db {
     }
 
     /// The id of the session's transaction, which gets one where it has none. Outside a block it commits at once.
-    pub(crate) fn take_txid(&mut self, who: SessionId) -> Result<u64, AllocError>
+    pub(crate) fn take_txid(&mut self, who: SessionId) -> Result<u64, NoMemory>
         requires { is_ok (txid_for (seen_database self.old).part who) ≡ true }
         ensures id { IfOk result (λ txid. txid_for (seen_database self.old).part who ≡ Ok txid) }
         ensures marks { IfOk result (λ txid. seen_database self.new ≡ after_marks (seen_database self.old)
@@ -169,7 +168,7 @@ impl Db {
         who: SessionId,
         stmt: &RowStmt,
         replies: &mut Replies,
-    ) -> Result<(), AllocError>
+    ) -> Result<(), NoMemory>
         requires time { IsTime now }
         requires form { IsRowInForm stmt.now }
         ensures adds { OnOk result (Adds (seen_database self.old) (seen_database self.new) replies.old replies.new
@@ -201,7 +200,7 @@ impl Db {
     }
 
     /// Runs the statements that may go on. Events tell of their writes.
-    pub(crate) fn settle(&mut self, now: i64, replies: &mut Replies) -> Result<(), AllocError>
+    pub(crate) fn settle(&mut self, now: i64, replies: &mut Replies) -> Result<(), NoMemory>
         requires { IsTime now }
         ensures adds { OnOk result (Adds (seen_database self.old) (seen_database self.new) replies.old replies.new (settling (within_part database_by_itself now) (seen_database self.old))) }
         ensures rests { OnOk result (ready (seen_database self.new).part ≡ None) }
@@ -232,7 +231,7 @@ impl Db {
     }
 
     /// Rolls back the block that the session is in, which stays aborted. What this lets go on isn't run yet.
-    pub(crate) fn roll_back(&mut self, who: SessionId) -> Result<(), AllocError>
+    pub(crate) fn roll_back(&mut self, who: SessionId) -> Result<(), NoMemory>
         ensures { OnOk result (seen_database self.new ≡ after_marks (seen_database self.old) (failing (seen_database self.old).part who).marks) }
     {
         self.step.effects.clear();
@@ -275,7 +274,7 @@ impl Db {
     }
 
     /// Stores an event in a queue, whether its transaction commits or not.
-    pub(crate) fn put(&mut self, queue: usize, event: Event) -> Result<(), AllocError>
+    pub(crate) fn put(&mut self, queue: usize, event: Event) -> Result<(), NoMemory>
         requires queue { queue < length self.old.queues.names }
         requires time { HasMoment event.ev_time }
         ensures { OnOk result (seen_database self.new ≡ after_mark (seen_database self.old) (queued (put queue event))) }
@@ -310,7 +309,7 @@ impl Db {
     }
 
     /// Registers a new consumer, which stands at the newest tick.
-    pub(crate) fn register(&mut self, queue: usize, consumer: &Text) -> Result<(), AllocError>
+    pub(crate) fn register(&mut self, queue: usize, consumer: &Text) -> Result<(), NoMemory>
         requires queue { queue < length self.old.queues.names }
         requires new { ((seen_database self.old).queue queue).sub consumer.now ≡ None }
         requires room { length ((seen_database self.old).queue queue).members < 256 }
@@ -322,7 +321,7 @@ impl Db {
     }
 
     /// The batch is active from now on, and is its consumer's.
-    pub(crate) fn open_batch(&mut self, id: u64, batch: Batch) -> Result<(), AllocError>
+    pub(crate) fn open_batch(&mut self, id: u64, batch: Batch) -> Result<(), NoMemory>
         requires { batch.queue < length self.old.queues.names }
         ensures { OnOk result (seen_database self.new ≡ after_mark (seen_database self.old) (queued (opened (seen_batch id batch)))) }
     {
@@ -330,7 +329,7 @@ impl Db {
     }
 
     /// One more trigger of the table of this name.
-    pub(crate) fn trace(&mut self, name: &Text, trigger: TableTrigger) -> Result<(), AllocError>
+    pub(crate) fn trace(&mut self, name: &Text, trigger: TableTrigger) -> Result<(), NoMemory>
         requires table { place_of name.now (seen_database self.old).part.tables ≡ Some trigger.table }
         requires queue { trigger.trigger.queue < length self.old.queues.names }
         ensures ok { OnOk result (seen_database self.new ≡ after_mark (seen_database self.old) (queued (traced trigger.table trigger.name trigger.trigger))) }

@@ -8,10 +8,10 @@ ghost use Rattle.pgq_db.specs.Undone.{undone_by};
 
 use pgq_queues::Queues;
 use sky_session::{Effect, Effects};
-use std::alloc::AllocError;
+use sky_val::NoMemory;
 
 /// Notes the transactions that were rolled back.
-pub(crate) fn undo_aborted(queues: &mut Queues, effects: &Effects) -> Result<(), AllocError>
+pub(crate) fn undo_aborted(queues: &mut Queues, effects: &Effects) -> Result<(), NoMemory>
     ensures noted { OnOk result ((part : RowPart) → seen_with part queues.new
         ≡ record (seen_with part queues.old) { undone = undone_by effects.now.items (seen_with part queues.old).undone }) }
     ensures names { queues.new.names ≡ queues.old.names }
@@ -24,7 +24,7 @@ pub(crate) fn undo_aborted(queues: &mut Queues, effects: &Effects) -> Result<(),
 }
 
 /// Notes the effect where it is that a transaction was rolled back.
-fn note(queues: &mut Queues, effect: &Effect) -> Result<(), AllocError>
+fn note(queues: &mut Queues, effect: &Effect) -> Result<(), NoMemory>
     ensures noted { OnOk result ((part : RowPart) → seen_with part queues.new
         ≡ record (seen_with part queues.old) { undone = undone_by (effect.now ∷ []) (seen_with part queues.old).undone }) }
     ensures names { queues.new.names ≡ queues.old.names }

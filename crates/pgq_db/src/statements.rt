@@ -22,7 +22,7 @@ ghost use Rattle.sky_model.specs.Settling.{ready};
 ghost use Rattle.sky_model.specs.Calls.{form, statement, database_turn};
 ghost use Rattle.sky_model.specs.DatabaseCalls.{stepped};
 ghost use Rattle.sky_model.specs.DatabaseSteps.{DatabaseSteps};
-ghost use Rattle.pgq_tick.specs.Ticks.{IsTime};
+ghost use Rattle.sky_model.specs.Moment.{IsTime};
 ghost use Rattle.pgq_db.specs.Seen.{seen_database};
 ghost use Rattle.pgq_db.specs.Waiters.{StaysWithin};
 ghost use Rattle.pgq_db.specs.Gives.{is_row, Gives, Adds, Answers, Ran};
@@ -37,7 +37,7 @@ use sky_val::{Event, NoMemory, SessionId, Text, copy_option};
 use std::alloc::{AllocError, Global};
 
 impl Db {
-    /// Runs a statement of a session that has this database open, and those that it lets go on. After want of memory
+    /// Runs a statement of a session, and those that it lets go on. After want of memory
     /// nothing is said of the database.
     pub fn step(&mut self, who: SessionId, stmt: &Stmt, now: i64) -> Result<Replies, NoMemory>
         requires time { IsTime now }
@@ -82,7 +82,7 @@ impl Db {
         who: SessionId,
         stmt: &Stmt,
         replies: &mut Replies,
-    ) -> Result<(), AllocError>
+    ) -> Result<(), NoMemory>
         requires time { IsTime now }
         requires form { IsInForm stmt.now }
         ensures adds { OnOk result (Adds (seen_database self.old) (seen_database self.new) replies.old replies.new (database_turn database_by_itself (seen_database self.old) now who stmt.now)) }
@@ -108,7 +108,7 @@ impl Db {
         who: SessionId,
         stmt: &Stmt,
         replies: &mut Replies,
-    ) -> Result<(), AllocError>
+    ) -> Result<(), NoMemory>
         requires time { IsTime now }
         requires kind { is_row stmt.now ≡ false }
         ensures adds { OnOk result (Adds (seen_database self.old) (seen_database self.new) replies.old replies.new (database_turn database_by_itself (seen_database self.old) now who stmt.now)) }
@@ -127,7 +127,7 @@ impl Db {
         who: SessionId,
         stmt: &Stmt,
         replies: &mut Replies,
-    ) -> Result<(), AllocError>
+    ) -> Result<(), NoMemory>
         requires time { IsTime now }
         requires kind { is_row stmt.now ≡ false }
         ensures { OnOk result (Answers (seen_database self.old) (seen_database self.new) replies.old replies.new who (statement database_by_itself (seen_database self.old) now who stmt.now)) }
@@ -151,7 +151,7 @@ impl Db {
         who: SessionId,
         stmt: &Stmt,
         replies: &mut Replies,
-    ) -> Result<(), AllocError>
+    ) -> Result<(), NoMemory>
         requires time { IsTime now }
         requires kind { is_row stmt.now ≡ false }
         ensures { OnOk result (Answers (seen_database self.old) (seen_database self.new) replies.old replies.new who
@@ -173,7 +173,7 @@ impl Db {
         who: SessionId,
         refusal: Refusal,
         replies: &mut Replies,
-    ) -> Result<(), AllocError>
+    ) -> Result<(), NoMemory>
         ensures { OnOk result (Answers (seen_database self.old) (seen_database self.new) replies.old replies.new who (settled who ((seen_database self.old).part.session who) (Err refusal))) }
     {
         if refusal.aborts() {
@@ -256,7 +256,7 @@ impl Db {
         Ok(())
     }
 
-    fn new_queue(&mut self, now: i64, who: SessionId, name: &Text) -> Result<u64, AllocError>
+    fn new_queue(&mut self, now: i64, who: SessionId, name: &Text) -> Result<u64, NoMemory>
         requires time { IsTime now }
         requires new { queue_number name.now (seen_database self.old).queues ≡ None }
         requires room { length (seen_database self.old).queues < 64 }
@@ -505,7 +505,7 @@ fn new_trigger(
     queue: usize,
     backup: bool,
     ignored: &[Text],
-) -> Result<TableTrigger, AllocError>
+) -> Result<TableTrigger, NoMemory>
     ensures { IfOk result (λ trigger. trigger ≡ record { table = table; name = Some name.now; trigger = record { queue = queue; backup = backup; ignored = ignored.now } }) }
 {
     let mut names = Vec::with_capacity(alloc, ignored.len())?;
@@ -534,7 +534,7 @@ fn made_event(
     ev_type: &Option<Text>,
     ev_data: &Option<Text>,
     extra: &Option<BoxedExtra>,
-) -> Result<Event, AllocError>
+) -> Result<Event, NoMemory>
     ensures { IfOk result (λ event. event ≡ made_event id now txid ev_type.now ev_data.now extra.now) }
 {
     let mut event = Event {

@@ -1,7 +1,7 @@
 ghost use Rattle.std.specs.Prelude.{◌≡◌, ℕ, ◌+◌, ◌<◌, ◌^◌, [], ◌∷◌, ◌||◌, ◌==◌, true, Some, None, IfOk, OnOk, OnErr, IfSome, IfNone, option_copied, option_map, length, is_some, ◌↔◌, ◌≤◌, Err};
 ghost use Rattle.std.specs.List.{All};
 ghost use Rattle.sky_model.specs.History.{queued, made, raised, put, ticked, registered, opened, closed, traced};
-ghost use Rattle.sky_model.specs.Moment.{HasMoment};
+ghost use Rattle.sky_model.specs.Moment.{HasMoment, IsTime};
 ghost use Rattle.sky_model.specs.Printed.{EventsHaveMoments};
 ghost use Rattle.sky_model.specs.Queues.{queue_number};
 ghost use Rattle.sky_model.specs.Selection.{selected};
@@ -11,7 +11,6 @@ ghost use Rattle.sky_model.specs.StepQueue.{newest_id};
 ghost use Rattle.sky_model.specs.StepTrigger.{has_trigger};
 ghost use Rattle.sky_model.specs.Triggers.{triggers_of};
 ghost use Rattle.pgq_queues.specs.Seen.{kept, seen_with, seen_queue, seen_batch, queues_of, queue_at, batch_at, no_queues};
-ghost use Rattle.pgq_tick.specs.Ticks.{IsTime};
 ghost use Rattle.pgq_queues.specs.Traced.{traced_at, IsTable, AreTables, KeepsRest};
 
 use crate::batch::Batch;
@@ -46,7 +45,7 @@ pub struct Queues {
 
 impl Model for Queues {
     ghost use Rattle.std.specs.Prelude.{length};
-    ghost use Rattle.sky_model.specs.Moment.{HasMoment};
+    ghost use Rattle.sky_model.specs.Moment.{HasMoment, IsTime};
     ghost use Rattle.pgq_queues.specs.Views.{QueuesView};
     ghost use Rattle.pgq_queues.specs.Batches.{BatchesWithin};
     ghost use Rattle.pgq_queues.specs.Traced.{TracedWithin};

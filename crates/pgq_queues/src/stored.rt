@@ -64,7 +64,7 @@ impl Rest {
 
 impl Stored {
     /// Takes an event's texts over.
-    pub fn new(alloc: Global, event: Event) -> Result<Stored, NoMemory>
+    pub(crate) fn new(alloc: Global, event: Event) -> Result<Stored, NoMemory>
         ensures { IfOk result (λ stored. stored ≡ event) }
     {
         let rest = Rest {
@@ -91,14 +91,14 @@ impl Stored {
     }
 
     /// The id of the transaction that inserted it.
-    pub fn txid(&self) -> u64
+    pub(crate) fn txid(&self) -> u64
         ensures { result ≡ self.now.ev_txid }
     {
         self.ev_txid
     }
 
     /// The subscription for which alone it is, if there is one.
-    pub fn owner(&self) -> Option<u64>
+    pub(crate) fn owner(&self) -> Option<u64>
         ensures { result ≡ self.now.ev_owner }
     {
         match &self.rest {
@@ -108,7 +108,7 @@ impl Stored {
     }
 
     /// An equal event.
-    pub fn event(&self, alloc: Global) -> Result<Event, NoMemory>
+    pub(crate) fn event(&self, alloc: Global) -> Result<Event, NoMemory>
         ensures { IfOk result (λ event. event ≡ self.now) }
     {
         let mut event = Event {

@@ -4,7 +4,8 @@ use Rattle.std.proofs.lemmas.Bool.Decides.{nat_tests}
 use Rattle.std.proofs.lemmas.Option.{slice_get_read, slice_get_past}
 use Rattle.sky_model.specs.Queues.{Tick, tick, newest_tick}
 use Rattle.sky_model.specs.StepQueue.{id_of, last_two}
-use Rattle.pgq_tick.specs.Ticks.{IsTime, AreTicks}
+use Rattle.sky_model.specs.Moment.{IsTime}
+use Rattle.pgq_tick.specs.Ticks.{AreTicks}
 
 pub newest_tick-at : (ts : List Tick) → 0 < length ts → newest_tick ts ≡ slice_get ts (length ts - 1)
 newest_tick-at [] some = absurd (omega arith)

@@ -1,10 +1,7 @@
 -- Lists of ticks, as a queue keeps them.
 use Rattle.std.specs.Prelude.{◌≡◌, ℕ, ◌+◌, ℤ, pos, neg_ℤ, ◌≤ℤ◌, List, [], ◌∷◌}
+use Rattle.sky_model.specs.Moment.{IsTime}
 use Rattle.sky_model.specs.Queues.{Tick}
-
--- a moment that the clock may have
-abbrev pub IsTime : ℤ → Type 0
-IsTime now = (pos 0 ≤ℤ now) × (now ≤ℤ pos 1000000000000000)
 
 -- a time between two moments of the clock
 abbrev pub IsSpan : ℤ → Type 0

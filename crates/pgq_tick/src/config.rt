@@ -44,14 +44,15 @@ impl QueueConfig {
         self.max_count
     }
 
-    /// With new events a tick is due after this time.
+    /// With new events a tick is due once this time has passed since the last one; without any, none is due before twice the
+    /// time since the last one reaches it.
     pub fn ticker_max_lag(&self) -> i64
         ensures { result ≡ self.now.max_lag }
     {
         self.max_lag
     }
 
-    /// Without a new event a tick is due after this time.
+    /// Without a new event a tick is due once this time has passed, if not before, at twice the time between the last two.
     pub fn ticker_idle_period(&self) -> i64
         ensures { result ≡ self.now.idle_period }
     {

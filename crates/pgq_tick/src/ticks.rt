@@ -2,7 +2,8 @@ ghost use Rattle.std.specs.Prelude.{◌≡◌, ◌↔◌, ◌+◌, ◌^◌, ◌<
 ghost use Rattle.sky_model.specs.Queues.{tick, newest_tick};
 ghost use Rattle.sky_model.specs.StepQueue.{due_of, is_due_after, last_two, id_of};
 ghost use Rattle.sky_txid.specs.Snapshot.{sees};
-ghost use Rattle.pgq_tick.specs.Ticks.{IsTime, IsSpan, AreTicks};
+ghost use Rattle.sky_model.specs.Moment.{IsTime};
+ghost use Rattle.pgq_tick.specs.Ticks.{IsSpan, AreTicks};
 
 use crate::config::QueueConfig;
 use sky_model::{Refusal, Stop};
@@ -211,20 +212,15 @@ fn is_due_after(cfg: &QueueConfig, last: &Tick, before: Option<&Tick>, now: i64,
     }
     match before {
         None => true,
-        Some(before) => is_idle_due(cfg, lag, time_between(before.time, last.time)),
+        Some(before) => {
+            let gap = time_between(before.time, last.time);
+            is_idle_due(lag, gap, cfg.ticker_max_lag(), cfg.ticker_idle_period())
+        }
     }
 }
 
 /// Whether a tick is due without a new event, by the times since the last tick and between the last two.
-fn is_idle_due(cfg: &QueueConfig, lag: i64, gap: i64) -> bool
-    requires lag { IsSpan lag }
-    requires gap { IsSpan gap }
-    ensures { result ≡ not (int_lt (pos 2 *ℤ lag) cfg.now.max_lag || (int_lt lag (pos 2 *ℤ gap) && int_lt lag cfg.now.idle_period)) }
-{
-    is_idle(lag, gap, cfg.ticker_max_lag(), cfg.ticker_idle_period())
-}
-
-fn is_idle(lag: i64, gap: i64, max_lag: i64, idle_period: i64) -> bool
+fn is_idle_due(lag: i64, gap: i64, max_lag: i64, idle_period: i64) -> bool
     requires lag { IsSpan lag }
     requires gap { IsSpan gap }
     ensures { result ≡ not (int_lt (pos 2 *ℤ lag) max_lag || (int_lt lag (pos 2 *ℤ gap) && int_lt lag idle_period)) }

@@ -43,11 +43,4 @@ impl Ring {
     {
         self.sessions
     }
-
-    /// The sessions, the one that asked first.
-    pub fn sessions(&self) -> &[SessionId]
-        ensures { result.now ≡ self.now }
-    {
-        self.sessions.as_slice()
-    }
 }

@@ -53,3 +53,7 @@ moment now =
 -- the times that are printed, the last in the year 2075
 abbrev pub HasMoment : ℤ → Type 0
 HasMoment now = (pos 0 ≤ℤ now) × (now ≤ℤ pos 2_000_000_000_000_000)
+
+-- a moment that the clock may have
+abbrev pub IsTime : ℤ → Type 0
+IsTime now = (pos 0 ≤ℤ now) × (now ≤ℤ pos 1_000_000_000_000_000)

@@ -4,8 +4,8 @@ ghost use Rattle.std.specs.Prelude.{◌≡◌, ◌==◌, ◌&&◌, not, false, S
 ghost use Rattle.std.specs.List.{list_all};
 ghost use Rattle.sky_model.specs.Kinds as kind;
 
-use sky_val::Text;
-use std::alloc::{AllocError, Global};
+use sky_val::{NoMemory, Text};
+use std::alloc::Global;
 
 /// The most bytes of a name, and of two with a dot between.
 const LONGEST_NAME: usize = 63;
@@ -118,7 +118,7 @@ fn as_written(inside: &str) -> Option<&str>
 }
 
 /// The text from behind its opening quote on, if the word ends with its closing quote.
-fn unquoted(alloc: Global, inside: &str) -> Result<Option<String>, AllocError>
+fn unquoted(alloc: Global, inside: &str) -> Result<Option<String>, NoMemory>
     ensures { IfOk result (λ text. option_map (λ string. string_bytes string) text ≡ kind.text_from false inside.now) }
 {
     let mut text = String::with_capacity(alloc, inside.len())?;
@@ -145,7 +145,7 @@ fn unquoted(alloc: Global, inside: &str) -> Result<Option<String>, AllocError>
 
 /// The text of a quoted word, if it is one.
 #[tactic(auto, using(crate::proofs::KindLemmas::in_characters_utf8))]
-pub(crate) fn quoted_text(alloc: Global, word: &str) -> Result<Option<Text>, AllocError>
+pub(crate) fn quoted_text(alloc: Global, word: &str) -> Result<Option<Text>, NoMemory>
     ensures { IfOk result (λ text. text ≡ kind.quoted_text word.now) }
 {
     let Some((b'\'', _)) = word.as_bytes().split_first() else {

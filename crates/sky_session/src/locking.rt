@@ -38,7 +38,7 @@ fn wait(
 }
 
 /// Puts the row at the key.
-pub fn insert_key<G: WriteGate>(
+pub(crate) fn insert_key<G: WriteGate>(
     state: &mut RowState,
     who: SessionId,
     key: LockKey,
@@ -64,7 +64,7 @@ pub fn insert_key<G: WriteGate>(
 }
 
 /// Makes the changes in the row that the session is shown at the key; where there is none, it changes none.
-pub fn change_key<G: WriteGate>(
+pub(crate) fn change_key<G: WriteGate>(
     state: &mut RowState,
     who: SessionId,
     key: LockKey,
@@ -100,7 +100,7 @@ pub fn change_key<G: WriteGate>(
 }
 
 /// Deletes the row that the session is shown at the key; where there is none, it deletes none.
-pub fn delete_key<G: WriteGate>(
+pub(crate) fn delete_key<G: WriteGate>(
     state: &mut RowState,
     who: SessionId,
     key: LockKey,
@@ -124,7 +124,7 @@ pub fn delete_key<G: WriteGate>(
 }
 
 /// What the session attempts with the key.
-pub fn attempt_key<G: WriteGate>(
+pub(crate) fn attempt_key<G: WriteGate>(
     state: &mut RowState,
     who: SessionId,
     key: LockKey,

@@ -20,7 +20,7 @@ use sky_state::RowState;
 use sky_val::{NoMemory, Row, SessionId};
 
 /// The id of the session's transaction: its own, or the next one.
-pub fn txid_for(state: &RowState, who: SessionId) -> Result<u64, Refusal>
+pub(crate) fn txid_for(state: &RowState, who: SessionId) -> Result<u64, Refusal>
     ensures ok { IfOk result (λ txid. txid_for (seen state.now) who ≡ Ok txid) }
     ensures err { IfErr result (λ refusal. txid_for (seen state.now) who ≡ Err refusal) }
 {
@@ -35,7 +35,7 @@ pub fn txid_for(state: &RowState, who: SessionId) -> Result<u64, Refusal>
 
 /// Lets the session make a statement that may stand at this place, or refuses it. A repeatable read block takes its
 /// sight in front of the first one that reads, whether that is refused later or not.
-pub fn admit(
+pub(crate) fn admit(
     state: &mut RowState,
     who: SessionId,
     place: Where,
@@ -61,7 +61,7 @@ fn is_alone(state: &RowState, who: SessionId) -> bool
 }
 
 /// Gives the session's transaction its id, where it has none.
-pub fn begin_own(state: &mut RowState, who: SessionId, txid: u64) -> Result<(), NoMemory>
+pub(crate) fn begin_own(state: &mut RowState, who: SessionId, txid: u64) -> Result<(), NoMemory>
     requires { txid_for (seen state.old) who ≡ Ok txid }
     ensures ok { OnOk result (seen state.new ≡ after_part_marks (seen state.old) (begin_of who txid ((seen state.old).session who).txid)) }
     ensures err { OnErr result (seen state.new ≡ seen state.old) }
@@ -73,7 +73,7 @@ pub fn begin_own(state: &mut RowState, who: SessionId, txid: u64) -> Result<(), 
 }
 
 /// Commits the session's transaction, which has this id, where it is in no block.
-pub fn commit_own(
+pub(crate) fn commit_own(
     state: &mut RowState,
     who: SessionId,
     txid: u64,
@@ -92,7 +92,7 @@ pub fn commit_own(
 
 /// Writes the key in the session's transaction, which has this id or gets it. Where the session is in no block, that
 /// then commits.
-pub fn write_own(
+pub(crate) fn write_own(
     state: &mut RowState,
     who: SessionId,
     txid: u64,
@@ -120,7 +120,7 @@ pub fn write_own(
 }
 
 /// Rolls back the transaction of the session's block, and aborts the block, if it is in one that isn't aborted.
-pub fn abort_block(
+pub(crate) fn abort_block(
     state: &mut RowState,
     who: SessionId,
     effects: &mut Effects,
@@ -140,7 +140,7 @@ pub fn abort_block(
 }
 
 /// Commits the session's transaction, where it is in no block.
-pub fn commit_alone(state: &mut RowState, who: SessionId)
+pub(crate) fn commit_alone(state: &mut RowState, who: SessionId)
     ensures { seen state.new ≡ after_part_marks (seen state.old) (ending (seen state.old) who).marks }
 {
     if state.block(who) != Block::Outside {

@@ -115,7 +115,7 @@ impl RowDb {
         }
     }
 
-    /// Runs a statement of a session that has this database open, and those that it lets go on.
+    /// Runs a statement of a session, and those that it lets go on.
     pub fn step(&mut self, who: SessionId, stmt: &RowStmt) -> Result<RowStep, NoMemory>
         requires { IsRowInForm stmt.now }
         ensures { IfOk result (λ step. Gives (seen self.old) (seen self.new) step (row_stepped any_room who stmt.now) (row_turn part_by_itself (seen self.old) who stmt.now)) }

@@ -66,7 +66,7 @@ fn table_called(state: &RowState, name: &Text) -> Result<u32, Stop>
 
 /// Refuses a change of a row of whose key a write was committed since the session's sight, unless its own
 /// transaction has written the key.
-pub fn check_seen(
+pub(crate) fn check_seen(
     state: &RowState,
     who: SessionId,
     table: u32,
@@ -114,7 +114,7 @@ fn add_write(
 
 /// Tells the gate and the effects of the write that the session is to make in its transaction, where the gate has room
 /// for it. The answer is the id of the transaction.
-pub fn tell_write<G: WriteGate>(
+pub(crate) fn tell_write<G: WriteGate>(
     state: &RowState,
     who: SessionId,
     key: &LockKey,
@@ -142,7 +142,7 @@ pub fn tell_write<G: WriteGate>(
 }
 
 /// Makes the write of which the gate and the effects were told, of a key that no other session holds.
-pub fn write_key(
+pub(crate) fn write_key(
     state: &mut RowState,
     who: SessionId,
     txid: u64,
@@ -165,7 +165,7 @@ pub fn write_key(
 }
 
 /// `create table TABLE COL..`
-pub fn create_table(
+pub(crate) fn create_table(
     state: &mut RowState,
     who: SessionId,
     name: &Text,
@@ -188,7 +188,7 @@ pub fn create_table(
 }
 
 /// `insert TABLE VAL..`
-pub fn insert<G: WriteGate>(
+pub(crate) fn insert<G: WriteGate>(
     state: &mut RowState,
     who: SessionId,
     table: &Text,
@@ -207,7 +207,7 @@ pub fn insert<G: WriteGate>(
 }
 
 /// `update TABLE VAL.. set SET..`
-pub fn update<G: WriteGate>(
+pub(crate) fn update<G: WriteGate>(
     state: &mut RowState,
     who: SessionId,
     table: &Text,
@@ -229,7 +229,7 @@ pub fn update<G: WriteGate>(
 }
 
 /// `delete TABLE VAL..`
-pub fn delete<G: WriteGate>(
+pub(crate) fn delete<G: WriteGate>(
     state: &mut RowState,
     who: SessionId,
     table: &Text,
@@ -247,7 +247,7 @@ pub fn delete<G: WriteGate>(
 }
 
 /// `get TABLE VAL..`
-pub fn get(
+pub(crate) fn get(
     state: &RowState,
     who: SessionId,
     table: &Text,
@@ -267,7 +267,12 @@ pub fn get(
 }
 
 /// `scan TABLE`: the rows by key.
-pub fn scan(state: &RowState, who: SessionId, table: &Text, step: &mut RowStep) -> Result<(), Stop>
+pub(crate) fn scan(
+    state: &RowState,
+    who: SessionId,
+    table: &Text,
+    step: &mut RowStep,
+) -> Result<(), Stop>
     ensures { Ran state.now state.now step.old step.new who result (scan (seen state.now) (rows_by (seen state.now)) who table.now) }
 {
     let table = table_called(state, table)?;

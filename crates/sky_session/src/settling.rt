@@ -35,7 +35,7 @@ fn resume<G: WriteGate>(
 }
 
 /// Runs the statements that may go on.
-pub fn settle_behind<G: WriteGate>(
+pub(crate) fn settle_behind<G: WriteGate>(
     state: &mut RowState,
     gate: &mut G,
     step: &mut RowStep,

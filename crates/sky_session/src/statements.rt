@@ -34,7 +34,7 @@ use sky_val::{NoMemory, SessionId, Text};
 use std::alloc::AllocError;
 
 /// The answer of the statement itself, be it a refusal.
-pub fn own_answer<G: WriteGate>(
+pub(crate) fn own_answer<G: WriteGate>(
     state: &mut RowState,
     who: SessionId,
     stmt: &RowStmt,
@@ -54,7 +54,7 @@ pub fn own_answer<G: WriteGate>(
 }
 
 /// Answers with the refusal, where a statement that was run is refused.
-pub fn or_refuse(
+pub(crate) fn or_refuse(
     state: &mut RowState,
     who: SessionId,
     ran: Result<(), Stop>,

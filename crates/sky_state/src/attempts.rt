@@ -27,7 +27,7 @@ impl Model for Attempts {
 
 impl Attempts {
     /// None waits.
-    pub fn new(alloc: Global) -> Attempts
+    pub(crate) fn new(alloc: Global) -> Attempts
         ensures { result ≡ [] }
     {
         Attempts {
@@ -47,7 +47,7 @@ impl Attempts {
     }
 
     /// The session is to do this.
-    pub fn set(&mut self, who: SessionId, attempt: Attempt) -> Result<(), NoMemory>
+    pub(crate) fn set(&mut self, who: SessionId, attempt: Attempt) -> Result<(), NoMemory>
         ensures ok { OnOk result (attempt_of self.new ≡ changed_at who (λ _. attempt) (attempt_of self.old)) }
         ensures err { OnErr result (attempt_of self.new ≡ attempt_of self.old) }
     {
@@ -57,7 +57,7 @@ impl Attempts {
     }
 
     /// What the session was to do; it waits no longer.
-    pub fn take(&mut self, who: SessionId) -> Attempt
+    pub(crate) fn take(&mut self, who: SessionId) -> Attempt
         ensures taken { result ≡ attempt_of self.old who }
         ensures left { attempt_of self.new ≡ changed_at who (λ _. Deletion) (attempt_of self.old) }
     {

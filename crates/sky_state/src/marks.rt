@@ -1,5 +1,5 @@
-//! What can happen in a database, each mark by a method of its own, but that a session begins to wait, which stands in
-//! `waiting`. After want of memory the state isn't said.
+//! What can happen in a database, each mark by a method of its own; the one by which a session begins to wait is in
+//! `waiting`. When memory runs out nothing is said of the state.
 
 ghost use Rattle.std.specs.Prelude.{◌≡◌, ◌+◌, ◌-◌, ◌<◌, ◌^◌, [], ◌∷◌, true, false, None, Some, IfOk, OnOk, OnErr, length};
 ghost use Rattle.sky_keys.specs.Waits.{other_holder, is_waiting};
@@ -29,7 +29,7 @@ impl RowState {
         Ok(())
     }
 
-    /// It closed it.
+    /// The session closed the database.
     pub fn disconnected(&mut self, who: SessionId)
         ensures { seen self.new ≡ after_part (seen self.old) (disconnected who) }
     {

@@ -32,7 +32,7 @@ impl Model for Sessions {
 
 impl Sessions {
     /// All are at rest.
-    pub fn new(alloc: Global) -> Sessions
+    pub(crate) fn new(alloc: Global) -> Sessions
         ensures { result ≡ [] }
     {
         Sessions {
@@ -41,7 +41,7 @@ impl Sessions {
     }
 
     /// Whether the session has the database open, and where it stands in it.
-    pub fn standing(&self, who: SessionId) -> Standing
+    pub(crate) fn standing(&self, who: SessionId) -> Standing
         ensures opened { result.is_open ≡ (session_of self.now who).is_open }
         ensures block { seen_block result.block ≡ (session_of self.now who).block }
     {
@@ -58,7 +58,7 @@ impl Sessions {
     }
 
     /// Whether the session is in no block, in one, or in an aborted one.
-    pub fn block(&self, who: SessionId) -> Block
+    pub(crate) fn block(&self, who: SessionId) -> Block
         ensures { seen_block result ≡ (session_of self.now who).block }
     {
         match self.items.get(who as usize) {
@@ -68,7 +68,7 @@ impl Sessions {
     }
 
     /// The id of the session's running transaction, if that has got one.
-    pub fn txid(&self, who: SessionId) -> Option<u64>
+    pub(crate) fn txid(&self, who: SessionId) -> Option<u64>
         ensures { result ≡ (session_of self.now who).txid }
     {
         match self.items.get(who as usize) {
@@ -78,7 +78,7 @@ impl Sessions {
     }
 
     /// Whether the session's next statement that reads is to take its sight.
-    pub fn is_first(&self, who: SessionId) -> bool
+    pub(crate) fn is_first(&self, who: SessionId) -> bool
         ensures { result ≡ takes_sight WhenReading (session_of self.now who).sight }
     {
         match self.items.get(who as usize) {
@@ -88,7 +88,7 @@ impl Sessions {
     }
 
     /// The snapshot by which the session reads, if it doesn't read each time where it is.
-    pub fn place(&self, who: SessionId) -> Option<&Snapshot>
+    pub(crate) fn place(&self, who: SessionId) -> Option<&Snapshot>
         ensures { (own : SnapshotView) → place_of_sight own (session_of self.now who).sight ≡ unwrap_or (option_copied result) own }
     {
         match &self.items.get(who as usize)?.sight {
@@ -98,7 +98,7 @@ impl Sessions {
     }
 
     /// Makes a place for the session, so that nothing after this wants memory for it.
-    pub fn make_room(&mut self, who: SessionId) -> Result<(), NoMemory>
+    pub(crate) fn make_room(&mut self, who: SessionId) -> Result<(), NoMemory>
         ensures room { OnOk result (who < length self.new) }
         ensures same { session_of self.new ≡ session_of self.old }
     {
@@ -114,7 +114,7 @@ impl Sessions {
     }
 
     /// The session has opened the database.
-    pub fn connect(&mut self, who: SessionId) -> Result<(), NoMemory>
+    pub(crate) fn connect(&mut self, who: SessionId) -> Result<(), NoMemory>
         ensures ok { OnOk result (session_of self.new ≡ changed_at who (with_open true) (session_of self.old)) }
         ensures err { OnErr result (session_of self.new ≡ session_of self.old) }
     {
@@ -124,7 +124,7 @@ impl Sessions {
     }
 
     /// The session has closed it.
-    pub fn disconnect(&mut self, who: SessionId)
+    pub(crate) fn disconnect(&mut self, who: SessionId)
         ensures { session_of self.new ≡ changed_at who (with_open false) (session_of self.old) }
     {
         let who = who as usize;
@@ -134,7 +134,7 @@ impl Sessions {
     }
 
     /// The session's transaction has got this id.
-    pub fn begin_txid(&mut self, who: SessionId, txid: u64)
+    pub(crate) fn begin_txid(&mut self, who: SessionId, txid: u64)
         requires { who < length self.old }
         ensures { session_of self.new ≡ changed_at who (with_txid (Some txid)) (session_of self.old) }
     {
@@ -142,7 +142,7 @@ impl Sessions {
     }
 
     /// Where the session reads stays as it is.
-    pub fn set_block(&mut self, who: SessionId, block: Block) -> Result<(), NoMemory>
+    pub(crate) fn set_block(&mut self, who: SessionId, block: Block) -> Result<(), NoMemory>
         ensures ok { OnOk result (session_of self.new ≡ changed_at who (with_block (seen_block block)) (session_of self.old)) }
         ensures err { OnErr result (session_of self.new ≡ session_of self.old) }
     {
@@ -152,7 +152,7 @@ impl Sessions {
     }
 
     /// The session's statements read there from now on.
-    pub fn set_sight(&mut self, who: SessionId, sight: Sight) -> Result<(), NoMemory>
+    pub(crate) fn set_sight(&mut self, who: SessionId, sight: Sight) -> Result<(), NoMemory>
         ensures ok { OnOk result (session_of self.new ≡ changed_at who (with_sight (seen_sight sight)) (session_of self.old)) }
         ensures err { OnErr result (session_of self.new ≡ session_of self.old) }
     {
@@ -162,7 +162,7 @@ impl Sessions {
     }
 
     /// The session's transaction has ended.
-    pub fn end_txid(&mut self, who: SessionId)
+    pub(crate) fn end_txid(&mut self, who: SessionId)
         ensures { session_of self.new ≡ changed_at who (with_txid None) (session_of self.old) }
     {
         let who = who as usize;
@@ -172,7 +172,7 @@ impl Sessions {
     }
 
     /// The session's block is aborted.
-    pub fn fail(&mut self, who: SessionId) -> Result<(), NoMemory>
+    pub(crate) fn fail(&mut self, who: SessionId) -> Result<(), NoMemory>
         ensures ok { OnOk result (session_of self.new ≡ changed_at who (without_sight failed) (session_of self.old)) }
         ensures err { OnErr result (session_of self.new ≡ session_of self.old) }
     {
@@ -184,7 +184,7 @@ impl Sessions {
     }
 
     /// The session's block is over.
-    pub fn leave(&mut self, who: SessionId)
+    pub(crate) fn leave(&mut self, who: SessionId)
         ensures { session_of self.new ≡ changed_at who (without_sight outside) (session_of self.old) }
     {
         let who = who as usize;

@@ -24,7 +24,7 @@ impl Model for Writers {
 
 impl Writers {
     /// None has written in any.
-    pub fn new(alloc: Global) -> Writers
+    pub(crate) fn new(alloc: Global) -> Writers
         ensures { result ≡ [] }
     {
         Writers {
@@ -33,7 +33,7 @@ impl Writers {
     }
 
     /// The first of these transactions that has written in the table.
-    pub fn first(&self, table: u32, txids: &[u64]) -> Option<u64>
+    pub(crate) fn first(&self, table: u32, txids: &[u64]) -> Option<u64>
         ensures { result ≡ find (wrote_in self.now table) txids.now }
     {
         txids.iter().copied().find(|txid| self.has(table, *txid))
@@ -50,7 +50,7 @@ impl Writers {
     }
 
     /// The transaction has written in the table.
-    pub fn add(&mut self, table: u32, txid: u64) -> Result<(), NoMemory>
+    pub(crate) fn add(&mut self, table: u32, txid: u64) -> Result<(), NoMemory>
         requires { table < 64 }
         ensures ok { OnOk result (wrote_in self.new ≡ (λ n t. (table == n && txid == t) || wrote_in self.old n t)) }
         ensures err { OnErr result (self.new ≡ self.old) }
@@ -64,7 +64,7 @@ impl Writers {
     }
 
     /// The transaction has ended.
-    pub fn end(&mut self, txid: u64)
+    pub(crate) fn end(&mut self, txid: u64)
         ensures { wrote_in self.new ≡ (λ n t. not (txid == t) && wrote_in self.old n t) }
     {
         self.tables.remove(&txid);

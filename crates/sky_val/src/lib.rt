@@ -25,7 +25,7 @@ pub use event::Event;
 pub use key::Key;
 pub use numbers::{int_of, number_of};
 pub use op::Op;
-pub use row::{Row, copy_row};
+pub use row::Row;
 pub use schema::{MOST_COLUMNS, RowFault, Schema, SchemaFault};
 use std::alloc::AllocError;
 pub use text::{Text, TextFault, copy_option};

@@ -91,16 +91,6 @@ impl Row {
     }
 }
 
-/// An equal row, if there is one.
-pub fn copy_row(alloc: Global, row: &Option<Row>) -> Result<Option<Row>, NoMemory>
-    ensures { IfOk result (λ copy. copy ≡ row.now) }
-{
-    match row {
-        Some(row) => Ok(Some(row.copy(alloc)?)),
-        None => Ok(None),
-    }
-}
-
 impl PartialEq for Row {
     ghost use Rattle.std.specs.Cmp.{partial_equiv_from_equiv};
     ghost use Rattle.std.specs.Cmp.Lexicographic.{pointwise, lists_equiv};

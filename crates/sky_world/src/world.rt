@@ -36,7 +36,7 @@ pub struct World {
 impl Model for World {
     ghost use Rattle.std.specs.Prelude.{◌≡◌, false, length};
     ghost use Rattle.sky_world.specs.Views.{WorldView};
-    ghost use Rattle.pgq_tick.specs.Ticks.{IsTime};
+    ghost use Rattle.sky_model.specs.Moment.{IsTime};
     ghost use Rattle.sky_world.specs.Homes.{HomesWithin};
     ghost use Rattle.sky_world.specs.Waiters.{AllWaitersWithin};
 
@@ -106,7 +106,7 @@ impl World {
         name: &Text,
         stmt: &Stmt,
         replies: &mut Replies,
-    ) -> Result<(), AllocError>
+    ) -> Result<(), NoMemory>
         requires form { IsInForm stmt.now }
         requires known { Some who ≡ place_of name.now self.old.sessions.names }
         requires within { who < length self.old.sessions.names }
@@ -121,7 +121,7 @@ impl World {
         name: &Text,
         stmt: &Stmt,
         replies: &mut Replies,
-    ) -> Result<(), AllocError>
+    ) -> Result<(), NoMemory>
         requires form { IsInForm stmt.now }
         requires new { place_of name.now self.old.sessions.names ≡ None }
         ensures { OnOk result (AddsCall (seen_world self.old) (seen_world self.new) (record { who = name.now; stmt = stmt.now }) replies.old replies.new) }
@@ -150,7 +150,7 @@ impl World {
     }
 
     /// A new session, which has no database open.
-    fn appear(&mut self, name: &Text) -> Result<(), AllocError>
+    fn appear(&mut self, name: &Text) -> Result<(), NoMemory>
         requires new { place_of name.now self.old.sessions.names ≡ None }
         requires room { length self.old.sessions.names < 256 }
         ensures fact { OnOk result (seen_world self.new ≡ after_fact (seen_world self.old) (appeared name.now)) }
@@ -162,7 +162,7 @@ impl World {
     }
 
     /// Runs a statement of a session.
-    fn run(&mut self, who: SessionId, stmt: &Stmt, replies: &mut Replies) -> Result<(), AllocError>
+    fn run(&mut self, who: SessionId, stmt: &Stmt, replies: &mut Replies) -> Result<(), NoMemory>
         requires who { who < length self.old.sessions.names }
         requires form { IsInForm stmt.now }
         ensures { OnOk result (AddsDeed self.old self.new replies.old replies.new (turn by_world who stmt.now (seen_world self.old))) }
@@ -188,7 +188,7 @@ impl World {
         who: SessionId,
         stmt: &Stmt,
         replies: &mut Replies,
-    ) -> Result<(), AllocError>
+    ) -> Result<(), NoMemory>
         requires who { who < length self.old.sessions.names }
         requires database { database < length self.old.databases.names }
         requires form { IsInForm stmt.now }
@@ -228,7 +228,7 @@ impl World {
         who: SessionId,
         stmt: &Stmt,
         replies: &mut Replies,
-    ) -> Result<(), AllocError>
+    ) -> Result<(), NoMemory>
         requires who { who < length self.old.sessions.names }
         requires database { database < length self.old.databases.names }
         requires form { IsInForm stmt.now }
@@ -263,7 +263,7 @@ impl World {
         who: SessionId,
         stmt: &Stmt,
         replies: &mut Replies,
-    ) -> Result<(), AllocError>
+    ) -> Result<(), NoMemory>
         requires who { who < length self.old.sessions.names }
         requires form { IsInForm stmt.now }
         ensures { OnOk result (AddsDeed self.old self.new replies.old replies.new (outside_does by_world (seen_world self.old) who stmt.now (opening stmt.now))) }
@@ -284,7 +284,7 @@ impl World {
         stmt: &Stmt,
         name: &Text,
         replies: &mut Replies,
-    ) -> Result<(), AllocError>
+    ) -> Result<(), NoMemory>
         requires who { who < length self.old.sessions.names }
         requires form { IsInForm stmt.now }
         ensures { OnOk result (AddsDeed self.old self.new replies.old replies.new (opens by_world (seen_world self.old) who stmt.now name.now (place_of name.now (seen_world self.old).databases))) }
@@ -302,7 +302,7 @@ impl World {
         stmt: &Stmt,
         name: &Text,
         replies: &mut Replies,
-    ) -> Result<(), AllocError>
+    ) -> Result<(), NoMemory>
         requires who { who < length self.old.sessions.names }
         requires form { IsInForm stmt.now }
         requires new { place_of name.now self.old.databases.names ≡ None }
@@ -325,7 +325,7 @@ impl World {
         who: SessionId,
         stmt: &Stmt,
         replies: &mut Replies,
-    ) -> Result<(), AllocError>
+    ) -> Result<(), NoMemory>
         requires who { who < length self.old.sessions.names }
         requires database { database < length self.old.databases.names }
         requires form { IsInForm stmt.now }
@@ -350,7 +350,7 @@ impl World {
     }
 
     /// A new database, in which nothing has happened.
-    fn found(&mut self, name: &Text) -> Result<(), AllocError>
+    fn found(&mut self, name: &Text) -> Result<(), NoMemory>
         requires new { place_of name.now self.old.databases.names ≡ None }
         requires room { length self.old.databases.names < 16 }
         ensures fact { OnOk result (seen_world self.new ≡ after_fact (seen_world self.old) (founded name.now)) }
