@@ -35,6 +35,7 @@ use Rattle.sky_model.specs.Settling.{Turn, behind_marks, settling, with_settling
 use Rattle.sky_model.specs.Calls.{form, making, statement}
 use Rattle.sky_model.specs.DatabaseCalls as call
 use Rattle.sky_model.specs.DatabaseSteps.{DatabaseSteps}
+use Rattle.sky_model.proofs.Good.{same-session}
 use Rattle.sky_model.proofs.RowOutcomes.{RowMarks}
 use Rattle.sky_model.proofs.DatabaseStanding.{after_marks-append, behind-all, database_enter_from_exact}
 use Rattle.sky_urlenc.specs.RowEvents.{op_of}
@@ -98,8 +99,7 @@ event-written : (d : Database) (who t : ℕ) (o : Option ℕ) (b : Block) (q id 
     ≡ after_marks d (begin_of who t o ++ (queued (raised q id) ∷ queued (put q event) ∷ []) ++ commit_of who t b)
 event-written d who t None outside q id event = refl
 event-written d who t (Some own) outside q id event = refl
-event-written d who t None _ q id event = refl
-event-written d who t (Some own) _ q id event = refl
+event-written d who t _ _ q id event = refl
 
 -- what a form gives that isn't refused
 abbrev Runs : Database → Database → (before after : List (ℕ × Reply)) → ℕ → Checked Outcome → Type 0
@@ -172,8 +172,7 @@ queue-written : (d : Database) (who t : ℕ) (o : Option ℕ) (b : Block) (n : �
     ≡ after_marks d ((begin_of who t o ++ (queued (made name) ∷ []) ++ commit_of who t b) ++ queued (ticked n 1 time 0) ∷ [])
 queue-written d who t None outside n name time = refl
 queue-written d who t (Some own) outside n name time = refl
-queue-written d who t None _ n name time = refl
-queue-written d who t (Some own) _ n name time = refl
+queue-written d who t _ _ n name time = refl
 
 -- a queue that is made, in a transaction of its own
 pub made-queue : (d s1 s2 : Database) (now time : ℤ) (who t count : ℕ) (name copied : List ℕ) → copied ≡ name → count ≡ d.queues_made → time ≡ now
@@ -367,9 +366,6 @@ spent-events d now who name ev_type ev_data extra q seq place left is over =
     of (Err refusal) e = absurd (cc)
 
 -- a transaction that got its id, and ended where it stands in no block
-same-session : (who : ℕ) → (who == who) ≡ true
-same-session who = grind (arith, nat_tests)
-
 pub took : (d : Database) (taken left : RowPart) (who t : ℕ) → txid_for d.part who ≡ Ok t → taken ≡ after_part_marks d.part (begin_of who t (d.part.session who).txid)
     → left ≡ after_part_marks taken (single_end who (taken.session who).txid (taken.session who).block)
     → record d { part = left } ≡ after_marks d (begin_of who t (d.part.session who).txid ++ commit_of who t (d.part.session who).block)
@@ -402,8 +398,7 @@ took d taken left who t id begins ends =
     joined : (o : Option ℕ) (b : Block) → record d { part = after_part_marks (after_part_marks d.part (begin_of who t o)) (commit_of who t b) } ≡ after_marks d (begin_of who t o ++ commit_of who t b)
     joined None outside = refl
     joined (Some u) outside = refl
-    joined None _ = refl
-    joined (Some u) _ = refl
+    joined _ _ = refl
 
 -- a session that entered, or was refused, keeps its promise
 pub entered-steps : {E : Type 0} (d s : Database) (who : ℕ) (alone : Bool) (r : Result (Option Refusal) E) → IfOk r (λ refusal. Enters d.part s.part who (entry_place alone) refusal)

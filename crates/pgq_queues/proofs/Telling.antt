@@ -1,6 +1,7 @@
 -- The events of triggers, told of one after the other.
 use Rattle.std.proofs.Common.{◌≡◌, ℕ, ℤ, ◌+◌, ◌-◌, ◌<◌, ◌≤◌, ◌^◌, Bool, true, false, nat_le, ◌==◌, List, [], ◌∷◌, ◌++◌, Option, Some, Result, Ok, Err, OnOk, OnErr, map, filter, length, take, drop, get_or, slice_set, refl, sym, ◌∙◌, ap, subst, arith, if◌then◌else◌}
 use Rattle.std.specs.Prelude.{◌≢◌, not, ◌&&◌}
+use Rattle.std.proofs.lemmas.Bool.{and_parts}
 use Rattle.std.proofs.lemmas.Bool.Decides.{nat_tests}
 use Rattle.std.proofs.lemmas.List.{take_more, drop_more, append-nil, map-append, set-set, set-get_or, get_or_read, get_or-set_same, length-set}
 use Rattle.std.proofs.lemmas.List.Elements.{filter-append}
@@ -42,10 +43,6 @@ raised-more seq es e = λ i n. pointwise n i
 
 pub room-for : (seq before s b : ℕ) → seq ≡ s → before ≡ b → (2 ^ 62 - 1 ≤ seq → ⊥) → (2 ^ 62 - 1 - seq ≤ before → ⊥) → s + b + 1 < 2 ^ 62
 room-for seq before s b one other low also = omega (arith, one, other, low, also)
-
-and-second : (b c : Bool) → (not b && c) ≡ true → c ≡ true
-and-second true c e = absurd (cc)
-and-second false c e = e
 
 -- ---- the triggers of a table
 
@@ -149,7 +146,7 @@ module _ (t : TracedView) (old new : Option (List Val)) where
 -- behind it there are ids for the rest
 pub ids-rest : (queues : List QueueView) (now : ℤ) (txid : ℕ) (e : RowEvent) (es : List RowEvent) → e.queue < length queues → ids_left (sequences queues) (e ∷ es) ≡ true
     → ids_left (sequences (slice_set queues e.queue (telling now txid e (get_or queues e.queue no_queue)))) es ≡ true
-ids-rest queues now txid e es lt ids = ap (λ f. ids_left f es) (λ i n. pointwise n i) ∙ and-second _ _ ids
+ids-rest queues now txid e es lt ids = ap (λ f. ids_left f es) (λ i n. pointwise n i) ∙ (and_parts _ _ ids).1
   where
     by : (n : ℕ) (b : Bool) → (e.queue == n) ≡ b → QueueView.seq (if b then telling now txid e (get_or queues e.queue no_queue) else get_or queues n no_queue)
         ≡ (if b then sequences queues n + 1 else sequences queues n)

@@ -3,6 +3,7 @@ use Rattle.std.proofs.lemmas.List.{map-append, append-nil}
 use Rattle.std.proofs.Common.{◌≡◌, ℕ, suc, ◌<◌, ◌≤◌, length-append, Bool, true, false, ◌==◌, List, [], ◌∷◌, ◌++◌, Option, Some, None, option_copied, Bor, IfSome, is_some, length, get_or, option_map, nat_cmp, cond, refl, sym, ◌∙◌, ap, subst, arith, if◌then◌else◌}
 use Rattle.std.proofs.lemmas.Bool.Decides.{nat_tests}
 use Rattle.std.proofs.lemmas.List.Elements.{All-cons, All-append, filter-append}
+use Rattle.std.proofs.lemmas.Option.{IfSome_then}
 use Rattle.std.proofs.Math.ListN.{get_or-append}
 use Rattle.std.proofs.Math.Seq.{get_or-append_seam}
 use Rattle.std.specs.List.{All}
@@ -25,17 +26,12 @@ Updated old new n o = (q : ℕ) → lookup (is_at (nat_cmp q)) new ≡ cond (is_
 kept-updated : (old new : List (ℕ × TracedTableView)) (n : ℕ) (o : Option TracedTableView) → Updated old new n o → (m : ℕ) → kept new m ≡ (if n == m then o else kept old m)
 kept-updated old new n o updates m = updates m ∙ ap (λ b. cond b o (kept old m)) (is_at-nat n m)
 
-if-some : {A : Type 0} (o : Option A) (P Q : A → Type 0) → ((a : A) → P a → Q a) → IfSome o P → IfSome o Q
-if-some None P Q f is = tt
-if-some (Some a) P Q f is = f a is
-
 -- more queues
 pub within-more : (count later : ℕ) (triggers : List TableTrigger) (all : List (ℕ × TracedTableView)) → count ≤ later → TracedWithin count triggers all → TracedWithin later triggers all
 within-more count later triggers all le within = record { queues = λ k d lt. let low = within.queues k d lt in omega (arith, low, le); places = within.places }
 
 pub batches-more : (count later : ℕ) (batches : List (ℕ × Batch)) → count ≤ later → BatchesWithin count batches → BatchesWithin later batches
-batches-more count later batches le within id =
-    if-some (kept batches id) (λ (b : Batch). b.queue < count) (λ (b : Batch). b.queue < later) (λ b low. omega (arith, low, le)) (within id)
+batches-more count later batches le within id = IfSome_then (kept batches id) (within id) (λ b low. omega (arith, low, le))
 
 -- a batch that is found, and batches of which one has changed
 pub batch-within : (count : ℕ) (r : Option (Bor Batch)) (found : Option Batch) → option_copied r ≡ found → IfSome found (λ (b : Batch). b.queue < count) → IfSome r (λ b. b.now.queue < count)

@@ -92,6 +92,7 @@ impl Queues {
         ensures time { self.new ≡ record self.old { time = time } }
         ensures within { All (λ t. t.trigger.queue < length self.new.queues) self.new.triggers }
     {
+        // There are as many queues as names, by which triggers are within.
         let _ = self.queues.len();
         self.time = time;
     }

@@ -1,5 +1,4 @@
-use Rattle.std.proofs.Common.{rules, ◌<◌, Some, length, subst}
-use Rattle.pgq_queues.specs.Views.{QueuesView}
+use Rattle.std.proofs.Common.{rules, Some}
 use Rattle.pgq_queues.proofs.NumberedQueues.{number-shown}
 use Rattle.pgq_queues.proofs.queues.Queues.number.Goals as goal
 
@@ -8,6 +7,3 @@ returns-in_err-number-clause-number c = number-shown _ _ c.args.queue.now c.from
 
 pub returns-clause-number : goal.returns-clause-number
 returns-clause-number c = number-shown _ _ c.args.queue.now (Some c.in_ok-number.number) c.self.view_is c.in_ok-number.ensures.number
-
-pub returns-clause-within : goal.returns-clause-within
-returns-clause-within c = subst (λ (v : QueuesView). c.in_ok-number.number < length v.names) c.self.view_is c.in_ok-number.ensures.within

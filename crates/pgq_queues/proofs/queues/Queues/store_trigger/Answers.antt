@@ -1,7 +1,7 @@
-use Rattle.std.proofs.Common.{rules, ◌<◌, Some, is_some, length, sym, ap, subst, ◌∙◌, ◌++◌, ◌∷◌, []}
+use Rattle.std.proofs.Common.{rules, ◌<◌, Some, is_some, length, sym, ap, subst}
 use Rattle.sky_model.specs.Triggers.{TableTrigger}
-use Rattle.pgq_queues.specs.Views.{TracedTableView, QueuesView}
-use Rattle.pgq_queues.proofs.TracedLists.{Updated, traced-kept, traced-more, tables-more}
+use Rattle.pgq_queues.specs.Views.{QueuesView}
+use Rattle.pgq_queues.proofs.TracedLists.{Updated, traced-kept, traced-more}
 use Rattle.pgq_queues.proofs.queues.Queues.store_trigger.Goals as goal
 
 pub invariant_of-self-in_err-add-in-Some : goal.invariant_of-self-in_err-add-in-Some
@@ -31,10 +31,3 @@ invariant_of-self-2 c =
             c.self.invariant.1.1,
       ),
     )
-
-pub returns-clause-tables : goal.returns-clause-tables
-returns-clause-tables c =
-    tables-more _ _ c.push_reserved.new.self.items (c.get_mut.follows.lender c.add.new.self).entries c.trigger.inside.table c.args.trigger c.add.new.self c.in-Some.table.now c.self.view_is
-    (c.push_reserved.ensures.items ∙ ap (λ ts. ts ++ c.args.trigger ∷ []) c.in_ok-reserve.ensures.items) (sym (ap TableTrigger.table c.trigger.view_is))
-    ((c.get_mut.follows.holds c.add.new.self).3 (sym (ap is_some c.in-Some.ensures.value))).0 c.in-Some.ensures.value
-    (ap TracedTableView.name c.in_ok-add-in-Some.ensures.ok) (ap TracedTableView.columns c.in_ok-add-in-Some.ensures.ok)

@@ -5,9 +5,6 @@ use Rattle.sky_model.specs.Consumers.{Subscription}
 use Rattle.pgq_sub.specs.Seen.{seen_subs, with_member}
 use Rattle.pgq_sub.proofs.subs.Subs.register.Goals as goal
 
-pub add-requires-clause-new : goal.add-requires-clause-new
-add-requires-clause-new c = ap (λ name. value_of name c.self.inside.subs) c.in_ok-copy.ensures ∙ ap (value_of c.args.consumer.now) c.self.view_is ∙ c.requires.new
-
 pub returns-clause-ok : goal.returns-clause-ok
 returns-clause-ok c =
     let old = c.self.inside.subs in
