@@ -212,15 +212,21 @@ fn is_due_after(cfg: &QueueConfig, last: &Tick, before: Option<&Tick>, now: i64,
     }
     match before {
         None => true,
-        Some(before) => {
-            let gap = time_between(before.time, last.time);
-            is_idle_due(lag, gap, cfg.ticker_max_lag(), cfg.ticker_idle_period())
-        }
+        Some(before) => is_idle_due(cfg, lag, time_between(before.time, last.time)),
     }
 }
 
-/// Whether a tick is due without a new event, by the times since the last tick and between the last two.
-fn is_idle_due(lag: i64, gap: i64, max_lag: i64, idle_period: i64) -> bool
+/// Whether a tick is due without a new event, by the times since the last tick and between the last two. It stands apart for
+/// the prover, which finds `is_idle` of four numbers by itself.
+fn is_idle_due(cfg: &QueueConfig, lag: i64, gap: i64) -> bool
+    requires lag { IsSpan lag }
+    requires gap { IsSpan gap }
+    ensures { result ≡ not (int_lt (pos 2 *ℤ lag) cfg.now.max_lag || (int_lt lag (pos 2 *ℤ gap) && int_lt lag cfg.now.idle_period)) }
+{
+    is_idle(lag, gap, cfg.ticker_max_lag(), cfg.ticker_idle_period())
+}
+
+fn is_idle(lag: i64, gap: i64, max_lag: i64, idle_period: i64) -> bool
     requires lag { IsSpan lag }
     requires gap { IsSpan gap }
     ensures { result ≡ not (int_lt (pos 2 *ℤ lag) max_lag || (int_lt lag (pos 2 *ℤ gap) && int_lt lag idle_period)) }

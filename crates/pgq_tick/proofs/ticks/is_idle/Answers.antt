@@ -1,8 +1,8 @@
 use Rattle.std.proofs.Common.{◌≡◌, ℤ, pos, ◌*ℤ◌, Bool, true, false, FitsSigned, to_z, of_z, w64, sym, ◌∙◌, ap}
 use Rattle.std.specs.Prelude.{not, ◌||◌, ◌&&◌, int_lt}
 use Rattle.std.proofs.lemmas.Int.{to_z-of_z}
-use Rattle.pgq_tick.proofs.ticks.is_idle_due.Goals as goal
-use Rattle.pgq_tick.proofs.ticks.is_idle_due.Goals.{then-is_early, else-is_early+then-is_steady, else-is_early+else-is_steady}
+use Rattle.pgq_tick.proofs.ticks.is_idle.Goals as goal
+use Rattle.pgq_tick.proofs.ticks.is_idle.Goals.{then-is_early, else-is_early+then-is_steady, else-is_early+else-is_steady}
 
 lt-as : (x y a b : ℤ) → FitsSigned w64 x → FitsSigned w64 y → x ≡ a → y ≡ b → int_lt (to_z w64 (of_z w64 x)) (to_z w64 (of_z w64 y)) ≡ int_lt a b
 lt-as x y a b fx fy at bt = (λ i. int_lt (to_z-of_z w64 x fx i) (to_z-of_z w64 y fy i)) ∙ (λ i. int_lt (at i) (bt i))
