@@ -200,7 +200,9 @@ fn append_name(name: &[u8], into: &mut Vec<u8>) -> Result<(), NoMemory>
     ensures kept { OnErr result (Keeps into.old.items into.new.items) }
 {
     into.extend_from_slice(name)?;
-    into.extend_from_slice(b": ")
+    into.push(b':')?;
+    into.push(b' ')?;
+    Ok(())
 }
 
 /// The name of a session, or no byte where it has none.

@@ -95,7 +95,7 @@ pub(crate) fn is_dotted(word: &str) -> bool
 fn stands_for_itself(byte: u8) -> bool
     ensures { result ≡ (not (byte == 39) && kind.is_text_byte byte) }
 {
-    byte != b'\'' && byte != b'\n' && byte != 0
+    byte > b'\'' || (byte != b'\'' && byte != b'\n' && byte != 0)
 }
 
 #[inline(never)]

@@ -43,8 +43,11 @@ impl<'a> Model for Words<'a> {
 fn word_end(bytes: &[u8]) -> usize
     ensures { EndsWord result bytes.now }
 {
-    // Most words have no quote, and then each byte is only compared.
+    // Most words have no quote, and most bytes are above a space and a quote: one comparison for each.
     for (i, byte) in bytes.iter().enumerate() {
+        if *byte > b'\'' {
+            continue;
+        }
         if *byte == b' ' {
             return i;
         }
@@ -62,6 +65,9 @@ fn quoted_end(bytes: &[u8]) -> usize
 {
     let mut quoted = false;
     for (i, byte) in bytes.iter().enumerate() {
+        if *byte > b'\'' {
+            continue;
+        }
         if *byte == b' ' && !quoted {
             return i;
         }
