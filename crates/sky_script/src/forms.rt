@@ -15,8 +15,8 @@ use crate::words::Words;
 use sky_model::{RowStmt, Stmt};
 use std::alloc::Global;
 
-/// The statement with this first word, of the words behind it. It is compared with those of its length, the most frequent
-/// first.
+/// The statement with this first word, of the words behind it. Only forms whose first word has six bytes, twelve, or another
+/// number are compared, by how many it has.
 #[tactic(auto, using(crate::proofs::FormLemmas::among_six, crate::proofs::FormLemmas::among_twelve, crate::proofs::FormLemmas::among_other))]
 pub(crate) fn read_form(alloc: Global, first: &[u8], words: &mut Words) -> Result<Stmt, LineCause>
     ensures { AnswersAmong result first.now all_forms words.old }

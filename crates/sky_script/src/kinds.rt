@@ -95,6 +95,7 @@ pub(crate) fn is_dotted(word: &str) -> bool
 fn stands_for_itself(byte: u8) -> bool
     ensures { result ≡ (not (byte == 39) && kind.is_text_byte byte) }
 {
+    // Most bytes are above a quote, so that they take one comparison.
     byte > b'\'' || (byte != b'\'' && byte != b'\n' && byte != 0)
 }
 
