@@ -1,5 +1,5 @@
 -- What a database shows, after what the code changed in it.
-use Rattle.std.proofs.Common.{Err, is_ok, drop, ◌≡◌, ℕ, ℤ, ◌+◌, ◌<◌, ◌≤◌, ◌^◌, List, [], ◌∷◌, ◌++◌, Bool, true, false, ◌==◌, nat_le, Option, Some, None, Result, Ok, IfOk, OnOk, IfSome, IfNone, is_some, length, append_assoc, get_or, option_map, refl, sym, ◌∙◌, ap, subst, arith, if◌then◌else◌, ◌↔◌}
+use Rattle.std.proofs.Common.{Err, is_ok, drop, ◌≡◌, ℕ, ℤ, ◌+◌, ◌<◌, ◌≤◌, ◌^◌, List, [], ◌∷◌, ◌++◌, Bool, true, false, nat_le, Option, Some, None, Result, Ok, IfOk, OnOk, IfSome, IfNone, is_some, length, append_assoc, get_or, option_map, refl, sym, ◌∙◌, ap, subst, arith, if◌then◌else◌, ◌↔◌}
 use Rattle.std.proofs.lemmas.Bool.Decides.{nat_tests}
 use Rattle.std.proofs.lemmas.List.{drop_more}
 use Rattle.sky_val.specs.declared.event.Event.{Event}
@@ -23,10 +23,10 @@ use Rattle.sky_model.specs.Triggers.{triggers_of}
 use Rattle.sky_model.specs.Selection.{selected}
 use Rattle.sky_model.specs.StepConsumer.{finish_batch, finishes, get_batch_events}
 use Rattle.sky_model.specs.Printed.{EventsHaveMoments, ReplyHasMoments}
-use Rattle.sky_model.specs.State.{with_txid, RowPart, after_part_marks, Database, after_mark, after_marks}
+use Rattle.sky_model.specs.State.{RowPart, after_part_marks, Database, after_mark, after_marks}
 use Rattle.sky_model.specs.ShownRows.{snapshot_now}
 use Rattle.sky_model.specs.Outcome.{Outcome, Checked, ◌>>=◌, ◌>>◌, refused_if, refused_by, found_or, answers, does_marks, reply_of, end_of, aborts, abort, settled}
-use Rattle.sky_model.specs.OwnTransaction.{own_or_next, txid_for, begin_of, commit_of, written}
+use Rattle.sky_model.specs.OwnTransaction.{txid_for, begin_of, commit_of, written}
 use Rattle.sky_model.specs.StepQueue.{create_queue, insert_event, queue_called, next_event_id, made_event}
 use Rattle.sky_model.specs.Allowed.{where_of}
 use Rattle.sky_model.specs.Made.{Making, takes_sight, runs, looking, runs_if}
@@ -35,14 +35,13 @@ use Rattle.sky_model.specs.Settling.{Turn, behind_marks, settling, with_settling
 use Rattle.sky_model.specs.Calls.{form, making, statement}
 use Rattle.sky_model.specs.DatabaseCalls as call
 use Rattle.sky_model.specs.DatabaseSteps.{DatabaseSteps}
-use Rattle.sky_model.proofs.Good.{same-session}
 use Rattle.sky_model.proofs.RowOutcomes.{RowMarks}
 use Rattle.sky_model.proofs.DatabaseStanding.{after_marks-append, behind-all, database_enter_from_exact}
 use Rattle.sky_urlenc.specs.RowEvents.{op_of}
 use Rattle.sky_session.specs.Effects.{EffectsView, effects_by, with_effects}
 use Rattle.sky_session.specs.declared.effect.Effect.{Effect}
 use Rattle.sky_session.specs.declared.effect.Effect.TheVariants.{Wrote, Aborted}
-use Rattle.sky_model.specs.SessionMarks.{look_of, single_end, failure, Enters, entry, entry_place}
+use Rattle.sky_model.specs.SessionMarks.{look_of, failure, Enters, entry, entry_place}
 use Rattle.sky_state.specs.Views.{RowStateView}
 use Rattle.sky_state.specs.Seen.{seen}
 use Rattle.pgq_queues.specs.declared.batch.Batch.{Batch}
@@ -102,7 +101,7 @@ event-written d who t (Some own) outside q id event = refl
 event-written d who t _ _ q id event = refl
 
 -- what a form gives that isn't refused
-abbrev Runs : Database → Database → (before after : List (ℕ × Reply)) → ℕ → Checked Outcome → Type 0
+abbrev pub Runs : Database → Database → (before after : List (ℕ × Reply)) → ℕ → Checked Outcome → Type 0
 Runs old new before after who checked = Does old new before after who checked × ReplyHasMoments (reply_of checked)
 
 -- what an inserted event gives
@@ -162,9 +161,9 @@ gives-finish v now queues who id found count before after same batch over nothin
 
 -- what a query for a batch's events gives
 pub gives-events : (d : Database) (who id : ℕ) (batch : Batch) (events : List Event) (before after : List (ℕ × Reply)) → Some (seen_batch id batch) ≡ d.batch id
-    → events ≡ selected d (seen_batch id batch) → EventsHaveMoments events → after ≡ before ++ (who, Events events) ∷ [] → Runs d d before after who (get_batch_events d (selected d) id)
+    → events ≡ selected d (seen_batch id batch) → EventsHaveMoments events → after ≡ before ++ (who, Events events) ∷ [] → Runs d d before after who (get_batch_events (shown_by d).events id)
 gives-events d who id batch events before after there is have pushed =
-    subst (λ found. Runs d d before after who (found_or found NoBatch >>= (λ b. answers (Events (selected d b))))) there
+    subst (λ found. Runs d d before after who (found_or (option_map (selected d) found) NoBatch >>= (λ es. answers (Events es)))) there
     (record { accepted = refl; replied = pushed ∙ ap (λ es. before ++ (who, Events es) ∷ []) is; changed = refl }, subst EventsHaveMoments is have)
 
 queue-written : (d : Database) (who t : ℕ) (o : Option ℕ) (b : Block) (n : ℕ) (name : List ℕ) (time : ℤ)
@@ -366,36 +365,11 @@ spent-events d now who name ev_type ev_data extra q seq place left is over =
     of (Err refusal) e = absurd (cc)
 
 -- a transaction that got its id, and ended where it stands in no block
-pub took : (d : Database) (taken left : RowPart) (who t : ℕ) → txid_for d.part who ≡ Ok t → taken ≡ after_part_marks d.part (begin_of who t (d.part.session who).txid)
-    → left ≡ after_part_marks taken (single_end who (taken.session who).txid (taken.session who).block)
+pub took : (d : Database) (left : RowPart) (who t : ℕ) → left ≡ after_part_marks d.part (written who t (d.part.session who) [])
     → record d { part = left } ≡ after_marks d (begin_of who t (d.part.session who).txid ++ commit_of who t (d.part.session who).block)
-took d taken left who t id begins ends =
-    ap (λ part. record d { part = part }) (ends ∙ ap (after_part_marks taken) marks_are ∙ ap (λ (x : RowPart). after_part_marks x (commit_of who t (d.part.session who).block)) begins)
-    ∙ joined (d.part.session who).txid (d.part.session who).block
+took d left who t is = ap (λ part. record d { part = part }) is ∙ joined (d.part.session who).txid (d.part.session who).block
   where
-    txid_of : (o : Option ℕ) → (d.part.session who).txid ≡ o → own_or_next d.part o ≡ Ok t → ((after_part_marks d.part (begin_of who t o)).session who).txid ≡ Some t
-    txid_of None is e = ap (λ b. (if b then with_txid (Some t) (d.part.session who) else d.part.session who).txid) (same-session who)
-    txid_of (Some u) is e = (let one : u ≡ t = cc in is ∙ ap Some one)
-
-    same_block : (b : Bool) → (if b then with_txid (Some t) (d.part.session who) else d.part.session who).block ≡ (d.part.session who).block
-    same_block true = refl
-    same_block false = refl
-
-    block_of : (o : Option ℕ) → ((after_part_marks d.part (begin_of who t o)).session who).block ≡ (d.part.session who).block
-    block_of None = same_block (who == who)
-    block_of (Some u) = refl
-
-    single : (b : Block) → single_end who (Some t) b ≡ commit_of who t b
-    single outside = refl
-    single _ = refl
-
-    marks_are : single_end who (taken.session who).txid (taken.session who).block ≡ commit_of who t (d.part.session who).block
-    marks_are =
-        ap (λ o. single_end who o (taken.session who).block) (ap (λ (x : RowPart). (x.session who).txid) begins ∙ txid_of (d.part.session who).txid refl id)
-        ∙ ap (single_end who (Some t)) (ap (λ (x : RowPart). (x.session who).block) begins ∙ block_of (d.part.session who).txid)
-        ∙ single (d.part.session who).block
-
-    joined : (o : Option ℕ) (b : Block) → record d { part = after_part_marks (after_part_marks d.part (begin_of who t o)) (commit_of who t b) } ≡ after_marks d (begin_of who t o ++ commit_of who t b)
+    joined : (o : Option ℕ) (b : Block) → record d { part = after_part_marks d.part (begin_of who t o ++ [] ++ commit_of who t b) } ≡ after_marks d (begin_of who t o ++ commit_of who t b)
     joined None outside = refl
     joined (Some u) outside = refl
     joined _ _ = refl

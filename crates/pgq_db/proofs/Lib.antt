@@ -1,4 +1,6 @@
 pub mod Databases
+pub mod Configuring
+pub mod Daemons
 pub mod Moments
 pub mod Empty
 pub mod Waiters

@@ -54,7 +54,7 @@ tables-stay p old new keeps = subst (λ (s : List TableTrigger × List (ℕ × T
 pub tables-then : (old new : RowPart) (marks : List Mark) (q : QueuesView) → new ≡ after_part_marks old marks → AreTables old q → AreTables new q
 tables-then old new marks q is are = subst (λ part. AreTables part q) (sym is) (tables-behind old marks q are)
 
-tables-same : (old new : RowPart) (q : QueuesView) → new ≡ old → AreTables old q → AreTables new q
+pub tables-same : (old new : RowPart) (q : QueuesView) → new ≡ old → AreTables old q → AreTables new q
 tables-same old new q is are = subst (λ part. AreTables part q) (sym is) are
 
 -- and after a statement came in, or not

@@ -1,7 +1,7 @@
 -- What a method of the code gives, by what the database showed.
 use Rattle.std.specs.Prelude.{◌≡◌, ℕ, Bool, true, false, List, [], ◌∷◌, ◌++◌, Result, Ok, Err, is_ok}
 use Rattle.sky_model.specs.declared.stmt.Stmt.{Stmt}
-use Rattle.sky_model.specs.declared.stmt.Stmt.TheVariants.{Row}
+use Rattle.sky_model.specs.declared.stmt.Stmt.TheVariants.{Row, Clock}
 use Rattle.sky_model.specs.declared.reply.Reply.{Reply}
 use Rattle.sky_model.specs.declared.stop.Stop.{Stop}
 use Rattle.sky_model.specs.Outcome.{Outcome, Checked, reply_of, marks_of}
@@ -12,10 +12,16 @@ use Rattle.sky_model.specs.Settling.{Turn, turn_of}
 use Rattle.pgq_db.specs.Views.{DbView}
 use Rattle.pgq_db.specs.Seen.{seen_database}
 
--- whether a statement is one on rows
-abbrev pub is_row : Stmt → Bool
-is_row (Row stmt) = true
-is_row _ = false
+-- whether a statement moves the clock, which no database has
+abbrev pub is_clock : Stmt → Bool
+is_clock (Clock time) = true
+is_clock _ = false
+
+-- whether a statement is neither one on rows nor one that moves the clock
+abbrev pub is_on_queues : Stmt → Bool
+is_on_queues (Row stmt) = false
+is_on_queues (Clock time) = false
+is_on_queues _ = true
 
 -- the answers are the turn's, and the database is then as after its marks
 pub record Gives (old new : Database) (replies : List (ℕ × Reply)) (turn : Turn) : Type 0 where

@@ -2,4 +2,5 @@ pub mod Views
 pub mod Seen
 pub mod Undone
 pub mod Gives
+pub mod Configured
 pub mod Waiters

@@ -1,4 +1,4 @@
-ghost use Rattle.std.specs.Prelude.{◌≡◌, ◌↔◌, ◌≢◌, ◌+◌, ◌<◌, ◌^◌, [], ◌∷◌, ◌++◌, true, None, Some, Ok, Err, IfOk, IfErr, OnOk, OnErr, IsTrue, option_copied, length, is_ok, find, not, nat_le, false};
+ghost use Rattle.std.specs.Prelude.{◌≡◌, ◌↔◌, ◌≢◌, ◌+◌, ◌<◌, ◌^◌, [], ◌∷◌, ◌++◌, true, None, Some, Ok, Err, IfOk, IfErr, OnOk, OnErr, IsTrue, option_copied, length, find, not, nat_le, false};
 ghost use Rattle.sky_keys.specs.Waits.{is_waiting};
 ghost use Rattle.sky_names.specs.Places.{place_of};
 ghost use Rattle.sky_model.specs.InForm.{IsRowInForm};
@@ -26,13 +26,14 @@ ghost use Rattle.pgq_queues.specs.Seen.{seen_batch};
 ghost use Rattle.pgq_db.specs.Seen.{seen_database};
 ghost use Rattle.pgq_db.specs.Waiters.{StaysWithin};
 ghost use Rattle.pgq_db.specs.Gives.{Gives, Adds};
+ghost use Rattle.pgq_db.specs.Configured.{refusal_for, configured_as, Configures};
 
 use crate::noting::undo_aborted;
 use pgq_queues::{Batch, Queues, TableTrigger};
 use pgq_sub::Sub;
+use pgq_tick::ConfigFault;
 use sky_model::{Refusal, Replies, RowStmt, Stop};
 use sky_session::{RowDb, RowStep};
-use sky_trans::TransFault;
 use sky_txid::Snapshot;
 use sky_val::{Event, NoMemory, Schema, SessionId, Text};
 use std::alloc::{AllocError, Global};
@@ -88,33 +89,26 @@ impl Db {
         self.queues.queue(queue).subscription(consumer)
     }
 
-    /// Refuses where the session's transaction has no id, and none is left.
-    pub(crate) fn id_left(&self, who: SessionId) -> Result<(), Refusal>
-        ensures ok { OnOk result (is_ok (txid_for (seen_database self.now).part who) ≡ true) }
+    /// The id of the session's transaction: its own, or the next one. Refused where there is none.
+    pub(crate) fn next_txid(&self, who: SessionId) -> Result<u64, Refusal>
+        ensures ok { IfOk result (λ txid. txid_for (seen_database self.now).part who ≡ Ok txid) }
         ensures err { IfErr result (λ refusal. txid_for (seen_database self.now).part who ≡ Err refusal) }
     {
-        if !self.rows.id_left(who) {
-            return Err(Refusal::TxidsSpent);
+        match self.rows.next_txid(who) {
+            Some(txid) => Ok(txid),
+            None => Err(Refusal::TxidsSpent),
         }
-        Ok(())
     }
 
-    /// The id of the session's transaction, which gets one where it has none. Outside a block it commits at once.
-    pub(crate) fn take_txid(&mut self, who: SessionId) -> Result<u64, NoMemory>
-        requires { is_ok (txid_for (seen_database self.old).part who) ≡ true }
-        ensures id { IfOk result (λ txid. txid_for (seen_database self.old).part who ≡ Ok txid) }
-        ensures marks { IfOk result (λ txid. seen_database self.new ≡ after_marks (seen_database self.old)
+    /// The session's transaction takes this id, where it has none. Outside a block it commits at once.
+    pub(crate) fn take_txid(&mut self, who: SessionId, txid: u64) -> Result<(), NoMemory>
+        requires { txid_for (seen_database self.old).part who ≡ Ok txid }
+        ensures marks { OnOk result (seen_database self.new ≡ after_marks (seen_database self.old)
             (begin_of who txid ((seen_database self.old).part.session who).txid ++ commit_of who txid ((seen_database self.old).part.session who).block)) }
         ensures queues { OnOk result (self.new.queues ≡ self.old.queues) }
     {
-        match self.rows.take_txid(who) {
-            Ok(txid) => {
-                self.rows.end_single(who);
-                Ok(txid)
-            }
-            Err(TransFault::NoMemory) => Err(AllocError),
-            Err(TransFault::TxidsSpent) => unreachable!(),
-        }
+        self.rows.write_elsewhere(who, txid)?;
+        Ok(())
     }
 
     /// Lets the session make a statement that isn't on rows, or refuses it. One that may stand `outside` of blocks alone
@@ -273,6 +267,19 @@ impl Db {
         self.queues.raise(queue, value);
     }
 
+    /// A parameter of a queue gets the value that a text writes, or it is said why not.
+    pub(crate) fn configure(&mut self, queue: usize, param: &Text, value: &Text) -> Result<(), Stop>
+        requires { queue < length self.old.queues.names }
+        ensures mark { OnOk result (Configures (seen_database self.old) (seen_database self.new) queue (configured_as ((seen_database self.old).queue queue).config param.now value.now)) }
+        ensures stops { IfErr result (λ stop. Stops stop (seen_database self.old) (seen_database self.new) (configured_as ((seen_database self.old).queue queue).config param.now value.now)) }
+    {
+        if let Err(fault) = self.queues.configure(queue, param.bytes(), value.bytes()) {
+            let refusal = refusal_for(self.alloc, param, fault)?;
+            return Err(Stop::Refused(refusal));
+        }
+        Ok(())
+    }
+
     /// Stores an event in a queue, whether its transaction commits or not.
     pub(crate) fn put(&mut self, queue: usize, event: Event) -> Result<(), NoMemory>
         requires queue { queue < length self.old.queues.names }
@@ -339,6 +346,17 @@ impl Db {
             Some((_, schema)) => self.queues.trace(name, schema, trigger),
             None => unreachable!(),
         }
+    }
+}
+
+/// Why a parameter isn't set.
+fn refusal_for(alloc: Global, param: &Text, fault: ConfigFault) -> Result<Refusal, NoMemory>
+    ensures { IfOk result (λ refusal. refusal ≡ refusal_for param.now fault) }
+{
+    let param = param.copy(alloc)?;
+    match fault {
+        ConfigFault::NoParam => Ok(Refusal::NoParam(param)),
+        ConfigFault::BadValue => Ok(Refusal::BadValue(param)),
     }
 }
 

@@ -8,6 +8,7 @@
 //! script.
 #![tactic(auto)]
 
+mod daemon;
 mod db;
 mod noting;
 mod statements;

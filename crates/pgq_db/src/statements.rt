@@ -1,7 +1,7 @@
 //! The statements, each in the database that its session has open. A refusal changes nothing there but
 //! that it may abort the session's block.
 
-ghost use Rattle.std.specs.Prelude.{◌≡◌, ◌+◌, ◌<◌, [], ◌∷◌, ◌++◌, true, false, if◌then◌else◌, None, Some, Ok, Err, IfOk, IfErr, OnOk, length, is_ok};
+ghost use Rattle.std.specs.Prelude.{◌≡◌, ◌+◌, ◌<◌, [], ◌∷◌, ◌++◌, true, false, if◌then◌else◌, None, Some, Ok, Err, IfOk, IfErr, OnOk, length};
 ghost use Rattle.sky_names.specs.Places.{place_of};
 ghost use Rattle.sky_model.specs.declared.stmt.Where.TheVariants.{WhenReading, WhenOutside};
 ghost use Rattle.sky_model.specs.Queues.{queue_number, tick};
@@ -10,11 +10,10 @@ ghost use Rattle.sky_model.specs.State.{after_marks};
 ghost use Rattle.sky_model.specs.Outcome.{settled};
 ghost use Rattle.sky_model.specs.Printed.{HaveMoments};
 ghost use Rattle.sky_model.specs.OwnTransaction.{txid_for, written};
-ghost use Rattle.sky_model.specs.StepQueue.{queue_called, create_queue, insert_event, ticker, force_tick, made_event};
+ghost use Rattle.sky_model.specs.StepQueue.{queue_called, create_queue, set_queue_config, queue_info, insert_event, ticker, force_tick, made_event};
 ghost use Rattle.sky_model.specs.StepRows.{table_called};
 ghost use Rattle.sky_model.specs.StepTrigger.{add_trigger};
 ghost use Rattle.sky_model.specs.StepConsumer.{has_dot, opens_batch, register_consumer, next_batch, get_batch_events, finish_batch};
-ghost use Rattle.sky_model.specs.Selection.{selected};
 ghost use Rattle.sky_model.specs.InForm.{IsInForm};
 ghost use Rattle.sky_model.specs.Allowed.{where_of};
 ghost use Rattle.sky_model.specs.Reader.{shown_by, database_by_itself};
@@ -25,7 +24,7 @@ ghost use Rattle.sky_model.specs.DatabaseSteps.{DatabaseSteps};
 ghost use Rattle.sky_model.specs.Moment.{IsTime};
 ghost use Rattle.pgq_db.specs.Seen.{seen_database};
 ghost use Rattle.pgq_db.specs.Waiters.{StaysWithin};
-ghost use Rattle.pgq_db.specs.Gives.{is_row, Gives, Adds, Answers, Ran};
+ghost use Rattle.pgq_db.specs.Gives.{is_clock, is_on_queues, Gives, Adds, Answers, Ran};
 ghost use Rattle.sky_model.specs.Stops.{StopsAs};
 
 use crate::db::Db;
@@ -42,6 +41,7 @@ impl Db {
     pub fn step(&mut self, who: SessionId, stmt: &Stmt, now: i64) -> Result<Replies, NoMemory>
         requires time { IsTime now }
         requires form { IsInForm stmt.now }
+        requires clock { is_clock stmt.now ≡ false }
         ensures exact { IfOk result (λ replies. Gives (seen_database self.old) (seen_database self.new) replies
             (database_turn database_by_itself (seen_database self.old) now who stmt.now)) }
         ensures rests { OnOk result (ready (seen_database self.new).part ≡ None) }
@@ -65,6 +65,7 @@ impl Db {
     ) -> Result<(), NoMemory>
         requires time { IsTime now }
         requires form { IsInForm stmt.now }
+        requires clock { is_clock stmt.now ≡ false }
         ensures exact { OnOk result (Adds (seen_database self.old) (seen_database self.new) replies.old replies.new (database_turn database_by_itself (seen_database self.old) now who stmt.now)) }
         ensures rests { OnOk result (ready (seen_database self.new).part ≡ None) }
         ensures moments { OnOk result (HaveMoments (database_turn database_by_itself (seen_database self.old) now who stmt.now).answers) }
@@ -85,6 +86,7 @@ impl Db {
     ) -> Result<(), NoMemory>
         requires time { IsTime now }
         requires form { IsInForm stmt.now }
+        requires clock { is_clock stmt.now ≡ false }
         ensures adds { OnOk result (Adds (seen_database self.old) (seen_database self.new) replies.old replies.new (database_turn database_by_itself (seen_database self.old) now who stmt.now)) }
         ensures rests { OnOk result (ready (seen_database self.new).part ≡ None) }
         ensures moments { OnOk result (HaveMoments (database_turn database_by_itself (seen_database self.old) now who stmt.now).answers) }
@@ -94,6 +96,7 @@ impl Db {
                 self.step_rows(now, who, stmt, replies)?;
                 Ok(())
             }
+            Stmt::Clock { .. } => unreachable!(),
             _ => {
                 self.run_on_queues(now, who, stmt, replies)?;
                 Ok(())
@@ -110,7 +113,7 @@ impl Db {
         replies: &mut Replies,
     ) -> Result<(), NoMemory>
         requires time { IsTime now }
-        requires kind { is_row stmt.now ≡ false }
+        requires kind { is_on_queues stmt.now ≡ true }
         ensures adds { OnOk result (Adds (seen_database self.old) (seen_database self.new) replies.old replies.new (database_turn database_by_itself (seen_database self.old) now who stmt.now)) }
         ensures rests { OnOk result (ready (seen_database self.new).part ≡ None) }
         ensures moments { OnOk result (HaveMoments (database_turn database_by_itself (seen_database self.old) now who stmt.now).answers) }
@@ -129,7 +132,7 @@ impl Db {
         replies: &mut Replies,
     ) -> Result<(), NoMemory>
         requires time { IsTime now }
-        requires kind { is_row stmt.now ≡ false }
+        requires kind { is_on_queues stmt.now ≡ true }
         ensures { OnOk result (Answers (seen_database self.old) (seen_database self.new) replies.old replies.new who (statement database_by_itself (seen_database self.old) now who stmt.now)) }
     {
         match self.enter(who, is_outside(stmt))? {
@@ -153,7 +156,7 @@ impl Db {
         replies: &mut Replies,
     ) -> Result<(), NoMemory>
         requires time { IsTime now }
-        requires kind { is_row stmt.now ≡ false }
+        requires kind { is_on_queues stmt.now ≡ true }
         ensures { OnOk result (Answers (seen_database self.old) (seen_database self.new) replies.old replies.new who
             (settled who ((seen_database self.old).part.session who) (form (seen_database self.old) (shown_by (seen_database self.old)) now who stmt.now))) }
     {
@@ -190,12 +193,18 @@ impl Db {
         replies: &mut Replies,
     ) -> Result<(), Stop>
         requires time { IsTime now }
-        requires kind { is_row stmt.now ≡ false }
+        requires kind { is_on_queues stmt.now ≡ true }
         ensures ran { Ran self.old self.new replies.old replies.new who result (form (seen_database self.old) (shown_by (seen_database self.old)) now who stmt.now) }
     {
         match stmt {
-            Stmt::Row(_) => unreachable!(),
+            Stmt::Row(_) | Stmt::Clock { .. } => unreachable!(),
             Stmt::CreateQueue { queue } => self.create_queue(now, who, queue, replies),
+            Stmt::SetQueueConfig {
+                queue,
+                param,
+                value,
+            } => self.set_queue_config(who, queue, param, value, replies),
+            Stmt::QueueInfo { queue } => self.queue_info(who, queue, replies),
             Stmt::InsertEvent {
                 queue,
                 ev_type,
@@ -217,6 +226,11 @@ impl Db {
                 backup,
                 ignored,
             } => self.add_trigger(who, name, table, queue, *backup, ignored, replies),
+            // The world keeps whether the daemon is on.
+            Stmt::PgqdOn | Stmt::PgqdOff => {
+                replies.push(who, Reply::Done)?;
+                Ok(())
+            }
         }
     }
 
@@ -250,26 +264,31 @@ impl Db {
         if self.queues.count() >= Limit::Queues.most() {
             return Err(Stop::Refused(Refusal::TooMany(Limit::Queues)));
         }
-        self.id_left(who)?;
-        self.new_queue(now, who, name)?;
+        let txid = self.next_txid(who)?;
+        self.new_queue(now, who, txid, name)?;
         replies.push(who, Reply::Number(1))?;
         Ok(())
     }
 
-    fn new_queue(&mut self, now: i64, who: SessionId, name: &Text) -> Result<u64, NoMemory>
+    fn new_queue(
+        &mut self,
+        now: i64,
+        who: SessionId,
+        txid: u64,
+        name: &Text,
+    ) -> Result<(), NoMemory>
         requires time { IsTime now }
         requires new { queue_number name.now (seen_database self.old).queues ≡ None }
         requires room { length (seen_database self.old).queues < 64 }
-        requires id { is_ok (txid_for (seen_database self.old).part who) ≡ true }
-        ensures id { IfOk result (λ txid. txid_for (seen_database self.old).part who ≡ Ok txid) }
-        ensures marks { IfOk result (λ txid. seen_database self.new ≡ after_marks (seen_database self.old)
+        requires id { txid_for (seen_database self.old).part who ≡ Ok txid }
+        ensures { OnOk result (seen_database self.new ≡ after_marks (seen_database self.old)
             (written who txid ((seen_database self.old).part.session who) (queued (made name.now) ∷ []) ++ queued (ticked (seen_database self.old).queues_made 1 now 0) ∷ [])) }
     {
         let name = name.copy(self.alloc)?;
-        let txid = self.take_txid(who)?;
+        self.take_txid(who, txid)?;
         let snapshot = self.rows.snapshot_now()?;
         self.make(name, now, snapshot)?;
-        Ok(txid)
+        Ok(())
     }
 
     /// `insert_event NAME TVAL TVAL`: an event with the next id of the queue's sequence.
@@ -287,17 +306,44 @@ impl Db {
         ensures { Ran self.old self.new replies.old replies.new who result (insert_event (seen_database self.old) now who name.now ev_type.now ev_data.now extra.now) }
     {
         let queue = self.queue_called(name)?;
-        self.id_left(who)?;
+        let txid = self.next_txid(who)?;
         let seq = self.queues.queue(queue).seq();
         if seq >= EVENT_ID_END - 1 {
             return Err(Stop::Refused(Refusal::EventIdsSpent));
         }
         let id = seq + 1;
-        let txid = self.take_txid(who)?;
+        self.take_txid(who, txid)?;
         let event = made_event(self.alloc, id, now, txid, ev_type, ev_data, extra)?;
         self.raise(queue, id);
         self.put(queue, event)?;
         replies.push(who, Reply::Number(id))?;
+        Ok(())
+    }
+
+    /// `set_queue_config NAME RAW RAW`
+    fn set_queue_config(
+        &mut self,
+        who: SessionId,
+        name: &Text,
+        param: &Text,
+        value: &Text,
+        replies: &mut Replies,
+    ) -> Result<(), Stop>
+        ensures ran { Ran self.old self.new replies.old replies.new who result (set_queue_config (seen_database self.old) name.now param.now value.now) }
+    {
+        let queue = self.queue_called(name)?;
+        self.configure(queue, param, value)?;
+        replies.push(who, Reply::Number(1))?;
+        Ok(())
+    }
+
+    /// `queue_info NAME`
+    fn queue_info(&self, who: SessionId, name: &Text, replies: &mut Replies) -> Result<(), Stop>
+        ensures ran { Ran self.now self.now replies.old replies.new who result (queue_info (seen_database self.now) name.now) }
+    {
+        let queue = self.queue_called(name)?;
+        let info = self.queues.queue(queue).info(self.alloc)?;
+        replies.push(who, Reply::QueueInfo(info))?;
         Ok(())
     }
 
@@ -428,7 +474,7 @@ impl Db {
 
     /// `get_batch_events N`: the events of an active batch.
     fn get_batch_events(&self, who: SessionId, id: u64, replies: &mut Replies) -> Result<(), Stop>
-        ensures { Ran self.now self.now replies.old replies.new who result (get_batch_events (seen_database self.now) (selected (seen_database self.now)) id) }
+        ensures { Ran self.now self.now replies.old replies.new who result (get_batch_events (shown_by (seen_database self.now)).events id) }
     {
         let Some(batch) = self.queues.batch(id) else {
             return Err(Stop::Refused(Refusal::NoBatch));
@@ -562,7 +608,7 @@ fn made_event(
 
 /// Whether a statement on queues stands outside of blocks alone.
 fn is_outside(stmt: &Stmt) -> bool
-    requires { is_row stmt.now ≡ false }
+    requires { is_on_queues stmt.now ≡ true }
     ensures { (if result then WhenOutside else WhenReading) ≡ where_of stmt.now }
 {
     !matches!(stmt, Stmt::InsertEvent { .. })

@@ -28,6 +28,7 @@ use Rattle.pgq_queues.specs.Views.{QueueView, TracedTableView, QueuesView}
 use Rattle.pgq_queues.specs.Seen.{seen_queue, no_queue, seen_batch, keeps, numbered, queue_at, seen_with}
 use Rattle.pgq_queues.specs.Traced.{AreTables}
 use Rattle.pgq_queues.proofs.NumberedQueues.{numbered-more}
+use Rattle.sky_model.specs.Config.{default_config}
 
 -- the test on an entry's key is equality
 pub is_at-nat : (k n : ℕ) → is_at (nat_cmp k) n ≡ (k == n)
@@ -47,12 +48,12 @@ batches-updated old new id o updates = λ i n. pointwise n i
 
 -- a queue that is made has its first tick alone
 pub queues-made : (queues : List QueueView) (t : Tick) (count : ℕ) → count ≡ length queues
-    → (λ n. seen_queue (get_or (queues ++ record { seq = 0; events = []; ticks = t ∷ []; subs = no_subs } ∷ []) n no_queue))
+    → (λ n. seen_queue (get_or (queues ++ record { config = default_config; seq = 0; events = []; ticks = t ∷ []; subs = no_subs } ∷ []) n no_queue))
     ≡ changed_at count (λ q. record q { tick_list = q.tick_list ++ t ∷ [] }) (λ n. seen_queue (get_or queues n no_queue))
 queues-made queues t count is = λ i n. pointwise n (count == n) refl i
   where
     new : QueueView
-    new = record { seq = 0; events = []; ticks = t ∷ []; subs = no_subs }
+    new = record { config = default_config; seq = 0; events = []; ticks = t ∷ []; subs = no_subs }
 
     ticked : Queue → Queue
     ticked q = record q { tick_list = q.tick_list ++ t ∷ [] }
@@ -159,7 +160,7 @@ queue-kept v now i old new same at is part =
 
 -- a queue that is made has its first tick, with the snapshot as it was
 pub made-as : (v now : QueuesView) (names : List (List ℕ)) (queues : List QueueView) (q : QueueView) (name : List ℕ) (t : Tick) → v ≡ now
-    → names ≡ v.names ++ name ∷ [] → queues ≡ v.queues ++ q ∷ [] → q ≡ record { seq = 0; events = []; ticks = t ∷ []; subs = no_subs } → length v.queues ≡ length v.names
+    → names ≡ v.names ++ name ∷ [] → queues ≡ v.queues ++ q ∷ [] → q ≡ record { config = default_config; seq = 0; events = []; ticks = t ∷ []; subs = no_subs } → length v.queues ≡ length v.names
     → t.id ≡ 1 → t.seq ≡ 0 → (part : RowPart) → t.snapshot ≡ snapshot_now part
     → seen_with part (record v { names = names; queues = queues }) ≡ after_marks (seen_with part now) (queued (made name) ∷ queued (ticked (length now.names) 1 t.time 0) ∷ [])
 made-as v now names queues q name t same more one new count id seq part snap =

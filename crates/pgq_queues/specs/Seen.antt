@@ -14,7 +14,7 @@ use Rattle.pgq_queues.specs.Views.{QueueView, QueuesView}
 
 abbrev pub seen_queue : QueueView → Queue
 seen_queue q = record {
-  config = default_config;
+  config = q.config;
   seq = q.seq;
   stored = q.events;
   tick_list = q.ticks;
@@ -24,7 +24,7 @@ seen_queue q = record {
 
 -- a queue that isn't made
 abbrev pub no_queue : QueueView
-no_queue = record { seq = 0; events = []; ticks = []; subs = no_subs }
+no_queue = record { config = default_config; seq = 0; events = []; ticks = []; subs = no_subs }
 
 -- a batch that is kept under an id
 abbrev pub seen_batch : ℕ → Batch → model.Batch

@@ -3,12 +3,14 @@ use Rattle.std.specs.Prelude.{ℕ, ℤ, List}
 use Rattle.sky_val.specs.declared.column.Column.{Column}
 use Rattle.sky_val.specs.declared.event.Event.{Event}
 use Rattle.sky_names.specs.Named.{NamedView}
+use Rattle.sky_model.specs.Config.{Config}
 use Rattle.sky_model.specs.Consumers.{Subscription}
 use Rattle.sky_model.specs.Queues.{Tick}
 use Rattle.sky_model.specs.Triggers.{TableTrigger}
 use Rattle.pgq_queues.specs.declared.batch.Batch.{Batch}
 
 pub record QueueView : Type 0 where
+  pub config : Config
   pub seq : ℕ
   pub events : List Event
   pub ticks : List Tick

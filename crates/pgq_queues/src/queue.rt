@@ -1,9 +1,11 @@
-ghost use Rattle.std.specs.Prelude.{◌≡◌, ℕ, ℤ, ◌+◌, ◌<◌, ◌^◌, [], ◌∷◌, ◌++◌, Some, None, IfOk, OnOk, OnErr, length, ◌↔◌, ◌≤◌, Err};
+ghost use Rattle.std.specs.Prelude.{◌≡◌, ℕ, ℤ, ◌+◌, ◌<◌, ◌^◌, [], ◌∷◌, ◌++◌, Some, None, IfOk, IfErr, OnOk, OnErr, length, ◌↔◌, ◌≤◌, Ok, Err};
+ghost use Rattle.sky_model.specs.Config.{default_config, param_of};
+ghost use Rattle.pgq_tick.specs.Config.{set_to};
 ghost use Rattle.sky_model.specs.Queues.{newest_tick};
 ghost use Rattle.sky_model.specs.Selection.{selected_in};
 ghost use Rattle.sky_model.specs.State.{with_batch, at_position};
 ghost use Rattle.pgq_sub.specs.Seen.{seen_subs, no_subs, with_member, with_sub};
-ghost use Rattle.sky_model.specs.StepQueue.{id_of, is_due};
+ghost use Rattle.sky_model.specs.StepQueue.{id_of, is_due, info_of};
 ghost use Rattle.pgq_queues.specs.Seen.{keeps, seen_queue, seen_batch};
 ghost use Rattle.sky_model.specs.Moment.{HasMoment, IsTime};
 ghost use Rattle.sky_model.specs.Printed.{EventsHaveMoments};
@@ -15,7 +17,8 @@ ghost use Rattle.sky_urlenc.specs.RowEvents.{RowEvent};
 use crate::batch::{Batch, select};
 use crate::stored::Stored;
 use pgq_sub::{Sub, Subs};
-use pgq_tick::{QueueConfig, Tick, TickFault, Ticks};
+use pgq_tick::{ConfigFault, QueueConfig, Tick, TickFault, Ticks};
+use sky_model::{Counts, QueueInfo};
 use sky_txid::Snapshot;
 use sky_urlenc::RowEvent;
 use sky_val::{Event, NoMemory, Text};
@@ -34,23 +37,21 @@ pub struct Queue {
 }
 
 impl Model for Queue {
-    ghost use Rattle.std.specs.Prelude.{◌≡◌};
-    ghost use Rattle.sky_model.specs.Config.{default_config};
     ghost use Rattle.sky_model.specs.Printed.{EventsHaveMoments};
     ghost use Rattle.pgq_queues.specs.Views.{QueueView};
 
     ghost Value = { QueueView };
 
-    ghost invariant = { λ q. (q.config ≡ default_config) × EventsHaveMoments q.events.items };
+    ghost invariant = { λ q. EventsHaveMoments q.events.items };
 
-    ghost view = { λ q. record { seq = q.seq; events = q.events.items; ticks = q.ticks; subs = q.subs } };
+    ghost view = { λ q. record { config = q.config; seq = q.seq; events = q.events.items; ticks = q.ticks; subs = q.subs } };
 }
 
 impl Queue {
     /// A queue with its first tick.
     pub(crate) fn new(alloc: Global, now: i64, snapshot: Snapshot) -> Result<Queue, NoMemory>
         requires { IsTime now }
-        ensures { IfOk result (λ queue. queue ≡ record { seq = 0; events = []; ticks = record { id = 1; time = now; snapshot = snapshot; seq = 0 } ∷ []; subs = no_subs }) }
+        ensures { IfOk result (λ queue. queue ≡ record { config = default_config; seq = 0; events = []; ticks = record { id = 1; time = now; snapshot = snapshot; seq = 0 } ∷ []; subs = no_subs }) }
     {
         let first = Tick {
             id: 1,
@@ -85,6 +86,22 @@ impl Queue {
         ensures { result.now ≡ (seen_queue self.now).config }
     {
         &self.config
+    }
+
+    /// What is shown of it. As no table is switched yet, the first of three has all its events.
+    pub fn info(&self, alloc: Global) -> Result<QueueInfo, NoMemory>
+        ensures { IfOk result (λ info. info ≡ info_of (seen_queue self.now)) }
+    {
+        let mut stored = Vec::with_capacity(alloc, 3)?;
+        stored.push(self.events.len() as u64)?;
+        stored.push(0)?;
+        stored.push(0)?;
+        Ok(QueueInfo {
+            current: 0,
+            last_tick: self.ticks.newest().id(),
+            seq: self.seq,
+            stored: Counts::new(stored),
+        })
     }
 
     /// Whether a tick is due at this time.
@@ -122,6 +139,16 @@ impl Queue {
         ensures { self.new ≡ record self.old { seq = value } }
     {
         self.seq = value;
+    }
+
+    /// The parameter of this name has the value that a text writes from now on.
+    pub(crate) fn configure(&mut self, param: &[u8], value: &[u8]) -> Result<(), ConfigFault>
+        ensures ok { OnOk result (set_to self.old.config (param_of param.now) value.now ≡ Ok self.new.config) }
+        ensures but { self.new ≡ record self.old { config = self.new.config } }
+        ensures fault { IfErr result (λ fault. set_to self.old.config (param_of param.now) value.now ≡ Err fault) }
+        ensures err { OnErr result (self.new ≡ self.old) }
+    {
+        self.config.set(param, value)
     }
 
     /// Stores an event.

@@ -1,6 +1,8 @@
-ghost use Rattle.std.specs.Prelude.{◌≡◌, ℕ, ◌+◌, ◌<◌, ◌^◌, [], ◌∷◌, ◌||◌, ◌==◌, true, Some, None, IfOk, OnOk, OnErr, IfSome, IfNone, option_copied, option_map, length, is_some, ◌↔◌, ◌≤◌, Err};
+ghost use Rattle.std.specs.Prelude.{◌≡◌, ℕ, ◌+◌, ◌<◌, ◌^◌, [], ◌∷◌, ◌||◌, ◌==◌, true, Some, None, is_ok, Ok, IfOk, IfErr, OnOk, OnErr, IfSome, IfNone, option_copied, option_map, length, is_some, ◌↔◌, ◌≤◌, Err};
 ghost use Rattle.std.specs.List.{All};
-ghost use Rattle.sky_model.specs.History.{queued, made, raised, put, ticked, registered, opened, closed, traced};
+ghost use Rattle.sky_model.specs.Config.{Config, param_of};
+ghost use Rattle.sky_model.specs.History.{queued, made, raised, put, ticked, registered, opened, closed, configured, traced};
+ghost use Rattle.pgq_tick.specs.Config.{set_to};
 ghost use Rattle.sky_model.specs.Moment.{HasMoment, IsTime};
 ghost use Rattle.sky_model.specs.Printed.{EventsHaveMoments};
 ghost use Rattle.sky_model.specs.Queues.{queue_number};
@@ -16,7 +18,7 @@ ghost use Rattle.pgq_queues.specs.Traced.{traced_at, IsTable, AreTables, KeepsRe
 use crate::batch::Batch;
 use crate::queue::Queue;
 use crate::traced::{TableTrigger, Traced, TracedTable};
-use pgq_tick::TickFault;
+use pgq_tick::{ConfigFault, TickFault};
 use sky_names::Named;
 use sky_txid::Snapshot;
 use sky_val::{Event, NoMemory, Schema, Text};
@@ -218,6 +220,19 @@ impl Queues {
         ensures rest { KeepsRest self.old self.new }
     {
         self.queues.get_mut(queue).raise(value);
+    }
+
+    /// The parameter of this name of a queue has the value that a text writes from now on.
+    pub fn configure(&mut self, queue: usize, param: &[u8], value: &[u8]) -> Result<(), ConfigFault>
+        requires { queue < length self.old.names }
+        ensures mark { OnOk result ((part : RowPart) (config : Config) → set_to (queue_at self.old queue).config (param_of param.now) value.now ≡ Ok config
+            → seen_with part self.new ≡ after_mark (seen_with part self.old) (queued (configured queue config))) }
+        ensures set { OnOk result (is_ok (set_to (queue_at self.old queue).config (param_of param.now) value.now) ≡ true) }
+        ensures fault { IfErr result (λ fault. set_to (queue_at self.old queue).config (param_of param.now) value.now ≡ Err fault) }
+        ensures err { OnErr result ((part : RowPart) → seen_with part self.new ≡ seen_with part self.old) }
+        ensures rest { KeepsRest self.old self.new }
+    {
+        self.queues.get_mut(queue).configure(param, value)
     }
 
     /// Stores an event in a queue, whether its transaction commits or not.

@@ -1,1 +1,3 @@
 pub mod TickLists
+pub mod Dropping
+mod Worked

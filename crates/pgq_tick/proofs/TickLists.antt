@@ -1,11 +1,16 @@
--- Lists of ticks whose ids rise by one.
-use Rattle.std.proofs.Common.{◌≡◌, ℕ, suc, zero, ◌+◌, ◌-◌, ◌<◌, ◌≤◌, List, [], ◌∷◌, ◌++◌, Bool, true, false, ◌==◌, Option, Some, None, length, slice_get, get_or, option_copied, IfSome, Bor, inl, inr, ◌⊎◌, length-append, option_map, refl, sym, ◌∙◌, ap, subst, arith, if◌then◌else◌}
+-- Lists of ticks whose ids rise.
+use Rattle.std.proofs.Common.{◌≡◌, ◌≢◌, ℕ, suc, zero, ◌+◌, ◌-◌, ◌<◌, ◌≤◌, List, [], ◌∷◌, ◌++◌, Bool, true, false, ◌==◌, Option, Some, None, Result, Ok, Err, length, slice_get, get_or, option_copied, IfSome, Bor, length-append, option_map, refl, sym, ◌∙◌, ap, subst, arith, if◌then◌else◌}
+use Rattle.std.specs.Prelude.{filter, option_and_then}
+use Rattle.std.specs.Result.{result_ok}
+use Rattle.std.specs.Ordering.{nat_cmp, ordering_index}
+use Rattle.std.specs.List.Sorted.{IsBinarySearchResult, IsSearchInRange, IsNonDecreasingBy}
 use Rattle.std.proofs.lemmas.Bool.Decides.{nat_tests}
-use Rattle.std.proofs.lemmas.Option.{slice_get_read, slice_get_past}
+use Rattle.std.proofs.lemmas.Cmp.{ranked}
+use Rattle.std.proofs.lemmas.Option.{slice_get_read, IfSome_then}
 use Rattle.sky_model.specs.Queues.{Tick, tick, newest_tick}
 use Rattle.sky_model.specs.StepQueue.{id_of, last_two}
 use Rattle.sky_model.specs.Moment.{IsTime}
-use Rattle.pgq_tick.specs.Ticks.{AreTicks}
+use Rattle.pgq_tick.specs.Ticks.{AreTicks, is_above, ticks_above}
 
 pub newest_tick-at : (ts : List Tick) → 0 < length ts → newest_tick ts ≡ slice_get ts (length ts - 1)
 newest_tick-at [] some = absurd (omega arith)
@@ -16,46 +21,106 @@ newest_tick-at (t ∷ u ∷ ts) some =
     e : (ts : List Tick) → suc (length (u ∷ ts) - 1) ≡ length (t ∷ u ∷ ts) - 1
     e ts = omega arith
 
-pub AreTicks-push : (n : ℕ) (ts : List Tick) (t : Tick) → AreTicks n ts → t.id ≡ n + length ts → IsTime t.time → AreTicks n (ts ++ t ∷ [])
-AreTicks-push n [] t are is time = (omega arith, time, tt)
-AreTicks-push n (u ∷ ts) t are is time = (are.0, are.1, AreTicks-push (n + 1) ts t are.2 (omega arith) time)
+-- one more tick with a higher id
+pub AreTicks-push : (n : ℕ) (ts : List Tick) (t : Tick) → AreTicks n ts → 0 < length ts → id_of (newest_tick ts) < t.id → IsTime t.time → AreTicks n (ts ++ t ∷ [])
+AreTicks-push n [] t are some next time = absurd (omega arith)
+AreTicks-push n (u ∷ []) t are some next time = (are.0, are.1, (omega arith, time, tt))
+AreTicks-push n (u ∷ v ∷ ts) t are some next time = (are.0, are.1, AreTicks-push (u.id + 1) (v ∷ ts) t are.2 (omega arith) next time)
 
--- the newest of ticks has the last id
-pub id-newest : (n : ℕ) (ts : List Tick) → AreTicks n ts → 0 < length ts → id_of (newest_tick ts) + 1 ≡ n + length ts
-id-newest n [] are some = absurd (omega arith)
-id-newest n (t ∷ []) are some = (let is : t.id ≡ n = are.0 in omega arith)
-id-newest n (t ∷ u ∷ ts) are some = (let ih : id_of (newest_tick (u ∷ ts)) + 1 ≡ (n + 1) + length (u ∷ ts) = id-newest (n + 1) (u ∷ ts) are.2 (omega arith) in omega arith)
+AreTicks-from : (m n : ℕ) (ts : List Tick) → m ≤ n → AreTicks n ts → AreTicks m ts
+AreTicks-from m n [] le are = tt
+AreTicks-from m n (t ∷ ts) le are = (let least : n ≤ t.id = are.0 in omega arith, are.1, are.2)
 
-pub tick-below : (n id : ℕ) (ts : List Tick) → AreTicks n ts → id < n → tick id ts ≡ None
-tick-below n id [] are lt = refl
-tick-below n id (t ∷ ts) are lt =
-    let is : t.id ≡ n = are.0 in
-    let other : (t.id == id) ≡ false = grind (arith, nat_tests) in
-    ap (λ b. if b then Some t else tick id ts) other ∙ tick-below (n + 1) id ts are.2 (omega arith)
-
--- a tick stands as far from the first as its id
-pub tick-at : (n id : ℕ) (ts : List Tick) → AreTicks n ts → n ≤ id → tick id ts ≡ slice_get ts (id - n)
-tick-at n id [] are le = refl
-tick-at n id (t ∷ ts) are le = of (t.id == id) refl (λ other. tick-at (n + 1) id ts are.2 other)
+-- some of the ticks
+pub AreTicks-filter : (keeps : Tick → Bool) (n : ℕ) (ts : List Tick) → AreTicks n ts → AreTicks n (filter keeps ts)
+AreTicks-filter keeps n [] are = tt
+AreTicks-filter keeps n (t ∷ ts) are = of (keeps t) (AreTicks-filter keeps (t.id + 1) ts are.2)
   where
-    is : t.id ≡ n
-    is = are.0
+    of : (b : Bool) → AreTicks (t.id + 1) (filter keeps ts) → AreTicks n (if b then t ∷ filter keeps ts else filter keeps ts)
+    of true kept = (are.0, are.1, kept)
+    of false kept = (let least : n ≤ t.id = are.0 in AreTicks-from n (t.id + 1) (filter keeps ts) (omega arith) kept)
 
-    of : (b : Bool) → (t.id == id) ≡ b → (n + 1 ≤ id → tick id ts ≡ slice_get ts (id - (n + 1))) → (if b then Some t else tick id ts) ≡ slice_get (t ∷ ts) (id - n)
-    of true e ih =
-        let same : t.id ≡ id = grind (arith, nat_tests) in
-        let none : id - n ≡ 0 = omega (arith, is) in
-        ap (slice_get (t ∷ ts)) (sym none)
-    of false e ih =
-        let named : t.id ≡ n = are.0 in
-        let other : n + 1 ≤ id = grind (arith, nat_tests) in
-        let later : suc (id - (n + 1)) ≡ id - n = omega arith in
-        ih other ∙ ap (slice_get (t ∷ ts)) later
+-- where the newest tick is kept, some are
+pub some-filter : (keeps : Tick → Bool) (ts : List Tick) → IfSome (newest_tick ts) (λ t. keeps t ≡ true) → 0 < length ts → 0 < length (filter keeps ts)
+some-filter keeps [] newest some = absurd (omega arith)
+some-filter keeps (t ∷ []) newest some = rw newest (omega arith)
+some-filter keeps (t ∷ u ∷ ts) newest some = of (keeps t) (some-filter keeps (u ∷ ts) newest (omega arith))
+  where
+    of : (b : Bool) → 0 < length (filter keeps (u ∷ ts)) → 0 < length (if b then t ∷ filter keeps (u ∷ ts) else filter keeps (u ∷ ts))
+    of true some = omega arith
+    of false some = some
+
+id-least : (n i : ℕ) (ts : List Tick) (d : Tick) → AreTicks n ts → i < length ts → n ≤ (get_or ts i d).id
+id-least n i [] d are inside = absurd (omega arith)
+id-least n zero (t ∷ ts) d are inside = are.0
+id-least n (suc i) (t ∷ ts) d are inside =
+    let first : n ≤ t.id = are.0 in
+    let later : t.id + 1 ≤ (get_or ts i d).id = id-least (t.id + 1) i ts d are.2 (omega arith) in
+    omega arith
+
+ids-rise : (n i j : ℕ) (ts : List Tick) (d : Tick) → AreTicks n ts → i ≤ j → j < length ts → (get_or ts i d).id ≤ (get_or ts j d).id
+ids-rise n i j [] d are le inside = absurd (omega arith)
+ids-rise n zero zero (t ∷ ts) d are le inside = omega arith
+ids-rise n zero (suc j) (t ∷ ts) d are le inside = (let later : t.id + 1 ≤ (get_or ts j d).id = id-least (t.id + 1) j ts d are.2 (omega arith) in omega arith)
+ids-rise n (suc i) zero (t ∷ ts) d are le inside = absurd (omega arith)
+ids-rise n (suc i) (suc j) (t ∷ ts) d are le inside = ids-rise (t.id + 1) i j ts d are.2 (omega arith) (omega arith)
+
+-- the tick at a place is the one with its id
+tick-at : (n id i : ℕ) (ts : List Tick) → AreTicks n ts → i < length ts → ((d : Tick) → (get_or ts i d).id ≡ id) → tick id ts ≡ slice_get ts i
+tick-at n id i [] are inside is = absurd (omega arith)
+tick-at n id zero (t ∷ ts) are inside is =
+    let this : t.id ≡ id = is t in
+    let same : (t.id == id) ≡ true = grind (arith, nat_tests) in
+    ap (λ b. if b then Some t else tick id ts) same
+tick-at n id (suc i) (t ∷ ts) are inside is =
+    let there : (get_or ts i t).id ≡ id = is t in
+    let later : t.id + 1 ≤ (get_or ts i t).id = id-least (t.id + 1) i ts t are.2 (omega arith) in
+    let other : (t.id == id) ≡ false = grind (arith, nat_tests) in
+    ap (λ b. if b then Some t else tick id ts) other ∙ tick-at (t.id + 1) id i ts are.2 (omega arith) is
+
+tick-none : (id : ℕ) (ts : List Tick) → ((k : ℕ) (d : Tick) → k < length ts → (get_or ts k d).id ≢ id) → tick id ts ≡ None
+tick-none id [] none = refl
+tick-none id (t ∷ ts) none =
+    let other : (t.id == id) ≡ false = grind (arith, nat_tests, none zero t (omega arith)) in
+    ap (λ b. if b then Some t else tick id ts) other ∙ tick-none id ts (λ k d inside. none (suc k) d (omega arith))
+
+-- a binary search by the id finds the tick
+pub tick-searched : (ts : List Tick) (id : ℕ) (r : Result ℕ ℕ) → AreTicks 1 ts → IsSearchInRange r (length ts) → IsBinarySearchResult (λ t. nat_cmp t.id id) ts r → option_and_then (slice_get ts) (result_ok r) ≡ tick id ts
+tick-searched ts id (Ok i) are inside is = sym (tick-at 1 id i ts are inside (λ d. ranked _ id _ (sym (is d))))
+tick-searched ts id (Err i) are inside parted = sym (tick-none id ts none)
+  where
+    rise : IsNonDecreasingBy (λ t. ordering_index (nat_cmp t.id id)) ts
+    rise i j d le within = (let ids : (get_or ts i d).id ≤ (get_or ts j d).id = ids-rise 1 i j ts d are le within in grind (arith, nat_tests))
+
+    none : (k : ℕ) (d : Tick) → k < length ts → (get_or ts k d).id ≢ id
+    none k d within same =
+        let below : k < i → (get_or ts k d).id < id = λ lt. ranked _ id _ (sym ((parted rise).0 k d (omega arith) lt)) in
+        let above : i ≤ k → id < (get_or ts k d).id = λ le. ranked _ id _ (sym ((parted rise).1 k d le within)) in
+        grind (arith, below, above)
+
+-- no tick has an id above the newest one's
+pub tick-past : (n id : ℕ) (ts : List Tick) → AreTicks n ts → id_of (newest_tick ts) < id → tick id ts ≡ None
+tick-past n id [] are lt = refl
+tick-past n id (t ∷ []) are lt =
+    let other : (t.id == id) ≡ false = grind (arith, nat_tests) in
+    ap (λ b. if b then Some t else None) other
+tick-past n id (t ∷ u ∷ ts) are lt =
+    let later : t.id + 1 ≤ id_of (newest_tick (u ∷ ts)) = newest-above (t.id + 1) (u ∷ ts) are.2 (omega arith) in
+    let other : (t.id == id) ≡ false = grind (arith, nat_tests) in
+    ap (λ b. if b then Some t else tick id (u ∷ ts)) other ∙ tick-past (t.id + 1) id (u ∷ ts) are.2 lt
+  where
+    newest-above : (n : ℕ) (ts : List Tick) → AreTicks n ts → 0 < length ts → n ≤ id_of (newest_tick ts)
+    newest-above n [] are some = absurd (omega arith)
+    newest-above n (t ∷ []) are some = are.0
+    newest-above n (t ∷ u ∷ ts) are some =
+        let first : n ≤ t.id = are.0 in
+        let later : t.id + 1 ≤ id_of (newest_tick (u ∷ ts)) = newest-above (t.id + 1) (u ∷ ts) are.2 (omega arith) in
+        omega arith
 
 pub time-at : (n : ℕ) (ts : List Tick) (i : ℕ) (t : Tick) → AreTicks n ts → slice_get ts i ≡ Some t → IsTime t.time
 time-at n [] i t are e = absurd (cc)
 time-at n (u ∷ ts) zero t are e = (let same : u ≡ t = cc in subst (λ (x : Tick). IsTime x.time) same are.1)
-time-at n (u ∷ ts) (suc i) t are e = time-at (n + 1) ts i t are.2 e
+time-at n (u ∷ ts) (suc i) t are e = time-at (u.id + 1) ts i t are.2 e
 
 -- of a single tick there is none before
 pub last_two-one : (ts : List Tick) → length ts < 2 → last_two None ts ≡ option_map (λ t. (t, None)) (newest_tick ts)
@@ -90,21 +155,15 @@ IfSome-time ts place (Some t) are is = time-at 1 ts place t.now are (sym is)
 pub AreTicks-next : (ts view new : List Tick) (t : Tick) → ts ≡ view → (0 < length ts) × AreTicks 1 ts → new ≡ ts ++ t ∷ [] → t.id ≡ id_of (newest_tick view) + 1 → IsTime t.time
     → (0 < length new) × AreTicks 1 new
 AreTicks-next ts view new t same are is id time =
-    let newest : id_of (newest_tick ts) + 1 ≡ 1 + length ts = id-newest 1 ts are.1 are.0 in
-    let next : t.id ≡ 1 + length ts = id ∙ ap (λ xs. id_of (newest_tick xs) + 1) (sym same) ∙ newest in
-    subst (λ xs. (0 < length xs) × AreTicks 1 xs) (sym is) (omega (arith, length-append ts (t ∷ [])), AreTicks-push 1 ts t are.1 next time)
+    let next : t.id ≡ id_of (newest_tick ts) + 1 = id ∙ ap (λ xs. id_of (newest_tick xs) + 1) (sym same) in
+    subst (λ xs. (0 < length xs) × AreTicks 1 xs) (sym is) (omega (arith, length-append ts (t ∷ [])), AreTicks-push 1 ts t are.1 are.0 (omega arith) time)
 
-pub tick-outside : (ts : List Tick) (n id : ℕ) → AreTicks 1 ts → n ≡ length ts → (id ≡ 0) ⊎ (n < id) → None ≡ tick id ts
-tick-outside ts n id are len (inl zero_is) = sym (tick-below 1 id ts are (omega arith))
-tick-outside ts n id are len (inr above) = sym (tick-at 1 id ts are (omega arith) ∙ slice_get_past ts (id - 1) (omega arith))
-
-pub tick-inside : (ts : List Tick) (id : ℕ) → AreTicks 1 ts → 0 < id → slice_get ts (id - 1) ≡ tick id ts
-tick-inside ts id are some = sym (tick-at 1 id ts are (omega arith))
-
-pub tick-following : (ts : List Tick) (id : ℕ) → AreTicks 1 ts → slice_get ts id ≡ tick (id + 1) ts
-tick-following ts id are =
-    let same : (id + 1) - 1 ≡ id = omega arith in
-    sym (tick-at 1 (id + 1) ts are (omega arith) ∙ ap (slice_get ts) same)
+-- the ticks that are kept, the newest among them
+pub AreTicks-kept : (txid : ℕ) (ts view new : List Tick) → ts ≡ view → (0 < length ts) × AreTicks 1 ts → new ≡ ticks_above txid ts → IfSome (newest_tick view) (λ t. txid < t.snapshot.xmin)
+    → (0 < length new) × AreTicks 1 new
+AreTicks-kept txid ts view new same are is newest =
+    let kept : IfSome (newest_tick ts) (λ t. is_above txid t ≡ true) = IfSome_then (newest_tick ts) (subst (λ xs. IfSome (newest_tick xs) (λ t. txid < t.snapshot.xmin)) (sym same) newest) (λ t lt. grind (arith, nat_tests)) in
+    subst (λ xs. (0 < length xs) × AreTicks 1 xs) (sym is) (some-filter (is_above txid) ts kept are.0, AreTicks-filter (is_above txid) 1 ts are.1)
 
 -- the last item is the newest
 pub newest-is : (slice ts view : List Tick) (t : Tick) → slice ≡ ts → ts ≡ view → 0 < length ts → t ≡ get_or slice (length slice - 1) t → newest_tick view ≡ Some t
@@ -124,3 +183,6 @@ pub last_two-found : (ts : List Tick) (n : ℕ) (o : Option Tick) → n ≡ leng
 last_two-found ts n o len le is =
     last_two-at ts (omega arith) ∙ ap (λ i. option_map (λ t. (t, slice_get ts (i - 2))) (newest_tick ts)) (sym len)
     ∙ ap (λ x. option_map (λ t. (t, x)) (newest_tick ts)) (sym is)
+
+pub tick-above-newest : (ts : List Tick) (newest : Tick) (id : ℕ) → AreTicks 1 ts → newest_tick ts ≡ Some newest → newest.id ≤ id → None ≡ tick (id + 1) ts
+tick-above-newest ts newest id are is le = sym (tick-past 1 (id + 1) ts are (let last : id_of (newest_tick ts) ≡ newest.id = ap id_of is in omega arith))

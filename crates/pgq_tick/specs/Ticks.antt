@@ -1,5 +1,5 @@
 -- Lists of ticks, as a queue keeps them.
-use Rattle.std.specs.Prelude.{◌≡◌, ℕ, ◌+◌, ℤ, pos, neg_ℤ, ◌≤ℤ◌, List, [], ◌∷◌}
+use Rattle.std.specs.Prelude.{ℕ, ◌+◌, ℤ, pos, neg_ℤ, ◌≤◌, ◌≤ℤ◌, nat_lt, Bool, List, [], ◌∷◌, Option, option_map, find, filter}
 use Rattle.sky_model.specs.Moment.{IsTime}
 use Rattle.sky_model.specs.Queues.{Tick}
 
@@ -7,7 +7,19 @@ use Rattle.sky_model.specs.Queues.{Tick}
 abbrev pub IsSpan : ℤ → Type 0
 IsSpan time = (neg_ℤ (pos 1000000000000000) ≤ℤ time) × (time ≤ℤ pos 1000000000000000)
 
--- ids that rise by one from the first on, at moments of the clock
+-- ids that rise, the first at least this one, at moments of the clock
 abbrev pub AreTicks : ℕ → List Tick → Type 0
-AreTicks id [] = Unit {0}
-AreTicks id (t ∷ ts) = (t.id ≡ id) × IsTime t.time × AreTicks (id + 1) ts
+AreTicks least [] = Unit {0}
+AreTicks least (t ∷ ts) = (least ≤ t.id) × IsTime t.time × AreTicks (t.id + 1) ts
+
+-- whether the lower bound of a tick's snapshot is above a transaction id
+abbrev pub is_above : ℕ → Tick → Bool
+is_above txid t = nat_lt txid t.snapshot.xmin
+
+-- the least id of the ticks above a transaction id, which is the first one's, since ids rise
+abbrev pub least_above : ℕ → List Tick → Option ℕ
+least_above txid ts = option_map Tick.id (find (is_above txid) ts)
+
+-- the ticks above a transaction id
+abbrev pub ticks_above : ℕ → List Tick → List Tick
+ticks_above txid ts = filter (is_above txid) ts

@@ -1,9 +1,9 @@
-ghost use Rattle.std.specs.Prelude.{◌≡◌, ◌↔◌, ◌+◌, ◌^◌, ◌<◌, ◌≤◌, ◌*ℤ◌, ◌-ℤ◌, ◌||◌, ◌&&◌, not, int_lt, pos, [], ◌∷◌, ◌++◌, Some, None, Err, IfOk, OnOk, OnErr, IfSome, option_map, option_copied, length, slice_get};
+ghost use Rattle.std.specs.Prelude.{◌≡◌, ◌↔◌, ◌+◌, ◌^◌, ◌<◌, ◌≤◌, ◌*ℤ◌, ◌-ℤ◌, ◌||◌, ◌&&◌, not, int_lt, pos, [], ◌∷◌, ◌++◌, Some, None, Err, IfOk, OnOk, OnErr, IfSome, option_map, option_copied, option_and_then, length, slice_get};
 ghost use Rattle.sky_model.specs.Queues.{tick, newest_tick};
 ghost use Rattle.sky_model.specs.StepQueue.{due_of, is_due_after, last_two, id_of};
 ghost use Rattle.sky_txid.specs.Snapshot.{sees};
 ghost use Rattle.sky_model.specs.Moment.{IsTime};
-ghost use Rattle.pgq_tick.specs.Ticks.{IsSpan, AreTicks};
+ghost use Rattle.pgq_tick.specs.Ticks.{IsSpan, AreTicks, is_above, least_above, ticks_above};
 
 use crate::config::QueueConfig;
 use sky_model::{Refusal, Stop};
@@ -55,7 +55,7 @@ impl Model for Tick {
 }
 
 impl Tick {
-    /// Its place among the ticks of its queue, from 1 on.
+    /// Its number, which is above those of the ticks before it.
     pub fn id(&self) -> u64
         ensures { result ≡ self.now.id }
     {
@@ -68,9 +68,17 @@ impl Tick {
     {
         self.snapshot.sees(txid)
     }
+
+    /// Whether the lower bound of its snapshot is above this transaction id.
+    fn is_above(&self, txid: u64) -> bool
+        ensures { result ≡ is_above txid self.now }
+    {
+        txid < self.snapshot.xmin()
+    }
 }
 
-/// The ticks of a queue, of which the first is made with the queue. Ids rise by one.
+/// The ticks of a queue that are kept, of which there is at least one. Ids rise from 1 on; those of ticks that were dropped
+/// are missing.
 #[derive(Debug, Drop)]
 pub struct Ticks {
     ticks: Vec<Tick>,
@@ -104,6 +112,7 @@ impl Ticks {
     pub fn newest(&self) -> &Tick
         ensures newest { newest_tick self.now ≡ Some result.now }
         ensures time { IsTime result.now.time }
+        ensures ticks { AreTicks 1 self.now }
     {
         let ticks = self.ticks.as_slice();
         &ticks[ticks.len() - 1]
@@ -113,22 +122,40 @@ impl Ticks {
     pub fn get(&self, id: u64) -> Option<&Tick>
         ensures { option_copied result ≡ tick id self.now }
     {
-        let len = self.len() as u64;
-        if id == 0 || len < id {
-            return None;
-        }
-        self.at((id - 1) as usize)
+        self.at(self.place(id)?)
+    }
+
+    fn place(&self, id: u64) -> Option<usize>
+        ensures { option_and_then (slice_get self.now) result ≡ tick id self.now }
+    {
+        self.ticks.binary_search_by_key(&id, |tick| tick.id).ok()
     }
 
     /// The tick with the id after this one, if there is one.
     pub fn next_after(&self, id: u64) -> Option<&Tick>
         ensures { option_copied result ≡ tick (id + 1) self.now }
     {
-        let len = self.len() as u64;
-        if len <= id {
+        if self.newest().id() <= id {
             return None;
         }
-        self.at(id as usize)
+        self.get(id + 1)
+    }
+
+    /// The least id of a tick whose snapshot's lower bound is above this transaction id, if there is one.
+    pub fn least(&self, above: u64) -> Option<u64>
+        ensures { result ≡ least_above above self.now }
+    {
+        // Nothing says that the bounds rise along the ticks, so this walks.
+        let tick = self.ticks.iter().find(|tick| tick.is_above(above))?;
+        Some(tick.id)
+    }
+
+    /// Drops the ticks whose snapshot's lower bound is at or below this transaction id.
+    pub fn drop_below(&mut self, txid: u64)
+        requires { IfSome (newest_tick self.old) (λ newest. txid < newest.snapshot.xmin) }
+        ensures { self.new ≡ ticks_above txid self.old }
+    {
+        self.ticks.retain(|tick| tick.is_above(txid));
     }
 
     /// One more tick, with the next id, which it gives.

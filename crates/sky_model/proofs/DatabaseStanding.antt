@@ -1,9 +1,12 @@
 -- A statement of a database: from what the database keeps to its history.
-use Rattle.std.proofs.Common.{◌≡◌, ℕ, ℤ, Bool, true, false, List, [], ◌∷◌, ◌++◌, Option, Ok, Err, refl, sym, ◌∙◌, ap}
+use Rattle.std.proofs.Common.{◌≡◌, ℕ, ℤ, Bool, true, false, List, [], ◌∷◌, ◌++◌, Option, Some, None, option_map, Ok, Err, refl, sym, ◌∙◌, ap}
 use Rattle.sky_model.specs.declared.stmt.Stmt.{Stmt}
 use Rattle.sky_model.specs.declared.reply.Refusal.{Refusal}
 use Rattle.sky_keys.specs.Waits.{is_waiting}
-use Rattle.sky_model.specs.History.{Mark, looked, History}
+use Rattle.sky_model.specs.History.{Batch, Mark, looked, History}
+use Rattle.sky_model.specs.Consumers.{active_batch}
+use Rattle.sky_model.specs.Batches.{batch_events}
+use Rattle.sky_model.specs.Selection.{selected}
 use Rattle.sky_model.specs.State.{part_of, after_part_marks, Database, database_of, after_mark, after_marks}
 use Rattle.sky_model.specs.ShownRows.{rows_by}
 use Rattle.sky_model.specs.Allowed.{where_of, allowed}
@@ -12,15 +15,18 @@ use Rattle.sky_model.specs.Made.{takes_sight}
 use Rattle.sky_model.specs.Telling.{tells}
 use Rattle.sky_model.specs.Reader.{shown_in, shown_by, database_by_history, database_by_itself, within_part}
 use Rattle.sky_model.specs.Settling.{Turn, turn_of, behind_marks, with_settling}
+use Rattle.sky_model.proofs.DaemonTurns.{same-daemon_does}
 use Rattle.sky_model.specs.Calls.{form, making, statement, database_turn}
 use Rattle.sky_model.specs.SessionMarks.{look_of, Enters, entry_place, enters, entry, failing}
 use Rattle.sky_model.specs.Promises.{after_all}
-use Rattle.sky_model.specs.DatabaseCalls.{DatabaseCall, stepped, entered, failed, IsDatabaseCallInForm, database_does, database_part}
+use Rattle.sky_model.specs.DatabaseCalls.{DatabaseCall, stepped, entered, failed, worked, IsDatabaseCallInForm, database_does, database_part}
 use Rattle.sky_model.specs.DatabaseSteps.{DatabaseSteps}
 use Rattle.sky_model.proofs.Legal.{Fine, looks, Chain, Legal, next}
 use Rattle.sky_model.proofs.Marks.{database_of-mark}
 pub use Rattle.sky_model.proofs.Marks.{database_of-marks}
 use Rattle.sky_model.proofs.Selecting.{batch_events-selected}
+use Rattle.sky_model.proofs.StandingQueues.{registered-stands}
+use Rattle.sky_model.proofs.ActiveBatches.{IsActive, active_batches}
 use Rattle.sky_model.proofs.RowSights.{same-rows}
 use Rattle.sky_model.proofs.MadeAt.{same-made_by}
 use Rattle.sky_model.proofs.Turns.{ReadAlike, same-with_settling}
@@ -39,9 +45,16 @@ pub behind-all : (now : ℤ) (d : Database) (marks : List Mark) → behind_marks
 behind-all now d [] = refl
 behind-all now d (mark ∷ marks) = behind-all now (after_mark d mark) marks
 
+-- of an active batch the queue stands, which keeps what is listed
+same-events : (h : History) → Legal h → (id : ℕ) (o : Option Batch) → active_batch id h ≡ o → option_map (batch_events h) o ≡ option_map (selected (database_of h)) o
+same-events h l id None is = refl
+same-events h l id (Some b) is =
+    let a : IsActive h id b = active_batches h l id b is in
+    ap (λ events. Some events) (batch_events-selected h l b (registered-stands h l b.queue b.consumer b.sub a.owned))
+
 -- a legal history shows a statement what its database keeps
 same-shown : (h : History) → Legal h → shown_in h ≡ shown_by (database_of h)
-same-shown h l = λ i. record { events = λ b. batch_events-selected h l b i; rows = same-rows h l i }
+same-shown h l = λ i. record { events = λ id. same-events h l id (active_batch id h) refl i; rows = same-rows h l i }
 
 -- by the history a statement does what it does by what the database keeps
 same-statement : (h : History) → Legal h → (now : ℤ) (who : ℕ) (stmt : Stmt) → statement database_by_history h now who stmt ≡ statement database_by_itself (database_of h) now who stmt
@@ -85,6 +98,7 @@ same-turn_at h l now who stmt =
 pub same-database_does : (h : History) → Legal h → (call : DatabaseCall) → database_does database_by_itself (database_of h) call ≡ database_does database_by_history h call
 same-database_does h l (stepped who stmt now) = sym (same-turn_at h l now who stmt)
 same-database_does h l (entered who outside) = refl
+same-database_does h l (worked part now) = sym (same-daemon_does database_by_history database_by_itself database_of (λ g. refl) database_of-mark h part now)
 same-database_does h l (failed who now) = sym (settling-kept h l now (failing (part_of h) who) (failing (part_of h) who) refl (good_does h l (failed who now)))
 
 -- the database behind a call

@@ -1,33 +1,47 @@
 -- Whatever is called, the history of each database is one that its own calls make; and those are legal.
-use Rattle.std.proofs.Common.{◌≡◌, All, ℕ, ℤ, List, [], ◌∷◌, ◌++◌, Bool, true, false, nat_le, Option, Some, None, Ok, Err, map, length, refl, sym, ◌∙◌, ap, subst, if◌then◌else◌}
-use Rattle.std.proofs.lemmas.List.Elements.{All-nil, All-cons, All-head, All-tail}
+use Rattle.std.proofs.Common.{◌≡◌, All, ℕ, ℤ, List, [], ◌∷◌, ◌++◌, Bool, true, false, nat_le, ◌+◌, ◌^◌, ◌||◌, ◌==◌, arith, Option, Some, None, Ok, Err, map, length, refl, sym, ◌∙◌, ap, subst, if◌then◌else◌}
+use Rattle.std.specs.List.{list_any}
+use Rattle.std.proofs.lemmas.Bool.{eq-eqb, or_right}
+use Rattle.std.proofs.lemmas.List.Elements.{All-nil, All-cons, All-head, All-tail, All-weaker}
 use Rattle.sky_model.specs.declared.stmt.Stmt.{Stmt}
 use Rattle.sky_model.specs.InForm.{IsInForm}
 use Rattle.sky_keys.specs.Waits.{is_waiting}
 use Rattle.sky_names.specs.Places.{place_of}
-use Rattle.sky_model.specs.History.{Mark, History, Fact, appeared, founded, entered as came, within, Past}
+use Rattle.sky_model.specs.History.{Mark, History, Fact, appeared, founded, entered as came, within, queued, ticked, Past}
 use Rattle.sky_model.specs.Sessions.{has_open, block, session}
 use Rattle.sky_model.specs.Locks.{waiting}
-use Rattle.sky_model.specs.State.{part_of}
-use Rattle.sky_model.specs.Outcome.{Checked}
+use Rattle.sky_model.specs.State.{part_of, database_of}
+use Rattle.sky_model.specs.Outcome.{Checked, ◌>>◌, refused_if, answers, does_marks}
 use Rattle.sky_model.specs.Allowed.{allowed}
 use Rattle.sky_model.specs.World.{world_of, history_in, on_top, session_names, database_names, home}
 use Rattle.sky_model.specs.Reader.{database_by_history, within_part, within_database, by_past, Deed, appears}
 use Rattle.sky_model.specs.Made.{takes_sight}
-use Rattle.sky_model.specs.Settling.{Turn, marked}
-use Rattle.sky_model.specs.Calls.{database_turn, deed_in, opening, opens, outside_does, is_leaving, left_if, session_does, turn, Call, called, past_of}
+use Rattle.sky_model.specs.Settling.{Turn, marked, and_then}
+use Rattle.sky_model.specs.Clock.{deed_in, waits_at}
+use Rattle.sky_model.specs.declared.daemon.DaemonPart.{DaemonPart}
+use Rattle.sky_model.specs.declared.daemon.DaemonPart.TheVariants.{Tick, Retry, Maintain}
+use Rattle.sky_model.specs.declared.stmt.Stmt.TheVariants.{Clock}
+use Rattle.sky_model.specs.declared.reply.Reply.TheVariants.{Number, Null}
+use Rattle.sky_model.specs.declared.reply.Refusal.TheVariants.{IdsSpent}
+use Rattle.sky_model.specs.Queues.{NamedQueue, queues, ticks, newest_tick}
+use Rattle.sky_model.specs.StepQueue.{is_due, newest_id, id_of}
+use Rattle.sky_model.specs.Daemon.{quietly, ticks_of, daemon_does}
+use Rattle.sky_model.proofs.StandingQueues.{whole}
+use Rattle.sky_model.proofs.DaemonTurns.{same-daemon_does}
+use Rattle.sky_model.proofs.ClockSteps.{after-clock}
+use Rattle.sky_model.specs.Calls.{database_turn, opening, opens, outside_does, beside, session_does, turn, Call, called, past_of}
 use Rattle.sky_model.specs.SessionMarks.{look_of, entry_place, enters, failing}
 use Rattle.sky_model.specs.Promises.{after_all}
-use Rattle.sky_model.specs.DatabaseCalls.{DatabaseCall, stepped, entered, failed, IsDatabaseCallInForm, database_does, database_part}
+use Rattle.sky_model.specs.DatabaseCalls.{DatabaseCall, stepped, entered, failed, worked, IsDatabaseCallInForm, database_does, database_part}
 use Rattle.sky_model.specs.HistoryPlaces.{IsPlace}
 use Rattle.sky_model.specs.Steps.{IsCallInForm}
 use Rattle.sky_model.specs.LawsOfHistories.{HistoriesAreMadeByOwnCalls}
-use Rattle.sky_model.proofs.Legal.{looks, Chain, done, more, Legal, start}
+use Rattle.sky_model.proofs.Legal.{IsAmong, IsQueue, Fine, looks, ticks_next, Chain, done, more, Legal, start, next}
 use Rattle.sky_model.proofs.Good.{same-session, good_failure}
 use Rattle.sky_model.proofs.LawfulTelling.{legal_behind}
 use Rattle.sky_model.proofs.Turns.{same-turn_read}
 use Rattle.sky_model.proofs.Lawful.{database-reads, good_with_settling-by, good_turn}
-use Rattle.sky_model.proofs.PastHistories.{on_top-append, history-marks, AreOutside, history-outside, left-outside}
+use Rattle.sky_model.proofs.PastHistories.{on_top-append, history-marks, AreOutside, history-outside, beside-outside}
 use Rattle.sky_model.proofs.Cases.{by_same}
 
 -- ---- calls of a database
@@ -38,10 +52,58 @@ good_enters h who true (Ok _) = more (looks who) done
 good_enters h who false (Ok _) = done
 good_enters h who sight (Err refusal) = done
 
+-- queues are among themselves
+all-among : (queues : List NamedQueue) → All (λ q. IsAmong q.number queues) queues
+all-among [] = All-nil (λ q. IsAmong q.number [])
+all-among (x ∷ xs) =
+    All-cons (λ q. IsAmong q.number (x ∷ xs)) x xs (ap (λ b. b || list_any (λ y. y.number == x.number) xs) (eq-eqb x.number x.number refl))
+    (All-weaker (λ q. IsAmong q.number xs) (λ q. IsAmong q.number (x ∷ xs)) (λ q is. or_right (x.number == q.number) (list_any (λ y. y.number == q.number) xs) is) xs (all-among xs))
+
+-- and so may the ticks of queues that stand
+abbrev MayTick : ℤ → List NamedQueue → Type 0
+MayTick now left = (h : History) → Legal h → All (λ q. IsQueue h q.number) left → Chain h (ticks_of database_by_history now left h).marks
+
+good_tick : (now : ℤ) (q : NamedQueue) (left : List NamedQueue) → MayTick now left → MayTick now (q ∷ left)
+good_tick now q left may h l are = by (is_due now ((database_of h).queue q.number)) (nat_le (2 ^ 64) id)
+  where
+    id : ℕ
+    id = newest_id ((database_of h).queue q.number) + 1
+
+    mark : Mark
+    mark = queued (ticked q.number id now ((database_of h).queue q.number).seq)
+
+    is : IsQueue h q.number
+    is = All-head (λ q. IsQueue h q.number) q left are
+
+    others : All (λ q. IsQueue h q.number) left
+    others = All-tail (λ q. IsQueue h q.number) q left are
+
+    fine : Fine h mark
+    fine =
+        let all : newest_id ((database_of h).queue q.number) ≡ id_of (newest_tick (ticks q.number h)) = ap (λ ts. id_of (newest_tick ts)) (whole h l q.number is).all_ticks in
+        ticks_next q.number id now _ is (omega arith)
+
+    by : (due spent : Bool) → Chain h (and_then (within_part database_by_history now) h (quietly (if due then (refused_if spent IdsSpent >> does_marks (Number id) (mark ∷ [])) else answers Null))
+        (ticks_of database_by_history now left)).marks
+    by true true = may h l others
+    by true false = more fine (may (mark ∷ h) (next l fine) others)
+    by false spent = may h l others
+
+good_ticks : (now : ℤ) (left : List NamedQueue) → MayTick now left
+good_ticks now [] h l are = done
+good_ticks now (q ∷ left) h l are = good_tick now q left (good_ticks now left) h l are
+
+-- and what a daemon does
+good_daemon_does : (h : History) → Legal h → (part : DaemonPart) (now : ℤ) → Chain h (daemon_does database_by_history h part now).marks
+good_daemon_does h l Tick now = good_ticks now (queues h) h l (all-among (queues h))
+good_daemon_does h l Retry now = done
+good_daemon_does h l Maintain now = done
+
 -- and so may what a call does
 pub good_does : (h : History) → Legal h → (call : DatabaseCall) → Chain h (database_does database_by_history h call).marks
 good_does h l (stepped who stmt now) = good_turn h l now who stmt
 good_does h l (entered who outside) = good_enters h who (takes_sight (entry_place outside) (session h who).sight) (allowed (is_waiting who (waiting h)) (has_open who h) (block who h) (entry_place outside))
+good_does h l (worked part now) = good_daemon_does h l part now
 good_does h l (failed who now) = good_with_settling-by (within_part database_by_history now) (λ g. g) (database-reads now) h l (failing (part_of h) who) (good_failure h who)
 
 -- so the history that calls make is legal
@@ -114,15 +176,39 @@ made_outside formed past who stmt (Some name) is_form all = made_opens formed pa
 made_session : (formed : Type 0) (past : Past) (who : ℕ) (stmt : Stmt) (at : Option ℕ) → (formed → IsInForm stmt) → AllMade formed past → AllMade formed (on_top past (session_does by_past past who stmt at).facts)
 made_session formed past who stmt None is_form all = made_outside formed past who stmt (opening stmt) is_form all
 made_session formed past who stmt (Some d) is_form all =
-    let leaving : Bool = is_leaving (is_waiting who ((world_of past).database d).part.waiting) stmt in
-    made_deed formed past d who stmt (left_if who leaving) (left-outside who leaving) is_form all
+    made_deed formed past d who stmt (beside (world_of past) who stmt d) (beside-outside (world_of past) who stmt d) is_form all
+
+-- what a daemon does, by the past and by its database's history
+pub same-daemon-within : (past : Past) (d : ℕ) (part : DaemonPart) (now : ℤ) → daemon_does (within_database by_past d) past part now ≡ daemon_does database_by_history (history_in past d) part now
+same-daemon-within past d part now =
+    same-daemon_does (within_database by_past d) database_by_history (λ p. history_in p d) (λ p. refl) (λ p mark. ap (λ b. if b then mark ∷ history_in p d else history_in p d) (same-session d)) past part now
+
+made_daemon : (formed : Type 0) (h : History) (part : DaemonPart) (now : ℤ) → Made formed h → Made formed (marked h (daemon_does database_by_history h part now).marks)
+made_daemon formed h part now made = record {
+  calls = worked part now ∷ made.calls;
+  in_form = λ holds. All-cons IsDatabaseCallInForm (worked part now) made.calls tt (made.in_form holds);
+  make = λ i. marked (made.make i) (daemon_does database_by_history (made.make i) part now).marks;
+}
+
+made_works : (formed : Type 0) (past : Past) (d : ℕ) (part : DaemonPart) (now : ℤ) → AllMade formed past
+    → AllMade formed (on_top past (map (within d) (daemon_does (within_database by_past d) past part now).marks))
+made_works formed past d part now all = λ n.
+    subst (Made formed) (sym (history-marks past d (daemon_does (within_database by_past d) past part now).marks n))
+    (by_same (λ b. Made formed (if b then marked (history_in past n) (daemon_does (within_database by_past d) past part now).marks else history_in past n)) d n
+    (λ same. subst (λ m. Made formed (marked (history_in past m) (daemon_does (within_database by_past d) past part now).marks)) same
+    (subst (λ (x : Turn). Made formed (marked (history_in past d) x.marks)) (sym (same-daemon-within past d part now)) (made_daemon formed (history_in past d) part now (all d)))) (λ _. all n))
+
+made_statement : (formed : Type 0) (past : Past) (who : ℕ) (stmt : Stmt) → (formed → IsInForm stmt) → AllMade formed past → AllMade formed (on_top past (turn by_past who stmt past).facts)
+made_statement formed past who (Clock time) is_form all =
+    after-clock (AllMade formed) (λ p moment made. made) (made_works formed) past who time (waits_at (world_of past) who (home past who)) all
+made_statement formed past who stmt is_form all = made_session formed past who stmt (home past who) is_form all
 
 made_called : (formed : Type 0) (past : Past) (call : Call) (found : Option ℕ) → (formed → IsInForm call.stmt) → AllMade formed past → AllMade formed (on_top past (called by_past past call found).facts)
-made_called formed past call (Some who) is_form all = made_session formed past who call.stmt (home past who) is_form all
+made_called formed past call (Some who) is_form all = made_statement formed past who call.stmt is_form all
 made_called formed past call None is_form all =
     made_if formed past (nat_le 256 (length (session_names past))) _ _ all
     (λ d. subst (λ p. Made formed (history_in p d)) (sym (on_top-append past (appears call.who).facts (turn by_past (length (session_names past)) call.stmt (appeared call.who ∷ past)).facts))
-    (made_session formed (appeared call.who ∷ past) (length (session_names past)) call.stmt (home past (length (session_names past))) is_form all d))
+    (made_statement formed (appeared call.who ∷ past) (length (session_names past)) call.stmt is_form all d))
 
 -- if something else holds that gives it
 made_if_given : (formed given : Type 0) → (given → formed) → (h : History) → Made formed h → Made given h

@@ -5,7 +5,8 @@ use Rattle.std.proofs.lemmas.Bool.Decides.{nat_tests}
 use Rattle.sky_keys.specs.Waits.{is_waiting}
 use Rattle.sky_names.specs.Places.{place_of}
 use Rattle.sky_model.specs.declared.stmt.Stmt.{Stmt}
-use Rattle.sky_model.specs.declared.stmt.Stmt.TheVariants.{Row}
+use Rattle.sky_model.specs.declared.daemon.DaemonPart.{DaemonPart}
+use Rattle.sky_model.specs.declared.stmt.Stmt.TheVariants.{Row, Clock}
 use Rattle.sky_model.specs.declared.stmt.RowStmt.TheVariants.{OpenDb, Close}
 use Rattle.sky_model.specs.declared.stmt.Where.TheVariants.{Anywhere, WhenOpen}
 use Rattle.sky_model.specs.declared.reply.Refusal.TheVariants.{Busy}
@@ -21,13 +22,17 @@ use Rattle.sky_model.specs.StepSession.{open_db, close}
 use Rattle.sky_model.specs.Telling.{tells}
 use Rattle.sky_model.specs.Reader.{shown_in, part_by_history, database_by_history, within_part, within_database, by_past, Deed, appears}
 use Rattle.sky_model.specs.Settling.{Turn, marked, behind_marks, settling}
-use Rattle.sky_model.specs.Calls.{making, statement, database_turn, deed_in, opening, opens, outside_does, is_leaving, left_if, session_does, turn, Call, called, past_of}
+use Rattle.sky_model.specs.Daemon.{daemon_does}
+use Rattle.sky_model.specs.Clock.{deed_in, waits_at}
+use Rattle.sky_model.specs.Calls.{making, statement, database_turn, opening, opens, outside_does, is_leaving, left_if, may_make, of_daemon_if, session_does, turn, Call, called, past_of}
 use Rattle.sky_model.specs.LawsOfHistories.{HomesAreOpen, WaitersHaveOpen, BlocksAreOpen}
 use Rattle.sky_model.proofs.Legal.{Fine, begins_block, fails_block, ends_block, connects, disconnects, Legal, start, next}
 use Rattle.sky_model.proofs.WaitersFit.{waits-open}
 use Rattle.sky_model.proofs.SnapshotLaws.{legal_place}
 use Rattle.sky_model.proofs.Resting.{behind-append}
-use Rattle.sky_model.proofs.PastHistories.{on_top-append, history-marks, AreOutside, history-outside}
+use Rattle.sky_model.proofs.PastHistories.{on_top-append, history-marks, AreOutside, history-outside, both-outside, left-outside, AreQuiet, daemon-quiet}
+use Rattle.sky_model.proofs.DaemonTurns.{each-daemon_does}
+use Rattle.sky_model.proofs.ClockSteps.{after-clock}
 use Rattle.sky_model.proofs.Histories.{AllLegal, same-turn-within, legal_past}
 use Rattle.sky_model.proofs.StatementMarks.{AnyReply, no_more, each-abort, given-runs}
 use Rattle.sky_model.proofs.Staying.{is_staying, Stay, open-stays, stays-if, IsStaying, stays-form, stay-settling}
@@ -211,12 +216,12 @@ close-or-stays (Row (OpenDb name)) waits is_open is = inr (refl, ap not is)
 close-or-stays _ waits is_open is = inr (refl, refl)
 
 -- a statement of a session that has a home
-module _ (past : Past) (homed : Homed past) (d who : ℕ) (at_home : home past who ≡ Some d) where
+module _ (past : Past) (homed : Homed past) (d who : ℕ) (at_home : home past who ≡ Some d) (daemon : List Fact) (silent : AreQuiet daemon) where
   h : History
   h = history_in past d
 
   abbrev After : Stmt → Bool → Type 0
-  After stmt leaving = Homed (on_top past (deed_in d (left_if who leaving) (database_turn (within_database by_past d) past (world_of past).now who stmt)).facts)
+  After stmt leaving = Homed (on_top past (deed_in d (left_if who leaving ++ daemon) (database_turn (within_database by_past d) past (world_of past).now who stmt)).facts)
 
   is_here : has_open who (history_in past d) ≡ true
   is_here = homed who d ∙ ap (λ o. stands o d) at_home ∙ grind (arith, nat_tests)
@@ -229,11 +234,12 @@ module _ (past : Past) (homed : Homed past) (d who : ℕ) (at_home : home past w
 
   stays-home : (stmt : Stmt) → Stay (statement database_by_history (history_in past d) (world_of past).now who stmt).marks → After stmt false
   stays-home stmt stay =
-      homed-deed past homed d who stmt [] true (λ p n. refl) (λ p v same. same ∙ as-was v) (stay-opens (history_in past d) (statement database_by_history (history_in past d) (world_of past).now who stmt).marks who true stay is_here) elsewhere
+      homed-deed past homed d who stmt daemon true silent.histories (λ p v same. silent.homes p v ∙ same ∙ as-was v) (stay-opens (history_in past d) (statement database_by_history (history_in past d) (world_of past).now who stmt).marks who true stay is_here) elsewhere
 
   leaves-home : is_waiting who (waiting (history_in past d)) ≡ false → After (Row Close) true
   leaves-home quiet =
-      homed-deed past homed d who (Row Close) (left who ∷ []) false (λ p n. refl) (λ p v same. ap (λ o. if who == v then None else o) same)
+      homed-deed past homed d who (Row Close) (left who ∷ daemon) false (both-outside (left who ∷ []) daemon (left-outside who true) silent.histories)
+      (λ p v same. silent.homes (left who ∷ p) v ∙ ap (λ o. if who == v then None else o) same)
       (closes (history_in past d) (world_of past).now who quiet is_here) elsewhere
 
   pub homed-inside : (stmt : Stmt) → After stmt (is_leaving (is_waiting who (waiting (history_in past d))) stmt)
@@ -248,15 +254,31 @@ module _ (past : Past) (homed : Homed past) (d who : ℕ) (at_home : home past w
 
 homed-session : (past : Past) → AllLegal past → Homed past → (who : ℕ) (stmt : Stmt) (at : Option ℕ) → home past who ≡ at → Homed (on_top past (session_does by_past past who stmt at).facts)
 homed-session past all homed who stmt None is = homed-outside past all homed who stmt (opening stmt) refl is
-homed-session past all homed who stmt (Some d) is = homed-inside past homed d who is stmt
+homed-session past all homed who stmt (Some d) is =
+    let may : Bool = may_make ((world_of past).database d) who stmt in
+    homed-inside past homed d who is (of_daemon_if may d ((world_of past).daemons d) stmt) (daemon-quiet may d ((world_of past).daemons d) stmt) stmt
+
+-- what a daemon does leaves all open as it was
+homed-works : (past : Past) (d : ℕ) (part : DaemonPart) (now : ℤ) → Homed past → Homed (on_top past (map (within d) (daemon_does (within_database by_past d) past part now).marks))
+homed-works past d part now homed v e =
+    let marks : List Mark = (daemon_does (within_database by_past d) past part now).marks in
+    let stay : Stay marks = each-daemon_does is_staying (λ mark. refl) (within_database by_past d) past part now in
+    ap (has_open v) (history-marks past d marks e)
+    ∙ by_same (λ c. has_open v (if c then marked (history_in past e) marks else history_in past e) ≡ stands (home past v) e) d e
+    (λ _. open-stays v (history_in past e) marks stay ∙ homed v e) (λ _. homed v e)
+    ∙ ap (λ o. stands o e) (sym (home-marks past d marks v))
+
+homed-statement : (past : Past) → AllLegal past → Homed past → (who : ℕ) (stmt : Stmt) → Homed (on_top past (turn by_past who stmt past).facts)
+homed-statement past all homed who (Clock time) = after-clock Homed (λ p moment still. still) homed-works past who time (waits_at (world_of past) who (home past who)) homed
+homed-statement past all homed who stmt = homed-session past all homed who stmt (home past who) refl
 
 homed-called : (past : Past) → AllLegal past → Homed past → (call : Call) (found : Option ℕ) → Homed (on_top past (called by_past past call found).facts)
-homed-called past all homed call (Some who) = homed-session past all homed who call.stmt (home past who) refl
+homed-called past all homed call (Some who) = homed-statement past all homed who call.stmt
 homed-called past all homed call None =
     let who : ℕ = length (session_names past) in
     homed-if past (nat_le 256 who) _ _ homed
     (subst Homed (sym (on_top-append past (appears call.who).facts (turn by_past who call.stmt (appeared call.who ∷ past)).facts))
-    (homed-session (appeared call.who ∷ past) all homed who call.stmt (home past who) refl))
+    (homed-statement (appeared call.who ∷ past) all homed who call.stmt))
 
 homed-past : (calls : List Call) → Homed (past_of calls)
 homed-past [] = λ who d. refl

@@ -61,6 +61,8 @@ forms_end =
     (ends (λ table dotted v is key are. (dotted, some_of Value v key is are))
     (ends (λ table dotted. dotted)
     (ends (λ queue is. is)
+    (ends (λ queue is param first value second. (is, first, second))
+    (ends (λ queue is. is)
     (ends (λ queue is ev_type first ev_data second. ((is, first, second, tt), λ extra1 a extra2 b extra3 c extra4 d. (is, first, second, (a, b, c, d))))
     (ends (λ name is table dotted queue to. (
       ((is, dotted, to, All-nil (IsOf Name)), λ columns are. (is, dotted, to, are.1)),
@@ -72,7 +74,9 @@ forms_end =
     (ends (λ queue is consumer dotted. (is, dotted))
     (ends (λ batch number. number)
     (ends (λ batch number. number)
-    tt)))))))))))))))))))))))
+    (ends (λ time is. is)
+    (ends (tt, tt)
+    tt)))))))))))))))))))))))))))
 
 -- ---- behind a word
 

@@ -1,9 +1,9 @@
 -- Marks with marks of events among them: what they leave of a database beside its queues.
-use Rattle.std.proofs.Common.{◌≡◌, ℕ, ◌+◌, Bool, false, List, [], ◌∷◌, ◌++◌, Option, Some, None, refl, ◌||◌, ◌==◌}
+use Rattle.std.proofs.Common.{◌≡◌, ℕ, ◌+◌, Bool, false, List, [], ◌∷◌, ◌++◌, Option, Some, None, refl, ◌||◌, ◌==◌, true}
 use Rattle.sky_val.specs.declared.event.Event.{Event}
-use Rattle.sky_model.specs.History.{Batch, Mark, ended, queued, made, raised, put, ticked, registered, opened, closed, traced}
+use Rattle.sky_model.specs.History.{Batch, Mark, ended, queued, made, raised, put, ticked, registered, opened, closed, traced, configured, dropped}
 use Rattle.sky_model.specs.Triggers.{TableTrigger}
-use Rattle.sky_model.specs.Queues.{NamedQueue}
+use Rattle.sky_model.specs.Queues.{NamedQueue, others_than}
 use Rattle.sky_model.specs.State.{RowPart, after_part, Database, changed_at, after_mark, after_marks}
 
 -- the second marks are the first ones with ids taken and events stored in between
@@ -41,6 +41,7 @@ beside d = record { part = d.part; undone = d.undone; last_batch_id = d.last_bat
 -- a mark changes it alike
 beside-mark : (d e : Database) (mark : Mark) → beside d ≡ beside e → beside (after_mark d mark) ≡ beside (after_mark e mark)
 beside-mark d e (ended who t false) same = λ i. record (same i) { part = after_part (same i).part (ended who t false); undone = λ u. u == t || (same i).undone u }
+beside-mark d e (ended who t true) same = λ i. record (same i) { part = after_part (same i).part (ended who t true) }
 beside-mark d e (queued (made name)) same = λ i. record (same i) {
   queues_made = (same i).queues_made + 1;
   queues = (same i).queues ++ record { number = (same i).queues_made; name = name } ∷ [];
@@ -51,6 +52,8 @@ beside-mark d e (queued (ticked queue id time seq)) same = same
 beside-mark d e (queued (registered queue name id tick)) same = λ i. record (same i) { last_sub_id = id }
 beside-mark d e (queued (opened b)) same = λ i. record (same i) { last_batch_id = b.id; batch = changed_at b.id (λ _. Some b) (same i).batch }
 beside-mark d e (queued (closed b)) same = λ i. record (same i) { batch = changed_at b.id (λ _. None) (same i).batch }
+beside-mark d e (queued (configured queue config)) same = same
+beside-mark d e (queued (dropped queue)) same = λ i. record (same i) { queues = others_than queue (same i).queues }
 beside-mark d e (queued (traced table name trigger)) same = λ i. record (same i) {
   triggers = (same i).triggers ++ record { table = table; name = name; trigger = trigger } ∷ [];
 }

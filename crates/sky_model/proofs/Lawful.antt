@@ -1,14 +1,14 @@
 -- Whatever is called of a database, its history is legal.
-use Rattle.std.proofs.Common.{◌≡◌, All, ℕ, suc, zero, ℤ, ◌+◌, ◌<◌, List, [], ◌∷◌, ◌++◌, true, nat_le, Option, Some, None, Ok, Err, is_ok, option_map, length, is_some, refl, sym, ◌∙◌, ap, subst, arith, ◌^◌, if◌then◌else◌, find, not}
+use Rattle.std.proofs.Common.{◌≡◌, All, ℕ, suc, zero, ℤ, ◌+◌, ◌<◌, List, [], ◌∷◌, ◌++◌, true, nat_le, Option, Some, None, Ok, Err, is_ok, option_map, find, not, length, is_some, refl, sym, ◌∙◌, ap, subst, arith, ◌^◌, if◌then◌else◌}
 use Rattle.std.proofs.lemmas.Bool.{cond_both}
 use Rattle.std.proofs.lemmas.Bool.Decides.{nat_tests}
 use Rattle.sky_model.specs.declared.stmt.Stmt.{Stmt}
 use Rattle.sky_model.specs.declared.stmt.Extra.{Extra}
 use Rattle.sky_model.specs.declared.stmt.RowStmt.{RowStmt}
-use Rattle.sky_model.specs.declared.stmt.Stmt.TheVariants.{Row, CreateQueue, InsertEvent, Ticker, ForceTick, RegisterConsumer, NextBatch, GetBatchEvents, FinishBatch, AddTrigger}
+use Rattle.sky_model.specs.declared.stmt.Stmt.TheVariants.{Row, CreateQueue, SetQueueConfig, QueueInfo, InsertEvent, Ticker, ForceTick, RegisterConsumer, NextBatch, GetBatchEvents, FinishBatch, AddTrigger, Clock, PgqdOn, PgqdOff}
 use Rattle.sky_model.specs.declared.reply.Reply.TheVariants.{Number}
 use Rattle.sky_model.specs.declared.reply.Limit.TheVariants.{Queues, Triggers}
-use Rattle.sky_model.specs.declared.reply.Refusal.TheVariants.{BadColumn, NoQueue, NoTable, TableBusy, TooMany, TriggerExists, TxidsSpent, EventIdsSpent, NoConsumer}
+use Rattle.sky_model.specs.declared.reply.Refusal.TheVariants.{BadColumn, BadValue, NoParam, NoQueue, NoTable, TableBusy, TooMany, TriggerExists, TxidsSpent, EventIdsSpent, NoConsumer}
 use Rattle.sky_keys.specs.Waits.{Waiting, is_waiting}
 use Rattle.sky_names.specs.Places.{place_of}
 use Rattle.sky_model.specs.History.{Batch, Mark, of_session, began, ended, looked, tabled, waited, queued, made, raised, put, ticked, opened, closed, History}
@@ -17,8 +17,8 @@ use Rattle.sky_model.specs.Sessions.{Block, outside, has_open, block, own_txid, 
 use Rattle.sky_model.specs.Rows.{table_names, columns_of}
 use Rattle.sky_model.specs.Triggers.{triggers, triggers_of}
 use Rattle.sky_model.specs.StepTrigger.{has_trigger, may_ignore}
-use Rattle.sky_model.specs.Config.{default_config}
-use Rattle.sky_model.specs.Queues.{queues_made, queues, queue_number, Tick, ticks, tick, newest_tick, sequence, events}
+use Rattle.sky_model.specs.Config.{param_of, configured_by}
+use Rattle.sky_model.specs.Queues.{queues_made, queues, queue_number, config, Tick, ticks, kept_ticks, tick, newest_tick, sequence, events}
 use Rattle.sky_model.specs.Consumers.{subscription_id, Subscription, subscription, active_batch}
 use Rattle.sky_model.specs.Locks.{waiting}
 use Rattle.sky_model.specs.State.{RowPart, part_of, database_of}
@@ -27,14 +27,14 @@ use Rattle.sky_model.specs.OwnTransaction.{own_or_next, begin_of, commit_of, wri
 use Rattle.sky_model.specs.Outcome.{Outcome, Checked, ◌>>=◌, ◌>>◌, refused_if, answers, does_marks, abort, settled}
 use Rattle.sky_model.specs.Allowed.{where_of_row, where_of, allowed}
 use Rattle.sky_model.specs.StepRows.{attempts}
-use Rattle.sky_model.specs.StepQueue.{create_queue, insert_event, is_due, forced, newest_id, id_of, next_event_id, made_event}
+use Rattle.sky_model.specs.StepQueue.{create_queue, insert_event, next_tick, is_due, forced, newest_id, id_of, next_event_id, made_event}
 use Rattle.sky_model.specs.StepConsumer.{has_dot, opens_batch, takes_batch, finishes}
 use Rattle.sky_model.specs.Reader.{shown_in, PartReader, part_by_history, database_by_history, within_part}
 use Rattle.sky_model.specs.Gates.{Gate, takes_all, gated, by_gate}
 use Rattle.sky_model.specs.Made.{takes_sight, looking, runs_if}
 use Rattle.sky_model.specs.Settling.{Turn, turn_of, behind_marks, and_then, ready, attempted, resumed, goes_on, settles, settling, with_settling}
 use Rattle.sky_model.specs.Calls.{row_form, form, row_making, making, row_statement, row_turn, statement, database_turn, turn}
-use Rattle.sky_model.proofs.Legal.{MayWait, IsAmong, IsQueue, begins, ends, looks, ends_waiting, makes, raises, puts, ticks_next, registers, opens as opens_fine, closes, traces, Chain, done, more, Legal, next}
+use Rattle.sky_model.proofs.Legal.{MayWait, IsAmong, IsQueue, begins, ends, looks, ends_waiting, makes, raises, puts, ticks_next, registers, opens as opens_fine, closes, configures, traces, Chain, done, more, Legal, next}
 use Rattle.sky_model.proofs.Good.{MayStand, Good, same-session, good_test, good_test_then, good_found, good_if, good_refused, good_refused_by, good_commits}
 use Rattle.sky_model.proofs.RowOutcomes.{OfRows, attempts-rows, form-rows}
 use Rattle.sky_model.proofs.LawfulTelling.{good_append, legal_behind, good_tells}
@@ -42,6 +42,7 @@ use Rattle.sky_model.proofs.WaitersFit.{may_go_on}
 use Rattle.sky_model.proofs.LawfulRows.{no-one, nothing, good_attempts, good_row_form}
 use Rattle.sky_model.proofs.QueueNumbers.{among-number, among-last}
 use Rattle.sky_model.proofs.Ticks.{ticks_beyond}
+use Rattle.sky_model.proofs.StandingQueues.{whole}
 use Rattle.sky_model.proofs.Selecting.{events_below-next}
 use Rattle.sky_names.proofs.PlaceLemmas.{place_of_within}
 
@@ -95,7 +96,7 @@ good_insert_event h l now who name ev_type ev_data extra =
         → Chain g (queued (raised q (n + 1)) ∷ queued (put q (made_event (n + 1) now t ev_type ev_data extra)) ∷ commit_of who t b)
     body g l q n t b mine below is =
         more (raises q (n + 1) below (omega arith))
-        (more (puts who q _ below (ap (λ b. if b then n + 1 else sequence q g) (sym (same-session q))) mine (subst (λ m. All (λ e. e.ev_id < m + 1) (events q g)) is (events_below-next g l q)))
+        (more (puts who q _ below (ap (λ b. if b then n + 1 else sequence q g) (sym (same-session q))) mine (subst (λ m. All (λ e. e.ev_id < m + 1) (events q g)) is (events_below-next g l q below)))
         (good_commits (queued (put q (made_event (n + 1) now t ev_type ev_data extra)) ∷ queued (raised q (n + 1)) ∷ g) who t b mine))
 
     by_own : (q : ℕ) → IsQueue h q → (o : Option ℕ) → own_txid who h ≡ o → Good h who (own_or_next (part_of h) o >>= (λ t.
@@ -117,43 +118,55 @@ good_opens_batch h who q consumer sub (Some t) below stands is =
     good_test h who (nat_le (2 ^ 64) ((database_of h).last_batch_id + 1)) _ _ (λ _.
     more (opens_fine _ (record { within = below; stands = stands; fresh = omega arith; closing = t; made = is; to = refl })) done)
 
-good_takes_batch : (h : History) (who q : ℕ) (consumer : List ℕ) (sub : Subscription) (batch : Option ℕ)
+good_takes_batch : (h : History) → Legal h → (who q : ℕ) (consumer : List ℕ) (sub : Subscription) (batch : Option ℕ)
     → IsQueue h q → subscription q consumer h ≡ Some (record { id = sub.id; position = sub.position; active = batch })
     → Good h who (takes_batch (database_of h) q consumer sub batch)
-good_takes_batch h who q consumer sub (Some batch) below stands = done
-good_takes_batch h who q consumer sub None below stands = good_opens_batch h who q consumer sub (tick (sub.position + 1) (ticks q h)) below stands refl
+good_takes_batch h l who q consumer sub (Some batch) below stands = done
+good_takes_batch h l who q consumer sub None below stands =
+    good_opens_batch h who q consumer sub (tick (sub.position + 1) (kept_ticks q h)) below stands (ap (tick (sub.position + 1)) (sym (whole h l q below).all_ticks))
 
 good_finishes : (h : History) (who id : ℕ) (batch : Option Batch) → active_batch id h ≡ batch → Good h who (finishes batch)
 good_finishes h who id None is = done
 good_finishes h who id (Some batch) is = more (closes batch (ap (λ n. active_batch n h) (active_batch-id h id batch is) ∙ is)) done
 
+-- a tick that is due
+pub good_next_tick : (h : History) → Legal h → (now : ℤ) (who q : ℕ) → IsQueue h q → Good h who (next_tick (database_of h) now q)
+good_next_tick h l now who q is =
+    let all : newest_id ((database_of h).queue q) ≡ id_of (newest_tick (ticks q h)) = ap (λ ts. id_of (newest_tick ts)) (whole h l q is).all_ticks in
+    good_if h who (is_due now ((database_of h).queue q)) _ _
+    (good_test h who (nat_le (2 ^ 64) (newest_id ((database_of h).queue q) + 1)) _ _ (λ _.
+    more (ticks_next q _ now _ is (omega arith)) done)) (λ _. done)
+
 good_form : (h : History) → Legal h → (now : ℤ) (who : ℕ) (stmt : Stmt) → MayStand h who (where_of stmt) → Good h who (form (database_of h) (shown_in h) now who stmt)
 good_form h l now who (Row stmt) may = good_tells h l now who _ (form-rows (part_of h) (rows_in h) who stmt) (good_row_form h l who stmt may)
 good_form h l now who (CreateQueue queue) may = good_create_queue h l now who queue
 good_form h l now who (InsertEvent queue ev_type ev_data extra) may = good_insert_event h l now who queue ev_type ev_data extra
-good_form h l now who (Ticker name) may =
+good_form h l now who (SetQueueConfig name param value) may =
     good_found h who (queue_number name (queues h)) (NoQueue name) _ (λ q is.
-    good_if h who (is_due now ((database_of h).queue q)) _ _
-    (good_test h who (nat_le (2 ^ 64) (newest_id ((database_of h).queue q) + 1)) _ _ (λ _.
-    more (ticks_next q _ now _ (among-number name (queues h) q is) (omega arith)) done))
-    (λ _. done))
+    good_found h who (param_of param) (NoParam param) _ (λ p known.
+    good_found h who (configured_by (config q h) p value) (BadValue param) _ (λ c set.
+    more (configures q c (among-number name (queues h) q is)) done)))
+good_form h l now who (QueueInfo name) may = good_found h who (queue_number name (queues h)) (NoQueue name) _ (λ q is. done)
+good_form h l now who (Ticker name) may =
+    good_found h who (queue_number name (queues h)) (NoQueue name) _ (λ q is. good_next_tick h l now who q (among-number name (queues h) q is))
 good_form h l now who (ForceTick name) may =
     good_found h who (queue_number name (queues h)) (NoQueue name) _ (λ q is.
-    good_test h who (nat_le (2 ^ 62) (sequence q h + forced default_config)) _ _ (λ _.
+    good_test h who (nat_le (2 ^ 62) (sequence q h + forced (config q h))) _ _ (λ _.
     more (raises q _ (among-number name (queues h) q is) (omega arith)) done))
 good_form h l now who (RegisterConsumer name consumer) may =
     good_found h who (queue_number name (queues h)) (NoQueue name) _ (λ q is.
     good_test h who (has_dot consumer) _ _ (λ _.
-    good_if h who (is_some (((database_of h).queue q).sub consumer)) _ _ done (λ unregistered.
+    good_if h who (is_some (((database_of h).queue q).sub consumer)) _ _ done (λ new.
     good_test h who (nat_le 256 (length ((database_of h).queue q).members)) _ _ (λ _.
     good_test h who (nat_le (2 ^ 64) ((database_of h).last_sub_id + 1)) _ _ (λ _.
-    more (registers q consumer _ _ (among-number name (queues h) q is) (no-one _ (subscription_id q consumer h) (nothing _ unregistered)) (omega arith) (omega arith)) done)))))
+    more (registers q consumer _ _ (among-number name (queues h) q is) (no-one _ (subscription_id q consumer h) (nothing _ new)) (omega arith)
+    (let all : newest_id ((database_of h).queue q) ≡ id_of (newest_tick (ticks q h)) = ap (λ ts. id_of (newest_tick ts)) (whole h l q (among-number name (queues h) q is)).all_ticks in omega arith)) done)))))
 good_form h l now who (NextBatch name consumer) may =
     good_found h who (queue_number name (queues h)) (NoQueue name) _ (λ q is.
     good_test h who (has_dot consumer) _ _ (λ _.
     good_found h who (((database_of h).queue q).sub consumer) (NoConsumer consumer) _ (λ sub stands.
-    good_takes_batch h who q consumer sub sub.active (among-number name (queues h) q is) stands)))
-good_form h l now who (GetBatchEvents batch) may = good_found h who ((database_of h).batch batch) _ _ (λ b _. done)
+    good_takes_batch h l who q consumer sub sub.active (among-number name (queues h) q is) stands)))
+good_form h l now who (GetBatchEvents batch) may = good_found h who ((shown_in h).events batch) _ _ (λ b _. done)
 good_form h l now who (FinishBatch batch) may = good_finishes h who batch (active_batch batch h) refl
 good_form h l now who (AddTrigger name table_name queue_name backup ignored) may =
     good_found h who (place_of table_name (table_names h)) (NoTable table_name) _ (λ table there.
@@ -163,6 +176,9 @@ good_form h l now who (AddTrigger name table_name queue_name backup ignored) may
     good_refused_by h who (option_map BadColumn (find (λ column. not (may_ignore (columns_of table h) column)) ignored)) _ (λ _.
     good_refused_by h who (option_map TableBusy (least_writer (part_of h) table)) _ (λ _.
     more (traces table (Some name) _ (place_of_within table_name (table_names h) table there) (among-number queue_name (queues h) queue is) new) done))))))
+good_form h l now who (Clock time) may = done
+good_form h l now who PgqdOn may = done
+good_form h l now who PgqdOff may = done
 
 good_runs_if : (h : History) → Legal h → (now : ℤ) (who : ℕ) (stmt : Stmt) (may : Checked (Unit {0})) → allowed (is_waiting who (waiting h)) (has_open who h) (block who h) (where_of stmt) ≡ may
     → Chain h (runs_if (making database_by_history now who stmt) (where_of stmt) who h may).marks

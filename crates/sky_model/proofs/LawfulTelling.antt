@@ -1,12 +1,12 @@
 -- A statement on rows leaves a legal history legal once its writes are told of.
-use Rattle.std.proofs.Common.{◌≡◌, ℕ, ℤ, ◌+◌, ◌^◌, List, [], ◌∷◌, ◌++◌, Bool, true, false, ◌==◌, nat_le, Option, Some, Ok, Err, IfOk, map, refl, sym, ◌∙◌, ap, subst, arith, if◌then◌else◌, All}
+use Rattle.std.proofs.Common.{◌≡◌, ℕ, ℤ, ◌+◌, ◌^◌, List, [], ◌∷◌, ◌++◌, Bool, true, false, ◌==◌, nat_le, Option, Some, Ok, Err, IfOk, map, get_or, refl, sym, ◌∙◌, ap, subst, arith, if◌then◌else◌, All}
 use Rattle.std.proofs.lemmas.List.Elements.{All-nil, All-head, All-tail, All-push, All-weaker, All-map, All-filter}
 use Rattle.sky_val.specs.declared.val.Val.{Val}
 use Rattle.sky_keys.specs.Waits.{other_than, is_waiting}
 use Rattle.sky_names.specs.Places.{place_of}
 use Rattle.sky_urlenc.specs.RowEvents.{Trigger, Write, event_of, RowEvent, events_of}
 use Rattle.sky_model.specs.declared.reply.Refusal.TheVariants.{EventIdsSpent}
-use Rattle.sky_model.specs.History.{Mark, of_session, began, tabled, wrote, queued, made, raised, put, traced, History}
+use Rattle.sky_model.specs.History.{Mark, of_session, began, tabled, wrote, queued, made, raised, put, dropped, traced, History}
 use Rattle.sky_model.specs.Sessions.{has_open, Block, block, own_txid}
 use Rattle.sky_model.specs.Triggers.{TableTrigger, triggers, triggers_of}
 use Rattle.sky_model.specs.Queues.{NamedQueue, queues_made, queues, sequence}
@@ -15,8 +15,8 @@ use Rattle.sky_model.specs.Outcome.{Outcome, Checked, ◌>>=◌, ◌>>◌, refus
 use Rattle.sky_model.specs.Telling.{write_in, events_in, told_event, event_marks, told_by, told_of, with_told, tells}
 use Rattle.sky_model.specs.Reader.{part_by_history}
 use Rattle.sky_model.specs.Settling.{behind_marks, marked}
-use Rattle.sky_model.proofs.Legal.{Replaces, MayWait, IsAmong, IsQueue, Fine, begins, ends, begins_block, fails_block, ends_block, connects, disconnects, repeats_block, looks, makes_table, writes, begins_waiting, ends_waiting, raises, puts, traces, Chain, done, more, Legal, next}
-use Rattle.sky_model.proofs.QueueNumbers.{among-before}
+use Rattle.sky_model.proofs.Legal.{Replaces, MayWait, IsAmong, IsQueue, Fine, begins, ends, begins_block, fails_block, ends_block, connects, disconnects, repeats_block, looks, makes_table, writes, begins_waiting, ends_waiting, raises, puts, drops, traces, Chain, done, more, Legal, next}
+use Rattle.sky_model.proofs.QueueNumbers.{among-before, among-others}
 use Rattle.sky_model.proofs.Marks.{part_of-mark, database_of-mark, database_of-marks}
 use Rattle.sky_model.proofs.Selecting.{events_below-next}
 use Rattle.sky_model.proofs.Good.{Good, same-session, good_refused}
@@ -42,6 +42,9 @@ below-mark (next l fine) = l
 traced-queue : {h : History} {table : ℕ} {name : Option (List ℕ)} {trigger : Trigger} → Legal (queued (traced table name trigger) ∷ h) → IsQueue h trigger.queue
 traced-queue (next l (traces table name trigger below is new)) = is
 
+undropped-triggers : {h : History} {q : ℕ} → Legal (queued (dropped q) ∷ h) → All (λ t. (t.trigger.queue == q) ≡ false) (triggers h)
+undropped-triggers (next l (drops q none untold)) = untold
+
 -- the queues of triggers are among these
 abbrev pub TriggersAmong : List NamedQueue → List TableTrigger → Type 0
 TriggersAmong queues ts = All (λ t. IsAmong t.trigger.queue queues) ts
@@ -58,6 +61,8 @@ trigger-queues (queued (made name) ∷ h) l =
     All-weaker (λ t. IsAmong t.trigger.queue (queues h)) (λ t. IsAmong t.trigger.queue (queues h ++ last ∷ [])) (λ t among. among-before (queues h) last t.trigger.queue among) (triggers h) (trigger-queues h (below-mark l))
 trigger-queues (queued (traced table name trigger) ∷ h) l =
     All-push (λ t. IsAmong t.trigger.queue (queues h)) (triggers h) (record { table = table; name = name; trigger = trigger }) (trigger-queues h (below-mark l)) (traced-queue l)
+trigger-queues (queued (dropped q) ∷ h) l =
+    λ k t less. among-others q (queues h) (get_or (triggers h) k t).trigger.queue (trigger-queues h (below-mark l) k t less) (undropped-triggers l k t less)
 trigger-queues (_ ∷ h) l = trigger-queues h (below-mark l)
 
 -- so are the events of a write
@@ -91,7 +96,7 @@ told-well h l now who t (e ∷ es) mine among =
     raised_fine = raises e.queue id there (omega arith)
 
     put_fine : Fine (queued (raised e.queue id) ∷ h) (queued (put e.queue (told_event id now t e)))
-    put_fine = puts who e.queue (told_event id now t e) there (ap (λ b. if b then id else sequence e.queue h) (sym (same-session e.queue))) mine (events_below-next h l e.queue)
+    put_fine = puts who e.queue (told_event id now t e) there (ap (λ b. if b then id else sequence e.queue h) (sym (same-session e.queue))) mine (events_below-next h l e.queue there)
 
     of : (b : Bool) → ToldWell behind (told_by (after_marks (database_of h) (event_marks e.queue (told_event id now t e))) now t es)
         → ToldWell h ((refused_if b EventIdsSpent >> Ok id) >>= (λ n. told_by (after_marks (database_of h) (event_marks e.queue (told_event n now t e))) now t es

@@ -1,5 +1,5 @@
 -- The words before the bad one begin a line of the rows, and those up to it begin none.
-use Rattle.std.proofs.Common.{◌≡◌, ℕ, ◌+◌, ◌<◌, ◌≤◌, zero, suc, List, [], ◌∷◌, ◌++◌, length, take, Option, Some, None, Ok, Err, refl, ap, ◌∙◌, append_assoc, arith, codes, bytes_eq, true, false}
+use Rattle.std.proofs.Common.{◌≡◌, ℕ, ◌+◌, ◌<◌, ◌≤◌, zero, suc, List, [], ◌∷◌, ◌++◌, length, take, Option, Some, None, Ok, Err, refl, ap, ◌∙◌, append_assoc, arith, codes, bytes_eq, true, false, pos}
 use Rattle.std.proofs.lemmas.Bool.Decides.{nat_tests}
 use Rattle.sky_val.specs.declared.val.Val.TheVariants.{Null}
 use Rattle.sky_val.specs.declared.column.ColKind.TheVariants as kind
@@ -7,7 +7,7 @@ use Rattle.sky_model.specs.declared.stmt.Change.TheVariants.{To}
 use Rattle.sky_model.specs.declared.stmt.Stmt.{Stmt}
 use Rattle.sky_model.specs.declared.line.Fixed.{Fixed}
 use Rattle.sky_model.specs.declared.line.Fixed.TheVariants as fixed
-use Rattle.sky_model.specs.Kinds.{Kind, Name, Dotted, Number, OptText, Raw, Value, Column, Set, Ignore, Of, value}
+use Rattle.sky_model.specs.Kinds.{Kind, Name, Dotted, Number, OptText, Raw, Value, Column, Set, Ignore, Advance, Of, value}
 use Rattle.sky_model.specs.Grammar.{Row, stop, literal, one, either, many, text_of, next, all_next, ended, all_ended, or_else, or_bad, goes_on, reads}
 
 -- some line that the rows read begins with these words
@@ -63,6 +63,7 @@ sample Value = record { word = codes "null"; worth = Null; is = refl }
 sample Column = record { word = codes "a:int"; worth = record { name = codes "a"; kind = kind.Int; key = false }; is = refl }
 sample Set = record { word = codes "a=null"; worth = record { column = codes "a"; change = To Null }; is = refl }
 sample Ignore = record { word = codes "ignore=a"; worth = codes "a" ∷ []; is = refl }
+sample Advance = record { word = codes "+1s"; worth = pos 1_000_000; is = refl }
 
 same_text : (f : Fixed) → bytes_eq (text_of f) (text_of f) ≡ true
 same_text fixed.Repeatable = refl

@@ -12,7 +12,8 @@ use Rattle.sky_names.specs.Places.{place_of}
 use Rattle.sky_model.specs.declared.stmt.Set.{Set}
 use Rattle.sky_model.specs.declared.stmt.Attempt.{Attempt}
 use Rattle.sky_model.specs.declared.stmt.Attempt.TheVariants.{Insertion, Changes, Deletion}
-use Rattle.sky_model.specs.History.{Batch, Mark, of_session, began, ended, block_begun, repeats, looked, block_failed, block_ended, connected, disconnected, tabled, table_made, wrote, waits, waited, queued, made, raised, put, ticked, registered, opened, closed, traced, History}
+use Rattle.sky_model.specs.History.{Batch, Mark, of_session, began, ended, block_begun, repeats, looked, block_failed, block_ended, connected, disconnected, tabled, table_made, wrote, waits, waited, queued, made, raised, put, ticked, registered, opened, closed, configured, dropped, traced, History}
+use Rattle.sky_model.specs.Config.{Config}
 use Rattle.sky_model.specs.Transactions.{next_txid}
 use Rattle.sky_model.specs.Sessions.{has_open, outside, inside, block, own_txid}
 use Rattle.sky_model.specs.Rows.{table_names}
@@ -98,6 +99,8 @@ pub data Fine (h : History) : Mark → Type 0 where
       → tick ≤ id_of (newest_tick (ticks q h)) → Fine h (queued (registered q name sub tick))
   opens : (batch : Batch) → Opens h batch → Fine h (queued (opened batch))
   closes : (batch : Batch) → active_batch batch.id h ≡ Some batch → Fine h (queued (closed batch))
+  configures : (q : ℕ) (config : Config) → IsQueue h q → Fine h (queued (configured q config))
+  drops : (q : ℕ) → ((consumer : List ℕ) → subscription_id q consumer h ≡ None) → All (λ t. (t.trigger.queue == q) ≡ false) (triggers h) → Fine h (queued (dropped q))
   traces : (table : ℕ) (name : Option (List ℕ)) (trigger : Trigger) → table < length (table_names h) → IsQueue h trigger.queue
       → IfSome name (λ n. has_trigger n (triggers_of table (triggers h)) ≡ false)
       → Fine h (queued (traced table name trigger))

@@ -2,6 +2,7 @@ mod WorkedLines
 mod WorkedForms
 mod WorkedMoments
 pub mod WorkedScripts
+mod WorkedClock
 mod WorkedOpening
 mod WorkedRows
 mod WorkedBatches
@@ -16,6 +17,7 @@ pub mod InFormLaw
 pub mod Marks
 pub mod Legal
 pub mod QueueNumbers
+pub mod StandingQueues
 pub mod Snapshots
 pub mod Ticks
 pub mod Selecting
@@ -31,7 +33,9 @@ pub mod RowOutcomes
 pub mod LawfulTelling
 pub mod MadeAt
 pub mod Turns
+pub mod DaemonTurns
 pub mod PastHistories
+pub mod ClockSteps
 pub mod Lawful
 pub mod Histories
 pub mod Promised

@@ -2,7 +2,9 @@
 use Rattle.std.proofs.Common.{◌≡◌, ℕ, ◌+◌, List, [], ◌∷◌, ◌++◌, Bool, true, false, not, ◌&&◌, ◌||◌, ◌==◌, filter, Option, Some, None, refl, ◌∙◌, ap, bytes_eq, option_map, if◌then◌else◌}
 use Rattle.sky_keys.specs.Waits.{released}
 use Rattle.sky_keys.specs.Versions.{forgotten}
-use Rattle.sky_model.specs.History.{Mark, of_session, of_worker, began, ended, block_begun, repeats, looked, block_failed, block_ended, connected, disconnected, tabled, wrote, queued, QueueMark, made, raised, put, ticked, registered, opened, closed, traced, History, Fact, appeared, founded, entered, left, within, Past}
+use Rattle.sky_model.specs.History.{Mark, of_session, of_worker, began, ended, block_begun, repeats, looked, block_failed, block_ended, connected, disconnected, tabled, wrote, queued, QueueMark, made, raised, put, ticked, registered, opened, closed, configured, dropped, traced, History, Fact, appeared, founded, entered, left, within, clock_at, daemon_on, daemon_off, Past}
+use Rattle.sky_model.specs.Config.{default_config}
+use Rattle.sky_model.specs.Queues.{queues, others_than}
 use Rattle.sky_model.specs.Consumers.{Subscription, subscription_id, position, active}
 use Rattle.sky_model.specs.Transactions.{next_txid, running, has_rolled_back, snapshot}
 use Rattle.sky_model.specs.Sessions.{outside, inside, failed, at_each, at_first, at_place, sight, sight_by, session}
@@ -70,6 +72,16 @@ database_of-queue_mark h (closed b) = λ i. record (database_of h) {
       (λ m. closes (subscription_id n m h) (position n m h) (active n m h) b.cur))
       ∙ by_case (b.queue == n) (λ c. record (queue_of h n) { sub = if c then changed_for b.consumer (option_map (at_position b.cur)) (queue_of h n).sub else (queue_of h n).sub })) i;
 }
+database_of-queue_mark h (configured q c) = λ i. record (database_of h) { queue = λ n. by_case (q == n) (λ b. record (queue_of h n) { config = if b then c else (queue_of h n).config }) i }
+database_of-queue_mark h (dropped q) = λ i. record (database_of h) {
+  queues = others_than q (queues h);
+  queue = λ n. by_case (q == n) (λ b. record (queue_of h n) {
+    config = if b then default_config else (queue_of h n).config;
+    seq = if b then 0 else (queue_of h n).seq;
+    stored = if b then [] else (queue_of h n).stored;
+    tick_list = if b then [] else (queue_of h n).tick_list;
+  }) i;
+}
 database_of-queue_mark h (traced table name trigger) = refl
 
 -- a mark changes transactions, sessions and tables as `after_part` says
@@ -124,6 +136,9 @@ world_of-fact past (appeared name) = refl
 world_of-fact past (founded name) = refl
 world_of-fact past (entered who d) = refl
 world_of-fact past (left who) = refl
+world_of-fact past (clock_at moment) = refl
+world_of-fact past (daemon_on d) = refl
+world_of-fact past (daemon_off d) = refl
 world_of-fact past (within d mark) = λ i. record (world_of past) { database = λ n. within_at (d == n) (history_in past n) mark i }
 
 -- and so do facts one after the other

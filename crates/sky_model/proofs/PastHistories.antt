@@ -1,10 +1,13 @@
 -- What facts make of the histories of databases.
-use Rattle.std.proofs.Common.{◌≡◌, ℕ, List, [], ◌∷◌, ◌++◌, Bool, true, false, map, refl, ◌∙◌, ap, if◌then◌else◌, ◌==◌, arith}
+use Rattle.std.proofs.Common.{◌≡◌, ℕ, ℤ, List, [], ◌∷◌, ◌++◌, Bool, true, false, map, Option, Some, None, refl, ◌∙◌, ap, if◌then◌else◌, ◌==◌, arith}
 use Rattle.sky_model.specs.History.{Mark, Fact, within, Past}
-use Rattle.sky_model.specs.World.{history_in, on_top}
+use Rattle.sky_model.specs.World.{World, home, history_in, on_top}
+use Rattle.sky_keys.specs.Waits.{is_waiting}
 use Rattle.sky_model.specs.Reader.{part_by_history}
 use Rattle.sky_model.specs.Settling.{behind_marks}
-use Rattle.sky_model.specs.Calls.{left_if}
+use Rattle.sky_model.specs.declared.stmt.Stmt.{Stmt}
+use Rattle.sky_model.specs.declared.stmt.Stmt.TheVariants.{PgqdOn, PgqdOff}
+use Rattle.sky_model.specs.Calls.{left_if, is_leaving, may_make, of_daemon_if, beside}
 
 pub on_top-append : (past : Past) (xs ys : List Fact) → on_top past (xs ++ ys) ≡ on_top (on_top past xs) ys
 on_top-append past [] ys = refl
@@ -28,3 +31,26 @@ history-outside past facts outside n none = ap (λ p. history_in p n) (on_top-ap
 pub left-outside : (who : ℕ) (leaving : Bool) → AreOutside (left_if who leaving)
 left-outside who true past n = refl
 left-outside who false past n = refl
+
+-- facts that change neither a history nor the home of a session
+pub record AreQuiet (facts : List Fact) : Type 0 where
+  pub histories : AreOutside facts
+  pub homes : (past : Past) (who : ℕ) → home (on_top past facts) who ≡ home past who
+
+-- such is that a daemon is on or off
+pub daemon-quiet : (may : Bool) (d : ℕ) (start : Option ℤ) (stmt : Stmt) → AreQuiet (of_daemon_if may d start stmt)
+daemon-quiet true d None PgqdOn = record { histories = λ past n. refl; homes = λ past who. refl }
+daemon-quiet true d (Some moment) PgqdOn = record { histories = λ past n. refl; homes = λ past who. refl }
+daemon-quiet true d None PgqdOff = record { histories = λ past n. refl; homes = λ past who. refl }
+daemon-quiet true d (Some moment) PgqdOff = record { histories = λ past n. refl; homes = λ past who. refl }
+daemon-quiet true d start _ = record { histories = λ past n. refl; homes = λ past who. refl }
+daemon-quiet false d start stmt = record { histories = λ past n. refl; homes = λ past who. refl }
+
+-- and facts one behind the other that change no history
+pub both-outside : (xs ys : List Fact) → AreOutside xs → AreOutside ys → AreOutside (xs ++ ys)
+both-outside xs ys none neither past n = history-outside past xs ys n neither ∙ none past n
+
+pub beside-outside : (w : World) (who : ℕ) (stmt : Stmt) (d : ℕ) → AreOutside (beside w who stmt d)
+beside-outside w who stmt d =
+    both-outside (left_if who (is_leaving (is_waiting who (w.database d).part.waiting) stmt)) (of_daemon_if (may_make (w.database d) who stmt) d (w.daemons d) stmt)
+    (left-outside who (is_leaving (is_waiting who (w.database d).part.waiting) stmt)) (daemon-quiet (may_make (w.database d) who stmt) d (w.daemons d) stmt).histories

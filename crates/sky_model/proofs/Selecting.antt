@@ -5,13 +5,15 @@ use Rattle.std.proofs.lemmas.Bool.Decides.{nat_tests}
 use Rattle.std.proofs.lemmas.List.Elements.{All-nil, All-head, All-tail, All-push, All-weaker}
 use Rattle.sky_val.specs.declared.event.Event.{Event}
 use Rattle.sky_txid.specs.Snapshot.{sees}
-use Rattle.sky_model.specs.History.{Batch, ended, queued, ticked, History}
+use Rattle.sky_model.specs.History.{Batch, ended, queued, ticked, History, put}
 use Rattle.sky_model.specs.Transactions.{has_ended, has_committed, has_rolled_back}
-use Rattle.sky_model.specs.Queues.{sequence, events, ticks, tick, at_tick}
+use Rattle.sky_model.specs.Queues.{queues, sequence, events, ticks, tick, at_tick}
 use Rattle.sky_model.specs.Batches.{with_event, by_id_onto, by_id, is_for, batch_events}
-use Rattle.sky_model.specs.Selection.{snapshot_at, selected}
+use Rattle.sky_model.specs.Selection.{snapshot_at, selected_of, selected}
 use Rattle.sky_model.specs.State.{database_of}
-use Rattle.sky_model.proofs.Legal.{ends, raises, puts, ticks_next, Legal, start, next}
+use Rattle.sky_model.proofs.Legal.{IsQueue, ends, makes, raises, puts, ticks_next, drops, Legal, start, next}
+use Rattle.sky_model.proofs.QueueNumbers.{others-among, others-apart}
+use Rattle.sky_model.proofs.StandingQueues.{beyond, stands-or-new, whole}
 use Rattle.sky_model.proofs.Snapshots.{sees-snapshot, own-unended, has_committed-ended}
 use Rattle.sky_model.proofs.Ticks.{snapshot-at_tick, legal-at_tick}
 use Rattle.sky_model.proofs.Cases.{by_same}
@@ -46,29 +48,51 @@ Ordered-push : (low : ℕ) (es : List Event) (e : Event) → Ordered low es → 
 Ordered-push low [] e o le u = (le, tt)
 Ordered-push low (x ∷ xs) e o le u = (o.0, Ordered-push x.ev_id xs e o.1 (All-head (λ x. x.ev_id ≤ e.ev_id) x xs u) (All-tail (λ x. x.ev_id ≤ e.ev_id) x xs u))
 
--- events by ids that don't fall, up to a number
-abbrev pub IsNumbered : ℕ → List Event → Type 0
-IsNumbered n es = Ordered 0 es × All (λ e. e.ev_id ≤ n) es
+-- events have ids up to a number
+abbrev UpTo : ℕ → List Event → Type 0
+UpTo n es = All (λ e. e.ev_id ≤ n) es
 
--- events are stored by ids that don't fall, up to the value of the sequence
-pub numbered : (h : History) → Legal h → (q : ℕ) → IsNumbered (sequence q h) (events q h)
-numbered [] start q = (tt, All-nil (λ e. e.ev_id ≤ 0))
+-- events are stored by ids that don't fall, in a queue that stands up to the value of the sequence
+record IsNumbered (h : History) (q : ℕ) : Type 0 where
+  ordered : Ordered 0 (events q h)
+  up_to : IsQueue h q → UpTo (sequence q h) (events q h)
+
+numbered : (h : History) → Legal h → (q : ℕ) → IsNumbered h q
+numbered [] start q = record { ordered = tt; up_to = λ is. All-nil (λ e. e.ev_id ≤ 0) }
+numbered _ (next {h = h} l (makes name new)) q =
+    let n : IsNumbered h q = numbered h l q in
+    record {
+      ordered = n.ordered;
+      up_to = λ is. stands-or-new (UpTo (sequence q h) (events q h)) h name q is n.up_to
+          (λ last. subst (UpTo (sequence q h)) (sym (beyond h l q (omega (arith, last))).events) (All-nil (λ e. e.ev_id ≤ sequence q h)));
+    }
 numbered _ (next {h = h} l (raises p v i le)) q =
-    let n = numbered h l q in
-    by_same (λ b. IsNumbered (if b then v else sequence q h) (events q h)) p q
-    (λ same. let more : sequence q h ≤ v = subst (λ x. sequence x h ≤ v) same le in (n.0, All-weaker (λ e. e.ev_id ≤ sequence q h) (λ e. e.ev_id ≤ v) (λ e up. omega arith) (events q h) n.1)) (λ _. n)
-numbered _ (next {h = h} l (puts who p event i is o newest)) q =
-    let n = numbered h l q in
-    by_same (λ b. IsNumbered (sequence q h) (if b then events q h ++ event ∷ [] else events q h)) p q
-    (λ same. let at : event.ev_id ≡ sequence q h = is ∙ ap (λ x. sequence x h) same in (
-      Ordered-push 0 (events q h) event n.0 (omega arith) (subst (λ x. All (λ e. e.ev_id ≤ x) (events q h)) (sym at) n.1),
-      All-push (λ e. e.ev_id ≤ sequence q h) (events q h) event n.1 (omega arith),
-    )) (λ _. n)
-numbered _ (next {h = h} l _) q = numbered h l q
+    let n : IsNumbered h q = numbered h l q in
+    record {
+      ordered = n.ordered;
+      up_to = λ is. by_same (λ b. UpTo (if b then v else sequence q h) (events q h)) p q
+          (λ same. let more : sequence q h ≤ v = subst (λ x. sequence x h ≤ v) same le in All-weaker (λ e. e.ev_id ≤ sequence q h) (λ e. e.ev_id ≤ v) (λ e up. omega arith) (events q h) (n.up_to is)) (λ _. n.up_to is);
+    }
+numbered _ (next {h = h} l (puts who p event i at o newest)) q =
+    let n : IsNumbered h q = numbered h l q in
+    let parts : Ordered 0 (events q (queued (put p event) ∷ h)) × (IsQueue h q → UpTo (sequence q h) (events q (queued (put p event) ∷ h))) =
+    by_same (λ b. (Ordered 0 (if b then events q h ++ event ∷ [] else events q h)) × (IsQueue h q → UpTo (sequence q h) (if b then events q h ++ event ∷ [] else events q h))) p q
+    (λ same. let id : event.ev_id ≡ sequence q h = at ∙ ap (λ x. sequence x h) same in (
+      Ordered-push 0 (events q h) event n.ordered (omega arith) (subst (λ x. UpTo x (events q h)) (sym id) (n.up_to (subst (IsQueue h) same i))),
+      λ is. All-push (λ e. e.ev_id ≤ sequence q h) (events q h) event (n.up_to is) (omega arith),
+    )) (λ _. (n.ordered, n.up_to)) in
+    record { ordered = parts.0; up_to = parts.1 }
+numbered _ (next {h = h} l (drops p none untold)) q =
+    let n : IsNumbered h q = numbered h l q in
+    record {
+      ordered = n.ordered;
+      up_to = λ is. subst (λ b. UpTo (if b then 0 else sequence q h) (events q h)) (sym (others-apart p (queues h) q is)) (n.up_to (others-among p (queues h) q is));
+    }
+numbered _ (next {h = h} l _) q = let n : IsNumbered h q = numbered h l q in record { ordered = n.ordered; up_to = n.up_to }
 
 -- so each has an id below the next one
-pub events_below-next : (h : History) → Legal h → (q : ℕ) → All (λ e. e.ev_id < sequence q h + 1) (events q h)
-events_below-next h l q = All-weaker (λ e. e.ev_id ≤ sequence q h) (λ e. e.ev_id < sequence q h + 1) (λ e up. omega arith) (events q h) (numbered h l q).1
+pub events_below-next : (h : History) → Legal h → (q : ℕ) → IsQueue h q → All (λ e. e.ev_id < sequence q h + 1) (events q h)
+events_below-next h l q is = All-weaker (λ e. e.ev_id ≤ sequence q h) (λ e. e.ev_id < sequence q h + 1) (λ e up. omega arith) (events q h) ((numbered h l q).up_to is)
 
 Ordered-less : (m n : ℕ) (es : List Event) → m ≤ n → Ordered n es → Ordered m es
 Ordered-less m n [] le o = tt
@@ -105,7 +129,7 @@ between : (to from undone own : Bool) → ((to && not undone) && not (from && no
 between to from undone own = grind arith
 
 -- the events of a batch, by places, are those that the snapshots of its ticks select
-pub batch_events-by_id : (h : History) → Legal h → (b : Batch) → batch_events h b ≡ by_id (selected (database_of h) b)
+pub batch_events-by_id : (h : History) → Legal h → (b : Batch) → batch_events h b ≡ by_id (selected_of (has_rolled_back h) (ticks b.queue h) (events b.queue h) b)
 batch_events-by_id h l b =
     ap (λ p. by_id (filter p (events b.queue h))) ((λ i e.
     committed_at_tick h l b.queue b.cur e.ev_txid i
@@ -114,6 +138,9 @@ batch_events-by_id h l b =
     ∙ (λ i e. between (sees (snapshot_at (tick b.cur (ticks b.queue h))) e.ev_txid) (sees (snapshot_at (tick b.prev (ticks b.queue h))) e.ev_txid)
     (has_rolled_back h e.ev_txid) (is_for b.sub e.ev_owner) i))
 
--- and while events are stored by ids that don't fall, these are in order
-pub batch_events-selected : (h : History) → Legal h → (b : Batch) → batch_events h b ≡ selected (database_of h) b
-batch_events-selected h l b = batch_events-by_id h l b ∙ by_id-ordered _ (Ordered-filter 0 _ (events b.queue h) (numbered h l b.queue).0)
+-- while events are stored by ids that don't fall, these are in order; and a queue that stands keeps them
+pub batch_events-selected : (h : History) → Legal h → (b : Batch) → IsQueue h b.queue → batch_events h b ≡ selected (database_of h) b
+batch_events-selected h l b is =
+    let all = whole h l b.queue is in
+    batch_events-by_id h l b ∙ by_id-ordered _ (Ordered-filter 0 _ (events b.queue h) (numbered h l b.queue).ordered)
+    ∙ (λ i. selected_of (has_rolled_back h) (sym all.all_ticks i) (sym all.all_events i) b)

@@ -1,17 +1,24 @@
 -- From what the world shows to what has happened.
-use Rattle.std.proofs.Common.{◌≡◌, ℕ, ℤ, List, [], ◌∷◌, nat_le, length, Option, Some, None, refl, sym, ◌∙◌, ap, if◌then◌else◌}
+use Rattle.std.proofs.Common.{◌≡◌, ℕ, zero, suc, ◌+◌, ℤ, ◌+ℤ◌, ◌-ℤ◌, int_lt, unsigned_abs, List, [], ◌∷◌, Bool, true, false, nat_le, length, Option, Some, None, refl, sym, ◌∙◌, ap, if◌then◌else◌}
 use Rattle.sky_model.specs.declared.stmt.Stmt.{Stmt}
 use Rattle.sky_model.specs.declared.reply.Reply.{Reply}
 use Rattle.sky_model.specs.declared.reply.Refusal.TheVariants.{TooMany}
 use Rattle.sky_model.specs.declared.reply.Limit.TheVariants.{Sessions, Databases}
-use Rattle.sky_keys.specs.Waits.{is_waiting}
 use Rattle.sky_names.specs.Places.{place_of}
-use Rattle.sky_model.specs.History.{entered, Past}
+use Rattle.sky_model.specs.History.{entered, within, clock_at, Past}
 use Rattle.sky_model.specs.World.{World, world_of, session_names, database_names, history_in, on_top, after_facts}
-use Rattle.sky_model.specs.Reader.{within_database, by_past, by_world, Deed, refuses, appears, founds, joined, followed}
-use Rattle.sky_model.specs.Calls.{database_turn, deed_in, opening, opens_in, opens, outside_does, is_leaving, left_if, session_does, turn, Call, called, does, after, world_part, past_of, answers_of}
+use Rattle.sky_model.specs.Reader.{within_database, by_past, by_world, Deed, answers_with, refuses, appears, founds, idles, joined, followed}
+use Rattle.sky_model.specs.declared.daemon.DaemonPart.{DaemonPart}
+use Rattle.sky_model.specs.declared.daemon.DaemonPart.TheVariants.{Tick, Retry, Maintain}
+use Rattle.sky_model.specs.declared.stmt.Stmt.TheVariants.{Clock}
+use Rattle.sky_model.specs.declared.reply.Reply.TheVariants.{Moment}
+use Rattle.sky_model.specs.declared.reply.Refusal.TheVariants.{ClockSpent}
+use Rattle.sky_model.specs.Daemon.{is_due_at, next_due}
+use Rattle.sky_model.specs.Clock.{deed_in, part_works, daemon_works, daemons_work, at_moment, goes_to, through, last_moment, clock, waits_at}
+use Rattle.sky_model.specs.Calls.{database_turn, opening, opens_in, opens, outside_does, beside, session_does, turn, Call, called, does, after, world_part, past_of, answers_of}
 use Rattle.sky_model.specs.Steps.{IsCallInForm, Steps, deed_at, answers_at, after_call}
-use Rattle.sky_model.proofs.Marks.{world_of-facts}
+use Rattle.sky_model.proofs.Marks.{world_of-fact, world_of-facts}
+use Rattle.sky_model.proofs.DaemonTurns.{same-daemon_does}
 use Rattle.sky_model.proofs.Histories.{AllLegal, same-turn-within, legal_past}
 use Rattle.sky_model.proofs.Promised.{promised}
 use Rattle.sky_model.proofs.RowStanding.{turn-within}
@@ -46,9 +53,54 @@ same-outside past all who stmt (Some name) = same-opens past all who stmt name (
 same-session : (past : Past) → AllLegal past → (who : ℕ) (stmt : Stmt) (at : Option ℕ) → session_does by_past past who stmt at ≡ session_does by_world (world_of past) who stmt at
 same-session past all who stmt None = same-outside past all who stmt (opening stmt)
 same-session past all who stmt (Some d) =
-    ap (deed_in d (left_if who (is_leaving (is_waiting who ((world_of past).database d).part.waiting) stmt))) (same-database_turn past all d (world_of past).now who stmt)
+    ap (deed_in d (beside (world_of past) who stmt d)) (same-database_turn past all d (world_of past).now who stmt)
+
+-- ---- the clock
+
+-- a deed and one behind it
+same-both : (past : Past) (rest : Past → Deed) (rest_shown : World → Deed) (deed deed_shown : Deed) → deed ≡ deed_shown → ((later : Past) → rest later ≡ rest_shown (world_of later))
+    → followed by_past past rest deed ≡ followed by_world (world_of past) rest_shown deed_shown
+same-both past rest rest_shown deed deed_shown one same =
+    ap (joined deed) (same (on_top past deed.facts) ∙ ap rest_shown (world_of-facts past deed.facts)) ∙ ap (λ x. followed by_world (world_of past) rest_shown x) one
+
+same-part : (d : ℕ) (part : DaemonPart) (past : Past) → part_works by_past d part past ≡ part_works by_world d part (world_of past)
+same-part d part past =
+    ap (λ turn. if is_due_at (world_of past).now part ((world_of past).daemons d) then deed_in d [] turn else idles)
+    (same-daemon_does (within_database by_past d) (within_database by_world d) world_of (λ p. refl) (λ p mark. world_of-fact p (within d mark)) past part (world_of past).now)
+
+same-daemon : (d : ℕ) (past : Past) → daemon_works by_past d past ≡ daemon_works by_world d (world_of past)
+same-daemon d past =
+    same-both past (λ q. followed by_past q (part_works by_past d Maintain) (part_works by_past d Retry q)) (λ q. followed by_world q (part_works by_world d Maintain) (part_works by_world d Retry q)) _ _ (same-part d Tick past)
+    (λ p. same-both p (part_works by_past d Maintain) (part_works by_world d Maintain) _ _ (same-part d Retry p) (same-part d Maintain))
+
+same-daemons : (n d : ℕ) (past : Past) → daemons_work by_past n d past ≡ daemons_work by_world n d (world_of past)
+same-daemons zero d past = refl
+same-daemons (suc n) d past = same-both past (daemons_work by_past n (d + 1)) (daemons_work by_world n (d + 1)) _ _ (same-daemon d past) (same-daemons n (d + 1))
+
+same-moment : (moment : ℤ) (past : Past) → at_moment by_past moment past ≡ at_moment by_world moment (world_of past)
+same-moment moment past =
+    same-both past (λ q. daemons_work by_past (length (world_of q).databases) 0 q) (λ (w : World). daemons_work by_world (length w.databases) 0 w) (record { answers = []; facts = clock_at moment ∷ [] }) _ refl (λ p. same-daemons (length (world_of p).databases) 0 p)
+
+same-goes : (last : ℤ) (rest : Past → Deed) (rest_shown : World → Deed) (past : Past) (o : Option ℤ) → ((later : Past) → rest later ≡ rest_shown (world_of later))
+    → goes_to by_past last rest past o ≡ goes_to by_world last rest_shown (world_of past) o
+same-goes last rest rest_shown past None same = refl
+same-goes last rest rest_shown past (Some moment) same = ap (λ deed. if int_lt last moment then idles else deed) (same-both past rest rest_shown _ _ (same-moment moment past) same)
+
+same-through : (last : ℤ) (n : ℕ) (past : Past) → through by_past last n past ≡ through by_world last n (world_of past)
+same-through last zero past = refl
+same-through last (suc n) past =
+    same-goes last (through by_past last n) (through by_world last n) past (next_due (world_of past).now (world_of past).daemons (length (world_of past).databases)) (same-through last n)
+
+same-clock : (past : Past) (who : ℕ) (time : ℤ) (waits : Bool) → clock by_past past who time waits ≡ clock by_world (world_of past) who time waits
+same-clock past who time true = refl
+same-clock past who time false =
+    let to : ℤ = (world_of past).now +ℤ time in
+    ap (λ deed. if int_lt last_moment to then refuses who ClockSpent else deed)
+    (same-both past (λ q. answers_with who (Moment to) (clock_at to ∷ [])) (λ q. answers_with who (Moment to) (clock_at to ∷ [])) _ _
+    (same-through to (unsigned_abs (to -ℤ (world_of past).now)) past) (λ later. refl))
 
 same-turn : (past : Past) → AllLegal past → (who : ℕ) (stmt : Stmt) → turn by_past who stmt past ≡ turn by_world who stmt (world_of past)
+same-turn past all who (Clock time) = same-clock past who time (waits_at (world_of past) who ((world_of past).homes who))
 same-turn past all who stmt = same-session past all who stmt ((world_of past).homes who)
 
 same-called : (past : Past) → AllLegal past → (call : Call) (found : Option ℕ) → called by_past past call found ≡ called by_world (world_of past) call found

@@ -1,5 +1,5 @@
 -- Which marks statements leave, once for every test of marks and every property of answers.
-use Rattle.std.proofs.Common.{◌≡◌, ℕ, zero, suc, ℤ, ◌+◌, List, [], ◌∷◌, ◌++◌, Bool, true, false, ◌==◌, Option, Some, None, Ok, Err, IfOk, is_some, length, refl, sym, subst, arith, if◌then◌else◌, not, ◌&&◌}
+use Rattle.std.proofs.Common.{◌≡◌, ℕ, zero, suc, ℤ, ◌+◌, ◌^◌, nat_le, List, [], ◌∷◌, ◌++◌, Bool, true, false, ◌==◌, Option, Some, None, Ok, Err, IfOk, is_some, length, refl, sym, subst, arith, if◌then◌else◌, not, ◌&&◌}
 use Rattle.std.proofs.lemmas.List.Elements.{All-cons, All-append}
 use Rattle.sky_val.specs.declared.val.Val.{Val}
 use Rattle.sky_keys.specs.Waits.{Waiting, other_holder, is_waiting}
@@ -9,25 +9,25 @@ use Rattle.sky_model.specs.declared.stmt.Attempt.TheVariants.{Insertion, Changes
 use Rattle.sky_model.specs.declared.stmt.RowStmt.{RowStmt}
 use Rattle.sky_model.specs.declared.stmt.RowStmt.TheVariants.{OpenDb, Close, Cancel, Begin, BeginRepeatableRead, Commit, Rollback, TxidCurrent, TxidCurrentSnapshot, TxidVisibleInSnapshot, CreateTable, Insert, Update, Delete, Get, Scan}
 use Rattle.sky_model.specs.declared.stmt.Stmt.{Stmt}
-use Rattle.sky_model.specs.declared.stmt.Stmt.TheVariants.{Row, CreateQueue, InsertEvent, Ticker, ForceTick, RegisterConsumer, NextBatch, GetBatchEvents, FinishBatch, AddTrigger}
+use Rattle.sky_model.specs.declared.stmt.Stmt.TheVariants.{Row, CreateQueue, SetQueueConfig, QueueInfo, InsertEvent, Ticker, ForceTick, RegisterConsumer, NextBatch, GetBatchEvents, FinishBatch, AddTrigger, Clock, PgqdOn, PgqdOff}
 use Rattle.sky_model.specs.declared.stmt.Where.{Where}
 use Rattle.sky_model.specs.declared.reply.Reply.{Reply}
 use Rattle.sky_model.specs.declared.reply.Reply.TheVariants.{Refused}
 use Rattle.sky_model.specs.declared.reply.Refusal.{Refusal}
-use Rattle.sky_model.specs.declared.reply.Refusal.TheVariants.{Canceled}
-use Rattle.sky_model.specs.History.{Batch, Mark, QueueMark, of_session, connected, disconnected, looked, block_failed, tabled, wrote, waits, waited, queued, raised, put}
+use Rattle.sky_model.specs.declared.reply.Refusal.TheVariants.{Canceled, IdsSpent}
+use Rattle.sky_model.specs.History.{Batch, Mark, QueueMark, of_session, connected, disconnected, looked, block_failed, tabled, wrote, waits, waited, queued, raised, put, ticked}
 use Rattle.sky_model.specs.Queues.{Tick, tick}
 use Rattle.sky_model.specs.Consumers.{Subscription}
 use Rattle.sky_model.specs.Sessions.{Block, outside, inside, failed, Session}
 use Rattle.sky_model.specs.State.{RowPart, Database, after_mark, after_marks}
 use Rattle.sky_model.specs.ShownRows.{KeyShown, RowsShown}
-use Rattle.sky_model.specs.Outcome.{Outcome, Checked, marks_of, ◌>>=◌, ◌>>◌, does_marks, end_of, aborts, abort, settled}
+use Rattle.sky_model.specs.Outcome.{Outcome, Checked, marks_of, ◌>>=◌, ◌>>◌, refused_if, does_marks, end_of, aborts, abort, settled}
 use Rattle.sky_model.specs.OwnTransaction.{begin_of, commit_of, written}
 use Rattle.sky_model.specs.StepLocks.{once_free}
 use Rattle.sky_model.specs.StepSession.{open_db, begin, begin_repeatable_read, leaves, commit, rollback, close, cancel}
 use Rattle.sky_model.specs.SessionMarks.{failure}
 use Rattle.sky_model.specs.StepRows.{writes_key, changes, attempts, row_or_none}
-use Rattle.sky_model.specs.StepQueue.{next_event_id}
+use Rattle.sky_model.specs.StepQueue.{queue_called, next_event_id, next_tick, is_due, newest_id}
 use Rattle.sky_model.specs.StepConsumer.{opens_batch, takes_batch, finishes}
 use Rattle.sky_model.specs.Telling.{events_in, told_event, event_marks, told_by, told_of, with_told, tells}
 use Rattle.sky_model.specs.Printed.{ReplyHasMoments, HaveMoments}
@@ -292,6 +292,13 @@ module _ (p : Mark → Bool) (of_queues : (mark : QueueMark) → p (queued mark)
       each-first p mark marks (told ++ rest) all (each-append p told rest (IfOk-at_ok (EachMark p) same (each-told_of (after_mark d mark) now mark))
       (IfOk-at_ok (EachMark p) is (each-with_told (after_marks d (mark ∷ told)) now marks (each-rest p mark marks all))))))
 
+  -- a tick that is due, where it isn't refused
+  pub gives-tick : (d : Database) (now : ℤ) (queue : ℕ) → Gives AnyReply p (next_tick d now queue)
+  gives-tick d now queue =
+      either AnyReply p (is_due now (d.queue queue)) _ _
+      (after AnyReply p (refused_if (nat_le (2 ^ 64) (newest_id (d.queue queue) + 1)) IdsSpent) _
+      (tt, each-front p (queued (ticked queue (newest_id (d.queue queue) + 1) now (d.queue queue).seq)) [] (of_queues _) tt)) (tt, tt)
+
   -- a statement does the same once its writes are told of
   pub gives-tells : (R : Reply → Type 0) (d : Database) (now : ℤ) (c : Checked Outcome) → Gives R p c → Gives R p (tells d now c)
   gives-tells R d now (Err refusal) given = tt
@@ -337,14 +344,19 @@ module _ (who : ℕ) where
       also (queued mark) e = refl
       also _ e = e
   gives-form d shown now (CreateQueue name) = search (either, after, checked, each-append, left-written) depth 8
+  gives-form d shown now (SetQueueConfig name param value) = search (checked) depth 8
+  gives-form d shown now (QueueInfo name) = search (checked)
   gives-form d shown now (InsertEvent name ev_type ev_data extra) = search (checked, left-written) depth 8
-  gives-form d shown now (Ticker name) = search (checked, either, after)
+  gives-form d shown now (Ticker name) = checked AnyReply _ (queue_called name d) _ (gives-tick (may_leave (record no_more { queues = true }) who) (λ mark. refl) d now)
   gives-form d shown now (ForceTick name) = search (checked, after)
   gives-form d shown now (RegisterConsumer name consumer) = search (checked, after, either) depth 8
   gives-form d shown now (NextBatch name consumer) = search (checked, after, gives-takes) depth 8
   gives-form d shown now (GetBatchEvents batch) = search (checked)
   gives-form d shown now (FinishBatch batch) = gives-finishes (d.batch batch)
   gives-form d shown now (AddTrigger name table queue backup ignored) = search (checked, after) depth 8
+  gives-form d shown now (Clock time) = (tt, tt)
+  gives-form d shown now PgqdOn = (tt, tt)
+  gives-form d shown now PgqdOff = (tt, tt)
 
 -- ---- what is settled of it, and what goes on
 

@@ -1,5 +1,5 @@
 -- A word of a kind is whole, and what it is worth is what a word of that kind can be worth.
-use Rattle.std.proofs.Common.{◌≡◌, ℕ, zero, suc, ◌+◌, ◌-◌, ◌^◌, ◌<◌, ◌≤◌, ◌==◌, pos, Bool, true, false, not, ◌&&◌, cond, List, [], ◌∷◌, length, take, drop, Option, Some, None, IfSome, option_map, refl, sym, ap, ◌∙◌, arith, codes, bytes_eq, nat_le, FitsSigned, w64, take-append-drop}
+use Rattle.std.proofs.Common.{◌≡◌, ℕ, zero, suc, ◌+◌, ◌-◌, ◌^◌, ◌<◌, ◌≤◌, ◌==◌, pos, Bool, true, false, not, ◌&&◌, cond, List, [], ◌∷◌, length, take, drop, Option, Some, None, IfSome, option_map, refl, sym, ap, ◌∙◌, arith, codes, bytes_eq, nat_le, FitsSigned, w64, take-append-drop, subst, T}
 use Rattle.std.proofs.lemmas.Bool.{and_parts, and_from, eqb-true, leb-true}
 use Rattle.std.proofs.lemmas.Bool.Decides.{nat_tests}
 use Rattle.std.proofs.lemmas.List.Elements.{All-weaker}
@@ -14,7 +14,8 @@ use Rattle.sky_val.specs.declared.val.Val.TheVariants as val
 use Rattle.sky_val.specs.declared.column.ColKind.{ColKind}
 use Rattle.sky_model.specs.declared.stmt.Change.{Change}
 use Rattle.sky_model.specs.declared.stmt.Change.TheVariants.{To, Add}
-use Rattle.sky_model.specs.Kinds.{Kind, Name, Dotted, Number, OptText, Raw, Value, Column, Set, Ignore, value, is_bare, is_bare_word, raw, is_name, is_dotted, first_place, value_of, column_kind, column_around, set_as, set_by, set_around, between_commas, ignore_of, is_text_byte, text_from, in_characters, quoted_text, opt_text}
+use Rattle.sky_val.specs.Intervals.{interval_of}
+use Rattle.sky_model.specs.Kinds.{Kind, Name, Dotted, Number, OptText, Raw, Value, Column, Set, Ignore, Advance, longest_advance, value, is_bare, is_bare_word, raw, is_name, is_dotted, first_place, value_of, column_kind, column_around, set_as, set_by, set_around, between_commas, ignore_of, is_text_byte, text_from, in_characters, quoted_text, opt_text, advance_by, advance_in, advance_of}
 use Rattle.sky_model.specs.InForm.{IsQuotable, IsOptText, IsValue, IsChange, IsOf}
 use Rattle.sky_model.proofs.Cases.{if_cond, if_only, if_map, if_then, if_or}
 use Rattle.sky_model.proofs.WholeWords.{whole, whole-append, whole-is_number, whole-is_bare_word, whole-is_name, whole-is_dotted, whole-around, whole-last, continues_all-is_name, whole-between_commas}
@@ -157,6 +158,22 @@ ignored w =
       (some_between behind, AllPass-from_list_all is_name (between_commas behind) are),
     )))
 
+-- ---- how far the clock moves
+
+bounded : (P : Type 0) (o : Option ℕ) → P → IfSome (advance_by o) (λ time. P × IsOf Advance time)
+bounded P None t = tt
+bounded P (Some time) t =
+    if_only _ (nat_le 1 time && nat_le time longest_advance) _ (λ is.
+    let parts = and_parts (nat_le 1 time) (nat_le time longest_advance) is in
+    (t, (record { le = subst T (sym parts.0) tt }, record { le = subst T (sym parts.1) tt })))
+
+advanced : (T : Type 0) (text : List ℕ) → T → IfSome (advance_in text) (λ time. T × IsOf Advance time)
+advanced T [] t = tt
+advanced T (b ∷ bs) t = if_only _ (b == 43) _ (λ _. bounded T (interval_of bs) t)
+
+advances : (w : List ℕ) → IfSome (advance_of w) (λ time. IsWhole w × IsOf Advance time)
+advances w = if_then _ advance_in (raw w) (IfSome_then (raw w) (raws w) (λ text it. advanced (IsWhole w) text it.0))
+
 -- ---- any kind
 
 pub worth : (k : Kind) (w : List ℕ) → IfSome (value k w) (λ v. IsWhole w × IsOf k v)
@@ -169,3 +186,4 @@ worth Value w = values w
 worth Column w = columns w (first_place 58 w) refl
 worth Set w = sets_around w (first_place 61 w) refl
 worth Ignore w = ignored w
+worth Advance w = advances w

@@ -8,7 +8,7 @@ use Rattle.sky_model.specs.Moment.{moment, day_after, last_digits}
 use Rattle.sky_model.specs.Transcript.{transcript, bad_line}
 
 -- a script of lines, each ended
-abbrev script : List (List ℕ) → List ℕ
+abbrev pub script : List (List ℕ) → List ℕ
 script lines = flat_map (λ line. line ++ 10 ∷ []) lines
 
 -- the script of these lines is good, and prints those

@@ -19,7 +19,7 @@ use Rattle.sky_model.specs.Settling.{Turn, turn_of, behind_marks, marked, and_th
 use Rattle.sky_model.specs.Calls.{row_form, form, making, statement, turn}
 use Rattle.sky_model.specs.SessionMarks.{look_of, failure, entry_place, enters, failing}
 use Rattle.sky_model.specs.Promises.{after_all}
-use Rattle.sky_model.specs.DatabaseCalls.{DatabaseCall, stepped, entered, failed as failed_call, database_does, database_part}
+use Rattle.sky_model.specs.DatabaseCalls.{DatabaseCall, stepped, entered, failed as failed_call, worked, database_does, database_part}
 use Rattle.sky_model.specs.LawsOfWrites.{IsTold, WritesAreTold}
 use Rattle.sky_model.proofs.Marks.{database_of-mark, database_of-marks}
 use Rattle.sky_model.proofs.Lawful.{database-reads, past-behind}
@@ -31,6 +31,8 @@ use Rattle.sky_model.proofs.Resting.{behind-append}
 use Rattle.sky_model.proofs.Inserted.{Inserted, none, with_raised, with_put}
 use Rattle.sky_model.proofs.Telling.{EventMarks, told_by-events}
 use Rattle.std.proofs.lemmas.Bool.{cond_both}
+use Rattle.sky_model.specs.Daemon.{daemon_does}
+use Rattle.sky_model.proofs.DaemonTurns.{each-daemon_does}
 
 -- the first of a list, and the rest
 abbrev pub first : Mark → List Mark → Mark
@@ -129,9 +131,10 @@ form-told : (h : History) → AllTold h → (now : ℤ) (who : ℕ) (stmt : Stmt
 form-told h told now who (Row stmt) = tells-told h told now who (session h who) (row_form (part_of h) (rows_in h) who stmt)
 form-told h told now who stmt =
     let k : Kinds = kinds (has_open who h) stmt in
-    plain-told h (settled who (session h who) (form (database_of h) (shown_in h) now who stmt)).marks
-    (given-settled AnyReply is_no_write (λ _. tt) (plain-if no_more refl) who (session h who) _
-    (gives-map AnyReply AnyReply (may_leave k who) is_no_write (λ reply any. any) (plain-if k refl who) _ (gives-form who (database_of h) (shown_in h) now stmt))).1 told
+    let done : Checked Outcome = form (database_of h) (shown_in h) now who stmt in
+    plain-told h (settled who (session h who) done).marks
+    (given-settled AnyReply is_no_write (λ _. tt) (plain-if no_more refl) who (session h who) done
+    (gives-map AnyReply AnyReply (may_leave k who) is_no_write (λ reply any. any) (plain-if k refl who) done (gives-form who (database_of h) (shown_in h) now stmt))).1 told
 
 runs-told : (h : History) → AllTold h → (now : ℤ) (who : ℕ) (stmt : Stmt) (may : Checked (Unit {0})) → AllTold (marked h (runs_if (making database_by_history now who stmt) (where_of stmt) who h may).marks)
 runs-told h told now who stmt (Err refusal) = plain-told h (abort who (session h who).block (session h who).txid refusal) (plain-abort who (session h who).block (session h who).txid refusal) told
@@ -182,6 +185,8 @@ does-told : (h : History) → AllTold h → (call : DatabaseCall) → AllTold (m
 does-told h told (stepped who stmt now) = with_settling-told now h (turn_of who (statement database_by_history h now who stmt)) (statement-told h told now who stmt)
 does-told h told (entered who alone) =
     enters-told h told who (takes_sight (entry_place alone) (session h who).sight) (allowed (is_waiting who (waiting h)) (has_open who h) (block who h) (entry_place alone))
+does-told h told (worked part now) =
+    plain-told h (daemon_does database_by_history h part now).marks (each-daemon_does is_no_write (λ mark. refl) database_by_history h part now) told
 does-told h told (failed_call who now) =
     with_settling-told now h (failing (part_of h) who) (plain-told h (failure who (own_txid who h) (block who h)) (each-failure AnyReply is_no_write (λ _. tt) (plain-if no_more refl) who (own_txid who h) (block who h)) told)
 

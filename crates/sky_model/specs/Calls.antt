@@ -1,23 +1,24 @@
 -- What a call does: a statement of a session, with all that it causes.
-use Rattle.std.specs.Prelude.{ℕ, ℤ, Bool, true, false, List, [], ◌∷◌, ◌++◌, Option, Some, None, not, nat_le, length, map, if◌then◌else◌}
+use Rattle.std.specs.Prelude.{ℕ, ℤ, Bool, true, false, List, [], ◌∷◌, ◌++◌, Option, Some, None, not, is_ok, nat_le, length, if◌then◌else◌}
 use Rattle.sky_model.specs.declared.stmt.Stmt.{Stmt}
 use Rattle.sky_model.specs.declared.stmt.RowStmt.{RowStmt}
 use Rattle.sky_model.specs.declared.stmt.RowStmt.TheVariants.{OpenDb, Close, Cancel, Begin, BeginRepeatableRead, Commit, Rollback, TxidCurrent, TxidCurrentSnapshot, TxidVisibleInSnapshot, CreateTable, Insert, Update, Delete, Get, Scan}
-use Rattle.sky_model.specs.declared.stmt.Stmt.TheVariants.{Row, CreateQueue, InsertEvent, Ticker, ForceTick, RegisterConsumer, NextBatch, GetBatchEvents, FinishBatch, AddTrigger}
+use Rattle.sky_model.specs.declared.stmt.Stmt.TheVariants.{Row, CreateQueue, SetQueueConfig, QueueInfo, InsertEvent, Ticker, ForceTick, RegisterConsumer, NextBatch, GetBatchEvents, FinishBatch, AddTrigger, Clock, PgqdOn, PgqdOff}
 use Rattle.sky_model.specs.declared.reply.Reply.{Reply}
-use Rattle.sky_model.specs.declared.reply.Reply.TheVariants.{NotWaiting, Refused}
+use Rattle.sky_model.specs.declared.reply.Reply.TheVariants.{Done, NotWaiting, Refused}
 use Rattle.sky_model.specs.declared.reply.Limit.TheVariants.{Sessions, Databases}
 use Rattle.sky_model.specs.declared.reply.Refusal.TheVariants.{TooMany, NotOpen}
 use Rattle.sky_keys.specs.Waits.{is_waiting}
 use Rattle.sky_names.specs.Places.{place_of}
 use Rattle.sky_model.specs.Limits.{most_of}
-use Rattle.sky_model.specs.History.{Fact, entered, left, within, Past}
+use Rattle.sky_model.specs.History.{Fact, entered, left, daemon_on, daemon_off, Past}
 use Rattle.sky_model.specs.State.{RowPart, Database}
 use Rattle.sky_model.specs.ShownRows.{RowsShown}
-use Rattle.sky_model.specs.Outcome.{Outcome, Checked}
-use Rattle.sky_model.specs.Allowed.{where_of_row, where_of}
+use Rattle.sky_model.specs.Outcome.{Outcome, Checked, answers}
+use Rattle.sky_model.specs.Allowed.{where_of_row, where_of, allowed}
+use Rattle.sky_model.specs.Clock.{deed_in, clock, waits_at}
 use Rattle.sky_model.specs.Made.{Making, made_by}
-use Rattle.sky_model.specs.StepQueue.{create_queue, insert_event, ticker, force_tick}
+use Rattle.sky_model.specs.StepQueue.{create_queue, set_queue_config, queue_info, insert_event, ticker, force_tick}
 use Rattle.sky_model.specs.StepSession.{open_db, begin, begin_repeatable_read, commit, rollback, close, cancel, txid_current, txid_current_snapshot, txid_visible_in_snapshot}
 use Rattle.sky_model.specs.StepRows.{create_table, insert, update, delete, get, scan}
 use Rattle.sky_model.specs.StepTrigger.{add_trigger}
@@ -47,18 +48,23 @@ row_form d shown who (Delete table key) = delete d shown who table key
 row_form d shown who (Get table key) = get d shown who table key
 row_form d shown who (Scan table) = scan d shown who table
 
--- what a statement does that its session may make
+-- what a statement does that its session may make; the clock and the daemons are the world's, which says below what becomes of them
 abbrev pub form : Database → Shown → ℤ → ℕ → Stmt → Checked Outcome
 form d shown now who (Row stmt) = tells d now (row_form d.part shown.rows who stmt)
 form d shown now who (CreateQueue queue) = create_queue d now who queue
+form d shown now who (SetQueueConfig queue param value) = set_queue_config d queue param value
+form d shown now who (QueueInfo queue) = queue_info d queue
 form d shown now who (InsertEvent queue ev_type ev_data extra) = insert_event d now who queue ev_type ev_data extra
 form d shown now who (Ticker queue) = ticker d now queue
 form d shown now who (ForceTick queue) = force_tick d queue
 form d shown now who (RegisterConsumer queue consumer) = register_consumer d queue consumer
 form d shown now who (NextBatch queue consumer) = next_batch d queue consumer
-form d shown now who (GetBatchEvents batch) = get_batch_events d shown.events batch
+form d shown now who (GetBatchEvents batch) = get_batch_events shown.events batch
 form d shown now who (FinishBatch batch) = finish_batch d batch
 form d shown now who (AddTrigger name table queue backup ignored) = add_trigger d name table queue backup ignored
+form d shown now who (Clock time) = answers Done
+form d shown now who PgqdOn = answers Done
+form d shown now who PgqdOff = answers Done
 
 -- a statement on rows, at a place of its database's row part
 abbrev pub row_making : {P : Type 0} → PartReader P → ℕ → RowStmt → Making P
@@ -91,10 +97,6 @@ statement r p now who stmt = made_by (making r now who stmt) (where_of stmt) who
 -- with those that it lets go on
 abbrev pub database_turn : {P : Type 0} → DatabaseReader P → P → ℤ → ℕ → Stmt → Turn
 database_turn r p now who stmt = with_settling (within_part r now) p (turn_of who (statement r p now who stmt))
-
--- what is done in a database, and what this changes in the world
-abbrev pub deed_in : ℕ → List Fact → Turn → Deed
-deed_in d facts turn = record { answers = turn.answers; facts = map (within d) turn.marks ++ facts }
 
 -- the name of the database that a statement is to open
 abbrev pub opening : Stmt → Option (List ℕ)
@@ -132,15 +134,31 @@ abbrev pub left_if : ℕ → Bool → List Fact
 left_if who true = left who ∷ []
 left_if who false = []
 
+-- whether a session may make a statement where it stands
+abbrev pub may_make : Database → ℕ → Stmt → Bool
+may_make d who stmt = is_ok (allowed (is_waiting who d.part.waiting) (d.part.session who).is_open (d.part.session who).block (where_of stmt))
+
+-- the daemon of a database, which is on since a moment or off, is put on or off by a statement that its session may make
+abbrev pub of_daemon_if : Bool → ℕ → Option ℤ → Stmt → List Fact
+of_daemon_if true d None PgqdOn = daemon_on d ∷ []
+of_daemon_if true d start PgqdOff = daemon_off d ∷ []
+of_daemon_if _ d start stmt = []
+
+-- what a statement changes in the world beside its database
+abbrev pub beside : World → ℕ → Stmt → ℕ → List Fact
+beside w who stmt d =
+    left_if who (is_leaving (is_waiting who (w.database d).part.waiting) stmt)
+    ++ of_daemon_if (may_make (w.database d) who stmt) d (w.daemons d) stmt
+
 -- a statement of a session, by the database that it has open
 abbrev pub session_does : {P : Type 0} → Reader P → P → ℕ → Stmt → Option ℕ → Deed
 session_does r p who stmt None = outside_does r p who stmt (opening stmt)
 session_does r p who stmt (Some d) =
-    deed_in d (left_if who (is_leaving (is_waiting who ((r.world p).database d).part.waiting) stmt))
-    (database_turn (within_database r d) p (r.world p).now who stmt)
+    deed_in d (beside (r.world p) who stmt d) (database_turn (within_database r d) p (r.world p).now who stmt)
 
 -- a turn: what a statement of a session does at a place
 abbrev pub turn : {P : Type 0} → Reader P → ℕ → Stmt → P → Deed
+turn r who (Clock time) p = clock r p who time (waits_at (r.world p) who ((r.world p).homes who))
 turn r who stmt p = session_does r p who stmt ((r.world p).homes who)
 
 -- a statement of a session, by its name

@@ -8,7 +8,7 @@ use Rattle.sky_model.specs.declared.line.Line.TheVariants.{Blank, Run}
 use Rattle.sky_model.specs.declared.line.Fixed.{Fixed}
 use Rattle.sky_model.specs.declared.line.Fixed.TheVariants as fixed
 use Rattle.sky_model.specs.Words.{words}
-use Rattle.sky_model.specs.Kinds.{Kind, Name, Dotted, Number, OptText, Raw, Value, Column, Set, Ignore, Of, value}
+use Rattle.sky_model.specs.Kinds.{Kind, Name, Dotted, Number, OptText, Raw, Value, Column, Set, Ignore, Advance, Of, value}
 
 -- ---- what may follow in a line
 
@@ -47,6 +47,8 @@ text_of fixed.Read = codes "read"
 text_of fixed.Table = codes "table"
 text_of fixed.Set = codes "set"
 text_of fixed.Backup = codes "backup"
+text_of fixed.On = codes "on"
+text_of fixed.Off = codes "off"
 
 -- ---- the statement forms: of each its first word, and what follows it
 
@@ -101,6 +103,8 @@ add_trigger =
 abbrev pub queue_forms : List (List ℕ × Row)
 queue_forms =
     (codes "create_queue", last Name (λ queue. stmt.CreateQueue queue))
+    ∷ (codes "set_queue_config", one Name (λ queue. one Raw (λ param. last Raw (λ value. stmt.SetQueueConfig queue param value))))
+    ∷ (codes "queue_info", last Name (λ queue. stmt.QueueInfo queue))
     ∷ (codes "insert_event", insert_event)
     ∷ (codes "add_trigger", add_trigger)
     ∷ (codes "ticker", last Name (λ queue. stmt.Ticker queue))
@@ -111,9 +115,16 @@ queue_forms =
     ∷ (codes "finish_batch", last (Number (2 ^ 64 - 1)) (λ batch. stmt.FinishBatch batch))
     ∷ []
 
+-- on the clock and the daemon
+abbrev pub clock_forms : List (List ℕ × Row)
+clock_forms =
+    (codes "clock", last Advance (λ time. stmt.Clock time))
+    ∷ (codes "pgqd", either (literal fixed.On (stop stmt.PgqdOn)) (literal fixed.Off (stop stmt.PgqdOff)))
+    ∷ []
+
 -- every form
 abbrev pub all_forms : List (List ℕ × Row)
-all_forms = session_forms ++ row_forms ++ queue_forms
+all_forms = session_forms ++ row_forms ++ queue_forms ++ clock_forms
 
 -- the row of the first form with this first word, in a list of at most one
 abbrev pub named_form : List ℕ → List (List ℕ × Row) → List Row

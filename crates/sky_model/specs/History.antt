@@ -6,6 +6,7 @@ use Rattle.sky_val.specs.declared.val.Val.{Val}
 use Rattle.sky_val.specs.declared.column.Column.{Column}
 use Rattle.sky_urlenc.specs.RowEvents.{Trigger}
 use Rattle.sky_model.specs.declared.stmt.Attempt.{Attempt}
+use Rattle.sky_model.specs.Config.{Config}
 
 -- a batch: a consumer's, from one tick of its queue to another
 pub record Batch : Type 0 where
@@ -32,6 +33,10 @@ pub data QueueMark : Type 0 where
   opened : (batch : Batch) → QueueMark
   -- a batch was finished
   closed : (batch : Batch) → QueueMark
+  -- a queue is set so from now on
+  configured : (queue : ℕ) (config : Config) → QueueMark
+  -- a queue was dropped
+  dropped : (queue : ℕ) → QueueMark
   -- a table got a trigger, which may have a name: its writes are told of by events of a queue
   traced : (table : ℕ) (name : Option (List ℕ)) (trigger : Trigger) → QueueMark
 
@@ -91,6 +96,11 @@ pub data Fact : Type 0 where
   left : (who : ℕ) → Fact
   -- something happened in a database
   within : (database : ℕ) (mark : Mark) → Fact
+  -- the clock stands at a moment
+  clock_at : (moment : ℤ) → Fact
+  -- a database's daemon is on, from this moment on; it is off
+  daemon_on : (database : ℕ) → Fact
+  daemon_off : (database : ℕ) → Fact
 
 -- what happened everywhere
 abbrev pub Past : Type 0

@@ -1,5 +1,5 @@
 -- What a word of a kind can be worth, and so which statements a line can have: those in form.
-use Rattle.std.specs.Prelude.{◌≡◌, ℕ, ◌-◌, ◌^◌, ◌<◌, ◌≤◌, true, List, length, Option, Some, None, IsUtf8, All, FitsSigned, ⊤}
+use Rattle.std.specs.Prelude.{◌≡◌, ℕ, ◌-◌, ◌^◌, ◌<◌, ◌≤◌, pos, ◌≤ℤ◌, true, List, length, Option, Some, None, IsUtf8, All, FitsSigned, ⊤}
 use Rattle.std.specs.Int.{w64}
 use Rattle.sky_val.specs.declared.val.Val.{Val}
 use Rattle.sky_val.specs.declared.val.Val.TheVariants.{Null, Int, Text}
@@ -12,7 +12,7 @@ use Rattle.sky_model.specs.declared.stmt.Stmt.{Stmt}
 use Rattle.sky_model.specs.declared.stmt.Stmt.TheVariants as stmt
 use Rattle.sky_model.specs.declared.line.Line.{Line}
 use Rattle.sky_model.specs.declared.line.Line.TheVariants.{Blank, Run}
-use Rattle.sky_model.specs.Kinds.{Kind, Name, Dotted, Number, OptText, Raw, Value, Column, Set, Ignore, Of, is_name, is_dotted, is_text_byte}
+use Rattle.sky_model.specs.Kinds.{Kind, Name, Dotted, Number, OptText, Raw, Value, Column, Set, Ignore, Advance, Of, is_name, is_dotted, is_text_byte, longest_advance}
 
 -- ---- what a word of a kind can be worth
 
@@ -48,6 +48,7 @@ IsOf Value v = IsValue v
 IsOf Column column = is_name column.name ≡ true
 IsOf Set set = (is_name set.column ≡ true) × IsChange set.change
 IsOf Ignore names = (0 < length names) × All (λ name. is_name name ≡ true) names
+IsOf Advance time = (pos 1 ≤ℤ time) × (time ≤ℤ pos longest_advance)
 
 -- what one word or more can be worth
 abbrev pub AreOf : (k : Kind) → List (Of k) → Type 0
@@ -83,6 +84,8 @@ IsOptExtra (Some extra) = IsOf OptText extra.ev_extra1 × IsOf OptText extra.ev_
 abbrev pub IsInForm : Stmt → Type 0
 IsInForm (stmt.Row stmt) = IsRowInForm stmt
 IsInForm (stmt.CreateQueue queue) = IsOf Name queue
+IsInForm (stmt.SetQueueConfig queue param value) = IsOf Name queue × IsOf Raw param × IsOf Raw value
+IsInForm (stmt.QueueInfo queue) = IsOf Name queue
 IsInForm (stmt.InsertEvent queue ev_type ev_data extra) = IsOf Name queue × IsOf OptText ev_type × IsOf OptText ev_data × IsOptExtra extra
 IsInForm (stmt.Ticker queue) = IsOf Name queue
 IsInForm (stmt.ForceTick queue) = IsOf Name queue
@@ -91,6 +94,9 @@ IsInForm (stmt.NextBatch queue consumer) = IsOf Name queue × IsOf Dotted consum
 IsInForm (stmt.GetBatchEvents batch) = IsOf (Number (2 ^ 64 - 1)) batch
 IsInForm (stmt.FinishBatch batch) = IsOf (Number (2 ^ 64 - 1)) batch
 IsInForm (stmt.AddTrigger name table queue backup ignored) = IsOf Name name × IsOf Dotted table × IsOf Name queue × All (IsOf Name) ignored
+IsInForm (stmt.Clock time) = IsOf Advance time
+IsInForm stmt.PgqdOn = ⊤
+IsInForm stmt.PgqdOff = ⊤
 
 -- a line: it says nothing, or names a session by a name and has a statement in form
 abbrev pub IsLineInForm : Line → Type 0

@@ -1,10 +1,11 @@
 -- The kinds of words, and the value of a word of a kind.
-use Rattle.std.specs.Prelude.{ℕ, ◌+◌, ◌-◌, ◌==◌, nat_le, Bool, true, false, not, ◌&&◌, ◌||◌, if◌then◌else◌, List, [], ◌∷◌, length, take, drop, Option, Some, None, option_map, bytes_eq, codes, position}
+use Rattle.std.specs.Prelude.{ℕ, ◌+◌, ◌-◌, ◌==◌, nat_le, ℤ, pos, Bool, true, false, not, ◌&&◌, ◌||◌, if◌then◌else◌, List, [], ◌∷◌, length, take, drop, Option, Some, None, option_map, bytes_eq, codes, position}
 use Rattle.std.specs.Char.{is_ascii_digit, is_ascii_lowercase}
 use Rattle.std.specs.List.{list_all, slice_split}
-use Rattle.std.specs.Option.{option_or}
+use Rattle.std.specs.Option.{option_or, option_and_then}
 use Rattle.std.specs.Str.{is_utf8}
 use Rattle.sky_val.specs.Numbers.{number_of, int_of}
+use Rattle.sky_val.specs.Intervals.{interval_of}
 use Rattle.sky_val.specs.declared.val.Val.{Val}
 use Rattle.sky_val.specs.declared.val.Val.TheVariants.{Null, Int, Text}
 use Rattle.sky_val.specs.declared.column.ColKind.{ColKind}
@@ -15,7 +16,7 @@ use Rattle.sky_model.specs.declared.stmt.Change.TheVariants.{To, Add}
 use Rattle.sky_model.specs.declared.stmt.Set as set
 
 -- a name; one, or two with a dot between; a number, with the most that it may be; `null` or a text; a word without quotes or a text;
--- a value of a row; a column of a new table; the change of a column; the columns that a trigger ignores
+-- a value of a row; a column of a new table; the change of a column; the columns that a trigger ignores; how far the clock moves
 pub data Kind : Type 0 where
   Name : Kind
   Dotted : Kind
@@ -26,6 +27,7 @@ pub data Kind : Type 0 where
   Column : Kind
   Set : Kind
   Ignore : Kind
+  Advance : Kind
 
 -- what a word of a kind is worth
 abbrev pub Of : Kind → Type 0
@@ -38,6 +40,7 @@ Of Value = Val
 Of Column = column.Column
 Of Set = set.Set
 Of Ignore = List (List ℕ)
+Of Advance = ℤ
 
 -- a lower-case letter or `_`
 abbrev pub begins_name : ℕ → Bool
@@ -167,6 +170,24 @@ names_of w = if list_all is_name (between_commas w) then Some (between_commas w)
 abbrev pub ignore_of : List ℕ → Option (List (List ℕ))
 ignore_of w = if bytes_eq (take 7 w) (codes "ignore=") then names_of (drop 7 w) else None
 
+-- the longest time by which the clock moves at once: a day, in microseconds
+abbrev pub longest_advance : ℕ
+longest_advance = 86_400_000_000
+
+-- an interval that isn't empty and at most a day
+abbrev pub advance_by : Option ℕ → Option ℤ
+advance_by None = None
+advance_by (Some time) = if nat_le 1 time && nat_le time longest_advance then Some (pos time) else None
+
+-- what a `+` and an interval say
+abbrev pub advance_in : List ℕ → Option ℤ
+advance_in [] = None
+advance_in (b ∷ bs) = if b == 43 then advance_by (interval_of bs) else None
+
+-- `+` and an interval, in quotes or not
+abbrev pub advance_of : List ℕ → Option ℤ
+advance_of w = option_and_then advance_in (raw w)
+
 -- the value of a word of a kind; no value where the word is of another
 abbrev pub value : (k : Kind) → List ℕ → Option (Of k)
 value Name w = if is_name w then Some w else None
@@ -178,3 +199,4 @@ value Value w = value_of w
 value Column w = column_of w
 value Set w = set_of w
 value Ignore w = ignore_of w
+value Advance w = advance_of w

@@ -2,10 +2,10 @@
 use Rattle.std.specs.Prelude.{◌≡◌, ℕ}
 use Rattle.sky_txid.specs.Snapshot.{sees}
 use Rattle.sky_model.specs.History.{Batch, History}
-use Rattle.sky_model.specs.Transactions.{has_ended, snapshot}
+use Rattle.sky_model.specs.Transactions.{has_ended, has_rolled_back, snapshot}
+use Rattle.sky_model.specs.Queues.{events, ticks}
 use Rattle.sky_model.specs.Batches.{by_id, batch_events}
-use Rattle.sky_model.specs.State.{database_of}
-use Rattle.sky_model.specs.Selection.{selected}
+use Rattle.sky_model.specs.Selection.{selected_of}
 use Rattle.sky_model.specs.HistoryPlaces.{IsPlace}
 
 -- the snapshot at a place sees exactly the transactions that have ended there
@@ -14,4 +14,4 @@ SnapshotsSeeWhatHasEnded = (p : History) → IsPlace p → (t : ℕ) → sees (s
 
 -- a batch's events are those that the snapshots of its two ticks select, by id
 abbrev pub BatchesAreSelectedBySnapshots : Type 0
-BatchesAreSelectedBySnapshots = (p : History) → IsPlace p → (b : Batch) → batch_events p b ≡ by_id (selected (database_of p) b)
+BatchesAreSelectedBySnapshots = (p : History) → IsPlace p → (b : Batch) → batch_events p b ≡ by_id (selected_of (has_rolled_back p) (ticks b.queue p) (events b.queue p) b)

@@ -3,11 +3,11 @@ pub mod Kinds
 pub mod Grammar
 pub mod InForm
 pub mod LawsOfLines
+pub mod Config
 pub mod History
 pub mod Limits
 pub mod Transactions
 pub mod Sessions
-pub mod Config
 pub mod Rows
 pub mod Versions
 pub mod Locks
@@ -35,6 +35,8 @@ pub mod Reader
 pub mod Gates
 pub mod Rooms
 pub mod Settling
+pub mod Daemon
+pub mod Clock
 pub mod Promises
 pub mod Calls
 pub mod SessionMarks

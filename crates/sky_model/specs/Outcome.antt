@@ -3,7 +3,7 @@ use Rattle.std.specs.Prelude.{ℕ, List, [], ◌∷◌, ◌++◌, if◌then◌el
 use Rattle.sky_model.specs.declared.reply.Reply.{Reply}
 use Rattle.sky_model.specs.declared.reply.Reply.TheVariants.{Refused}
 use Rattle.sky_model.specs.declared.reply.Refusal.{Refusal}
-use Rattle.sky_model.specs.declared.reply.Refusal.TheVariants.{AlreadyOpen, Busy}
+use Rattle.sky_model.specs.declared.reply.Refusal.TheVariants.{AlreadyOpen, Busy, ClockSpent}
 use Rattle.sky_model.specs.History.{Mark, of_session, ended, block_failed}
 use Rattle.sky_model.specs.Sessions.{Block, inside, Session}
 
@@ -68,6 +68,7 @@ end_of committed who (Some t) = ended (of_session who) t committed ∷ []
 abbrev pub aborts : Refusal → Bool
 aborts AlreadyOpen = false
 aborts Busy = false
+aborts ClockSpent = false
 aborts _ = true
 
 -- what a refusal leaves in a session: a block that it was in is rolled back, and stays aborted

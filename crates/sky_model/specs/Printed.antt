@@ -4,15 +4,16 @@ use Rattle.std.specs.Fmt.{decimal, signed_decimal}
 use Rattle.sky_val.specs.declared.event.Event.{Event}
 use Rattle.sky_val.specs.declared.val.Val.{Val}
 use Rattle.sky_val.specs.declared.val.Val.TheVariants as value
+use Rattle.sky_model.specs.declared.reply.QueueInfo as info
 use Rattle.sky_model.specs.declared.reply.Reply.{Reply}
-use Rattle.sky_model.specs.declared.reply.Reply.TheVariants.{Done, Number, Null, Bool, Begin, AlreadyInTransaction, Commit, Rollback, NoTransaction, NotWaiting, Waits, Snapshot, Events, Row, NoRow, Rows, Refused}
+use Rattle.sky_model.specs.declared.reply.Reply.TheVariants.{Done, Number, Null, Bool, Begin, AlreadyInTransaction, Commit, Rollback, NoTransaction, NotWaiting, Waits, Snapshot, Events, Row, NoRow, Rows, Moment, QueueInfo, Refused}
 use Rattle.sky_model.specs.Limits.{most_of}
 use Rattle.sky_model.specs.declared.reply.Limit.{Limit}
 use Rattle.sky_model.specs.declared.reply.Limit.TheVariants.{Sessions, Databases, Queues, Consumers, Tables, Columns, Triggers}
 use Rattle.sky_model.specs.declared.reply.BadRow as bad_row
 use Rattle.sky_model.specs.declared.reply.BadRow.TheVariants.{Count, «Type», NullKey, NoColumn, Twice}
 use Rattle.sky_model.specs.declared.reply.Refusal.{Refusal}
-use Rattle.sky_model.specs.declared.reply.Refusal.TheVariants.{Aborted, AlreadyOpen, BadColumn, BadRow, BadSnapshot, Busy, Canceled, Deadlock, Duplicate, EventIdsSpent, IdsSpent, InTransaction, KeyChange, NoBatch, NoConsumer, NodeConsumer, NoKey, NoQueue, NoTable, NotOpen, OutOfRange, ReservedColumn, Serialize, TableBusy, TableExists, TooMany, TriggerExists, TwiceNamed, TxidsSpent}
+use Rattle.sky_model.specs.declared.reply.Refusal.TheVariants.{Aborted, AlreadyOpen, BadColumn, BadRow, BadSnapshot, BadValue, Busy, Canceled, ClockSpent, Deadlock, Duplicate, EventIdsSpent, IdsSpent, InTransaction, KeyChange, NoBatch, NoConsumer, NodeConsumer, NoKey, NoParam, NoQueue, NoTable, NotOpen, OutOfRange, ReservedColumn, Serialize, TableBusy, TableExists, TooMany, TriggerExists, TwiceNamed, TxidsSpent}
 use Rattle.sky_txid.specs.SnapshotText.{snapshot_text}
 use Rattle.sky_model.specs.Moment.{moment, HasMoment}
 
@@ -100,8 +101,10 @@ refusal_text names AlreadyOpen = codes "AlreadyOpen"
 refusal_text names (BadColumn column) = codes "BadColumn " ++ column
 refusal_text names (BadRow why) = codes "BadRow " ++ bad_row_text why
 refusal_text names BadSnapshot = codes "BadSnapshot"
+refusal_text names (BadValue param) = codes "BadValue " ++ param
 refusal_text names Busy = codes "Busy"
 refusal_text names Canceled = codes "Canceled"
+refusal_text names ClockSpent = codes "ClockSpent"
 refusal_text names (Deadlock waiters) = codes "Deadlock" ++ spaced (map (name_at names) waiters)
 refusal_text names Duplicate = codes "Duplicate"
 refusal_text names EventIdsSpent = codes "EventIdsSpent"
@@ -112,6 +115,7 @@ refusal_text names NoBatch = codes "NoBatch"
 refusal_text names (NoConsumer name) = codes "NoConsumer " ++ name
 refusal_text names NodeConsumer = codes "NodeConsumer"
 refusal_text names NoKey = codes "NoKey"
+refusal_text names (NoParam param) = codes "NoParam " ++ param
 refusal_text names (NoQueue name) = codes "NoQueue " ++ name
 refusal_text names (NoTable name) = codes "NoTable " ++ name
 refusal_text names NotOpen = codes "NotOpen"
@@ -124,6 +128,12 @@ refusal_text names (TooMany limit) = codes "TooMany " ++ limit_text limit
 refusal_text names (TriggerExists name) = codes "TriggerExists " ++ name
 refusal_text names (TwiceNamed column) = codes "TwiceNamed " ++ column
 refusal_text names TxidsSpent = codes "TxidsSpent"
+
+-- what is shown of a queue
+abbrev pub queue_text : info.QueueInfo → List ℕ
+queue_text q =
+    codes "ntables " ++ decimal (length q.stored) ++ codes " cur_table " ++ decimal q.current ++ codes " last_tick " ++ decimal q.last_tick
+    ++ codes " seq " ++ decimal q.seq ++ codes " stored" ++ spaced (map decimal q.stored)
 
 -- the lines of an answer, where the sessions have these names
 abbrev pub reply_lines : List (List ℕ) → Reply → List (List ℕ)
@@ -144,6 +154,8 @@ reply_lines names (Events events) = map event_text events ++ count_text (length 
 reply_lines names (Row row) = row_text row ∷ []
 reply_lines names NoRow = codes "none" ∷ []
 reply_lines names (Rows rows) = map row_text rows ++ count_text (length rows) ∷ []
+reply_lines names (Moment now) = moment now ∷ []
+reply_lines names (QueueInfo queue) = queue_text queue ∷ []
 reply_lines names (Refused refusal) = (codes "error " ++ refusal_text names refusal) ∷ []
 
 -- a line of an answer, behind its session's name
@@ -176,11 +188,12 @@ AllNamed names replies = All (λ answer. (answer.0 < length names) × All (λ wh
 abbrev pub EventsHaveMoments : List Event → Type 0
 EventsHaveMoments events = All (λ e. HasMoment e.ev_time) events
 
--- the same of the events of an answer
+-- the same of an answer's events, and of a moment that it is
 abbrev pub ReplyHasMoments : Reply → Type 0
 ReplyHasMoments (Events events) = EventsHaveMoments events
+ReplyHasMoments (Moment now) = HasMoment now
 ReplyHasMoments _ = Unit {0}
 
--- and of those of every answer
+-- and of every answer
 abbrev pub HaveMoments : List (ℕ × Reply) → Type 0
 HaveMoments replies = All (λ answer. ReplyHasMoments answer.1) replies

@@ -1,9 +1,10 @@
--- Queues: their names, sequences, events and ticks.
-use Rattle.std.specs.Prelude.{ℕ, ◌+◌, ℤ, List, [], ◌∷◌, ◌++◌, Option, Some, None, ◌==◌, ◌&&◌, find, option_map, if◌then◌else◌}
+-- Queues: their names, settings, sequences, events and ticks.
+use Rattle.std.specs.Prelude.{ℕ, ◌+◌, ℤ, List, [], ◌∷◌, ◌++◌, not, Option, Some, None, ◌==◌, ◌&&◌, filter, find, option_map, if◌then◌else◌}
 use Rattle.sky_val.specs.declared.event.Event.{Event}
 use Rattle.sky_txid.specs.Snapshot.{SnapshotView}
 use Rattle.sky_names.specs.Places.{named}
-use Rattle.sky_model.specs.History.{queued, made, raised, put, ticked, History}
+use Rattle.sky_model.specs.History.{queued, made, raised, put, ticked, configured, dropped, History}
+use Rattle.sky_model.specs.Config.{Config, default_config}
 use Rattle.sky_model.specs.Transactions.{snapshot}
 
 -- a queue that stands: its number and its name
@@ -17,9 +18,14 @@ queues_made [] = 0
 queues_made (queued (made name) ∷ h) = queues_made h + 1
 queues_made (_ ∷ h) = queues_made h
 
+-- the others among some queues
+abbrev pub others_than : ℕ → List NamedQueue → List NamedQueue
+others_than queue queues = filter (λ q. not (q.number == queue)) queues
+
 -- the queues that stand, in the order of making
 abbrev pub queues : History → List NamedQueue
 queues [] = []
+queues (queued (dropped queue) ∷ h) = others_than queue (queues h)
 queues (queued (made name) ∷ h) = queues h ++ record { number = queues_made h; name = name } ∷ []
 queues (_ ∷ h) = queues h
 
@@ -27,17 +33,32 @@ queues (_ ∷ h) = queues h
 abbrev pub queue_number : List ℕ → List NamedQueue → Option ℕ
 queue_number name queues = option_map NamedQueue.number (named NamedQueue.name name queues)
 
+-- how a queue is set
+abbrev pub config : ℕ → History → Config
+config queue [] = default_config
+config queue (queued (configured q c) ∷ h) = if q == queue then c else config queue h
+config queue (queued (dropped q) ∷ h) = if q == queue then default_config else config queue h
+config queue (_ ∷ h) = config queue h
+
 -- the value of a queue's event sequence
 abbrev pub sequence : ℕ → History → ℕ
 sequence queue [] = 0
+sequence queue (queued (dropped q) ∷ h) = if q == queue then 0 else sequence queue h
 sequence queue (queued (raised q value) ∷ h) = if q == queue then value else sequence queue h
 sequence queue (_ ∷ h) = sequence queue h
 
--- the events that were stored in a queue, in the order of storing
+-- the events that ever were stored in a queue, in the order of storing
 abbrev pub events : ℕ → History → List Event
 events queue [] = []
 events queue (queued (put q event) ∷ h) = if q == queue then events queue h ++ event ∷ [] else events queue h
 events queue (_ ∷ h) = events queue h
+
+-- those that it keeps: none once it is dropped
+abbrev pub stored : ℕ → History → List Event
+stored queue [] = []
+stored queue (queued (put q event) ∷ h) = if q == queue then stored queue h ++ event ∷ [] else stored queue h
+stored queue (queued (dropped q) ∷ h) = if q == queue then [] else stored queue h
+stored queue (_ ∷ h) = stored queue h
 
 -- a tick
 pub record Tick : Type 0 where
@@ -46,7 +67,7 @@ pub record Tick : Type 0 where
   pub snapshot : SnapshotView
   pub seq : ℕ
 
--- the ticks of a queue, in the order of making, each with the snapshot at its place
+-- the ticks that ever were made of a queue, in the order of making, each with the snapshot at its place
 abbrev pub ticks : ℕ → History → List Tick
 ticks queue [] = []
 ticks queue (queued (ticked q id time seq) ∷ h) =
@@ -54,6 +75,16 @@ ticks queue (queued (ticked q id time seq) ∷ h) =
     then ticks queue h ++ record { id = id; time = time; snapshot = snapshot h; seq = seq } ∷ []
     else ticks queue h
 ticks queue (_ ∷ h) = ticks queue h
+
+-- those that it keeps: none once it is dropped
+abbrev pub kept_ticks : ℕ → History → List Tick
+kept_ticks queue [] = []
+kept_ticks queue (queued (ticked q id time seq) ∷ h) =
+    if q == queue
+    then kept_ticks queue h ++ record { id = id; time = time; snapshot = snapshot h; seq = seq } ∷ []
+    else kept_ticks queue h
+kept_ticks queue (queued (dropped q) ∷ h) = if q == queue then [] else kept_ticks queue h
+kept_ticks queue (_ ∷ h) = kept_ticks queue h
 
 -- a tick by its id
 abbrev pub tick : ℕ → List Tick → Option Tick

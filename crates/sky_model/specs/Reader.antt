@@ -1,10 +1,11 @@
 -- What is read at a place, and what is done there.
-use Rattle.std.specs.Prelude.{ℕ, ℤ, List, [], ◌∷◌, ◌++◌}
+use Rattle.std.specs.Prelude.{ℕ, ℤ, List, [], ◌∷◌, ◌++◌, Option, option_map}
 use Rattle.sky_val.specs.declared.event.Event.{Event}
 use Rattle.sky_model.specs.declared.reply.Reply.{Reply}
 use Rattle.sky_model.specs.declared.reply.Reply.TheVariants.{Refused}
 use Rattle.sky_model.specs.declared.reply.Refusal.{Refusal}
-use Rattle.sky_model.specs.History.{Batch, Mark, History, Fact, appeared, founded, within, Past}
+use Rattle.sky_model.specs.History.{Mark, History, Fact, appeared, founded, within, Past}
+use Rattle.sky_model.specs.Consumers.{active_batch}
 use Rattle.sky_model.specs.Batches.{batch_events}
 use Rattle.sky_model.specs.State.{RowPart, part_of, after_part, Database, database_of, after_mark}
 use Rattle.sky_model.specs.ShownRows.{RowsShown, rows_in, rows_by}
@@ -13,18 +14,18 @@ use Rattle.sky_model.specs.Outcome.{Outcome, Checked}
 use Rattle.sky_model.specs.Telling.{tells}
 use Rattle.sky_model.specs.World.{World, world_of, after_facts, history_in, on_top}
 
--- what a database shows a statement beside what it keeps: the events of a batch, and the rows of its tables
+-- what a database shows a statement beside what it keeps: the events of the active batch of an id, and the rows of its tables
 pub record Shown : Type 0 where
-  pub events : Batch → List Event
+  pub events : ℕ → Option (List Event)
   pub rows : RowsShown
 
 -- by its history
 abbrev pub shown_in : History → Shown
-shown_in h = record { events = batch_events h; rows = rows_in h }
+shown_in h = record { events = λ id. option_map (batch_events h) (active_batch id h); rows = rows_in h }
 
 -- by what it keeps
 abbrev pub shown_by : Database → Shown
-shown_by d = record { events = selected d; rows = rows_by d.part }
+shown_by d = record { events = λ id. option_map (selected d) (d.batch id); rows = rows_by d.part }
 
 -- how a place is read by a statement on rows: the row part there, what its tables show there, what becomes there of what a
 -- statement would do once its writes are told of, and the place behind a mark
@@ -103,6 +104,10 @@ appears name = record { answers = []; facts = appeared name ∷ [] }
 -- a database is made, which nothing answers
 abbrev pub founds : List ℕ → Deed
 founds name = record { answers = []; facts = founded name ∷ [] }
+
+-- nothing is done
+abbrev pub idles : Deed
+idles = record { answers = []; facts = [] }
 
 -- a deed behind another
 abbrev pub joined : Deed → Deed → Deed

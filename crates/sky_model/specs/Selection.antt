@@ -16,9 +16,13 @@ snapshot_at (Some t) = t.snapshot
 abbrev pub is_selected : (ℕ → Bool) → SnapshotView → SnapshotView → ℕ → Event → Bool
 is_selected undone from to sub e = sees to e.ev_txid && not (sees from e.ev_txid) && not (undone e.ev_txid) && is_for sub e.ev_owner
 
--- the stored events whose transaction the closing tick's snapshot sees and the opening one's doesn't
+-- of events, those whose transaction the closing tick's snapshot sees and the opening one's doesn't
+abbrev pub selected_of : (ℕ → Bool) → List Tick → List Event → Batch → List Event
+selected_of undone ticks events b = filter (is_selected undone (snapshot_at (tick b.prev ticks)) (snapshot_at (tick b.cur ticks)) b.sub) events
+
+-- of those that a queue keeps
 abbrev pub selected_in : (ℕ → Bool) → Queue → Batch → List Event
-selected_in undone q b = filter (is_selected undone (snapshot_at (tick b.prev q.tick_list)) (snapshot_at (tick b.cur q.tick_list)) b.sub) q.stored
+selected_in undone q b = selected_of undone q.tick_list q.stored b
 
 abbrev pub selected : Database → Batch → List Event
 selected d b = selected_in d.undone (d.queue b.queue) b

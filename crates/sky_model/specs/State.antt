@@ -10,15 +10,15 @@ use Rattle.sky_txid.specs.Snapshot.{SnapshotView, snapshot_of}
 use Rattle.sky_keys.specs.Versions.{written, forgotten}
 use Rattle.sky_model.specs.declared.stmt.Attempt.{Attempt}
 use Rattle.sky_model.specs.declared.stmt.Attempt.TheVariants.{Deletion}
-use Rattle.sky_model.specs.History.{Batch, Mark, Whose, of_session, of_worker, began, ended, block_begun, repeats, looked, block_failed, block_ended, connected, disconnected, tabled, TableMark, table_made, wrote, waits, waited, queued, QueueMark, made, raised, put, ticked, registered, opened, closed, traced, History}
+use Rattle.sky_model.specs.History.{Batch, Mark, Whose, of_session, of_worker, began, ended, block_begun, repeats, looked, block_failed, block_ended, connected, disconnected, tabled, TableMark, table_made, wrote, waits, waited, queued, QueueMark, made, raised, put, ticked, registered, opened, closed, configured, dropped, traced, History}
 use Rattle.sky_model.specs.Transactions.{next_txid, running, has_rolled_back}
 use Rattle.sky_model.specs.Sessions.{Block, inside, failed, outside, Sight, at_each, at_first, at_place, Session, session}
-use Rattle.sky_model.specs.Config.{Config, config}
+use Rattle.sky_model.specs.Config.{Config, default_config}
 use Rattle.sky_model.specs.Rows.{table_names, columns_of, wrote_in}
 use Rattle.sky_model.specs.Versions.{versions}
 use Rattle.sky_model.specs.Locks.{holder, waiting, attempt}
 use Rattle.sky_model.specs.Triggers.{TableTrigger, triggers}
-use Rattle.sky_model.specs.Queues.{NamedQueue, queues_made, queues, sequence, events, Tick, ticks}
+use Rattle.sky_model.specs.Queues.{NamedQueue, queues_made, queues, others_than, config, sequence, stored, Tick, kept_ticks}
 use Rattle.sky_model.specs.Consumers.{consumers, Subscription, subscription, last_subscription, last_batch, active_batch}
 
 -- a queue, as a statement reads it
@@ -59,8 +59,8 @@ abbrev pub queue_of : History → ℕ → Queue
 queue_of h q = record {
   config = config q h;
   seq = sequence q h;
-  stored = events q h;
-  tick_list = ticks q h;
+  stored = stored q h;
+  tick_list = kept_ticks q h;
   members = consumers q h;
   sub = λ name. subscription q name h;
 }
@@ -108,6 +108,10 @@ with_batch batch s = record s { active = Some batch }
 abbrev pub at_position : ℕ → Subscription → Subscription
 at_position tick s = record s { position = tick; active = None }
 
+-- a queue of which nothing is kept but who has registered
+abbrev pub emptied : Queue → Queue
+emptied q = record q { config = default_config; seq = 0; stored = []; tick_list = [] }
+
 -- a database after something happened to its queues
 abbrev pub after_queue_mark : Database → QueueMark → Database
 after_queue_mark d (made name) = record d {
@@ -141,6 +145,8 @@ after_queue_mark d (closed b) = record d {
     sub = changed_for b.consumer (option_map (at_position b.cur)) x.sub;
   }) d.queue;
 }
+after_queue_mark d (configured q config) = record d { queue = changed_at q (λ x. record x { config = config }) d.queue }
+after_queue_mark d (dropped q) = record d { queues = others_than q d.queues; queue = changed_at q emptied d.queue }
 after_queue_mark d (traced table name trigger) = record d {
   triggers = d.triggers ++ record { table = table; name = name; trigger = trigger } ∷ [];
 }

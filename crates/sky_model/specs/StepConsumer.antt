@@ -55,11 +55,11 @@ next_batch d name consumer = do
   sub ← found_or ((d.queue queue).sub consumer) (NoConsumer consumer)
   takes_batch d queue consumer sub sub.active
 
--- `get_batch_events N`: the events of an active batch, which a function gives
-abbrev pub get_batch_events : Database → (Batch → List Event) → ℕ → Checked Outcome
-get_batch_events d events_of id = do
-  batch ← found_or (d.batch id) NoBatch
-  answers (Events (events_of batch))
+-- `get_batch_events N`, by the events of each active batch
+abbrev pub get_batch_events : (ℕ → Option (List Event)) → ℕ → Checked Outcome
+get_batch_events events_of id = do
+  events ← found_or (events_of id) NoBatch
+  answers (Events events)
 
 -- `finish_batch N`
 abbrev pub finishes : Option Batch → Checked Outcome

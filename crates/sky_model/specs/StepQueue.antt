@@ -2,13 +2,14 @@
 use Rattle.std.specs.Prelude.{ℕ, ◌+◌, ◌-◌, ◌*◌, ◌^◌, ℤ, pos, ◌-ℤ◌, ◌*ℤ◌, List, [], ◌∷◌, ◌++◌, Bool, true, false, not, ◌&&◌, ◌||◌, Option, Some, None, nat_lt, nat_le, is_some, length, int_lt, Ok, if◌then◌else◌}
 use Rattle.sky_val.specs.declared.event.Event.{Event}
 use Rattle.sky_model.specs.declared.stmt.Extra.{Extra}
-use Rattle.sky_model.specs.declared.reply.Reply.TheVariants.{Number, Null}
+use Rattle.sky_model.specs.declared.reply.QueueInfo as reply
+use Rattle.sky_model.specs.declared.reply.Reply.TheVariants.{Number, Null, QueueInfo}
 use Rattle.sky_model.specs.declared.reply.Limit.TheVariants.{Queues}
-use Rattle.sky_model.specs.declared.reply.Refusal.TheVariants.{NoQueue, TooMany, EventIdsSpent, IdsSpent}
+use Rattle.sky_model.specs.declared.reply.Refusal.TheVariants.{NoQueue, TooMany, EventIdsSpent, IdsSpent, NoParam, BadValue}
 use Rattle.sky_model.specs.Limits.{most_of}
-use Rattle.sky_model.specs.History.{queued, made, raised, put, ticked}
+use Rattle.sky_model.specs.History.{queued, made, raised, put, ticked, configured}
 use Rattle.sky_model.specs.Queues.{queue_number, Tick, newest_tick}
-use Rattle.sky_model.specs.Config.{Config}
+use Rattle.sky_model.specs.Config.{Config, param_of, configured_by}
 use Rattle.sky_model.specs.State.{Queue, Database}
 use Rattle.sky_model.specs.OwnTransaction.{txid_for, written}
 use Rattle.sky_model.specs.Outcome.{Outcome, Checked, ◌>>=◌, ◌>>◌, refused_if, found_or, answers, does_marks}
@@ -101,16 +102,19 @@ id_of (Some t) = t.id
 abbrev pub newest_id : Queue → ℕ
 newest_id q = id_of (newest_tick q.tick_list)
 
--- `ticker NAME`: a tick where one is due
+-- a tick of a queue, where one is due
+abbrev pub next_tick : Database → ℤ → ℕ → Checked Outcome
+next_tick d now queue =
+    if is_due now (d.queue queue)
+    then (do
+      refused_if (nat_le (2 ^ 64) (newest_id (d.queue queue) + 1)) IdsSpent
+      does_marks (Number (newest_id (d.queue queue) + 1))
+          (queued (ticked queue (newest_id (d.queue queue) + 1) now (d.queue queue).seq) ∷ []))
+    else answers Null
+
+-- `ticker NAME`
 abbrev pub ticker : Database → ℤ → List ℕ → Checked Outcome
-ticker d now name = do
-  queue ← queue_called name d
-  if is_due now (d.queue queue)
-      then (do
-        refused_if (nat_le (2 ^ 64) (newest_id (d.queue queue) + 1)) IdsSpent
-        does_marks (Number (newest_id (d.queue queue) + 1))
-            (queued (ticked queue (newest_id (d.queue queue) + 1) now (d.queue queue).seq) ∷ []))
-      else answers Null
+ticker d now name = queue_called name d >>= next_tick d now
 
 -- how far `force_tick` raises the sequence, so that a tick is due
 abbrev pub forced : Config → ℕ
@@ -122,3 +126,21 @@ force_tick d name = do
   queue ← queue_called name d
   refused_if (nat_le (2 ^ 62) ((d.queue queue).seq + forced (d.queue queue).config)) EventIdsSpent
   does_marks (Number (newest_id (d.queue queue))) (queued (raised queue ((d.queue queue).seq + forced (d.queue queue).config)) ∷ [])
+
+-- `set_queue_config NAME RAW RAW`: a parameter of the queue gets a value
+abbrev pub set_queue_config : Database → (name param value : List ℕ) → Checked Outcome
+set_queue_config d name param value = do
+  queue ← queue_called name d
+  p ← found_or (param_of param) (NoParam param)
+  config ← found_or (configured_by (d.queue queue).config p value) (BadValue param)
+  does_marks (Number 1) (queued (configured queue config) ∷ [])
+
+-- what is shown of a queue: as no table was switched yet, the first of its three tables has all its events
+abbrev pub info_of : Queue → reply.QueueInfo
+info_of q = record { current = 0; last_tick = newest_id q; seq = q.seq; stored = length q.stored ∷ 0 ∷ 0 ∷ [] }
+
+-- `queue_info NAME`
+abbrev pub queue_info : Database → List ℕ → Checked Outcome
+queue_info d name = do
+  queue ← queue_called name d
+  answers (QueueInfo (info_of (d.queue queue)))

@@ -1,6 +1,6 @@
 -- The world, as a statement reads it, and how what happens changes it.
 use Rattle.std.specs.Prelude.{ℕ, ℤ, pos, List, [], ◌∷◌, ◌++◌, Option, Some, None, ◌==◌, if◌then◌else◌}
-use Rattle.sky_model.specs.History.{History, Fact, appeared, founded, entered, left, within, Past}
+use Rattle.sky_model.specs.History.{History, Fact, appeared, founded, entered, left, within, clock_at, daemon_on, daemon_off, Past}
 use Rattle.sky_model.specs.State.{Database, database_of, changed_at, after_mark}
 
 -- the sessions, in the order of appearance: a session's number is its place here
@@ -28,9 +28,18 @@ history_in [] database = []
 history_in (within d mark ∷ past) database = if d == database then mark ∷ history_in past database else history_in past database
 history_in (_ ∷ past) database = history_in past database
 
--- the clock, which stands at its start
+-- the moment at which the clock stands
 abbrev pub clock : Past → ℤ
-clock past = pos 0
+clock [] = pos 0
+clock (clock_at moment ∷ past) = moment
+clock (_ ∷ past) = clock past
+
+-- since when the daemon of a database is on
+abbrev pub daemon : Past → ℕ → Option ℤ
+daemon [] database = None
+daemon (daemon_on d ∷ past) database = if d == database then Some (clock past) else daemon past database
+daemon (daemon_off d ∷ past) database = if d == database then None else daemon past database
+daemon (_ ∷ past) database = daemon past database
 
 -- the world, as a statement reads it
 pub record World : Type 0 where
@@ -39,6 +48,7 @@ pub record World : Type 0 where
   pub databases : List (List ℕ)
   pub homes : ℕ → Option ℕ
   pub database : ℕ → Database
+  pub daemons : ℕ → Option ℤ
 
 abbrev pub world_of : Past → World
 world_of past = record {
@@ -47,6 +57,7 @@ world_of past = record {
   databases = database_names past;
   homes = home past;
   database = λ d. database_of (history_in past d);
+  daemons = daemon past;
 }
 
 -- the world after something happened
@@ -56,6 +67,9 @@ after_fact w (founded name) = record w { databases = w.databases ++ name ∷ [] 
 after_fact w (entered who d) = record w { homes = changed_at who (λ _. Some d) w.homes }
 after_fact w (left who) = record w { homes = changed_at who (λ _. None) w.homes }
 after_fact w (within d mark) = record w { database = changed_at d (λ x. after_mark x mark) w.database }
+after_fact w (clock_at moment) = record w { now = moment }
+after_fact w (daemon_on d) = record w { daemons = changed_at d (λ _. Some w.now) w.daemons }
+after_fact w (daemon_off d) = record w { daemons = changed_at d (λ _. None) w.daemons }
 
 abbrev pub after_facts : World → List Fact → World
 after_facts w [] = w

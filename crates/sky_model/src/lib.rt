@@ -7,6 +7,7 @@
 //! lengthened, and a refusal tells whether it aborts a block. No statement is run here.
 #![tactic(auto)]
 
+mod daemon;
 mod gate;
 mod items;
 pub mod laws;
@@ -15,10 +16,11 @@ mod reply;
 mod stmt;
 mod stop;
 
+pub use daemon::DaemonPart;
 pub use gate::{OpenGate, WriteGate};
 pub use items::Items;
 pub use line::{Cause, Fixed, Line};
-pub use reply::{BadRow, Events, Limit, Refusal, Replies, Reply, Rows, Waiters};
+pub use reply::{BadRow, Counts, Events, Limit, QueueInfo, Refusal, Replies, Reply, Rows, Waiters};
 pub use stmt::{
     Attempt, BoxedExtra, Change, ColumnNames, Columns, Extra, RowStmt, Set, Sets, Stmt, Where,
 };

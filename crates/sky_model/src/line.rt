@@ -14,6 +14,10 @@ pub enum Fixed {
     Set,
     /// `backup`
     Backup,
+    /// `on`
+    On,
+    /// `off`
+    Off,
 }
 
 /// Why a line is bad.

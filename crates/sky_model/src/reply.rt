@@ -87,10 +87,14 @@ pub enum Refusal {
     BadRow(BadRow),
     /// The text is no snapshot.
     BadSnapshot,
+    /// This parameter of a queue can't have the value.
+    BadValue(Text),
     /// The session waits.
     Busy,
     /// The session was to wait no longer.
     Canceled,
+    /// The clock would pass its last moment.
+    ClockSpent,
     /// These sessions would wait for each other: the refused one, then each time the one that the last waits for.
     Deadlock(Waiters),
     /// The table has a row with this key.
@@ -111,6 +115,8 @@ pub enum Refusal {
     NodeConsumer,
     /// No column of the table is part of its key.
     NoKey,
+    /// A queue has no such parameter.
+    NoParam(Text),
     /// The database has no such queue.
     NoQueue(Text),
     /// The database has no such table.
@@ -144,7 +150,10 @@ impl Refusal {
     pub fn aborts(&self) -> bool
         ensures { result ≡ aborts self.now }
     {
-        !matches!(self, Refusal::AlreadyOpen | Refusal::Busy)
+        !matches!(
+            self,
+            Refusal::AlreadyOpen | Refusal::Busy | Refusal::ClockSpent
+        )
     }
 }
 
@@ -156,8 +165,10 @@ impl Drop for Refusal {
             Refusal::BadColumn(_) => {}
             Refusal::BadRow(_) => {}
             Refusal::BadSnapshot => {}
+            Refusal::BadValue(_) => {}
             Refusal::Busy => {}
             Refusal::Canceled => {}
+            Refusal::ClockSpent => {}
             Refusal::Deadlock(_) => {}
             Refusal::Duplicate => {}
             Refusal::EventIdsSpent => {}
@@ -168,6 +179,7 @@ impl Drop for Refusal {
             Refusal::NoConsumer(_) => {}
             Refusal::NodeConsumer => {}
             Refusal::NoKey => {}
+            Refusal::NoParam(_) => {}
             Refusal::NoQueue(_) => {}
             Refusal::NoTable(_) => {}
             Refusal::NotOpen => {}
@@ -189,6 +201,22 @@ pub type Events = Items<Event>;
 
 /// Rows in order.
 pub type Rows = Items<Row>;
+
+/// Numbers of events, one for each of a queue's tables.
+pub type Counts = Items<u64>;
+
+/// What is shown of a queue.
+#[derive(Debug, Drop)]
+pub struct QueueInfo {
+    /// The number of the table into which events go, from 0 on.
+    pub current: u64,
+    /// The id of the newest tick.
+    pub last_tick: u64,
+    /// The value of the event sequence.
+    pub seq: u64,
+    /// How many events each table has.
+    pub stored: Counts,
+}
 
 /// What a statement answers.
 #[derive(Debug)]
@@ -225,6 +253,10 @@ pub enum Reply {
     NoRow,
     /// The rows of a table, and how many they are.
     Rows(Rows),
+    /// A moment, in microseconds since the clock's start.
+    Moment(i64),
+    /// A queue's tables, newest tick and sequence.
+    QueueInfo(QueueInfo),
     /// `error` and the refusal.
     Refused(Refusal),
 }
@@ -248,6 +280,8 @@ impl Drop for Reply {
             Reply::Row(_) => {}
             Reply::NoRow => {}
             Reply::Rows(_) => {}
+            Reply::Moment(_) => {}
+            Reply::QueueInfo(_) => {}
             Reply::Refused(_) => {}
         }
     }

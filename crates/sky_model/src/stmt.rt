@@ -215,6 +215,16 @@ pub enum Stmt {
     CreateQueue {
         queue: Text,
     },
+    /// `set_queue_config NAME RAW RAW`
+    SetQueueConfig {
+        queue: Text,
+        param: Text,
+        value: Text,
+    },
+    /// `queue_info NAME`
+    QueueInfo {
+        queue: Text,
+    },
     /// `insert_event NAME TVAL TVAL`, or with four more TVAL
     InsertEvent {
         queue: Text,
@@ -256,6 +266,14 @@ pub enum Stmt {
         backup: bool,
         ignored: ColumnNames,
     },
+    /// `clock +INTERVAL`, with the interval in microseconds
+    Clock {
+        time: i64,
+    },
+    /// `pgqd on`
+    PgqdOn,
+    /// `pgqd off`
+    PgqdOff,
 }
 
 // By hand, as for the statements on rows.
@@ -264,6 +282,12 @@ impl Drop for Stmt {
         match self {
             Stmt::Row(_) => {}
             Stmt::CreateQueue { queue: _ } => {}
+            Stmt::SetQueueConfig {
+                queue: _,
+                param: _,
+                value: _,
+            } => {}
+            Stmt::QueueInfo { queue: _ } => {}
             Stmt::InsertEvent {
                 queue: _,
                 ev_type: _,
@@ -289,6 +313,9 @@ impl Drop for Stmt {
                 backup: _,
                 ignored: _,
             } => {}
+            Stmt::Clock { time: _ } => {}
+            Stmt::PgqdOn => {}
+            Stmt::PgqdOff => {}
         }
     }
 }

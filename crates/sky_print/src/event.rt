@@ -60,8 +60,8 @@ fn append_texts(event: &Event, into: &mut Vec<u8>) -> Result<(), NoMemory>
     append_text_word(&event.ev_extra4, into)
 }
 
-// The number, behind a space.
-fn append_number_word(number: u64, into: &mut Vec<u8>) -> Result<(), NoMemory>
+/// Appends the number, behind a space.
+pub(crate) fn append_number_word(number: u64, into: &mut Vec<u8>) -> Result<(), NoMemory>
     ensures ok { OnOk result (into.new.items ≡ into.old.items ++ 32 ∷ decimal number) }
     ensures kept { OnErr result (Keeps into.old.items into.new.items) }
 {

@@ -9,6 +9,7 @@
 mod event;
 mod moment;
 mod print;
+mod queue;
 mod refusal;
 mod row;
 

@@ -1,15 +1,17 @@
 ghost use Rattle.std.specs.Prelude.{◌≡◌, [], ◌∷◌, ◌++◌, map, flat_map, length, codes, OnOk, OnErr};
 ghost use Rattle.std.specs.Fmt.{decimal};
-ghost use Rattle.sky_model.specs.Moment.{HasMoment};
-ghost use Rattle.sky_model.specs.Printed.{event_text, row_text, count_text, name_at, refusal_text, line_text, reply_text, printed, HaveNames, EventsHaveMoments, ReplyHasMoments, HaveMoments};
+ghost use Rattle.sky_model.specs.Moment.{moment, HasMoment};
+ghost use Rattle.sky_model.specs.Printed.{event_text, row_text, count_text, queue_text, name_at, refusal_text, line_text, reply_text, printed, HaveNames, EventsHaveMoments, ReplyHasMoments, HaveMoments};
 ghost use Rattle.sky_txid.specs.SnapshotText.{snapshot_text};
 ghost use Rattle.sky_print.specs.Kept.{Keeps};
 
 use crate::event::append_event;
+use crate::moment::print_moment;
+use crate::queue::append_queue;
 use crate::refusal::append_refusal;
 use crate::row::append_row;
 use itoa::Buffer;
-use sky_model::{Refusal, Replies, Reply};
+use sky_model::{QueueInfo, Refusal, Replies, Reply};
 use sky_txid::Snapshot;
 use sky_val::{Event, NoMemory, Row, SessionId, Text, Val};
 
@@ -79,6 +81,8 @@ fn append_reply(
         Reply::Row(row) => append_row_line(name, row.values(), into),
         Reply::NoRow => append_line(name, b"none", into),
         Reply::Rows(rows) => append_listing(name, rows.as_slice(), into),
+        Reply::Moment(now) => append_moment(name, *now, into),
+        Reply::QueueInfo(queue) => append_queue_line(name, queue, into),
         Reply::Refused(refusal) => append_refused(names, name, refusal, into),
     }
 }
@@ -173,6 +177,28 @@ fn append_count(name: &[u8], count: u64, into: &mut Vec<u8>) -> Result<(), NoMem
     append_name(name, into)?;
     into.extend_from_slice(b"rows ")?;
     append_number(count, into)?;
+    into.push(b'\n')?;
+    Ok(())
+}
+
+fn append_moment(name: &[u8], now: i64, into: &mut Vec<u8>) -> Result<(), NoMemory>
+    requires { HasMoment now }
+    ensures ok { OnOk result (into.new.items ≡ into.old.items ++ line_text name.now (moment now)) }
+    ensures kept { OnErr result (Keeps into.old.items into.new.items) }
+{
+    append_name(name, into)?;
+    print_moment(now, into)?;
+    into.push(b'\n')?;
+    Ok(())
+}
+
+fn append_queue_line(name: &[u8], queue: &QueueInfo, into: &mut Vec<u8>) -> Result<(), NoMemory>
+    ensures ok { OnOk result
+        (into.new.items ≡ into.old.items ++ line_text name.now (queue_text queue.now)) }
+    ensures kept { OnErr result (Keeps into.old.items into.new.items) }
+{
+    append_name(name, into)?;
+    append_queue(queue, into)?;
     into.push(b'\n')?;
     Ok(())
 }

@@ -9,5 +9,6 @@ mod answers;
 mod end;
 mod program;
 mod run;
+mod words;
 
 pub use program::run_main;

@@ -9,6 +9,7 @@ ghost use Rattle.sky_run.specs.Statuses as statuses;
 
 use crate::end::End;
 use crate::run::run_lines;
+use crate::words::is_run;
 use sky_io::{Sink, SinkFault, Source, write_all};
 use sky_model::Cause;
 use std::alloc::{AllocError, Global};
@@ -61,7 +62,10 @@ pub fn run_main<S: Source, O: Sink, E: Sink>(
         → ¬ (Rose (O.faults out.old) (O.faults out.new)) → ¬ (Rose (E.faults err.old) (E.faults err.new))
         → (result ≡ 5) ⊎ (result ≡ due_status (spec.is_run (texts words.now.items)) bytes) }
 {
-    if !is_run(words) {
+    let Ok(known) = is_run(alloc, words) else {
+        return NO_MEMORY;
+    };
+    if !known {
         return report_usage(err);
     }
     match run_lines(alloc, src, out) {
@@ -71,12 +75,6 @@ pub fn run_main<S: Source, O: Sink, E: Sink>(
         End::Write => WRITE_FAULT,
         End::NoMemory => NO_MEMORY,
     }
-}
-
-fn is_run(words: &Vec<String>) -> bool
-    ensures { result ≡ spec.is_run (texts words.now.items) }
-{
-    words.len() == 1 && words[0].as_str() == "run"
 }
 
 fn report_bad_line<E: Sink>(alloc: Global, line: u64, cause: Cause, err: &mut E) -> u8

@@ -19,7 +19,7 @@ use sky_model::{Cause, Line, Replies, Stmt};
 use sky_script::{LineCause, parse_line};
 use sky_val::{NoMemory, Text};
 use sky_world::World;
-use std::alloc::Global;
+use std::alloc::{AllocError, Global};
 use std::mem;
 
 /// Where more bytes than these are gathered behind a line, they are written.
@@ -198,7 +198,9 @@ impl Run {
         ensures number { self.new.number ≡ self.old.number }
     {
         self.replies.clear();
-        self.world.step_into(who, stmt, &mut self.replies)?;
+        let Ok(()) = self.world.step_into(who, stmt, &mut self.replies) else {
+            return Err(AllocError);
+        };
         print_answers(
             self.alloc,
             self.world.session_names(),

@@ -1,11 +1,12 @@
 -- A form is looked for among those whose first word has a length that passes a test which the length of the line's word passes.
-use Rattle.std.proofs.Common.{◌≡◌, ℕ, Bool, true, false, not, ◌==◌, ◌&&◌, length, bytes_eq, cond, subst, List, [], ◌∷◌, filter, Result, refl}
+use Rattle.std.proofs.Common.{◌≡◌, ℕ, Bool, true, false, not, ◌==◌, ◌&&◌, nat_lt, ◌<◌, length, bytes_eq, cond, subst, List, [], ◌∷◌, filter, Result, refl}
+use Rattle.std.proofs.lemmas.Bool.{lt-ltb}
 use Rattle.std.proofs.lemmas.Slice.Eq.{bytes_eq-Decides}
 use Rattle.sky_model.specs.declared.stmt.Stmt.{Stmt}
-use Rattle.sky_model.specs.Grammar.{Row, all_forms, goes_on, named_form, reads}
+use Rattle.sky_model.specs.Grammar.{Row, all_forms, named_form}
 use Rattle.sky_script.specs.declared.cause.LineCause.{LineCause}
 use Rattle.sky_script.specs.Unread.{Unread}
-use Rattle.sky_script.specs.Reading.{AnswersAmong, IsAnswer, of_six, of_twelve, of_other}
+use Rattle.sky_script.specs.Reading.{AnswersAmong, of_six, of_twelve, of_short, of_other}
 
 named_form-filter : (p : ℕ → Bool) (w : List ℕ) (forms : List (List ℕ × Row)) → p (length w) ≡ true
     → named_form w (filter (λ form. p (length form.0)) forms) ≡ named_form w forms
@@ -30,5 +31,8 @@ among_six r w at is = among (λ n. n == 6) r w at (rw is refl)
 pub among_twelve : (r : Result Stmt LineCause) (w : List ℕ) (at : Unread) → length w ≡ 12 → AnswersAmong r w of_twelve at → AnswersAmong r w all_forms at
 among_twelve r w at is = among (λ n. n == 12) r w at (rw is refl)
 
-pub among_other : (r : Result Stmt LineCause) (w : List ℕ) (at : Unread) → (length w == 6) ≡ false → (length w == 12) ≡ false → AnswersAmong r w of_other at → AnswersAmong r w all_forms at
-among_other r w at six twelve = among (λ n. not (n == 6) && not (n == 12)) r w at (rw (six, twelve) refl)
+pub among_short : (r : Result Stmt LineCause) (w : List ℕ) (at : Unread) → length w < 6 → AnswersAmong r w of_short at → AnswersAmong r w all_forms at
+among_short r w at is = among (λ n. nat_lt n 6) r w at (lt-ltb (length w) 6 is)
+
+pub among_other : (r : Result Stmt LineCause) (w : List ℕ) (at : Unread) → (length w == 12) ≡ false → 6 < length w → AnswersAmong r w of_other at → AnswersAmong r w all_forms at
+among_other r w at twelve more = among (λ n. nat_lt 6 n && not (n == 12)) r w at (rw (twelve, lt-ltb 6 (length w) more) refl)

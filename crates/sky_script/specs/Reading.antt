@@ -1,5 +1,5 @@
 -- How the readers of single words, of lists of words and of forms answer a row of the grammar.
-use Rattle.std.specs.Prelude.{◌≡◌, ℕ, ◌-◌, ◌<◌, ◌==◌, ◌&&◌, not, List, [], ◌∷◌, length, filter, Result, Ok, Err}
+use Rattle.std.specs.Prelude.{◌≡◌, ℕ, ◌-◌, ◌<◌, nat_lt, ◌==◌, ◌&&◌, not, List, [], ◌∷◌, length, filter, Result, Ok, Err}
 use Rattle.sky_model.specs.declared.stmt.Stmt.{Stmt}
 use Rattle.sky_model.specs.declared.line.Fixed.{Fixed}
 use Rattle.sky_model.specs.Kinds.{Kind, Of}
@@ -57,9 +57,13 @@ of_six = filter (λ form. length form.0 == 6) all_forms
 abbrev pub of_twelve : List (List ℕ × Row)
 of_twelve = filter (λ form. length form.0 == 12) all_forms
 
+-- those where it has fewer than six
+abbrev pub of_short : List (List ℕ × Row)
+of_short = filter (λ form. nat_lt (length form.0) 6) all_forms
+
 -- the others
 abbrev pub of_other : List (List ℕ × Row)
-of_other = filter (λ form. not (length form.0 == 6) && not (length form.0 == 12)) all_forms
+of_other = filter (λ form. nat_lt 6 (length form.0) && not (length form.0 == 12)) all_forms
 
 -- a result is what these forms say of the words that are left, behind this first word
 unfoldable pub AnswersAmong : Result Stmt LineCause → (first : List ℕ) → List (List ℕ × Row) → Unread → Type 0

@@ -1,12 +1,13 @@
 //! The statement forms: of each, its first word and the function that reads what follows it.
 
 ghost use Rattle.sky_model.specs.Grammar.{all_forms};
-ghost use Rattle.sky_script.specs.Reading.{AnswersAmong, of_six, of_twelve, of_other};
+ghost use Rattle.sky_script.specs.Reading.{AnswersAmong, of_six, of_twelve, of_short, of_other};
 
 use crate::cause::LineCause;
+use crate::clock_forms::{clock, pgqd};
 use crate::queue_forms::{
-    create_queue, finish_batch, force_tick, get_batch_events, insert_event, next_batch,
-    register_consumer, ticker,
+    create_queue, finish_batch, force_tick, get_batch_events, insert_event, next_batch, queue_info,
+    register_consumer, set_queue_config, ticker,
 };
 use crate::row_forms::{create_table, delete, get, insert, scan, update};
 use crate::session_forms::{alone, begin, open_db, txid_visible_in_snapshot};
@@ -15,15 +16,16 @@ use crate::words::Words;
 use sky_model::{RowStmt, Stmt};
 use std::alloc::Global;
 
-/// The statement with this first word, of the words behind it. Only forms whose first word has six bytes, twelve, or another
-/// number are compared, by how many it has.
-#[tactic(auto, using(crate::proofs::FormLemmas::among_six, crate::proofs::FormLemmas::among_twelve, crate::proofs::FormLemmas::among_other))]
+/// The statement with this first word, of the words behind it. Only forms whose first word has six bytes, twelve, fewer than
+/// six, or another number are compared, by how many it has.
+#[tactic(auto, using(crate::proofs::FormLemmas::among_six, crate::proofs::FormLemmas::among_twelve, crate::proofs::FormLemmas::among_short, crate::proofs::FormLemmas::among_other))]
 pub(crate) fn read_form(alloc: Global, first: &[u8], words: &mut Words) -> Result<Stmt, LineCause>
     ensures { AnswersAmong result first.now all_forms words.old }
 {
     match first.len() {
         6 => read_six(alloc, first, words),
         12 => read_twelve(alloc, first, words),
+        length if length < 6 => read_short(alloc, first, words),
         _ => read_other(alloc, first, words),
     }
 }
@@ -77,14 +79,11 @@ fn read_twelve(alloc: Global, first: &[u8], words: &mut Words) -> Result<Stmt, L
     Err(words.refused())
 }
 
-/// The same among the others.
+/// The same among those whose first word has fewer than six.
 #[tactic(auto, unfolding(crate::specs::Reading::Answers, crate::specs::Reading::AnswersAmong))]
-fn read_other(alloc: Global, first: &[u8], words: &mut Words) -> Result<Stmt, LineCause>
-    ensures { AnswersAmong result first.now of_other words.old }
+fn read_short(alloc: Global, first: &[u8], words: &mut Words) -> Result<Stmt, LineCause>
+    ensures { AnswersAmong result first.now of_short words.old }
 {
-    if first == b"rollback".as_slice() {
-        return alone(RowStmt::Rollback, words);
-    }
     if first == b"begin".as_slice() {
         return begin(words);
     }
@@ -94,17 +93,34 @@ fn read_other(alloc: Global, first: &[u8], words: &mut Words) -> Result<Stmt, Li
     if first == b"scan".as_slice() {
         return scan(alloc, words);
     }
-    if first == b"next_batch".as_slice() {
-        return next_batch(alloc, words);
-    }
-    if first == b"get_batch_events".as_slice() {
-        return get_batch_events(words);
+    if first == b"clock".as_slice() {
+        return clock(alloc, words);
     }
     if first == b"open".as_slice() {
         return open_db(alloc, words);
     }
     if first == b"close".as_slice() {
         return alone(RowStmt::Close, words);
+    }
+    if first == b"pgqd".as_slice() {
+        return pgqd(words);
+    }
+    Err(words.refused())
+}
+
+/// The same among the others.
+#[tactic(auto, unfolding(crate::specs::Reading::Answers, crate::specs::Reading::AnswersAmong))]
+fn read_other(alloc: Global, first: &[u8], words: &mut Words) -> Result<Stmt, LineCause>
+    ensures { AnswersAmong result first.now of_other words.old }
+{
+    if first == b"rollback".as_slice() {
+        return alone(RowStmt::Rollback, words);
+    }
+    if first == b"next_batch".as_slice() {
+        return next_batch(alloc, words);
+    }
+    if first == b"get_batch_events".as_slice() {
+        return get_batch_events(words);
     }
     if first == b"force_tick".as_slice() {
         return force_tick(alloc, words);
@@ -120,6 +136,12 @@ fn read_other(alloc: Global, first: &[u8], words: &mut Words) -> Result<Stmt, Li
     }
     if first == b"txid_visible_in_snapshot".as_slice() {
         return txid_visible_in_snapshot(alloc, words);
+    }
+    if first == b"queue_info".as_slice() {
+        return queue_info(alloc, words);
+    }
+    if first == b"set_queue_config".as_slice() {
+        return set_queue_config(alloc, words);
     }
     Err(words.refused())
 }

@@ -4,11 +4,14 @@ ghost use Rattle.std.specs.Prelude.{◌≡◌, ◌==◌, ◌&&◌, not, false, S
 ghost use Rattle.std.specs.List.{list_all};
 ghost use Rattle.sky_model.specs.Kinds as kind;
 
-use sky_val::{NoMemory, Text};
+use sky_val::{NoMemory, Text, interval_of};
 use std::alloc::Global;
 
 /// The most bytes of a name, and of two with a dot between.
 const LONGEST_NAME: usize = 63;
+
+/// The longest time by which the clock moves at once: a day, in microseconds.
+const LONGEST_ADVANCE: u64 = 86_400_000_000;
 
 fn begins_name(byte: u8) -> bool
     ensures { result ≡ kind.begins_name byte }
@@ -181,4 +184,35 @@ pub(crate) fn is_bare_word(word: &str) -> bool
     ensures { result ≡ kind.is_bare_word word.now }
 {
     !word.is_empty() && all_bare(word.as_bytes())
+}
+
+/// An interval, unless it is empty or longer than a day.
+fn advance_by(interval: u64) -> Option<i64>
+    ensures { result ≡ kind.advance_by (Some interval) }
+{
+    if (1..=LONGEST_ADVANCE).contains(&interval) {
+        Some(interval as i64)
+    } else {
+        None
+    }
+}
+
+/// What `+` and an interval say.
+fn advance_in(text: &[u8]) -> Option<i64>
+    ensures { result ≡ kind.advance_in text.now }
+{
+    advance_by(interval_of(text.strip_prefix(b"+")?)?)
+}
+
+/// By how much the clock moves: `+` and an interval, in quotes or not.
+pub(crate) fn advance_of(alloc: Global, word: &str) -> Result<Option<i64>, NoMemory>
+    ensures { IfOk result (λ time. time ≡ kind.advance_of word.now) }
+{
+    if is_bare_word(word) {
+        return Ok(advance_in(word.as_bytes()));
+    }
+    match quoted_text(alloc, word)? {
+        Some(text) => Ok(advance_in(text.bytes())),
+        None => Ok(None),
+    }
 }

@@ -7,6 +7,7 @@
 #![tactic(auto)]
 
 mod cause;
+mod clock_forms;
 mod forms;
 mod kinds;
 mod lists;

@@ -1,7 +1,7 @@
 //! The statement forms on queues: of each, what follows its first word.
 
 ghost use Rattle.std.specs.Prelude.{◌-◌, ◌^◌};
-ghost use Rattle.sky_model.specs.Kinds.{Name, Dotted, Number};
+ghost use Rattle.sky_model.specs.Kinds.{Name, Dotted, Number, Raw};
 ghost use Rattle.sky_model.specs.Grammar.{one, last};
 ghost use Rattle.sky_model.specs.Grammar as grammar;
 ghost use Rattle.sky_script.specs.Reading.{Answers};
@@ -17,6 +17,30 @@ pub(crate) fn create_queue(alloc: Global, words: &mut Words) -> Result<Stmt, Lin
     let queue = words.name(alloc)?;
     words.end()?;
     Ok(Stmt::CreateQueue { queue })
+}
+
+pub(crate) fn set_queue_config(alloc: Global, words: &mut Words) -> Result<Stmt, LineCause>
+    ensures { let row = one Name (λ queue. one Raw (λ param.
+        last Raw (λ value. Stmt.SetQueueConfig queue param value))) in
+        Answers result row words.old }
+{
+    let queue = words.name(alloc)?;
+    let param = words.raw(alloc)?;
+    let value = words.raw(alloc)?;
+    words.end()?;
+    Ok(Stmt::SetQueueConfig {
+        queue,
+        param,
+        value,
+    })
+}
+
+pub(crate) fn queue_info(alloc: Global, words: &mut Words) -> Result<Stmt, LineCause>
+    ensures { Answers result (last Name (λ queue. Stmt.QueueInfo queue)) words.old }
+{
+    let queue = words.name(alloc)?;
+    words.end()?;
+    Ok(Stmt::QueueInfo { queue })
 }
 
 #[tactic(auto, using(crate::proofs::ReadingLemmas::answers_memory))]

@@ -10,7 +10,7 @@ ghost use Rattle.sky_script.specs.Unread.{words_in, EndsWord};
 ghost use Rattle.sky_script.specs.Reading.{Answers, IsAnswer, Reads};
 
 use crate::cause::LineCause;
-use crate::kinds::{is_bare_word, is_dotted, is_name, quoted_text};
+use crate::kinds::{advance_of, is_bare_word, is_dotted, is_name, quoted_text};
 use crate::row_words::{column_of, ignore_of, set_of, value_of};
 use sky_model::{ColumnNames, Fixed, Set};
 use sky_val::{Column, Text, Val, number_of};
@@ -99,6 +99,8 @@ fn fixed_text(fixed: Fixed) -> &'static str
         Fixed::Table => "table",
         Fixed::Set => "set",
         Fixed::Backup => "backup",
+        Fixed::On => "on",
+        Fixed::Off => "off",
     }
 }
 
@@ -314,5 +316,12 @@ impl<'a> Words<'a> {
     {
         let word = self.word()?;
         ignore_of(alloc, word)?.ok_or(self.refused())
+    }
+
+    pub(crate) fn advance(&mut self, alloc: Global) -> Result<i64, LineCause>
+        ensures { Reads kind.Advance result self.old self.new }
+    {
+        let word = self.word()?;
+        advance_of(alloc, word)?.ok_or(self.refused())
     }
 }

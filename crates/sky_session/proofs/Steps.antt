@@ -28,10 +28,10 @@ use Rattle.sky_state.specs.Seen.{seen}
 use Rattle.sky_model.specs.declared.stop.Stop.{Stop}
 use Rattle.sky_model.specs.declared.stop.Stop.TheVariants as stop
 use Rattle.sky_model.specs.Sessions.{Block, outside, inside, failed, Session}
-use Rattle.sky_model.specs.SessionMarks.{look_of, sight_marks, failure, failing, Enters, entry, entry_place}
-use Rattle.sky_model.specs.RowCalls.{RowCall, row_entered}
+use Rattle.sky_model.specs.SessionMarks.{look_of, sight_marks, failure, failing, Enters, entry, entry_place, single_end, takes_id, taking, ending}
+use Rattle.sky_model.specs.RowCalls.{RowCall, row_entered, txid_taken, single_ended}
 use Rattle.sky_model.specs.RowSteps.{RowSteps}
-use Rattle.sky_model.proofs.RowCallStanding.{row_enter_from_exact}
+use Rattle.sky_model.proofs.RowCallStanding.{row_enter_from_exact, take_txid_from_exact, end_single_from_exact}
 use Rattle.sky_session.specs.Gives.{nothing, Adds, Settles, Gives, Does, Ran, Passes, Writes}
 use Rattle.sky_model.specs.Stops.{Refuses}
 use Rattle.sky_model.specs.Outcome.{marks_of}
@@ -104,6 +104,32 @@ does-take d begun new before after who t is begin end replied told =
   where
     blocks : (begun.session who).block ≡ (d.session who).block
     blocks = ap (λ (p : RowPart). (p.session who).block) begin ∙ begun-block d who t (d.session who).txid
+
+-- the same by an id that is taken, and a transaction that ends where it is of one statement
+pub taken-ended : (d begun new : RowPart) (who t : ℕ) → txid_for d who ≡ Ok t → begun ≡ after_part_marks d (begin_of who t (d.session who).txid)
+    → new ≡ after_part_marks begun (ending begun who).marks → new ≡ after_part_marks d (written who t (d.session who) [])
+taken-ended d begun new who t is begin end =
+    part-written d begun begun new who t [] begin refl (ap (λ (p : RowPart). (p.session who).block) begin ∙ begun-block d who t (d.session who).txid)
+    (end ∙ ap (after_part_marks begun) (ap (λ o. single_end who o (begun.session who).block) (begun-txid d begun who t is begin) ∙ single (begun.session who).block))
+  where
+    single : (b : Block) → single_end who (Some t) b ≡ commit_of who t b
+    single outside = refl
+    single _ = refl
+
+-- so it is what both calls make
+pub elsewhere-steps : (d new : RowPart) (who t : ℕ) → txid_for d who ≡ Ok t → new ≡ after_part_marks d (written who t (d.session who) [])
+    → RowSteps d (after_part_marks d (taking d who).marks) (txid_taken who) (taking d who)
+    × RowSteps (after_part_marks d (taking d who).marks) new (single_ended who) (ending (after_part_marks d (taking d who).marks) who)
+elsewhere-steps d new who t is changed = (
+  take_txid_from_exact d begun who t is begin,
+  end_single_from_exact begun new who (changed ∙ sym (taken-ended d begun (after_part_marks begun (ending begun who).marks) who t is begin refl)),
+)
+  where
+    begun : RowPart
+    begun = after_part_marks d (taking d who).marks
+
+    begin : begun ≡ after_part_marks d (begin_of who t (d.session who).txid)
+    begin = ap (λ o. after_part_marks d (takes_id who (d.session who).txid o).marks) is
 
 -- a turn is added behind another
 pub adds-behind : {G : Type 0} (gate : Gate G) (old mid new : RowPart × G) (before middle after : RowStep) (turn rest : Turn) → Adds gate old mid before middle turn → Adds gate mid new middle after rest

@@ -1,8 +1,9 @@
 //! Which statements a session may make, and the transaction of a statement: the one of its session's block, or one of
 //! its own.
 
-ghost use Rattle.std.specs.Prelude.{◌≡◌, ◌<◌, ◌++◌, [], ◌∷◌, true, false, None, Ok, length, IfOk, IfErr, OnOk, OnErr};
+ghost use Rattle.std.specs.Prelude.{◌≡◌, ◌<◌, ◌++◌, [], ◌∷◌, true, false, None, Ok, Err, length, IfOk, IfErr, OnOk, OnErr, MatchOption};
 ghost use Rattle.sky_keys.specs.Waits.{other_holder, is_waiting};
+ghost use Rattle.sky_model.specs.declared.reply.Refusal.TheVariants.{TxidsSpent};
 ghost use Rattle.sky_model.specs.History.{of_session, tabled, wrote};
 ghost use Rattle.sky_model.specs.Outcome.{end_of};
 ghost use Rattle.sky_model.specs.Sessions.{outside};
@@ -19,18 +20,28 @@ use sky_model::{Refusal, Where};
 use sky_state::RowState;
 use sky_val::{NoMemory, Row, SessionId};
 
-/// The id of the session's transaction: its own, or the next one.
+/// The id of the session's transaction: its own, or the next one, if there is one.
+pub(crate) fn next_txid(state: &RowState, who: SessionId) -> Option<u64>
+    ensures { MatchOption result (txid_for (seen state.now) who ≡ Err TxidsSpent) (λ txid. txid_for (seen state.now) who ≡ Ok txid) }
+{
+    if let Some(txid) = state.own_txid(who) {
+        return Some(txid);
+    }
+    if !state.id_left() {
+        return None;
+    }
+    Some(state.next_id())
+}
+
+/// The same for a statement, which is refused where there is none.
 pub(crate) fn txid_for(state: &RowState, who: SessionId) -> Result<u64, Refusal>
     ensures ok { IfOk result (λ txid. txid_for (seen state.now) who ≡ Ok txid) }
     ensures err { IfErr result (λ refusal. txid_for (seen state.now) who ≡ Err refusal) }
 {
-    if let Some(txid) = state.own_txid(who) {
-        return Ok(txid);
+    match next_txid(state, who) {
+        Some(txid) => Ok(txid),
+        None => Err(Refusal::TxidsSpent),
     }
-    if !state.id_left() {
-        return Err(Refusal::TxidsSpent);
-    }
-    Ok(state.next_id())
 }
 
 /// Lets the session make a statement that may stand at this place, or refuses it. A repeatable read block takes its
@@ -69,6 +80,25 @@ pub(crate) fn begin_own(state: &mut RowState, who: SessionId, txid: u64) -> Resu
     if state.own_txid(who).is_none() {
         state.began(who)?;
     }
+    Ok(())
+}
+
+/// Gives the session's transaction this id, where it has none. Where the session is in no block, it then commits, and
+/// has written no row.
+pub(crate) fn take_own(state: &mut RowState, who: SessionId, txid: u64) -> Result<(), NoMemory>
+    requires { txid_for (seen state.old) who ≡ Ok txid }
+    ensures ok { OnOk result (seen state.new ≡ after_part_marks (seen state.old) (written who txid ((seen state.old).session who) [])) }
+    ensures err { OnErr result (seen state.new ≡ seen state.old) }
+{
+    if state.own_txid(who).is_some() {
+        commit_alone(state, who);
+        return Ok(());
+    }
+    if state.block(who) == Block::Outside {
+        state.committed_alone(who);
+        return Ok(());
+    }
+    state.began(who)?;
     Ok(())
 }
 

@@ -6,7 +6,7 @@ ghost use Rattle.sky_model.specs.InForm.{IsRowInForm};
 ghost use Rattle.sky_model.specs.Sessions.{outside};
 ghost use Rattle.sky_model.specs.State.{part_of, after_part_marks};
 ghost use Rattle.sky_model.specs.ShownRows.{snapshot_now, snapshot_for, least_writer};
-ghost use Rattle.sky_model.specs.OwnTransaction.{txid_for, begin_of};
+ghost use Rattle.sky_model.specs.OwnTransaction.{txid_for, begin_of, written};
 ghost use Rattle.sky_model.specs.SessionMarks.{Enters, entry, entry_place, failing, taking, ending};
 ghost use Rattle.sky_model.specs.Reader.{part_by_itself};
 ghost use Rattle.sky_model.specs.Gates.{by_gate};
@@ -21,7 +21,7 @@ ghost use Rattle.sky_state.specs.Seen.{seen};
 
 use crate::answer::RowStep;
 use crate::effect::Effects;
-use crate::own_transaction::{abort_block, admit, begin_own, commit_alone, txid_for};
+use crate::own_transaction::{abort_block, admit, begin_own, commit_alone, next_txid, take_own};
 use crate::settling::settle_behind;
 use crate::statements::own_answer;
 use sky_fits::Block;
@@ -222,11 +222,18 @@ impl RowDb {
         self.state.is_at_rest()
     }
 
+    /// The id of the session's transaction: its own, or the next one, if there is one.
+    pub fn next_txid(&self, who: SessionId) -> Option<u64>
+        ensures { MatchOption result (txid_for (seen self.now) who ≡ Err TxidsSpent) (λ txid. txid_for (seen self.now) who ≡ Ok txid) }
+    {
+        next_txid(&self.state, who)
+    }
+
     /// Whether the session's transaction has an id, or can get one.
     pub fn id_left(&self, who: SessionId) -> bool
         ensures { result ≡ is_ok (txid_for (seen self.now) who) }
     {
-        self.state.own_txid(who).is_some() || self.state.id_left()
+        self.next_txid(who).is_some()
     }
 
     /// The id of the session's transaction, which gets one where it has none.
@@ -238,14 +245,24 @@ impl RowDb {
         ensures steps { OnOk result (RowSteps (seen self.old) (seen self.new) (txid_taken who) (taking (seen self.old) who)) }
         ensures steps_spent { result ≡ Err TransFault.TxidsSpent → RowSteps (seen self.old) (seen self.new) (txid_taken who) (taking (seen self.old) who) }
     {
-        let txid = match txid_for(&self.state, who) {
-            Ok(txid) => txid,
-            Err(_) => return Err(TransFault::TxidsSpent),
+        let Some(txid) = self.next_txid(who) else {
+            return Err(TransFault::TxidsSpent);
         };
-        match begin_own(&mut self.state, who, txid) {
-            Ok(()) => Ok(txid),
-            Err(_) => Err(TransFault::NoMemory),
-        }
+        begin_own(&mut self.state, who, txid)?;
+        Ok(txid)
+    }
+
+    /// What a session writes elsewhere, in its transaction, which has this id or gets it: outside a block that then
+    /// commits. It is the same as `take_txid`, and then `end_single`.
+    pub fn write_elsewhere(&mut self, who: SessionId, txid: u64) -> Result<(), NoMemory>
+        requires { txid_for (seen self.old) who ≡ Ok txid }
+        ensures marks { OnOk result (seen self.new ≡ after_part_marks (seen self.old) (written who txid ((seen self.old).session who) [])) }
+        ensures same { OnErr result (seen self.new ≡ seen self.old) }
+        ensures steps { let begun = after_part_marks (seen self.old) (taking (seen self.old) who).marks in OnOk result (
+            RowSteps (seen self.old) begun (txid_taken who) (taking (seen self.old) who) × RowSteps begun (seen self.new) (single_ended who) (ending begun who)) }
+    {
+        take_own(&mut self.state, who, txid)?;
+        Ok(())
     }
 
     /// Commits the session's transaction, where it is in no block. Nothing happens in a block, or where no id was taken.

@@ -88,17 +88,33 @@ gone-again old table t n u = by (t == u) (table == n)
     by false true = refl
     by false false = refl
 
+-- a transaction that writes no row
+pub spent-as : (v now : RowStateView) (trans : TransView) (writers : List (ℕ × ℕ)) (locks : LocksView) (who : ℕ) → v ≡ now → ((seen now).session who).txid ≡ None
+    → contains v.trans.next v.trans.running ≡ false → trans ≡ record v.trans { next = v.trans.next + 1 }
+    → wrote_in writers ≡ (λ n u. not (v.trans.next == u) && wrote_in v.writers n u) → holder locks ≡ released who (holder v.locks) → locks.waiting ≡ v.locks.waiting
+    → seen (record v { trans = trans; writers = writers; locks = locks }) ≡ after_part_marks (seen now) (began (of_session who) (seen now).next ∷ ended (of_session who) (seen now).next true ∷ [])
+spent-as v now trans writers locks who same none fresh passed gone keys waits =
+    (λ i. record (seen v) {
+      next = (passed i).next;
+      running_ids = (ap (λ (w : TransView). w.running) passed ∙ sym (others-run v.trans.next v.trans.running fresh)) i;
+      session = sym (no-id-again (session_of v.sessions) who v.trans.next (ap (λ (w : RowStateView). ((seen w).session who).txid) same ∙ none)) i;
+      wrote_in = gone i;
+      holder = keys i;
+      waiting = waits i;
+    })
+    ∙ ap (λ (w : RowStateView). after_part_marks (seen w) (began (of_session who) (seen w).next ∷ ended (of_session who) (seen w).next true ∷ [])) same
+
 -- a transaction of one write
 pub alone-as : (v now : RowStateView) (trans : TransView) (tables : List TableView) (writers : List (ℕ × ℕ)) (locks : LocksView) (who table : ℕ) (key : List Val) (row : Option (List Val)) → v ≡ now → ((seen now).session who).txid ≡ None
-    → other_holder (seen now).holder who table key ≡ None → trans ≡ record { next = v.trans.next + 1; running = filter (λ u. not (u == v.trans.next)) (v.trans.running ++ v.trans.next ∷ []) }
+    → other_holder (seen now).holder who table key ≡ None → contains v.trans.next v.trans.running ≡ false → trans ≡ record v.trans { next = v.trans.next + 1 }
     → columns_of tables ≡ columns_of v.tables.values → versions_of tables ≡ changed_at table (written v.trans.next key row) (versions_of v.tables.values)
     → wrote_in writers ≡ (λ n u. not (v.trans.next == u) && wrote_in v.writers n u) → holder locks ≡ released who (holder v.locks) → locks.waiting ≡ v.locks.waiting
     → seen (record v { trans = trans; tables = record v.tables { values = tables }; writers = writers; locks = locks })
     ≡ after_part_marks (seen now) (began (of_session who) (seen now).next ∷ tabled (wrote (of_session who) (seen now).next table key None row) ∷ ended (of_session who) (seen now).next true ∷ [])
-alone-as v now trans tables writers locks who table key row same none free passed columns versions gone keys waits =
+alone-as v now trans tables writers locks who table key row same none free fresh passed columns versions gone keys waits =
     (λ i. record (seen v) {
       next = (passed i).next;
-      running_ids = (passed i).running;
+      running_ids = (ap (λ (w : TransView). w.running) passed ∙ sym (others-run v.trans.next v.trans.running fresh)) i;
       session = sym (no-id-again (session_of v.sessions) who v.trans.next (ap (λ (w : RowStateView). ((seen w).session who).txid) same ∙ none)) i;
       columns = columns i;
       versions = versions i;

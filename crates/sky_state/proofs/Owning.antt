@@ -70,13 +70,6 @@ owned-end old new before after who t is less own owned = subst (λ s. AreOwned s
 pub owned-kept : (old new : ℕ → Session) (running : List ℕ) → new ≡ old → AreOwned old running → AreOwned new running
 owned-kept old new running is owned = subst (λ s. AreOwned s running) (sym is) owned
 
--- one more runs, which is no session's
-pub owned-more : (old new : ℕ → Session) (before after : List ℕ) (t : ℕ) → new ≡ old → after ≡ before ++ t ∷ [] → AreOwned old before → AreOwned new after
-owned-more old new before after t is more owned = subst (λ s. AreOwned s after) (sym is) (subst (AreOwned old) (sym more) (record {
-  runs = λ who u e. contains-push u t before ∙ ap (λ b. b || u == t) (owned.runs who u e);
-  once = owned.once;
-}))
-
 abbrev IsWithin : ℕ → Waiting → Type 0
 IsWithin tables w = w.table < tables
 

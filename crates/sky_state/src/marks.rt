@@ -16,9 +16,7 @@ use sky_locks::{LockKey, Taken};
 use sky_model::Attempt;
 use sky_names::Named;
 use sky_rows::Table;
-use sky_trans::TransFault;
 use sky_val::{Key, NoMemory, Row, Schema, SessionId, Text};
-use std::alloc::AllocError;
 
 impl RowState {
     /// The session opened the database.
@@ -44,11 +42,7 @@ impl RowState {
         ensures err { OnErr result (seen self.new ≡ seen self.old) }
     {
         self.sessions.make_room(who)?;
-        let txid = match self.trans.assign() {
-            Ok(txid) => txid,
-            Err(TransFault::NoMemory) => return Err(AllocError),
-            Err(TransFault::TxidsSpent) => unreachable!(),
-        };
+        let txid = self.trans.begin()?;
         self.sessions.begin_txid(who, txid);
         Ok(txid)
     }
@@ -171,11 +165,7 @@ impl RowState {
             OnOk result (seen self.new ≡ after_part_marks (seen self.old) (began (of_session who) t ∷ tabled (wrote (of_session who) t key.table key.key None row) ∷ ended (of_session who) t true ∷ [])) }
     {
         let least = self.trans.least();
-        let txid = match self.trans.assign() {
-            Ok(txid) => txid,
-            Err(TransFault::NoMemory) => return Err(AllocError),
-            Err(TransFault::TxidsSpent) => unreachable!(),
-        };
+        let txid = self.trans.spend();
         put_row(
             self.tables.get_mut(key.table as usize),
             least,
@@ -183,10 +173,21 @@ impl RowState {
             key.key,
             row,
         )?;
-        self.trans.commit(txid);
         self.writers.end(txid);
         self.locks.release(who);
         Ok(())
+    }
+
+    /// A transaction of its own, which gets the next id and commits with no write of a row.
+    pub fn committed_alone(&mut self, who: SessionId)
+        requires single { ((seen self.old).session who).txid ≡ None }
+        requires room { (seen self.old).next < 2 ^ 62 }
+        ensures { let t = (seen self.old).next in
+            seen self.new ≡ after_part_marks (seen self.old) (began (of_session who) t ∷ ended (of_session who) t true ∷ []) }
+    {
+        let txid = self.trans.spend();
+        self.writers.end(txid);
+        self.locks.release(who);
     }
 
     /// The session waits no longer. The answer is what it was to do.

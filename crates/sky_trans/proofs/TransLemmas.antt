@@ -49,6 +49,12 @@ sound_assigned trans running h room is =
     let s = sound trans h in
     is_trans_from (trans.next + 1) running (omega arith) (omega arith) (rw is (rising-push 3 trans.next (trans.next + 1) trans.running s.first (omega arith) s.rises))
 
+-- after the next id was given to one that has ended
+pub sound_spent : (trans : TransView) → is_trans trans ≡ true → trans.next < 2 ^ 62 → is_trans (record trans { next = trans.next + 1 }) ≡ true
+sound_spent trans h room =
+    let s = sound trans h in
+    is_trans_from (trans.next + 1) trans.running (omega arith) (omega arith) (rising-wider 3 trans.next 3 (trans.next + 1) trans.running (omega arith) (omega arith) s.rises)
+
 -- after an id was taken out
 pub sound_ended : (trans : TransView) (t : ℕ) (running : List ℕ) → is_trans trans ≡ true → running ≡ filter (λ u. not (u == t)) trans.running → is_trans (record { next = trans.next; running = running }) ≡ true
 sound_ended trans t running h is =

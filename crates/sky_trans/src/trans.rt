@@ -6,7 +6,7 @@ ghost use Rattle.sky_trans.specs.Trans.{is_trans};
 
 use sky_txid::Snapshot;
 use sky_val::NoMemory;
-use std::alloc::{AllocFailed, Global};
+use std::alloc::{AllocError, Global};
 use std::marker::Model;
 use thiserror::Error;
 
@@ -27,12 +27,12 @@ pub enum TransFault {
     NoMemory,
 }
 
-impl From<AllocFailed<u64>> for TransFault {
+impl From<AllocError> for TransFault {
     ghost use Rattle.sky_trans.specs.declared.trans.TransFault.TheVariants.{NoMemory};
 
     ghost from_gives = { λ _ fault. fault ≡ NoMemory };
 
-    fn from(_: AllocFailed<u64>) -> TransFault {
+    fn from(_: AllocError) -> TransFault {
         TransFault::NoMemory
     }
 }
@@ -81,10 +81,34 @@ impl Trans {
         if !self.id_left() {
             return Err(TransFault::TxidsSpent);
         }
+        Ok(self.begin()?)
+    }
+
+    /// The same where an id is left.
+    pub fn begin(&mut self) -> Result<u64, NoMemory>
+        requires { self.old.next < 2 ^ 62 }
+        ensures id { IfOk result (λ t. t ≡ self.old.next) }
+        ensures fresh { IfOk result (λ t. contains t self.old.running ≡ false) }
+        ensures ok { let t = self.old.next in
+            OnOk result (self.new ≡ record { next = t + 1; running = self.old.running ++ t ∷ [] }) }
+        ensures err { OnErr result (self.new ≡ self.old) }
+    {
         let t = self.next;
         self.running.push(t)?;
         self.next += 1;
         Ok(t)
+    }
+
+    /// Gives the next id to a transaction that ends at once, so it is never among those that run.
+    pub fn spend(&mut self) -> u64
+        requires { self.old.next < 2 ^ 62 }
+        ensures id { result ≡ self.old.next }
+        ensures fresh { contains result self.old.running ≡ false }
+        ensures next { self.new ≡ record self.old { next = self.old.next + 1 } }
+    {
+        let t = self.next;
+        self.next = t + 1;
+        t
     }
 
     /// Ends a transaction whose writes stay.

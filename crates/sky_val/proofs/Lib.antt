@@ -3,3 +3,4 @@ pub mod Orders
 pub mod NumberLemmas
 pub mod SchemaLemmas
 pub mod SchemaLaws
+mod WorkedIntervals

@@ -1,5 +1,5 @@
-//! Values that every other crate speaks of: texts, numbers as they are written, rows and keys, the
-//! schema of a table, events and session numbers.
+//! Values that every other crate speaks of: texts, numbers and intervals as they are written, rows and
+//! keys, the schema of a table, events and session numbers.
 //!
 //! A `Text` is seen as the list of its bytes, which are UTF-8, a `Row` and a `Key` as the lists of
 //! their values, a `Schema` as the list of its columns, and an `Event` as its fields. Who waits for
@@ -10,6 +10,7 @@
 mod boxed_text;
 mod column;
 mod event;
+mod intervals;
 mod key;
 mod numbers;
 mod op;
@@ -22,6 +23,7 @@ mod val;
 pub use boxed_text::BoxedText;
 pub use column::{ColKind, Column, copy_columns};
 pub use event::Event;
+pub use intervals::interval_of;
 pub use key::Key;
 pub use numbers::{int_of, number_of};
 pub use op::Op;

@@ -1,1 +1,3 @@
 pub mod Worlds
+pub mod Daemons
+pub mod Clocks

@@ -4,10 +4,11 @@ use Rattle.std.proofs.lemmas.List.Elements.{All-append, All-set, All-get_or, All
 use Rattle.std.proofs.lemmas.Bool.Decides.{nat_tests}
 use Rattle.std.proofs.lemmas.List.{get_or_past}
 use Rattle.std.proofs.lemmas.Option.{get_or_from_slice_get, slice_get_read}
-use Rattle.sky_keys.specs.Waits.{Waiting}
 use Rattle.sky_names.specs.Places.{place_of}
 use Rattle.sky_names.specs.Named.{NamedView, with_value}
+use Rattle.sky_keys.specs.Waits.{is_waiting, Waiting}
 use Rattle.sky_model.specs.declared.stmt.Stmt.{Stmt}
+use Rattle.sky_model.specs.declared.stmt.Stmt.TheVariants.{PgqdOn, PgqdOff}
 use Rattle.sky_model.specs.declared.reply.Refusal.TheVariants.{TooMany}
 use Rattle.sky_model.specs.declared.reply.Limit.TheVariants.{Sessions, Databases}
 use Rattle.sky_model.specs.declared.reply.Reply.{Reply}
@@ -17,7 +18,8 @@ use Rattle.sky_model.specs.World.{World, world_of, after_fact, after_facts}
 use Rattle.sky_model.specs.Printed.{HaveMoments}
 use Rattle.sky_model.specs.Reader.{database_by_itself, within_database, by_world, Deed, refuses, appears, founds, joined, followed}
 use Rattle.sky_model.specs.Settling.{Turn}
-use Rattle.sky_model.specs.Calls.{Call, database_turn, deed_in, left_if, opens_in, opens, turn, called}
+use Rattle.sky_model.specs.Clock.{deed_in}
+use Rattle.sky_model.specs.Calls.{Call, database_turn, is_leaving, left_if, may_make, beside, of_daemon_if, opens_in, opens, session_does, turn, called}
 use Rattle.sky_model.specs.Steps.{Steps, deed_at}
 use Rattle.sky_model.proofs.Standing.{steps_from_exact}
 use Rattle.sky_model.proofs.RowStanding.{turn-within}
@@ -31,6 +33,7 @@ use Rattle.sky_world.specs.Seen.{seen_world}
 use Rattle.sky_world.specs.Homes.{HomesWithin}
 use Rattle.sky_world.specs.Waiters.{AllWaitersWithin}
 use Rattle.sky_world.specs.Adds.{AddsDeed, AddsCall}
+use Rattle.sky_world.specs.Works.{is_pgqd}
 
 -- marks in a database change that database alone
 pub after_facts-within : (w : World) (d : ℕ) (marks : List Mark) → after_facts w (map (within d) marks) ≡ record w { database = changed_at d (λ x. after_marks x marks) w.database }
@@ -82,10 +85,10 @@ homes-at v now who home same all lt is =
 none-there : {A : Type 0} (n : ℕ) (d : A) → get_or [] n d ≡ d
 none-there n d = get_or_past [] n d (omega arith)
 
-pub world-new : (sessions : NamedView (Option ℕ)) (databases : NamedView DbView) → sessions ≡ record { names = []; values = [] } → databases ≡ record { names = []; values = [] }
-    → seen_world (record { now = pos 0; sessions = sessions; databases = databases }) ≡ world_of []
-world-new sessions databases nobody nothing =
-    (λ i. seen_world (record { now = pos 0; sessions = nobody i; databases = nothing i }))
+pub world-new : (sessions : NamedView (Option ℕ)) (databases : NamedView DbView) (daemons : List (ℕ × ℤ)) → sessions ≡ record { names = []; values = [] } → databases ≡ record { names = []; values = [] }
+    → daemons ≡ [] → seen_world (record { now = pos 0; sessions = sessions; databases = databases; daemons = daemons; has_failed = false }) ≡ world_of []
+world-new sessions databases daemons nobody nothing none =
+    (λ i. seen_world (record { now = pos 0; sessions = nobody i; databases = nothing i; daemons = none i; has_failed = false }))
     ∙ (λ i. record (world_of []) { homes = λ who. none-there who None i; database = λ d. (ap seen_database (none-there d no_database) ∙ no_database-is) i })
 
 -- an entry that is read as those past the end changes nothing that is shown
@@ -129,7 +132,7 @@ founded-as v now databases new name copied same more is empty =
     ∙ ap (λ w. after_fact (seen_world w) (founded name)) same
 
 -- facts one after the other
-after_facts-append : (w : World) (xs ys : List Fact) → after_facts w (xs ++ ys) ≡ after_facts (after_facts w xs) ys
+pub after_facts-append : (w : World) (xs ys : List Fact) → after_facts w (xs ++ ys) ≡ after_facts (after_facts w xs) ys
 after_facts-append w [] ys = refl
 after_facts-append w (x ∷ xs) ys = after_facts-append (after_fact w x) xs ys
 
@@ -143,6 +146,32 @@ IsWithin count answer = answer.0 ≤ count
 known-numbered : (count more : ℕ) (replies : List (ℕ × Reply)) → count ≤ more → All (λ (answer : ℕ × Reply). answer.0 < count) replies → All (λ (answer : ℕ × Reply). answer.0 ≤ more) replies
 known-numbered count more replies le all = All-weaker (IsKnown count) (IsWithin more) (λ answer lt. omega (arith, lt, le)) replies all
 
+-- the database that is kept at a place
+pub store-there : (v : WorldView) (d : ℕ) (old : DbView) → d < length v.databases.values → old ≡ get_or v.databases.values d old → get_or v.databases.values d no_database ≡ old
+store-there v d old lt at = get_or_from_slice_get v.databases.values d old no_database (slice_get_read v.databases.values (length v.databases.values) d old refl lt at)
+
+-- marks in it
+pub store-changed : (v : WorldView) (d : ℕ) (old new : DbView) (marks : List Mark) → d < length v.databases.values → old ≡ get_or v.databases.values d old → seen_database new ≡ after_marks (seen_database old) marks
+    → seen_world (record v { databases = with_value v.databases d new }) ≡ after_facts (seen_world v) (map (within d) marks)
+store-changed v d old new marks lt at is = shown ∙ sym (after_facts-within (seen_world v) d marks)
+  where
+    there : get_or v.databases.values d no_database ≡ old
+    there = store-there v d old lt at
+
+    by : (n : ℕ) (b : Bool) → (d == n) ≡ b → seen_database (if b then new else get_or v.databases.values n no_database)
+        ≡ (if b then after_marks (seen_database (get_or v.databases.values n no_database)) marks else seen_database (get_or v.databases.values n no_database))
+    by n true e =
+        let one : d ≡ n = grind (arith, nat_tests) in
+        is
+        ∙ ap (λ x. after_marks (seen_database x) marks) (sym there)
+        ∙ ap (λ m. after_marks (seen_database (get_or v.databases.values m no_database)) marks) one
+    by n false e = refl
+
+    shown : seen_world (record v { databases = with_value v.databases d new }) ≡ record (seen_world v) { database = changed_at d (λ y. after_marks y marks) (seen_world v).database }
+    shown = λ i. record (seen_world v) {
+      database = λ n. (ap seen_database (get_or-changed v.databases.values d n new no_database lt) ∙ by n (d == n) refl) i;
+    }
+
 -- what a statement of a database adds in the world
 pub adds-within : (v now : WorldView) (d who : ℕ) (old new : DbView) (stmt : Stmt) (before after : List (ℕ × Reply)) (t : ℤ) → v ≡ now → d < length v.databases.values
     → old ≡ get_or v.databases.values d old → t ≡ v.now
@@ -155,16 +184,15 @@ adds-within v now d who old new stmt before after t same lt at is adds moments k
   answered = adds.replied ∙ ap (λ (u : Turn). before ++ u.answers) turn_is;
   known = subst (λ (u : Turn). All (IsKnown (length now.sessions.names)) u.answers) turn_is known;
   moments = subst (λ (u : Turn). HaveMoments u.answers) turn_is moments;
-  changed = shown
-      ∙ ap (λ (u : Turn). record (seen_world v) { database = changed_at d (λ y. after_marks y u.marks) (seen_world v).database }) turn_is
-      ∙ sym (after_facts-within (seen_world v) d whole.marks)
+  changed = store-changed v d old new done.marks lt at adds.changed
+      ∙ ap (λ (u : Turn). after_facts (seen_world v) (map (within d) u.marks)) turn_is
       ∙ ap (λ w. after_facts (seen_world w) (map (within d) whole.marks)) same
       ∙ ap (λ facts. after_facts (seen_world now) facts) (sym (append-nil (map (within d) whole.marks)));
   sessions = ap (λ (w : WorldView). w.sessions.names) same;
 }
   where
     there : get_or v.databases.values d no_database ≡ old
-    there = get_or_from_slice_get v.databases.values d old no_database (slice_get_read v.databases.values (length v.databases.values) d old refl lt at)
+    there = store-there v d old lt at
 
     whole : Turn
     whole = database_turn (within_database by_world d) (seen_world now) (seen_world now).now who stmt
@@ -179,20 +207,6 @@ adds-within v now d who old new stmt before after t same lt at is adds moments k
         ∙ ap (λ (w : WorldView). database_turn database_by_itself ((seen_world w).database d) w.now who stmt) same
         ∙ sym (turn-within (seen_world now) d (seen_world now).now who stmt)
 
-    by : (n : ℕ) (b : Bool) → (d == n) ≡ b → seen_database (if b then new else get_or v.databases.values n no_database)
-        ≡ (if b then after_marks (seen_database (get_or v.databases.values n no_database)) done.marks else seen_database (get_or v.databases.values n no_database))
-    by n true e =
-        let one : d ≡ n = grind (arith, nat_tests) in
-        adds.changed
-        ∙ ap (λ x. after_marks (seen_database x) done.marks) (sym there)
-        ∙ ap (λ m. after_marks (seen_database (get_or v.databases.values m no_database)) done.marks) one
-    by n false e = refl
-
-    shown : seen_world (record v { databases = with_value v.databases d new }) ≡ record (seen_world v) { database = changed_at d (λ y. after_marks y done.marks) (seen_world v).database }
-    shown = λ i. record (seen_world v) {
-      database = λ n. (ap seen_database (get_or-changed v.databases.values d n new no_database lt) ∙ by n (d == n) refl) i;
-    }
-
 -- and what it changes outside of databases
 pub adds-moved : (old s new : WorldView) (d : ℕ) (fact : Fact) (before after : List (ℕ × Reply)) (turn : Turn) → AddsDeed old s before after (deed_in d [] turn)
     → seen_world new ≡ after_fact (seen_world s) fact → new.sessions.names ≡ s.sessions.names → AddsDeed old new before after (deed_in d (fact ∷ []) turn)
@@ -205,11 +219,43 @@ adds-moved old s new d fact before after turn adds is same = record {
   sessions = same ∙ adds.sessions;
 }
 
+-- a statement that isn't on the daemon leaves it as it is
+of_daemon-none : (may : Bool) (d : ℕ) (start : Option ℤ) (stmt : Stmt) → is_pgqd stmt ≡ false → of_daemon_if may d start stmt ≡ []
+of_daemon-none false d start stmt other = refl
+of_daemon-none true d None PgqdOn other = absurd (cc)
+of_daemon-none true d (Some start) PgqdOn other = absurd (cc)
+of_daemon-none true d None PgqdOff other = absurd (cc)
+of_daemon-none true d (Some start) PgqdOff other = absurd (cc)
+of_daemon-none true d None _ other = refl
+of_daemon-none true d (Some start) _ other = refl
+
+beside-leaving : (w : World) (who : ℕ) (stmt : Stmt) (d : ℕ) (leaving : Bool) → is_pgqd stmt ≡ false → leaving ≡ is_leaving (is_waiting who (w.database d).part.waiting) stmt → left_if who leaving ≡ beside w who stmt d
+beside-leaving w who stmt d leaving other is =
+    ap (left_if who) is
+    ∙ sym (append-nil (left_if who (is_leaving (is_waiting who (w.database d).part.waiting) stmt)))
+    ∙ ap (λ facts. left_if who (is_leaving (is_waiting who (w.database d).part.waiting) stmt) ++ facts) (sym (of_daemon-none (may_make (w.database d) who stmt) d (w.daemons d) stmt other))
+
 -- a statement with which its session leaves
-pub adds-left : (old s new : WorldView) (d who : ℕ) (leaving : Bool) (before after : List (ℕ × Reply)) (turn : Turn) → leaving ≡ true → AddsDeed old s before after (deed_in d [] turn)
-    → seen_world new ≡ after_fact (seen_world s) (left who) → new.sessions.names ≡ s.sessions.names → AddsDeed old new before after (deed_in d (left_if who leaving) turn)
-adds-left old s new d who leaving before after turn leaves adds is same =
-    subst (λ b. AddsDeed old new before after (deed_in d (left_if who b) turn)) (sym leaves) (adds-moved old s new d (left who) before after turn adds is same)
+pub adds-left : (old s new : WorldView) (d who : ℕ) (stmt : Stmt) (leaving : Bool) (before after : List (ℕ × Reply)) → is_pgqd stmt ≡ false
+    → leaving ≡ is_leaving (is_waiting who ((seen_world old).database d).part.waiting) stmt → leaving ≡ true
+    → AddsDeed old s before after (deed_in d [] (database_turn (within_database by_world d) (seen_world old) (seen_world old).now who stmt))
+    → seen_world new ≡ after_fact (seen_world s) (left who) → new.sessions.names ≡ s.sessions.names → AddsDeed old new before after (session_does by_world (seen_world old) who stmt (Some d))
+adds-left old s new d who stmt leaving before after other is leaves adds shows same =
+    subst (λ facts. AddsDeed old new before after (deed_in d facts turn))
+    (ap (left_if who) (sym leaves) ∙ beside-leaving (seen_world old) who stmt d leaving other is)
+    (adds-moved old s new d (left who) before after turn adds shows same)
+  where
+    turn : Turn
+    turn = database_turn (within_database by_world d) (seen_world old) (seen_world old).now who stmt
+
+-- or stays
+pub adds-stayed : (old new : WorldView) (d who : ℕ) (stmt : Stmt) (leaving : Bool) (before after : List (ℕ × Reply)) → is_pgqd stmt ≡ false
+    → leaving ≡ is_leaving (is_waiting who ((seen_world old).database d).part.waiting) stmt → leaving ≡ false
+    → AddsDeed old new before after (deed_in d [] (database_turn (within_database by_world d) (seen_world old) (seen_world old).now who stmt))
+    → AddsDeed old new before after (session_does by_world (seen_world old) who stmt (Some d))
+adds-stayed old new d who stmt leaving before after other is stays adds =
+    subst (λ facts. AddsDeed old new before after (deed_in d facts (database_turn (within_database by_world d) (seen_world old) (seen_world old).now who stmt)))
+    (ap (left_if who) (sym stays) ∙ beside-leaving (seen_world old) who stmt d leaving other is) adds
 
 -- `open` in a database that is made by it
 pub opens-new : (old s new : WorldView) (who number : ℕ) (stmt : Stmt) (name : List ℕ) (before after : List (ℕ × Reply)) → length old.databases.names < 16 → number ≡ length old.databases.names

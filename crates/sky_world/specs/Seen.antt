@@ -1,5 +1,8 @@
 -- The readings of the definitions, in what the code keeps of the world.
 use Rattle.std.specs.Prelude.{None, slice_index_or}
+use Rattle.std.specs.Ordering.{nat_cmp}
+use Rattle.std.specs.BTreeMap.{is_at}
+use Rattle.std.specs.Map.{lookup}
 use Rattle.sky_model.specs.World.{World}
 use Rattle.pgq_db.specs.Seen.{seen_database, no_database}
 use Rattle.sky_world.specs.Views.{WorldView}
@@ -11,4 +14,5 @@ seen_world w = record {
   databases = w.databases.names;
   homes = λ who. slice_index_or w.sessions.values who None;
   database = λ d. seen_database (slice_index_or w.databases.values d no_database);
+  daemons = λ d. lookup (is_at (nat_cmp d)) w.daemons;
 }

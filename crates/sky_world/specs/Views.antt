@@ -1,5 +1,5 @@
 -- What contracts see of the world, as the code keeps it.
-use Rattle.std.specs.Prelude.{ℕ, ℤ, Option}
+use Rattle.std.specs.Prelude.{ℕ, ℤ, Bool, List, Option}
 use Rattle.sky_names.specs.Named.{NamedView}
 use Rattle.pgq_db.specs.Views.{DbView}
 
@@ -8,3 +8,7 @@ pub record WorldView : Type 0 where
   -- the database that each session has open
   pub sessions : NamedView (Option ℕ)
   pub databases : NamedView DbView
+  -- the databases whose daemon is on, each with the moment from which on it is
+  pub daemons : List (ℕ × ℤ)
+  -- whether memory was wanting once
+  pub has_failed : Bool

@@ -6,6 +6,7 @@
 //! Nothing here reads or prints a byte.
 #![tactic(auto)]
 
+mod clock;
 mod world;
 
-pub use world::World;
+pub use world::{World, WorldFault};

@@ -1,36 +1,52 @@
-ghost use Rattle.std.specs.Prelude.{◌≡◌, ◌+◌, ◌<◌, ◌≤◌, [], ◌∷◌, true, false, Some, None, IfOk, OnOk, IfSome, All, length, option_copied};
+ghost use Rattle.std.specs.Prelude.{◌≡◌, ◌↔◌, ◌+◌, ◌<◌, ◌≤◌, [], ◌∷◌, true, false, Some, None, Err, IfOk, OnOk, OnErr, IfSome, All, length, option_copied};
 ghost use Rattle.sky_keys.specs.Waits.{is_waiting};
 ghost use Rattle.sky_names.specs.Places.{place_of};
 ghost use Rattle.sky_model.specs.Kinds.{is_name};
 ghost use Rattle.sky_model.specs.InForm.{IsInForm};
 ghost use Rattle.sky_model.specs.History.{appeared, founded, entered, left};
 ghost use Rattle.sky_model.specs.Printed.{HaveMoments, ReplyHasMoments};
-ghost use Rattle.sky_model.specs.World.{world_of, after_fact};
+ghost use Rattle.sky_model.specs.World.{world_of, after_fact, after_facts};
 ghost use Rattle.sky_model.specs.Reader.{within_database, by_world};
-ghost use Rattle.sky_model.specs.Calls.{database_turn, is_leaving, deed_in, opening, unopened, opens_in, opens, outside_does, session_does, turn};
+ghost use Rattle.sky_model.specs.Clock.{deed_in};
+ghost use Rattle.sky_model.specs.Calls.{database_turn, is_leaving, opening, unopened, of_daemon_if, opens_in, opens, outside_does, session_does, turn};
 ghost use Rattle.sky_model.specs.Steps.{Steps};
 ghost use Rattle.pgq_db.specs.Seen.{seen_database};
+ghost use Rattle.pgq_db.specs.Gives.{is_clock};
 ghost use Rattle.sky_world.specs.Seen.{seen_world};
 ghost use Rattle.sky_world.specs.Adds.{AddsDeed, AddsCall};
+ghost use Rattle.sky_world.specs.Works.{is_pgqd, is_done_at};
 
 use pgq_db::Db;
 use sky_model::{Limit, Refusal, Replies, Reply, RowStmt, Stmt};
 use sky_names::Named;
 use sky_val::{NoMemory, SessionId, Text};
 use std::alloc::{AllocError, Global};
+use std::collections::BTreeMap;
 use std::marker::Model;
+use thiserror::Error;
 
-/// The sessions and databases of a script, and the clock, which stands at its start.
+/// Why a statement isn't answered.
+#[derive(Clone, Copy, Debug, PartialEq, Eq, Error)]
+pub enum WorldFault {
+    #[error("out of memory")]
+    NoMemory,
+    /// Memory was wanting at an earlier call.
+    #[error("memory was wanting before")]
+    Failed,
+}
+
+/// The sessions and databases of a script, and the clock.
 #[derive(Drop)]
 pub struct World {
     alloc: Global,
-    clock: i64,
+    pub(crate) clock: i64,
     // The database that each session has open.
     sessions: Named<Option<usize>>,
-    databases: Named<Db>,
-    // Whether memory was wanting in the midst of a statement of a database. Who waits there isn't known
-    // then, so no statement is run in a database from then on.
-    is_cut: bool,
+    pub(crate) databases: Named<Db>,
+    // The databases whose daemon is on, each with the moment from which on it is.
+    pub(crate) daemons: BTreeMap<usize, i64>,
+    // Whether memory was wanting once. Who waits in a database isn't known then, so no statement is run from then on.
+    pub(crate) has_failed: bool,
 }
 
 impl Model for World {
@@ -38,27 +54,30 @@ impl Model for World {
     ghost use Rattle.sky_world.specs.Views.{WorldView};
     ghost use Rattle.sky_model.specs.Moment.{IsTime};
     ghost use Rattle.sky_world.specs.Homes.{HomesWithin};
+    ghost use Rattle.sky_world.specs.Daemons.{StartedBy};
     ghost use Rattle.sky_world.specs.Waiters.{AllWaitersWithin};
 
     ghost Value = { WorldView };
 
-    ghost view = { λ w. record { now = w.clock; sessions = w.sessions; databases = w.databases } };
+    ghost view = { λ w. record { now = w.clock; sessions = w.sessions; databases = w.databases; daemons = w.daemons.entries; has_failed = w.has_failed } };
 
-    ghost invariant = { λ w. IsTime w.clock × HomesWithin (length w.databases.names) w.sessions.values
-        × (w.is_cut ≡ false → AllWaitersWithin (length w.sessions.names) w.databases.values) };
+    ghost invariant = { λ w. IsTime w.clock × HomesWithin (length w.databases.names) w.sessions.values × StartedBy w.clock w.daemons.entries
+        × (w.has_failed ≡ false → AllWaitersWithin (length w.sessions.names) w.databases.values) };
 }
 
 impl World {
     /// A world in which nothing has happened.
     pub fn new(alloc: Global) -> World
-        ensures { seen_world result ≡ world_of [] }
+        ensures new { seen_world result ≡ world_of [] }
+        ensures sound { result.has_failed ≡ false }
     {
         World {
             alloc,
             clock: 0,
             sessions: Named::new(alloc),
             databases: Named::new(alloc),
-            is_cut: false,
+            daemons: BTreeMap::new(alloc),
+            has_failed: false,
         }
     }
 
@@ -69,14 +88,24 @@ impl World {
         self.sessions.names()
     }
 
+    /// The moment at which the clock stands, in microseconds since its start.
+    pub fn now(&self) -> i64
+        ensures { result ≡ (seen_world self.now).now }
+    {
+        self.clock
+    }
+
     /// Runs a statement of the session of this name, and answers it and those that it lets go on. After want of
-    /// memory nothing is said of the world.
-    pub fn step(&mut self, name: &Text, stmt: &Stmt) -> Result<Replies, NoMemory>
+    /// memory nothing is said of the world but that it has failed, and each later call answers `Failed`.
+    pub fn step(&mut self, name: &Text, stmt: &Stmt) -> Result<Replies, WorldFault>
         requires name { is_name name.now ≡ true }
         requires form { IsInForm stmt.now }
         ensures steps { IfOk result (λ replies. Steps (seen_world self.old) (seen_world self.new) (record { who = name.now; stmt = stmt.now }) replies) }
         ensures numbered { IfOk result (λ replies. All (λ answer. answer.0 ≤ length (seen_world self.new).sessions) replies) }
         ensures times { IfOk result (λ replies. HaveMoments replies) }
+        ensures failed { (result ≡ Err WorldFault.Failed) ↔ (self.old.has_failed ≡ true) }
+        ensures sound { OnOk result (self.new.has_failed ≡ false) }
+        ensures fails { OnErr result (self.new.has_failed ≡ true) }
     {
         let mut replies = Replies::new(self.alloc);
         self.step_into(name, stmt, &mut replies)?;
@@ -89,10 +118,30 @@ impl World {
         name: &Text,
         stmt: &Stmt,
         replies: &mut Replies,
-    ) -> Result<(), NoMemory>
+    ) -> Result<(), WorldFault>
         requires name { is_name name.now ≡ true }
         requires form { IsInForm stmt.now }
-        ensures { OnOk result (AddsCall (seen_world self.old) (seen_world self.new) (record { who = name.now; stmt = stmt.now }) replies.old replies.new) }
+        ensures adds { OnOk result (AddsCall (seen_world self.old) (seen_world self.new) (record { who = name.now; stmt = stmt.now }) replies.old replies.new) }
+        ensures failed { (result ≡ Err WorldFault.Failed) ↔ (self.old.has_failed ≡ true) }
+        ensures sound { OnOk result (self.new.has_failed ≡ false) }
+        ensures fails { OnErr result (self.new.has_failed ≡ true) }
+    {
+        if self.has_failed {
+            return Err(WorldFault::Failed);
+        }
+        match self.answer(name, stmt, replies) {
+            Ok(()) => Ok(()),
+            Err(_) => {
+                self.has_failed = true;
+                Err(WorldFault::NoMemory)
+            }
+        }
+    }
+
+    fn answer(&mut self, name: &Text, stmt: &Stmt, replies: &mut Replies) -> Result<(), NoMemory>
+        requires form { IsInForm stmt.now }
+        ensures adds { OnOk result (AddsCall (seen_world self.old) (seen_world self.new) (record { who = name.now; stmt = stmt.now }) replies.old replies.new) }
+        ensures failed { OnOk result (self.new.has_failed ≡ self.old.has_failed) }
     {
         match self.number(name) {
             Some(who) => self.answer_known(who, name, stmt, replies),
@@ -110,7 +159,8 @@ impl World {
         requires form { IsInForm stmt.now }
         requires known { Some who ≡ place_of name.now self.old.sessions.names }
         requires within { who < length self.old.sessions.names }
-        ensures { OnOk result (AddsCall (seen_world self.old) (seen_world self.new) (record { who = name.now; stmt = stmt.now }) replies.old replies.new) }
+        ensures adds { OnOk result (AddsCall (seen_world self.old) (seen_world self.new) (record { who = name.now; stmt = stmt.now }) replies.old replies.new) }
+        ensures failed { OnOk result (self.new.has_failed ≡ self.old.has_failed) }
     {
         self.run(who, stmt, replies)?;
         Ok(())
@@ -124,7 +174,8 @@ impl World {
     ) -> Result<(), NoMemory>
         requires form { IsInForm stmt.now }
         requires new { place_of name.now self.old.sessions.names ≡ None }
-        ensures { OnOk result (AddsCall (seen_world self.old) (seen_world self.new) (record { who = name.now; stmt = stmt.now }) replies.old replies.new) }
+        ensures adds { OnOk result (AddsCall (seen_world self.old) (seen_world self.new) (record { who = name.now; stmt = stmt.now }) replies.old replies.new) }
+        ensures failed { OnOk result (self.new.has_failed ≡ self.old.has_failed) }
     {
         let who = self.session_count();
         if who as usize >= Limit::Sessions.most() {
@@ -155,6 +206,7 @@ impl World {
         requires room { length self.old.sessions.names < 256 }
         ensures fact { OnOk result (seen_world self.new ≡ after_fact (seen_world self.old) (appeared name.now)) }
         ensures sessions { OnOk result (length self.new.sessions.names ≡ length self.old.sessions.names + 1) }
+        ensures failed { OnOk result (self.new.has_failed ≡ self.old.has_failed) }
     {
         let copied = name.copy(self.alloc)?;
         self.sessions.add(copied, None)?;
@@ -165,7 +217,27 @@ impl World {
     fn run(&mut self, who: SessionId, stmt: &Stmt, replies: &mut Replies) -> Result<(), NoMemory>
         requires who { who < length self.old.sessions.names }
         requires form { IsInForm stmt.now }
-        ensures { OnOk result (AddsDeed self.old self.new replies.old replies.new (turn by_world who stmt.now (seen_world self.old))) }
+        ensures adds { OnOk result (AddsDeed self.old self.new replies.old replies.new (turn by_world who stmt.now (seen_world self.old))) }
+        ensures failed { OnOk result (self.new.has_failed ≡ self.old.has_failed) }
+    {
+        match stmt {
+            Stmt::Clock { time } => self.move_clock(who, *time, replies),
+            _ => self.run_at_home(who, stmt, replies),
+        }
+    }
+
+    /// Runs a statement that doesn't move the clock.
+    fn run_at_home(
+        &mut self,
+        who: SessionId,
+        stmt: &Stmt,
+        replies: &mut Replies,
+    ) -> Result<(), NoMemory>
+        requires who { who < length self.old.sessions.names }
+        requires form { IsInForm stmt.now }
+        requires clock { is_clock stmt.now ≡ false }
+        ensures adds { OnOk result (AddsDeed self.old self.new replies.old replies.new (session_does by_world (seen_world self.old) who stmt.now ((seen_world self.old).homes who))) }
+        ensures failed { OnOk result (self.new.has_failed ≡ self.old.has_failed) }
     {
         match self.home(who) {
             Some(database) => self.run_in(database, who, stmt, replies),
@@ -174,7 +246,7 @@ impl World {
     }
 
     /// The database that a session has open.
-    fn home(&self, who: SessionId) -> Option<usize>
+    pub(crate) fn home(&self, who: SessionId) -> Option<usize>
         requires { who < length self.now.sessions.names }
         ensures home { result ≡ (seen_world self.now).homes who }
         ensures within { IfSome result (λ d. d < length self.now.databases.names) }
@@ -192,12 +264,79 @@ impl World {
         requires who { who < length self.old.sessions.names }
         requires database { database < length self.old.databases.names }
         requires form { IsInForm stmt.now }
-        ensures { OnOk result (AddsDeed self.old self.new replies.old replies.new (session_does by_world (seen_world self.old) who stmt.now (Some database))) }
+        requires clock { is_clock stmt.now ≡ false }
+        ensures adds { OnOk result (AddsDeed self.old self.new replies.old replies.new (session_does by_world (seen_world self.old) who stmt.now (Some database))) }
+        ensures failed { OnOk result (self.new.has_failed ≡ self.old.has_failed) }
+    {
+        match stmt {
+            Stmt::PgqdOn | Stmt::PgqdOff => self.run_pgqd(database, who, stmt, replies),
+            _ => self.run_or_leave(database, who, stmt, replies),
+        }
+    }
+
+    /// Runs a statement that leaves the database's daemon as it is.
+    fn run_or_leave(
+        &mut self,
+        database: usize,
+        who: SessionId,
+        stmt: &Stmt,
+        replies: &mut Replies,
+    ) -> Result<(), NoMemory>
+        requires who { who < length self.old.sessions.names }
+        requires database { database < length self.old.databases.names }
+        requires form { IsInForm stmt.now }
+        requires clock { is_clock stmt.now ≡ false }
+        requires daemon { is_pgqd stmt.now ≡ false }
+        ensures adds { OnOk result (AddsDeed self.old self.new replies.old replies.new (session_does by_world (seen_world self.old) who stmt.now (Some database))) }
+        ensures failed { OnOk result (self.new.has_failed ≡ self.old.has_failed) }
     {
         let leaving = self.is_leaving(database, who, stmt);
         self.run_there(database, who, stmt, replies)?;
         if leaving {
             self.leave(who);
+        }
+        Ok(())
+    }
+
+    /// Runs `pgqd on` or `pgqd off`, which is answered in the database. Unless it is refused there, the daemon is on or off
+    /// then.
+    fn run_pgqd(
+        &mut self,
+        database: usize,
+        who: SessionId,
+        stmt: &Stmt,
+        replies: &mut Replies,
+    ) -> Result<(), NoMemory>
+        requires who { who < length self.old.sessions.names }
+        requires database { database < length self.old.databases.names }
+        requires daemon { is_pgqd stmt.now ≡ true }
+        ensures adds { OnOk result (AddsDeed self.old self.new replies.old replies.new (session_does by_world (seen_world self.old) who stmt.now (Some database))) }
+        ensures failed { OnOk result (self.new.has_failed ≡ self.old.has_failed) }
+    {
+        let own = replies.as_slice().len();
+        self.run_there(database, who, stmt, replies)?;
+        if is_done(replies, own) {
+            self.set_daemon(database, stmt)?;
+        }
+        Ok(())
+    }
+
+    /// The daemon of a database is on from now on, unless it is, or is off.
+    fn set_daemon(&mut self, database: usize, stmt: &Stmt) -> Result<(), NoMemory>
+        ensures facts { OnOk result (seen_world self.new ≡ after_facts (seen_world self.old) (of_daemon_if true database ((seen_world self.old).daemons database) stmt.now)) }
+        ensures sessions { OnOk result (self.new.sessions.names ≡ self.old.sessions.names) }
+        ensures failed { OnOk result (self.new.has_failed ≡ self.old.has_failed) }
+    {
+        match stmt {
+            Stmt::PgqdOn => {
+                if !self.daemons.contains_key(&database) {
+                    self.daemons.insert(database, self.clock)?;
+                }
+            }
+            Stmt::PgqdOff => {
+                self.daemons.remove(&database);
+            }
+            _ => {}
         }
         Ok(())
     }
@@ -214,7 +353,7 @@ impl World {
     }
 
     /// The database of this number.
-    fn store(&self, database: usize) -> &Db
+    pub(crate) fn store(&self, database: usize) -> &Db
         requires { database < length self.now.databases.names }
         ensures { seen_database result.now ≡ (seen_world self.now).database database }
     {
@@ -232,17 +371,19 @@ impl World {
         requires who { who < length self.old.sessions.names }
         requires database { database < length self.old.databases.names }
         requires form { IsInForm stmt.now }
+        requires clock { is_clock stmt.now ≡ false }
         ensures adds { OnOk result (AddsDeed self.old self.new replies.old replies.new (deed_in database [] (database_turn (within_database by_world database) (seen_world self.old) (seen_world self.old).now who stmt.now))) }
         ensures databases { OnOk result (self.new.databases.names ≡ self.old.databases.names) }
+        ensures failed { OnOk result (self.new.has_failed ≡ self.old.has_failed) }
     {
-        if self.is_cut {
+        if self.has_failed {
             return Err(AllocError);
         }
         let store = self.databases.get_mut(database);
         match store.step_into(who, stmt, self.clock, replies) {
             Ok(()) => Ok(()),
             Err(fault) => {
-                self.is_cut = true;
+                self.has_failed = true;
                 Err(fault)
             }
         }
@@ -253,6 +394,7 @@ impl World {
         requires { who < length self.old.sessions.names }
         ensures fact { seen_world self.new ≡ after_fact (seen_world self.old) (left who) }
         ensures sessions { self.new.sessions.names ≡ self.old.sessions.names }
+        ensures failed { self.new.has_failed ≡ self.old.has_failed }
     {
         *self.sessions.get_mut(who as usize) = None;
     }
@@ -266,7 +408,9 @@ impl World {
     ) -> Result<(), NoMemory>
         requires who { who < length self.old.sessions.names }
         requires form { IsInForm stmt.now }
-        ensures { OnOk result (AddsDeed self.old self.new replies.old replies.new (outside_does by_world (seen_world self.old) who stmt.now (opening stmt.now))) }
+        requires clock { is_clock stmt.now ≡ false }
+        ensures adds { OnOk result (AddsDeed self.old self.new replies.old replies.new (outside_does by_world (seen_world self.old) who stmt.now (opening stmt.now))) }
+        ensures failed { OnOk result (self.new.has_failed ≡ self.old.has_failed) }
     {
         match opening(stmt) {
             Some(name) => self.open_database(who, stmt, name, replies),
@@ -287,7 +431,9 @@ impl World {
     ) -> Result<(), NoMemory>
         requires who { who < length self.old.sessions.names }
         requires form { IsInForm stmt.now }
-        ensures { OnOk result (AddsDeed self.old self.new replies.old replies.new (opens by_world (seen_world self.old) who stmt.now name.now (place_of name.now (seen_world self.old).databases))) }
+        requires clock { is_clock stmt.now ≡ false }
+        ensures adds { OnOk result (AddsDeed self.old self.new replies.old replies.new (opens by_world (seen_world self.old) who stmt.now name.now (place_of name.now (seen_world self.old).databases))) }
+        ensures failed { OnOk result (self.new.has_failed ≡ self.old.has_failed) }
     {
         match self.database_number(name) {
             Some(database) => self.open_in(database as usize, who, stmt, replies),
@@ -305,8 +451,10 @@ impl World {
     ) -> Result<(), NoMemory>
         requires who { who < length self.old.sessions.names }
         requires form { IsInForm stmt.now }
+        requires clock { is_clock stmt.now ≡ false }
         requires new { place_of name.now self.old.databases.names ≡ None }
-        ensures { OnOk result (AddsDeed self.old self.new replies.old replies.new (opens by_world (seen_world self.old) who stmt.now name.now None)) }
+        ensures adds { OnOk result (AddsDeed self.old self.new replies.old replies.new (opens by_world (seen_world self.old) who stmt.now name.now None)) }
+        ensures failed { OnOk result (self.new.has_failed ≡ self.old.has_failed) }
     {
         let number = self.database_count();
         if number >= Limit::Databases.most() {
@@ -329,7 +477,9 @@ impl World {
         requires who { who < length self.old.sessions.names }
         requires database { database < length self.old.databases.names }
         requires form { IsInForm stmt.now }
-        ensures { OnOk result (AddsDeed self.old self.new replies.old replies.new (opens_in by_world who stmt.now database (seen_world self.old))) }
+        requires clock { is_clock stmt.now ≡ false }
+        ensures adds { OnOk result (AddsDeed self.old self.new replies.old replies.new (opens_in by_world who stmt.now database (seen_world self.old))) }
+        ensures failed { OnOk result (self.new.has_failed ≡ self.old.has_failed) }
     {
         self.run_there(database, who, stmt, replies)?;
         self.enter(who, database);
@@ -356,6 +506,7 @@ impl World {
         ensures fact { OnOk result (seen_world self.new ≡ after_fact (seen_world self.old) (founded name.now)) }
         ensures databases { OnOk result (length self.new.databases.names ≡ length self.old.databases.names + 1) }
         ensures sessions { OnOk result (self.new.sessions.names ≡ self.old.sessions.names) }
+        ensures failed { OnOk result (self.new.has_failed ≡ self.old.has_failed) }
     {
         let copied = name.copy(self.alloc)?;
         self.databases.add(copied, Db::new(self.alloc))?;
@@ -367,6 +518,7 @@ impl World {
         requires database { database < length self.old.databases.names }
         ensures fact { seen_world self.new ≡ after_fact (seen_world self.old) (entered who database) }
         ensures sessions { self.new.sessions.names ≡ self.old.sessions.names }
+        ensures failed { self.new.has_failed ≡ self.old.has_failed }
     {
         *self.sessions.get_mut(who as usize) = Some(database);
     }
@@ -391,4 +543,11 @@ fn unopened(stmt: &Stmt) -> Reply
         Stmt::Row(RowStmt::Cancel) => Reply::NotWaiting,
         _ => Reply::Refused(Refusal::NotOpen),
     }
+}
+
+/// Whether the answer at a place is `ok`.
+fn is_done(replies: &Replies, place: usize) -> bool
+    ensures { result ≡ is_done_at replies.now place }
+{
+    matches!(replies.as_slice().get(place), Some((_, Reply::Done)))
 }

@@ -1,4 +1,5 @@
-ghost use Rattle.std.specs.Prelude.{IfOk};
+ghost use Rattle.std.specs.Prelude.{◌≡◌, false, IfOk};
+ghost use Rattle.pgq_db.specs.Gives.{is_clock};
 ghost use Rattle.sky_model.specs.InForm.{IsInForm, IsLineInForm, IsRowInForm};
 
 use anyhow::bail;
@@ -15,12 +16,14 @@ pub fn line(alloc: Global, statement: &str) -> anyhow::Result<Line>
     Ok(parse_line(alloc, line.as_bytes())?)
 }
 
-/// The statement of a line.
+/// The statement of a line, if it is one of a database.
 pub fn statement(line: &Line) -> anyhow::Result<&Stmt>
     requires { IsLineInForm line.now }
-    ensures { IfOk result (λ stmt. IsInForm stmt.now) }
+    ensures form { IfOk result (λ stmt. IsInForm stmt.now) }
+    ensures clock { IfOk result (λ stmt. is_clock stmt.now ≡ false) }
 {
     match line {
+        Line::Run(_, Stmt::Clock { .. }) => bail!("a statement of the world"),
         Line::Run(_, stmt) => Ok(stmt),
         Line::Blank => bail!("no statement"),
     }

@@ -1,4 +1,4 @@
-use Rattle.std.proofs.Common.{◌≡◌, ℤ, pos, ◌*ℤ◌, Bool, true, false, FitsSigned, to_z, of_z, w64, sym, ◌∙◌, ap}
+use Rattle.std.proofs.Common.{◌≡◌, ℤ, pos, ◌*ℤ◌, FitsSigned, to_z, of_z, w64, sym, ◌∙◌, ap}
 use Rattle.std.specs.Prelude.{not, ◌||◌, ◌&&◌, int_lt}
 use Rattle.std.proofs.lemmas.Int.{to_z-of_z}
 use Rattle.pgq_tick.proofs.ticks.is_idle.Goals as goal

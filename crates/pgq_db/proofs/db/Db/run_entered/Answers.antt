@@ -4,7 +4,7 @@ use Rattle.sky_model.specs.Reader.{shown_by}
 use Rattle.sky_model.specs.Calls.{form}
 use Rattle.sky_model.specs.Stops.{Stops, Keeps}
 use Rattle.pgq_db.specs.Seen.{seen_database}
-use Rattle.pgq_db.proofs.Databases.{answers-refused}
+use Rattle.pgq_db.proofs.Databases.{Runs, answers-done, answers-refused}
 use Rattle.pgq_db.proofs.db.Db.run_entered.Goals as goal
 
 pub returns-in_ok-refuse-in-Err-Refused : goal.returns-in_ok-refuse-in-Err-Refused
@@ -15,3 +15,9 @@ returns-in_ok-refuse-in-Err-Refused c =
     (subst (λ stop. Stops stop d (seen_database c.run_form.new.self) (tried c.args.now)) c.in-Err-Refused.field-0-is
     (subst (λ (now : ℤ). Stops c.in-Err-Refused.field-0 d (seen_database c.run_form.new.self) (tried now)) (to_z-of_z w64 c.args.now c.ranges.now) c.in-Err-Refused.ensures.ran.0))
     (subst (λ stop. Keeps stop c.args.replies.now c.run_form.new.replies) c.in-Err-Refused.field-0-is c.in-Err-Refused.ensures.ran.1) c.in_ok-refuse-in-Err-Refused.ensures
+
+pub returns-in-Ok : goal.returns-in-Ok
+returns-in-Ok c =
+    let d = seen_database c.args.self.now in
+    answers-done d (seen_database c.run_form.new.self) c.args.replies.now c.run_form.new.replies c.args.who (form d (shown_by d) c.args.now c.args.who c.args.stmt.now)
+    (subst (λ (now : ℤ). Runs d (seen_database c.run_form.new.self) c.args.replies.now c.run_form.new.replies c.args.who (form d (shown_by d) now c.args.who c.args.stmt.now)) (to_z-of_z w64 c.args.now c.ranges.now) c.in-Ok.ensures.ran)

@@ -1,26 +1,25 @@
-use Rattle.std.proofs.Common.{◌≡◌, ◌++◌, subst}
+use Rattle.std.proofs.Common.{◌≡◌, ◌++◌, [], subst}
 use Rattle.sky_model.specs.State.{after_marks}
-use Rattle.sky_model.specs.OwnTransaction.{begin_of, commit_of}
+use Rattle.sky_model.specs.OwnTransaction.{begin_of, commit_of, written}
 use Rattle.sky_state.specs.Seen.{seen}
-use Rattle.sky_model.specs.SessionMarks.{single_end}
 use Rattle.pgq_db.specs.Views.{DbView}
 use Rattle.pgq_db.specs.Seen.{seen_database}
 use Rattle.pgq_db.proofs.Databases.{took}
-use Rattle.pgq_db.proofs.Tables.{tables-then}
+use Rattle.pgq_db.proofs.Tables.{tables-then, tables-same}
 use Rattle.pgq_db.proofs.db.Db.take_txid.Goals as goal
 
-pub returns-in-Ok-clause-marks : goal.returns-in-Ok-clause-marks
-returns-in-Ok-clause-marks c =
-    let left : DbView = record { rows = c.end_single.new.self; queues = c.self.inside.queues } in
+pub returns-clause-marks : goal.returns-clause-marks
+returns-clause-marks c =
+    let left : DbView = record { rows = c.write_elsewhere.new.self; queues = c.self.inside.queues } in
     let begun : DbView = record left { rows = c.self.inside.rows } in
     subst (λ (v : DbView). seen_database left ≡ after_marks (seen_database v)
-    (begin_of c.args.who c.in-Ok.txid ((seen_database v).part.session c.args.who).txid ++ commit_of c.args.who c.in-Ok.txid ((seen_database v).part.session c.args.who).block)) c.self.view_is
-    (took (seen_database begun) (seen c.take_txid.new.self) (seen c.end_single.new.self) c.args.who c.in-Ok.txid c.in-Ok.ensures.id c.in-Ok.ensures.marks c.end_single.ensures.marks)
+    (begin_of c.args.who c.args.txid ((seen_database v).part.session c.args.who).txid ++ commit_of c.args.who c.args.txid ((seen_database v).part.session c.args.who).block)) c.self.view_is
+    (took (seen_database begun) (seen c.write_elsewhere.new.self) c.args.who c.args.txid c.in_ok-write_elsewhere.ensures.marks)
 
 pub invariant_of-self : goal.invariant_of-self
-invariant_of-self c =
+invariant_of-self c = λ e. tables-same (seen c.self.inside.rows) (seen c.write_elsewhere.new.self) c.self.inside.queues c.in_err-write_elsewhere.ensures.same (c.self.invariant e)
+
+pub invariant_of-self-2 : goal.invariant_of-self-2
+invariant_of-self-2 c =
     let old = seen c.self.inside.rows in
-    let taken = seen c.take_txid.new.self in
-    λ e.
-    tables-then taken (seen c.end_single.new.self) (single_end c.args.who (taken.session c.args.who).txid (taken.session c.args.who).block) c.self.inside.queues c.end_single.ensures.marks
-    (tables-then old taken (begin_of c.args.who c.in-Ok.txid (old.session c.args.who).txid) c.self.inside.queues c.in-Ok.ensures.marks (c.self.invariant e))
+    λ e. tables-then old (seen c.write_elsewhere.new.self) (written c.args.who c.args.txid (old.session c.args.who) []) c.self.inside.queues c.in_ok-write_elsewhere.ensures.marks (c.self.invariant e)

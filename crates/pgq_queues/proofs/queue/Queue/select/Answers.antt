@@ -7,4 +7,4 @@ returns-clause-events c = λ id.
     selects (keeps c.args.undone.now.keys) _ _ c.args.batch.now _ _ _ id c.select.result c.self.view_is c.get-prev.ensures c.get-cur.ensures c.as_slice.ensures.value c.select.ensures.selected
 
 pub returns-clause-moments : goal.returns-clause-moments
-returns-clause-moments c = selects-moments _ _ _ c.select.result c.self.invariant.1 c.as_slice.ensures.value c.select.ensures.selected
+returns-clause-moments c = selects-moments _ _ _ c.select.result c.self.invariant c.as_slice.ensures.value c.select.ensures.selected

@@ -10,6 +10,7 @@ use Rattle.pgq_queues.proofs.Marked.{made-as}
 use Rattle.pgq_queues.proofs.TracedLists.{batches-more, within-more}
 use Rattle.pgq_queues.proofs.NumberedQueues.{number-new, length-shown}
 use Rattle.pgq_queues.proofs.queues.Queues.make.Goals as goal
+use Rattle.sky_model.specs.Config.{default_config}
 
 pub add-requires-clause-new : goal.add-requires-clause-new
 add-requires-clause-new c = ap (option_and_then (slice_get c.self.inside.queues.values)) (number-new _ _ _ c.self.view_is c.requires.new)
@@ -22,7 +23,7 @@ add-requires-clause-room c =
 pub returns-clause-marks : goal.returns-clause-marks
 returns-clause-marks c =
     made-as _ _ _ _ c.in_ok-queue.queue _ (record { id = 1; time = c.args.now; snapshot = c.args.snapshot; seq = 0 }) c.self.view_is (ap NamedView.names c.in_ok-add.ensures.added) (ap NamedView.values c.in_ok-add.ensures.added)
-    (c.in_ok-queue.ensures ∙ ap (λ (t : ℤ). record { seq = 0; events = []; ticks = record { id = 1; time = t; snapshot = c.args.snapshot; seq = 0 } ∷ []; subs = no_subs }) (to_z-of_z w64 c.args.now c.ranges.now))
+    (c.in_ok-queue.ensures ∙ ap (λ (t : ℤ). record { config = default_config; seq = 0; events = []; ticks = record { id = 1; time = t; snapshot = c.args.snapshot; seq = 0 } ∷ []; subs = no_subs }) (to_z-of_z w64 c.args.now c.ranges.now))
     c.in_ok-add.ensures.values refl refl
 
 pub invariant_of-self : goal.invariant_of-self

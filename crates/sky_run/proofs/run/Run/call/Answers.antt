@@ -7,7 +7,7 @@ use Rattle.sky_run.proofs.run.Run.call.Goals as goal
 
 pub print_answers-requires : goal.print_answers-requires
 print_answers-requires c =
-    let alone = added-alone _ _ _ _ _ c.clear.ensures c.in_ok-step_into.ensures in
+    let alone = added-alone _ _ _ _ _ c.clear.ensures c.in-Ok.ensures.adds in
     record {
       numbered = subst (λ (names : List (List ℕ)). All (λ (answer : ℕ × Reply). answer.0 ≤ length names) c.step_into.new.replies) (sym c.session_names.ensures) alone.1;
       moments = alone.2;
@@ -18,6 +18,6 @@ returns-clause-answers c =
     on_ok_weaker c.print_answers.result (λ prints. record {
       replies = c.step_into.new.replies;
       in_form = (c.requires.name, c.requires.form);
-      steps = (added-alone _ _ _ _ _ c.clear.ensures c.in_ok-step_into.ensures).0;
+      steps = (added-alone _ _ _ _ _ c.clear.ensures c.in-Ok.ensures.adds).0;
       prints = prints ∙ ap (λ (names : List (List ℕ)). c.args.self.now.gathered.items ++ printed (names ++ c.args.who.now ∷ []) c.step_into.new.replies) c.session_names.ensures;
     }) c.print_answers.ensures.ok

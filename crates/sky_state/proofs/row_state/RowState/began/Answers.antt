@@ -11,8 +11,8 @@ pub invariant_of-self-2 : goal.invariant_of-self-2
 invariant_of-self-2 c = (
   c.self.invariant.0,
   (
-    owned-begin _ _ _ _ c.args.who c.in-Ok.txid (c.begin_txid.ensures ∙ ap (changed_at c.args.who (with_txid (Some c.in-Ok.txid))) c.make_room.ensures.same)
-        (ap (λ (v : TransView). v.running) c.in-Ok.ensures.ok ∙ ap (λ t. c.self.inside.trans.running ++ t ∷ []) (sym c.in-Ok.ensures.id)) c.in-Ok.ensures.fresh c.self.invariant.1.0,
+    owned-begin _ _ _ _ c.args.who c.in_ok-txid.txid (c.begin_txid.ensures ∙ ap (changed_at c.args.who (with_txid (Some c.in_ok-txid.txid))) c.make_room.ensures.same)
+        (ap (λ (v : TransView). v.running) c.in_ok-txid.ensures.ok ∙ ap (λ t. c.self.inside.trans.running ++ t ∷ []) (sym c.in_ok-txid.ensures.id)) c.in_ok-txid.ensures.fresh c.self.invariant.1.0,
     c.self.invariant.1.1,
   ),
 )

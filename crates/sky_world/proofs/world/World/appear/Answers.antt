@@ -15,7 +15,8 @@ invariant_of-self-2 c =
     let longer = c.in_ok-add.ensures.added in (
       c.self.invariant.0,
       homes-push _ c.self.inside.sessions.values _ (ap (λ (n : NamedView (Option ℕ)). n.values) longer) c.self.invariant.1,
-      (λ whole. waiters-more _ _ c.self.inside.databases.values (omega (arith, ap (λ (n : NamedView (Option ℕ)). length n.names) longer, length-append c.self.inside.sessions.names (c.in_ok-copied.copied ∷ []))) (c.self.invariant.2 whole)),
+      c.self.invariant.2,
+      (λ whole. waiters-more _ _ c.self.inside.databases.values (omega (arith, ap (λ (n : NamedView (Option ℕ)). length n.names) longer, length-append c.self.inside.sessions.names (c.in_ok-copied.copied ∷ []))) (c.self.invariant.3 whole)),
     )
 
 pub returns-clause-fact : goal.returns-clause-fact

@@ -16,7 +16,8 @@ invariant_of-self-2 c =
     let longer = c.in_ok-add.ensures.added in (
       c.self.invariant.0,
       homes-more _ _ c.self.inside.sessions.values (omega (arith, ap (λ (n : NamedView DbView). length n.names) longer, length-append c.self.inside.databases.names (c.in_ok-copied.copied ∷ []))) c.self.invariant.1,
-      (λ whole. waiters-founded _ c.self.inside.databases.values _ c.new.result (ap (λ (n : NamedView DbView). n.values) longer) c.new.ensures (c.self.invariant.2 whole)),
+      c.self.invariant.2,
+      (λ whole. waiters-founded _ c.self.inside.databases.values _ c.new.result (ap (λ (n : NamedView DbView). n.values) longer) c.new.ensures (c.self.invariant.3 whole)),
     )
 
 pub returns-clause-fact : goal.returns-clause-fact

@@ -5,8 +5,8 @@ use Rattle.sky_world.specs.Seen.{seen_world}
 use Rattle.sky_world.proofs.Worlds.{adds-moved}
 use Rattle.sky_world.proofs.world.World.open_in.Goals as goal
 
-pub returns : goal.returns
-returns c =
+pub returns-clause-adds : goal.returns-clause-adds
+returns-clause-adds c =
     let w = seen_world c.args.self.now in
     adds-moved _ _ _ c.args.database (entered c.args.who c.args.database) _ _ (database_turn (within_database by_world c.args.database) w w.now c.args.who c.args.stmt.now)
     c.in_ok-run_there.ensures.adds c.enter.ensures.fact c.enter.ensures.sessions

@@ -7,8 +7,9 @@ pub invariant_of-self : goal.invariant_of-self
 invariant_of-self c = (
   c.self.invariant.0,
   c.self.invariant.1,
+  c.self.invariant.2,
   (λ whole. (known-within _ _ c.args.database c.args.who c.get_mut-store.result.now c.step_into.new.self _ c.self.view_is c.get_mut-store.ensures.within c.get_mut-store.ensures.value
-      c.requires.who (c.self.invariant.2 whole) c.in-Ok.ensures.within).1),
+      c.requires.who (c.self.invariant.3 whole) c.in-Ok.ensures.within).1),
 )
 
 pub returns-in-Ok-clause-adds : goal.returns-in-Ok-clause-adds
@@ -16,4 +17,4 @@ returns-in-Ok-clause-adds c =
     adds-within _ _ c.args.database c.args.who c.get_mut-store.result.now c.step_into.new.self c.args.stmt.now _ _ _ c.self.view_is c.get_mut-store.ensures.within c.get_mut-store.ensures.value
     (to_z-of_z w64 c.self.inside.clock (omega arith)) c.in-Ok.ensures.exact c.in-Ok.ensures.moments
     (known-within _ _ c.args.database c.args.who c.get_mut-store.result.now c.step_into.new.self _ c.self.view_is c.get_mut-store.ensures.within c.get_mut-store.ensures.value
-    c.requires.who (c.self.invariant.2 c.if-self.false) c.in-Ok.ensures.within).0
+    c.requires.who (c.self.invariant.3 c.if-self.false) c.in-Ok.ensures.within).0

@@ -3,12 +3,12 @@ use Rattle.std.proofs.Common.{◌≡◌, ◌<◌, ◌^◌, false, subst, sym}
 use Rattle.sky_txid.specs.Ids.{contains}
 use Rattle.sky_trans.specs.Trans.{TransView}
 use Rattle.sky_trans.proofs.TransLemmas.{sound_assigned, next_is_fresh}
-use Rattle.sky_trans.proofs.trans.Trans.assign.Goals as goal
+use Rattle.sky_trans.proofs.trans.Trans.begin.Goals as goal
 
 pub invariant_of-self-2 : goal.invariant_of-self-2
 invariant_of-self-2 c =
     let trans : TransView = record { next = c.self.inside.next; running = c.self.inside.running.items } in
-    let room : trans.next < 2 ^ 62 = subst (λ (v : TransView). v.next < 2 ^ 62) (sym c.self.view_is) (c.id_left.ensures.0 c.if-not-id_left.false) in
+    let room : trans.next < 2 ^ 62 = subst (λ (v : TransView). v.next < 2 ^ 62) (sym c.self.view_is) c.requires in
     sound_assigned trans c.push.new.self.items c.self.invariant room c.in_ok-push.ensures.items
 
 pub returns-clause-fresh : goal.returns-clause-fresh

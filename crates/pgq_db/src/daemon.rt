@@ -1,0 +1,63 @@
+//! What the daemon of a database does, part by part. It answers nothing, and what would be refused isn't done.
+
+ghost use Rattle.std.specs.Prelude.{◌≡◌, ◌<◌, OnOk, length};
+ghost use Rattle.sky_model.specs.Moment.{IsTime};
+ghost use Rattle.sky_model.specs.State.{after_marks};
+ghost use Rattle.sky_model.specs.Reader.{database_by_itself};
+ghost use Rattle.sky_model.specs.StepQueue.{next_tick};
+ghost use Rattle.sky_model.specs.Daemon.{quietly, ticks_of, daemon_does};
+ghost use Rattle.sky_model.specs.DatabaseCalls.{worked};
+ghost use Rattle.sky_model.specs.DatabaseSteps.{DatabaseSteps};
+ghost use Rattle.pgq_db.specs.Seen.{seen_database};
+
+use crate::db::Db;
+use sky_model::{DaemonPart, Stop};
+use sky_val::NoMemory;
+use std::alloc::AllocError;
+
+impl Db {
+    /// Does a part of the daemon's work at a moment, in all queues in the order of making. After want of memory nothing is
+    /// said of the database.
+    pub fn daemon(&mut self, part: DaemonPart, now: i64) -> Result<(), NoMemory>
+        requires { IsTime now }
+        ensures exact { OnOk result (seen_database self.new ≡ after_marks (seen_database self.old) (daemon_does database_by_itself (seen_database self.old) part now).marks) }
+        ensures rows { OnOk result ((seen_database self.new).part ≡ (seen_database self.old).part) }
+        ensures steps { OnOk result (DatabaseSteps (seen_database self.old) (seen_database self.new) (worked part now)
+            (daemon_does database_by_itself (seen_database self.old) part now)) }
+    {
+        match part {
+            DaemonPart::Tick => self.make_ticks(now)?,
+            DaemonPart::Retry | DaemonPart::Maintain => {}
+        }
+        Ok(())
+    }
+
+    /// Makes the ticks that are due.
+    fn make_ticks(&mut self, now: i64) -> Result<(), NoMemory>
+        requires { IsTime now }
+        ensures ticked { OnOk result (seen_database self.new
+            ≡ after_marks (seen_database self.old) (ticks_of database_by_itself now (seen_database self.old).queues (seen_database self.old)).marks) }
+        ensures rows { OnOk result ((seen_database self.new).part ≡ (seen_database self.old).part) }
+    {
+        for queue in 0..self.queues.count() {
+            self.make_tick(queue, now)?;
+        }
+        Ok(())
+    }
+
+    /// Makes the tick of a queue that is due, if there is an id for it.
+    fn make_tick(&mut self, queue: usize, now: i64) -> Result<(), NoMemory>
+        requires queue { queue < length self.old.queues.names }
+        requires time { IsTime now }
+        ensures ticked { OnOk result (seen_database self.new ≡ after_marks (seen_database self.old) (quietly (next_tick (seen_database self.old) now queue)).marks) }
+    {
+        if !self.queues.queue(queue).is_due(now) {
+            return Ok(());
+        }
+        match self.tick(queue, now) {
+            Ok(_) => Ok(()),
+            Err(Stop::Refused(_)) => Ok(()),
+            Err(Stop::NoMemory) => Err(AllocError),
+        }
+    }
+}

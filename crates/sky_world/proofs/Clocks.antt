@@ -1,0 +1,286 @@
+-- What the world shows as the clock goes on, and the daemons do their work at each moment at which one is due.
+use Rattle.std.proofs.Common.{◌≡◌, ℕ, zero, suc, ◌+◌, ◌-◌, ◌<◌, ◌≤◌, List, [], ◌∷◌, ◌++◌, Bool, true, false, Option, Some, None, map, length, refl, sym, ◌∙◌, ap, subst, arith, All, if◌then◌else◌, IfSome, option_map, ℤ, pos, ◌+ℤ◌, ◌-ℤ◌, ◌≤ℤ◌, ◌<ℤ◌, int_lt, unsigned_abs}
+use Rattle.std.proofs.lemmas.Int.{ints}
+use Rattle.std.proofs.lemmas.List.Elements.{All-from_recursion}
+use Rattle.sky_model.specs.declared.daemon.DaemonPart.{DaemonPart}
+use Rattle.sky_model.specs.declared.daemon.DaemonPart.TheVariants.{Tick, Retry, Maintain}
+use Rattle.sky_model.specs.declared.reply.Reply.{Reply}
+use Rattle.sky_model.specs.declared.reply.Reply.TheVariants.{Moment, Refused}
+use Rattle.sky_model.specs.declared.reply.Refusal.TheVariants.{ClockSpent}
+use Rattle.sky_model.specs.History.{Fact, clock_at}
+use Rattle.sky_model.specs.Moment.{HasMoment}
+use Rattle.sky_model.specs.Printed.{HaveMoments, ReplyHasMoments}
+use Rattle.sky_model.specs.Queues.{NamedQueue}
+use Rattle.sky_model.specs.World.{World, after_fact, after_facts}
+use Rattle.sky_model.specs.Reader.{DatabaseReader, within_part, within_database, by_world, Deed, answers_with, refuses, idles, followed}
+use Rattle.sky_model.specs.Settling.{Turn, behind_marks}
+use Rattle.sky_model.specs.StepQueue.{next_tick}
+use Rattle.sky_model.specs.Daemon.{quietly, ticks_of, daemon_does, is_due_at, first_after, earlier, next_due}
+use Rattle.sky_model.specs.Clock.{deed_in, part_works, daemon_works, daemons_work, at_moment, goes_to, through, last_moment, clock_goes, clock}
+use Rattle.sky_world.specs.Views.{WorldView}
+use Rattle.sky_world.specs.Seen.{seen_world}
+use Rattle.sky_world.specs.Adds.{AddsDeed}
+use Rattle.sky_world.specs.Works.{Works}
+use Rattle.sky_world.proofs.Worlds.{after_facts-append}
+
+-- ---- the next moment
+
+pub due-next : (now : ℤ) (daemons : ℕ → Option ℤ) (d : ℕ) (due other new : Option ℤ) → due ≡ next_due now daemons d → other ≡ option_map (first_after now) (daemons d) → new ≡ earlier due other → new ≡ next_due now daemons (d + 1)
+due-next now daemons d due other new is is_other both =
+    let next : suc d ≡ d + 1 = omega arith in
+    both ∙ (λ i. earlier (is i) (is_other i)) ∙ ap (next_due now daemons) next
+
+-- what both are, the earlier one is
+pub earlier-is : (P : ℤ → Type 0) (due other new : Option ℤ) → new ≡ earlier due other → IfSome due P → IfSome other P → IfSome new P
+earlier-is P due other new both is_due is_other = subst (λ o. IfSome o P) (sym both) (of due other is_due is_other)
+  where
+    of : (due other : Option ℤ) → IfSome due P → IfSome other P → IfSome (earlier due other) P
+    of None other is_due is_other = is_other
+    of (Some moment) None is_due is_other = is_due
+    of (Some moment) (Some second) is_due is_other = by (int_lt second moment)
+      where
+        by : (b : Bool) → P (if b then second else moment)
+        by true = is_other
+        by false = is_due
+
+-- ---- tests
+
+is_late : (a b : ℤ) → a <ℤ b → int_lt a b ≡ true
+is_late a b lt = by (int_lt a b) refl
+  where
+    by : (t : Bool) → int_lt a b ≡ t → t ≡ true
+    by true e = refl
+    by false e = absurd (omega (arith, ints, e, lt))
+
+is_in_time : (a b : ℤ) → b ≤ℤ a → int_lt a b ≡ false
+is_in_time a b le = by (int_lt a b) refl
+  where
+    by : (t : Bool) → int_lt a b ≡ t → t ≡ false
+    by true e = absurd (omega (arith, ints, e, le))
+    by false e = refl
+
+-- ---- the daemons at a moment
+
+-- the daemons of the databases from one on are still to work
+pub record IsWorking (start cur : WorldView) (moment : ℤ) (d : ℕ) : Type 0 where
+  pub same : after_facts (seen_world start) (at_moment by_world moment (seen_world start)).facts
+      ≡ after_facts (seen_world cur) (daemons_work by_world (length start.databases.names - d) d (seen_world cur)).facts
+  pub now : cur.now ≡ moment
+  pub sessions : cur.sessions.names ≡ start.sessions.names
+  pub databases : cur.databases.names ≡ start.databases.names
+  pub failed : cur.has_failed ≡ start.has_failed
+
+pub working-first : (start cur : WorldView) (moment : ℤ) → cur ≡ record start { now = moment } → IsWorking start cur moment 0
+working-first start cur moment stands = record {
+  same = ap (λ n. after_facts stood (daemons_work by_world n 0 stood).facts) all
+      ∙ ap (λ (w : WorldView). after_facts (seen_world w) (daemons_work by_world (length start.databases.names - 0) 0 (seen_world w)).facts) (sym stands);
+  now = ap (λ (w : WorldView). w.now) stands;
+  sessions = ap (λ (w : WorldView). w.sessions.names) stands;
+  databases = ap (λ (w : WorldView). w.databases.names) stands;
+  failed = ap (λ (w : WorldView). w.has_failed) stands;
+}
+  where
+    stood : World
+    stood = after_fact (seen_world start) (clock_at moment)
+
+    all : length start.databases.names ≡ length start.databases.names - 0
+    all = omega arith
+
+pub working-next : (start cur new : WorldView) (moment : ℤ) (d : ℕ) → d < length start.databases.names → IsWorking start cur moment d → Works cur new (daemon_works by_world d (seen_world cur)) → new.has_failed ≡ cur.has_failed
+    → IsWorking start new moment (d + 1)
+working-next start cur new moment d lt working works failed = record {
+  same = working.same
+      ∙ ap (λ n. after_facts (seen_world cur) (daemons_work by_world n d (seen_world cur)).facts) one
+      ∙ after_facts-append (seen_world cur) first.facts (daemons_work by_world left (d + 1) (after_facts (seen_world cur) first.facts)).facts
+      ∙ ap (λ w. after_facts w (daemons_work by_world left (d + 1) w).facts) (sym works.changed);
+  now = works.now ∙ working.now;
+  sessions = works.sessions ∙ working.sessions;
+  databases = works.databases ∙ working.databases;
+  failed = failed ∙ working.failed;
+}
+  where
+    left : ℕ
+    left = length start.databases.names - (d + 1)
+
+    first : Deed
+    first = daemon_works by_world d (seen_world cur)
+
+    one : length start.databases.names - d ≡ suc left
+    one = omega (arith, lt)
+
+pub working-last : (start cur : WorldView) (moment : ℤ) (d : ℕ) → length start.databases.names ≤ d → IsWorking start cur moment d
+    → seen_world cur ≡ after_facts (seen_world start) (at_moment by_world moment (seen_world start)).facts
+working-last start cur moment d le working =
+    let none : 0 ≡ length start.databases.names - d = omega (arith, le) in
+    ap (λ n. after_facts (seen_world cur) (daemons_work by_world n d (seen_world cur)).facts) none ∙ sym working.same
+
+-- ---- from moment to moment
+
+-- what is left to be done up to a moment ends where all does, however many moments more than there are it may have
+pub record IsGoing (start cur : WorldView) (last : ℤ) : Type 0 where
+  pub left : ℕ
+  pub enough : unsigned_abs (last -ℤ cur.now) ≤ left
+  pub earlier : cur.now ≤ℤ last
+  pub same : after_facts (seen_world start) (through by_world last (unsigned_abs (last -ℤ start.now)) (seen_world start)).facts
+      ≡ after_facts (seen_world cur) (through by_world last left (seen_world cur)).facts
+  pub sessions : cur.sessions.names ≡ start.sessions.names
+  pub failed : cur.has_failed ≡ start.has_failed
+
+pub going-first : (start cur : WorldView) (last : ℤ) → cur ≡ start → start.now ≤ℤ last → IsGoing start cur last
+going-first start cur last is later = subst (λ v. IsGoing start v last) (sym is) (record {
+  left = unsigned_abs (last -ℤ start.now);
+  enough = omega arith;
+  earlier = later;
+  same = refl;
+  sessions = refl;
+  failed = refl;
+})
+
+pub going-next : (start cur new : WorldView) (last moment passed : ℤ) → IsGoing start cur last → Some moment ≡ next_due cur.now (seen_world cur).daemons (length cur.databases.names) → cur.now <ℤ moment → passed ≡ moment → moment ≤ℤ last
+    → seen_world new ≡ after_facts (seen_world cur) (at_moment by_world passed (seen_world cur)).facts → new.now ≡ passed → new.sessions.names ≡ cur.sessions.names → new.has_failed ≡ cur.has_failed
+    → IsGoing start new last
+going-next start cur new last moment passed going due later same_moment le changed now sessions failed = by going.left going.enough going.same
+  where
+    first : Deed
+    first = at_moment by_world moment (seen_world cur)
+
+    by : (left : ℕ) → unsigned_abs (last -ℤ cur.now) ≤ left
+        → after_facts (seen_world start) (through by_world last (unsigned_abs (last -ℤ start.now)) (seen_world start)).facts ≡ after_facts (seen_world cur) (through by_world last left (seen_world cur)).facts
+        → IsGoing start new last
+    by zero enough same = absurd (omega (arith, ints, enough, later, le))
+    by (suc n) enough same = record {
+      left = n;
+      enough = subst (λ t. unsigned_abs (last -ℤ t) ≤ n) (sym (now ∙ same_moment)) (omega (arith, ints, enough, later, le));
+      earlier = subst (λ t. t ≤ℤ last) (sym (now ∙ same_moment)) le;
+      same = same
+          ∙ ap (λ o. after_facts (seen_world cur) (goes_to by_world last (through by_world last n) (seen_world cur) o).facts) (sym due)
+          ∙ ap (λ b. after_facts (seen_world cur) (facts_of (if b then idles else followed by_world (seen_world cur) (through by_world last n) first))) (is_in_time last moment le)
+          ∙ after_facts-append (seen_world cur) first.facts (through by_world last n (after_facts (seen_world cur) first.facts)).facts
+          ∙ ap (λ w. after_facts w (through by_world last n w).facts) (sym (changed ∙ ap (λ t. after_facts (seen_world cur) (at_moment by_world t (seen_world cur)).facts) same_moment));
+      sessions = sessions ∙ going.sessions;
+      failed = failed ∙ going.failed;
+    }
+      where
+        facts_of : Deed → List Fact
+        facts_of deed = deed.facts
+
+-- there is no moment more
+idle-none : (last : ℤ) (n : ℕ) (w : World) → None ≡ next_due w.now w.daemons (length w.databases) → through by_world last n w ≡ idles
+idle-none last zero w none = refl
+idle-none last (suc n) w none = ap (goes_to by_world last (through by_world last n) w) (sym none)
+
+idle-late : (last moment : ℤ) (n : ℕ) (w : World) → Some moment ≡ next_due w.now w.daemons (length w.databases) → int_lt last moment ≡ true → through by_world last n w ≡ idles
+idle-late last moment zero w due late = refl
+idle-late last moment (suc n) w due late =
+    ap (goes_to by_world last (through by_world last n) w) (sym due)
+    ∙ ap (λ b. if b then idles else followed by_world w (through by_world last n) (at_moment by_world moment w)) late
+
+going-last : (start cur : WorldView) (last : ℤ) (going : IsGoing start cur last) → through by_world last going.left (seen_world cur) ≡ idles
+    → seen_world cur ≡ after_facts (seen_world start) (through by_world last (unsigned_abs (last -ℤ start.now)) (seen_world start)).facts
+going-last start cur last going idle = ap (λ (deed : Deed). after_facts (seen_world cur) deed.facts) (sym idle) ∙ sym going.same
+
+pub going-none : (start cur : WorldView) (last : ℤ) → IsGoing start cur last → None ≡ next_due cur.now (seen_world cur).daemons (length cur.databases.names)
+    → seen_world cur ≡ after_facts (seen_world start) (through by_world last (unsigned_abs (last -ℤ start.now)) (seen_world start)).facts
+going-none start cur last going none = going-last start cur last going (idle-none last going.left (seen_world cur) none)
+
+pub going-late : (start cur : WorldView) (last moment : ℤ) → IsGoing start cur last → Some moment ≡ next_due cur.now (seen_world cur).daemons (length cur.databases.names) → last <ℤ moment
+    → seen_world cur ≡ after_facts (seen_world start) (through by_world last (unsigned_abs (last -ℤ start.now)) (seen_world start)).facts
+going-late start cur last moment going due late = going-last start cur last going (idle-late last moment going.left (seen_world cur) due (is_late last moment late))
+
+-- ---- daemons answer nothing
+
+ticks-silent : {P : Type 0} (r : DatabaseReader P) (now : ℤ) (queues : List NamedQueue) (p : P) → [] ≡ (ticks_of r now queues p).answers
+ticks-silent r now [] p = refl
+ticks-silent r now (q ∷ queues) p = ticks-silent r now queues (behind_marks (within_part r now) p (quietly (next_tick (r.database p) now q.number)).marks)
+
+does-silent : {P : Type 0} (r : DatabaseReader P) (p : P) (part : DaemonPart) (now : ℤ) → [] ≡ (daemon_does r p part now).answers
+does-silent r p Tick now = ticks-silent r now (r.database p).queues p
+does-silent r p Retry now = refl
+does-silent r p Maintain now = refl
+
+part-silent : (d : ℕ) (part : DaemonPart) (w : World) → [] ≡ (part_works by_world d part w).answers
+part-silent d part w = by (is_due_at w.now part (w.daemons d))
+  where
+    answers_of : Deed → List (ℕ × Reply)
+    answers_of deed = deed.answers
+
+    by : (b : Bool) → [] ≡ answers_of (if b then deed_in d [] (daemon_does (within_database by_world d) w part w.now) else idles)
+    by true = does-silent (within_database by_world d) w part w.now
+    by false = refl
+
+-- two that answer nothing
+followed-silent : (w : World) (rest : World → Deed) (deed : Deed) → [] ≡ deed.answers → ((v : World) → [] ≡ (rest v).answers) → [] ≡ (followed by_world w rest deed).answers
+followed-silent w rest deed one also = λ i. one i ++ also (after_facts w deed.facts) i
+
+daemon-silent : (d : ℕ) (w : World) → [] ≡ (daemon_works by_world d w).answers
+daemon-silent d w =
+    followed-silent w (λ q. followed by_world q (part_works by_world d Maintain) (part_works by_world d Retry q)) (part_works by_world d Tick w) (part-silent d Tick w)
+    (λ v. followed-silent v (part_works by_world d Maintain) (part_works by_world d Retry v) (part-silent d Retry v) (part-silent d Maintain))
+
+daemons-silent : (n d : ℕ) (w : World) → [] ≡ (daemons_work by_world n d w).answers
+daemons-silent zero d w = refl
+daemons-silent (suc n) d w = followed-silent w (daemons_work by_world n (d + 1)) (daemon_works by_world d w) (daemon-silent d w) (daemons-silent n (d + 1))
+
+moment-silent : (moment : ℤ) (w : World) → [] ≡ (at_moment by_world moment w).answers
+moment-silent moment w =
+    followed-silent w (λ q. daemons_work by_world (length q.databases) 0 q) (record { answers = []; facts = clock_at moment ∷ [] }) refl (λ v. daemons-silent (length v.databases) 0 v)
+
+goes-silent : (last : ℤ) (rest : World → Deed) (w : World) (o : Option ℤ) → ((v : World) → [] ≡ (rest v).answers) → [] ≡ (goes_to by_world last rest w o).answers
+goes-silent last rest w None also = refl
+goes-silent last rest w (Some moment) also = by (int_lt last moment)
+  where
+    answers_of : Deed → List (ℕ × Reply)
+    answers_of deed = deed.answers
+
+    by : (b : Bool) → [] ≡ answers_of (if b then idles else followed by_world w rest (at_moment by_world moment w))
+    by true = refl
+    by false = followed-silent w rest (at_moment by_world moment w) (moment-silent moment w) also
+
+through-silent : (last : ℤ) (n : ℕ) (w : World) → [] ≡ (through by_world last n w).answers
+through-silent last zero w = refl
+through-silent last (suc n) w = goes-silent last (through by_world last n) w (next_due w.now w.daemons (length w.databases)) (through-silent last n)
+
+-- ---- the clock
+
+-- a refusal
+adds-refusal : (v : WorldView) (who : ℕ) (reply : Reply) (before after : List (ℕ × Reply)) → who < length v.sessions.names → ReplyHasMoments reply → after ≡ before ++ (who, reply) ∷ [] → AddsDeed v v before after (answers_with who reply [])
+adds-refusal v who reply before after lt moments is = record {
+  answered = is;
+  known = All-from_recursion (λ (answer : ℕ × Reply). answer.0 < length v.sessions.names) ((who, reply) ∷ []) (lt, tt);
+  moments = All-from_recursion (λ (answer : ℕ × Reply). ReplyHasMoments answer.1) ((who, reply) ∷ []) (moments, tt);
+  changed = refl;
+  sessions = refl;
+}
+
+abbrev going_if : World → ℕ → ℤ → Bool → Deed
+going_if w who to late = if late then refuses who ClockSpent else followed by_world w (λ q. answers_with who (Moment to) (clock_at to ∷ [])) (through by_world to (unsigned_abs (to -ℤ w.now)) w)
+
+-- it would pass its last moment
+pub clock-spent : (v : WorldView) (who : ℕ) (time to : ℤ) (waits : Bool) (before after : List (ℕ × Reply)) → who < length v.sessions.names → false ≡ waits → to ≡ v.now +ℤ time → last_moment <ℤ to
+    → after ≡ before ++ (who, Refused ClockSpent) ∷ [] → AddsDeed v v before after (clock by_world (seen_world v) who time waits)
+clock-spent v who time to waits before after lt free at late is =
+    subst (λ b. AddsDeed v v before after (clock by_world (seen_world v) who time b)) free
+    (subst (λ t. AddsDeed v v before after (clock_goes by_world (seen_world v) who t)) at
+    (subst (λ b. AddsDeed v v before after (going_if (seen_world v) who to b)) (sym (is_late last_moment to late)) (adds-refusal v who (Refused ClockSpent) before after lt tt is)))
+
+-- it goes on
+pub clock-moved : (v worked new : WorldView) (who : ℕ) (time to : ℤ) (waits : Bool) (before after : List (ℕ × Reply)) → who < length v.sessions.names → false ≡ waits → to ≡ v.now +ℤ time → to ≤ℤ last_moment → HasMoment to
+    → seen_world worked ≡ after_facts (seen_world v) (through by_world to (unsigned_abs (to -ℤ v.now)) (seen_world v)).facts → worked.sessions.names ≡ v.sessions.names → new ≡ record worked { now = to }
+    → after ≡ before ++ (who, Moment to) ∷ [] → AddsDeed v new before after (clock by_world (seen_world v) who time waits)
+clock-moved v worked new who time to waits before after lt free at in_time printed changed sessions stands is =
+    subst (λ b. AddsDeed v new before after (clock by_world (seen_world v) who time b)) free
+    (subst (λ t. AddsDeed v new before after (clock_goes by_world (seen_world v) who t)) at
+    (subst (λ b. AddsDeed v new before after (going_if (seen_world v) who to b)) (sym (is_in_time last_moment to in_time)) (record {
+      answered = is ∙ ap (λ answers. before ++ (answers ++ (who, Moment to) ∷ [])) silent;
+      known = subst (λ answers. All (λ (answer : ℕ × Reply). answer.0 < length v.sessions.names) (answers ++ (who, Moment to) ∷ [])) silent
+          (All-from_recursion (λ (answer : ℕ × Reply). answer.0 < length v.sessions.names) ((who, Moment to) ∷ []) (lt, tt));
+      moments = subst (λ answers. HaveMoments (answers ++ (who, Moment to) ∷ [])) silent
+          (All-from_recursion (λ (answer : ℕ × Reply). ReplyHasMoments answer.1) ((who, Moment to) ∷ []) (printed, tt));
+      changed = ap seen_world stands
+          ∙ ap (λ w. after_fact w (clock_at to)) changed
+          ∙ sym (after_facts-append (seen_world v) (through by_world to (unsigned_abs (to -ℤ v.now)) (seen_world v)).facts (clock_at to ∷ []));
+      sessions = ap (λ (w : WorldView). w.sessions.names) stands ∙ sessions;
+    })))
+  where
+    silent : [] ≡ (through by_world to (unsigned_abs (to -ℤ v.now)) (seen_world v)).answers
+    silent = through-silent to (unsigned_abs (to -ℤ v.now)) (seen_world v)

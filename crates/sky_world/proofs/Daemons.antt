@@ -1,0 +1,216 @@
+-- What the world shows, after the code put a daemon on or off, or did a part of its work.
+use Rattle.std.proofs.Common.{◌≡◌, ℕ, ◌<◌, List, [], ◌∷◌, ◌++◌, Bool, true, false, ◌==◌, Option, Some, None, map, length, append-nil, get_or, refl, sym, ◌∙◌, ap, subst, arith, cond, nat_cmp, if◌then◌else◌, IfSome, is_ok, Err, Ok, slice_get, ℤ, pos, ◌≤ℤ◌}
+use Rattle.std.proofs.lemmas.Bool.Decides.{nat_tests}
+use Rattle.std.proofs.lemmas.Int.{ints}
+use Rattle.std.specs.BTreeMap.{is_at}
+use Rattle.std.specs.Map.{lookup}
+use Rattle.sky_names.specs.Named.{with_value}
+use Rattle.sky_model.specs.declared.daemon.DaemonPart.{DaemonPart}
+use Rattle.sky_model.specs.declared.daemon.DaemonPart.TheVariants.{Tick, Retry, Maintain}
+use Rattle.sky_model.specs.declared.stmt.Stmt.{Stmt}
+use Rattle.sky_model.specs.declared.stmt.Stmt.TheVariants.{PgqdOn, PgqdOff}
+use Rattle.sky_model.specs.declared.stmt.Where.TheVariants.{WhenOutside}
+use Rattle.sky_model.specs.declared.reply.Reply.{Reply}
+use Rattle.sky_model.specs.declared.reply.Reply.TheVariants.{Done}
+use Rattle.sky_model.specs.History.{Mark, Fact, within, daemon_on, daemon_off}
+use Rattle.sky_model.specs.State.{Database, changed_at, after_mark, after_marks}
+use Rattle.sky_model.specs.World.{World, after_fact, after_facts}
+use Rattle.sky_model.specs.Reader.{database_by_itself, within_database, by_world, Deed, idles, followed}
+use Rattle.sky_model.specs.Outcome.{Checked, answers, settled}
+use Rattle.sky_model.specs.Made.{Making, runs_if}
+use Rattle.sky_model.specs.Settling.{Turn}
+use Rattle.sky_model.specs.Daemon.{daemon_does, is_due_at}
+use Rattle.sky_model.specs.Clock.{deed_in, part_works, daemon_works}
+use Rattle.sky_model.specs.Allowed.{allowed}
+use Rattle.sky_model.specs.Calls.{making, database_turn, may_make, beside, of_daemon_if, session_does}
+use Rattle.sky_model.proofs.Good.{same-session}
+use Rattle.sky_model.proofs.DaemonTurns.{same-daemon_does}
+use Rattle.pgq_db.specs.Views.{DbView}
+use Rattle.pgq_db.specs.Seen.{seen_database, no_database}
+use Rattle.sky_world.specs.Views.{WorldView}
+use Rattle.sky_world.specs.Seen.{seen_world}
+use Rattle.sky_world.specs.Daemons.{StartedBy}
+use Rattle.sky_world.specs.Adds.{AddsDeed}
+use Rattle.sky_world.specs.Works.{is_pgqd, is_done, is_done_at, Works}
+use Rattle.sky_world.proofs.Worlds.{after_facts-within, after_facts-append, store-there, store-changed}
+
+-- ---- the daemons that are on
+
+-- the test on an entry's key is equality
+is_at-nat : (k n : ℕ) → is_at (nat_cmp k) n ≡ (k == n)
+is_at-nat k n = grind (arith, nat_tests)
+
+-- each is on since a moment that isn't after a later one either
+pub started-later : (now later : ℤ) (daemons : List (ℕ × ℤ)) → now ≤ℤ later → StartedBy now daemons → StartedBy later daemons
+started-later now later daemons le all d = by (lookup (is_at (nat_cmp d)) daemons) (all d)
+  where
+    by : (o : Option ℤ) → IfSome o (λ start. (pos 0 ≤ℤ start) × (start ≤ℤ now)) → IfSome o (λ start. (pos 0 ≤ℤ start) × (start ≤ℤ later))
+    by None known = tt
+    by (Some start) known = (known.0, omega (arith, ints, known.1, le))
+
+-- with one that is on since a moment, or off
+pub started-updated : (now : ℤ) (old new : List (ℕ × ℤ)) (d : ℕ) (o : Option ℤ) → ((q : ℕ) → lookup (is_at (nat_cmp q)) new ≡ cond (is_at (nat_cmp d) q) o (lookup (is_at (nat_cmp q)) old))
+    → IfSome o (λ start. (pos 0 ≤ℤ start) × (start ≤ℤ now)) → StartedBy now old → StartedBy now new
+started-updated now old new d o updates here all q = subst (λ x. IfSome x (λ start. (pos 0 ≤ℤ start) × (start ≤ℤ now))) (sym (updates q)) (by (is_at (nat_cmp d) q))
+  where
+    by : (b : Bool) → IfSome (cond b o (lookup (is_at (nat_cmp q)) old)) (λ start. (pos 0 ≤ℤ start) × (start ≤ℤ now))
+    by true = here
+    by false = all q
+
+daemons-updated : (old new : List (ℕ × ℤ)) (d : ℕ) (o : Option ℤ) → ((q : ℕ) → lookup (is_at (nat_cmp q)) new ≡ cond (is_at (nat_cmp d) q) o (lookup (is_at (nat_cmp q)) old))
+    → (λ n. lookup (is_at (nat_cmp n)) new) ≡ changed_at d (λ _. o) (λ n. lookup (is_at (nat_cmp n)) old)
+daemons-updated old new d o updates = λ i n. pointwise n i
+  where
+    by : (n : ℕ) (b : Bool) → cond b o (lookup (is_at (nat_cmp n)) old) ≡ (if b then o else lookup (is_at (nat_cmp n)) old)
+    by n true = refl
+    by n false = refl
+
+    pointwise : (n : ℕ) → lookup (is_at (nat_cmp n)) new ≡ (if d == n then o else lookup (is_at (nat_cmp n)) old)
+    pointwise n = updates n ∙ ap (λ b. cond b o (lookup (is_at (nat_cmp n)) old)) (is_at-nat d n) ∙ by n (d == n)
+
+-- one is on from now on
+pub daemon-on-as : (v now : WorldView) (entries : List (ℕ × ℤ)) (d : ℕ) (t : ℤ) (start : Option ℤ) → v ≡ now
+    → ((q : ℕ) → lookup (is_at (nat_cmp q)) entries ≡ cond (is_at (nat_cmp d) q) (Some t) (lookup (is_at (nat_cmp q)) v.daemons)) → t ≡ v.now
+    → start ≡ (seen_world now).daemons d → None ≡ start
+    → seen_world (record v { daemons = entries }) ≡ after_facts (seen_world now) (of_daemon_if true d ((seen_world now).daemons d) PgqdOn)
+daemon-on-as v now entries d t start same updates is at none =
+    (λ i. record (seen_world v) { daemons = daemons-updated v.daemons entries d (Some t) updates i })
+    ∙ ap (λ x. record (seen_world v) { daemons = changed_at d (λ _. Some x) (seen_world v).daemons }) is
+    ∙ ap (λ (w : WorldView). after_fact (seen_world w) (daemon_on d)) same
+    ∙ ap (λ o. after_facts (seen_world now) (of_daemon_if true d o PgqdOn)) (none ∙ at)
+
+-- one that is on stays so
+pub daemon-still-on : (w : World) (d : ℕ) (start : ℤ) → Some start ≡ w.daemons d → w ≡ after_facts w (of_daemon_if true d (w.daemons d) PgqdOn)
+daemon-still-on w d start is = ap (λ o. after_facts w (of_daemon_if true d o PgqdOn)) is
+
+-- one is off
+pub daemon-off-as : (v now : WorldView) (entries : List (ℕ × ℤ)) (d : ℕ) → v ≡ now
+    → ((q : ℕ) → lookup (is_at (nat_cmp q)) entries ≡ cond (is_at (nat_cmp d) q) None (lookup (is_at (nat_cmp q)) v.daemons))
+    → seen_world (record v { daemons = entries }) ≡ after_facts (seen_world now) (of_daemon_if true d ((seen_world now).daemons d) PgqdOff)
+daemon-off-as v now entries d same updates =
+    (λ i. record (seen_world v) { daemons = daemons-updated v.daemons entries d None updates i })
+    ∙ ap (λ (w : WorldView). after_fact (seen_world w) (daemon_off d)) same
+    ∙ by ((seen_world now).daemons d)
+  where
+    by : (o : Option ℤ) → after_fact (seen_world now) (daemon_off d) ≡ after_facts (seen_world now) (of_daemon_if true d o PgqdOff)
+    by None = refl
+    by (Some start) = refl
+
+-- ---- `pgqd`
+
+-- it is answered by `ok` where it may be made
+done-if : (m : Making World) (who : ℕ) (w : World) (c : Checked (Unit {0})) → m.outcome w ≡ answers Done → is_done (Some (who, (runs_if m WhenOutside who w c).reply)) ≡ is_ok c
+done-if m who w (Err refusal) is = refl
+done-if m who w (Ok _) is = ap (λ o. is_done (Some (who, (settled who (m.session w) o).reply))) is
+
+there : {A : Type 0} (xs : List A) (x : A) (rest : List A) → slice_get (xs ++ x ∷ rest) (length xs) ≡ Some x
+there [] x rest = refl
+there (y ∷ xs) x rest = there xs x rest
+
+done-at : (w : World) (d who : ℕ) (stmt : Stmt) (before : List (ℕ × Reply)) → is_pgqd stmt ≡ true
+    → is_done_at (before ++ (database_turn (within_database by_world d) w w.now who stmt).answers) (length before) ≡ may_make (w.database d) who stmt
+done-at w d who PgqdOn before switches = ap is_done (there before _ _) ∙ done-if (making (within_database by_world d) w.now who PgqdOn) who w _ refl
+done-at w d who PgqdOff before switches = ap is_done (there before _ _) ∙ done-if (making (within_database by_world d) w.now who PgqdOff) who w _ refl
+done-at w d who _ before other = absurd (cc)
+
+-- its session stays
+stays-by : (w : World) (d who : ℕ) (stmt : Stmt) → is_pgqd stmt ≡ true → beside w who stmt d ≡ of_daemon_if (may_make (w.database d) who stmt) d (w.daemons d) stmt
+stays-by w d who PgqdOn switches = refl
+stays-by w d who PgqdOff switches = refl
+stays-by w d who _ other = absurd (cc)
+
+-- and the daemon is on or off then
+pub adds-pgqd : (old s new : WorldView) (d who own : ℕ) (stmt : Stmt) (done : Bool) (before after : List (ℕ × Reply)) → is_pgqd stmt ≡ true → own ≡ length before → done ≡ is_done_at after own
+    → AddsDeed old s before after (deed_in d [] (database_turn (within_database by_world d) (seen_world old) (seen_world old).now who stmt))
+    → seen_world new ≡ after_facts (seen_world s) (of_daemon_if done d ((seen_world s).daemons d) stmt) → new.sessions.names ≡ s.sessions.names
+    → AddsDeed old new before after (session_does by_world (seen_world old) who stmt (Some d))
+adds-pgqd old s new d who own stmt done before after switches at is adds shows same = subst (λ facts. AddsDeed old new before after (deed_in d facts turn)) (sym (stays-by (seen_world old) d who stmt switches)) (record {
+  answered = adds.answered;
+  known = adds.known;
+  moments = adds.moments;
+  changed = shows
+      ∙ ap (λ b. after_facts (seen_world s) (of_daemon_if b d ((seen_world s).daemons d) stmt)) may
+      ∙ ap (λ (w : World). after_facts (seen_world s) (of_daemon_if (may_make ((seen_world old).database d) who stmt) d (w.daemons d) stmt)) (by_marks ∙ after_facts-within (seen_world old) d turn.marks)
+      ∙ ap (λ w. after_facts w facts) by_marks
+      ∙ sym (after_facts-append (seen_world old) (map (within d) turn.marks) facts);
+  sessions = same ∙ adds.sessions;
+})
+  where
+    turn : Turn
+    turn = database_turn (within_database by_world d) (seen_world old) (seen_world old).now who stmt
+
+    facts : List Fact
+    facts = of_daemon_if (may_make ((seen_world old).database d) who stmt) d ((seen_world old).daemons d) stmt
+
+    may : done ≡ may_make ((seen_world old).database d) who stmt
+    may = is ∙ ap (is_done_at after) at ∙ ap (λ replies. is_done_at replies (length before)) adds.answered ∙ done-at (seen_world old) d who stmt before switches
+
+    by_marks : seen_world s ≡ after_facts (seen_world old) (map (within d) turn.marks)
+    by_marks = adds.changed ∙ ap (λ fs. after_facts (seen_world old) fs) (append-nil (map (within d) turn.marks))
+
+-- a refused one leaves it as it is
+pub adds-refused : (old s : WorldView) (d who own : ℕ) (stmt : Stmt) (done : Bool) (before after : List (ℕ × Reply)) → is_pgqd stmt ≡ true → own ≡ length before → done ≡ is_done_at after own → done ≡ false
+    → AddsDeed old s before after (deed_in d [] (database_turn (within_database by_world d) (seen_world old) (seen_world old).now who stmt))
+    → AddsDeed old s before after (session_does by_world (seen_world old) who stmt (Some d))
+adds-refused old s d who own stmt done before after switches at is other adds =
+    adds-pgqd old s s d who own stmt false before after switches at (sym other ∙ is) adds refl refl
+
+-- ---- the work of daemons
+
+-- a part that isn't due
+pub works-idle : (v : WorldView) (d : ℕ) (part : DaemonPart) → is_due_at v.now part ((seen_world v).daemons d) ≡ false → Works v v (part_works by_world d part (seen_world v))
+works-idle v d part other =
+    subst (Works v v) (ap (λ b. if b then deed_in d [] (daemon_does (within_database by_world d) (seen_world v) part v.now) else idles) (sym other))
+    (record { changed = refl; now = refl; sessions = refl; databases = refl })
+
+-- within the world the daemon of a database does what it does in the database
+daemon-within : (w : World) (d : ℕ) (part : DaemonPart) (now : ℤ) → daemon_does (within_database by_world d) w part now ≡ daemon_does database_by_itself (w.database d) part now
+daemon-within w d part now =
+    same-daemon_does (within_database by_world d) database_by_itself (λ (v : World). v.database d) (λ v. refl)
+    (λ v mark. ap (λ b. if b then after_mark (v.database d) mark else v.database d) (same-session d)) w part now
+
+-- a part that is due
+pub works-part : (v now : WorldView) (d : ℕ) (part : DaemonPart) (old new : DbView) (t : ℤ) → v ≡ now → d < length v.databases.values → old ≡ get_or v.databases.values d old → t ≡ v.now
+    → is_due_at now.now part ((seen_world now).daemons d) ≡ true
+    → seen_database new ≡ after_marks (seen_database old) (daemon_does database_by_itself (seen_database old) part t).marks
+    → Works now (record v { databases = with_value v.databases d new }) (part_works by_world d part (seen_world now))
+works-part v now d part old new t same lt at is due works =
+    subst (Works now (record v { databases = with_value v.databases d new })) (ap (λ b. if b then deed_in d [] whole else idles) (sym due)) (record {
+      changed = store-changed v d old new done.marks lt at works
+          ∙ ap (λ (u : Turn). after_facts (seen_world v) (map (within d) u.marks)) turn_is
+          ∙ ap (λ w. after_facts (seen_world w) (map (within d) whole.marks)) same
+          ∙ ap (λ facts. after_facts (seen_world now) facts) (sym (append-nil (map (within d) whole.marks)));
+      now = ap (λ (w : WorldView). w.now) same;
+      sessions = ap (λ (w : WorldView). w.sessions.names) same;
+      databases = ap (λ (w : WorldView). w.databases.names) same;
+    })
+  where
+    whole : Turn
+    whole = daemon_does (within_database by_world d) (seen_world now) part now.now
+
+    done : Turn
+    done = daemon_does database_by_itself (seen_database old) part t
+
+    turn_is : done ≡ whole
+    turn_is =
+        ap (λ x. daemon_does database_by_itself (seen_database old) part x) is
+        ∙ ap (λ x. daemon_does database_by_itself (seen_database x) part v.now) (sym (store-there v d old lt at))
+        ∙ ap (λ (w : WorldView). daemon_does database_by_itself ((seen_world w).database d) part w.now) same
+        ∙ sym (daemon-within (seen_world now) d part now.now)
+
+-- one after the other
+pub works-then : (old s new : WorldView) (first : Deed) (rest : World → Deed) → Works old s first → Works s new (rest (seen_world s)) → Works old new (followed by_world (seen_world old) rest first)
+works-then old s new first rest one two = record {
+  changed = two.changed
+      ∙ ap (λ w. after_facts w (rest w).facts) one.changed
+      ∙ sym (after_facts-append (seen_world old) first.facts (rest (after_facts (seen_world old) first.facts)).facts);
+  now = two.now ∙ one.now;
+  sessions = two.sessions ∙ one.sessions;
+  databases = two.databases ∙ one.databases;
+}
+
+pub works-all : (old ticked retried new : WorldView) (d : ℕ) → Works old ticked (part_works by_world d Tick (seen_world old)) → Works ticked retried (part_works by_world d Retry (seen_world ticked))
+    → Works retried new (part_works by_world d Maintain (seen_world retried)) → Works old new (daemon_works by_world d (seen_world old))
+works-all old ticked retried new d ticks retries maintains =
+    works-then old ticked new (part_works by_world d Tick (seen_world old)) (λ q. followed by_world q (part_works by_world d Maintain) (part_works by_world d Retry q)) ticks
+    (works-then ticked retried new (part_works by_world d Retry (seen_world ticked)) (part_works by_world d Maintain) retries maintains)

@@ -1,0 +1,32 @@
+-- What a method of the world does that answers nothing, by what the world showed; and which statements are on the daemon.
+use Rattle.std.specs.Prelude.{◌≡◌, ℕ, Bool, true, false, List, Option, Some, None, slice_get}
+use Rattle.sky_model.specs.declared.stmt.Stmt.{Stmt}
+use Rattle.sky_model.specs.declared.stmt.Stmt.TheVariants.{PgqdOn, PgqdOff}
+use Rattle.sky_model.specs.declared.reply.Reply.{Reply}
+use Rattle.sky_model.specs.declared.reply.Reply.TheVariants.{Done}
+use Rattle.sky_model.specs.World.{after_facts}
+use Rattle.sky_model.specs.Reader.{Deed}
+use Rattle.sky_world.specs.Views.{WorldView}
+use Rattle.sky_world.specs.Seen.{seen_world}
+
+-- whether a statement puts the daemon on or off
+abbrev pub is_pgqd : Stmt → Bool
+is_pgqd PgqdOn = true
+is_pgqd PgqdOff = true
+is_pgqd _ = false
+
+-- whether an answer is `ok`
+abbrev pub is_done : Option (ℕ × Reply) → Bool
+is_done (Some (who, Done)) = true
+is_done _ = false
+
+-- whether the one at a place is
+abbrev pub is_done_at : List (ℕ × Reply) → ℕ → Bool
+is_done_at replies place = is_done (slice_get replies place)
+
+-- the world is then as after the deed's facts, with the same sessions and databases, at the same moment
+pub record Works (old new : WorldView) (deed : Deed) : Type 0 where
+  pub changed : seen_world new ≡ after_facts (seen_world old) deed.facts
+  pub now : new.now ≡ old.now
+  pub sessions : new.sessions.names ≡ old.sessions.names
+  pub databases : new.databases.names ≡ old.databases.names
