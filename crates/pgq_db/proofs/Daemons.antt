@@ -1,5 +1,5 @@
 -- What the daemon of a database leaves: of each queue in turn the tick that is due.
-use Rattle.std.proofs.Common.{◌≡◌, ℕ, zero, suc, ℤ, ◌+◌, ◌<◌, ◌^◌, nat_le, List, [], ◌∷◌, ◌++◌, Bool, true, false, length, drop, get_or, refl, sym, ◌∙◌, ap, subst, arith, if◌then◌else◌}
+use Rattle.std.proofs.Common.{◌≡◌, ℕ, zero, suc, ℤ, ◌+◌, ◌<◌, ◌≤◌, ◌^◌, nat_le, List, [], ◌∷◌, ◌++◌, Bool, true, false, length, drop, get_or, refl, sym, ◌∙◌, ap, subst, arith, if◌then◌else◌}
 use Rattle.sky_model.specs.declared.reply.Reply.TheVariants.{Number, Null}
 use Rattle.sky_model.specs.declared.reply.Refusal.TheVariants.{IdsSpent}
 use Rattle.sky_model.specs.History.{Mark, queued, ticked}
@@ -10,8 +10,9 @@ use Rattle.sky_model.specs.StepQueue.{next_tick, is_due, newest_id}
 use Rattle.sky_model.specs.Reader.{database_by_itself}
 use Rattle.sky_model.specs.Daemon.{quietly, ticks_of}
 use Rattle.sky_model.proofs.DatabaseStanding.{after_marks-append, behind-all}
-use Rattle.pgq_queues.specs.Seen.{numbered}
-use Rattle.pgq_queues.proofs.NumberedQueues.{numbered-length}
+use Rattle.std.proofs.lemmas.List.{drop_more}
+use Rattle.std.proofs.Math.ListN.{drop_of_length-le}
+use Rattle.pgq_queues.specs.Seen.{unnamed}
 
 -- the marks of the tick that is due
 abbrev pub tick_marks : Database → ℤ → ℕ → List Mark
@@ -42,20 +43,6 @@ ticks-next d now q queues =
     let marks : List Mark = tick_marks d now q.number in
     after_marks-append d marks _ ∙ ap (λ x. after_marks (after_marks d marks) (ticks_of database_by_itself now queues x).marks) (behind-all now d marks)
 
--- the queues from a place on
-drop-numbered : (n k : ℕ) (names : List (List ℕ)) → k < length names → drop k (numbered n names) ≡ record { number = n + k; name = get_or names k [] } ∷ drop (suc k) (numbered n names)
-drop-numbered n k [] low = absurd (omega (arith, low))
-drop-numbered n zero (name ∷ names) low = let same : n ≡ n + 0 = omega arith in ap (λ m. record { number = m; name = name } ∷ numbered (n + 1) names) same
-drop-numbered n (suc k) (name ∷ names) low =
-    let same : n + 1 + k ≡ n + suc k = omega arith in
-    drop-numbered (n + 1) k names (omega (arith, low)) ∙ (λ i. record { number = same i; name = get_or names k [] } ∷ drop (suc k) (numbered (n + 1) names))
-
-pub drop-all : (n k : ℕ) (names : List (List ℕ)) → k ≡ length names → drop k (numbered n names) ≡ []
-drop-all n zero [] is = refl
-drop-all n (suc k) [] is = refl
-drop-all n zero (name ∷ names) is = absurd (omega (arith, is))
-drop-all n (suc k) (name ∷ names) is = drop-all (n + 1) k names (omega (arith, is))
-
 -- what is left to be done from a queue on
 pub record IsLeft (old cur : Database) (now : ℤ) (queue : ℕ) : Type 0 where
   pub ends : ticks_end now old.queues old ≡ ticks_end now (drop queue cur.queues) cur
@@ -64,31 +51,25 @@ pub record IsLeft (old cur : Database) (now : ℤ) (queue : ℕ) : Type 0 where
 pub left-first : (d : Database) (now : ℤ) → IsLeft d d now 0
 left-first d now = record { ends = refl; stays = record { part = refl; queues = refl; made = refl } }
 
-pub left-next : (old cur next : Database) (now : ℤ) (queue : ℕ) (names : List (List ℕ)) → cur.queues ≡ numbered 0 names → queue < length names → IsLeft old cur now queue
-    → next ≡ after_marks cur (tick_marks cur now queue) → IsLeft old next now (queue + 1)
-left-next old cur next now queue names named low left is =
-    subst (λ d. IsLeft old d now (queue + 1)) (sym is) (record {
+pub left-next : (old cur next : Database) (now : ℤ) (place queue : ℕ) → place < length cur.queues → queue ≡ (get_or cur.queues place unnamed).number → IsLeft old cur now place
+    → next ≡ after_marks cur (tick_marks cur now queue) → IsLeft old next now (place + 1)
+left-next old cur next now place queue low numbered left is =
+    subst (λ d. IsLeft old d now (place + 1)) (sym is) (record {
       ends = left.ends
-          ∙ ap (λ qs. ticks_end now qs cur) (ap (drop queue) named ∙ drop-numbered 0 queue names low ∙ (λ i. record { number = zeroth i; name = get_or names queue [] } ∷ drop (more i) (numbered 0 names)))
-          ∙ ticks-next cur now (record { number = queue; name = get_or names queue [] }) (drop (queue + 1) (numbered 0 names))
-          ∙ ap (λ qs. ticks_end now (drop (queue + 1) qs) (after_marks cur (tick_marks cur now queue))) (sym (stays.queues ∙ named));
+          ∙ ap (λ qs. ticks_end now qs cur) (drop_more cur.queues place unnamed low)
+          ∙ ticks-next cur now (get_or cur.queues place unnamed) (drop (place + 1) cur.queues)
+          ∙ ap (λ n. ticks_end now (drop (place + 1) cur.queues) (after_marks cur (tick_marks cur now n))) (sym numbered)
+          ∙ ap (λ qs. ticks_end now (drop (place + 1) qs) (after_marks cur (tick_marks cur now queue))) (sym stays.queues);
       stays = record { part = stays.part ∙ left.stays.part; queues = stays.queues ∙ left.stays.queues; made = stays.made ∙ left.stays.made };
     })
   where
-    zeroth : 0 + queue ≡ queue
-    zeroth = omega arith
-
-    more : suc queue ≡ queue + 1
-    more = omega arith
-
     stays : StaysAs cur (after_marks cur (tick_marks cur now queue))
     stays = tick-stays cur now queue
 
 -- at the end nothing is
-pub left-none : (old cur : Database) (now : ℤ) (queue : ℕ) (names : List (List ℕ)) → cur.queues ≡ numbered 0 names → queue ≡ length names → IsLeft old cur now queue → cur ≡ ticks_end now old.queues old
-left-none old cur now queue names named is left = sym (left.ends ∙ ap (λ qs. ticks_end now qs cur) (ap (drop queue) named ∙ drop-all 0 queue names is))
+pub left-none : (old cur : Database) (now : ℤ) (place : ℕ) → length cur.queues ≤ place → IsLeft old cur now place → cur ≡ ticks_end now old.queues old
+left-none old cur now place all left = sym (left.ends ∙ ap (λ qs. ticks_end now qs cur) (drop_of_length-le cur.queues all))
 
 -- there are as many queues as before
-pub left-count : (old cur : Database) (now : ℤ) (queue : ℕ) (names kept : List (List ℕ)) → old.queues ≡ numbered 0 names → cur.queues ≡ numbered 0 kept → IsLeft old cur now queue → length kept ≡ length names
-left-count old cur now queue names kept one other left =
-    sym (numbered-length 0 kept) ∙ ap length (sym other ∙ left.stays.queues ∙ one) ∙ numbered-length 0 names
+pub left-count : (old cur : Database) (now : ℤ) (place : ℕ) → IsLeft old cur now place → length cur.queues ≡ length old.queues
+left-count old cur now place left = ap length left.stays.queues

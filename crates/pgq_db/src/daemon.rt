@@ -1,6 +1,6 @@
 //! What the daemon of a database does, part by part. It answers nothing, and what would be refused isn't done.
 
-ghost use Rattle.std.specs.Prelude.{◌≡◌, ◌<◌, OnOk, length};
+ghost use Rattle.std.specs.Prelude.{◌≡◌, OnOk};
 ghost use Rattle.sky_model.specs.Moment.{IsTime};
 ghost use Rattle.sky_model.specs.State.{after_marks};
 ghost use Rattle.sky_model.specs.Reader.{database_by_itself};
@@ -8,6 +8,7 @@ ghost use Rattle.sky_model.specs.StepQueue.{next_tick};
 ghost use Rattle.sky_model.specs.Daemon.{quietly, ticks_of, daemon_does};
 ghost use Rattle.sky_model.specs.DatabaseCalls.{worked};
 ghost use Rattle.sky_model.specs.DatabaseSteps.{DatabaseSteps};
+ghost use Rattle.pgq_queues.specs.Seen.{Stands};
 ghost use Rattle.pgq_db.specs.Seen.{seen_database};
 
 use crate::db::Db;
@@ -39,7 +40,8 @@ impl Db {
             ≡ after_marks (seen_database self.old) (ticks_of database_by_itself now (seen_database self.old).queues (seen_database self.old)).marks) }
         ensures rows { OnOk result ((seen_database self.new).part ≡ (seen_database self.old).part) }
     {
-        for queue in 0..self.queues.count() {
+        for place in 0..self.queues.count() {
+            let queue = self.queues.number_at(place);
             self.make_tick(queue, now)?;
         }
         Ok(())
@@ -47,7 +49,7 @@ impl Db {
 
     /// Makes the tick of a queue that is due, if there is an id for it.
     fn make_tick(&mut self, queue: usize, now: i64) -> Result<(), NoMemory>
-        requires queue { queue < length self.old.queues.names }
+        requires queue { Stands self.old.queues.queues queue }
         requires time { IsTime now }
         ensures ticked { OnOk result (seen_database self.new ≡ after_marks (seen_database self.old) (quietly (next_tick (seen_database self.old) now queue)).marks) }
     {

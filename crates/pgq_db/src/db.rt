@@ -1,12 +1,13 @@
-ghost use Rattle.std.specs.Prelude.{◌≡◌, ◌↔◌, ◌≢◌, ◌+◌, ◌<◌, ◌^◌, [], ◌∷◌, ◌++◌, true, None, Some, Ok, Err, IfOk, IfErr, OnOk, OnErr, IsTrue, option_copied, length, find, not, nat_le, false};
+ghost use Rattle.std.specs.Prelude.{◌≡◌, ◌↔◌, ◌≢◌, ◌+◌, ◌<◌, ◌^◌, [], ◌∷◌, ◌++◌, true, None, Some, Ok, Err, IfOk, IfErr, OnOk, OnErr, IsTrue, ◌==◌, option_copied, length, find, not, nat_le, false, is_some};
 ghost use Rattle.sky_keys.specs.Waits.{is_waiting};
 ghost use Rattle.sky_names.specs.Places.{place_of};
 ghost use Rattle.sky_model.specs.InForm.{IsRowInForm};
-ghost use Rattle.sky_model.specs.History.{queued, made, raised, put, ticked, registered, opened, traced};
+ghost use Rattle.sky_model.specs.History.{queued, made, raised, put, ticked, registered, opened, dropped, traced};
 ghost use Rattle.sky_model.specs.Moment.{HasMoment, IsTime};
 ghost use Rattle.sky_model.specs.Queues.{queue_number};
 ghost use Rattle.sky_model.specs.ShownRows.{snapshot_now};
-ghost use Rattle.sky_model.specs.StepQueue.{newest_id};
+ghost use Rattle.std.specs.List.{All};
+ghost use Rattle.sky_model.specs.StepQueue.{newest_id, least_producer};
 ghost use Rattle.sky_model.specs.Outcome.{refused_if};
 ghost use Rattle.sky_model.specs.Stops.{Stops};
 ghost use Rattle.sky_model.specs.declared.reply.Refusal.TheVariants.{IdsSpent};
@@ -22,7 +23,8 @@ ghost use Rattle.sky_model.specs.Calls.{database_turn};
 ghost use Rattle.sky_model.specs.SessionMarks.{Enters, entry, entry_place, failing};
 ghost use Rattle.sky_model.specs.DatabaseCalls.{entered, failed};
 ghost use Rattle.sky_model.specs.DatabaseSteps.{DatabaseSteps};
-ghost use Rattle.pgq_queues.specs.Seen.{seen_batch};
+ghost use Rattle.pgq_queues.specs.Seen.{seen_batch, Stands};
+ghost use Rattle.pgq_queues.specs.Batches.{StillStand};
 ghost use Rattle.pgq_db.specs.Seen.{seen_database};
 ghost use Rattle.pgq_db.specs.Waiters.{StaysWithin};
 ghost use Rattle.pgq_db.specs.Gives.{Gives, Adds};
@@ -83,7 +85,7 @@ impl Db {
 
     /// The subscription of a queue's consumer, if it is registered.
     pub(crate) fn subscription(&self, queue: usize, consumer: &Text) -> Option<Sub>
-        requires { queue < length self.now.queues.names }
+        requires { Stands self.now.queues.queues queue }
         ensures { result ≡ ((seen_database self.now).queue queue).sub consumer.now }
     {
         self.queues.queue(queue).subscription(consumer)
@@ -260,16 +262,16 @@ impl Db {
 
     /// The sequence of a queue has this value from now on.
     pub(crate) fn raise(&mut self, queue: usize, value: u64)
-        requires { queue < length self.old.queues.names }
+        requires { Stands self.old.queues.queues queue }
         ensures mark { seen_database self.new ≡ after_mark (seen_database self.old) (queued (raised queue value)) }
-        ensures names { self.new.queues.names ≡ self.old.queues.names }
+        ensures stand { StillStand self.old.queues.queues self.new.queues.queues }
     {
         self.queues.raise(queue, value);
     }
 
     /// A parameter of a queue gets the value that a text writes, or it is said why not.
     pub(crate) fn configure(&mut self, queue: usize, param: &Text, value: &Text) -> Result<(), Stop>
-        requires { queue < length self.old.queues.names }
+        requires { Stands self.old.queues.queues queue }
         ensures mark { OnOk result (Configures (seen_database self.old) (seen_database self.new) queue (configured_as ((seen_database self.old).queue queue).config param.now value.now)) }
         ensures stops { IfErr result (λ stop. Stops stop (seen_database self.old) (seen_database self.new) (configured_as ((seen_database self.old).queue queue).config param.now value.now)) }
     {
@@ -282,7 +284,7 @@ impl Db {
 
     /// Stores an event in a queue, whether its transaction commits or not.
     pub(crate) fn put(&mut self, queue: usize, event: Event) -> Result<(), NoMemory>
-        requires queue { queue < length self.old.queues.names }
+        requires queue { Stands self.old.queues.queues queue }
         requires time { HasMoment event.ev_time }
         ensures { OnOk result (seen_database self.new ≡ after_mark (seen_database self.old) (queued (put queue event))) }
     {
@@ -291,7 +293,7 @@ impl Db {
 
     /// One more tick of a queue, with the next id, which it gives, or a refusal where there is none.
     pub(crate) fn tick(&mut self, queue: usize, now: i64) -> Result<u64, Stop>
-        requires queue { queue < length self.old.queues.names }
+        requires queue { Stands self.old.queues.queues queue }
         requires time { IsTime now }
         ensures id { IfOk result (λ id. id ≡ newest_id ((seen_database self.old).queue queue) + 1) }
         ensures left { OnOk result (nat_le (2 ^ 64) (newest_id ((seen_database self.old).queue queue) + 1) ≡ false) }
@@ -315,9 +317,28 @@ impl Db {
         self.queues.make(name, now, snapshot)
     }
 
+    /// The queue of this name, which has this number, is dropped.
+    pub(crate) fn remove(&mut self, name: &Text, queue: usize)
+        requires found { queue_number name.now (seen_database self.old).queues ≡ Some queue }
+        requires consumers { ((seen_database self.old).queue queue).members ≡ [] }
+        requires triggers { All (λ t. (t.trigger.queue == queue) ≡ false) (seen_database self.old).triggers }
+        ensures { seen_database self.new ≡ after_mark (seen_database self.old) (queued (dropped queue)) }
+    {
+        self.queues.drop_queue(name, queue);
+    }
+
+    /// The least running transaction that has an event in a queue.
+    pub(crate) fn least_producer(&self, queue: usize) -> Result<Option<u64>, NoMemory>
+        requires { Stands self.now.queues.queues queue }
+        ensures { IfOk result (λ txid. txid ≡ least_producer (seen_database self.now) queue) }
+    {
+        let snapshot = self.rows.snapshot_now()?;
+        Ok(self.queues.queue(queue).first_producer(snapshot.xip()))
+    }
+
     /// Registers a new consumer, which stands at the newest tick.
     pub(crate) fn register(&mut self, queue: usize, consumer: &Text) -> Result<(), NoMemory>
-        requires queue { queue < length self.old.queues.names }
+        requires queue { Stands self.old.queues.queues queue }
         requires new { ((seen_database self.old).queue queue).sub consumer.now ≡ None }
         requires room { length ((seen_database self.old).queue queue).members < 256 }
         requires id { (seen_database self.old).last_sub_id + 1 < 2 ^ 64 }
@@ -329,7 +350,8 @@ impl Db {
 
     /// The batch is active from now on, and is its consumer's.
     pub(crate) fn open_batch(&mut self, id: u64, batch: Batch) -> Result<(), NoMemory>
-        requires { batch.queue < length self.old.queues.names }
+        requires queue { Stands self.old.queues.queues batch.queue }
+        requires registered { is_some (((seen_database self.old).queue batch.queue).sub batch.consumer) ≡ true }
         ensures { OnOk result (seen_database self.new ≡ after_mark (seen_database self.old) (queued (opened (seen_batch id batch)))) }
     {
         self.queues.open_batch(id, batch)
@@ -338,7 +360,7 @@ impl Db {
     /// One more trigger of the table of this name.
     pub(crate) fn trace(&mut self, name: &Text, trigger: TableTrigger) -> Result<(), NoMemory>
         requires table { place_of name.now (seen_database self.old).part.tables ≡ Some trigger.table }
-        requires queue { trigger.trigger.queue < length self.old.queues.names }
+        requires queue { Stands self.old.queues.queues trigger.trigger.queue }
         ensures ok { OnOk result (seen_database self.new ≡ after_mark (seen_database self.old) (queued (traced trigger.table trigger.name trigger.trigger))) }
         ensures err { OnErr result (seen_database self.new ≡ seen_database self.old) }
     {

@@ -14,7 +14,6 @@ use sky_val::NoMemory;
 pub(crate) fn undo_aborted(queues: &mut Queues, effects: &Effects) -> Result<(), NoMemory>
     ensures noted { OnOk result ((part : RowPart) → seen_with part queues.new
         ≡ record (seen_with part queues.old) { undone = undone_by effects.now.items (seen_with part queues.old).undone }) }
-    ensures names { queues.new.names ≡ queues.old.names }
     ensures rest { KeepsRest queues.old queues.new }
 {
     for effect in effects.as_slice() {
@@ -27,7 +26,6 @@ pub(crate) fn undo_aborted(queues: &mut Queues, effects: &Effects) -> Result<(),
 fn note(queues: &mut Queues, effect: &Effect) -> Result<(), NoMemory>
     ensures noted { OnOk result ((part : RowPart) → seen_with part queues.new
         ≡ record (seen_with part queues.old) { undone = undone_by (effect.now ∷ []) (seen_with part queues.old).undone }) }
-    ensures names { queues.new.names ≡ queues.old.names }
     ensures rest { KeepsRest queues.old queues.new }
 {
     match effect {

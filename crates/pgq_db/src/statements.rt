@@ -1,7 +1,7 @@
 //! The statements, each in the database that its session has open. A refusal changes nothing there but
 //! that it may abort the session's block.
 
-ghost use Rattle.std.specs.Prelude.{◌≡◌, ◌+◌, ◌<◌, [], ◌∷◌, ◌++◌, true, false, if◌then◌else◌, None, Some, Ok, Err, IfOk, IfErr, OnOk, length};
+ghost use Rattle.std.specs.Prelude.{◌≡◌, ◌+◌, ◌<◌, [], ◌∷◌, ◌++◌, true, false, if◌then◌else◌, None, Some, Ok, Err, IfOk, IfErr, OnOk, length, is_some};
 ghost use Rattle.sky_names.specs.Places.{place_of};
 ghost use Rattle.sky_model.specs.declared.stmt.Where.TheVariants.{WhenReading, WhenOutside};
 ghost use Rattle.sky_model.specs.Queues.{queue_number, tick};
@@ -10,7 +10,7 @@ ghost use Rattle.sky_model.specs.State.{after_marks};
 ghost use Rattle.sky_model.specs.Outcome.{settled};
 ghost use Rattle.sky_model.specs.Printed.{HaveMoments};
 ghost use Rattle.sky_model.specs.OwnTransaction.{txid_for, written};
-ghost use Rattle.sky_model.specs.StepQueue.{queue_called, create_queue, set_queue_config, queue_info, insert_event, ticker, force_tick, made_event};
+ghost use Rattle.sky_model.specs.StepQueue.{queue_called, create_queue, drop_queue, shown_name, set_queue_config, queue_info, insert_event, ticker, force_tick, made_event};
 ghost use Rattle.sky_model.specs.StepRows.{table_called};
 ghost use Rattle.sky_model.specs.StepTrigger.{add_trigger};
 ghost use Rattle.sky_model.specs.StepConsumer.{has_dot, opens_batch, register_consumer, next_batch, get_batch_events, finish_batch};
@@ -22,6 +22,7 @@ ghost use Rattle.sky_model.specs.Calls.{form, statement, database_turn};
 ghost use Rattle.sky_model.specs.DatabaseCalls.{stepped};
 ghost use Rattle.sky_model.specs.DatabaseSteps.{DatabaseSteps};
 ghost use Rattle.sky_model.specs.Moment.{IsTime};
+ghost use Rattle.pgq_queues.specs.Seen.{Stands};
 ghost use Rattle.pgq_db.specs.Seen.{seen_database};
 ghost use Rattle.pgq_db.specs.Waiters.{StaysWithin};
 ghost use Rattle.pgq_db.specs.Gives.{is_clock, is_on_queues, Gives, Adds, Answers, Ran};
@@ -199,6 +200,7 @@ impl Db {
         match stmt {
             Stmt::Row(_) | Stmt::Clock { .. } => unreachable!(),
             Stmt::CreateQueue { queue } => self.create_queue(now, who, queue, replies),
+            Stmt::DropQueue { queue } => self.drop_queue(who, queue, replies),
             Stmt::SetQueueConfig {
                 queue,
                 param,
@@ -237,7 +239,7 @@ impl Db {
     /// The number of the queue of this name.
     fn queue_called(&self, queue: &Text) -> Result<usize, Stop>
         ensures ok { IfOk result (λ number. queue_called queue.now (seen_database self.now) ≡ Ok number) }
-        ensures within { IfOk result (λ number. number < length self.now.queues.names) }
+        ensures stands { IfOk result (λ number. Stands self.now.queues.queues number) }
         ensures err { IfErr result (λ stop. StopsAs stop (queue_called queue.now (seen_database self.now))) }
     {
         match self.queues.number(queue) {
@@ -288,6 +290,28 @@ impl Db {
         self.take_txid(who, txid)?;
         let snapshot = self.rows.snapshot_now()?;
         self.make(name, now, snapshot)?;
+        Ok(())
+    }
+
+    /// `drop_queue NAME`: a queue without consumers, which no trigger writes into, and in which no running transaction has
+    /// an event.
+    fn drop_queue(&mut self, who: SessionId, name: &Text, replies: &mut Replies) -> Result<(), Stop>
+        ensures { Ran self.old self.new replies.old replies.new who result (drop_queue (seen_database self.old) name.now) }
+    {
+        let queue = self.queue_called(name)?;
+        let consumers = self.queues.queue(queue).consumer_count();
+        if consumers > 0 {
+            return Err(Stop::Refused(Refusal::HasConsumers(consumers as u64)));
+        }
+        if let Some(trigger) = self.queues.first_trigger_into(queue) {
+            let name = shown_name(self.alloc, trigger)?;
+            return Err(Stop::Refused(Refusal::HasTriggers(name)));
+        }
+        if let Some(txid) = self.least_producer(queue)? {
+            return Err(Stop::Refused(Refusal::QueueBusy(txid)));
+        }
+        self.remove(name, queue);
+        replies.push(who, Reply::Number(1))?;
         Ok(())
     }
 
@@ -448,7 +472,8 @@ impl Db {
         sub: &Sub,
         replies: &mut Replies,
     ) -> Result<(), Stop>
-        requires { queue < length self.old.queues.names }
+        requires queue { Stands self.old.queues.queues queue }
+        requires registered { is_some (((seen_database self.old).queue queue).sub consumer.now) ≡ true }
         ensures { Ran self.old self.new replies.old replies.new who result (opens_batch (seen_database self.old) queue consumer.now sub.now (tick (sub.now.position + 1) ((seen_database self.old).queue queue).tick_list)) }
     {
         let Some(next) = self.queues.queue(queue).ticks().next_after(sub.position()) else {
@@ -563,6 +588,16 @@ fn new_trigger(
         name: Some(name.copy(alloc)?),
         trigger: Trigger::new(queue, backup, names),
     })
+}
+
+/// The name that a refusal gives of a trigger.
+fn shown_name(alloc: Global, trigger: &TableTrigger) -> Result<Text, NoMemory>
+    ensures { IfOk result (λ name. name ≡ shown_name trigger.now) }
+{
+    match &trigger.name {
+        Some(name) => name.copy(alloc),
+        None => Text::from_str(alloc, ""),
+    }
 }
 
 fn has_dot(name: &Text) -> bool

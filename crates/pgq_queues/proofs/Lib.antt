@@ -1,4 +1,5 @@
 pub mod NumberedQueues
+pub mod Slotted
 pub mod Marked
 pub mod TracedLists
 pub mod Telling

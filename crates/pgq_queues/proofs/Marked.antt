@@ -2,7 +2,9 @@
 use Rattle.std.proofs.Common.{◌≡◌, ℕ, ℤ, suc, zero, ◌+◌, ◌<◌, List, [], ◌∷◌, ◌++◌, Bool, true, false, ◌||◌, ◌==◌, Option, Some, None, Result, Ok, Err, OnErr, Vec, Global, IfOk, length, get_or, slice_set, get_or-set_same, get_or-set_other, ◌≢◌, option_map, filter, nat_cmp, cond, length-append, refl, sym, ◌∙◌, ap, subst, arith, if◌then◌else◌}
 use Rattle.std.proofs.lemmas.Bool.Decides.{nat_tests}
 use Rattle.std.proofs.lemmas.List.Elements.{All-filter}
-use Rattle.std.proofs.lemmas.List.{set-get_or}
+use Rattle.std.specs.Prelude.{option_and_then, slice_get}
+use Rattle.std.specs.List.{remove}
+use Rattle.std.proofs.lemmas.List.{set-get_or, length-set}
 use Rattle.std.proofs.Math.ListN.{get_or-eq_default}
 use Rattle.std.proofs.Math.Seq.{get_or-append_seam}
 use Rattle.std.proofs.lemmas.Result.{IfOk-weaker}
@@ -15,19 +17,23 @@ use Rattle.sky_val.specs.declared.event.Event.{Event}
 use Rattle.sky_txid.specs.Snapshot.{SnapshotView}
 use Rattle.sky_model.specs.Moment.{HasMoment}
 use Rattle.sky_model.specs.Printed.{EventsHaveMoments}
-use Rattle.sky_model.specs.History.{queued, made, ticked, registered, opened, closed, traced}
+use Rattle.sky_names.specs.Named.{NamedView, value_of}
+use Rattle.sky_names.specs.Places.{place_of}
+use Rattle.sky_model.specs.History.{queued, made, ticked, registered, opened, closed, dropped, traced}
 use Rattle.sky_model.specs.StepQueue.{newest_id}
+use Rattle.sky_model.specs.Consumers.{Subscription}
 use Rattle.sky_model.specs.Queues.{Tick, tick}
 use Rattle.sky_model.specs.Triggers.{TableTrigger}
 use Rattle.sky_model.specs.Selection.{snapshot_at, is_selected, selected_in, selected}
-use Rattle.sky_model.specs.State.{Queue, RowPart, Database, changed_at, changed_for, with_batch, at_position, after_mark, after_marks}
+use Rattle.sky_model.specs.State.{Queue, RowPart, Database, changed_at, changed_for, with_batch, at_position, emptied, after_mark, after_marks}
 use Rattle.sky_model.specs.ShownRows.{snapshot_now}
 use Rattle.pgq_queues.specs.declared.batch.Batch.{Batch}
 use Rattle.pgq_sub.specs.Seen.{SubsSeen, seen_subs, no_subs}
 use Rattle.pgq_queues.specs.Views.{QueueView, TracedTableView, QueuesView}
 use Rattle.pgq_queues.specs.Seen.{seen_queue, no_queue, seen_batch, keeps, numbered, queue_at, seen_with}
 use Rattle.pgq_queues.specs.Traced.{AreTables}
-use Rattle.pgq_queues.proofs.NumberedQueues.{numbered-more}
+use Rattle.pgq_queues.specs.Numbers.{Rise}
+use Rattle.pgq_queues.proofs.NumberedQueues.{numbered-more, others-removed}
 use Rattle.sky_model.specs.Config.{default_config}
 
 -- the test on an entry's key is equality
@@ -134,7 +140,7 @@ one-set v i old new f lt at is = λ j n. pointwise n j
 pub queues-set : (v now : QueuesView) (i : ℕ) (old new : QueueView) (f : Queue → Queue) → v ≡ now → i < length v.queues → old ≡ get_or v.queues i old → seen_queue new ≡ f (seen_queue old)
     → (part : RowPart) → seen_with part (record v { queues = slice_set v.queues i new }) ≡ record (seen_with part now) { queue = changed_at i f (queue_at now) }
 queues-set v now i old new f same lt at is part =
-    (λ j. record (seen_with part v) { queue = one-set v i old new f lt at is j })
+    (λ j. record (seen_with part v) { queues_made = length-set v.queues i new j; queue = one-set v i old new f lt at is j })
     ∙ ap (λ (w : QueuesView). record (seen_with part w) { queue = changed_at i f (queue_at w) }) same
 
 -- the queue at a place is what is shown there
@@ -159,31 +165,67 @@ queue-kept v now i old new same at is part =
     ap (λ (qs : List QueueView). seen_with part (record v { queues = qs })) (ap (slice_set v.queues i) (is ∙ at) ∙ set-get_or v.queues i old) ∙ ap (seen_with part) same
 
 -- a queue that is made has its first tick, with the snapshot as it was
-pub made-as : (v now : QueuesView) (names : List (List ℕ)) (queues : List QueueView) (q : QueueView) (name : List ℕ) (t : Tick) → v ≡ now
-    → names ≡ v.names ++ name ∷ [] → queues ≡ v.queues ++ q ∷ [] → q ≡ record { config = default_config; seq = 0; events = []; ticks = t ∷ []; subs = no_subs } → length v.queues ≡ length v.names
+pub made-as : (v now : QueuesView) (names : NamedView ℕ) (queues : List QueueView) (q : QueueView) (name : List ℕ) (number : ℕ) (t : Tick) → v ≡ now
+    → names ≡ record { names = v.names.names ++ name ∷ []; values = v.names.values ++ number ∷ [] } → number ≡ length v.queues → queues ≡ v.queues ++ q ∷ []
+    → q ≡ record { config = default_config; seq = 0; events = []; ticks = t ∷ []; subs = no_subs } → length v.names.values ≡ length v.names.names
     → t.id ≡ 1 → t.seq ≡ 0 → (part : RowPart) → t.snapshot ≡ snapshot_now part
-    → seen_with part (record v { names = names; queues = queues }) ≡ after_marks (seen_with part now) (queued (made name) ∷ queued (ticked (length now.names) 1 t.time 0) ∷ [])
-made-as v now names queues q name t same more one new count id seq part snap =
+    → seen_with part (record v { names = names; queues = queues }) ≡ after_marks (seen_with part now) (queued (made name) ∷ queued (ticked (length now.queues) 1 t.time 0) ∷ [])
+made-as v now names queues q name number t same more next one new count id seq part snap =
     (λ i. record (seen_with part v) {
-      queues_made = (ap length more ∙ length-append v.names (name ∷ [])) i;
-      queues = (ap (numbered 0) more ∙ numbered-more v.names name) i;
+      queues_made = (ap length one ∙ length-append v.queues (q ∷ [])) i;
+      queues = (ap (λ (n : NamedView ℕ). numbered n.names n.values) more
+          ∙ numbered-more v.names.names v.names.values name number count
+          ∙ ap (λ n. numbered v.names.names v.names.values ++ record { number = n; name = name } ∷ []) next) i;
       queue = ((λ j n. seen_queue (get_or (one j) n no_queue))
           ∙ ap (λ x. λ n. seen_queue (get_or (v.queues ++ x ∷ []) n no_queue)) new
-          ∙ queues-made v.queues t (length v.names) (sym count)) i;
+          ∙ queues-made v.queues t (length v.queues) refl) i;
     })
     ∙ ap (λ (w : QueuesView). record (seen_with part w) {
-      queues_made = length w.names + 1;
-      queues = numbered 0 w.names ++ record { number = length w.names; name = name } ∷ [];
-      queue = changed_at (length w.names) (λ x. record x { tick_list = x.tick_list ++ t ∷ [] }) (queue_at w);
+      queues_made = length w.queues + 1;
+      queues = numbered w.names.names w.names.values ++ record { number = length w.queues; name = name } ∷ [];
+      queue = changed_at (length w.queues) (λ x. record x { tick_list = x.tick_list ++ t ∷ [] }) (queue_at w);
     }) same
     ∙ ap (λ (x : Tick). record (seen_with part now) {
-      queues_made = length now.names + 1;
-      queues = numbered 0 now.names ++ record { number = length now.names; name = name } ∷ [];
-      queue = changed_at (length now.names) (λ y. record y { tick_list = y.tick_list ++ x ∷ [] }) (queue_at now);
+      queues_made = length now.queues + 1;
+      queues = numbered now.names.names now.names.values ++ record { number = length now.queues; name = name } ∷ [];
+      queue = changed_at (length now.queues) (λ y. record y { tick_list = y.tick_list ++ x ∷ [] }) (queue_at now);
     }) is
   where
     is : t ≡ record { id = 1; time = t.time; snapshot = snapshot_now part; seq = 0 }
     is = λ i. record { id = id i; time = t.time; snapshot = snap i; seq = seq i }
+
+-- a queue that is dropped has nothing, once it had no consumers
+no-members : (subs : NamedView Subscription) → (seen_subs subs).members ≡ [] → record { members = []; sub = λ name. None } ≡ seen_subs subs
+no-members subs none = λ i. record { members = sym none i; sub = λ name. unfound name i }
+  where
+    unfound : (name : List ℕ) → None ≡ value_of name subs
+    unfound name = ap (λ ns. option_and_then (slice_get subs.values) (place_of name ns)) (sym none)
+
+emptied-as : (q : QueueView) → (seen_queue q).members ≡ [] → seen_queue no_queue ≡ emptied (seen_queue q)
+emptied-as q none = ap (λ (s : SubsSeen). record { config = default_config; seq = 0; stored = []; tick_list = []; members = s.members; sub = s.sub }) (no-members q.subs none)
+
+pub dropped-as : (v now : QueuesView) (names : NamedView ℕ) (queues : List QueueView) (n place : ℕ) → v ≡ now → names ≡ record { names = remove v.names.names place; values = remove v.names.values place }
+    → queues ≡ slice_set v.queues n no_queue → length v.names.values ≡ length v.names.names → Rise 0 v.names.values → slice_get v.names.values place ≡ Some n → n < length v.queues
+    → (queue_at now n).members ≡ [] → (part : RowPart) → seen_with part (record v { names = names; queues = queues }) ≡ after_mark (seen_with part now) (queued (dropped n))
+dropped-as v now names queues n place same gone empty count rise at low none part =
+    (λ i. record (seen_with part v) {
+      queues_made = (ap length empty ∙ length-set v.queues n no_queue) i;
+      queues = (ap (λ (x : NamedView ℕ). numbered x.names x.values) gone ∙ sym (others-removed n 0 place v.names.names v.names.values count rise at)) i;
+      queue = (ap (λ qs. λ m. seen_queue (get_or qs m no_queue)) empty ∙ (λ j m. pointwise m j)) i;
+    })
+    ∙ ap (λ (w : QueuesView). after_mark (seen_with part w) (queued (dropped n))) same
+  where
+    there : (seen_queue (get_or v.queues n no_queue)).members ≡ []
+    there = ap (λ (w : QueuesView). (queue_at w n).members) same ∙ none
+
+    by : (m : ℕ) (b : Bool) → (n == m) ≡ b → seen_queue (if b then no_queue else get_or v.queues m no_queue) ≡ (if b then emptied (seen_queue (get_or v.queues m no_queue)) else seen_queue (get_or v.queues m no_queue))
+    by m true e =
+        let one : n ≡ m = grind (arith, nat_tests) in
+        emptied-as (get_or v.queues n no_queue) there ∙ ap (λ k. emptied (seen_queue (get_or v.queues k no_queue))) one
+    by m false e = refl
+
+    pointwise : (m : ℕ) → seen_queue (get_or (slice_set v.queues n no_queue) m no_queue) ≡ changed_at n emptied (queue_at v) m
+    pointwise m = ap seen_queue (get_or-slice_set v.queues n m no_queue low) ∙ by m (n == m) refl
 
 -- a consumer that is registered stands at the newest tick
 pub registered-as : (v now : QueuesView) (i id newest : ℕ) (name : List ℕ) (old new : QueueView) → v ≡ now → i < length v.queues → old ≡ get_or v.queues i old
@@ -211,6 +253,7 @@ pub opened-as : (v now : QueuesView) (more : List (ℕ × Batch)) (id : ℕ) (ba
 opened-as v now more id batch old new same lt at is updates part =
     (λ i. record (seen_with part v) {
       last_batch_id = id;
+      queues_made = length-set v.queues batch.queue new i;
       queue = one-set v batch.queue old new (λ q. record q { sub = changed_for batch.consumer (option_map (with_batch id)) q.sub }) lt at is i;
       batch = batches-updated v.batches more id (Some batch) updates i;
     })
@@ -224,6 +267,7 @@ pub closed-as : (v now : QueuesView) (rest : List (ℕ × Batch)) (id : ℕ) (ba
     ≡ after_mark (seen_with part now) (queued (closed (seen_batch id batch)))
 closed-as v now rest id batch old new same lt at is updates part =
     (λ i. record (seen_with part v) {
+      queues_made = length-set v.queues batch.queue new i;
       queue = one-set v batch.queue old new (λ q. record q { sub = changed_for batch.consumer (option_map (at_position batch.cur)) q.sub }) lt at is i;
       batch = batches-updated v.batches rest id None updates i;
     })

@@ -1,52 +1,178 @@
--- Queues that are numbered by the places of their names.
-use Rattle.std.proofs.Common.{◌≡◌, ℕ, suc, ◌+◌, List, [], ◌∷◌, ◌++◌, Bool, true, false, Option, Some, None, option_map, length, bytes_eq, cond, refl, sym, ◌∙◌, ap, arith, if◌then◌else◌}
+-- The queues that stand: their names and their numbers.
+use Rattle.std.proofs.Common.{◌≡◌, ℕ, zero, suc, ◌+◌, ◌<◌, ◌≤◌, List, [], ◌∷◌, ◌++◌, Bool, true, false, Option, Some, None, option_map, option_and_then, slice_get, get_or, length, length-append, bytes_eq, cond, refl, sym, ◌∙◌, ap, subst, arith, if◌then◌else◌, ◌==◌, not, filter}
+use Rattle.std.specs.List.{All, remove}
+use Rattle.std.proofs.lemmas.Bool.Decides.{nat_tests}
+use Rattle.std.proofs.lemmas.List.Elements.{All-cons, All-head, All-tail, All-append}
+use Rattle.std.proofs.lemmas.Option.{slice_get_read, get_or_from_slice_get, slice_get_within}
 use Rattle.sky_names.specs.Places.{place_of, named}
-use Rattle.sky_model.specs.Queues.{NamedQueue, queue_number}
-use Rattle.pgq_queues.specs.Views.{QueuesView}
-use Rattle.pgq_queues.specs.Seen.{numbered, queues_of}
+use Rattle.sky_names.specs.Named.{NamedView, value_of}
+use Rattle.sky_model.specs.Queues.{NamedQueue, others_than, queue_number}
+use Rattle.pgq_queues.specs.Views.{QueueView, QueuesView}
+use Rattle.pgq_queues.specs.Seen.{numbered, unnamed, queues_of, Stands}
+use Rattle.pgq_queues.specs.Numbers.{Rise, AreNumbers}
 
--- the number of a name is its place
-numbered-from : (name : List ℕ) (n : ℕ) (names : List (List ℕ)) → queue_number name (numbered n names) ≡ option_map (λ place. n + place) (place_of name names)
-numbered-from name n [] = refl
-numbered-from name n (first ∷ names) = by (bytes_eq name first) (place_of name names) (numbered-from name (n + 1) names)
+-- the number of a name is the value that is kept under it
+pub numbered-number : (name : List ℕ) (names : List (List ℕ)) (numbers : List ℕ) → length numbers ≡ length names → queue_number name (numbered names numbers) ≡ option_and_then (slice_get numbers) (place_of name names)
+numbered-number name [] numbers same = refl
+numbered-number name (x ∷ xs) [] same = absurd (omega (arith, same))
+numbered-number name (x ∷ xs) (n ∷ ns) same = by (bytes_eq name x) (place_of name xs) (numbered-number name xs ns (omega (arith, same)))
   where
-    by : (b : Bool) (place : Option ℕ) → queue_number name (numbered (n + 1) names) ≡ option_map (λ p. n + 1 + p) place
-        → option_map NamedQueue.number (cond b (Some (record { number = n; name = first })) (named NamedQueue.name name (numbered (n + 1) names)))
-        ≡ option_map (λ p. n + p) (if b then Some 0 else option_map (λ p. p + 1) place)
-    by true place rest = ap Some (omega arith)
+    by : (b : Bool) (place : Option ℕ) → queue_number name (numbered xs ns) ≡ option_and_then (slice_get ns) place
+        → option_map NamedQueue.number (cond b (Some (record { number = n; name = x })) (named NamedQueue.name name (numbered xs ns)))
+        ≡ option_and_then (slice_get (n ∷ ns)) (if b then Some 0 else option_map (λ p. p + 1) place)
+    by true place rest = refl
     by false None rest = rest
-    by false (Some p) rest = rest ∙ ap Some (omega arith)
+    by false (Some p) rest = let next : suc p ≡ p + 1 = omega arith in rest ∙ ap (slice_get (n ∷ ns)) next
 
-pub numbered-number : (name : List ℕ) (names : List (List ℕ)) → queue_number name (numbered 0 names) ≡ place_of name names
-numbered-number name names = numbered-from name 0 names ∙ by (place_of name names)
-  where
-    by : (o : Option ℕ) → option_map (λ place. 0 + place) o ≡ o
-    by None = refl
-    by (Some place) = ap Some (omega arith)
+-- a name that is found, and one that isn't
+pub number-found : (v now : QueuesView) (name : List ℕ) (place number : ℕ) → v ≡ now → length v.names.values ≡ length v.names.names → Some place ≡ place_of name v.names.names
+    → place < length v.names.values → number ≡ get_or v.names.values place number → Some number ≡ queue_number name (queues_of now)
+number-found v now name place number same count is lt at =
+    sym (slice_get_read v.names.values (length v.names.values) place number refl lt at)
+    ∙ ap (option_and_then (slice_get v.names.values)) is
+    ∙ sym (numbered-number name v.names.names v.names.values count)
+    ∙ ap (λ (w : QueuesView). queue_number name (queues_of w)) same
 
-pub number-shown : (v now : QueuesView) (name : List ℕ) (found : Option ℕ) → v ≡ now → found ≡ place_of name v.names → found ≡ queue_number name (queues_of now)
-number-shown v now name found same is = is ∙ sym (numbered-number name v.names) ∙ ap (λ (w : QueuesView). queue_number name (queues_of w)) same
+pub number-none : (v now : QueuesView) (name : List ℕ) (found : Option ℕ) → v ≡ now → length v.names.values ≡ length v.names.names → found ≡ None → found ≡ place_of name v.names.names → None ≡ queue_number name (queues_of now)
+number-none v now name found same count none is =
+    ap (option_and_then (slice_get v.names.values)) (sym none ∙ is) ∙ sym (numbered-number name v.names.names v.names.values count) ∙ ap (λ (w : QueuesView). queue_number name (queues_of w)) same
 
-pub number-new : (v now : QueuesView) (name : List ℕ) → v ≡ now → queue_number name (queues_of now) ≡ None → place_of name v.names ≡ None
-number-new v now name same new = sym (numbered-number name v.names) ∙ ap (λ (w : QueuesView). queue_number name (queues_of w)) same ∙ new
+pub number-new : (v now : QueuesView) (name : List ℕ) → v ≡ now → length v.names.values ≡ length v.names.names → queue_number name (queues_of now) ≡ None → value_of name v.names ≡ None
+number-new v now name same count new = sym (numbered-number name v.names.names v.names.values count) ∙ ap (λ (w : QueuesView). queue_number name (queues_of w)) same ∙ new
+
+-- what is kept at the place of a name is its number
+pub number-there : (v now : QueuesView) (name : List ℕ) (place number : ℕ) → v ≡ now → length v.names.values ≡ length v.names.names → Some place ≡ place_of name v.names.names
+    → queue_number name (queues_of now) ≡ Some number → slice_get v.names.values place ≡ Some number
+number-there v now name place number same count is found =
+    ap (option_and_then (slice_get v.names.values)) is ∙ sym (numbered-number name v.names.names v.names.values count) ∙ ap (λ (w : QueuesView). queue_number name (queues_of w)) same ∙ found
+
+pub stands-there : (names : NamedView ℕ) (queues : List QueueView) (place n : ℕ) → AreNumbers names queues → slice_get names.values place ≡ Some n → Stands queues n
+stands-there names queues place n are at = subst (Stands queues) (get_or_from_slice_get names.values place n n at) (are.stand place n (slice_get_within names.values place n at))
 
 -- there are as many as names
-pub numbered-length : (n : ℕ) (names : List (List ℕ)) → length (numbered n names) ≡ length names
-numbered-length n [] = refl
-numbered-length n (name ∷ names) = ap suc (numbered-length (n + 1) names)
+pub numbered-length : (names : List (List ℕ)) (numbers : List ℕ) → length numbers ≡ length names → length (numbered names numbers) ≡ length names
+numbered-length [] numbers same = refl
+numbered-length (x ∷ xs) [] same = absurd (omega (arith, same))
+numbered-length (x ∷ xs) (n ∷ ns) same = ap suc (numbered-length xs ns (omega (arith, same)))
 
--- a name at the end gets the next number
-numbered-append : (n : ℕ) (names : List (List ℕ)) (name : List ℕ) → numbered n (names ++ name ∷ []) ≡ numbered n names ++ record { number = n + length names; name = name } ∷ []
-numbered-append n [] name = let first : n ≡ n + 0 = omega arith in ap (λ m. let last : NamedQueue = record { number = m; name = name } in last ∷ []) first
-numbered-append n (first ∷ names) name =
-    let next : n + 1 + length names ≡ n + length (first ∷ names) = omega arith in
-    ap (λ qs. record { number = n; name = first } ∷ qs)
-    (numbered-append (n + 1) names name ∙ ap (λ m. let last : NamedQueue = record { number = m; name = name } in numbered (n + 1) names ++ last ∷ []) next)
+pub length-shown : (v now : QueuesView) → v ≡ now → length v.names.values ≡ length v.names.names → length (queues_of now) ≡ length v.names.names
+length-shown v now same count = ap (λ (w : QueuesView). length (queues_of w)) (sym same) ∙ numbered-length v.names.names v.names.values count
 
-pub numbered-more : (names : List (List ℕ)) (name : List ℕ) → numbered 0 (names ++ name ∷ []) ≡ numbered 0 names ++ record { number = length names; name = name } ∷ []
-numbered-more names name =
-    let same : 0 + length names ≡ length names = omega arith in
-    numbered-append 0 names name ∙ ap (λ m. let last : NamedQueue = record { number = m; name = name } in numbered 0 names ++ last ∷ []) same
+-- the number at a place
+numbered-at : (names : List (List ℕ)) (numbers : List ℕ) (place d : ℕ) → length numbers ≡ length names → place < length numbers → NamedQueue.number (get_or (numbered names numbers) place unnamed) ≡ get_or numbers place d
+numbered-at [] numbers place d same lt = absurd (omega (arith, same, lt))
+numbered-at (x ∷ xs) [] place d same lt = absurd (omega (arith, lt))
+numbered-at (x ∷ xs) (n ∷ ns) zero d same lt = refl
+numbered-at (x ∷ xs) (n ∷ ns) (suc p) d same lt = numbered-at xs ns p d (omega (arith, same)) (omega (arith, lt))
 
-pub length-shown : (v now : QueuesView) → v ≡ now → length (queues_of now) ≡ length v.names
-length-shown v now same = ap (λ (w : QueuesView). length (queues_of w)) (sym same) ∙ numbered-length 0 v.names
+pub number-at : (v now : QueuesView) (place number : ℕ) → v ≡ now → length v.names.values ≡ length v.names.names → place < length v.names.values → number ≡ get_or v.names.values place number
+    → number ≡ NamedQueue.number (get_or (queues_of now) place unnamed)
+number-at v now place number same count lt at =
+    at ∙ sym (numbered-at v.names.names v.names.values place number count lt) ∙ ap (λ (w : QueuesView). NamedQueue.number (get_or (queues_of w) place unnamed)) same
+
+-- a queue of that number stands
+pub stands-at : (v now : QueuesView) (place number : ℕ) → v ≡ now → AreNumbers v.names v.queues → place < length v.names.values → number ≡ get_or v.names.values place number → Stands now.queues number
+stands-at v now place number same are lt at =
+    subst (λ (w : QueuesView). Stands w.queues number) same (subst (Stands v.queues) (sym at) (are.stand place number lt))
+
+-- a name at the end, with its number
+pub numbered-more : (names : List (List ℕ)) (numbers : List ℕ) (name : List ℕ) (n : ℕ) → length numbers ≡ length names
+    → numbered (names ++ name ∷ []) (numbers ++ n ∷ []) ≡ numbered names numbers ++ record { number = n; name = name } ∷ []
+numbered-more [] [] name n same = refl
+numbered-more [] (m ∷ ms) name n same = absurd (omega (arith, same))
+numbered-more (x ∷ xs) [] name n same = absurd (omega (arith, same))
+numbered-more (x ∷ xs) (m ∷ ms) name n same = ap (λ qs. record { number = m; name = x } ∷ qs) (numbered-more xs ms name n (omega (arith, same)))
+
+-- ---- numbers that rise
+
+rise-low : (low from : ℕ) (ns : List ℕ) → low ≤ from → Rise from ns → Rise low ns
+rise-low low from [] le rise = tt
+rise-low low from (n ∷ ns) le rise = let first = rise.0 in (omega (arith, le, first), rise.1)
+
+pub rise-more : (low m : ℕ) (ns : List ℕ) → low ≤ m → Rise low ns → All (λ n. n < m) ns → Rise low (ns ++ m ∷ [])
+rise-more low m [] le rise all = (le, tt)
+rise-more low m (n ∷ ns) le rise all =
+    let first : n < m = All-head (λ k. k < m) n ns all in
+    (rise.0, rise-more (suc n) m ns (omega (arith, first)) rise.1 (All-tail (λ k. k < m) n ns all))
+
+rise-removed : (low p : ℕ) (ns : List ℕ) → Rise low ns → Rise low (remove ns p)
+rise-removed low p [] rise = by p
+  where
+    by : (q : ℕ) → Rise low (remove [] q)
+    by zero = tt
+    by (suc q) = tt
+rise-removed low zero (n ∷ ns) rise = let first = rise.0 in rise-low low (suc n) ns (omega (arith, first)) rise.1
+rise-removed low (suc p) (n ∷ ns) rise = (rise.0, rise-removed (suc n) p ns rise.1)
+
+-- a number below the first isn't among them
+others-same : (n low : ℕ) (names : List (List ℕ)) (ns : List ℕ) → n < low → Rise low ns → others_than n (numbered names ns) ≡ numbered names ns
+others-same n low [] ns lt rise = refl
+others-same n low (x ∷ xs) [] lt rise = refl
+others-same n low (x ∷ xs) (m ∷ ms) lt rise =
+    let first = rise.0 in
+    let apart : (m == n) ≡ false = grind (arith, nat_tests, lt, first) in
+    ap (λ b. cond (not b) (record { number = m; name = x } ∷ others_than n (numbered xs ms)) (others_than n (numbered xs ms))) apart
+    ∙ ap (λ qs. record { number = m; name = x } ∷ qs) (others-same n (suc m) xs ms (omega (arith, lt, first)) rise.1)
+
+-- without the one at a place those of the other numbers are left
+pub others-removed : (n low p : ℕ) (names : List (List ℕ)) (ns : List ℕ) → length ns ≡ length names → Rise low ns → slice_get ns p ≡ Some n → others_than n (numbered names ns) ≡ numbered (remove names p) (remove ns p)
+others-removed n low p names [] same rise at = absurd (cc)
+others-removed n low p [] (m ∷ ms) same rise at = absurd (omega (arith, same))
+others-removed n low zero (x ∷ xs) (m ∷ ms) same rise at =
+    let one : m ≡ n = cc in
+    let yes : (m == n) ≡ true = grind (arith, nat_tests) in
+    ap (λ b. cond (not b) (record { number = m; name = x } ∷ others_than n (numbered xs ms)) (others_than n (numbered xs ms))) yes
+    ∙ others-same n (suc m) xs ms (omega (arith, one)) rise.1
+others-removed n low (suc p) (x ∷ xs) (m ∷ ms) same rise at =
+    let above : suc m ≤ n = least (suc m) p ms rise.1 at in
+    let apart : (m == n) ≡ false = grind (arith, nat_tests, above) in
+    ap (λ b. cond (not b) (record { number = m; name = x } ∷ others_than n (numbered xs ms)) (others_than n (numbered xs ms))) apart
+    ∙ ap (λ qs. record { number = m; name = x } ∷ qs) (others-removed n (suc m) p xs ms (omega (arith, same)) rise.1 at)
+  where
+    least : (low q : ℕ) (ks : List ℕ) → Rise low ks → slice_get ks q ≡ Some n → low ≤ n
+    least low q [] rise at = absurd (cc)
+    least low zero (k ∷ ks) rise at = let one : k ≡ n = cc in let first = rise.0 in omega (arith, one, first)
+    least low (suc q) (k ∷ ks) rise at = let above = least (suc k) q ks rise.1 at in let first = rise.0 in omega (arith, above, first)
+
+-- and their queues stand where they did, if only that of the number has gone
+above : (n low : ℕ) (P Q : ℕ → Type 0) (ns : List ℕ) → n < low → Rise low ns → All P ns → ((m : ℕ) → (n ≡ m → ⊥) → P m → Q m) → All Q ns
+above n low P Q [] lt rise all step = λ k d low. absurd (omega arith)
+above n low P Q (m ∷ ms) lt rise all step =
+    let first = rise.0 in
+    All-cons Q m ms (step m (λ e. omega (arith, e, lt, first)) (All-head P m ms all)) (above n (suc m) P Q ms (omega (arith, lt, first)) rise.1 (All-tail P m ms all) step)
+
+pub all-removed : (n low p : ℕ) (P Q : ℕ → Type 0) (ns : List ℕ) → Rise low ns → slice_get ns p ≡ Some n → All P ns → ((m : ℕ) → (n ≡ m → ⊥) → P m → Q m) → All Q (remove ns p)
+all-removed n low p P Q [] rise at all step = absurd (cc)
+all-removed n low zero P Q (m ∷ ms) rise at all step =
+    let one : m ≡ n = cc in
+    above n (suc m) P Q ms (omega (arith, one)) rise.1 (All-tail P m ms all) step
+all-removed n low (suc p) P Q (m ∷ ms) rise at all step =
+    let over : suc m ≤ n = least (suc m) p ms rise.1 at in
+    All-cons Q m (remove ms p) (step m (λ e. omega (arith, e, over)) (All-head P m ms all)) (all-removed n (suc m) p P Q ms rise.1 at (All-tail P m ms all) step)
+  where
+    least : (low q : ℕ) (ks : List ℕ) → Rise low ks → slice_get ks q ≡ Some n → low ≤ n
+    least low q [] rise at = absurd (cc)
+    least low zero (k ∷ ks) rise at = let one : k ≡ n = cc in let first = rise.0 in omega (arith, one, first)
+    least low (suc q) (k ∷ ks) rise at = let over = least (suc k) q ks rise.1 at in let first = rise.0 in omega (arith, over, first)
+
+length-removed : {A : Type 0} (xs : List A) (p : ℕ) → p < length xs → suc (length (remove xs p)) ≡ length xs
+length-removed [] p lt = absurd (omega (arith, lt))
+length-removed (x ∷ xs) zero lt = refl
+length-removed (x ∷ xs) (suc p) lt = ap suc (length-removed xs p (omega (arith, lt)))
+
+pub numbers-removed : (n p : ℕ) (names : NamedView ℕ) (old new : List QueueView) → AreNumbers names old → p < length names.names → slice_get names.values p ≡ Some n → ((m : ℕ) → (n ≡ m → ⊥) → Stands old m → Stands new m)
+    → AreNumbers (record { names = remove names.names p; values = remove names.values p }) new
+numbers-removed n p names old new are lt at step = record {
+  each = (let one = length-removed names.values p (omega (arith, lt, are.each)) in let other = length-removed names.names p lt in omega (arith, one, other, are.each));
+  rise = rise-removed 0 p names.values are.rise;
+  stand = all-removed n 0 p (Stands old) (Stands new) names.values are.rise at are.stand step;
+}
+
+-- one more name, with the number of a queue that has come behind the others
+pub numbers-more : (names : NamedView ℕ) (name : List ℕ) (old : List QueueView) (q : QueueView) → 0 < length q.ticks → AreNumbers names old → All (λ n. n < length old) names.values → All (Stands (old ++ q ∷ [])) names.values
+    → Stands (old ++ q ∷ []) (length old) → AreNumbers (record { names = names.names ++ name ∷ []; values = names.values ++ length old ∷ [] }) (old ++ q ∷ [])
+numbers-more names name old q ticks are low still last = record {
+  each = (let one = length-append names.values (length old ∷ []) in let other = length-append names.names (name ∷ []) in omega (arith, one, other, are.each));
+  rise = rise-more 0 (length old) names.values (omega arith) are.rise low;
+  stand = All-append (Stands (old ++ q ∷ [])) names.values (length old ∷ []) still (All-cons (Stands (old ++ q ∷ [])) (length old) [] last (λ k d lt. absurd (omega (arith, lt))));
+}

@@ -6,15 +6,16 @@ use Rattle.std.proofs.lemmas.Bool.Decides.{nat_tests}
 use Rattle.std.proofs.lemmas.List.{take_more, drop_more, append-nil, map-append, set-set, set-get_or, get_or_read, get_or-set_same, length-set}
 use Rattle.std.proofs.lemmas.List.Elements.{filter-append}
 use Rattle.sky_val.specs.declared.val.Val.{Val}
-use Rattle.sky_names.specs.Named.{NamedView}
 use Rattle.sky_urlenc.specs.RowEvents.{Write, Trigger, RowEvent, leaves_out, event_of}
 use Rattle.sky_model.specs.Triggers.{TableTrigger}
 use Rattle.sky_model.specs.State.{changed_at}
 use Rattle.pgq_queues.specs.Views.{QueueView, TracedView, QueuesView}
-use Rattle.pgq_queues.specs.Seen.{no_queue}
+use Rattle.pgq_queues.specs.Seen.{no_queue, Stands}
 use Rattle.pgq_queues.specs.Traced.{no_trigger, traced_at}
 use Rattle.pgq_queues.specs.EventRule.{events_by, table_events, events_at, count_of, sequences, ids_left, telling, telling_all, event_rule}
+use Rattle.pgq_queues.specs.Batches.{StillStand}
 use Rattle.pgq_queues.proofs.Marked.{get_or-slice_set}
+use Rattle.pgq_queues.proofs.TracedLists.{goes-alike}
 
 -- ---- counts
 
@@ -141,6 +142,13 @@ module _ (t : TracedView) (old new : Option (List Val)) where
       ∙ ap (λ f. ids_left f (from (i + 1))) (raised-more seq (upto i) (event_at i))
       ∙ ap (λ es. ids_left (λ n. seq n + count_of n es) (from (i + 1))) (sym (upto-told i lt out))
 
+  from-left_out : (i : ℕ) → i < length t.triggers → out_at i ≡ true → from i ≡ from (i + 1)
+  from-left_out i lt out = ap (events_by t old new) (drop_more t.triggers i no_trigger lt) ∙ one_more (trigger_at i) (drop (i + 1) t.triggers) true out
+
+  pub ids-left_out : (seq : ℕ → ℕ) (i : ℕ) → i < length t.triggers → out_at i ≡ true → ids_from seq i ≡ ids_from seq (i + 1)
+  ids-left_out seq i lt out =
+      ap (ids_left (λ n. seq n + count_of n (upto i))) (from-left_out i lt out) ∙ ap (λ es. ids_left (λ n. seq n + count_of n es) (from (i + 1))) (sym (upto-left_out i lt out))
+
 -- ---- events stored
 
 -- behind it there are ids for the rest
@@ -194,16 +202,16 @@ telling-length now txid (e ∷ es) queues =
     let next : QueueView = telling now txid e (get_or queues e.queue no_queue) in
     telling-length now txid es (slice_set queues e.queue next) ∙ length-set queues e.queue next
 
-pub told-names : {A E : Type 0} (r : Result A E) (old new : NamedView QueueView) (queues : List QueueView) → OnOk r (new ≡ record old { values = queues }) → OnErr r (new ≡ old) → new.names ≡ old.names
-told-names (Ok a) old new queues ok err = ap NamedView.names ok
-told-names (Err e) old new queues ok err = ap NamedView.names err
+-- the queues that stood stand behind an event
+pub told-stand : (queues : List QueueView) (i : ℕ) (was is : QueueView) (now : ℤ) (txid : ℕ) (event : RowEvent) → i < length queues → was ≡ get_or queues i was → Stands queues i → is ≡ telling now txid event was → StillStand queues (slice_set queues i is)
+told-stand queues i was is now txid event lt at stands told = goes-alike queues i was is lt at stands (ap QueueView.ticks told) (ap QueueView.subs told)
 
 -- the queues are then as the rule says
-pub wrote-as : {A E : Type 0} (r : Result A E) (v now : QueuesView) (queues : NamedView QueueView) (at : ℤ) (txid table : ℕ) (old new : Option (List Val)) (t : TracedView) → v ≡ now → at ≡ v.time
-    → Some t ≡ traced_at now table → OnOk r (queues ≡ record { names = v.names; values = telling_all at txid (table_events t old new) v.queues })
-    → OnOk r (record v { names = queues.names; queues = queues.values } ≡ event_rule.after now txid (record { table = table; old = old; new = new }))
+pub wrote-as : {A E : Type 0} (r : Result A E) (v now : QueuesView) (queues : List QueueView) (at : ℤ) (txid table : ℕ) (old new : Option (List Val)) (t : TracedView) → v ≡ now → at ≡ v.time
+    → Some t ≡ traced_at now table → OnOk r (queues ≡ telling_all at txid (table_events t old new) v.queues)
+    → OnOk r (record v { queues = queues } ≡ event_rule.after now txid (record { table = table; old = old; new = new }))
 wrote-as (Err e) v now queues at txid table old new t same time found is = tt
 wrote-as (Ok a) v now queues at txid table old new t same time found is =
-    (λ i. record v { names = NamedView.names (is i); queues = NamedView.values (is i) })
+    (λ i. record v { queues = is i })
     ∙ (λ i. record v { queues = telling_all (time i) txid (table_events t old new) v.queues })
     ∙ (λ i. record (same i) { queues = telling_all (same i).time txid (events_at (found i) (record { table = table; old = old; new = new })) (same i).queues })

@@ -1,23 +1,31 @@
 -- The tables with triggers that a database keeps, after one of them changed.
-use Rattle.std.proofs.lemmas.List.{map-append, append-nil}
-use Rattle.std.proofs.Common.{◌≡◌, ℕ, suc, ◌<◌, ◌≤◌, length-append, Bool, true, false, ◌==◌, List, [], ◌∷◌, ◌++◌, Option, Some, None, option_copied, Bor, IfSome, is_some, length, get_or, option_map, nat_cmp, cond, refl, sym, ◌∙◌, ap, subst, arith, if◌then◌else◌}
+use Rattle.std.proofs.lemmas.List.{map-append, append-nil, get_or_read}
+use Rattle.std.proofs.Common.{◌≡◌, ℕ, zero, suc, ◌<◌, ◌≤◌, length-append, Bool, true, false, ◌==◌, List, [], ◌∷◌, ◌++◌, Option, Some, None, Result, Ok, Err, IfOk, OnErr, option_copied, Bor, IfSome, is_some, length, bytes_eq, get_or, slice_set, get_or-set_other, option_map, nat_cmp, cond, refl, sym, ◌∙◌, ap, subst, arith, if◌then◌else◌}
 use Rattle.std.proofs.lemmas.Bool.Decides.{nat_tests}
 use Rattle.std.proofs.lemmas.List.Elements.{All-cons, All-append, filter-append}
 use Rattle.std.proofs.lemmas.Option.{IfSome_then}
 use Rattle.std.proofs.Math.ListN.{get_or-append}
 use Rattle.std.proofs.Math.Seq.{get_or-append_seam}
-use Rattle.std.specs.List.{All}
+use Rattle.std.specs.List.{All, remove}
+use Rattle.std.specs.Prelude.{option_and_then, slice_get}
+use Rattle.sky_names.specs.Places.{place_of}
 use Rattle.std.specs.BTreeMap.{is_at}
 use Rattle.std.specs.Map.{lookup}
 use Rattle.sky_val.specs.declared.column.Column.{Column}
 use Rattle.sky_model.specs.Triggers.{TableTrigger, triggers_of}
 use Rattle.sky_model.specs.State.{RowPart}
-use Rattle.pgq_queues.specs.Views.{TracedTableView, TracedView, QueuesView}
-use Rattle.pgq_queues.specs.Seen.{kept}
+use Rattle.pgq_queues.specs.Views.{QueueView, TracedTableView, TracedView, QueuesView}
+use Rattle.pgq_queues.specs.Seen.{no_queue, seen_queue, Stands, kept}
 use Rattle.pgq_queues.specs.Traced.{no_trigger, triggers_at, traced_by, traced_at, places_of, ArePlaced, TracedWithin, IsTable, IsTraced, AreTables}
 use Rattle.pgq_queues.specs.declared.batch.Batch.{Batch}
-use Rattle.pgq_queues.specs.Batches.{BatchesWithin}
-use Rattle.pgq_queues.proofs.Marked.{is_at-nat}
+use Rattle.sky_names.specs.Named.{NamedView}
+use Rattle.sky_model.specs.Consumers.{Subscription}
+use Rattle.pgq_sub.specs.Seen.{SubsSeen, seen_subs, with_member, with_sub}
+use Rattle.sky_model.specs.Queues.{Tick}
+use Rattle.pgq_queues.specs.Batches.{IsRegistered, StillStand, BatchesWithin}
+use Rattle.pgq_queues.specs.Numbers.{AreNumbers}
+use Rattle.pgq_queues.proofs.NumberedQueues.{numbers-more, numbers-removed}
+use Rattle.pgq_queues.proofs.Marked.{is_at-nat, get_or-slice_set}
 
 -- what is under one number has changed
 abbrev pub Updated : List (ℕ × TracedTableView) → List (ℕ × TracedTableView) → ℕ → Option TracedTableView → Type 0
@@ -26,23 +34,89 @@ Updated old new n o = (q : ℕ) → lookup (is_at (nat_cmp q)) new ≡ cond (is_
 kept-updated : (old new : List (ℕ × TracedTableView)) (n : ℕ) (o : Option TracedTableView) → Updated old new n o → (m : ℕ) → kept new m ≡ (if n == m then o else kept old m)
 kept-updated old new n o updates m = updates m ∙ ap (λ b. cond b o (kept old m)) (is_at-nat n m)
 
--- more queues
-pub within-more : (count later : ℕ) (triggers : List TableTrigger) (all : List (ℕ × TracedTableView)) → count ≤ later → TracedWithin count triggers all → TracedWithin later triggers all
-within-more count later triggers all le within = record { queues = λ k d lt. let low = within.queues k d lt in omega (arith, low, le); places = within.places }
+-- ---- queues that change, and what stays true of them
 
-pub batches-more : (count later : ℕ) (batches : List (ℕ × Batch)) → count ≤ later → BatchesWithin count batches → BatchesWithin later batches
-batches-more count later batches le within id = IfSome_then (kept batches id) (within id) (λ b low. omega (arith, low, le))
+-- a queue that stands is there
+pub there : (queues : List QueueView) (n : ℕ) → Stands queues n → n < length queues
+there [] n stands = absurd (omega (arith, stands))
+there (q ∷ qs) zero stands = omega arith
+there (q ∷ qs) (suc n) stands = let low = there qs n stands in omega (arith, low)
+
+pub goes-same : (old new : List QueueView) → new ≡ old → StillStand old new
+goes-same old new same = record {
+  stands = λ n s. subst (λ qs. Stands qs n) (sym same) s;
+  registered = λ n c r. subst (λ qs. IsRegistered qs n c) (sym same) r;
+}
+
+pub goes-then : (one two three : List QueueView) → StillStand one two → StillStand two three → StillStand one three
+goes-then one two three first rest = record { stands = λ n s. rest.stands n (first.stands n s); registered = λ n c r. rest.registered n c (first.registered n c r) }
+
+-- one queue has changed, and stands, and has the consumers that it had
+pub goes-at : (queues : List QueueView) (i : ℕ) (new : QueueView) → i < length queues → 0 < length new.ticks
+    → ((consumer : List ℕ) → IsRegistered queues i consumer → is_some ((seen_queue new).sub consumer) ≡ true) → StillStand queues (slice_set queues i new)
+goes-at queues i new lt ticks subs = record {
+  stands = λ n s. subst (λ (q : QueueView). 0 < length q.ticks) (sym (get_or-slice_set queues i n new lt)) (still n s (i == n) refl);
+  registered = λ n c r. subst (λ (q : QueueView). is_some ((seen_queue q).sub c) ≡ true) (sym (get_or-slice_set queues i n new lt)) (had n c r (i == n) refl);
+}
+  where
+    still : (n : ℕ) → Stands queues n → (b : Bool) → (i == n) ≡ b → 0 < length (QueueView.ticks (if b then new else get_or queues n no_queue))
+    still n s true e = ticks
+    still n s false e = s
+
+    had : (n : ℕ) (c : List ℕ) → IsRegistered queues n c → (b : Bool) → (i == n) ≡ b → is_some ((seen_queue (if b then new else get_or queues n no_queue)).sub c) ≡ true
+    had n c r true e = let one : n ≡ i = grind (arith, nat_tests) in subs c (subst (λ m. IsRegistered queues m c) one r)
+    had n c r false e = r
+
+pub goes-set : (queues : List QueueView) (i : ℕ) (old new : QueueView) → i < length queues → old ≡ get_or queues i old → 0 < length new.ticks
+    → ((consumer : List ℕ) → is_some ((seen_queue old).sub consumer) ≡ true → is_some ((seen_queue new).sub consumer) ≡ true) → StillStand queues (slice_set queues i new)
+goes-set queues i old new lt at ticks subs =
+    goes-at queues i new lt ticks (λ c r. subs c (subst (λ (q : QueueView). is_some ((seen_queue q).sub c) ≡ true) (sym (get_or_read queues i old lt at no_queue)) r))
+
+-- where its ticks and its consumers stay
+pub goes-alike : (queues : List QueueView) (i : ℕ) (old new : QueueView) → i < length queues → old ≡ get_or queues i old → Stands queues i → new.ticks ≡ old.ticks → new.subs ≡ old.subs → StillStand queues (slice_set queues i new)
+goes-alike queues i old new lt at stands ticks subs =
+    goes-set queues i old new lt at (subst (λ ts. 0 < length ts) (ap QueueView.ticks here ∙ sym ticks) stands)
+    (λ c r. subst (λ (x : NamedView Subscription). is_some ((seen_subs x).sub c) ≡ true) (sym subs) r)
+  where
+    here : get_or queues i no_queue ≡ old
+    here = sym (get_or_read queues i old lt at no_queue)
+
+-- one more queue
+pub goes-more : (queues : List QueueView) (q : QueueView) → StillStand queues (queues ++ q ∷ [])
+goes-more queues q = record {
+  stands = λ n s. subst (λ (x : QueueView). 0 < length x.ticks) (sym (get_or-append queues (q ∷ []) no_queue n (there queues n s))) s;
+  registered = λ n c r. subst (λ (x : QueueView). is_some ((seen_queue x).sub c) ≡ true) (sym (before n c r)) r;
+}
+  where
+    none : (n : ℕ) (c : List ℕ) → (queues : List QueueView) → IsRegistered queues n c → n < length queues
+    none n c [] r = absurd (cc)
+    none zero c (x ∷ xs) r = omega arith
+    none (suc n) c (x ∷ xs) r = let low = none n c xs r in omega (arith, low)
+
+    before : (n : ℕ) (c : List ℕ) → IsRegistered queues n c → get_or (queues ++ q ∷ []) n no_queue ≡ get_or queues n no_queue
+    before n c r = get_or-append queues (q ∷ []) no_queue n (none n c queues r)
+
+-- the triggers' queues, those of batches, and the numbers
+pub within-on : (old new : List QueueView) (triggers : List TableTrigger) (all : List (ℕ × TracedTableView)) → StillStand old new → TracedWithin old triggers all → TracedWithin new triggers all
+within-on old new triggers all on within = record { stand = λ k d lt. on.stands _ (within.stand k d lt); places = within.places }
+
+pub batches-on : (old new : List QueueView) (batches : List (ℕ × Batch)) → StillStand old new → BatchesWithin old batches → BatchesWithin new batches
+batches-on old new batches on within id = IfSome_then (kept batches id) (within id) (λ b has. (on.stands b.queue has.0, on.registered b.queue b.consumer has.1))
+
+pub numbers-on : (old new : List QueueView) (names : NamedView ℕ) → StillStand old new → AreNumbers names old → AreNumbers names new
+numbers-on old new names on are = record { each = are.each; rise = are.rise; stand = λ k d lt. on.stands _ (are.stand k d lt) }
 
 -- a batch that is found, and batches of which one has changed
-pub batch-within : (count : ℕ) (r : Option (Bor Batch)) (found : Option Batch) → option_copied r ≡ found → IfSome found (λ (b : Batch). b.queue < count) → IfSome r (λ b. b.now.queue < count)
-batch-within count None found is within = tt
-batch-within count (Some b) found is within = subst (λ o. IfSome o (λ (x : Batch). x.queue < count)) (sym is) within
+pub batch-within : (queues : List QueueView) (r : Option (Bor Batch)) (found : Option Batch) → option_copied r ≡ found → IfSome found (λ (b : Batch). Stands queues b.queue × IsRegistered queues b.queue b.consumer)
+    → IfSome r (λ b. Stands queues b.now.queue)
+batch-within queues None found is within = tt
+batch-within queues (Some b) found is within = (subst (λ o. IfSome o (λ (x : Batch). Stands queues x.queue × IsRegistered queues x.queue x.consumer)) (sym is) within).0
 
-pub batches-updated : (count : ℕ) (old new : List (ℕ × Batch)) (n : ℕ) (o : Option Batch) → ((q : ℕ) → lookup (is_at (nat_cmp q)) new ≡ cond (is_at (nat_cmp n) q) o (lookup (is_at (nat_cmp q)) old))
-    → IfSome o (λ (b : Batch). b.queue < count) → BatchesWithin count old → BatchesWithin count new
-batches-updated count old new n o updates here within m = subst (λ x. IfSome x (λ (b : Batch). b.queue < count)) (sym (updates m)) (by (is_at (nat_cmp n) m))
+pub batches-updated : (queues : List QueueView) (old new : List (ℕ × Batch)) (n : ℕ) (o : Option Batch) → ((q : ℕ) → lookup (is_at (nat_cmp q)) new ≡ cond (is_at (nat_cmp n) q) o (lookup (is_at (nat_cmp q)) old))
+    → IfSome o (λ (b : Batch). Stands queues b.queue × IsRegistered queues b.queue b.consumer) → BatchesWithin queues old → BatchesWithin queues new
+batches-updated queues old new n o updates here within m = subst (λ x. IfSome x (λ (b : Batch). Stands queues b.queue × IsRegistered queues b.queue b.consumer)) (sym (updates m)) (by (is_at (nat_cmp n) m))
   where
-    by : (b : Bool) → IfSome (cond b o (lookup (is_at (nat_cmp m)) old)) (λ (x : Batch). x.queue < count)
+    by : (b : Bool) → IfSome (cond b o (lookup (is_at (nat_cmp m)) old)) (λ (x : Batch). Stands queues x.queue × IsRegistered queues x.queue x.consumer)
     by true = here
     by false = within m
 
@@ -110,24 +184,24 @@ pub placed-at : (ts : List TableTrigger) (all : List (ℕ × TracedTableView)) (
 placed-at ts all n o is placed = subst (λ x. ArePlaced ts n (places_of x)) (sym is) (placed n)
 
 -- the queues of triggers are there, and so are those of a table's
-pub at-queues : (count : ℕ) (ts : List TableTrigger) (places : List ℕ) → All (λ (t : TableTrigger). t.trigger.queue < count) ts → All (λ place. place < length ts) places
-    → All (λ (t : TableTrigger). t.trigger.queue < count) (triggers_at ts places)
-at-queues count ts [] all within = λ k d lt. absurd (omega arith)
-at-queues count ts (p ∷ ps) all within =
-    All-cons (λ (t : TableTrigger). t.trigger.queue < count) (get_or ts p no_trigger) (triggers_at ts ps) (all p no_trigger (within 0 0 (omega arith)))
-    (at-queues count ts ps all (λ k d lt. within (suc k) d (omega (arith, lt))))
+pub at-queues : (queues : List QueueView) (ts : List TableTrigger) (places : List ℕ) → All (λ (t : TableTrigger). Stands queues t.trigger.queue) ts → All (λ place. place < length ts) places
+    → All (λ (t : TableTrigger). Stands queues t.trigger.queue) (triggers_at ts places)
+at-queues queues ts [] all within = λ k d lt. absurd (omega arith)
+at-queues queues ts (p ∷ ps) all within =
+    All-cons (λ (t : TableTrigger). Stands queues t.trigger.queue) (get_or ts p no_trigger) (triggers_at ts ps) (all p no_trigger (within 0 0 (omega arith)))
+    (at-queues queues ts ps all (λ k d lt. within (suc k) d (omega (arith, lt))))
 
-pub queues-more : (count : ℕ) (xs : List TableTrigger) (x : TableTrigger) → All (λ (y : TableTrigger). y.trigger.queue < count) xs → x.trigger.queue < count
-    → All (λ (y : TableTrigger). y.trigger.queue < count) (xs ++ x ∷ [])
-queues-more count xs x all lt =
-    All-append (λ (y : TableTrigger). y.trigger.queue < count) xs (x ∷ []) all (All-cons (λ (y : TableTrigger). y.trigger.queue < count) x [] lt (λ k d low. absurd (omega arith)))
+pub queues-more : (queues : List QueueView) (xs : List TableTrigger) (x : TableTrigger) → All (λ (y : TableTrigger). Stands queues y.trigger.queue) xs → Stands queues x.trigger.queue
+    → All (λ (y : TableTrigger). Stands queues y.trigger.queue) (xs ++ x ∷ [])
+queues-more queues xs x all lt =
+    All-append (λ (y : TableTrigger). Stands queues y.trigger.queue) xs (x ∷ []) all (All-cons (λ (y : TableTrigger). Stands queues y.trigger.queue) x [] lt (λ k d low. absurd (omega arith)))
 
 -- what is kept of the triggers and their tables, where nothing has come to them
-pub traced-kept : (count : ℕ) (ts triggers : List TableTrigger) (old new : List (ℕ × TracedTableView)) (n : ℕ) (t was : TracedTableView) → ts ≡ triggers → Updated old new n (Some t)
-    → Some was ≡ kept old n → t ≡ was → TracedWithin count triggers old → TracedWithin count ts new
-traced-kept count ts triggers old new n t was same updates at is within =
-    subst (λ xs. TracedWithin count xs new) (sym same) (record {
-      queues = within.queues;
+pub traced-kept : (queues : List QueueView) (ts triggers : List TableTrigger) (old new : List (ℕ × TracedTableView)) (n : ℕ) (t was : TracedTableView) → ts ≡ triggers → Updated old new n (Some t)
+    → Some was ≡ kept old n → t ≡ was → TracedWithin queues triggers old → TracedWithin queues ts new
+traced-kept queues ts triggers old new n t was same updates at is within =
+    subst (λ xs. TracedWithin queues xs new) (sym same) (record {
+      stand = within.stand;
       places = places-kept triggers old new n t updates (ap TracedTableView.places is ∙ ap places_of at) within.places;
     })
 
@@ -136,20 +210,20 @@ nothing-kept : (o : Option TracedTableView) → is_some o ≡ false → [] ≡ p
 nothing-kept None e = refl
 nothing-kept (Some t) e = absurd (cc)
 
-pub traced-new : (count : ℕ) (triggers : List TableTrigger) (old new : List (ℕ × TracedTableView)) (n : ℕ) (t : TracedTableView) → Updated old new n (Some t) → is_some (kept old n) ≡ false
-    → t.places ≡ [] → TracedWithin count triggers old → TracedWithin count triggers new
-traced-new count triggers old new n t updates absent none within = record {
-  queues = within.queues;
+pub traced-new : (queues : List QueueView) (triggers : List TableTrigger) (old new : List (ℕ × TracedTableView)) (n : ℕ) (t : TracedTableView) → Updated old new n (Some t) → is_some (kept old n) ≡ false
+    → t.places ≡ [] → TracedWithin queues triggers old → TracedWithin queues triggers new
+traced-new queues triggers old new n t updates absent none within = record {
+  stand = within.stand;
   places = places-kept triggers old new n t updates (none ∙ nothing-kept (kept old n) absent) within.places;
 }
 
 -- and where a trigger has come
-pub traced-more : (count : ℕ) (triggers ts more : List TableTrigger) (x : TableTrigger) (old new : List (ℕ × TracedTableView)) (n place : ℕ) (t was : TracedTableView)
+pub traced-more : (queues : List QueueView) (triggers ts more : List TableTrigger) (x : TableTrigger) (old new : List (ℕ × TracedTableView)) (n place : ℕ) (t was : TracedTableView)
     → ts ≡ triggers → more ≡ ts ++ x ∷ [] → Updated old new n (Some t) → x.table ≡ n → Some was ≡ kept old n → t ≡ record was { places = was.places ++ place ∷ [] } → place ≡ length ts
-    → x.trigger.queue < count → TracedWithin count triggers old → TracedWithin count more new
-traced-more count triggers ts more x old new n place t was same is updates its at with at_end low within =
-    subst (λ xs. TracedWithin count xs new) (sym (is ∙ ap (λ xs. xs ++ x ∷ []) same)) (record {
-      queues = queues-more count triggers x within.queues low;
+    → Stands queues x.trigger.queue → TracedWithin queues triggers old → TracedWithin queues more new
+traced-more queues triggers ts more x old new n place t was same is updates its at with at_end low within =
+    subst (λ xs. TracedWithin queues xs new) (sym (is ∙ ap (λ xs. xs ++ x ∷ []) same)) (record {
+      stand = queues-more queues triggers x within.stand low;
       places = places-more triggers x old new n t updates its (ap TracedTableView.places with ∙ (λ i. places_of (at i) ++ (at_end ∙ ap length same) i ∷ [])) within.places;
     })
 
@@ -210,11 +284,11 @@ traced-found v now n slice t found same all at is placed =
 
 -- the queues of its triggers are there
 pub found-within : (v now : QueuesView) (n : ℕ) (slice : List TableTrigger) (t : TracedTableView) (found : TracedView) → v ≡ now → slice ≡ v.triggers → Some t ≡ kept v.traced n
-    → found ≡ traced_by (triggers_at slice t.places) t → TracedWithin (length v.names) v.triggers v.traced → All (λ (x : TableTrigger). x.trigger.queue < length now.names) found.triggers
+    → found ≡ traced_by (triggers_at slice t.places) t → TracedWithin v.queues v.triggers v.traced → All (λ (x : TableTrigger). Stands now.queues x.trigger.queue) found.triggers
 found-within v now n slice t found same all at is within =
-    subst (λ (w : QueuesView). All (λ (x : TableTrigger). x.trigger.queue < length w.names) found.triggers) same
-    (subst (All (λ (x : TableTrigger). x.trigger.queue < length v.names)) (sym (ap TracedView.triggers is ∙ ap (λ ts. triggers_at ts t.places) all))
-    (at-queues (length v.names) v.triggers t.places within.queues (placed-at v.triggers v.traced n (Some t) at within.places).within))
+    subst (λ (w : QueuesView). All (λ (x : TableTrigger). Stands w.queues x.trigger.queue) found.triggers) same
+    (subst (All (λ (x : TableTrigger). Stands v.queues x.trigger.queue)) (sym (ap TracedView.triggers is ∙ ap (λ ts. triggers_at ts t.places) all))
+    (at-queues v.queues v.triggers t.places within.stand (placed-at v.triggers v.traced n (Some t) at within.places).within))
 
 -- one of which nothing is kept has none
 pub none-found : (v now : QueuesView) (n : ℕ) (o : Option TracedTableView) → v ≡ now → o ≡ kept v.traced n → o ≡ None → ((m : ℕ) → ArePlaced v.triggers m (places_of (kept v.traced m)))
@@ -222,3 +296,125 @@ pub none-found : (v now : QueuesView) (n : ℕ) (o : Option TracedTableView) →
 none-found v now n o same at none placed =
     ap (λ (w : QueuesView). triggers_of n w.triggers) (sym same)
     ∙ sym (placed-at v.triggers v.traced n o at placed).own ∙ ap (λ x. triggers_at v.triggers (places_of x)) none
+
+-- ---- what holds of all queues, when one of them changes
+
+-- a queue that stood stands, with the consumers that it had
+pub record Stays (old new : QueueView) : Type 0 where
+  pub ticks : 0 < length old.ticks → 0 < length new.ticks
+  pub subs : (consumer : List ℕ) → is_some ((seen_queue old).sub consumer) ≡ true → is_some ((seen_queue new).sub consumer) ≡ true
+
+pub stays-alike : (old new : QueueView) → new.ticks ≡ old.ticks → new.subs ≡ old.subs → Stays old new
+stays-alike old new ticks subs = record {
+  ticks = λ lt. subst (λ ts. 0 < length ts) (sym ticks) lt;
+  subs = λ c r. subst (λ (x : NamedView Subscription). is_some ((seen_subs x).sub c) ≡ true) (sym subs) r;
+}
+
+-- with one more tick
+pub stays-ticked : (old new : QueueView) (t : Tick) → new ≡ record old { ticks = old.ticks ++ t ∷ [] } → Stays old new
+stays-ticked old new t is = record {
+  ticks = λ lt. subst (λ (q : QueueView). 0 < length q.ticks) (sym is) (omega (arith, length-append old.ticks (t ∷ [])));
+  subs = λ c r. subst (λ (q : QueueView). is_some ((seen_subs q.subs).sub c) ≡ true) (sym is) r;
+}
+
+pub stays-tick : {E : Type 0} (r : Result ℕ E) (old new : QueueView) (t : ℕ → Tick) → IfOk r (λ id. new ≡ record old { ticks = old.ticks ++ t id ∷ [] }) → OnErr r (new ≡ old) → Stays old new
+stays-tick (Ok id) old new t ok err = stays-ticked old new (t id) ok
+stays-tick (Err e) old new t ok err = stays-alike old new (ap QueueView.ticks err) (ap QueueView.subs err)
+
+-- with one more consumer, or another subscription of one
+pub stays-member : (old new : QueueView) (name : List ℕ) (id position : ℕ) → seen_subs new.subs ≡ with_member name id position (seen_subs old.subs) → new ≡ record old { subs = new.subs } → Stays old new
+stays-member old new name id position is but = record {
+  ticks = λ lt. subst (λ ts. 0 < length ts) (sym (ap QueueView.ticks but)) lt;
+  subs = λ c r. ap (λ (s : SubsSeen). is_some (s.sub c)) is ∙ by (bytes_eq c name) ((seen_subs old.subs).sub c) r;
+}
+  where
+    by : (b : Bool) (o : Option Subscription) → is_some o ≡ true → is_some (if b then Some (record { id = id; position = position; active = None }) else o) ≡ true
+    by true o r = refl
+    by false o r = r
+
+pub stays-sub : (old new : QueueView) (name : List ℕ) (f : Subscription → Subscription) → seen_subs new.subs ≡ with_sub name f (seen_subs old.subs) → new ≡ record old { subs = new.subs } → Stays old new
+stays-sub old new name f is but = record {
+  ticks = λ lt. subst (λ ts. 0 < length ts) (sym (ap QueueView.ticks but)) lt;
+  subs = λ c r. ap (λ (s : SubsSeen). is_some (s.sub c)) is ∙ by (bytes_eq c name) ((seen_subs old.subs).sub c) r;
+}
+  where
+    by : (b : Bool) (o : Option Subscription) → is_some o ≡ true → is_some (if b then option_map f o else o) ≡ true
+    by true None r = r
+    by true (Some s) r = refl
+    by false o r = r
+
+-- the queues that stood stand
+pub stand-set : (queues : List QueueView) (i : ℕ) (old new : QueueView) → Stands queues i → i < length queues → old ≡ get_or queues i old → Stays old new → StillStand queues (slice_set queues i new)
+stand-set queues i old new stands lt at stays =
+    goes-set queues i old new lt at (stays.ticks (subst (λ (q : QueueView). 0 < length q.ticks) (sym (get_or_read queues i old lt at no_queue)) stands)) stays.subs
+
+-- and what holds of all goes on to hold
+pub within-still : (numbers : NamedView ℕ) (old new : List QueueView) (batches : List (ℕ × Batch)) (triggers : List TableTrigger) (all : List (ℕ × TracedTableView)) → StillStand old new
+    → AreNumbers numbers old × (BatchesWithin old batches × TracedWithin old triggers all) → AreNumbers numbers new × (BatchesWithin new batches × TracedWithin new triggers all)
+within-still numbers old new batches triggers all still within =
+    (numbers-on old new numbers still within.0, (batches-on old new batches still within.1.0, within-on old new triggers all still within.1.1))
+
+-- a queue stands in what is kept as in what is shown
+pub stands-kept : (v now : QueuesView) (n : ℕ) → v ≡ now → Stands now.queues n → Stands v.queues n
+stands-kept v now n same stands = subst (λ (w : QueuesView). Stands w.queues n) (sym same) stands
+
+pub registered-kept : (v now : QueuesView) (n : ℕ) (consumer : List ℕ) → v ≡ now → IsRegistered now.queues n consumer → IsRegistered v.queues n consumer
+registered-kept v now n consumer same registered = subst (λ (w : QueuesView). IsRegistered w.queues n consumer) (sym same) registered
+
+pub stand-shown : (v now : QueuesView) (new : List QueueView) → v ≡ now → StillStand v.queues new → StillStand now.queues new
+stand-shown v now new same still = subst (λ (w : QueuesView). StillStand w.queues new) same still
+
+-- one more queue, with its name
+pub within-made : (names : NamedView ℕ) (name : List ℕ) (number : ℕ) (old : List QueueView) (q : QueueView) (more : NamedView ℕ) (new : List QueueView) (batches : List (ℕ × Batch)) (triggers : List TableTrigger)
+    (all : List (ℕ × TracedTableView)) → more ≡ record { names = names.names ++ name ∷ []; values = names.values ++ number ∷ [] } → number ≡ length old → new ≡ old ++ q ∷ [] → 0 < length q.ticks
+    → AreNumbers names old × (BatchesWithin old batches × TracedWithin old triggers all) → AreNumbers more new × (BatchesWithin new batches × TracedWithin new triggers all)
+within-made names name number old q more new batches triggers all named is come ticks within =
+    let later = within-still names old (old ++ q ∷ []) batches triggers all (goes-more old q) within in
+    let last : Stands (old ++ q ∷ []) (length old) = subst (λ (x : QueueView). 0 < length x.ticks) (sym (get_or-append_seam old q [] no_queue)) ticks in
+    let numbers = numbers-more names name old q ticks within.0 (λ k d lt. there old _ (within.0.stand k d lt)) later.0.stand last in
+    let whole : more ≡ record { names = names.names ++ name ∷ []; values = names.values ++ length old ∷ [] } = named ∙ ap (λ n. record { names = names.names ++ name ∷ []; values = names.values ++ n ∷ [] }) is in
+    subst (λ qs. AreNumbers more qs × (BatchesWithin qs batches × TracedWithin qs triggers all)) (sym come) (subst (λ (n : NamedView ℕ). AreNumbers n (old ++ q ∷ [])) (sym whole) numbers, later.1)
+
+-- one less
+gone-apart : (queues : List QueueView) (n m : ℕ) → (n ≡ m → ⊥) → get_or (slice_set queues n no_queue) m no_queue ≡ get_or queues m no_queue
+gone-apart queues n m other = get_or-set_other queues n m no_queue no_queue (λ e. other (sym e))
+
+pub within-dropped : (names : NamedView ℕ) (n place : ℕ) (old new : List QueueView) (less : NamedView ℕ) (batches : List (ℕ × Batch)) (triggers : List TableTrigger) (all : List (ℕ × TracedTableView))
+    → less ≡ record { names = remove names.names place; values = remove names.values place } → new ≡ slice_set old n no_queue → place < length names.names → slice_get names.values place ≡ Some n
+    → (seen_queue (get_or old n no_queue)).members ≡ [] → All (λ t. (t.trigger.queue == n) ≡ false) triggers
+    → AreNumbers names old × (BatchesWithin old batches × TracedWithin old triggers all) → AreNumbers less new × (BatchesWithin new batches × TracedWithin new triggers all)
+within-dropped names n place old new less batches triggers all named empty low at none untold within =
+    subst (λ qs. AreNumbers less qs × (BatchesWithin qs batches × TracedWithin qs triggers all)) (sym empty) (
+      subst (λ (x : NamedView ℕ). AreNumbers x left) (sym named) (numbers-removed n place names old left within.0 low at stays),
+      (
+        (λ id. IfSome_then (kept batches id) (within.1.0 id) (λ b has.
+        let other = apart b.queue b.consumer has.1 in (
+          stays b.queue other has.0,
+          subst (λ (q : QueueView). is_some ((seen_queue q).sub b.consumer) ≡ true) (sym (gone-apart old n b.queue other)) has.1,
+        ))),
+        record {
+          stand = λ k d lt.
+              let other : n ≡ (get_or triggers k d).trigger.queue → ⊥ = λ e.
+              let no = untold k d lt in
+              let yes : ((get_or triggers k d).trigger.queue == n) ≡ true = grind (arith, nat_tests) in
+              absurd (cc) in
+              stays _ other (within.1.1.stand k d lt);
+          places = within.1.1.places;
+        },
+      ),
+    )
+  where
+    left : List QueueView
+    left = slice_set old n no_queue
+
+    stays : (m : ℕ) → (n ≡ m → ⊥) → Stands old m → Stands left m
+    stays m other stands = subst (λ (q : QueueView). 0 < length q.ticks) (sym (gone-apart old n m other)) stands
+
+    unregistered : (subs : NamedView Subscription) (consumer : List ℕ) → (seen_subs subs).members ≡ [] → is_some ((seen_subs subs).sub consumer) ≡ false
+    unregistered subs consumer none = ap (λ ns. is_some (option_and_then (slice_get subs.values) (place_of consumer ns))) none
+
+    apart : (m : ℕ) (consumer : List ℕ) → IsRegistered old m consumer → n ≡ m → ⊥
+    apart m consumer has same =
+        let no = unregistered (get_or old n no_queue).subs consumer none in
+        let yes : is_some ((seen_subs (get_or old n no_queue).subs).sub consumer) ≡ true = subst (λ k. IsRegistered old k consumer) (sym same) has in
+        absurd (cc)

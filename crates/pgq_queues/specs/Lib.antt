@@ -1,5 +1,6 @@
 pub mod Views
 pub mod Seen
 pub mod Batches
+pub mod Numbers
 pub mod Traced
 pub mod EventRule

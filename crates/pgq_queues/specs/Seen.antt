@@ -1,5 +1,5 @@
 -- The readings of the definitions, in what the code keeps of a database's queues.
-use Rattle.std.specs.Prelude.{ℕ, pos, ◌+◌, Bool, List, [], ◌∷◌, length, Option, option_map, slice_index_or}
+use Rattle.std.specs.Prelude.{ℕ, pos, ◌<◌, Bool, List, [], ◌∷◌, length, Option, option_map, slice_index_or}
 use Rattle.std.specs.List.{list_any}
 use Rattle.std.specs.Ordering.{nat_cmp}
 use Rattle.std.specs.BTreeMap.{is_at}
@@ -22,9 +22,13 @@ seen_queue q = record {
   sub = (seen_subs q.subs).sub;
 }
 
--- a queue that isn't made
+-- a queue that isn't made, or was dropped
 abbrev pub no_queue : QueueView
 no_queue = record { config = default_config; seq = 0; events = []; ticks = []; subs = no_subs }
+
+-- the queue of a number stands: it has a tick
+abbrev pub Stands : List QueueView → ℕ → Type 0
+Stands queues n = 0 < length (slice_index_or queues n no_queue).ticks
 
 -- a batch that is kept under an id
 abbrev pub seen_batch : ℕ → Batch → model.Batch
@@ -38,14 +42,19 @@ kept entries n = lookup (is_at (nat_cmp n)) entries
 abbrev pub keeps : List ℕ → ℕ → Bool
 keeps numbers n = list_any (is_at (nat_cmp n)) numbers
 
--- the queues of names, numbered in their order from a number on
-abbrev pub numbered : ℕ → List (List ℕ) → List NamedQueue
-numbered n [] = []
-numbered n (name ∷ names) = record { number = n; name = name } ∷ numbered (n + 1) names
+-- the queues of names and numbers
+abbrev pub numbered : List (List ℕ) → List ℕ → List NamedQueue
+numbered [] numbers = []
+numbered (name ∷ names) [] = []
+numbered (name ∷ names) (n ∷ numbers) = record { number = n; name = name } ∷ numbered names numbers
+
+-- a queue that isn't there
+abbrev pub unnamed : NamedQueue
+unnamed = record { number = 0; name = [] }
 
 -- the queues that stand
 abbrev pub queues_of : QueuesView → List NamedQueue
-queues_of q = numbered 0 q.names
+queues_of q = numbered q.names.names q.names.values
 
 -- the queue of a number
 abbrev pub queue_at : QueuesView → ℕ → Queue
@@ -62,7 +71,7 @@ seen_with part q = record {
   undone = keeps q.undone;
   last_batch_id = q.last_batch_id;
   last_sub_id = q.last_sub_id;
-  queues_made = length q.names;
+  queues_made = length q.queues;
   queues = queues_of q;
   queue = queue_at q;
   batch = batch_at q;
@@ -75,7 +84,7 @@ no_queues = record {
   time = pos 0;
   last_batch_id = 0;
   last_sub_id = 0;
-  names = [];
+  names = record { names = []; values = [] };
   queues = [];
   batches = [];
   undone = [];

@@ -4,8 +4,8 @@ use Rattle.std.specs.List.{All}
 use Rattle.sky_val.specs.declared.column.Column.{Column}
 use Rattle.sky_model.specs.Triggers.{TableTrigger, triggers_of}
 use Rattle.sky_model.specs.State.{RowPart}
-use Rattle.pgq_queues.specs.Views.{TracedTableView, TracedView, QueuesView}
-use Rattle.pgq_queues.specs.Seen.{kept}
+use Rattle.pgq_queues.specs.Views.{QueueView, TracedTableView, TracedView, QueuesView}
+use Rattle.pgq_queues.specs.Seen.{Stands, kept}
 
 -- a trigger that isn't made
 abbrev pub no_trigger : TableTrigger
@@ -33,9 +33,9 @@ pub record ArePlaced (triggers : List TableTrigger) (table : ℕ) (places : List
   pub within : All (λ place. place < length triggers) places
   pub own : triggers_at triggers places ≡ triggers_of table triggers
 
--- each trigger's events go to one of so many queues, and what is kept of a table are the places of its own
-pub record TracedWithin (count : ℕ) (triggers : List TableTrigger) (traced : List (ℕ × TracedTableView)) : Type 0 where
-  pub queues : All (λ t. t.trigger.queue < count) triggers
+-- each trigger's events go to a queue that stands, and what is kept of a table are the places of its own
+pub record TracedWithin (queues : List QueueView) (triggers : List TableTrigger) (traced : List (ℕ × TracedTableView)) : Type 0 where
+  pub stand : All (λ t. Stands queues t.trigger.queue) triggers
   pub places : (n : ℕ) → ArePlaced triggers n (places_of (kept traced n))
 
 -- the time of the statement that runs, and what is kept of triggers and of tables with triggers, stay the same

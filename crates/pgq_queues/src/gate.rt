@@ -3,13 +3,14 @@
 ghost use Rattle.std.specs.Prelude.{◌≡◌, ◌<◌, ◌≤◌, ◌-◌, true, OnOk, OnErr, option_copied, length, take, drop};
 ghost use Rattle.std.specs.List.{All};
 ghost use Rattle.sky_model.specs.Moment.{HasMoment};
+ghost use Rattle.pgq_queues.specs.Seen.{Stands};
+ghost use Rattle.pgq_queues.specs.Batches.{StillStand};
 ghost use Rattle.pgq_queues.specs.EventRule.{events_by, table_events, count_of, sequences, ids_left, telling_all, event_rule};
 
-use crate::queue::Queue;
 use crate::queues::Queues;
+use crate::slots::Slots;
 use crate::traced::Traced;
 use sky_model::WriteGate;
-use sky_names::Named;
 use sky_val::{NoMemory, Op, Row};
 
 /// The number at which the event ids of a queue are spent.
@@ -20,7 +21,7 @@ impl WriteGate for Queues {
 
     fn room(&self, table: u32, _op: Op, old: Option<&Row>, new: Option<&Row>) -> bool {
         match self.traced(table) {
-            Some(traced) => has_ids(&self.queues, &traced, old, new),
+            Some(traced) => has_ids(&self.slots, &traced, old, new),
             None => true,
         }
     }
@@ -37,7 +38,7 @@ impl WriteGate for Queues {
             return Ok(());
         };
         let traced = Traced::new(self.triggers.as_slice(), table);
-        tell(&mut self.queues, &traced, 0, self.time, txid, old, new)
+        tell(&mut self.slots, &traced, 0, self.time, txid, old, new)
     }
 }
 
@@ -63,9 +64,9 @@ fn told_before(
 }
 
 /// Whether there are ids for all events of the write.
-fn has_ids(queues: &Named<Queue>, traced: &Traced<'_>, old: Option<&Row>, new: Option<&Row>) -> bool
-    requires { All (λ x. x.trigger.queue < length queues.now.names) traced.now.triggers }
-    ensures { result ≡ ids_left (sequences queues.now.values) (table_events traced.now (option_copied old.entry) (option_copied new.entry)) }
+fn has_ids(queues: &Slots, traced: &Traced<'_>, old: Option<&Row>, new: Option<&Row>) -> bool
+    requires { All (λ x. Stands queues.now x.trigger.queue) traced.now.triggers }
+    ensures { result ≡ ids_left (sequences queues.now) (table_events traced.now (option_copied old.entry) (option_copied new.entry)) }
 {
     for place in 0..traced.count() {
         let trigger = traced.trigger(place);
@@ -84,7 +85,7 @@ fn has_ids(queues: &Named<Queue>, traced: &Traced<'_>, old: Option<&Row>, new: O
 
 /// Tells of the write by the events of the triggers from this place on, each with the next id of its queue.
 fn tell(
-    queues: &mut Named<Queue>,
+    queues: &mut Slots,
     traced: &Traced<'_>,
     place: usize,
     now: i64,
@@ -93,13 +94,12 @@ fn tell(
     new: Option<&Row>,
 ) -> Result<(), NoMemory>
     requires place { place ≤ length traced.now.triggers }
-    requires within { All (λ x. x.trigger.queue < length queues.old.names) traced.now.triggers }
+    requires within { All (λ x. Stands queues.old x.trigger.queue) traced.now.triggers }
     requires time { HasMoment now }
-    requires room { ids_left (sequences queues.old.values) (events_by traced.now (option_copied old) (option_copied new) (drop place traced.now.triggers)) ≡ true }
-    ensures ok { OnOk result (queues.new ≡ record queues.old {
-      values = telling_all now txid (events_by traced.now (option_copied old.entry) (option_copied new.entry) (drop place traced.now.triggers)) queues.old.values;
-    }) }
+    requires room { ids_left (sequences queues.old) (events_by traced.now (option_copied old) (option_copied new) (drop place traced.now.triggers)) ≡ true }
+    ensures ok { OnOk result (queues.new ≡ telling_all now txid (events_by traced.now (option_copied old.entry) (option_copied new.entry) (drop place traced.now.triggers)) queues.old) }
     ensures err { OnErr result (queues.new ≡ queues.old) }
+    ensures stand { StillStand queues.old queues.new }
 {
     if place == traced.count() {
         return Ok(());

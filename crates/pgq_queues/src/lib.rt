@@ -10,6 +10,7 @@ mod batch;
 mod gate;
 mod queue;
 mod queues;
+mod slots;
 mod stored;
 mod traced;
 

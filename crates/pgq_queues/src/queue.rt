@@ -1,4 +1,5 @@
-ghost use Rattle.std.specs.Prelude.{◌≡◌, ℕ, ℤ, ◌+◌, ◌<◌, ◌^◌, [], ◌∷◌, ◌++◌, Some, None, IfOk, IfErr, OnOk, OnErr, length, ◌↔◌, ◌≤◌, Ok, Err};
+ghost use Rattle.std.specs.Prelude.{◌≡◌, ℕ, ℤ, ◌+◌, ◌<◌, ◌^◌, [], ◌∷◌, ◌++◌, Some, None, IfOk, IfErr, OnOk, OnErr, length, ◌↔◌, ◌≤◌, Ok, Err, find, ◌==◌};
+ghost use Rattle.std.specs.List.{list_any};
 ghost use Rattle.sky_model.specs.Config.{default_config, param_of};
 ghost use Rattle.pgq_tick.specs.Config.{set_to};
 ghost use Rattle.sky_model.specs.Queues.{newest_tick};
@@ -132,6 +133,20 @@ impl Queue {
     {
         let sub = self.subs.get(consumer)?;
         Some(sub.copy())
+    }
+
+    /// The first of these transactions that has an event here.
+    pub fn first_producer(&self, txids: &[u64]) -> Option<u64>
+        ensures { result ≡ find (λ t. list_any (λ e. e.ev_txid == t) (seen_queue self.now).stored) txids.now }
+    {
+        txids.iter().copied().find(|txid| self.has_event_of(*txid))
+    }
+
+    /// Whether the transaction has an event here.
+    fn has_event_of(&self, txid: u64) -> bool
+        ensures { result ≡ list_any (λ e. e.ev_txid == txid) (seen_queue self.now).stored }
+    {
+        self.events.iter().any(|event| event.txid() == txid)
     }
 
     /// The sequence has this value from now on.

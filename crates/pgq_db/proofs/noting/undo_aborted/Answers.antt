@@ -15,7 +15,6 @@ loop-effect-preserved c = record {
   undone = λ part.
       undone-at (seen_with part c.loop-effect.queues) (seen_with part c.note.new.queues) _ _ c.args.effects.now.items c.loop-effect.effect-index _ (c.in_ok-note.ensures.noted part) c.as_slice-effect-items.ensures (omega (arith, c.loop-effect-test.true))
       c.effect-item.is (c.loop-effect.invariant.undone part);
-  names = c.note.ensures.names ∙ c.loop-effect.invariant.names;
   rest = rest-then c.note.ensures.rest c.loop-effect.invariant.rest;
 }
 

@@ -10,6 +10,5 @@ abbrev pub invariant-loop-effect : goal.invariant-loop-effect
 invariant-loop-effect l = record {
   undone : (part : RowPart) → record (seen_with part l.queues) { undone = undone_by (drop l.effect-index l.effects.items) (seen_with part l.queues).undone }
       ≡ record (seen_with part l.fn.queues) { undone = undone_by l.effects.items (seen_with part l.fn.queues).undone };
-  names : l.queues.names ≡ l.fn.queues.names;
   rest : KeepsRest l.fn.queues l.queues;
 }

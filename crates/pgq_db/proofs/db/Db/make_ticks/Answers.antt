@@ -1,20 +1,19 @@
-use Rattle.std.proofs.Common.{◌≡◌, ◌<◌, ◌+◌, ℕ, length, refl, ap, arith, w64, to_z, of_z}
+use Rattle.std.proofs.Common.{◌≡◌, ◌<◌, length, ap, arith, w64, to_z, of_z}
 use Rattle.pgq_queues.specs.Seen.{queues_of}
-use Rattle.pgq_queues.proofs.NumberedQueues.{numbered-length}
 use Rattle.pgq_db.specs.Views.{DbView}
+use Rattle.pgq_db.specs.Seen.{seen_database}
 use Rattle.pgq_db.proofs.Daemons.{left-next, left-count}
 use Rattle.pgq_db.proofs.db.Db.make_ticks.Goals as goal
 
-pub make_tick-requires-clause-queue : goal.make_tick-requires-clause-queue
-make_tick-requires-clause-queue c =
-    let same = left-count _ _ (to_z w64 (of_z w64 c.args.now)) c.loop-queue.queue c.args.self.now.queues.names c.loop-queue.self.queues.names refl refl c.loop-queue.invariant in
+pub number_at-requires : goal.number_at-requires
+number_at-requires c =
+    let same = left-count _ _ (to_z w64 (of_z w64 c.args.now)) c.loop-place.place c.loop-place.invariant in
     let shown = ap (λ (v : DbView). length (queues_of v.queues)) c.self.view_is in
-    omega (arith, same, shown, c.loop-queue-test.true, c.count-queue-end.ensures, numbered-length 0 c.args.self.now.queues.names)
+    omega (arith, same, shown, c.loop-place-test.true, c.count-place-end.ensures)
 
-pub loop-queue-preserved : goal.loop-queue-preserved
-loop-queue-preserved c =
-    let same = left-count _ _ (to_z w64 (of_z w64 c.args.now)) c.loop-queue.queue c.args.self.now.queues.names c.loop-queue.self.queues.names refl refl c.loop-queue.invariant in
+pub loop-place-preserved : goal.loop-place-preserved
+loop-place-preserved c =
+    let same = left-count _ _ (to_z w64 (of_z w64 c.args.now)) c.loop-place.place c.loop-place.invariant in
     let shown = ap (λ (v : DbView). length (queues_of v.queues)) c.self.view_is in
-    let low : c.loop-queue.queue < length c.loop-queue.self.queues.names =
-    omega (arith, same, shown, c.loop-queue-test.true, c.count-queue-end.ensures, numbered-length 0 c.args.self.now.queues.names) in
-    left-next _ _ _ (to_z w64 (of_z w64 c.args.now)) c.loop-queue.queue c.loop-queue.self.queues.names refl low c.loop-queue.invariant c.in_ok-make_tick.ensures.ticked
+    let low : c.loop-place.place < length (seen_database c.loop-place.self).queues = omega (arith, same, shown, c.loop-place-test.true, c.count-place-end.ensures) in
+    left-next _ _ _ (to_z w64 (of_z w64 c.args.now)) c.loop-place.place c.number_at-queue.result low c.number_at-queue.ensures.number c.loop-place.invariant c.in_ok-make_tick.ensures.ticked

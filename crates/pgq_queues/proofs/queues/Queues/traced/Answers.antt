@@ -7,10 +7,10 @@ use Rattle.pgq_queues.proofs.queues.Queues.traced.Goals as goal
 pub new-requires : goal.new-requires
 new-requires c =
     subst (λ (ts : List TableTrigger). All (λ place. place < length ts) c.in_ok-traced.traced.now.places) (sym c.as_slice.ensures.value)
-    (placed-at c.self.inside.triggers.items c.self.inside.traced.entries c.args.table (Some c.in_ok-traced.traced.now) c.in_ok-traced.ensures.value c.self.invariant.1.1.places).within
+    (placed-at c.self.inside.triggers.items c.self.inside.traced.entries c.args.table (Some c.in_ok-traced.traced.now) c.in_ok-traced.ensures.value c.self.invariant.1.1.1.places).within
 
 pub returns-clause-traced : goal.returns-clause-traced
-returns-clause-traced c = traced-found _ _ c.args.table _ c.in_ok-traced.traced.now _ c.self.view_is c.as_slice.ensures.value c.in_ok-traced.ensures.value c.new.ensures c.self.invariant.1.1.places
+returns-clause-traced c = traced-found _ _ c.args.table _ c.in_ok-traced.traced.now _ c.self.view_is c.as_slice.ensures.value c.in_ok-traced.ensures.value c.new.ensures c.self.invariant.1.1.1.places
 
 pub returns-clause-within : goal.returns-clause-within
-returns-clause-within c = found-within _ _ c.args.table _ c.in_ok-traced.traced.now _ c.self.view_is c.as_slice.ensures.value c.in_ok-traced.ensures.value c.new.ensures c.self.invariant.1.1
+returns-clause-within c = found-within _ _ c.args.table _ c.in_ok-traced.traced.now _ c.self.view_is c.as_slice.ensures.value c.in_ok-traced.ensures.value c.new.ensures c.self.invariant.1.1.1

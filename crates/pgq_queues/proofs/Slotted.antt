@@ -1,0 +1,32 @@
+-- What is shown of slots, each of which has one queue or none.
+use Rattle.std.proofs.Common.{◌≡◌, ℕ, zero, suc, ◌<◌, List, [], ◌∷◌, map, length, get_or, slice_set, refl, sym, ◌∙◌, ap, subst, arith}
+use Rattle.pgq_queues.specs.Views.{QueueView}
+use Rattle.pgq_queues.specs.Seen.{no_queue, Stands}
+use Rattle.pgq_queues.proofs.TracedLists.{there}
+
+-- one slot has changed
+pub map-set : {A B : Type 0} (f : A → B) (xs : List A) (i : ℕ) (x : A) → map f (slice_set xs i x) ≡ slice_set (map f xs) i (f x)
+map-set f [] i x = refl
+map-set f (y ∷ ys) zero x = refl
+map-set f (y ∷ ys) (suc i) x = ap (λ zs. f y ∷ zs) (map-set f ys i x)
+
+-- what is shown of the slot at a place
+pub map-at : {A : Type 0} (f : A → QueueView) (xs : List A) (i : ℕ) (x : A) → x ≡ get_or xs i x → i < length (map f xs) → get_or (map f xs) i no_queue ≡ f x
+map-at f [] i x is lt = absurd (omega (arith, lt))
+map-at f (y ∷ ys) zero x is lt = ap f (sym is)
+map-at f (y ∷ ys) (suc i) x is lt = map-at f ys i x is (omega (arith, lt))
+
+-- what is read in place of what isn't there doesn't matter where it is
+any-default : {A : Type 0} (xs : List A) (i : ℕ) (d e : A) → i < length xs → get_or xs i d ≡ get_or xs i e
+any-default [] i d e lt = absurd (omega (arith, lt))
+any-default (x ∷ xs) zero d e lt = refl
+any-default (x ∷ xs) (suc i) d e lt = any-default xs i d e (omega (arith, lt))
+
+-- the slot of a queue that stands has it
+pub is-there : (queues : List QueueView) (i : ℕ) (slot : List QueueView) (q : QueueView) → get_or queues i no_queue ≡ get_or slot 0 no_queue → Stands queues i → q ≡ get_or slot 0 q → q ≡ get_or queues i q
+is-there queues i [] q at stands is = let ticks = subst (λ (x : QueueView). 0 < length x.ticks) at stands in absurd (omega (arith, ticks))
+is-there queues i (x ∷ xs) q at stands is = is ∙ sym at ∙ any-default queues i no_queue q (there queues i stands)
+
+pub changed-there : (queues : List QueueView) (i : ℕ) (slot : List QueueView) (w : QueueView) → get_or queues i no_queue ≡ get_or slot 0 no_queue → Stands queues i → get_or (slice_set slot 0 w) 0 no_queue ≡ w
+changed-there queues i [] w at stands = let ticks = subst (λ (x : QueueView). 0 < length x.ticks) at stands in absurd (omega (arith, ticks))
+changed-there queues i (x ∷ xs) w at stands = refl

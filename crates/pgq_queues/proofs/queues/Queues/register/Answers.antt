@@ -1,0 +1,10 @@
+use Rattle.std.proofs.Common.{ap, slice_set}
+use Rattle.pgq_queues.specs.Views.{QueueView}
+use Rattle.pgq_queues.proofs.TracedLists.{stays-alike, stays-member, stand-set, within-still, stands-kept}
+use Rattle.pgq_queues.proofs.queues.Queues.register.Goals as goal
+
+pub invariant_of-self : goal.invariant_of-self
+invariant_of-self c = (c.self.invariant.0, within-still c.self.inside.names c.self.inside.slots (slice_set c.self.inside.slots c.args.queue c.register.new.self) c.self.inside.batches.entries c.self.inside.triggers.items c.self.inside.traced.entries (stand-set c.self.inside.slots c.args.queue c.get_mut.result.now c.register.new.self (stands-kept _ _ c.args.queue c.self.view_is c.requires.queue) c.get_mut.ensures.within c.get_mut.ensures.value (stays-alike _ _ (ap QueueView.ticks c.in_err-register.ensures.err) (ap QueueView.subs c.in_err-register.ensures.err))) c.self.invariant.1)
+
+pub invariant_of-self-2 : goal.invariant_of-self-2
+invariant_of-self-2 c = (c.self.invariant.0, within-still c.self.inside.names c.self.inside.slots (slice_set c.self.inside.slots c.args.queue c.register.new.self) c.self.inside.batches.entries c.self.inside.triggers.items c.self.inside.traced.entries (stand-set c.self.inside.slots c.args.queue c.get_mut.result.now c.register.new.self (stands-kept _ _ c.args.queue c.self.view_is c.requires.queue) c.get_mut.ensures.within c.get_mut.ensures.value (stays-member _ _ _ _ _ c.in_ok-register.ensures.subs c.in_ok-register.ensures.but)) c.self.invariant.1)
