@@ -3,6 +3,7 @@ mod WorkedForms
 mod WorkedMoments
 pub mod WorkedScripts
 mod WorkedClock
+mod WorkedDrops
 mod WorkedOpening
 mod WorkedRows
 mod WorkedBatches
@@ -18,6 +19,7 @@ pub mod Marks
 pub mod Legal
 pub mod QueueNumbers
 pub mod StandingQueues
+pub mod Unneeded
 pub mod Snapshots
 pub mod Ticks
 pub mod Selecting
