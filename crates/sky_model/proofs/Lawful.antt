@@ -12,13 +12,13 @@ use Rattle.sky_model.specs.declared.reply.Refusal.TheVariants.{BadColumn, BadVal
 use Rattle.sky_keys.specs.Waits.{Waiting, is_waiting}
 use Rattle.sky_names.specs.Places.{place_of}
 use Rattle.sky_model.specs.History.{Batch, Mark, of_session, began, ended, looked, tabled, waited, queued, made, raised, put, ticked, opened, closed, History}
-use Rattle.sky_model.specs.Transactions.{next_txid}
+use Rattle.sky_model.specs.Transactions.{next_txid, running}
 use Rattle.sky_model.specs.Sessions.{Block, outside, has_open, block, own_txid, session}
 use Rattle.sky_model.specs.Rows.{table_names, columns_of}
 use Rattle.sky_model.specs.Triggers.{triggers, triggers_of}
 use Rattle.sky_model.specs.StepTrigger.{has_trigger, may_ignore}
 use Rattle.sky_model.specs.Config.{param_of, configured_by}
-use Rattle.sky_model.specs.Queues.{queues_made, queues, queue_number, config, Tick, ticks, kept_ticks, tick, newest_tick, sequence, events}
+use Rattle.sky_model.specs.Queues.{queues_made, queues, queue_number, config, Tick, ticks, kept_ticks, tick, newest_tick, sequence, events, stored}
 use Rattle.sky_model.specs.Consumers.{consumers, subscription_id, Subscription, subscription, active_batch}
 use Rattle.sky_model.specs.Locks.{waiting}
 use Rattle.sky_model.specs.State.{RowPart, part_of, database_of}
@@ -43,7 +43,7 @@ use Rattle.sky_model.proofs.LawfulRows.{no-one, nothing, good_attempts, good_row
 use Rattle.sky_model.proofs.QueueNumbers.{among-number, among-last}
 use Rattle.sky_model.proofs.Ticks.{ticks_beyond}
 use Rattle.sky_model.proofs.StandingQueues.{whole}
-use Rattle.sky_model.proofs.Unneeded.{no-member, none-into}
+use Rattle.sky_model.proofs.Unneeded.{no-member, none-into, none-put}
 use Rattle.sky_model.proofs.Selecting.{events_below-next}
 use Rattle.sky_names.proofs.PlaceLemmas.{place_of_within}
 
@@ -145,8 +145,8 @@ good_form h l now who (DropQueue name) may =
     good_found h who (queue_number name (queues h)) (NoQueue name) _ (λ q is.
     good_test h who (not (length (consumers q h) == 0)) (HasConsumers (length (consumers q h))) _ (λ none.
     good_refused_by h who (option_map (λ t. HasTriggers (shown_name t)) (first_trigger_into q (triggers h))) _ (λ untold.
-    good_refused_by h who (option_map QueueBusy (least_producer (database_of h) q)) _ (λ _.
-    more (drops q (no-member h q none) (none-into q (triggers h) untold)) done))))
+    good_refused_by h who (option_map QueueBusy (least_producer (database_of h) q)) _ (λ idle.
+    more (drops q (no-member h q none) (none-into q (triggers h) untold) (none-put (stored q h) (running h) idle)) done))))
 good_form h l now who (InsertEvent queue ev_type ev_data extra) may = good_insert_event h l now who queue ev_type ev_data extra
 good_form h l now who (SetQueueConfig name param value) may =
     good_found h who (queue_number name (queues h)) (NoQueue name) _ (λ q is.

@@ -43,6 +43,7 @@ pub mod Histories
 pub mod Promised
 pub mod Entering
 pub mod SnapshotLaws
+pub mod QueuesInUse
 pub mod TickOrder
 pub mod ActiveBatches
 pub mod FinishedBatches
