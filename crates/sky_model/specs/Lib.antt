@@ -46,6 +46,7 @@ pub mod HistoryPlaces
 pub mod LawsOfSnapshots
 pub mod LawsOfRows
 pub mod LawsOfBatches
+pub mod LawsOfQueues
 pub mod LawsOfLocks
 pub mod LawsOfWrites
 pub mod Steps

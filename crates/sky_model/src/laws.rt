@@ -4,6 +4,7 @@ ghost use Rattle.sky_model.specs.LawsOfBatches.{BatchesAreConsecutive, BatchesLi
 ghost use Rattle.sky_model.specs.LawsOfHistories.{HistoriesAreMadeByOwnCalls, HomesAreOpen, WaitersHaveOpen, BlocksAreOpen};
 ghost use Rattle.sky_model.specs.LawsOfLines.{BadWordIsLeast, LinesAreInForm};
 ghost use Rattle.sky_model.specs.LawsOfLocks.{DeadlocksAreRings, HoldersHaveWritten, NothingIsReady, WritersHaveWritten};
+ghost use Rattle.sky_model.specs.LawsOfQueues.{BusyQueuesStand, NewQueuesAreOthers, OtherQueuesKeepNothing, QueuesOfConsumersStand, QueuesOfTriggersStand, StandingQueuesKeepAll};
 ghost use Rattle.sky_model.specs.LawsOfRows.{RowsAreReadUnderSnapshots};
 ghost use Rattle.sky_model.specs.LawsOfSnapshots.{BatchesAreSelectedBySnapshots, SnapshotsSeeWhatHasEnded};
 ghost use Rattle.sky_model.specs.LawsOfWrites.{EventIdsFollowWrites, EventIdsRise, KeysAreWrittenInTurn, SnapshotsSeeEarlierWriters, StandingRowsFit, WritesAndCommitsHaveOneOrder, WritesAreTold, WritesNameWhatStands, WrittenRowsFit};
@@ -102,6 +103,19 @@ pub fn writes_name_what_stands()
     ensures stands { WritesNameWhatStands }
     ensures written { WrittenRowsFit }
     ensures rows { StandingRowsFit }
+{}
+
+/// At each such place a queue stands where a consumer is registered with it, where a trigger puts events into
+/// it, or where a transaction that hasn't ended has put one into it: none of these loses its queue. All events
+/// and ticks of a queue that stands are kept, and nothing of one that was dropped or is to be made. And the next
+/// queue that is made is none that was dropped, even where it gets the name of one.
+pub fn queues_in_use_stand()
+    ensures consumers { QueuesOfConsumersStand }
+    ensures triggers { QueuesOfTriggersStand }
+    ensures busy { BusyQueuesStand }
+    ensures kept { StandingQueuesKeepAll }
+    ensures gone { OtherQueuesKeepNothing }
+    ensures others { NewQueuesAreOthers }
 {}
 
 /// At each such place the batches that a consumer has finished are of its queue and its subscription,
