@@ -61,6 +61,7 @@ forms_end =
     (ends (λ table dotted v is key are. (dotted, some_of Value v key is are))
     (ends (λ table dotted. dotted)
     (ends (λ queue is. is)
+    (ends (λ queue is. is)
     (ends (λ queue is param first value second. (is, first, second))
     (ends (λ queue is. is)
     (ends (λ queue is ev_type first ev_data second. ((is, first, second, tt), λ extra1 a extra2 b extra3 c extra4 d. (is, first, second, (a, b, c, d))))
@@ -76,7 +77,7 @@ forms_end =
     (ends (λ batch number. number)
     (ends (λ time is. is)
     (ends (tt, tt)
-    tt)))))))))))))))))))))))))))
+    tt))))))))))))))))))))))))))))
 
 -- ---- behind a word
 

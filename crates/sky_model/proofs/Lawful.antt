@@ -1,25 +1,25 @@
 -- Whatever is called of a database, its history is legal.
-use Rattle.std.proofs.Common.{◌≡◌, All, ℕ, suc, zero, ℤ, ◌+◌, ◌<◌, List, [], ◌∷◌, ◌++◌, true, nat_le, Option, Some, None, Ok, Err, is_ok, option_map, find, not, length, is_some, refl, sym, ◌∙◌, ap, subst, arith, ◌^◌, if◌then◌else◌}
+use Rattle.std.proofs.Common.{◌≡◌, All, ℕ, suc, zero, ℤ, ◌+◌, ◌<◌, List, [], ◌∷◌, ◌++◌, true, ◌==◌, nat_le, Option, Some, None, Ok, Err, is_ok, option_map, find, not, length, is_some, refl, sym, ◌∙◌, ap, subst, arith, ◌^◌, if◌then◌else◌}
 use Rattle.std.proofs.lemmas.Bool.{cond_both}
 use Rattle.std.proofs.lemmas.Bool.Decides.{nat_tests}
 use Rattle.sky_model.specs.declared.stmt.Stmt.{Stmt}
 use Rattle.sky_model.specs.declared.stmt.Extra.{Extra}
 use Rattle.sky_model.specs.declared.stmt.RowStmt.{RowStmt}
-use Rattle.sky_model.specs.declared.stmt.Stmt.TheVariants.{Row, CreateQueue, SetQueueConfig, QueueInfo, InsertEvent, Ticker, ForceTick, RegisterConsumer, NextBatch, GetBatchEvents, FinishBatch, AddTrigger, Clock, PgqdOn, PgqdOff}
+use Rattle.sky_model.specs.declared.stmt.Stmt.TheVariants.{Row, CreateQueue, DropQueue, SetQueueConfig, QueueInfo, InsertEvent, Ticker, ForceTick, RegisterConsumer, NextBatch, GetBatchEvents, FinishBatch, AddTrigger, Clock, PgqdOn, PgqdOff}
 use Rattle.sky_model.specs.declared.reply.Reply.TheVariants.{Number}
 use Rattle.sky_model.specs.declared.reply.Limit.TheVariants.{Queues, Triggers}
-use Rattle.sky_model.specs.declared.reply.Refusal.TheVariants.{BadColumn, BadValue, NoParam, NoQueue, NoTable, TableBusy, TooMany, TriggerExists, TxidsSpent, EventIdsSpent, NoConsumer}
+use Rattle.sky_model.specs.declared.reply.Refusal.TheVariants.{BadColumn, BadValue, HasConsumers, HasTriggers, NoParam, NoQueue, NoTable, QueueBusy, TableBusy, TooMany, TriggerExists, TxidsSpent, EventIdsSpent, NoConsumer}
 use Rattle.sky_keys.specs.Waits.{Waiting, is_waiting}
 use Rattle.sky_names.specs.Places.{place_of}
 use Rattle.sky_model.specs.History.{Batch, Mark, of_session, began, ended, looked, tabled, waited, queued, made, raised, put, ticked, opened, closed, History}
-use Rattle.sky_model.specs.Transactions.{next_txid}
+use Rattle.sky_model.specs.Transactions.{next_txid, running}
 use Rattle.sky_model.specs.Sessions.{Block, outside, has_open, block, own_txid, session}
 use Rattle.sky_model.specs.Rows.{table_names, columns_of}
 use Rattle.sky_model.specs.Triggers.{triggers, triggers_of}
 use Rattle.sky_model.specs.StepTrigger.{has_trigger, may_ignore}
 use Rattle.sky_model.specs.Config.{param_of, configured_by}
-use Rattle.sky_model.specs.Queues.{queues_made, queues, queue_number, config, Tick, ticks, kept_ticks, tick, newest_tick, sequence, events}
-use Rattle.sky_model.specs.Consumers.{subscription_id, Subscription, subscription, active_batch}
+use Rattle.sky_model.specs.Queues.{queues_made, queues, queue_number, config, Tick, ticks, kept_ticks, tick, newest_tick, sequence, events, stored}
+use Rattle.sky_model.specs.Consumers.{consumers, subscription_id, Subscription, subscription, active_batch}
 use Rattle.sky_model.specs.Locks.{waiting}
 use Rattle.sky_model.specs.State.{RowPart, part_of, database_of}
 use Rattle.sky_model.specs.ShownRows.{RowsShown, rows_in, least_writer}
@@ -27,14 +27,14 @@ use Rattle.sky_model.specs.OwnTransaction.{own_or_next, begin_of, commit_of, wri
 use Rattle.sky_model.specs.Outcome.{Outcome, Checked, ◌>>=◌, ◌>>◌, refused_if, answers, does_marks, abort, settled}
 use Rattle.sky_model.specs.Allowed.{where_of_row, where_of, allowed}
 use Rattle.sky_model.specs.StepRows.{attempts}
-use Rattle.sky_model.specs.StepQueue.{create_queue, insert_event, next_tick, is_due, forced, newest_id, id_of, next_event_id, made_event}
+use Rattle.sky_model.specs.StepQueue.{create_queue, first_trigger_into, shown_name, least_producer, insert_event, next_tick, is_due, forced, newest_id, id_of, next_event_id, made_event}
 use Rattle.sky_model.specs.StepConsumer.{has_dot, opens_batch, takes_batch, finishes}
 use Rattle.sky_model.specs.Reader.{shown_in, PartReader, part_by_history, database_by_history, within_part}
 use Rattle.sky_model.specs.Gates.{Gate, takes_all, gated, by_gate}
 use Rattle.sky_model.specs.Made.{takes_sight, looking, runs_if}
 use Rattle.sky_model.specs.Settling.{Turn, turn_of, behind_marks, and_then, ready, attempted, resumed, goes_on, settles, settling, with_settling}
 use Rattle.sky_model.specs.Calls.{row_form, form, row_making, making, row_statement, row_turn, statement, database_turn, turn}
-use Rattle.sky_model.proofs.Legal.{MayWait, IsAmong, IsQueue, begins, ends, looks, ends_waiting, makes, raises, puts, ticks_next, registers, opens as opens_fine, closes, configures, traces, Chain, done, more, Legal, next}
+use Rattle.sky_model.proofs.Legal.{MayWait, IsAmong, IsQueue, begins, ends, looks, ends_waiting, makes, raises, puts, ticks_next, registers, opens as opens_fine, closes, configures, drops, traces, Chain, done, more, Legal, next}
 use Rattle.sky_model.proofs.Good.{MayStand, Good, same-session, good_test, good_test_then, good_found, good_if, good_refused, good_refused_by, good_commits}
 use Rattle.sky_model.proofs.RowOutcomes.{OfRows, attempts-rows, form-rows}
 use Rattle.sky_model.proofs.LawfulTelling.{good_append, legal_behind, good_tells}
@@ -43,6 +43,7 @@ use Rattle.sky_model.proofs.LawfulRows.{no-one, nothing, good_attempts, good_row
 use Rattle.sky_model.proofs.QueueNumbers.{among-number, among-last}
 use Rattle.sky_model.proofs.Ticks.{ticks_beyond}
 use Rattle.sky_model.proofs.StandingQueues.{whole}
+use Rattle.sky_model.proofs.Unneeded.{no-member, none-into, none-put}
 use Rattle.sky_model.proofs.Selecting.{events_below-next}
 use Rattle.sky_names.proofs.PlaceLemmas.{place_of_within}
 
@@ -140,6 +141,12 @@ good_next_tick h l now who q is =
 good_form : (h : History) → Legal h → (now : ℤ) (who : ℕ) (stmt : Stmt) → MayStand h who (where_of stmt) → Good h who (form (database_of h) (shown_in h) now who stmt)
 good_form h l now who (Row stmt) may = good_tells h l now who _ (form-rows (part_of h) (rows_in h) who stmt) (good_row_form h l who stmt may)
 good_form h l now who (CreateQueue queue) may = good_create_queue h l now who queue
+good_form h l now who (DropQueue name) may =
+    good_found h who (queue_number name (queues h)) (NoQueue name) _ (λ q is.
+    good_test h who (not (length (consumers q h) == 0)) (HasConsumers (length (consumers q h))) _ (λ none.
+    good_refused_by h who (option_map (λ t. HasTriggers (shown_name t)) (first_trigger_into q (triggers h))) _ (λ untold.
+    good_refused_by h who (option_map QueueBusy (least_producer (database_of h) q)) _ (λ idle.
+    more (drops q (no-member h q none) (none-into q (triggers h) untold) (none-put (stored q h) (running h) idle)) done))))
 good_form h l now who (InsertEvent queue ev_type ev_data extra) may = good_insert_event h l now who queue ev_type ev_data extra
 good_form h l now who (SetQueueConfig name param value) may =
     good_found h who (queue_number name (queues h)) (NoQueue name) _ (λ q is.

@@ -43,7 +43,7 @@ traced-queue : {h : History} {table : ℕ} {name : Option (List ℕ)} {trigger :
 traced-queue (next l (traces table name trigger below is new)) = is
 
 undropped-triggers : {h : History} {q : ℕ} → Legal (queued (dropped q) ∷ h) → All (λ t. (t.trigger.queue == q) ≡ false) (triggers h)
-undropped-triggers (next l (drops q none untold)) = untold
+undropped-triggers (next l (drops q none untold idle)) = untold
 
 -- the queues of triggers are among these
 abbrev pub TriggersAmong : List NamedQueue → List TableTrigger → Type 0

@@ -6,6 +6,7 @@ use Rattle.sky_val.specs.declared.event.Event.{Event}
 use Rattle.sky_val.specs.declared.val.Val.{Val}
 use Rattle.sky_val.specs.declared.column.Column.{Column}
 use Rattle.sky_keys.specs.Waits.{other_than, is_waiting}
+use Rattle.sky_txid.specs.Ids.{contains}
 use Rattle.sky_val.specs.Schemas.{row_fault, key_columns}
 use Rattle.sky_urlenc.specs.RowEvents.{Trigger}
 use Rattle.sky_names.specs.Places.{place_of}
@@ -14,12 +15,12 @@ use Rattle.sky_model.specs.declared.stmt.Attempt.{Attempt}
 use Rattle.sky_model.specs.declared.stmt.Attempt.TheVariants.{Insertion, Changes, Deletion}
 use Rattle.sky_model.specs.History.{Batch, Mark, of_session, began, ended, block_begun, repeats, looked, block_failed, block_ended, connected, disconnected, tabled, table_made, wrote, waits, waited, queued, made, raised, put, ticked, registered, opened, closed, configured, dropped, traced, History}
 use Rattle.sky_model.specs.Config.{Config}
-use Rattle.sky_model.specs.Transactions.{next_txid}
+use Rattle.sky_model.specs.Transactions.{next_txid, running}
 use Rattle.sky_model.specs.Sessions.{has_open, outside, inside, block, own_txid}
 use Rattle.sky_model.specs.Rows.{table_names}
 use Rattle.sky_model.specs.Locks.{holder, waiting}
 use Rattle.sky_model.specs.Triggers.{triggers, triggers_of}
-use Rattle.sky_model.specs.Queues.{NamedQueue, queues, queue_number, sequence, events, Tick, ticks, tick, newest_tick}
+use Rattle.sky_model.specs.Queues.{NamedQueue, queues, queue_number, sequence, events, stored, Tick, ticks, tick, newest_tick}
 use Rattle.sky_model.specs.Consumers.{subscription_id, subscription, last_subscription, last_batch, active_batch}
 use Rattle.sky_model.specs.StepQueue.{id_of}
 use Rattle.sky_model.specs.State.{RowPart, part_of}
@@ -100,7 +101,8 @@ pub data Fine (h : History) : Mark → Type 0 where
   opens : (batch : Batch) → Opens h batch → Fine h (queued (opened batch))
   closes : (batch : Batch) → active_batch batch.id h ≡ Some batch → Fine h (queued (closed batch))
   configures : (q : ℕ) (config : Config) → IsQueue h q → Fine h (queued (configured q config))
-  drops : (q : ℕ) → ((consumer : List ℕ) → subscription_id q consumer h ≡ None) → All (λ t. (t.trigger.queue == q) ≡ false) (triggers h) → Fine h (queued (dropped q))
+  drops : (q : ℕ) → ((consumer : List ℕ) → subscription_id q consumer h ≡ None) → All (λ t. (t.trigger.queue == q) ≡ false) (triggers h)
+      → All (λ e. contains e.ev_txid (running h) ≡ false) (stored q h) → Fine h (queued (dropped q))
   traces : (table : ℕ) (name : Option (List ℕ)) (trigger : Trigger) → table < length (table_names h) → IsQueue h trigger.queue
       → IfSome name (λ n. has_trigger n (triggers_of table (triggers h)) ≡ false)
       → Fine h (queued (traced table name trigger))

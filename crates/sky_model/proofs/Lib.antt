@@ -3,6 +3,7 @@ mod WorkedForms
 mod WorkedMoments
 pub mod WorkedScripts
 mod WorkedClock
+mod WorkedDrops
 mod WorkedOpening
 mod WorkedRows
 mod WorkedBatches
@@ -18,6 +19,7 @@ pub mod Marks
 pub mod Legal
 pub mod QueueNumbers
 pub mod StandingQueues
+pub mod Unneeded
 pub mod Snapshots
 pub mod Ticks
 pub mod Selecting
@@ -36,11 +38,13 @@ pub mod Turns
 pub mod DaemonTurns
 pub mod PastHistories
 pub mod ClockSteps
+mod DueMoments
 pub mod Lawful
 pub mod Histories
 pub mod Promised
 pub mod Entering
 pub mod SnapshotLaws
+pub mod QueuesInUse
 pub mod TickOrder
 pub mod ActiveBatches
 pub mod FinishedBatches

@@ -82,7 +82,7 @@ numbered _ (next {h = h} l (puts who p event i at o newest)) q =
       λ is. All-push (λ e. e.ev_id ≤ sequence q h) (events q h) event (n.up_to is) (omega arith),
     )) (λ _. (n.ordered, n.up_to)) in
     record { ordered = parts.0; up_to = parts.1 }
-numbered _ (next {h = h} l (drops p none untold)) q =
+numbered _ (next {h = h} l (drops p none untold idle)) q =
     let n : IsNumbered h q = numbered h l q in
     record {
       ordered = n.ordered;

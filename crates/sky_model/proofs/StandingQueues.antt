@@ -41,7 +41,7 @@ beyond _ (next {h = h} l (ticks_next p id time seq i e)) q le =
       kept = ap (λ c. if c then kept_ticks q h ++ new ∷ [] else kept_ticks q h) other ∙ b.kept;
       ticks = ap (λ c. if c then ticks q h ++ new ∷ [] else ticks q h) other ∙ b.ticks;
     }
-beyond _ (next {h = h} l (drops p none untold)) q le =
+beyond _ (next {h = h} l (drops p none untold idle)) q le =
     let b : IsBeyond h q = beyond h l q le in
     record {
       stored = by_test (λ c. (if c then [] else stored q h) ≡ []) (p == q) (λ _. refl) (λ _. b.stored);
@@ -73,7 +73,7 @@ whole _ (next {h = h} l (puts who p event i at o newest)) q is =
 whole _ (next {h = h} l (ticks_next p id time seq i e)) q is =
     let w : IsWhole h q = whole h l q is in
     record { all_events = w.all_events; all_ticks = ap (λ ts. if p == q then ts ++ record { id = id; time = time; snapshot = snapshot h; seq = seq } ∷ [] else ts) w.all_ticks }
-whole _ (next {h = h} l (drops p none untold)) q is =
+whole _ (next {h = h} l (drops p none untold idle)) q is =
     let w : IsWhole h q = whole h l q (others-among p (queues h) q is) in
     let other : (p == q) ≡ false = others-apart p (queues h) q is in
     record {
@@ -87,7 +87,7 @@ pub registered-stands : (h : History) → Legal h → (q : ℕ) (consumer : List
 registered-stands [] start q consumer sub is = absurd (cc)
 registered-stands _ (next {h = h} l (makes name new)) q consumer sub is = among-before (queues h) (record { number = queues_made h; name = name }) q (registered-stands h l q consumer sub is)
 registered-stands _ (next {h = h} l (registers p name s t i none f g)) q consumer sub is = grind (arith, nat_tests, registered-stands h l q consumer sub, i, is)
-registered-stands _ (next {h = h} l (drops p none untold)) q consumer sub is =
+registered-stands _ (next {h = h} l (drops p none untold idle)) q consumer sub is =
     among-others p (queues h) q (registered-stands h l q consumer sub is)
     (by_test (λ b. b ≡ false) (q == p) (λ same. absurd (cc (sym is ∙ ap (λ n. subscription_id n consumer h) (eqb-true q p same) ∙ none consumer))) (λ other. refl))
 registered-stands _ (next {h = h} l _) q consumer sub is = registered-stands h l q consumer sub is

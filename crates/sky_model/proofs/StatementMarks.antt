@@ -9,7 +9,7 @@ use Rattle.sky_model.specs.declared.stmt.Attempt.TheVariants.{Insertion, Changes
 use Rattle.sky_model.specs.declared.stmt.RowStmt.{RowStmt}
 use Rattle.sky_model.specs.declared.stmt.RowStmt.TheVariants.{OpenDb, Close, Cancel, Begin, BeginRepeatableRead, Commit, Rollback, TxidCurrent, TxidCurrentSnapshot, TxidVisibleInSnapshot, CreateTable, Insert, Update, Delete, Get, Scan}
 use Rattle.sky_model.specs.declared.stmt.Stmt.{Stmt}
-use Rattle.sky_model.specs.declared.stmt.Stmt.TheVariants.{Row, CreateQueue, SetQueueConfig, QueueInfo, InsertEvent, Ticker, ForceTick, RegisterConsumer, NextBatch, GetBatchEvents, FinishBatch, AddTrigger, Clock, PgqdOn, PgqdOff}
+use Rattle.sky_model.specs.declared.stmt.Stmt.TheVariants.{Row, CreateQueue, DropQueue, SetQueueConfig, QueueInfo, InsertEvent, Ticker, ForceTick, RegisterConsumer, NextBatch, GetBatchEvents, FinishBatch, AddTrigger, Clock, PgqdOn, PgqdOff}
 use Rattle.sky_model.specs.declared.stmt.Where.{Where}
 use Rattle.sky_model.specs.declared.reply.Reply.{Reply}
 use Rattle.sky_model.specs.declared.reply.Reply.TheVariants.{Refused}
@@ -344,6 +344,7 @@ module _ (who : ℕ) where
       also (queued mark) e = refl
       also _ e = e
   gives-form d shown now (CreateQueue name) = search (either, after, checked, each-append, left-written) depth 8
+  gives-form d shown now (DropQueue name) = search (checked, after) depth 8
   gives-form d shown now (SetQueueConfig name param value) = search (checked) depth 8
   gives-form d shown now (QueueInfo name) = search (checked)
   gives-form d shown now (InsertEvent name ev_type ev_data extra) = search (checked, left-written) depth 8

@@ -3,7 +3,7 @@ use Rattle.std.specs.Prelude.{ℕ, ℤ, Bool, true, false, List, [], ◌∷◌, 
 use Rattle.sky_model.specs.declared.stmt.Stmt.{Stmt}
 use Rattle.sky_model.specs.declared.stmt.RowStmt.{RowStmt}
 use Rattle.sky_model.specs.declared.stmt.RowStmt.TheVariants.{OpenDb, Close, Cancel, Begin, BeginRepeatableRead, Commit, Rollback, TxidCurrent, TxidCurrentSnapshot, TxidVisibleInSnapshot, CreateTable, Insert, Update, Delete, Get, Scan}
-use Rattle.sky_model.specs.declared.stmt.Stmt.TheVariants.{Row, CreateQueue, SetQueueConfig, QueueInfo, InsertEvent, Ticker, ForceTick, RegisterConsumer, NextBatch, GetBatchEvents, FinishBatch, AddTrigger, Clock, PgqdOn, PgqdOff}
+use Rattle.sky_model.specs.declared.stmt.Stmt.TheVariants.{Row, CreateQueue, DropQueue, SetQueueConfig, QueueInfo, InsertEvent, Ticker, ForceTick, RegisterConsumer, NextBatch, GetBatchEvents, FinishBatch, AddTrigger, Clock, PgqdOn, PgqdOff}
 use Rattle.sky_model.specs.declared.reply.Reply.{Reply}
 use Rattle.sky_model.specs.declared.reply.Reply.TheVariants.{Done, NotWaiting, Refused}
 use Rattle.sky_model.specs.declared.reply.Limit.TheVariants.{Sessions, Databases}
@@ -18,7 +18,7 @@ use Rattle.sky_model.specs.Outcome.{Outcome, Checked, answers}
 use Rattle.sky_model.specs.Allowed.{where_of_row, where_of, allowed}
 use Rattle.sky_model.specs.Clock.{deed_in, clock, waits_at}
 use Rattle.sky_model.specs.Made.{Making, made_by}
-use Rattle.sky_model.specs.StepQueue.{create_queue, set_queue_config, queue_info, insert_event, ticker, force_tick}
+use Rattle.sky_model.specs.StepQueue.{create_queue, drop_queue, set_queue_config, queue_info, insert_event, ticker, force_tick}
 use Rattle.sky_model.specs.StepSession.{open_db, begin, begin_repeatable_read, commit, rollback, close, cancel, txid_current, txid_current_snapshot, txid_visible_in_snapshot}
 use Rattle.sky_model.specs.StepRows.{create_table, insert, update, delete, get, scan}
 use Rattle.sky_model.specs.StepTrigger.{add_trigger}
@@ -52,6 +52,7 @@ row_form d shown who (Scan table) = scan d shown who table
 abbrev pub form : Database → Shown → ℤ → ℕ → Stmt → Checked Outcome
 form d shown now who (Row stmt) = tells d now (row_form d.part shown.rows who stmt)
 form d shown now who (CreateQueue queue) = create_queue d now who queue
+form d shown now who (DropQueue queue) = drop_queue d queue
 form d shown now who (SetQueueConfig queue param value) = set_queue_config d queue param value
 form d shown now who (QueueInfo queue) = queue_info d queue
 form d shown now who (InsertEvent queue ev_type ev_data extra) = insert_event d now who queue ev_type ev_data extra

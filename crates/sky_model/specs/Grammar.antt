@@ -103,6 +103,7 @@ add_trigger =
 abbrev pub queue_forms : List (List ℕ × Row)
 queue_forms =
     (codes "create_queue", last Name (λ queue. stmt.CreateQueue queue))
+    ∷ (codes "drop_queue", last Name (λ queue. stmt.DropQueue queue))
     ∷ (codes "set_queue_config", one Name (λ queue. one Raw (λ param. last Raw (λ value. stmt.SetQueueConfig queue param value))))
     ∷ (codes "queue_info", last Name (λ queue. stmt.QueueInfo queue))
     ∷ (codes "insert_event", insert_event)

@@ -84,6 +84,7 @@ IsOptExtra (Some extra) = IsOf OptText extra.ev_extra1 × IsOf OptText extra.ev_
 abbrev pub IsInForm : Stmt → Type 0
 IsInForm (stmt.Row stmt) = IsRowInForm stmt
 IsInForm (stmt.CreateQueue queue) = IsOf Name queue
+IsInForm (stmt.DropQueue queue) = IsOf Name queue
 IsInForm (stmt.SetQueueConfig queue param value) = IsOf Name queue × IsOf Raw param × IsOf Raw value
 IsInForm (stmt.QueueInfo queue) = IsOf Name queue
 IsInForm (stmt.InsertEvent queue ev_type ev_data extra) = IsOf Name queue × IsOf OptText ev_type × IsOf OptText ev_data × IsOptExtra extra

@@ -46,10 +46,12 @@ pub mod HistoryPlaces
 pub mod LawsOfSnapshots
 pub mod LawsOfRows
 pub mod LawsOfBatches
+pub mod LawsOfQueues
 pub mod LawsOfLocks
 pub mod LawsOfWrites
 pub mod Steps
 pub mod LawsOfHistories
+pub mod LawsOfDaemons
 pub mod RowSteps
 pub mod DatabaseSteps
 pub mod Moment

@@ -13,7 +13,7 @@ use Rattle.sky_model.specs.declared.reply.Limit.TheVariants.{Sessions, Databases
 use Rattle.sky_model.specs.declared.reply.BadRow as bad_row
 use Rattle.sky_model.specs.declared.reply.BadRow.TheVariants.{Count, «Type», NullKey, NoColumn, Twice}
 use Rattle.sky_model.specs.declared.reply.Refusal.{Refusal}
-use Rattle.sky_model.specs.declared.reply.Refusal.TheVariants.{Aborted, AlreadyOpen, BadColumn, BadRow, BadSnapshot, BadValue, Busy, Canceled, ClockSpent, Deadlock, Duplicate, EventIdsSpent, IdsSpent, InTransaction, KeyChange, NoBatch, NoConsumer, NodeConsumer, NoKey, NoParam, NoQueue, NoTable, NotOpen, OutOfRange, ReservedColumn, Serialize, TableBusy, TableExists, TooMany, TriggerExists, TwiceNamed, TxidsSpent}
+use Rattle.sky_model.specs.declared.reply.Refusal.TheVariants.{Aborted, AlreadyOpen, BadColumn, BadRow, BadSnapshot, BadValue, Busy, Canceled, ClockSpent, Deadlock, Duplicate, EventIdsSpent, HasConsumers, HasTriggers, IdsSpent, InTransaction, KeyChange, NoBatch, NoConsumer, NodeConsumer, NoKey, NoParam, NoQueue, NoTable, NotOpen, OutOfRange, QueueBusy, ReservedColumn, Serialize, TableBusy, TableExists, TooMany, TriggerExists, TwiceNamed, TxidsSpent}
 use Rattle.sky_txid.specs.SnapshotText.{snapshot_text}
 use Rattle.sky_model.specs.Moment.{moment, HasMoment}
 
@@ -108,6 +108,8 @@ refusal_text names ClockSpent = codes "ClockSpent"
 refusal_text names (Deadlock waiters) = codes "Deadlock" ++ spaced (map (name_at names) waiters)
 refusal_text names Duplicate = codes "Duplicate"
 refusal_text names EventIdsSpent = codes "EventIdsSpent"
+refusal_text names (HasConsumers count) = codes "HasConsumers " ++ decimal count
+refusal_text names (HasTriggers name) = codes "HasTriggers " ++ name
 refusal_text names IdsSpent = codes "IdsSpent"
 refusal_text names InTransaction = codes "InTransaction"
 refusal_text names (KeyChange column) = codes "KeyChange " ++ column
@@ -120,6 +122,7 @@ refusal_text names (NoQueue name) = codes "NoQueue " ++ name
 refusal_text names (NoTable name) = codes "NoTable " ++ name
 refusal_text names NotOpen = codes "NotOpen"
 refusal_text names (OutOfRange column) = codes "OutOfRange " ++ column
+refusal_text names (QueueBusy txid) = codes "QueueBusy " ++ decimal txid
 refusal_text names (ReservedColumn column) = codes "ReservedColumn " ++ column
 refusal_text names (Serialize txid) = codes "Serialize " ++ decimal txid
 refusal_text names (TableBusy txid) = codes "TableBusy " ++ decimal txid

@@ -1,18 +1,20 @@
 -- What the statements on queues do. Each reads the database `d` as it stands.
-use Rattle.std.specs.Prelude.{ℕ, ◌+◌, ◌-◌, ◌*◌, ◌^◌, ℤ, pos, ◌-ℤ◌, ◌*ℤ◌, List, [], ◌∷◌, ◌++◌, Bool, true, false, not, ◌&&◌, ◌||◌, Option, Some, None, nat_lt, nat_le, is_some, length, int_lt, Ok, if◌then◌else◌}
+use Rattle.std.specs.Prelude.{ℕ, ◌+◌, ◌-◌, ◌*◌, ◌^◌, ℤ, pos, ◌-ℤ◌, ◌*ℤ◌, List, [], ◌∷◌, ◌++◌, Bool, true, false, not, ◌&&◌, ◌||◌, Option, Some, None, option_map, unwrap_or, nat_lt, nat_le, ◌==◌, is_some, length, find, int_lt, Ok, if◌then◌else◌}
+use Rattle.std.specs.List.{list_any}
 use Rattle.sky_val.specs.declared.event.Event.{Event}
 use Rattle.sky_model.specs.declared.stmt.Extra.{Extra}
 use Rattle.sky_model.specs.declared.reply.QueueInfo as reply
 use Rattle.sky_model.specs.declared.reply.Reply.TheVariants.{Number, Null, QueueInfo}
 use Rattle.sky_model.specs.declared.reply.Limit.TheVariants.{Queues}
-use Rattle.sky_model.specs.declared.reply.Refusal.TheVariants.{NoQueue, TooMany, EventIdsSpent, IdsSpent, NoParam, BadValue}
+use Rattle.sky_model.specs.declared.reply.Refusal.TheVariants.{NoQueue, TooMany, HasConsumers, HasTriggers, QueueBusy, EventIdsSpent, IdsSpent, NoParam, BadValue}
 use Rattle.sky_model.specs.Limits.{most_of}
-use Rattle.sky_model.specs.History.{queued, made, raised, put, ticked, configured}
+use Rattle.sky_model.specs.History.{queued, made, raised, put, ticked, configured, dropped}
 use Rattle.sky_model.specs.Queues.{queue_number, Tick, newest_tick}
 use Rattle.sky_model.specs.Config.{Config, param_of, configured_by}
+use Rattle.sky_model.specs.Triggers.{TableTrigger}
 use Rattle.sky_model.specs.State.{Queue, Database}
 use Rattle.sky_model.specs.OwnTransaction.{txid_for, written}
-use Rattle.sky_model.specs.Outcome.{Outcome, Checked, ◌>>=◌, ◌>>◌, refused_if, found_or, answers, does_marks}
+use Rattle.sky_model.specs.Outcome.{Outcome, Checked, ◌>>=◌, ◌>>◌, refused_if, refused_by, found_or, answers, does_marks}
 
 -- the queue of a name
 abbrev pub queue_called : List ℕ → Database → Checked ℕ
@@ -26,6 +28,27 @@ create_queue d now who name =
       t ← txid_for d.part who
       does_marks (Number 1)
           (written who t (d.part.session who) (queued (made name) ∷ []) ++ queued (ticked d.queues_made 1 now 0) ∷ [])
+
+-- the least running transaction that has put an event into a queue
+abbrev pub least_producer : Database → ℕ → Option ℕ
+least_producer d queue = find (λ t. list_any (λ e. e.ev_txid == t) (d.queue queue).stored) d.part.running_ids
+
+-- the first trigger that puts events into a queue
+abbrev pub first_trigger_into : ℕ → List TableTrigger → Option TableTrigger
+first_trigger_into queue triggers = find (λ t. t.trigger.queue == queue) triggers
+
+-- a trigger's name, as a refusal shows it: empty where it has none
+abbrev pub shown_name : TableTrigger → List ℕ
+shown_name t = unwrap_or t.name []
+
+-- `drop_queue NAME`: a queue that nobody needs goes; one that is made anew under the name is another
+abbrev pub drop_queue : Database → List ℕ → Checked Outcome
+drop_queue d name = do
+  queue ← queue_called name d
+  refused_if (not (length (d.queue queue).members == 0)) (HasConsumers (length (d.queue queue).members))
+  refused_by (option_map (λ t. HasTriggers (shown_name t)) (first_trigger_into queue d.triggers))
+  refused_by (option_map QueueBusy (least_producer d queue))
+  does_marks (Number 1) (queued (dropped queue) ∷ [])
 
 -- the further texts of an event
 abbrev pub extra_of : (Extra → Option (List ℕ)) → Option Extra → Option (List ℕ)

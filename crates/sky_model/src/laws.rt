@@ -1,9 +1,11 @@
 //! The laws of the definitions: functions that do nothing, so that their contracts are proved.
 
 ghost use Rattle.sky_model.specs.LawsOfBatches.{BatchesAreConsecutive, BatchesListWhatStands, EqualIdsStay, EventsAreListedOnce, FinishedBatchesWereActive, IdsDontFall, ListingsStay};
+ghost use Rattle.sky_model.specs.LawsOfDaemons.{DaemonsHaveStarted, DaemonsWorkWhenDue, NextDueIsFirst};
 ghost use Rattle.sky_model.specs.LawsOfHistories.{HistoriesAreMadeByOwnCalls, HomesAreOpen, WaitersHaveOpen, BlocksAreOpen};
 ghost use Rattle.sky_model.specs.LawsOfLines.{BadWordIsLeast, LinesAreInForm};
 ghost use Rattle.sky_model.specs.LawsOfLocks.{DeadlocksAreRings, HoldersHaveWritten, NothingIsReady, WritersHaveWritten};
+ghost use Rattle.sky_model.specs.LawsOfQueues.{BusyQueuesStand, NewQueuesAreOthers, OtherQueuesKeepNothing, QueuesOfConsumersStand, QueuesOfTriggersStand, StandingQueuesKeepAll};
 ghost use Rattle.sky_model.specs.LawsOfRows.{RowsAreReadUnderSnapshots};
 ghost use Rattle.sky_model.specs.LawsOfSnapshots.{BatchesAreSelectedBySnapshots, SnapshotsSeeWhatHasEnded};
 ghost use Rattle.sky_model.specs.LawsOfWrites.{EventIdsFollowWrites, EventIdsRise, KeysAreWrittenInTurn, SnapshotsSeeEarlierWriters, StandingRowsFit, WritesAndCommitsHaveOneOrder, WritesAreTold, WritesNameWhatStands, WrittenRowsFit};
@@ -104,6 +106,19 @@ pub fn writes_name_what_stands()
     ensures rows { StandingRowsFit }
 {}
 
+/// At each such place a queue stands where a consumer is registered with it, where a trigger puts events into
+/// it, or where a transaction that hasn't ended has put one into it: none of these loses its queue. All events
+/// and ticks of a queue that stands are kept, and nothing of one that was dropped or is to be made. And the next
+/// queue that is made is none that was dropped, even where it gets the name of one.
+pub fn queues_in_use_stand()
+    ensures consumers { QueuesOfConsumersStand }
+    ensures triggers { QueuesOfTriggersStand }
+    ensures busy { BusyQueuesStand }
+    ensures kept { StandingQueuesKeepAll }
+    ensures gone { OtherQueuesKeepNothing }
+    ensures others { NewQueuesAreOthers }
+{}
+
 /// At each such place the batches that a consumer has finished are of its queue and its subscription,
 /// and lead from the tick at which it registered to its position: each begins where the one before
 /// closed, and closes at the next tick, which is made. Of a consumer that isn't registered there are none.
@@ -133,4 +148,14 @@ pub fn events_are_listed_once()
 pub fn listings_stay()
     ensures stay { ListingsStay }
     ensures were_active { FinishedBatchesWereActive }
+{}
+
+/// After calls of the world no daemon is on from a later moment on than the clock's. From there the next moment is
+/// the first one at which a part of the daemon of some database is due, and there is none exactly where none ever is.
+/// As the clock goes on, daemons do their work at each moment up to the new one at which a part of one is due, in
+/// rising order, and at no other.
+pub fn daemons_work_when_due()
+    ensures started { DaemonsHaveStarted }
+    ensures next { NextDueIsFirst }
+    ensures works { DaemonsWorkWhenDue }
 {}

@@ -101,6 +101,10 @@ pub enum Refusal {
     Duplicate,
     /// The sequence of the queue's event ids has ended.
     EventIdsSpent,
+    /// The queue has consumers, this many.
+    HasConsumers(u64),
+    /// A trigger of this name puts events into the queue.
+    HasTriggers(Text),
     /// The last tick, batch or subscription id was given.
     IdsSpent,
     /// The statement may not stand in a transaction block.
@@ -125,6 +129,8 @@ pub enum Refusal {
     NotOpen,
     /// The sum leaves the range of numbers in this column.
     OutOfRange(Text),
+    /// The transaction of this id runs, and has put an event into the queue.
+    QueueBusy(u64),
     /// No column may have this name.
     ReservedColumn(Text),
     /// The transaction of this id wrote the key; it hadn't committed at the block's sight, and has now.
@@ -172,6 +178,8 @@ impl Drop for Refusal {
             Refusal::Deadlock(_) => {}
             Refusal::Duplicate => {}
             Refusal::EventIdsSpent => {}
+            Refusal::HasConsumers(_) => {}
+            Refusal::HasTriggers(_) => {}
             Refusal::IdsSpent => {}
             Refusal::InTransaction => {}
             Refusal::KeyChange(_) => {}
@@ -184,6 +192,7 @@ impl Drop for Refusal {
             Refusal::NoTable(_) => {}
             Refusal::NotOpen => {}
             Refusal::OutOfRange(_) => {}
+            Refusal::QueueBusy(_) => {}
             Refusal::ReservedColumn(_) => {}
             Refusal::Serialize(_) => {}
             Refusal::TableBusy(_) => {}

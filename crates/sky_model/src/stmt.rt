@@ -215,6 +215,10 @@ pub enum Stmt {
     CreateQueue {
         queue: Text,
     },
+    /// `drop_queue NAME`
+    DropQueue {
+        queue: Text,
+    },
     /// `set_queue_config NAME RAW RAW`
     SetQueueConfig {
         queue: Text,
@@ -282,6 +286,7 @@ impl Drop for Stmt {
         match self {
             Stmt::Row(_) => {}
             Stmt::CreateQueue { queue: _ } => {}
+            Stmt::DropQueue { queue: _ } => {}
             Stmt::SetQueueConfig {
                 queue: _,
                 param: _,

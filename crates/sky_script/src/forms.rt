@@ -6,8 +6,8 @@ ghost use Rattle.sky_script.specs.Reading.{AnswersAmong, of_six, of_twelve, of_s
 use crate::cause::LineCause;
 use crate::clock_forms::{clock, pgqd};
 use crate::queue_forms::{
-    create_queue, finish_batch, force_tick, get_batch_events, insert_event, next_batch, queue_info,
-    register_consumer, set_queue_config, ticker,
+    create_queue, drop_queue, finish_batch, force_tick, get_batch_events, insert_event, next_batch,
+    queue_info, register_consumer, set_queue_config, ticker,
 };
 use crate::row_forms::{create_table, delete, get, insert, scan, update};
 use crate::session_forms::{alone, begin, open_db, txid_visible_in_snapshot};
@@ -142,6 +142,9 @@ fn read_other(alloc: Global, first: &[u8], words: &mut Words) -> Result<Stmt, Li
     }
     if first == b"set_queue_config".as_slice() {
         return set_queue_config(alloc, words);
+    }
+    if first == b"drop_queue".as_slice() {
+        return drop_queue(alloc, words);
     }
     Err(words.refused())
 }

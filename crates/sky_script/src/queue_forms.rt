@@ -19,6 +19,14 @@ pub(crate) fn create_queue(alloc: Global, words: &mut Words) -> Result<Stmt, Lin
     Ok(Stmt::CreateQueue { queue })
 }
 
+pub(crate) fn drop_queue(alloc: Global, words: &mut Words) -> Result<Stmt, LineCause>
+    ensures { Answers result (last Name (λ queue. Stmt.DropQueue queue)) words.old }
+{
+    let queue = words.name(alloc)?;
+    words.end()?;
+    Ok(Stmt::DropQueue { queue })
+}
+
 pub(crate) fn set_queue_config(alloc: Global, words: &mut Words) -> Result<Stmt, LineCause>
     ensures { let row = one Name (λ queue. one Raw (λ param.
         last Raw (λ value. Stmt.SetQueueConfig queue param value))) in

@@ -1,0 +1,185 @@
+-- What needs a queue finds it, and of one that doesn't stand nothing is kept.
+use Rattle.std.proofs.Common.{◌≡◌, ℕ, ◌<◌, List, [], ◌∷◌, ◌++◌, true, false, ◌==◌, ◌&&◌, bytes_eq, All, get_or, Option, Some, None, option_map, refl, sym, subst, ◌∙◌, ap, arith, if◌then◌else◌}
+use Rattle.std.specs.List.{list_any}
+use Rattle.std.proofs.lemmas.Bool.Decides.{nat_tests}
+use Rattle.std.proofs.lemmas.Bool.{eqb-true}
+use Rattle.std.proofs.lemmas.List.Elements.{All-nil, All-push, All-weaker}
+use Rattle.sky_val.specs.declared.event.Event.{Event}
+use Rattle.sky_txid.specs.Ids.{contains}
+use Rattle.sky_model.specs.History.{of_session, began, queued, registered, dropped, History}
+use Rattle.sky_model.specs.Transactions.{next_txid, running, snapshot}
+use Rattle.sky_model.specs.Config.{default_config}
+use Rattle.sky_model.specs.Queues.{NamedQueue, queues_made, queues, others_than, config, sequence, events, stored, kept_ticks}
+use Rattle.sky_model.specs.Consumers.{consumers, subscription_id, position, active}
+use Rattle.sky_model.specs.LawsOfQueues.{QueuesOfConsumersStand, QueuesOfTriggersStand, BusyQueuesStand, StandingQueuesKeepAll, OtherQueuesKeepNothing, NewQueuesAreOthers}
+use Rattle.sky_model.proofs.Legal.{IsAmong, IsQueue, begins, ends, makes, raises, puts, ticks_next, registers, configures, drops, Legal, start, next}
+use Rattle.sky_model.proofs.QueueNumbers.{among-before, among-others}
+use Rattle.sky_model.proofs.Snapshots.{sound, runs-below, contains-push, contains-filter}
+use Rattle.sky_model.proofs.StandingQueues.{whole, beyond, registered-stands}
+use Rattle.sky_model.proofs.LawfulTelling.{trigger-queues}
+use Rattle.sky_model.proofs.SnapshotLaws.{legal_place}
+use Rattle.sky_names.proofs.PlaceLemmas.{bytes_eq_refl}
+use Rattle.sky_model.proofs.Cases.{by_test, by_same}
+
+-- ---- running transactions
+
+-- the transaction of an event has got its id
+abbrev Begun : History → Event → Type 0
+Begun h e = e.ev_txid < next_txid h
+
+events-begun : (h : History) → Legal h → (q : ℕ) → All (Begun h) (events q h)
+events-begun [] start q = All-nil (Begun [])
+events-begun _ (next {h = h} l (begins who none)) q =
+    All-weaker (Begun h) (Begun (began (of_session who) (next_txid h) ∷ h)) (λ e lt. omega arith) (events q h) (events-begun h l q)
+events-begun _ (next {h = h} l (puts who p event i at mine newest)) q =
+    by_test (λ b. All (Begun h) (if b then events q h ++ event ∷ [] else events q h)) (p == q)
+    (λ _. All-push (Begun h) (events q h) event (events-begun h l q) (runs-below h (sound h l) event.ev_txid ((sound h l).owns who event.ev_txid mine))) (λ _. events-begun h l q)
+events-begun _ (next {h = h} l _) q = events-begun h l q
+
+-- the queue of an event stands while the event's transaction runs
+abbrev Needs : History → ℕ → Event → Type 0
+Needs h q e = contains e.ev_txid (running h) ≡ true → IsQueue h q
+
+running-stands : (h : History) → Legal h → (q : ℕ) → All (Needs h q) (events q h)
+running-stands [] start q = All-nil (Needs [] q)
+running-stands _ (next {h = h} l (begins who none)) q =
+    λ k e less runs. running-stands h l q k e less
+    (let begun : Begun h (get_or (events q h) k e) = events-begun h l q k e less in
+    grind (arith, nat_tests, contains-push (get_or (events q h) k e).ev_txid (next_txid h) (running h), runs, begun))
+running-stands _ (next {h = h} l (ends who t committed mine)) q =
+    λ k e less runs. running-stands h l q k e less (grind (arith, contains-filter (get_or (events q h) k e).ev_txid t (running h), runs))
+running-stands _ (next {h = h} l (makes name new)) q =
+    λ k e less runs. among-before (queues h) (record { number = queues_made h; name = name }) q (running-stands h l q k e less runs)
+running-stands _ (next {h = h} l (puts who p event i at mine newest)) q =
+    by_same (λ b. All (Needs h q) (if b then events q h ++ event ∷ [] else events q h)) p q
+    (λ same. All-push (Needs h q) (events q h) event (running-stands h l q) (λ _. subst (IsQueue h) same i)) (λ _. running-stands h l q)
+running-stands _ (next {h = h} l (drops p none untold idle)) q =
+    λ k e less runs.
+    let stands : IsQueue h q = running-stands h l q k e less runs in
+    among-others p (queues h) q stands
+    (by_same (λ b. b ≡ false) q p
+    (λ same. absurd (cc (sym runs ∙ (subst (All (λ x. contains x.ev_txid (running h) ≡ false)) ((whole h l q stands).all_events) (subst (λ n. All (λ x. contains x.ev_txid (running h) ≡ false) (stored n h)) (sym same) idle)) k e less)))
+    (λ _. refl))
+running-stands _ (next {h = h} l _) q = running-stands h l q
+
+-- ---- what is kept of other queues
+
+-- a queue that stands isn't one that doesn't
+apart : (all : List NamedQueue) (p q : ℕ) → IsAmong p all → list_any (λ x. x.number == q) all ≡ false → (p == q) ≡ false
+apart all p q is away = by_same (λ b. b ≡ false) p q (λ same. absurd (cc (sym is ∙ ap (λ n. list_any (λ x. x.number == n) all) same ∙ away))) (λ _. refl)
+
+-- one that doesn't stand once another was made didn't before
+away-before : (queues : List NamedQueue) (last : NamedQueue) (q : ℕ) → list_any (λ x. x.number == q) (queues ++ last ∷ []) ≡ false → list_any (λ x. x.number == q) queues ≡ false
+away-before queues last q away =
+    by_test (λ b. b ≡ false) (list_any (λ x. x.number == q) queues) (λ is. absurd (cc (sym away ∙ among-before queues last q is))) (λ _. refl)
+
+-- nor did one that isn't among the others than another
+away-others : (p : ℕ) (queues : List NamedQueue) (q : ℕ) → (p == q) ≡ false → list_any (λ x. x.number == q) (others_than p queues) ≡ false → list_any (λ x. x.number == q) queues ≡ false
+away-others p queues q other away =
+    by_test (λ b. b ≡ false) (list_any (λ x. x.number == q) queues) (λ is. absurd (cc (sym away ∙ among-others p queues q is (grind (arith, nat_tests, other))))) (λ _. refl)
+
+-- a queue without subscriptions has no consumers
+unsubscribed-empty : (h : History) (q : ℕ) → ((consumer : List ℕ) → subscription_id q consumer h ≡ None) → consumers q h ≡ []
+unsubscribed-empty [] q none = refl
+unsubscribed-empty (queued (registered p name sub tick) ∷ h) q none =
+    by_test (λ b. (p == q) ≡ b → (if b then consumers q h ++ name ∷ [] else consumers q h) ≡ []) (p == q)
+    (λ _ is. absurd (cc (sym (none name) ∙ ap (λ b. if b then Some sub else subscription_id q name h) (ap (λ b. b && bytes_eq name name) is ∙ bytes_eq_refl name))))
+    (λ _ other. unsubscribed-empty h q (λ c. sym (ap (λ b. if b && bytes_eq c name then Some sub else subscription_id q c h) other) ∙ none c)) refl
+unsubscribed-empty (_ ∷ h) q none = unsubscribed-empty h q none
+
+-- but for its subscriptions nothing is kept of such a queue
+record IsBare (h : History) (q : ℕ) : Type 0 where
+  unset : config q h ≡ default_config
+  no_id : sequence q h ≡ 0
+  no_event : stored q h ≡ []
+  no_tick : kept_ticks q h ≡ []
+  no_consumer : consumers q h ≡ []
+
+bare : (h : History) → Legal h → (q : ℕ) → list_any (λ x. x.number == q) (queues h) ≡ false → IsBare h q
+bare [] start q away = record { unset = refl; no_id = refl; no_event = refl; no_tick = refl; no_consumer = refl }
+bare _ (next {h = h} l (makes name new)) q away =
+    let b : IsBare h q = bare h l q (away-before (queues h) (record { number = queues_made h; name = name }) q away) in
+    record { unset = b.unset; no_id = b.no_id; no_event = b.no_event; no_tick = b.no_tick; no_consumer = b.no_consumer }
+bare _ (next {h = h} l (raises p value i le)) q away =
+    let b : IsBare h q = bare h l q away in
+    record { unset = b.unset; no_id = ap (λ c. if c then value else sequence q h) (apart (queues h) p q i away) ∙ b.no_id; no_event = b.no_event; no_tick = b.no_tick; no_consumer = b.no_consumer }
+bare _ (next {h = h} l (puts who p event i at mine newest)) q away =
+    let b : IsBare h q = bare h l q away in
+    record { unset = b.unset; no_id = b.no_id; no_event = ap (λ c. if c then stored q h ++ event ∷ [] else stored q h) (apart (queues h) p q i away) ∙ b.no_event; no_tick = b.no_tick; no_consumer = b.no_consumer }
+bare _ (next {h = h} l (ticks_next p id time seq i e)) q away =
+    let b : IsBare h q = bare h l q away in
+    record {
+      unset = b.unset;
+      no_id = b.no_id;
+      no_event = b.no_event;
+      no_tick = ap (λ c. if c then kept_ticks q h ++ record { id = id; time = time; snapshot = snapshot h; seq = seq } ∷ [] else kept_ticks q h) (apart (queues h) p q i away) ∙ b.no_tick;
+      no_consumer = b.no_consumer;
+    }
+bare _ (next {h = h} l (registers p name sub tick i none f g)) q away =
+    let b : IsBare h q = bare h l q away in
+    record { unset = b.unset; no_id = b.no_id; no_event = b.no_event; no_tick = b.no_tick; no_consumer = ap (λ c. if c then consumers q h ++ name ∷ [] else consumers q h) (apart (queues h) p q i away) ∙ b.no_consumer }
+bare _ (next {h = h} l (configures p c i)) q away =
+    let b : IsBare h q = bare h l q away in
+    record { unset = ap (λ t. if t then c else config q h) (apart (queues h) p q i away) ∙ b.unset; no_id = b.no_id; no_event = b.no_event; no_tick = b.no_tick; no_consumer = b.no_consumer }
+bare _ (next {h = h} l (drops p none untold idle)) q away =
+    by_test (λ b. (p == q) ≡ b → IsBare (queued (dropped p) ∷ h) q) (p == q)
+    (λ _ is. record {
+      unset = ap (λ c. if c then default_config else config q h) is;
+      no_id = ap (λ c. if c then 0 else sequence q h) is;
+      no_event = ap (λ c. if c then [] else stored q h) is;
+      no_tick = ap (λ c. if c then [] else kept_ticks q h) is;
+      no_consumer = unsubscribed-empty h q (λ c. ap (λ n. subscription_id n c h) (sym (eqb-true p q is)) ∙ none c);
+    })
+    (λ _ other.
+    let b : IsBare h q = bare h l q (away-others p (queues h) q other away) in
+    record {
+      unset = ap (λ c. if c then default_config else config q h) other ∙ b.unset;
+      no_id = ap (λ c. if c then 0 else sequence q h) other ∙ b.no_id;
+      no_event = ap (λ c. if c then [] else stored q h) other ∙ b.no_event;
+      no_tick = ap (λ c. if c then [] else kept_ticks q h) other ∙ b.no_tick;
+      no_consumer = b.no_consumer;
+    }) refl
+bare _ (next {h = h} l _) q away =
+    let b : IsBare h q = bare h l q away in
+    record { unset = b.unset; no_id = b.no_id; no_event = b.no_event; no_tick = b.no_tick; no_consumer = b.no_consumer }
+
+-- nor a subscription
+unsubscribed : (h : History) → Legal h → (q : ℕ) → list_any (λ x. x.number == q) (queues h) ≡ false → (consumer : List ℕ) → subscription_id q consumer h ≡ None
+unsubscribed h l q away consumer = of (subscription_id q consumer h) refl
+  where
+    of : (o : Option ℕ) → subscription_id q consumer h ≡ o → o ≡ None
+    of None is = refl
+    of (Some sub) is = absurd (cc (sym away ∙ registered-stands h l q consumer sub is))
+
+-- ---- the laws
+
+pub queues_of_consumers_stand : QueuesOfConsumersStand
+queues_of_consumers_stand p is = registered-stands p (legal_place p is)
+
+pub queues_of_triggers_stand : QueuesOfTriggersStand
+queues_of_triggers_stand p is = trigger-queues p (legal_place p is)
+
+pub busy_queues_stand : BusyQueuesStand
+busy_queues_stand p is queue = λ k e less unended.
+    let l : Legal p = legal_place p is in
+    let begun : Begun p (get_or (events queue p) k e) = events-begun p l queue k e less in
+    running-stands p l queue k e less (grind (arith, nat_tests, (sound p l).runs (get_or (events queue p) k e).ev_txid, begun, unended))
+
+pub standing_queues_keep_all : StandingQueuesKeepAll
+standing_queues_keep_all p is queue stands = let w = whole p (legal_place p is) queue stands in record { all_events = w.all_events; all_ticks = w.all_ticks }
+
+pub other_queues_keep_nothing : OtherQueuesKeepNothing
+other_queues_keep_nothing p is queue away =
+    let l : Legal p = legal_place p is in
+    let b : IsBare p queue = bare p l queue away in
+    record {
+      unset = b.unset;
+      no_id = b.no_id;
+      no_event = b.no_event;
+      no_tick = b.no_tick;
+      no_consumer = b.no_consumer;
+      unsubscribed = λ consumer. ap (option_map (λ id. record { id = id; position = position queue consumer p; active = active queue consumer p })) (unsubscribed p l queue away consumer);
+    }
+
+pub new_queues_are_others : NewQueuesAreOthers
+new_queues_are_others p is = let b = beyond p (legal_place p is) (queues_made p) (omega arith) in (b.events, b.ticks)

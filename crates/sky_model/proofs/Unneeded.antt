@@ -1,0 +1,42 @@
+-- What isn't there where nothing refuses that a queue is dropped: a consumer of it, a trigger into it, and an event of a
+-- running transaction in it.
+use Rattle.std.proofs.Common.{◌≡◌, ℕ, List, [], ◌∷◌, false, not, ◌==◌, ◌||◌, ◌∙◌, All, get_or, length, find, ap, Some, None, option_map, refl, arith, if◌then◌else◌}
+use Rattle.std.specs.List.{list_any}
+use Rattle.std.proofs.lemmas.Bool.Decides.{nat_tests}
+use Rattle.std.proofs.lemmas.List.{length-append}
+use Rattle.std.proofs.lemmas.List.Elements.{All-nil, All-cons}
+use Rattle.sky_model.specs.declared.reply.Refusal.TheVariants.{HasTriggers, QueueBusy}
+use Rattle.sky_val.specs.declared.event.Event.{Event}
+use Rattle.sky_txid.specs.Ids.{contains}
+use Rattle.sky_model.specs.History.{queued, registered, History}
+use Rattle.sky_model.specs.Triggers.{TableTrigger}
+use Rattle.sky_model.specs.Consumers.{consumers, subscription_id}
+use Rattle.sky_model.specs.StepQueue.{first_trigger_into, shown_name}
+use Rattle.sky_model.proofs.Cases.{by_test}
+
+-- a queue without consumers has none of any name
+pub no-member : (h : History) (q : ℕ) → not (length (consumers q h) == 0) ≡ false → (consumer : List ℕ) → subscription_id q consumer h ≡ None
+no-member [] q none consumer = refl
+no-member (queued (registered p name sub tick) ∷ h) q none consumer =
+    grind (arith, nat_tests, length-append (consumers q h) (name ∷ []), no-member h q, none)
+no-member (_ ∷ h) q none consumer = no-member h q none consumer
+
+-- triggers of which none is the first into a queue are all into others
+pub none-into : (q : ℕ) (triggers : List TableTrigger) → option_map (λ t. HasTriggers (shown_name t)) (first_trigger_into q triggers) ≡ None → All (λ t. (t.trigger.queue == q) ≡ false) triggers
+none-into q [] none = All-nil (λ (t : TableTrigger). (t.trigger.queue == q) ≡ false)
+none-into q (t ∷ ts) none =
+    by_test (λ b. (t.trigger.queue == q) ≡ b → option_map (λ t. HasTriggers (shown_name t)) (if b then Some t else first_trigger_into q ts) ≡ None → All (λ t. (t.trigger.queue == q) ≡ false) (t ∷ ts)) (t.trigger.queue == q)
+    (λ _ is none. absurd (cc)) (λ _ is none. All-cons (λ (t : TableTrigger). (t.trigger.queue == q) ≡ false) t ts is (none-into q ts none)) refl none
+
+-- events of which no running transaction has put one
+none-any : (t : ℕ) (es : List Event) → list_any (λ e. e.ev_txid == t) es ≡ false → All (λ e. (e.ev_txid == t) ≡ false) es
+none-any t [] none = All-nil (λ (e : Event). (e.ev_txid == t) ≡ false)
+none-any t (e ∷ es) none =
+    All-cons (λ (e : Event). (e.ev_txid == t) ≡ false) e es (grind (arith, none)) (none-any t es (grind (arith, none)))
+
+pub none-put : (es : List Event) (ts : List ℕ) → option_map QueueBusy (find (λ t. list_any (λ e. e.ev_txid == t) es) ts) ≡ None → All (λ e. contains e.ev_txid ts ≡ false) es
+none-put es [] none = λ k e less. refl
+none-put es (t ∷ ts) none =
+    by_test (λ b. list_any (λ e. e.ev_txid == t) es ≡ b → option_map QueueBusy (if b then Some t else find (λ u. list_any (λ e. e.ev_txid == u) es) ts) ≡ None → All (λ e. contains e.ev_txid (t ∷ ts) ≡ false) es)
+    (list_any (λ e. e.ev_txid == t) es) (λ _ is none. absurd (cc))
+    (λ _ is none. λ k e less. ap (λ b. b || contains (get_or es k e).ev_txid ts) (none-any t es is k e less) ∙ none-put es ts none k e less) refl none

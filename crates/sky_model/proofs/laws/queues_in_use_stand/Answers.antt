@@ -1,0 +1,20 @@
+use Rattle.sky_model.proofs.QueuesInUse as law
+use Rattle.sky_model.proofs.laws.queues_in_use_stand.Goals as goal
+
+pub returns-clause-consumers : goal.returns-clause-consumers
+returns-clause-consumers c = law.queues_of_consumers_stand
+
+pub returns-clause-triggers : goal.returns-clause-triggers
+returns-clause-triggers c = law.queues_of_triggers_stand
+
+pub returns-clause-busy : goal.returns-clause-busy
+returns-clause-busy c = law.busy_queues_stand
+
+pub returns-clause-kept : goal.returns-clause-kept
+returns-clause-kept c = law.standing_queues_keep_all
+
+pub returns-clause-gone : goal.returns-clause-gone
+returns-clause-gone c = law.other_queues_keep_nothing
+
+pub returns-clause-others : goal.returns-clause-others
+returns-clause-others c = law.new_queues_are_others

@@ -1,0 +1,50 @@
+-- The laws on which queues stand, and on what is kept of a queue: at each place of each history that calls make.
+use Rattle.std.specs.Prelude.{◌≡◌, ℕ, List, [], true, false, ◌==◌, Some, None, All}
+use Rattle.std.specs.List.{list_any}
+use Rattle.sky_model.specs.History.{History}
+use Rattle.sky_model.specs.Transactions.{has_ended}
+use Rattle.sky_model.specs.Config.{default_config}
+use Rattle.sky_model.specs.Queues.{queues_made, queues, config, sequence, events, stored, ticks, kept_ticks}
+use Rattle.sky_model.specs.Consumers.{consumers, subscription_id, subscription}
+use Rattle.sky_model.specs.Triggers.{triggers}
+use Rattle.sky_model.specs.HistoryPlaces.{IsPlace}
+
+-- a queue stands: it was made, and not dropped
+abbrev pub Stands : History → ℕ → Type 0
+Stands p queue = list_any (λ q. q.number == queue) (queues p) ≡ true
+
+-- a queue stands where a consumer is registered with it
+abbrev pub QueuesOfConsumersStand : Type 0
+QueuesOfConsumersStand = (p : History) → IsPlace p → (queue : ℕ) (consumer : List ℕ) (sub : ℕ) → subscription_id queue consumer p ≡ Some sub → Stands p queue
+
+-- or a trigger puts events into it
+abbrev pub QueuesOfTriggersStand : Type 0
+QueuesOfTriggersStand = (p : History) → IsPlace p → All (λ t. Stands p t.trigger.queue) (triggers p)
+
+-- or a transaction that hasn't ended has put one into it
+abbrev pub BusyQueuesStand : Type 0
+BusyQueuesStand = (p : History) → IsPlace p → (queue : ℕ) → All (λ e. has_ended p e.ev_txid ≡ false → Stands p queue) (events queue p)
+
+-- all that ever was put into a queue and made of it is kept
+pub record KeepsAll (p : History) (queue : ℕ) : Type 0 where
+  pub all_events : stored queue p ≡ events queue p
+  pub all_ticks : kept_ticks queue p ≡ ticks queue p
+
+abbrev pub StandingQueuesKeepAll : Type 0
+StandingQueuesKeepAll = (p : History) → IsPlace p → (queue : ℕ) → Stands p queue → KeepsAll p queue
+
+-- nothing is kept of a queue
+pub record KeepsNothing (p : History) (queue : ℕ) : Type 0 where
+  pub unset : config queue p ≡ default_config
+  pub no_id : sequence queue p ≡ 0
+  pub no_event : stored queue p ≡ []
+  pub no_tick : kept_ticks queue p ≡ []
+  pub no_consumer : consumers queue p ≡ []
+  pub unsubscribed : (consumer : List ℕ) → subscription queue consumer p ≡ None
+
+abbrev pub OtherQueuesKeepNothing : Type 0
+OtherQueuesKeepNothing = (p : History) → IsPlace p → (queue : ℕ) → list_any (λ q. q.number == queue) (queues p) ≡ false → KeepsNothing p queue
+
+-- into the next queue that is made nothing was put before, and no tick was made of it, whatever name it gets
+abbrev pub NewQueuesAreOthers : Type 0
+NewQueuesAreOthers = (p : History) → IsPlace p → (events (queues_made p) p ≡ []) × (ticks (queues_made p) p ≡ [])
