@@ -1,5 +1,5 @@
 -- What a database shows, after what the code changed in it.
-use Rattle.std.proofs.Common.{Err, is_ok, drop, ◌≡◌, ℕ, ℤ, ◌+◌, ◌<◌, ◌≤◌, ◌^◌, List, [], ◌∷◌, ◌++◌, Bool, true, false, nat_le, Option, Some, None, Result, Ok, IfOk, OnOk, IfSome, IfNone, is_some, length, append_assoc, get_or, option_map, refl, sym, ◌∙◌, ap, subst, arith, if◌then◌else◌, ◌↔◌}
+use Rattle.std.proofs.Common.{Err, is_ok, drop, ◌≡◌, ℕ, ℤ, ◌+◌, ◌<◌, ◌≤◌, ◌^◌, List, [], ◌∷◌, ◌++◌, Bool, true, false, nat_le, Option, Some, None, Result, Ok, IfOk, OnOk, IfSome, IfNone, is_some, length, append_assoc, get_or, option_map, refl, sym, ◌∙◌, ap, subst, arith, if◌then◌else◌, ◌↔◌, ◌==◌}
 use Rattle.std.proofs.lemmas.Bool.Decides.{nat_tests}
 use Rattle.std.proofs.lemmas.List.{drop_more}
 use Rattle.sky_val.specs.declared.event.Event.{Event}
@@ -13,13 +13,13 @@ use Rattle.sky_model.specs.StepTrigger.{has_trigger, may_ignore, add_trigger}
 use Rattle.sky_model.specs.declared.reply.Reply.TheVariants.{Done, Number, Events}
 use Rattle.sky_model.specs.declared.reply.Limit.TheVariants.{Queues, Triggers}
 use Rattle.sky_model.specs.declared.reply.Refusal.{Refusal}
-use Rattle.sky_model.specs.declared.reply.Refusal.TheVariants.{BadColumn, NoTable, TableBusy, TooMany, TriggerExists, NoBatch, EventIdsSpent, IdsSpent}
+use Rattle.sky_model.specs.declared.reply.Refusal.TheVariants.{BadColumn, HasConsumers, HasTriggers, NoTable, QueueBusy, TableBusy, TooMany, TriggerExists, NoBatch, EventIdsSpent, IdsSpent}
 use Rattle.sky_model.specs.declared.stmt.Stmt.{Stmt}
 use Rattle.sky_model.specs.declared.stmt.Where.{Where}
-use Rattle.sky_model.specs.History.{Mark, ended, looked, block_failed, tabled, wrote, queued, QueueMark, made, raised, put, ticked, closed, traced}
+use Rattle.sky_model.specs.History.{Mark, ended, looked, block_failed, tabled, wrote, queued, QueueMark, made, raised, put, ticked, closed, dropped, traced}
 use Rattle.sky_model.specs.Sessions.{Block, outside, inside}
 use Rattle.sky_model.specs.Queues.{queue_number}
-use Rattle.sky_model.specs.Triggers.{triggers_of}
+use Rattle.sky_model.specs.Triggers.{TableTrigger, triggers_of}
 use Rattle.sky_model.specs.Selection.{selected}
 use Rattle.sky_model.specs.StepConsumer.{finish_batch, finishes, get_batch_events}
 use Rattle.sky_model.specs.Printed.{EventsHaveMoments, ReplyHasMoments}
@@ -27,7 +27,7 @@ use Rattle.sky_model.specs.State.{RowPart, after_part_marks, Database, after_mar
 use Rattle.sky_model.specs.ShownRows.{snapshot_now}
 use Rattle.sky_model.specs.Outcome.{Outcome, Checked, ◌>>=◌, ◌>>◌, refused_if, refused_by, found_or, answers, does_marks, reply_of, end_of, aborts, abort, settled}
 use Rattle.sky_model.specs.OwnTransaction.{txid_for, begin_of, commit_of, written}
-use Rattle.sky_model.specs.StepQueue.{create_queue, insert_event, queue_called, next_event_id, made_event}
+use Rattle.sky_model.specs.StepQueue.{create_queue, drop_queue, first_trigger_into, shown_name, least_producer, insert_event, queue_called, next_event_id, made_event}
 use Rattle.sky_model.specs.Allowed.{where_of}
 use Rattle.sky_model.specs.Made.{Making, takes_sight, runs, looking, runs_if}
 use Rattle.sky_model.specs.Reader.{database_by_itself, within_part, shown_by}
@@ -202,6 +202,48 @@ gives-queue d s now who t name before after new room txid is pushed = subst (Run
         ap (λ found. if is_some found then answers (Number 0) else (refused_if (nat_le 64 (length d.queues)) (TooMany Queues) >> (txid_for d.part who >>= result))) new
         ∙ ap (λ b. refused_if b (TooMany Queues) >> (txid_for d.part who >>= result)) few
         ∙ ap (λ c. c >>= result) txid
+
+-- ---- a queue that is dropped, and why one isn't
+
+module _ (d : Database) (name : List ℕ) (q : ℕ) (found : queue_called name d ≡ Ok q) where
+  -- what is left once its number is known
+  untested : Checked Outcome
+  untested = refused_by (option_map (λ t. HasTriggers (shown_name t)) (first_trigger_into q d.triggers)) >> (refused_by (option_map QueueBusy (least_producer d q)) >> does_marks (Number 1) (queued (dropped q) ∷ []))
+
+  of_number : ℕ → Checked Outcome
+  of_number n =
+      refused_if (not (length (d.queue n).members == 0)) (HasConsumers (length (d.queue n).members))
+      >> (refused_by (option_map (λ t. HasTriggers (shown_name t)) (first_trigger_into n d.triggers)) >> (refused_by (option_map QueueBusy (least_producer d n)) >> does_marks (Number 1) (queued (dropped n) ∷ [])))
+
+  tested : (b : Bool) → (length (d.queue q).members == 0) ≡ b → drop_queue d name ≡ (refused_if (not b) (HasConsumers (length (d.queue q).members)) >> untested)
+  tested b is = ap (λ c. c >>= of_number) found ∙ ap (λ x. refused_if (not x) (HasConsumers (length (d.queue q).members)) >> untested) is
+
+  pub drop-consumers : (n : ℕ) → n ≡ length (d.queue q).members → 0 < n → drop_queue d name ≡ Err (HasConsumers n)
+  drop-consumers n is some =
+      let no : (length (d.queue q).members == 0) ≡ false = grind (arith, nat_tests) in
+      tested false no ∙ ap (λ m. Err (HasConsumers m)) (sym is)
+
+  unused : length (d.queue q).members ≡ 0 → drop_queue d name ≡ untested
+  unused none = let yes : (length (d.queue q).members == 0) ≡ true = grind (arith, nat_tests) in tested true yes
+
+  pub drop-triggers : (t : TableTrigger) (shown : List ℕ) → length (d.queue q).members ≡ 0 → Some t ≡ first_trigger_into q d.triggers → shown ≡ shown_name t → drop_queue d name ≡ Err (HasTriggers shown)
+  drop-triggers t shown none is named =
+      unused none
+      ∙ ap (λ o. refused_by (option_map (λ x. HasTriggers (shown_name x)) o) >> (refused_by (option_map QueueBusy (least_producer d q)) >> does_marks (Number 1) (queued (dropped q) ∷ []))) (sym is)
+      ∙ ap (λ n. Err (HasTriggers n)) (sym named)
+
+  untold : length (d.queue q).members ≡ 0 → first_trigger_into q d.triggers ≡ None → drop_queue d name ≡ (refused_by (option_map QueueBusy (least_producer d q)) >> does_marks (Number 1) (queued (dropped q) ∷ []))
+  untold none is =
+      unused none ∙ ap (λ o. refused_by (option_map (λ x. HasTriggers (shown_name x)) o) >> (refused_by (option_map QueueBusy (least_producer d q)) >> does_marks (Number 1) (queued (dropped q) ∷ []))) is
+
+  pub drop-busy : (t : ℕ) → length (d.queue q).members ≡ 0 → first_trigger_into q d.triggers ≡ None → Some t ≡ least_producer d q → drop_queue d name ≡ Err (QueueBusy t)
+  drop-busy t none is busy = untold none is ∙ ap (λ o. refused_by (option_map QueueBusy o) >> does_marks (Number 1) (queued (dropped q) ∷ [])) (sym busy)
+
+  pub gives-drop : (s : Database) (who : ℕ) (before after : List (ℕ × Reply)) → length (d.queue q).members ≡ 0 → first_trigger_into q d.triggers ≡ None → None ≡ least_producer d q
+      → s ≡ after_mark d (queued (dropped q)) → after ≡ before ++ (who, Number 1) ∷ [] → Runs d s before after who (drop_queue d name)
+  gives-drop s who before after none is idle changed pushed =
+      subst (Runs d s before after who) (sym (untold none is ∙ ap (λ o. refused_by (option_map QueueBusy o) >> does_marks (Number 1) (queued (dropped q) ∷ [])) (sym idle)))
+      (record { accepted = refl; replied = pushed; changed = changed }, tt)
 
 -- a database whose row part alone has changed
 pub part-as : (v now : DbView) (rows : RowStateView) (part : RowPart) → v ≡ now → seen rows ≡ part → seen_database (record v { rows = rows }) ≡ record (seen_database now) { part = part }

@@ -188,7 +188,10 @@ module _ (now : ℤ) (undone : List ℕ) where
       → Here (after_marks d (tabled (wrote (of_session who) t table key old new) ∷ told)) (after_part p (tabled (wrote (of_session who) t table key old new))) (passed event_rule q (tabled (wrote (of_session who) t table key old new)))
   wrote-alike d p q who t table key old new told is ok =
       subst (λ (s : Database). Here s (after_part p write) (passed event_rule q write)) (sym behind) (record {
-        whole = λ i. record (ap (λ x. after_mark x write) is.whole i) { queue = shown (stored i) };
+        whole = λ i. record (ap (λ x. after_mark x write) is.whole i) {
+          queues_made = (ap Database.queues_made is.whole ∙ sym (telling-length q.time t (events_at (traced_at q table) change) q.queues)) i;
+          queue = shown (stored i);
+        };
         time = is.time;
         noted = is.noted;
         tables = tables-kept p write (passed event_rule q write) is.tables;

@@ -1,5 +1,5 @@
 -- The queues that stand: their names and their numbers.
-use Rattle.std.proofs.Common.{◌≡◌, ℕ, zero, suc, ◌+◌, ◌<◌, ◌≤◌, List, [], ◌∷◌, ◌++◌, Bool, true, false, Option, Some, None, option_map, option_and_then, slice_get, get_or, length, length-append, bytes_eq, cond, refl, sym, ◌∙◌, ap, subst, arith, if◌then◌else◌, ◌==◌, not, filter}
+use Rattle.std.proofs.Common.{◌≡◌, ℕ, zero, suc, ◌+◌, ◌<◌, ◌≤◌, List, [], ◌∷◌, ◌++◌, Bool, true, false, Option, Some, None, option_map, option_and_then, slice_get, get_or, length, length-append, bytes_eq, cond, refl, sym, ◌∙◌, ap, subst, arith, if◌then◌else◌, ◌==◌, not}
 use Rattle.std.specs.List.{All, remove}
 use Rattle.std.proofs.lemmas.Bool.Decides.{nat_tests}
 use Rattle.std.proofs.lemmas.List.Elements.{All-cons, All-head, All-tail, All-append}

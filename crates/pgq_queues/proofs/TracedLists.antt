@@ -1,6 +1,6 @@
 -- The tables with triggers that a database keeps, after one of them changed.
 use Rattle.std.proofs.lemmas.List.{map-append, append-nil, get_or_read}
-use Rattle.std.proofs.Common.{◌≡◌, ℕ, zero, suc, ◌<◌, ◌≤◌, length-append, Bool, true, false, ◌==◌, List, [], ◌∷◌, ◌++◌, Option, Some, None, Result, Ok, Err, IfOk, OnErr, option_copied, Bor, IfSome, is_some, length, bytes_eq, get_or, slice_set, get_or-set_other, option_map, nat_cmp, cond, refl, sym, ◌∙◌, ap, subst, arith, if◌then◌else◌}
+use Rattle.std.proofs.Common.{◌≡◌, ℕ, zero, suc, ◌<◌, length-append, Bool, true, false, ◌==◌, List, [], ◌∷◌, ◌++◌, Option, Some, None, Result, Ok, Err, IfOk, OnErr, option_copied, Bor, IfSome, is_some, length, bytes_eq, get_or, slice_set, get_or-set_other, option_map, nat_cmp, cond, refl, sym, ◌∙◌, ap, subst, arith, if◌then◌else◌}
 use Rattle.std.proofs.lemmas.Bool.Decides.{nat_tests}
 use Rattle.std.proofs.lemmas.List.Elements.{All-cons, All-append, filter-append}
 use Rattle.std.proofs.lemmas.Option.{IfSome_then}
@@ -388,10 +388,10 @@ within-dropped names n place old new less batches triggers all named empty low a
       subst (λ (x : NamedView ℕ). AreNumbers x left) (sym named) (numbers-removed n place names old left within.0 low at stays),
       (
         (λ id. IfSome_then (kept batches id) (within.1.0 id) (λ b has.
-        let other = apart b.queue b.consumer has.1 in (
-          stays b.queue other has.0,
-          subst (λ (q : QueueView). is_some ((seen_queue q).sub b.consumer) ≡ true) (sym (gone-apart old n b.queue other)) has.1,
-        ))),
+            let other = apart b.queue b.consumer has.1 in (
+              stays b.queue other has.0,
+              subst (λ (q : QueueView). is_some ((seen_queue q).sub b.consumer) ≡ true) (sym (gone-apart old n b.queue other)) has.1,
+            ))),
         record {
           stand = λ k d lt.
               let other : n ≡ (get_or triggers k d).trigger.queue → ⊥ = λ e.

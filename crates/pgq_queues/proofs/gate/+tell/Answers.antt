@@ -1,6 +1,5 @@
 use Rattle.std.proofs.Common.{◌≡◌, ◌<◌, ◌+◌, List, length, sym, ◌∙◌, ap, subst, arith, option_copied, slice_set, get_or, to_z, of_z, w64}
 use Rattle.std.proofs.lemmas.Int.{to_z-of_z}
-use Rattle.sky_names.specs.Named.{NamedView}
 use Rattle.sky_urlenc.specs.RowEvents.{Trigger, RowEvent, leaves_out, event_of}
 use Rattle.sky_model.specs.Moment.{HasMoment}
 use Rattle.pgq_queues.specs.Views.{QueueView}

@@ -1,8 +1,7 @@
-use Rattle.std.proofs.Common.{ℕ, ◌<◌, List, Some, length, sym, ◌∙◌, subst, arith, option_copied, to_z, of_z, w64}
+use Rattle.std.proofs.Common.{◌<◌, List, Some, length, sym, ◌∙◌, subst, arith, option_copied, to_z, of_z, w64}
 use Rattle.std.specs.List.{All}
 use Rattle.std.proofs.lemmas.Int.{to_z-of_z}
 use Rattle.sky_model.specs.Triggers.{TableTrigger}
-use Rattle.sky_model.specs.Moment.{HasMoment}
 use Rattle.pgq_queues.specs.Seen.{Stands}
 use Rattle.pgq_queues.specs.Views.{QueuesView}
 use Rattle.pgq_queues.specs.EventRule.{events_at, sequences, ids_left}

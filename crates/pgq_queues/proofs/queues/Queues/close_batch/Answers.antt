@@ -1,4 +1,4 @@
-use Rattle.std.proofs.Common.{◌≡◌, None, IfSome, slice_set, sym, subst}
+use Rattle.std.proofs.Common.{None, IfSome, slice_set, sym, subst}
 use Rattle.sky_model.specs.State.{at_position}
 use Rattle.pgq_queues.specs.declared.batch.Batch.{Batch}
 use Rattle.pgq_queues.specs.Seen.{Stands}
@@ -23,9 +23,8 @@ pub invariant_of-self-2 : goal.invariant_of-self-2
 invariant_of-self-2 c =
     let has = subst (λ o. IfSome o (λ (b : Batch). Stands c.self.inside.slots b.queue × IsRegistered c.self.inside.slots b.queue b.consumer)) (sym c.in_ok-batch.ensures.value) (c.self.invariant.1.1.0 c.args.id) in
     let still : StillStand c.self.inside.slots (slice_set c.self.inside.slots c.in_ok-batch.batch.queue c.close_batch.new.self) = stand-set c.self.inside.slots c.in_ok-batch.batch.queue c.get_mut.result.now c.close_batch.new.self has.0 c.get_mut.ensures.within c.get_mut.ensures.value
-        (stays-sub _ _ c.in_ok-batch.batch.consumer (at_position c.in_ok-batch.batch.cur) c.close_batch.ensures.subs c.close_batch.ensures.but) in
-    let within = within-still c.self.inside.names c.self.inside.slots (slice_set c.self.inside.slots c.in_ok-batch.batch.queue c.close_batch.new.self) c.self.inside.batches.entries c.self.inside.triggers.items c.self.inside.traced.entries still c.self.invariant.1 in
-    (
+    (stays-sub _ _ c.in_ok-batch.batch.consumer (at_position c.in_ok-batch.batch.cur) c.close_batch.ensures.subs c.close_batch.ensures.but) in
+    let within = within-still c.self.inside.names c.self.inside.slots (slice_set c.self.inside.slots c.in_ok-batch.batch.queue c.close_batch.new.self) c.self.inside.batches.entries c.self.inside.triggers.items c.self.inside.traced.entries still c.self.invariant.1 in (
       c.self.invariant.0,
       (within.0, (batches-updated (slice_set c.self.inside.slots c.in_ok-batch.batch.queue c.close_batch.new.self) c.self.inside.batches.entries c.remove.new.self.entries c.args.id None c.remove.ensures.updates.0 tt within.1.0, within.1.1)),
     )

@@ -1,4 +1,4 @@
-use Rattle.std.proofs.Common.{◌≡◌, ℕ, List, [], Some, false, ◌==◌, slice_get, get_or, ◌∙◌, ap, sym, subst}
+use Rattle.std.proofs.Common.{◌≡◌, [], false, ◌==◌, get_or, ◌∙◌, ap, sym, subst}
 use Rattle.std.specs.List.{All}
 use Rattle.sky_model.specs.Triggers.{TableTrigger}
 use Rattle.pgq_queues.specs.Views.{QueuesView}
@@ -21,8 +21,7 @@ invariant_of-self c =
     let at = number-there _ _ c.args.name.now c.in-Some.place c.args.number c.self.view_is c.self.invariant.1.0.each c.in-Some.ensures.number c.requires.found in
     let none : (seen_queue (get_or c.self.inside.slots c.args.number no_queue)).members ≡ [] = ap (λ (w : QueuesView). (queue_at w c.args.number).members) c.self.view_is ∙ c.requires.consumers in
     let untold : All (λ (t : TableTrigger). (t.trigger.queue == c.args.number) ≡ false) c.self.inside.triggers.items =
-    subst (λ (w : QueuesView). All (λ (t : TableTrigger). (t.trigger.queue == c.args.number) ≡ false) w.triggers) (sym c.self.view_is) c.requires.triggers in
-    (
+    subst (λ (w : QueuesView). All (λ (t : TableTrigger). (t.trigger.queue == c.args.number) ≡ false) w.triggers) (sym c.self.view_is) c.requires.triggers in (
       c.self.invariant.0,
       within-dropped c.self.inside.names c.args.number c.in-Some.place c.self.inside.slots c.remove-2.new.self c.remove.new.self c.self.inside.batches.entries c.self.inside.triggers.items c.self.inside.traced.entries
           c.remove.ensures c.remove-2.ensures c.in-Some.ensures.within at none untold c.self.invariant.1,

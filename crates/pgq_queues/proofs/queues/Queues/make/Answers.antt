@@ -1,4 +1,4 @@
-use Rattle.std.proofs.Common.{◌≡◌, ℕ, ℤ, w64, length, arith, ap, sym, subst, refl, ◌∙◌, [], ◌∷◌}
+use Rattle.std.proofs.Common.{ℕ, ℤ, w64, length, arith, ap, sym, subst, refl, ◌∙◌, [], ◌∷◌}
 use Rattle.std.proofs.lemmas.Int.{to_z-of_z}
 use Rattle.sky_names.specs.Named.{NamedView}
 use Rattle.sky_model.specs.Config.{default_config}

@@ -1,4 +1,4 @@
-use Rattle.std.proofs.Common.{rules, ◌≡◌, ◌<◌, None, sym, arith, length, ◌∙◌}
+use Rattle.std.proofs.Common.{rules, ◌≡◌, None, ◌∙◌}
 use Rattle.pgq_queues.proofs.NumberedQueues.{number-found, number-none, stands-at}
 use Rattle.pgq_queues.proofs.queues.Queues.number.Goals as goal
 

@@ -1,4 +1,4 @@
-use Rattle.std.proofs.Common.{◌≡◌, ◌<◌, length, arith}
+use Rattle.std.proofs.Common.{arith}
 use Rattle.pgq_queues.proofs.NumberedQueues.{length-shown, number-at, stands-at}
 use Rattle.pgq_queues.proofs.queues.Queues.number_at.Goals as goal
 

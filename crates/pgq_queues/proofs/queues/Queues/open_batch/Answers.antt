@@ -1,4 +1,4 @@
-use Rattle.std.proofs.Common.{◌≡◌, Some, slice_set, sym, subst}
+use Rattle.std.proofs.Common.{Some, slice_set, sym, subst}
 use Rattle.sky_model.specs.State.{with_batch}
 use Rattle.pgq_queues.specs.Batches.{StillStand, BatchesWithin}
 use Rattle.pgq_queues.proofs.Marked.{subs-changed, opened-as}
@@ -20,8 +20,7 @@ invariant_of-self-2 c =
     let stands = stands-kept _ _ c.args.batch.queue c.self.view_is c.requires.queue in
     let registered = registered-kept _ _ c.args.batch.queue c.args.batch.consumer c.self.view_is c.requires.registered in
     let still : StillStand c.self.inside.slots (slice_set c.self.inside.slots c.args.batch.queue c.open_batch.new.self) = stand-set c.self.inside.slots c.args.batch.queue c.get_mut.result.now c.open_batch.new.self (stands-kept _ _ c.args.batch.queue c.self.view_is c.requires.queue) c.get_mut.ensures.within c.get_mut.ensures.value (stays-sub _ _ c.args.batch.consumer (with_batch c.args.id) c.open_batch.ensures.subs c.open_batch.ensures.but) in
-    let within = within-still c.self.inside.names c.self.inside.slots (slice_set c.self.inside.slots c.args.batch.queue c.open_batch.new.self) c.self.inside.batches.entries c.self.inside.triggers.items c.self.inside.traced.entries still c.self.invariant.1 in
-    (
+    let within = within-still c.self.inside.names c.self.inside.slots (slice_set c.self.inside.slots c.args.batch.queue c.open_batch.new.self) c.self.inside.batches.entries c.self.inside.triggers.items c.self.inside.traced.entries still c.self.invariant.1 in (
       c.self.invariant.0,
       (
         within.0,

@@ -1,6 +1,5 @@
-use Rattle.std.proofs.Common.{rules, ◌<◌, Some, is_some, length, sym, ap, subst}
+use Rattle.std.proofs.Common.{rules, Some, is_some, sym, ap}
 use Rattle.sky_model.specs.Triggers.{TableTrigger}
-use Rattle.pgq_queues.specs.Views.{QueuesView}
 use Rattle.pgq_queues.proofs.TracedLists.{Updated, traced-kept, traced-more, stands-kept}
 use Rattle.pgq_queues.proofs.queues.Queues.store_trigger.Goals as goal
 
@@ -15,7 +14,7 @@ invariant_of-self-in_err-add-in-Some c =
         (
           c.self.invariant.1.1.0,
           traced-kept c.self.inside.slots c.reserve.new.self.items c.self.inside.triggers.items old new c.trigger.inside.table c.add.new.self c.in-Some.table.now
-            c.in_ok-reserve.ensures.items updates c.in-Some.ensures.value c.in_err-add-in-Some.ensures.err c.self.invariant.1.1.1,
+              c.in_ok-reserve.ensures.items updates c.in-Some.ensures.value c.in_err-add-in-Some.ensures.err c.self.invariant.1.1.1,
         ),
       ),
     )
@@ -32,8 +31,8 @@ invariant_of-self-2 c =
         (
           c.self.invariant.1.1.0,
           traced-more c.self.inside.slots c.self.inside.triggers.items c.reserve.new.self.items c.push_reserved.new.self.items c.args.trigger old new c.trigger.inside.table c.len-place.result
-            c.add.new.self c.in-Some.table.now c.in_ok-reserve.ensures.items c.push_reserved.ensures.items updates (sym (ap TableTrigger.table c.trigger.view_is)) c.in-Some.ensures.value c.in_ok-add-in-Some.ensures.ok (search rules) low
-            c.self.invariant.1.1.1,
+              c.add.new.self c.in-Some.table.now c.in_ok-reserve.ensures.items c.push_reserved.ensures.items updates (sym (ap TableTrigger.table c.trigger.view_is)) c.in-Some.ensures.value c.in_ok-add-in-Some.ensures.ok (search rules) low
+              c.self.invariant.1.1.1,
         ),
       ),
     )

@@ -1,4 +1,4 @@
-use Rattle.std.proofs.Common.{◌≡◌, ℕ, slice_set}
+use Rattle.std.proofs.Common.{slice_set}
 use Rattle.pgq_queues.proofs.TracedLists.{stays-tick, stand-set, within-still, stands-kept}
 use Rattle.pgq_queues.proofs.queues.Queues.tick.Goals as goal
 
