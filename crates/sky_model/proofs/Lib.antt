@@ -38,6 +38,7 @@ pub mod Turns
 pub mod DaemonTurns
 pub mod PastHistories
 pub mod ClockSteps
+mod DueMoments
 pub mod Lawful
 pub mod Histories
 pub mod Promised

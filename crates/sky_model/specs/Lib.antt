@@ -51,6 +51,7 @@ pub mod LawsOfLocks
 pub mod LawsOfWrites
 pub mod Steps
 pub mod LawsOfHistories
+pub mod LawsOfDaemons
 pub mod RowSteps
 pub mod DatabaseSteps
 pub mod Moment

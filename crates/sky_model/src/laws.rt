@@ -1,6 +1,7 @@
 //! The laws of the definitions: functions that do nothing, so that their contracts are proved.
 
 ghost use Rattle.sky_model.specs.LawsOfBatches.{BatchesAreConsecutive, BatchesListWhatStands, EqualIdsStay, EventsAreListedOnce, FinishedBatchesWereActive, IdsDontFall, ListingsStay};
+ghost use Rattle.sky_model.specs.LawsOfDaemons.{DaemonsHaveStarted, DaemonsWorkWhenDue, NextDueIsFirst};
 ghost use Rattle.sky_model.specs.LawsOfHistories.{HistoriesAreMadeByOwnCalls, HomesAreOpen, WaitersHaveOpen, BlocksAreOpen};
 ghost use Rattle.sky_model.specs.LawsOfLines.{BadWordIsLeast, LinesAreInForm};
 ghost use Rattle.sky_model.specs.LawsOfLocks.{DeadlocksAreRings, HoldersHaveWritten, NothingIsReady, WritersHaveWritten};
@@ -147,4 +148,14 @@ pub fn events_are_listed_once()
 pub fn listings_stay()
     ensures stay { ListingsStay }
     ensures were_active { FinishedBatchesWereActive }
+{}
+
+/// After calls of the world no daemon is on from a later moment on than the clock's. From there the next moment is
+/// the first one at which a part of the daemon of some database is due, and there is none exactly where none ever is.
+/// As the clock goes on, daemons do their work at each moment up to the new one at which a part of one is due, in
+/// rising order, and at no other.
+pub fn daemons_work_when_due()
+    ensures started { DaemonsHaveStarted }
+    ensures next { NextDueIsFirst }
+    ensures works { DaemonsWorkWhenDue }
 {}

@@ -1,5 +1,6 @@
 ghost use Rattle.std.specs.Prelude.{◌≡◌, ◌-◌, ◌^◌, ◌<◌, [], ◌∷◌, ◌++◌, None, IfOk, IfSome, OnOk, OnErr, length, slice_index_or};
 ghost use Rattle.std.specs.Borrow.{Lends, sem};
+ghost use Rattle.std.specs.List.{remove};
 ghost use Rattle.sky_names.specs.Places.{place_of, Distinct};
 ghost use Rattle.sky_names.specs.Named.{with_value, value_of};
 
@@ -99,5 +100,16 @@ impl<V> Named<V> {
         let number = self.names.add(name)?;
         self.values.push_reserved(value);
         Ok(number)
+    }
+
+    /// Takes the value of this number out, with its name. Each value after it has a number one less from now on.
+    pub fn remove(&mut self, number: usize)
+    where
+        V: Drop,
+        requires { number < length self.old.names }
+        ensures { self.new ≡ record { names = remove self.old.names number; values = remove self.old.values number } }
+    {
+        self.names.remove(number);
+        self.values.remove(number);
     }
 }

@@ -1,4 +1,5 @@
 ghost use Rattle.std.specs.Prelude.{◌≡◌, ◌-◌, ◌^◌, ◌<◌, ◌↔◌, [], ◌∷◌, ◌++◌, length, true, Some, IsTrue, IfOk, OnOk, OnErr};
+ghost use Rattle.std.specs.List.{remove};
 ghost use Rattle.sky_names.specs.Places.{place_of, Distinct};
 
 use indexmap::IndexSet;
@@ -74,6 +75,15 @@ impl Names {
         self.texts.insert(name)?;
         self.hints[place] = number;
         Ok(number)
+    }
+
+    /// Takes the name at this place out. Each name after it has a number one less from now on.
+    pub fn remove(&mut self, place: usize)
+        requires { place < length self.old }
+        ensures { self.new ≡ remove self.old place }
+    {
+        // The hints stay, since each is compared with the name that is looked for.
+        self.texts.shift_remove_index(place);
     }
 
     /// How many names there are.
