@@ -19,6 +19,7 @@ pub mod Marks
 pub mod Legal
 pub mod QueueNumbers
 pub mod StandingQueues
+mod Members
 pub mod Unneeded
 pub mod Snapshots
 pub mod Ticks
