@@ -7,6 +7,7 @@ mod WorkedDrops
 mod WorkedOpening
 mod WorkedRows
 mod WorkedBatches
+mod WorkedLives
 pub mod Cases
 pub mod FirstWords
 pub mod NameLemmas
