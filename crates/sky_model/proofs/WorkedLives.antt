@@ -140,3 +140,29 @@ ticks_legal : Legal ticks_made
 ticks_legal =
     next (next (next (next (next (next (next (next (next start (makes (codes "q") refl)) (ticks_next 0 1 (pos 0) 0 refl (omega arith))) (ticks_next 0 2 (pos 0) 0 refl (omega arith)))
     (begins 0 refl)) (raises 0 1 refl (omega arith))) (puts 0 0 event refl refl refl (All-nil (λ (e : Event). e.ev_id < 1)))) (ends 0 3 true refl)) (ticks_next 0 3 (pos 0) 1 refl (omega arith))) (ticks_next 0 4 (pos 0) 1 refl (omega arith))
+
+-- a batch of the second consumer is made, and finished
+served : (h : History) (id prev cur : ℕ) → Opens h (of_w id prev cur) → active_batch id (queued (opened (of_w id prev cur)) ∷ h) ≡ Some (of_w id prev cur) → Legal h
+    → Legal (queued (closed (of_w id prev cur)) ∷ queued (opened (of_w id prev cur)) ∷ h)
+served h id prev cur o is l = next (next l (opens (of_w id prev cur) o)) (closes (of_w id prev cur) is)
+
+both_legal : Legal both_have
+both_legal =
+    next (next (served _ 1 2 3 (record { within = refl; stands = refl; fresh = omega arith; closing = _; made = refl; to = refl }) refl
+    (next (next ticks_legal (registers 0 v 1 1 refl refl (omega arith) (omega arith))) (registers 0 w 2 2 refl refl (omega arith) (omega arith))))
+    (opens (of_w 2 3 4) (record { within = refl; stands = refl; fresh = omega arith; closing = _; made = refl; to = refl })))
+    (opens (of_v 3 1 1 2) (record { within = refl; stands = refl; fresh = omega arith; closing = _; made = refl; to = refl }))
+
+back_legal : Legal back
+back_legal = next both_legal (moves 0 w 2 1 refl refl (omega arith) (omega arith))
+
+again_legal : Legal again
+again_legal =
+    served _ 5 2 3 (record { within = refl; stands = refl; fresh = omega arith; closing = _; made = refl; to = refl }) refl
+    (served _ 4 1 2 (record { within = refl; stands = refl; fresh = omega arith; closing = _; made = refl; to = refl }) refl back_legal)
+
+forward_legal : Legal forward
+forward_legal = next again_legal (moves 0 w 2 4 refl refl (omega arith) (omega arith))
+
+anew_legal : Legal anew
+anew_legal = next (next both_legal (unregisters 0 v 1 refl refl)) (registers 0 v 3 4 refl refl (omega arith) (omega arith))
