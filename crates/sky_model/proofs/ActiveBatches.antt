@@ -1,12 +1,12 @@
 -- An active batch is its consumer's, begins where the consumer stands and closes at the next tick.
-use Rattle.std.proofs.Common.{◌≡◌, ℕ, ◌+◌, List, [], ◌∷◌, Bool, true, ◌&&◌, ◌==◌, Option, Some, None, unwrap_or, option_map, is_some, bytes_eq, refl, sym, ◌∙◌, ap, subst, arith, if◌then◌else◌}
+use Rattle.std.proofs.Common.{◌≡◌, ℕ, ◌+◌, List, [], ◌∷◌, Bool, true, false, ◌&&◌, ◌==◌, Option, Some, None, unwrap_or, option_map, is_some, bytes_eq, refl, sym, ◌∙◌, ap, subst, arith, if◌then◌else◌}
 use Rattle.std.proofs.lemmas.Bool.{and_parts, or_right}
 use Rattle.std.proofs.lemmas.Bool.Decides.{nat_tests}
 use Rattle.sky_names.proofs.PlaceLemmas.{bytes_eq_refl, same_name}
 use Rattle.sky_model.specs.History.{Batch, History}
 use Rattle.sky_model.specs.Queues.{Tick, tick, ticks}
-use Rattle.sky_model.specs.Consumers.{subscription_id, position, active, Subscription, active_batch}
-use Rattle.sky_model.proofs.Legal.{Opens, ticks_next, registers, opens, closes, Legal, start, next}
+use Rattle.sky_model.specs.Consumers.{subscription_id, position, active, Subscription, of_another, active_batch}
+use Rattle.sky_model.proofs.Legal.{Opens, ticks_next, registers, moves, unregisters, opens, closes, Legal, start, next}
 use Rattle.sky_model.proofs.TickOrder.{is_made, is_made-tick}
 use Rattle.sky_model.proofs.Cases.{by_test, by_same}
 
@@ -37,6 +37,15 @@ subscription_parts (Some n) position active s e =
 tick-id : (id : ℕ) (ts : List Tick) (t : Tick) → tick id ts ≡ Some t → t.id ≡ id
 tick-id id [] t e = absurd (cc)
 tick-id id (u ∷ ts) t e = grind (arith, nat_tests, tick-id id ts t)
+
+-- a batch that isn't given up was there, and isn't the consumer's
+pub of_another-is : (q : ℕ) (name : List ℕ) (o : Option Batch) (b : Batch) → of_another q name o ≡ Some b
+    → (o ≡ Some b) × ((q == b.queue && bytes_eq b.consumer name) ≡ false)
+of_another-is q name None b is = absurd (cc)
+of_another-is q name (Some c) b is =
+    by_test (λ x. (q == c.queue && bytes_eq c.consumer name) ≡ x → (if x then None else Some c) ≡ Some b → (Some c ≡ Some b) × ((q == b.queue && bytes_eq b.consumer name) ≡ false))
+    (q == c.queue && bytes_eq c.consumer name) (λ _ _ is. absurd (cc))
+    (λ _ other is. (is, ap (λ o. q == (unwrap_or o c).queue && bytes_eq (unwrap_or o c).consumer name) (sym is) ∙ other)) refl is
 
 -- what an active batch is, by what is read of its consumer
 pub record IsActiveFor (sub : Option ℕ) (active : Option ℕ) (position : ℕ) (made : Bool) (id : ℕ) (b : Batch) : Type 0 where
@@ -74,6 +83,14 @@ active_batches _ (next {h = h} l (registers p name sub t i none f g)) id b is =
     let a : IsActive h id b = active_batches h l id b is in
     by_test (λ x. IsActiveFor (if x then Some sub else subscription_id b.queue b.consumer h) (if x then None else active b.queue b.consumer h) (if x then t else position b.queue b.consumer h) (is_made b.queue b.cur h) id b)
     (p == b.queue && bytes_eq b.consumer name) (λ test. absurd (cc (sym a.owned ∙ same_consumer (λ q c. subscription_id q c h) p b.queue name b.consumer test ∙ none))) (λ _. a)
+active_batches _ (next {h = h} l (moves p name sub t i has least most)) id b is =
+    let stays = of_another-is p name (active_batch id h) b is in
+    subst (λ x. IsActiveFor (subscription_id b.queue b.consumer h) (if x then None else active b.queue b.consumer h) (if x then t else position b.queue b.consumer h) (is_made b.queue b.cur h) id b)
+    (sym stays.1) (active_batches h l id b stays.0)
+active_batches _ (next {h = h} l (unregisters p name sub i has)) id b is =
+    let stays = of_another-is p name (active_batch id h) b is in
+    subst (λ x. IsActiveFor (if x then None else subscription_id b.queue b.consumer h) (if x then None else active b.queue b.consumer h) (if x then 0 else position b.queue b.consumer h) (is_made b.queue b.cur h) id b)
+    (sym stays.1) (active_batches h l id b stays.0)
 active_batches _ (next {h = h} l (opens new o)) id b is =
     by_same (λ x. (if x then Some new else active_batch id h) ≡ Some b → Now b) new.id id opened_now (λ _ is. old (active_batches h l id b is)) is
   where

@@ -1,10 +1,10 @@
--- The batches that a consumer finishes lead from the tick at which it registered to its position.
-use Rattle.std.proofs.Common.{◌≡◌, ℕ, ◌+◌, List, [], ◌∷◌, ◌++◌, Bool, true, ◌&&◌, ◌||◌, ◌==◌, Option, Some, bytes_eq, refl, sym, ◌∙◌, subst, if◌then◌else◌}
+-- The batches that a consumer has finished since its life began lead from the tick where it began to its position.
+use Rattle.std.proofs.Common.{◌≡◌, ℕ, ◌+◌, List, [], ◌∷◌, ◌++◌, Bool, true, ◌&&◌, ◌||◌, ◌==◌, Option, Some, None, bytes_eq, refl, sym, ◌∙◌, subst, if◌then◌else◌}
 use Rattle.std.proofs.lemmas.Bool.{or_right}
 use Rattle.sky_model.specs.History.{Batch, History}
 use Rattle.sky_model.specs.Consumers.{subscription_id, position}
 use Rattle.sky_model.specs.LawsOfBatches.{first_tick, finished, Lead, BatchesAreConsecutive}
-use Rattle.sky_model.proofs.Legal.{ticks_next, registers, closes, Legal, start, next}
+use Rattle.sky_model.proofs.Legal.{ticks_next, registers, moves, unregisters, closes, Legal, start, next}
 use Rattle.sky_model.proofs.SnapshotLaws.{legal_place}
 use Rattle.sky_model.proofs.TickOrder.{is_made, is_made-tick}
 use Rattle.sky_model.proofs.ActiveBatches.{same_consumer, IsActive, active_batches}
@@ -52,6 +52,12 @@ finished_lead _ (next {h = h} l (ticks_next p m time seq i e)) queue consumer =
 finished_lead _ (next {h = h} l (registers p name sub t i none f g)) queue consumer =
     by_test (λ x. LeadFor queue consumer (if x then Some sub else subscription_id queue consumer h) (λ t. is_made queue t h)
     (if x then t else first_tick queue consumer h) (if x then [] else finished queue consumer h) (if x then t else position queue consumer h)) (p == queue && bytes_eq consumer name) (λ _. refl) (λ _. finished_lead h l queue consumer)
+finished_lead _ (next {h = h} l (moves p name sub t i has least most)) queue consumer =
+    by_test (λ x. LeadFor queue consumer (subscription_id queue consumer h) (λ t. is_made queue t h)
+    (if x then t else first_tick queue consumer h) (if x then [] else finished queue consumer h) (if x then t else position queue consumer h)) (p == queue && bytes_eq consumer name) (λ _. refl) (λ _. finished_lead h l queue consumer)
+finished_lead _ (next {h = h} l (unregisters p name sub i has)) queue consumer =
+    by_test (λ x. LeadFor queue consumer (if x then None else subscription_id queue consumer h) (λ t. is_made queue t h)
+    (if x then 0 else first_tick queue consumer h) (if x then [] else finished queue consumer h) (if x then 0 else position queue consumer h)) (p == queue && bytes_eq consumer name) (λ _. refl) (λ _. finished_lead h l queue consumer)
 finished_lead _ (next {h = h} l (closes b e)) queue consumer =
     let ih = finished_lead h l queue consumer in
     let a : IsActive h b.id b = active_batches h l b.id b e in

@@ -1,9 +1,10 @@
 -- Marks with marks of events among them: what they leave of a database beside its queues.
 use Rattle.std.proofs.Common.{◌≡◌, ℕ, ◌+◌, Bool, false, List, [], ◌∷◌, ◌++◌, Option, Some, None, refl, ◌||◌, ◌==◌, true}
 use Rattle.sky_val.specs.declared.event.Event.{Event}
-use Rattle.sky_model.specs.History.{Batch, Mark, ended, queued, made, raised, put, ticked, registered, opened, closed, traced, configured, dropped}
+use Rattle.sky_model.specs.History.{Batch, Mark, ended, queued, made, raised, put, ticked, registered, moved, unregistered, opened, closed, traced, configured, dropped}
 use Rattle.sky_model.specs.Triggers.{TableTrigger}
 use Rattle.sky_model.specs.Queues.{NamedQueue, others_than}
+use Rattle.sky_model.specs.Consumers.{of_another}
 use Rattle.sky_model.specs.State.{RowPart, after_part, Database, changed_at, after_mark, after_marks}
 
 -- the second marks are the first ones with ids taken and events stored in between
@@ -50,6 +51,8 @@ beside-mark d e (queued (raised queue value)) same = same
 beside-mark d e (queued (put queue event)) same = same
 beside-mark d e (queued (ticked queue id time seq)) same = same
 beside-mark d e (queued (registered queue name id tick)) same = λ i. record (same i) { last_sub_id = id }
+beside-mark d e (queued (moved queue name tick)) same = λ i. record (same i) { batch = λ id. of_another queue name ((same i).batch id) }
+beside-mark d e (queued (unregistered queue name)) same = λ i. record (same i) { batch = λ id. of_another queue name ((same i).batch id) }
 beside-mark d e (queued (opened b)) same = λ i. record (same i) { last_batch_id = b.id; batch = changed_at b.id (λ _. Some b) (same i).batch }
 beside-mark d e (queued (closed b)) same = λ i. record (same i) { batch = changed_at b.id (λ _. None) (same i).batch }
 beside-mark d e (queued (configured queue config)) same = same

@@ -11,7 +11,7 @@ use Rattle.sky_model.specs.declared.reply.Limit.TheVariants.{Queues, Triggers}
 use Rattle.sky_model.specs.declared.reply.Refusal.TheVariants.{BadColumn, BadValue, HasConsumers, HasTriggers, NoParam, NoQueue, NoTable, QueueBusy, TableBusy, TooMany, TriggerExists, TxidsSpent, EventIdsSpent, NoConsumer}
 use Rattle.sky_keys.specs.Waits.{Waiting, is_waiting}
 use Rattle.sky_names.specs.Places.{place_of}
-use Rattle.sky_model.specs.History.{Batch, Mark, of_session, began, ended, looked, tabled, waited, queued, made, raised, put, ticked, opened, closed, History}
+use Rattle.sky_model.specs.History.{Batch, Mark, of_session, began, ended, looked, tabled, waited, queued, made, raised, put, ticked, moved, unregistered, opened, closed, History}
 use Rattle.sky_model.specs.Transactions.{next_txid, running}
 use Rattle.sky_model.specs.Sessions.{Block, outside, has_open, block, own_txid, session}
 use Rattle.sky_model.specs.Rows.{table_names, columns_of}
@@ -43,6 +43,7 @@ use Rattle.sky_model.proofs.LawfulRows.{no-one, nothing, good_attempts, good_row
 use Rattle.sky_model.proofs.QueueNumbers.{among-number, among-last}
 use Rattle.sky_model.proofs.Ticks.{ticks_beyond}
 use Rattle.sky_model.proofs.StandingQueues.{whole}
+use Rattle.sky_model.proofs.ActiveBatches.{of_another-is}
 use Rattle.sky_model.proofs.Unneeded.{no-member, none-into, none-put}
 use Rattle.sky_model.proofs.Selecting.{events_below-next}
 use Rattle.sky_names.proofs.PlaceLemmas.{place_of_within}
@@ -52,6 +53,8 @@ active_batch-id : (h : History) (id : ℕ) (batch : Batch) → active_batch id h
 active_batch-id [] id batch is = absurd (cc)
 active_batch-id (queued (opened b) ∷ h) id batch is = grind (arith, nat_tests, active_batch-id h id batch)
 active_batch-id (queued (closed b) ∷ h) id batch is = grind (arith, active_batch-id h id batch)
+active_batch-id (queued (moved q name tick) ∷ h) id batch is = active_batch-id h id batch (of_another-is q name (active_batch id h) batch is).0
+active_batch-id (queued (unregistered q name) ∷ h) id batch is = active_batch-id h id batch (of_another-is q name (active_batch id h) batch is).0
 active_batch-id (_ ∷ h) id batch is = active_batch-id h id batch is
 
 good_create_queue : (h : History) → Legal h → (now : ℤ) (who : ℕ) (name : List ℕ) → Good h who (create_queue (database_of h) now who name)

@@ -13,7 +13,7 @@ use Rattle.sky_names.specs.Places.{place_of}
 use Rattle.sky_model.specs.declared.stmt.Set.{Set}
 use Rattle.sky_model.specs.declared.stmt.Attempt.{Attempt}
 use Rattle.sky_model.specs.declared.stmt.Attempt.TheVariants.{Insertion, Changes, Deletion}
-use Rattle.sky_model.specs.History.{Batch, Mark, of_session, began, ended, block_begun, repeats, looked, block_failed, block_ended, connected, disconnected, tabled, table_made, wrote, waits, waited, queued, made, raised, put, ticked, registered, opened, closed, configured, dropped, traced, History}
+use Rattle.sky_model.specs.History.{Batch, Mark, of_session, began, ended, block_begun, repeats, looked, block_failed, block_ended, connected, disconnected, tabled, table_made, wrote, waits, waited, queued, made, raised, put, ticked, registered, moved, unregistered, opened, closed, configured, dropped, traced, History}
 use Rattle.sky_model.specs.Config.{Config}
 use Rattle.sky_model.specs.Transactions.{next_txid, running}
 use Rattle.sky_model.specs.Sessions.{has_open, outside, inside, block, own_txid}
@@ -98,6 +98,9 @@ pub data Fine (h : History) : Mark → Type 0 where
   ticks_next : (q id : ℕ) (time : ℤ) (seq : ℕ) → IsQueue h q → id_of (newest_tick (ticks q h)) < id → Fine h (queued (ticked q id time seq))
   registers : (q : ℕ) (name : List ℕ) (sub tick : ℕ) → IsQueue h q → subscription_id q name h ≡ None → last_subscription h < sub
       → tick ≤ id_of (newest_tick (ticks q h)) → Fine h (queued (registered q name sub tick))
+  moves : (q : ℕ) (name : List ℕ) (sub tick : ℕ) → IsQueue h q → subscription_id q name h ≡ Some sub → 1 ≤ tick
+      → tick ≤ id_of (newest_tick (ticks q h)) → Fine h (queued (moved q name tick))
+  unregisters : (q : ℕ) (name : List ℕ) (sub : ℕ) → IsQueue h q → subscription_id q name h ≡ Some sub → Fine h (queued (unregistered q name))
   opens : (batch : Batch) → Opens h batch → Fine h (queued (opened batch))
   closes : (batch : Batch) → active_batch batch.id h ≡ Some batch → Fine h (queued (closed batch))
   configures : (q : ℕ) (config : Config) → IsQueue h q → Fine h (queued (configured q config))

@@ -7,6 +7,7 @@ mod WorkedDrops
 mod WorkedOpening
 mod WorkedRows
 mod WorkedBatches
+mod WorkedLives
 pub mod Cases
 pub mod FirstWords
 pub mod NameLemmas
@@ -19,6 +20,7 @@ pub mod Marks
 pub mod Legal
 pub mod QueueNumbers
 pub mod StandingQueues
+mod Members
 pub mod Unneeded
 pub mod Snapshots
 pub mod Ticks

@@ -2,10 +2,10 @@
 use Rattle.std.proofs.Common.{◌≡◌, ℕ, ◌+◌, List, [], ◌∷◌, ◌++◌, Bool, true, false, not, ◌&&◌, ◌||◌, ◌==◌, filter, Option, Some, None, refl, ◌∙◌, ap, bytes_eq, option_map, if◌then◌else◌}
 use Rattle.sky_keys.specs.Waits.{released}
 use Rattle.sky_keys.specs.Versions.{forgotten}
-use Rattle.sky_model.specs.History.{Mark, of_session, of_worker, began, ended, block_begun, repeats, looked, block_failed, block_ended, connected, disconnected, tabled, wrote, queued, QueueMark, made, raised, put, ticked, registered, opened, closed, configured, dropped, traced, History, Fact, appeared, founded, entered, left, within, clock_at, daemon_on, daemon_off, Past}
+use Rattle.sky_model.specs.History.{Mark, of_session, of_worker, began, ended, block_begun, repeats, looked, block_failed, block_ended, connected, disconnected, tabled, wrote, queued, QueueMark, made, raised, put, ticked, registered, moved, unregistered, opened, closed, configured, dropped, traced, History, Fact, appeared, founded, entered, left, within, clock_at, daemon_on, daemon_off, Past}
 use Rattle.sky_model.specs.Config.{default_config}
 use Rattle.sky_model.specs.Queues.{queues, others_than}
-use Rattle.sky_model.specs.Consumers.{Subscription, subscription_id, position, active}
+use Rattle.sky_model.specs.Consumers.{all_but, Subscription, subscription_id, position, active, of_another}
 use Rattle.sky_model.specs.Transactions.{next_txid, running, has_rolled_back, snapshot}
 use Rattle.sky_model.specs.Sessions.{outside, inside, failed, at_each, at_first, at_place, sight, sight_by, session}
 use Rattle.sky_model.specs.Versions.{versions}
@@ -57,6 +57,22 @@ database_of-queue_mark h (registered q name sub tick) = λ i. record (database_o
   where
     new : ℕ → ℕ → Option Subscription → Option Subscription
     new id tick _ = Some (record { id = id; position = tick; active = None })
+database_of-queue_mark h (moved q name tick) = λ i. record (database_of h) {
+  batch = λ id. of_another q name ((database_of h).batch id);
+  queue = λ n. (ap (λ s. record (queue_of h n) { sub = s })
+      (changed_sub (q == n) name (λ c m. sub_of (subscription_id n m h) (if c then tick else position n m h) (if c then None else active n m h)) (option_map (at_position tick))
+      (λ m. closes (subscription_id n m h) (position n m h) (active n m h) tick))
+      ∙ by_case (q == n) (λ c. record (queue_of h n) { sub = if c then changed_for name (option_map (at_position tick)) (queue_of h n).sub else (queue_of h n).sub })) i;
+}
+database_of-queue_mark h (unregistered q name) = λ i. record (database_of h) {
+  batch = λ id. of_another q name ((database_of h).batch id);
+  queue = λ n. (ap (λ s. record (queue_of h n) { members = if q == n then all_but name (queue_of h n).members else (queue_of h n).members; sub = s })
+      (changed_sub (q == n) name (λ b c. sub_of (if b then None else subscription_id n c h) (if b then 0 else position n c h) (if b then None else active n c h)) (λ _. None) (λ c. refl))
+      ∙ by_case (q == n) (λ b. record (queue_of h n) {
+        members = if b then all_but name (queue_of h n).members else (queue_of h n).members;
+        sub = if b then changed_for name (λ _. None) (queue_of h n).sub else (queue_of h n).sub;
+      })) i;
+}
 database_of-queue_mark h (opened b) = λ i. record (database_of h) {
   last_batch_id = b.id;
   batch = changed_at b.id (λ _. Some b) (database_of h).batch;

@@ -1,19 +1,20 @@
 -- What needs a queue finds it, and of one that doesn't stand nothing is kept.
-use Rattle.std.proofs.Common.{◌≡◌, ℕ, ◌<◌, List, [], ◌∷◌, ◌++◌, true, false, ◌==◌, ◌&&◌, bytes_eq, All, get_or, Option, Some, None, option_map, refl, sym, subst, ◌∙◌, ap, arith, if◌then◌else◌}
+use Rattle.std.proofs.Common.{◌≡◌, ℕ, ◌<◌, List, [], ◌∷◌, ◌++◌, true, false, ◌==◌, ◌||◌, bytes_eq, is_some, All, get_or, Option, Some, None, option_map, refl, sym, subst, ◌∙◌, ap, arith, if◌then◌else◌}
 use Rattle.std.specs.List.{list_any}
 use Rattle.std.proofs.lemmas.Bool.Decides.{nat_tests}
 use Rattle.std.proofs.lemmas.Bool.{eqb-true}
 use Rattle.std.proofs.lemmas.List.Elements.{All-nil, All-push, All-weaker}
 use Rattle.sky_val.specs.declared.event.Event.{Event}
 use Rattle.sky_txid.specs.Ids.{contains}
-use Rattle.sky_model.specs.History.{of_session, began, queued, registered, dropped, History}
+use Rattle.sky_model.specs.History.{of_session, began, queued, dropped, History}
 use Rattle.sky_model.specs.Transactions.{next_txid, running, snapshot}
 use Rattle.sky_model.specs.Config.{default_config}
 use Rattle.sky_model.specs.Queues.{NamedQueue, queues_made, queues, others_than, config, sequence, events, stored, kept_ticks}
-use Rattle.sky_model.specs.Consumers.{consumers, subscription_id, position, active}
+use Rattle.sky_model.specs.Consumers.{all_but, consumers, subscription_id, position, active}
 use Rattle.sky_model.specs.LawsOfQueues.{QueuesOfConsumersStand, QueuesOfTriggersStand, BusyQueuesStand, StandingQueuesKeepAll, OtherQueuesKeepNothing, NewQueuesAreOthers}
-use Rattle.sky_model.proofs.Legal.{IsAmong, IsQueue, begins, ends, makes, raises, puts, ticks_next, registers, configures, drops, Legal, start, next}
+use Rattle.sky_model.proofs.Legal.{IsAmong, IsQueue, begins, ends, makes, raises, puts, ticks_next, registers, unregisters, configures, drops, Legal, start, next}
 use Rattle.sky_model.proofs.QueueNumbers.{among-before, among-others}
+use Rattle.sky_model.proofs.Members.{among-consumers}
 use Rattle.sky_model.proofs.Snapshots.{sound, runs-below, contains-push, contains-filter}
 use Rattle.sky_model.proofs.StandingQueues.{whole, beyond, registered-stands}
 use Rattle.sky_model.proofs.LawfulTelling.{trigger-queues}
@@ -80,12 +81,13 @@ away-others p queues q other away =
 
 -- a queue without subscriptions has no consumers
 unsubscribed-empty : (h : History) (q : ℕ) → ((consumer : List ℕ) → subscription_id q consumer h ≡ None) → consumers q h ≡ []
-unsubscribed-empty [] q none = refl
-unsubscribed-empty (queued (registered p name sub tick) ∷ h) q none =
-    by_test (λ b. (p == q) ≡ b → (if b then consumers q h ++ name ∷ [] else consumers q h) ≡ []) (p == q)
-    (λ _ is. absurd (cc (sym (none name) ∙ ap (λ b. if b then Some sub else subscription_id q name h) (ap (λ b. b && bytes_eq name name) is ∙ bytes_eq_refl name))))
-    (λ _ other. unsubscribed-empty h q (λ c. sym (ap (λ b. if b && bytes_eq c name then Some sub else subscription_id q c h) other) ∙ none c)) refl
-unsubscribed-empty (_ ∷ h) q none = unsubscribed-empty h q none
+unsubscribed-empty h q none = of (consumers q h) refl
+  where
+    of : (names : List (List ℕ)) → consumers q h ≡ names → consumers q h ≡ []
+    of [] is = is
+    of (name ∷ names) is =
+        let first : list_any (λ n. bytes_eq name n) (name ∷ names) ≡ true = ap (λ b. b || list_any (λ n. bytes_eq name n) names) (bytes_eq_refl name) in
+        absurd (cc (sym first ∙ ap (list_any (λ n. bytes_eq name n)) (sym is) ∙ among-consumers h q name ∙ ap is_some (none name)))
 
 -- but for its subscriptions nothing is kept of such a queue
 record IsBare (h : History) (q : ℕ) : Type 0 where
@@ -118,6 +120,9 @@ bare _ (next {h = h} l (ticks_next p id time seq i e)) q away =
 bare _ (next {h = h} l (registers p name sub tick i none f g)) q away =
     let b : IsBare h q = bare h l q away in
     record { unset = b.unset; no_id = b.no_id; no_event = b.no_event; no_tick = b.no_tick; no_consumer = ap (λ c. if c then consumers q h ++ name ∷ [] else consumers q h) (apart (queues h) p q i away) ∙ b.no_consumer }
+bare _ (next {h = h} l (unregisters p name sub i has)) q away =
+    let b : IsBare h q = bare h l q away in
+    record { unset = b.unset; no_id = b.no_id; no_event = b.no_event; no_tick = b.no_tick; no_consumer = ap (λ c. if c then all_but name (consumers q h) else consumers q h) (apart (queues h) p q i away) ∙ b.no_consumer }
 bare _ (next {h = h} l (configures p c i)) q away =
     let b : IsBare h q = bare h l q away in
     record { unset = ap (λ t. if t then c else config q h) (apart (queues h) p q i away) ∙ b.unset; no_id = b.no_id; no_event = b.no_event; no_tick = b.no_tick; no_consumer = b.no_consumer }

@@ -8,7 +8,7 @@ use Rattle.sky_model.specs.History.{queued, made, History}
 use Rattle.sky_model.specs.Transactions.{snapshot}
 use Rattle.sky_model.specs.Queues.{queues_made, queues, events, stored, Tick, ticks, kept_ticks}
 use Rattle.sky_model.specs.Consumers.{subscription_id}
-use Rattle.sky_model.proofs.Legal.{IsQueue, makes, puts, ticks_next, registers, drops, Legal, start, next}
+use Rattle.sky_model.proofs.Legal.{IsQueue, makes, puts, ticks_next, registers, unregisters, drops, Legal, start, next}
 use Rattle.sky_model.proofs.QueueNumbers.{queue-below, among-before, others-among, others-apart, among-others}
 use Rattle.sky_model.proofs.Cases.{by_test}
 
@@ -87,6 +87,7 @@ pub registered-stands : (h : History) → Legal h → (q : ℕ) (consumer : List
 registered-stands [] start q consumer sub is = absurd (cc)
 registered-stands _ (next {h = h} l (makes name new)) q consumer sub is = among-before (queues h) (record { number = queues_made h; name = name }) q (registered-stands h l q consumer sub is)
 registered-stands _ (next {h = h} l (registers p name s t i none f g)) q consumer sub is = grind (arith, nat_tests, registered-stands h l q consumer sub, i, is)
+registered-stands _ (next {h = h} l (unregisters p name s i has)) q consumer sub is = grind (arith, registered-stands h l q consumer sub, is)
 registered-stands _ (next {h = h} l (drops p none untold idle)) q consumer sub is =
     among-others p (queues h) q (registered-stands h l q consumer sub is)
     (by_test (λ b. b ≡ false) (q == p) (λ same. absurd (cc (sym is ∙ ap (λ n. subscription_id n consumer h) (eqb-true q p same) ∙ none consumer))) (λ other. refl))

@@ -1,25 +1,27 @@
 -- What isn't there where nothing refuses that a queue is dropped: a consumer of it, a trigger into it, and an event of a
 -- running transaction in it.
-use Rattle.std.proofs.Common.{◌≡◌, ℕ, List, [], ◌∷◌, false, not, ◌==◌, ◌||◌, ◌∙◌, All, get_or, length, find, ap, Some, None, option_map, refl, arith, if◌then◌else◌}
+use Rattle.std.proofs.Common.{◌≡◌, ℕ, List, [], ◌∷◌, false, not, ◌==◌, ◌||◌, ◌∙◌, All, get_or, length, find, ap, Option, Some, None, is_some, bytes_eq, option_map, refl, arith, if◌then◌else◌}
 use Rattle.std.specs.List.{list_any}
 use Rattle.std.proofs.lemmas.Bool.Decides.{nat_tests}
-use Rattle.std.proofs.lemmas.List.{length-append}
 use Rattle.std.proofs.lemmas.List.Elements.{All-nil, All-cons}
 use Rattle.sky_model.specs.declared.reply.Refusal.TheVariants.{HasTriggers, QueueBusy}
 use Rattle.sky_val.specs.declared.event.Event.{Event}
 use Rattle.sky_txid.specs.Ids.{contains}
-use Rattle.sky_model.specs.History.{queued, registered, History}
+use Rattle.sky_model.specs.History.{History}
 use Rattle.sky_model.specs.Triggers.{TableTrigger}
 use Rattle.sky_model.specs.Consumers.{consumers, subscription_id}
 use Rattle.sky_model.specs.StepQueue.{first_trigger_into, shown_name}
+use Rattle.sky_model.proofs.Members.{among-consumers}
 use Rattle.sky_model.proofs.Cases.{by_test}
 
 -- a queue without consumers has none of any name
 pub no-member : (h : History) (q : ℕ) → not (length (consumers q h) == 0) ≡ false → (consumer : List ℕ) → subscription_id q consumer h ≡ None
-no-member [] q none consumer = refl
-no-member (queued (registered p name sub tick) ∷ h) q none consumer =
-    grind (arith, nat_tests, length-append (consumers q h) (name ∷ []), no-member h q, none)
-no-member (_ ∷ h) q none consumer = no-member h q none consumer
+no-member h q none consumer = of (consumers q h) (subscription_id q consumer h) none (among-consumers h q consumer)
+  where
+    of : (names : List (List ℕ)) (o : Option ℕ) → not (length names == 0) ≡ false → list_any (λ n. bytes_eq consumer n) names ≡ is_some o → o ≡ None
+    of [] None none is = refl
+    of [] (Some sub) none is = absurd (cc)
+    of (name ∷ names) o none is = absurd (grind (arith, nat_tests, none))
 
 -- triggers of which none is the first into a queue are all into others
 pub none-into : (q : ℕ) (triggers : List TableTrigger) → option_map (λ t. HasTriggers (shown_name t)) (first_trigger_into q triggers) ≡ None → All (λ t. (t.trigger.queue == q) ≡ false) triggers

@@ -1,9 +1,9 @@
--- Each batch that a consumer has finished was active when it was closed.
+-- Each batch that a consumer has finished since its life began was active when it was closed.
 use Rattle.std.proofs.Common.{ℕ, List, [], ◌∷◌, ◌++◌, ◌&&◌, ◌==◌, bytes_eq, refl, ap, All}
 use Rattle.std.proofs.lemmas.List.Elements.{All-nil, All-push, All-weaker}
 use Rattle.sky_model.specs.History.{Batch, Mark, History}
 use Rattle.sky_model.specs.LawsOfBatches.{finished, WasActive, FinishedBatchesWereActive}
-use Rattle.sky_model.proofs.Legal.{Fine, registers, closes, Legal, start, next}
+use Rattle.sky_model.proofs.Legal.{Fine, registers, moves, unregisters, closes, Legal, start, next}
 use Rattle.sky_model.proofs.SnapshotLaws.{legal_place}
 use Rattle.std.proofs.lemmas.Bool.{cond_both}
 
@@ -16,6 +16,8 @@ all_later h mark = All-weaker (WasActive h) (WasActive (mark ∷ h)) (one_later 
 still_were : (h : History) (mark : Mark) → Fine h mark → (queue : ℕ) (consumer : List ℕ)
     → All (WasActive (mark ∷ h)) (finished queue consumer h) → All (WasActive (mark ∷ h)) (finished queue consumer (mark ∷ h))
 still_were h mark (registers p name sub t i none f g) queue consumer were = cond_both (p == queue && bytes_eq consumer name) [] (finished queue consumer h) (All (WasActive (mark ∷ h))) (λ _. All-nil (WasActive (mark ∷ h))) (λ _. were)
+still_were h mark (moves p name sub t i has least most) queue consumer were = cond_both (p == queue && bytes_eq consumer name) [] (finished queue consumer h) (All (WasActive (mark ∷ h))) (λ _. All-nil (WasActive (mark ∷ h))) (λ _. were)
+still_were h mark (unregisters p name sub i has) queue consumer were = cond_both (p == queue && bytes_eq consumer name) [] (finished queue consumer h) (All (WasActive (mark ∷ h))) (λ _. All-nil (WasActive (mark ∷ h))) (λ _. were)
 still_were h mark (closes b active) queue consumer were =
     cond_both (b.queue == queue && bytes_eq consumer b.consumer) (finished queue consumer h ++ b ∷ []) (finished queue consumer h) (All (WasActive (mark ∷ h)))
     (λ _. All-push (WasActive (mark ∷ h)) (finished queue consumer h) b were (record { later = mark ∷ []; place = h; below = refl; active = active })) (λ _. were)

@@ -29,6 +29,10 @@ pub data QueueMark : Type 0 where
   ticked : (queue id : ℕ) (time : ℤ) (seq : ℕ) → QueueMark
   -- a consumer was registered, as a subscription that stands at a tick
   registered : (queue : ℕ) (consumer : List ℕ) (sub tick : ℕ) → QueueMark
+  -- a registered consumer stands at this tick from now on, and has given its batch up
+  moved : (queue : ℕ) (consumer : List ℕ) (tick : ℕ) → QueueMark
+  -- a consumer is no longer registered, and has given its batch up
+  unregistered : (queue : ℕ) (consumer : List ℕ) → QueueMark
   -- a batch was made
   opened : (batch : Batch) → QueueMark
   -- a batch was finished

@@ -1,25 +1,35 @@
--- The laws on the batches that a consumer finishes: at each place of each history that calls make, or of any list of
--- marks or of events, as each says.
+-- The laws on the batches that a consumer finishes in one life of its subscription: from its registering, or from a move
+-- of it to a tick, to the next move or its unregistering. At each place of each history that calls make, or of any list
+-- of marks or of events, as each says.
 use Rattle.std.specs.Prelude.{◌≡◌, ℕ, ◌+◌, ◌≤◌, List, [], ◌∷◌, ◌++◌, Bool, true, not, ◌&&◌, Some, is_some, ◌==◌, bytes_eq, length, filter, All, if◌then◌else◌}
 use Rattle.sky_val.specs.declared.event.Event.{Event}
-use Rattle.sky_model.specs.History.{Batch, Mark, queued, registered, closed, History}
+use Rattle.sky_model.specs.History.{Batch, Mark, queued, registered, moved, unregistered, closed, History}
 use Rattle.sky_model.specs.Transactions.{has_committed}
 use Rattle.sky_model.specs.Queues.{events, ticks, tick, at_tick}
 use Rattle.sky_model.specs.Consumers.{subscription_id, position, active_batch}
 use Rattle.sky_model.specs.Batches.{is_for, by_id, batch_events}
 use Rattle.sky_model.specs.HistoryPlaces.{IsPlace}
 
--- the tick at which a consumer of a queue registered
+-- the tick at which the life of a consumer of a queue began: where it registered, or was moved to since; 0 where it isn't
+-- registered
 abbrev pub first_tick : ℕ → List ℕ → History → ℕ
 first_tick queue consumer [] = 0
 first_tick queue consumer (queued (registered q name sub tick) ∷ h) =
     if q == queue && bytes_eq consumer name then tick else first_tick queue consumer h
+first_tick queue consumer (queued (moved q name tick) ∷ h) =
+    if q == queue && bytes_eq consumer name then tick else first_tick queue consumer h
+first_tick queue consumer (queued (unregistered q name) ∷ h) =
+    if q == queue && bytes_eq consumer name then 0 else first_tick queue consumer h
 first_tick queue consumer (_ ∷ h) = first_tick queue consumer h
 
--- the batches that it has finished since it registered, in the order of finishing
+-- the batches that it has finished since its life began, in the order of finishing
 abbrev pub finished : ℕ → List ℕ → History → List Batch
 finished queue consumer [] = []
 finished queue consumer (queued (registered q name sub tick) ∷ h) =
+    if q == queue && bytes_eq consumer name then [] else finished queue consumer h
+finished queue consumer (queued (moved q name tick) ∷ h) =
+    if q == queue && bytes_eq consumer name then [] else finished queue consumer h
+finished queue consumer (queued (unregistered q name) ∷ h) =
     if q == queue && bytes_eq consumer name then [] else finished queue consumer h
 finished queue consumer (queued (closed batch) ∷ h) =
     if batch.queue == queue && bytes_eq consumer batch.consumer then finished queue consumer h ++ batch ∷ [] else finished queue consumer h
@@ -39,7 +49,7 @@ abbrev pub Lead : History → ℕ → List ℕ → ℕ → List Batch → ℕ �
 Lead p queue consumer from [] to = from ≡ to
 Lead p queue consumer from (b ∷ bs) to = IsNextBatch p queue consumer from b × Lead p queue consumer b.cur bs to
 
--- a consumer's finished batches lead from the tick at which it registered to its position
+-- the batches that a consumer has finished since its life began lead from the tick where it began to its position
 abbrev pub BatchesAreConsecutive : Type 0
 BatchesAreConsecutive = (p : History) → IsPlace p → (queue : ℕ) (consumer : List ℕ)
     → Lead p queue consumer (first_tick queue consumer p) (finished queue consumer p) (position queue consumer p)
@@ -76,8 +86,8 @@ IdsDontFall = (es : List Event) → InOrder (by_id es)
 abbrev pub EqualIdsStay : Type 0
 EqualIdsStay = (es : List Event) (id : ℕ) → with_id id (by_id es) ≡ with_id id es
 
--- an event stands in one of a registered consumer's finished batches, and in one alone, where it stands between the
--- tick at which the consumer registered and its position, else in none
+-- an event stands in one of the batches that a registered consumer has finished since its life began, and in one alone,
+-- where it stands between the tick where that began and the consumer's position, else in none
 abbrev pub EventsAreListedOnce : Type 0
 EventsAreListedOnce = (p : History) → IsPlace p → (queue : ℕ) (consumer : List ℕ) (sub : ℕ) → subscription_id queue consumer p ≡ Some sub
     → (e : Event) → length (filter (λ b. stands_in p b e) (finished queue consumer p))
@@ -95,6 +105,6 @@ pub record WasActive (p : History) (b : Batch) : Type 0 where
   pub below : p ≡ later ++ place
   pub active : active_batch b.id place ≡ Some b
 
--- each batch that a consumer has finished was active before
+-- each batch that a consumer has finished since its life began was active before
 abbrev pub FinishedBatchesWereActive : Type 0
 FinishedBatchesWereActive = (p : History) → IsPlace p → (queue : ℕ) (consumer : List ℕ) → All (WasActive p) (finished queue consumer p)

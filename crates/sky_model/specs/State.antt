@@ -10,7 +10,7 @@ use Rattle.sky_txid.specs.Snapshot.{SnapshotView, snapshot_of}
 use Rattle.sky_keys.specs.Versions.{written, forgotten}
 use Rattle.sky_model.specs.declared.stmt.Attempt.{Attempt}
 use Rattle.sky_model.specs.declared.stmt.Attempt.TheVariants.{Deletion}
-use Rattle.sky_model.specs.History.{Batch, Mark, Whose, of_session, of_worker, began, ended, block_begun, repeats, looked, block_failed, block_ended, connected, disconnected, tabled, TableMark, table_made, wrote, waits, waited, queued, QueueMark, made, raised, put, ticked, registered, opened, closed, configured, dropped, traced, History}
+use Rattle.sky_model.specs.History.{Batch, Mark, Whose, of_session, of_worker, began, ended, block_begun, repeats, looked, block_failed, block_ended, connected, disconnected, tabled, TableMark, table_made, wrote, waits, waited, queued, QueueMark, made, raised, put, ticked, registered, moved, unregistered, opened, closed, configured, dropped, traced, History}
 use Rattle.sky_model.specs.Transactions.{next_txid, running, has_rolled_back}
 use Rattle.sky_model.specs.Sessions.{Block, inside, failed, outside, Sight, at_each, at_first, at_place, Session, session}
 use Rattle.sky_model.specs.Config.{Config, default_config}
@@ -19,7 +19,7 @@ use Rattle.sky_model.specs.Versions.{versions}
 use Rattle.sky_model.specs.Locks.{holder, waiting, attempt}
 use Rattle.sky_model.specs.Triggers.{TableTrigger, triggers}
 use Rattle.sky_model.specs.Queues.{NamedQueue, queues_made, queues, others_than, config, sequence, stored, Tick, kept_ticks}
-use Rattle.sky_model.specs.Consumers.{consumers, Subscription, subscription, last_subscription, last_batch, active_batch}
+use Rattle.sky_model.specs.Consumers.{all_but, consumers, Subscription, subscription, last_subscription, last_batch, of_another, active_batch}
 
 -- a queue, as a statement reads it
 pub record Queue : Type 0 where
@@ -104,7 +104,7 @@ changed_for name f g n = if bytes_eq n name then f (g n) else g n
 abbrev pub with_batch : ℕ → Subscription → Subscription
 with_batch batch s = record s { active = Some batch }
 
--- a subscription that has finished its batch, and stands at this tick
+-- a subscription that has finished its batch or given it up, and stands at this tick
 abbrev pub at_position : ℕ → Subscription → Subscription
 at_position tick s = record s { position = tick; active = None }
 
@@ -130,6 +130,19 @@ after_queue_mark d (registered q name id tick) = record d {
   queue = changed_at q (λ x. record x {
     members = x.members ++ name ∷ [];
     sub = changed_for name (λ _. Some (record { id = id; position = tick; active = None })) x.sub;
+  }) d.queue;
+}
+after_queue_mark d (moved q name tick) = record d {
+  batch = λ id. of_another q name (d.batch id);
+  queue = changed_at q (λ x. record x {
+    sub = changed_for name (option_map (at_position tick)) x.sub;
+  }) d.queue;
+}
+after_queue_mark d (unregistered q name) = record d {
+  batch = λ id. of_another q name (d.batch id);
+  queue = changed_at q (λ x. record x {
+    members = all_but name x.members;
+    sub = changed_for name (λ _. None) x.sub;
   }) d.queue;
 }
 after_queue_mark d (opened b) = record d {

@@ -119,9 +119,10 @@ pub fn queues_in_use_stand()
     ensures others { NewQueuesAreOthers }
 {}
 
-/// At each such place the batches that a consumer has finished are of its queue and its subscription,
-/// and lead from the tick at which it registered to its position: each begins where the one before
-/// closed, and closes at the next tick, which is made. Of a consumer that isn't registered there are none.
+/// At each such place the batches that a consumer has finished since its life began are of its queue and its
+/// subscription, and lead from the tick where that began to its position: each begins where the one before
+/// closed, and closes at the next tick, which is made. Of a consumer that isn't registered there are none. A
+/// life of a subscription begins where the consumer registers, and anew where it is moved to a tick.
 pub fn batches_are_consecutive()
     ensures { BatchesAreConsecutive }
 {}
@@ -134,8 +135,8 @@ pub fn batches_are_in_order()
 {}
 
 /// At each such place an event whose transaction had committed at a registered consumer's position, and hadn't at
-/// the tick at which the consumer registered, and that is for its subscription, stands in one of the
-/// batches that the consumer has finished, and in one alone; any other event stands in none. A batch
+/// the tick where the consumer's life began, and that is for its subscription, stands in one of the batches
+/// that the consumer has finished since, and in one alone; any other event stands in none. A batch
 /// lists the events of its queue that stand in it.
 pub fn events_are_listed_once()
     ensures stands { BatchesListWhatStands }
@@ -143,8 +144,8 @@ pub fn events_are_listed_once()
 {}
 
 /// What a batch lists while it is active is what it lists at every later place: what is put or commits
-/// later isn't in it. Each batch that a consumer has finished was active before, so it lists what it
-/// listed then.
+/// later isn't in it. Each batch that a consumer has finished since its life began was active before, so it
+/// lists what it listed then.
 pub fn listings_stay()
     ensures stay { ListingsStay }
     ensures were_active { FinishedBatchesWereActive }
