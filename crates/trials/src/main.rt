@@ -11,8 +11,10 @@ mod encoding;
 mod runs;
 mod scans;
 mod sessions;
+mod settings;
 mod statements;
 mod streams;
+mod ticks;
 mod trials;
 mod words;
 

@@ -3,6 +3,8 @@ use crate::encoding::Encoding;
 use crate::runs::Runs;
 use crate::scans::Scans;
 use crate::sessions::Sessions;
+use crate::settings::Settings;
+use crate::ticks::Kept;
 use crate::words::first_word;
 use crate::{copies, streams};
 use anyhow::bail;
@@ -16,6 +18,8 @@ pub struct Trials {
     sessions: Sessions,
     database: Database,
     runs: Runs,
+    settings: Settings,
+    ticks: Kept,
 }
 
 impl Trials {
@@ -26,6 +30,8 @@ impl Trials {
             sessions: Sessions::new(alloc),
             database: Database::new(alloc),
             runs: Runs::new(alloc),
+            settings: Settings::new(),
+            ticks: Kept::new(),
         }
     }
 
@@ -40,6 +46,8 @@ impl Trials {
             "sessions.txt" => self.sessions.answer(alloc, command, rest),
             "databases.txt" => self.database.answer(alloc, command, rest),
             "runs.txt" => self.runs.answer(alloc, command, rest),
+            "settings.txt" => self.settings.answer(alloc, command, rest),
+            "ticks.txt" => self.ticks.answer(alloc, command, rest),
             _ => bail!("no trials of this name"),
         }
     }

@@ -1,0 +1,6 @@
+use Rattle.std.proofs.Common.{◌∙◌}
+use Rattle.sky_chain.proofs.Reading.{last_read}
+use Rattle.sky_chain.proofs.chains.Chains.last.Goals as goal
+
+pub returns : goal.returns
+returns c = c.known.ensures ∙ last_read c.self.invariant.2 _ c.self.view_is _ _ c.requires c.index.ensures

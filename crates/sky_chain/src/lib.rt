@@ -1,0 +1,11 @@
+//! Many lists threaded through one vector of links by index.
+//!
+//! `Chains` is seen as a map from list numbers to lists of node numbers, where each node is in one
+//! list at most, with how many nodes are spare and a number above those of all nodes. Nothing here knows
+//! what a node stands for: callers keep that in a vector of their own, by node number.
+#![tactic(auto)]
+
+mod chains;
+mod links;
+
+pub use chains::Chains;
