@@ -207,10 +207,10 @@ gives-queue d s now who t name before after new room txid is pushed = subst (Run
 
 module _ (d : Database) (name : List ℕ) (q : ℕ) (found : queue_called name d ≡ Ok q) where
   -- what is left once its number is known
-  untested : Checked Outcome
+  abbrev untested : Checked Outcome
   untested = refused_by (option_map (λ t. HasTriggers (shown_name t)) (first_trigger_into q d.triggers)) >> (refused_by (option_map QueueBusy (least_producer d q)) >> does_marks (Number 1) (queued (dropped q) ∷ []))
 
-  of_number : ℕ → Checked Outcome
+  abbrev of_number : ℕ → Checked Outcome
   of_number n =
       refused_if (not (length (d.queue n).members == 0)) (HasConsumers (length (d.queue n).members))
       >> (refused_by (option_map (λ t. HasTriggers (shown_name t)) (first_trigger_into n d.triggers)) >> (refused_by (option_map QueueBusy (least_producer d n)) >> does_marks (Number 1) (queued (dropped n) ∷ [])))

@@ -3,3 +3,4 @@ pub mod Slotted
 pub mod Marked
 pub mod TracedLists
 pub mod Telling
+pub mod FirstOf

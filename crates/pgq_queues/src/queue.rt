@@ -1,4 +1,4 @@
-ghost use Rattle.std.specs.Prelude.{◌≡◌, ℕ, ℤ, ◌+◌, ◌<◌, ◌^◌, [], ◌∷◌, ◌++◌, Some, None, IfOk, IfErr, OnOk, OnErr, length, ◌↔◌, ◌≤◌, Ok, Err, find, ◌==◌};
+ghost use Rattle.std.specs.Prelude.{◌≡◌, ℕ, ℤ, ◌+◌, ◌<◌, ◌^◌, [], ◌∷◌, ◌++◌, Some, None, IfOk, IfErr, OnOk, OnErr, length, ◌↔◌, ◌≤◌, Ok, Err, find, ◌==◌, true, IsTrue, nat_lt, option_map, unwrap_or};
 ghost use Rattle.std.specs.List.{list_any};
 ghost use Rattle.sky_model.specs.Config.{default_config, param_of};
 ghost use Rattle.pgq_tick.specs.Config.{set_to};
@@ -14,6 +14,7 @@ ghost use Rattle.pgq_queues.specs.Views.{QueueView};
 ghost use Rattle.pgq_queues.specs.EventRule.{telling};
 ghost use Rattle.sky_model.specs.Telling.{told_event};
 ghost use Rattle.sky_urlenc.specs.RowEvents.{RowEvent};
+ghost use Rattle.sky_txid.specs.Ids.{rises_within};
 
 use crate::batch::{Batch, select};
 use crate::stored::Stored;
@@ -135,18 +136,24 @@ impl Queue {
         Some(sub.copy())
     }
 
-    /// The first of these transactions that has an event here.
+    /// The first of these transactions, given in rising order, that has an event here.
     pub fn first_producer(&self, txids: &[u64]) -> Option<u64>
+        requires rising { (low : ℕ) × (high : ℕ) × IsTrue (rises_within low high txids.now) }
         ensures { result ≡ find (λ t. list_any (λ e. e.ev_txid == t) (seen_queue self.now).stored) txids.now }
     {
-        txids.iter().copied().find(|txid| self.has_event_of(*txid))
-    }
-
-    /// Whether the transaction has an event here.
-    fn has_event_of(&self, txid: u64) -> bool
-        ensures { result ≡ list_any (λ e. e.ev_txid == txid) (seen_queue self.now).stored }
-    {
-        self.events.iter().any(|event| event.txid() == txid)
+        // A queue may have far more events than there are transactions, so each event is read once, and
+        // none if there is no transaction.
+        if txids.is_empty() {
+            return None;
+        }
+        let mut least = None;
+        for event in &self.events {
+            let txid = event.txid();
+            if is_before(txid, least) && txids.binary_search(&txid).is_ok() {
+                least = Some(txid);
+            }
+        }
+        least
     }
 
     /// The sequence has this value from now on.
@@ -258,6 +265,16 @@ impl Queue {
         let prev = self.ticks.get(batch.prev);
         let cur = self.ticks.get(batch.cur);
         select(alloc, self.events.as_slice(), prev, cur, undone, batch.sub)
+    }
+}
+
+/// Whether a transaction is less than the least one so far; it is if there is none yet.
+fn is_before(txid: u64, least: Option<u64>) -> bool
+    ensures { result ≡ unwrap_or (option_map (nat_lt txid) least) true }
+{
+    match least {
+        Some(least) => txid < least,
+        None => true,
     }
 }
 
