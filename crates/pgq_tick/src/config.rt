@@ -76,7 +76,8 @@ impl QueueConfig {
         self.max_lag as i64
     }
 
-    /// Without a new event a tick is due once this time has passed, if not before, at twice the time between the last two.
+    /// Without a new event a tick is due once this time has passed, if not before, at twice the time between the last two, but
+    /// not before twice the time that has passed reaches the longest lag.
     pub fn ticker_idle_period(&self) -> i64
         ensures value { result ≡ self.now.idle_period }
         ensures interval { IsInterval result }

@@ -50,7 +50,7 @@ through r last (suc n) p = goes_to r last (through r last n) p (next_due (r.worl
 abbrev pub last_moment : ℤ
 last_moment = pos 1_000_000_000_000_000
 
--- the clock goes to a moment: all moments before it at which a daemon is due are fewer than the microseconds
+-- the clock goes to a moment: all moments before it at which a daemon is due are no more than the microseconds
 abbrev pub clock_goes : {P : Type 0} → Reader P → P → ℕ → ℤ → Deed
 clock_goes r p who to =
     if int_lt last_moment to then refuses who ClockSpent

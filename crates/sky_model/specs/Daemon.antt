@@ -17,8 +17,8 @@ abbrev pub ticks_of : {P : Type 0} → DatabaseReader P → ℤ → List NamedQu
 ticks_of r now [] p = rests
 ticks_of r now (q ∷ queues) p = and_then (within_part r now) p (quietly (next_tick (r.database p) now q.number)) (ticks_of r now queues)
 
--- what a part of the daemon of a database does: there are ticks of its queues, in the order of making; retries and rotations
--- are no part of it yet
+-- what a part of the daemon of a database does: it makes the ticks of its queues, in the order of making; it doesn't retry
+-- events nor switch event tables yet
 abbrev pub daemon_does : {P : Type 0} → DatabaseReader P → P → DaemonPart → ℤ → Turn
 daemon_does r p Tick now = ticks_of r now (r.database p).queues p
 daemon_does r p Retry now = rests

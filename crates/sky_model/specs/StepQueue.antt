@@ -139,7 +139,7 @@ next_tick d now queue =
 abbrev pub ticker : Database → ℤ → List ℕ → Checked Outcome
 ticker d now name = queue_called name d >>= next_tick d now
 
--- how far `force_tick` raises the sequence, so that a tick is due
+-- how far `force_tick` raises the sequence, so that a tick is due, unless the queue is paused
 abbrev pub forced : Config → ℕ
 forced c = 2 * c.max_count + 1000
 

@@ -1,4 +1,5 @@
 use crate::words::{first_number, no_command, ok};
+use anyhow::Context;
 use sky_io::{MemSink, MemSource};
 use sky_run::run_main;
 use std::alloc::{AllocError, Global};
@@ -8,7 +9,7 @@ use std::alloc::{AllocError, Global};
 pub struct Runs {
     script: Vec<u8>,
     // What each `@` of the script stands for.
-    letters: String,
+    repeated: String,
 }
 
 // What came of a run.
@@ -23,23 +24,24 @@ impl Runs {
     pub fn new(alloc: Global) -> Runs {
         Runs {
             script: Vec::new(alloc),
-            letters: String::new(alloc),
+            repeated: String::new(alloc),
         }
     }
 
     pub fn answer(&mut self, alloc: Global, command: &str, words: &str) -> anyhow::Result<String> {
         match command {
-            "script" => self.take_script(alloc, words),
+            "script" => self.take_script(alloc, "~", words),
+            "days" => self.take_script(alloc, "a: clock +1day\n", words),
             "pgqrun" => self.run(alloc, words),
             _ => Err(no_command()),
         }
     }
 
-    // The script of the rows below, in which an `@` stands for so many letters.
-    fn take_script(&mut self, alloc: Global, words: &str) -> anyhow::Result<String> {
+    // The script of the rows below, in which an `@` stands for so many letters or lines.
+    fn take_script(&mut self, alloc: Global, one: &str, words: &str) -> anyhow::Result<String> {
         let (count, script) = first_number(words)?;
-        self.letters = "~".repeat(alloc, count.max(1) as usize)?;
-        let script = script.replace(alloc, "@", self.letters.as_str())?;
+        self.repeated = one.repeat(alloc, count.max(1) as usize)?;
+        let script = script.replace(alloc, "@", self.repeated.as_str())?;
         let script = script.replace(alloc, "\\n", "\n")?;
         self.script = bytes_of(alloc, script.as_str())?;
         ok(alloc)
@@ -48,7 +50,10 @@ impl Runs {
     // The status, the output and the complaint of a run with these words. The last words say how it is made.
     fn run(&self, alloc: Global, words: &str) -> anyhow::Result<String> {
         let ran = self.ran(alloc, words)?;
-        let out = str::from_utf8(ran.out.bytes())?.replace(alloc, self.letters.as_str(), "@")?;
+        let out = str::from_utf8(ran.out.bytes())?.replace(alloc, self.repeated.as_str(), "@")?;
+        let most = set(words, "last=", u32::MAX)? as usize;
+        let out = out.as_str().get(out.len().saturating_sub(most)..);
+        let out = out.context("part of a character")?;
         let err = str::from_utf8(ran.err.bytes())?;
         Ok(format!(in alloc; "{} {out:?} {err:?}", ran.status)?)
     }
