@@ -13,7 +13,6 @@ use Rattle.sky_model.specs.StepQueue.{queue_called, set_queue_config}
 use Rattle.pgq_tick.specs.declared.config.ConfigFault.{ConfigFault}
 use Rattle.pgq_tick.specs.declared.config.ConfigFault.TheVariants as fault
 use Rattle.pgq_tick.specs.Config.{set_to}
-use Rattle.pgq_db.specs.Gives.{Does}
 use Rattle.pgq_db.proofs.Databases.{Runs}
 use Rattle.pgq_db.specs.Configured.{refusal_for, configured_as, Configures}
 use Rattle.sky_model.specs.Stops.{Refuses}

@@ -1,5 +1,5 @@
 -- What the daemon of a database leaves: of each queue in turn the tick that is due.
-use Rattle.std.proofs.Common.{◌≡◌, ℕ, zero, suc, ℤ, ◌+◌, ◌<◌, ◌≤◌, ◌^◌, nat_le, List, [], ◌∷◌, ◌++◌, Bool, true, false, length, drop, get_or, refl, sym, ◌∙◌, ap, subst, arith, if◌then◌else◌}
+use Rattle.std.proofs.Common.{◌≡◌, ℕ, ℤ, ◌+◌, ◌<◌, ◌≤◌, ◌^◌, nat_le, List, [], ◌∷◌, Bool, true, false, length, drop, get_or, refl, sym, ◌∙◌, ap, subst, if◌then◌else◌}
 use Rattle.sky_model.specs.declared.reply.Reply.TheVariants.{Number, Null}
 use Rattle.sky_model.specs.declared.reply.Refusal.TheVariants.{IdsSpent}
 use Rattle.sky_model.specs.History.{Mark, queued, ticked}

@@ -1,6 +1,5 @@
 use Rattle.std.proofs.Common.{◌∙◌, sym, ap, w64}
 use Rattle.std.proofs.lemmas.Int.{to_z-of_z}
-use Rattle.sky_model.specs.declared.daemon.DaemonPart.TheVariants.{Tick}
 use Rattle.sky_model.specs.State.{after_marks}
 use Rattle.sky_model.specs.Reader.{database_by_itself}
 use Rattle.sky_model.specs.Daemon.{daemon_does}

@@ -1,4 +1,4 @@
-use Rattle.std.proofs.Common.{◌≡◌, ℕ, Some, None, length, find, option_map, refl, sym, ◌∙◌, ap, arith, ◌==◌}
+use Rattle.std.proofs.Common.{◌≡◌, None, length, find, option_map, refl, sym, ◌∙◌, ap, arith, ◌==◌}
 use Rattle.sky_model.specs.Triggers.{TableTrigger}
 use Rattle.sky_model.specs.State.{Queue}
 use Rattle.sky_model.specs.StepQueue.{shown_name}

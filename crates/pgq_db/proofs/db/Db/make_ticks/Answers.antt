@@ -1,4 +1,4 @@
-use Rattle.std.proofs.Common.{◌≡◌, ◌<◌, length, get_or, ◌∙◌, ap, arith, w64, to_z, of_z}
+use Rattle.std.proofs.Common.{◌<◌, length, get_or, ◌∙◌, ap, arith, w64, to_z, of_z}
 use Rattle.sky_model.specs.Queues.{NamedQueue}
 use Rattle.pgq_queues.specs.Seen.{unnamed, queues_of}
 use Rattle.pgq_db.specs.Views.{DbView}
