@@ -41,7 +41,7 @@ def read_crates(path):
 
 
 def read_steps(path, section, crates):
-    """The steps of the table in a section: the number of each, what the data becomes, and the crates that its code names."""
+    """The steps of a section's table: the number of each, what the data becomes, and the crates that its code names."""
     with open(path, encoding='utf-8') as file:
         part = file.read().split('\n## %s\n' % section)[1].split('\n## ')[0]
     for line in part.split('\n'):

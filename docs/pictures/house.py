@@ -47,7 +47,8 @@ class House:
         self.picture = Picture(title)
         self.box_width = box_of(crates)
         self.bands, self.y_of_row, self.bottom = self.heights(rows_within(crates))
-        self.layers = Layers(self.row_of, list(dict.fromkeys(list(lines) + list(bold))), self.box_width + GAP, POINT, LEFT, RIGHT)
+        lines = list(dict.fromkeys([*lines, *bold]))
+        self.layers = Layers(self.row_of, lines, self.box_width + GAP, POINT, LEFT, RIGHT)
 
     def heights(self, within):
         """The band of each level with its label's lines, from above, and the middle of each row."""
@@ -88,9 +89,10 @@ class House:
 
     def draw(self):
         self.draw_bands()
+        faint = 'line-rule none' if self.bold else 'line-grey none'
         for line in self.layers.routes:
             if line not in self.bold:
-                self.picture.path(self.curve(line), 'line-rule none' if self.bold else 'line-grey none', 1.3, title='%s on %s' % line)
+                self.picture.path(self.curve(line), faint, 1.3, title='%s on %s' % line)
         for line in self.bold:
             self.picture.path(self.curve(line), 'line-blue none', 2.2, title='%s calls %s' % line)
         on_way = {name for line in self.bold for name in line}

@@ -57,9 +57,9 @@ class Timeline:
         self.tick_at = {tick.row: tick for tick in story.ticks}
         self.several_homes = len({tick.home for tick in story.ticks}) > 1
         self.notes = {place: self.note_of(place) for place in range(len(story.rows))}
-        rows = story.rows
-        self.places.columns(width_of(str(rows[-1].line)) if rows else 0, max((width_of(self.statement_of(row)) for row in rows), default=0),
-                            max((width_of(row.reply) for row in rows), default=0), max(map(self.note_width, self.notes.values()), default=0))
+        columns = [(width_of(str(row.line)), width_of(self.statement_of(row)), width_of(row.reply), self.note_width(self.notes[place]))
+                   for place, row in enumerate(story.rows)]
+        self.places.columns(*map(max, zip(*columns, (0, width_of(name), width_of('prints'), 0))))
 
     def draw(self):
         self.heads()
@@ -155,7 +155,8 @@ class Timeline:
         x, y = self.places.middle[wait.session], self.places.y(wait.first)
         height = self.places.y(last) - y
         width = self.places.bar
-        self.picture.box(x - width / 2, y, width, height, self.outline('line-amber'), fill='url(#hatch)', title='waits for %s' % wait.holder)
+        self.picture.box(x - width / 2, y, width, height, self.outline('line-amber'), fill='url(#hatch)',
+                         title='waits for %s' % wait.holder)
         holder = self.places.middle[wait.holder]
         self.pointer(x, y, holder + (width if x > holder else -width) / 2, y, 'dashed')
 
@@ -188,9 +189,11 @@ class Timeline:
         if place in self.story.inserted:
             batches = self.story.batches.get(self.story.inserted[place])
             fill = 'fill-' + self.batch_class(batches[0]) if batches else 'fill-page'
-            self.picture.circle(x, y, size, fill + (self.outline(' line-page') if batches else ' line-ink'), stroke_width=1.5)
+            edge = self.outline(' line-page') if batches else ' line-ink'
+            self.picture.circle(x, y, size, fill + edge, stroke_width=1.5)
         elif row.reply.startswith('error '):
-            cross = 'M%.1f %.1fl%.1f %.1fm0 %.1fl%.1f %.1f' % (x - size, y - size, 2 * size, 2 * size, -2 * size, -2 * size, 2 * size)
+            side = 2 * size
+            cross = 'M%.1f %.1fl%.1f %.1fm0 %.1fl%.1f %.1f' % (x - size, y - size, side, side, -side, -side, side)
             self.picture.path(cross, 'line-page none', 5)
             self.picture.path(cross, 'line-red none', 2.5)
         else:
@@ -201,7 +204,8 @@ class Timeline:
         places, y = self.places, self.places.y(place)
         if row.is_own():
             self.picture.text(places.number_end, y, str(row.line), 'fill-faint end')
-        self.picture.text(places.statement, y, self.statement_of(row), 'fill-ink' if row.is_own() else 'fill-faint', places.statement_width)
+        ink = 'fill-ink' if row.is_own() else 'fill-faint'
+        self.picture.text(places.statement, y, self.statement_of(row), ink, places.statement_width)
         shade = 'fill-red' if row.reply.startswith('error ') else 'fill-ink'
         self.picture.text(places.reply, y, row.reply, shade, places.reply_width)
         x = places.note
