@@ -11,7 +11,7 @@ use Rattle.sky_chain.proofs.Lists.{Distinct, middle_is_apart}
 use Rattle.sky_chain.proofs.ChainLemmas.{Chain-distinct}
 use Rattle.sky_chain.proofs.Reading.{small_links, Chain-lacks_nowhere, found, seen, linked, linked_within}
 
--- a node that is at two places of a list where it is once is at one
+-- two places of one node in a list that has it once are one place
 same_place : (node : ℕ) (front back head rest : List ℕ) → Lacks node front → Lacks node head → front ++ node ∷ back ≡ head ++ node ∷ rest → (front ≡ head) × (back ≡ rest)
 same_place node [] back [] rest left right same = (refl, cc)
 same_place node [] back (h ∷ head) rest left right same = absurd (right.0 (cc))

@@ -1,4 +1,4 @@
--- Chains of links, as nodes come and go.
+-- Chains of links, as nodes are inserted and removed.
 use Rattle.std.proofs.Common.{◌≡◌, ◌≢◌, ℕ, List, [], ◌∷◌, ◌++◌, Option, Some, None, refl, sym, ap, ◌∙◌}
 use Rattle.sky_chain.specs.declared.links.Link.{Link}
 use Rattle.sky_chain.specs.Chains.{Lacks}
@@ -19,7 +19,7 @@ module _ (links : Links) (list : ℕ) where
   foreign_is_lacked node before (x ∷ xs) after foreign chain =
       (λ same. foreign _ (ap links same ∙ chain.0) refl, foreign_is_lacked node x xs after foreign chain.1)
 
-  -- a node that the link of another one leads back to isn't its neighbour, unless it is in front of the list
+  -- a node to which the link of another one leads back isn't its neighbour, unless it comes before the list
   pub back_is_lacked : (node : ℕ) (link : Link) (before : ℕ) (xs : List ℕ) (after : ℕ) → links node ≡ Some link → link.prev ≢ before → Lacks link.prev xs → Chain links list before xs after → Lacks node xs
   back_is_lacked node link before [] after is other lacks chain = tt
   back_is_lacked node link before (x ∷ xs) after is other lacks chain =
@@ -51,7 +51,7 @@ module _ (links : Links) (list : ℕ) where
   pub Chain-at : (before : ℕ) (xs : List ℕ) (x : ℕ) (ys : List ℕ) (after : ℕ) → Chain links list before (xs ++ x ∷ ys) after → links x ≡ Some (record { prev = last_or xs before; next = first_or ys after; list = list })
   Chain-at before xs x ys after chain = (Chain-parts before xs (x ∷ ys) after chain).1.0
 
-  -- the last one knows its list, and so does the first
+  -- the last node knows its list, and so does the first
   pub last_is_marked : (before : ℕ) (xs : List ℕ) (after : ℕ) → Chain links list before xs after → ((link : Link) → links before ≡ Some link → link.list ≡ list) → (link : Link) → links (last_or xs before) ≡ Some link → link.list ≡ list
   last_is_marked before [] after chain marked = marked
   last_is_marked before (x ∷ xs) after chain marked = last_is_marked x xs after chain.1 (λ link is. marks_of link (sym chain.0 ∙ is))
@@ -64,12 +64,12 @@ module _ (links : Links) (list : ℕ) where
   first_is_marked before (x ∷ xs) after chain marked = λ link is. cc (chain.0, is)
 
 module _ (old new : Links) (list : ℕ) where
-  -- a list whose nodes keep their links stays
+  -- a list whose nodes keep their links stays as it is
   pub Chain-same : Same old new list → (before : ℕ) (xs : List ℕ) (after : ℕ) → Chain old list before xs after → Chain new list before xs after
   Chain-same same before [] after chain = tt
   Chain-same same before (x ∷ xs) after chain = (same x _ chain.0 refl ∙ chain.0, Chain-same same x xs after chain.1)
 
-  -- and so does one without the only node whose link is changed
+  -- and so does one without the only node whose link changes
   pub Chain-without : (node : ℕ) → ((z : ℕ) → z ≢ node → new z ≡ old z) → (before : ℕ) (xs : List ℕ) (after : ℕ) → Lacks node xs → Chain old list before xs after → Chain new list before xs after
   Chain-without node same before [] after lacks chain = tt
   Chain-without node same before (x ∷ xs) after lacks chain =

@@ -1,4 +1,4 @@
--- A chain after a node was put into it, or taken out of it.
+-- A chain after a node was inserted into it, or removed from it.
 use Rattle.std.proofs.Common.{◌≡◌, ◌≢◌, ℕ, List, [], ◌∷◌, ◌++◌, Some, None, ap, ◌∙◌}
 use Rattle.sky_chain.specs.declared.links.Link.{Link}
 use Rattle.sky_chain.specs.Chains.{Lacks}
@@ -9,7 +9,7 @@ use Rattle.sky_chain.proofs.Writes.{next_set-there, prev_set-there, next_set-els
 use Rattle.sky_chain.proofs.ChainLemmas.{foreign_is_lacked, Chain-distinct, Chain-parts, Chain-append, Chain-without}
 
 module _ (list : ℕ) where
-  -- the last node of a chain leads to another one now
+  -- the last node of a chain now leads to another one
   pub Chain-lead : (links : Links) (before : ℕ) (xs : List ℕ) (old new : ℕ) → Distinct xs → Chain links list before xs old → Chain (next_set links (last_or xs before) new) list before xs new
   Chain-lead links before [] old new distinct chain = tt
   Chain-lead links before (x ∷ []) old new distinct chain = (next_set-there links x new _ chain.0, tt)
@@ -17,7 +17,7 @@ module _ (list : ℕ) where
       let apart : x ≢ last_or ys y = Lacks-last x ys y distinct.0.0 distinct.0.1 in
       (next_set-elsewhere links (last_or ys y) new x apart ∙ chain.0, Chain-lead links x (y ∷ ys) old new distinct.1 chain.1)
 
-  -- its first one leads back to another one now
+  -- its first node now leads back to another one
   pub Chain-lead_back : (links : Links) (old new : ℕ) (xs : List ℕ) (after : ℕ) → Distinct xs → Chain links list old xs after → Chain (prev_set links (first_or xs after) new) list new xs after
   Chain-lead_back links old new [] after distinct chain = tt
   Chain-lead_back links old new (x ∷ xs) after distinct chain =
@@ -47,7 +47,7 @@ module _ (list : ℕ) where
     Chain-is_distinct : (xs : List ℕ) → Chain links list nowhere xs nowhere → Distinct xs
     Chain-is_distinct xs chain = Chain-distinct links list nowhere xs nowhere (nowhere_is_lacked nowhere xs nowhere chain) chain
 
-    -- a node is put into a chain
+    -- a node is inserted into a chain
     pub Chain-inserted : (xs ys : List ℕ) (node : ℕ) (link : Link) → links node ≡ Some link → Lacks node (xs ++ ys) → Chain links list nowhere (xs ++ ys) nowhere
         → Chain (inserted links list node (last_or xs nowhere) (first_or ys nowhere)) list nowhere (xs ++ node ∷ ys) nowhere
     Chain-inserted xs ys node link is lacks chain =
@@ -78,7 +78,7 @@ module _ (list : ℕ) where
         let there = inserted-there links list node before after link (Lacks-last node xs nowhere here left) (Lacks-first node ys nowhere here right) is in
         Chain-append fifth list nowhere xs (node ∷ ys) nowhere front_5 (there, back_5)
 
-    -- a node is taken out of a chain
+    -- a node is removed from a chain
     pub Chain-removed : (new : Links) (xs : List ℕ) (node : ℕ) (ys : List ℕ) → ((z : ℕ) → z ≢ node → new z ≡ joined links (last_or xs nowhere) (first_or ys nowhere) z)
         → Chain links list nowhere (xs ++ node ∷ ys) nowhere → Chain new list nowhere (xs ++ ys) nowhere
     Chain-removed new xs node ys same chain =

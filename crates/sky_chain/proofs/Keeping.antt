@@ -1,4 +1,4 @@
--- What stays kept as links and ends are written.
+-- What is kept when links and ends are written.
 use Rattle.std.proofs.Common.{◌≡◌, ◌≢◌, ℕ, zero, suc, Bool, true, false, List, [], ◌∷◌, ◌++◌, length, set, Option, Some, None, slice_get, refl, sym, ap, ◌∙◌, arith}
 use Rattle.std.specs.Prelude.{◌==◌, if◌then◌else◌}
 use Rattle.std.proofs.lemmas.Bool.Decides.{nat_tests}
@@ -36,7 +36,7 @@ slice_get-push (z ∷ xs) x = slice_get-push xs x
 
 -- ---- spare nodes
 
--- they stay where their links do
+-- they stay if their links do
 pub Spares-same : (old new : Links) (node : ℕ) (xs : List ℕ) → ((z : ℕ) (link : Link) → z ≢ node → old z ≡ Some link → link.list ≡ nowhere → new z ≡ old z) → Lacks node xs → Spares old xs → Spares new xs
 Spares-same old new node [] same lacks spares = tt
 Spares-same old new node (x ∷ xs) same lacks spares =
@@ -79,7 +79,7 @@ keeps_with links ends list e old v lists there here elsewhere l = at_list (l == 
     at_list true same other = rw (same refl, slice_get-set_same ends list e old there) here
     at_list false same other = rw (slice_get-set_other ends list l e (other refl)) (elsewhere l (other refl))
 
--- the ends of a list after a node came, or went
+-- the ends of a list after a node was inserted, or removed
 pub first_inserted : (e : Ends) (xs ys : List ℕ) (node : ℕ) → node ≢ nowhere → Lacks nowhere (xs ++ ys) → e.first ≡ first_or (xs ++ ys) nowhere
     → (ends_joined (ends_joined e (last_or xs nowhere) node) node (first_or ys nowhere)).first ≡ first_or (xs ++ node ∷ ys) nowhere
 first_inserted e [] ys node here lacks first = grind (arith, nat_tests, here)

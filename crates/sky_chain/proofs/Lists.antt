@@ -30,7 +30,7 @@ pub Lacks-append : (x : ℕ) (xs ys : List ℕ) → Lacks x xs → Lacks x ys �
 Lacks-append x [] ys left right = right
 Lacks-append x (z ∷ xs) ys left right = (left.0, Lacks-append x xs ys left.1 right)
 
--- a node that a list lacks isn't its first, nor its last
+-- a node that a list lacks is neither its first nor its last
 pub Lacks-first : (x : ℕ) (xs : List ℕ) (after : ℕ) → x ≢ after → Lacks x xs → x ≢ first_or xs after
 Lacks-first x [] after other lacks = other
 Lacks-first x (z ∷ xs) after other lacks = lacks.0
@@ -48,12 +48,12 @@ pub Distinct-right : (xs ys : List ℕ) → Distinct (xs ++ ys) → Distinct ys
 Distinct-right [] ys distinct = distinct
 Distinct-right (x ∷ xs) ys distinct = Distinct-right xs ys distinct.1
 
--- the last of the nodes in front is none of those after it
+-- the last of the nodes before is none of those after
 pub last_is_apart : (xs ys : List ℕ) (before : ℕ) → Lacks before ys → Distinct (xs ++ ys) → Lacks (last_or xs before) ys
 last_is_apart [] ys before lacks distinct = lacks
 last_is_apart (x ∷ xs) ys before lacks distinct = last_is_apart xs ys x (Lacks-right x xs ys distinct.0) distinct.1
 
--- the first of the nodes after is none of those in front of it
+-- the first of the nodes after is none of those before
 pub first_is_apart : (xs ys : List ℕ) (after : ℕ) → Lacks after xs → Distinct (xs ++ ys) → Lacks (first_or ys after) xs
 first_is_apart xs [] after lacks distinct = lacks
 first_is_apart xs (y ∷ ys) after lacks distinct = head_is_apart xs distinct
@@ -63,7 +63,7 @@ first_is_apart xs (y ∷ ys) after lacks distinct = head_is_apart xs distinct
     head_is_apart (x ∷ xs) distinct =
         (λ same. (Lacks-right x xs (y ∷ ys) distinct.0).0 (sym same), head_is_apart xs distinct.1)
 
--- a node that is in the middle isn't elsewhere
+-- a node in the middle is nowhere else
 pub middle_is_apart : (xs : List ℕ) (x : ℕ) (ys : List ℕ) → Distinct (xs ++ x ∷ ys) → Lacks x xs × Lacks x ys × Distinct (xs ++ ys)
 middle_is_apart [] x ys distinct = (tt, distinct.0, distinct.1)
 middle_is_apart (z ∷ xs) x ys distinct =

@@ -25,7 +25,7 @@ empty_keeps links list = record { first = refl; last = refl; chain = tt }
 
 module _ {links : List Link} {ends : List Ends} {free free_number spare size capacity : ℕ} {lists : ℕ → Option (List ℕ)} {spares : List ℕ}
     (kept : AreKept links ends free free_number spare size capacity lists spares) where
-  -- a list is made at the end
+  -- a list is made with a new number
   pub added_kept : (new : List Ends) → new ≡ ends ++ empty_ends ∷ [] → length new < 2 ^ 63
       → AreKept links new free free_number spare size capacity (λ l. if l == length ends then Some [] else lists l) spares
   added_kept new is few = rw is (record {
@@ -47,7 +47,7 @@ module _ {links : List Link} {ends : List Ends} {free free_number spare size cap
       at_list l true same other = rw (same refl, slice_get-push ends empty_ends) (empty_keeps (slice_get links) (length ends))
       at_list l false same other = rw (slice_get-push_other ends empty_ends l (other refl)) (kept.keeps l)
 
-  -- a freed number is none
+  -- a freed number is no list's
   freed_is_none : (list : ℕ) (e : Ends) → slice_get ends list ≡ Some e → e.last ≡ freed → lists list ≡ None
   freed_is_none list e there is = at_list (lists list) refl
     where
@@ -55,7 +55,7 @@ module _ {links : List Link} {ends : List Ends} {free free_number spare size cap
       at_list None same = refl
       at_list (Some nodes) same = absurd (Keeps-in_use links list e nodes (small_links kept) (rw (there, same) at (kept.keeps list)) is)
 
-  -- a list is made at a freed number
+  -- a list is made with a freed number
   pub reused_kept : (e : Ends) → e ≡ get_or ends free_number e → free_number ≢ nowhere
       → (lists free_number ≡ None) × AreKept links (set ends free_number empty_ends) free e.first spare size capacity (λ l. if l == free_number then Some [] else lists l) spares
   reused_kept e read some = at_numbers kept.numbers kept.numbers_are kept.free_number_is

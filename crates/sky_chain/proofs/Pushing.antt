@@ -1,4 +1,4 @@
--- What is kept after a node was taken from the spare ones, and put into a list.
+-- What is kept after a node was taken from the spare ones and inserted into a list.
 use Rattle.std.proofs.Common.{◌≡◌, ◌≢◌, ℕ, ◌-◌, ◌<◌, ◌≤◌, Bool, true, false, List, [], ◌∷◌, ◌++◌, map, length, set, Option, Some, None, slice_get, get_or, take, drop, length-set, length-append, refl, sym, ap, ◌∙◌, arith}
 use Rattle.std.specs.Prelude.{◌==◌, if◌then◌else◌}
 use Rattle.std.specs.Option.{unwrap_or}
@@ -66,7 +66,7 @@ module _ {links : List Link} {ends : List Ends} {node free_number spare size cap
       nowhere_else : (list : ℕ) → list < length ends → list ≢ nowhere
       nowhere_else list known same = omega (arith, known, same, kept.few)
 
-  -- and is put into one, whose nodes are these
+  -- and is inserted into one, whose nodes are these
   module _ (new : List Link) (list : ℕ) (e : Ends) (front back : List ℕ) (there : slice_get ends list ≡ Some e) (is : lists list ≡ Some (front ++ back))
       (at : (z : ℕ) → slice_get new z ≡ inserted (slice_get links) list node (last_or front nowhere) (first_or back nowhere) z) where
     was : Keeps (slice_get links) list e (front ++ back)
@@ -134,11 +134,11 @@ module _ {links : List Link} {ends : List Ends} {node free_number spare size cap
       few = omega (arith, kept.few, length-set ends list (ends_joined (ends_joined e (last_or front nowhere) node) node (first_or back nowhere)));
     }
 
--- what was written over a whole vector is what it has
+-- a vector that was overwritten whole has what was written
 pub refilled : {X : Type 0} (new old : List X) (len : ℕ) → length new ≡ length old → len ≡ length old → take len (new ++ drop (length new) old) ≡ new
 refilled new old len same is = rw (is, ← same) (take-append_seam new (drop (length new) old))
 
--- the ends of nodes that have links have some
+-- nodes that are ends have links
 last_below : {n : ℕ} (xs : List ℕ) (before : ℕ) → (before ≢ nowhere → before < n) → AllByRecursion (λ x. x < n) xs → last_or xs before ≢ nowhere → last_or xs before < n
 last_below [] before within below other = within other
 last_below (x ∷ xs) before within below other = last_below xs x (λ _. below.0) below.1 other
@@ -175,7 +175,7 @@ module _ {links : List Link} {ends : List Ends} {free free_number spare size cap
   pub push_within : (before ≢ nowhere → before < length taken) × (after ≢ nowhere → after < length taken)
   push_within = rw (place.1, place.2) (neighbours_within after_taking.1 list front back listed)
 
-  -- the spare node was taken, and put into a list
+  -- the spare node was taken and inserted into a list
   pub pushed_kept : (e now : Ends) (next len : ℕ) (new : List Link) → e ≡ get_or ends list e → ((link : Link) → slice_get taken node ≡ Some link → next ≡ link.next)
       → ((z : ℕ) → slice_get new z ≡ inserted (slice_get taken) list node before after z) → now ≡ ends_joined (ends_joined e before node) node after
       → length new ≡ length taken → len ≡ length taken

@@ -14,7 +14,7 @@ use Rattle.sky_chain.specs.Joins.{IsAt}
 use Rattle.sky_chain.proofs.Lists.{Distinct, Lacks-left, Lacks-right}
 use Rattle.sky_chain.proofs.ChainLemmas.{foreign_is_lacked, Chain-distinct, Chain-at}
 
--- ---- distinct nodes below a number are no more than that
+-- ---- there are at most as many distinct nodes below a number as that number
 
 Lacks-recursion : (x : ℕ) (xs : List ℕ) → Lacks x xs → AllByRecursion (λ y. eqb x y ≡ false) xs
 Lacks-recursion x [] lacks = tt
@@ -55,7 +55,7 @@ module _ (links : List Link) (small : length links < 2 ^ 63) where
       length_of_distinct (length links) xs (Chain-distinct (slice_get links) list nowhere xs nowhere (Chain-lacks_nowhere list nowhere xs nowhere chain) chain)
       (Chain-below list nowhere xs nowhere chain)
 
--- the nodes that are found from the first one on are those of the chain
+-- the nodes found from the first one on are those of the chain
 pub Chain-read : (links : Links) (list most before : ℕ) (xs : List ℕ) → links nowhere ≡ None → length xs ≤ most → Chain links list before xs nowhere → nodes_from links most (first_or xs nowhere) ≡ xs
 Chain-read links list zero before [] none fits chain = refl
 Chain-read links list (suc most) before [] none fits chain = ap (λ link. node_and nowhere link (λ next. nodes_from links most next)) none
@@ -83,7 +83,7 @@ pub Keeps-in_use : (links : List Link) (list : ℕ) (ends : Ends) (xs : List ℕ
 Keeps-in_use links list ends xs small keeps = λ same.
     last_is_below (length links) xs nowhere (Chain-below links small list nowhere xs nowhere keeps.chain) (λ e. omega (arith, e)) small (sym keeps.last ∙ same)
 
--- what a list is shown as
+-- how a list is shown
 abbrev pub shown_at : List Link → Option Ends → Option (List ℕ)
 shown_at links None = None
 shown_at links (Some ends) = list_in links ends

@@ -1,4 +1,4 @@
--- What is kept after a node was taken out of its list.
+-- What is kept after a node was removed from its list.
 use Rattle.std.proofs.Common.{◌≡◌, ◌≢◌, ℕ, suc, ◌<◌, ◌≤◌, List, [], ◌∷◌, ◌++◌, map, length, set, Option, Some, None, slice_get, get_or, take, drop, length-set, refl, sym, ap, ◌∙◌, arith}
 use Rattle.std.specs.Prelude.{◌==◌, if◌then◌else◌}
 use Rattle.std.proofs.lemmas.Option.{slice_get_within, slice_get-get_or, get_or_from_slice_get, same_Some}
@@ -51,7 +51,7 @@ module _ {links : List Link} {ends : List Ends} {free free_number spare size cap
   neighbours =
       ((neighbours_within kept list front (node ∷ back) listed).0, first_below back (Chain-below links (small_links kept) list node back nowhere parts.1.1), slice_get_within ends list there.0 there.1)
 
-  -- one more node is spare, and there are as many as there is memory for
+  -- one more node is spare, and there is memory for all of them
   pub removed_fits : suc spare ≤ size
   removed_fits =
       let fits : length (node ∷ spares) ≤ length links =
@@ -126,7 +126,7 @@ module _ {links : List Link} {ends : List Ends} {free free_number spare size cap
     link_is : link ≡ record { prev = last_or front nowhere; next = first_or back nowhere; list = list }
     link_is = read ∙ get_or_from_slice_get links node _ link (removed_link kept list node front back shown)
 
-    -- what its link tells is within bounds
+    -- the places in its link are within bounds
     pub unlink_within : (link.prev ≢ nowhere → link.prev < length links) × (link.next ≢ nowhere → link.next < length links) × (link.list < length ends)
     unlink_within = rw link_is (neighbours kept list node front back shown)
 

@@ -1,14 +1,14 @@
--- A worked row: what the clauses of some calls, one after another, say of one list.
+-- A worked list: what the contracts of some calls, one after another, say of it.
 use Rattle.std.proofs.Common.{◌≡◌, ◌≢◌, ℕ, ◌+◌, ◌≤◌, max, List, [], ◌∷◌, ◌++◌, drop, Option, Some, None, ap, ◌∙◌, arith}
 use Rattle.std.specs.Option.{unwrap_or}
 use Rattle.std.proofs.lemmas.Bool.Decides.{nat_tests}
 use Rattle.sky_chain.specs.Chains.{ChainsView, list_of, nodes_of, first_of, IsBetween, IsUnlinked, Changes}
 
--- the list itself after a change
+-- the list after a change
 here : (old new : ChainsView) (list : ℕ) (nodes : Option (List ℕ)) → Changes old list nodes new → list_of new list ≡ nodes
 here old new list nodes changes = grind (arith, nat_tests, changes list)
 
--- the same, where its nodes before are known
+-- the same, if its nodes before the change are known
 after : (old new : ChainsView) (list : ℕ) (was : List ℕ) (nodes : List ℕ → List ℕ) → list_of old list ≡ Some was → Changes old list (Some (nodes (nodes_of old list))) new → list_of new list ≡ Some (nodes was)
 after old new list was nodes is changes = here old new list _ changes ∙ ap (λ o. Some (nodes (unwrap_or o []))) is
 
@@ -27,7 +27,7 @@ module _ (new reserved made one two three : ChainsView) (list x y z : ℕ)
       let third = after one two list (x ∷ []) (λ nodes. nodes ++ y ∷ []) second lists_two in
       after two three list (x ∷ y ∷ []) (λ nodes. nodes ++ z ∷ []) third lists_three
 
-  -- each of the pushes finds a spare node, and then there is none
+  -- each push finds a spare node, and then none is left
   pub spares_suffice : (1 ≤ made.spare) × (1 ≤ one.spare) × (1 ≤ two.spare) × (three.spare ≡ 0) × (made.size ≡ 3)
   spares_suffice =
       let no_spare : new.spare ≡ 0 = ap (λ (v : ChainsView). v.spare) at_new in
@@ -50,12 +50,12 @@ module _ (three unlinked popped pushed left empty : ChainsView) (list x y z w : 
   pub first_popped : (first ≡ Some x) × (list_of popped list ≡ Some (z ∷ []))
   first_popped = (first_is ∙ ap (λ o. first_of (unwrap_or o [])) middle_unlinked, after unlinked popped list (x ∷ z ∷ []) (drop 1) middle_unlinked lists_popped)
 
-  -- a node is pushed in front with no other reserve; it is another one than z
+  -- a node is pushed at the front, with no further reserve; it isn't z
   pub pushed_in_front : (1 ≤ popped.spare) × (list_of pushed list ≡ Some (w ∷ z ∷ [])) × (w ≢ z)
   pushed_in_front =
       (omega arith, after popped pushed list (z ∷ []) (λ nodes. w ∷ nodes) first_popped.1 lists_pushed, (rw first_popped.1 at (is_unlinked list)).0)
 
-  -- two more pops give these two, and another one none
+  -- two more pops give these two, and a third one none
   pub others_popped : (second ≡ Some w) × (third ≡ Some z) × (last ≡ None)
   others_popped =
       let two_left = pushed_in_front.1 in

@@ -1,4 +1,4 @@
--- Links after writes: what is where it was written, and elsewhere.
+-- Links after writes: what is at the places written, and elsewhere.
 use Rattle.std.proofs.Common.{◌≡◌, ◌≢◌, ℕ, Some, ◌∙◌, arith}
 use Rattle.std.proofs.lemmas.Bool.Decides.{nat_tests}
 use Rattle.sky_chain.specs.declared.links.Link.{Link}
@@ -29,7 +29,7 @@ module _ (links : Links) where
   joined-elsewhere before after z one other =
       prev_set-elsewhere (next_set links before after) after before z other ∙ next_set-elsewhere links before after z one
 
-  -- where a node is neither
+  -- if a node is neither
   pub inserted-elsewhere : (list node before after z : ℕ) → z ≢ node → z ≢ before → z ≢ after → inserted links list node before after z ≡ links z
   inserted-elsewhere list node before after z here one other =
       let first = joined links before node in

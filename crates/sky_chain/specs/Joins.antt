@@ -17,14 +17,14 @@ prev_set links node prev z = if z == node then option_map (λ link. record { pre
 abbrev pub list_set : Links → ℕ → ℕ → Links
 list_set links node list z = if z == node then option_map (λ link. record { prev = link.prev; next = link.next; list = list }) (links z) else links z
 
--- two nodes of a list are neighbours, where either may be none
+-- two nodes of a list are neighbours; either may be none
 abbrev pub joined : Links → ℕ → ℕ → Links
 joined links before after = prev_set (next_set links before after) after before
 
 abbrev pub ends_joined : Ends → ℕ → ℕ → Ends
 ends_joined ends before after = record { first = if before == nowhere then after else ends.first; last = if after == nowhere then before else ends.last }
 
--- a node is put into a list, between two neighbours
+-- a node is inserted into a list, between two neighbours
 abbrev pub inserted : Links → ℕ → ℕ → ℕ → ℕ → Links
 inserted links list node before after = list_set (joined (joined links before node) node after) node list
 
@@ -35,6 +35,6 @@ spare_node links free = if free == nowhere then length links else free
 abbrev pub with_spare : List Link → ℕ → List Link
 with_spare links free = if free == nowhere then links ++ spare_link nowhere ∷ [] else links
 
--- a place in a list, after some nodes and before the others
+-- a place in a list, after these nodes and before these
 abbrev pub IsAt : ChainsView → ℕ → List ℕ → List ℕ → ℕ → ℕ → Type 0
 IsAt chains list front back before after = (list_of chains list ≡ Some (front ++ back)) × (before ≡ last_or front nowhere) × (after ≡ first_or back nowhere)

@@ -29,7 +29,7 @@ last_or (x ∷ xs) before = last_or xs x
 abbrev pub Links : Type 0
 Links = ℕ → Option Link
 
--- nodes are linked to each other, to what is before them and to what is after them, and all know their list
+-- nodes are linked to each other, to what comes before them and to what comes after them, and all know their list
 abbrev pub Chain : Links → ℕ → ℕ → List ℕ → ℕ → Type 0
 Chain links list before [] after = ⊤
 Chain links list before (x ∷ xs) after = (links x ≡ Some (record { prev = before; next = first_or xs after; list = list })) × Chain links list x xs after
@@ -47,7 +47,7 @@ Spares links (x ∷ xs) = (links x ≡ Some (spare_link (first_or xs nowhere))) 
 abbrev pub freed_ends : ℕ → Ends
 freed_ends next = record { first = next; last = freed }
 
--- the ends of a list with no node
+-- the ends of a list without nodes
 abbrev pub empty_ends : Ends
 empty_ends = record { first = nowhere; last = nowhere }
 
@@ -68,7 +68,8 @@ KeepsAt links list None nodes = nodes ≡ None
 KeepsAt links list (Some ends) None = ends.last ≡ freed
 KeepsAt links list (Some ends) (Some nodes) = Keeps links list ends nodes
 
--- what is true of all that is kept: each list by its number, the spare nodes that have a link, the freed numbers, and that there is memory for as many nodes as `size` says
+-- what is true of all that is kept: each list by its number, the spare nodes that have a link, the freed numbers, and that there is memory for `size`
+-- nodes
 pub record AreKept (links : List Link) (ends : List Ends) (free_node free_number spare size capacity : ℕ) (lists : ℕ → Option (List ℕ)) (spares : List ℕ) : Type 0 where
   pub keeps : (list : ℕ) → KeepsAt (slice_get links) list (slice_get ends list) (lists list)
   pub spares_are : Spares (slice_get links) spares
@@ -82,16 +83,16 @@ pub record AreKept (links : List Link) (ends : List Ends) (free_node free_number
   pub small : capacity < 2 ^ 63
   pub few : length ends < 2 ^ 63
 
--- some lists are kept so
+-- links, ends and numbers that keep some lists
 abbrev pub IsKept : List Link → List Ends → ℕ → ℕ → ℕ → ℕ → ℕ → Type 0
 IsKept links ends free_node free_number spare size capacity = (lists : ℕ → Option (List ℕ)) × (spares : List ℕ) × AreKept links ends free_node free_number spare size capacity lists spares
 
--- a node, if there is one, and those that come from where its link leads
+-- a node, if there is one, and those after it, from where its link leads
 abbrev pub node_and : ℕ → Option Link → (ℕ → List ℕ) → List ℕ
 node_and place None rest = []
 node_and place (Some link) rest = place ∷ rest link.next
 
--- the nodes from a place on, of which there are no more than so many
+-- the nodes from a place on, at most so many
 abbrev pub nodes_from : Links → ℕ → ℕ → List ℕ
 nodes_from links zero place = []
 nodes_from links (suc most) place = node_and place (links place) (λ next. nodes_from links most next)

@@ -37,7 +37,7 @@ impl Model for Chains {
 }
 
 impl Chains {
-    /// No list, no node. No memory is taken.
+    /// No list, no node. It takes no memory.
     pub fn new(alloc: Global) -> Chains
         ensures { result ≡ record { lists = []; spare = 0; size = 0 } }
     {
@@ -66,7 +66,7 @@ impl Chains {
         self.spare
     }
 
-    /// Takes memory for pushing `n` nodes, as far as it isn't there. The lists stay.
+    /// Reserves memory for pushing `n` nodes, as far as there isn't enough. The lists stay.
     pub fn reserve(&mut self, n: usize) -> Result<(), NoMemory>
         ensures lists { self.new.lists ≡ self.old.lists }
         ensures spare { OnOk result (self.new.spare ≡ max n self.old.spare) }
@@ -78,7 +78,7 @@ impl Chains {
         }
         let more = n - self.spare;
 
-        // For these there is memory already.
+        // Memory for these is there already.
         let without_link = self.size - self.links.len();
         self.links.reserve(without_link + more)?;
         self.size += more;
@@ -86,7 +86,7 @@ impl Chains {
         Ok(())
     }
 
-    /// Makes a list with no node, and gives its number, which may be one that was freed.
+    /// Makes a list without nodes, and gives its number, which may be a freed one.
     pub fn new_list(&mut self) -> Result<usize, NoMemory>
         ensures new { IfOk result (λ list. list_of self.old list ≡ None) }
         ensures lists { IfOk result (λ list. Changes self.old list (Some []) self.new) }

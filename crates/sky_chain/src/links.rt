@@ -3,13 +3,13 @@ ghost use Rattle.sky_chain.specs.Links.{nowhere, at_place};
 ghost use Rattle.sky_chain.specs.declared.links.Link.{Link};
 ghost use Rattle.sky_chain.specs.Joins.{next_set, joined, ends_joined, inserted, spare_node, with_spare};
 
-/// No place: what is in front of the first node of a list, and after the last.
+/// No place: what comes before the first node of a list, and after the last.
 pub(crate) const NOWHERE: usize = usize::MAX;
 
 /// Marks the ends of a list that was freed. No vector of links is so long.
 pub(crate) const FREED: usize = usize::MAX - 1;
 
-/// A node's neighbours, and the list that it is in. A spare node is in none, and `next` leads to another one.
+/// A node's neighbours, and the list that it is in. A spare node is in none, and its `next` leads to another spare one.
 #[derive(Clone, Copy, Debug)]
 pub(crate) struct Link {
     pub(crate) prev: usize,
@@ -32,7 +32,7 @@ impl Link {
     }
 }
 
-/// The first and the last node of a list. Where a list was freed, `first` leads to another such number.
+/// The first and the last node of a list. If the list was freed, `first` leads to another freed number.
 #[derive(Clone, Copy, Debug)]
 pub(crate) struct Ends {
     pub(crate) first: usize,
@@ -42,7 +42,7 @@ pub(crate) struct Ends {
 impl Ends {
     ghost use Rattle.sky_chain.specs.Links.{empty_ends, freed_ends};
 
-    /// The ends of a list with no node.
+    /// The ends of a list without nodes.
     pub(crate) fn empty() -> Ends
         ensures { result ≡ empty_ends }
     {
@@ -52,7 +52,7 @@ impl Ends {
         }
     }
 
-    /// The ends of a list that was freed, which lead to another such number.
+    /// The ends of a freed list, which lead to another freed number.
     pub(crate) fn freed(next: usize) -> Ends
         ensures { result ≡ freed_ends next }
     {
@@ -70,7 +70,7 @@ pub(crate) fn known(place: usize) -> Option<usize>
     if place == NOWHERE { None } else { Some(place) }
 }
 
-/// Makes two nodes of a list neighbours. `NOWHERE` stands for what is in front of its first node and after its last.
+/// Makes two nodes of a list neighbours. `NOWHERE` is what comes before its first node and after its last.
 pub(crate) fn join(links: &mut [Link], ends: &mut Ends, before: usize, after: usize)
     requires before { before ≢ nowhere → before < length links.old }
     requires after { after ≢ nowhere → after < length links.old }
@@ -89,7 +89,7 @@ pub(crate) fn join(links: &mut [Link], ends: &mut Ends, before: usize, after: us
     }
 }
 
-/// Puts a node into a list, between two neighbours.
+/// Inserts a node into a list, between two neighbours.
 pub(crate) fn insert(
     links: &mut [Link],
     ends: &mut Ends,

@@ -41,7 +41,7 @@ length-filter p (x ∷ xs) = let rest = length-filter p xs in elim (p x) as (λ 
   | false ↦ omega arith
 ]
 
-distinct_filtered : {K : Type 0} (eq : K → K → Bool) (p : K → Bool) (xs : List K) → IsDistinct eq xs → IsDistinct eq (filter p xs)
+pub distinct_filtered : {K : Type 0} (eq : K → K → Bool) (p : K → Bool) (xs : List K) → IsDistinct eq xs → IsDistinct eq (filter p xs)
 unfolding IsDistinct
 distinct_filtered eq p [] distinct = tt
 distinct_filtered eq p (x ∷ xs) distinct = elim (p x) as (λ b. IsDistinct eq (cond b (x ∷ filter p xs) (filter p xs))) [
@@ -66,7 +66,7 @@ none_waits (w ∷ waiting) key none = elim (eq_by_cmp lock_cmp (key_of w) key) a
   | false ↦ λ other rest. (other, none_waits waiting key rest)
 ] refl none
 
--- who waits, as a list of keys tells
+-- who waits, by a list of keys
 waited_among : (waiting : List Waiting) (key : LockKey) → is_waited waiting key ≡ is_among (map key_of waiting) key
 waited_among [] key = refl
 waited_among (w ∷ waiting) key = elim (eq_by_cmp lock_cmp (key_of w) key) as (λ b. eq_by_cmp lock_cmp (key_of w) key ≡ b → is_some (cond b (Some w) (find (λ w. eq_by_cmp lock_cmp (key_of w) key) waiting)) ≡ (eq_by_cmp lock_cmp key (key_of w) || is_among (map key_of waiting) key)) [
@@ -104,7 +104,7 @@ still_waited-less (w ∷ waiting) who key q own other waited = elim (eq_by_cmp l
       ]
     ] refl waited
 
--- who has no entry leaves none
+-- a session without an entry leaves none
 without-nobody : (waiting : List Waiting) (who : ℕ) → entry_of who waiting ≡ None → without who waiting ≡ waiting
 without-nobody [] who none = refl
 without-nobody (w ∷ waiting) who none = elim (w.who == who) as (λ b. cond b (Some w) (entry_of who waiting) ≡ None → cond (not b) (w ∷ without who waiting) (without who waiting) ≡ w ∷ waiting) [
@@ -114,20 +114,20 @@ without-nobody (w ∷ waiting) who none = elim (w.who == who) as (λ b. cond b (
 
 -- ---- which keys are listed
 
-or_no : (b : Bool) → (b || false) ≡ b
+pub or_no : (b : Bool) → (b || false) ≡ b
 or_no true = refl
 or_no false = refl
 
-or_yes : (b : Bool) → (b || true) ≡ true
+pub or_yes : (b : Bool) → (b || true) ≡ true
 or_yes true = refl
 or_yes false = refl
 
 -- one more is listed
-among-push : (freed : List LockKey) (key q : LockKey) → is_among (freed ++ key ∷ []) q ≡ (is_among freed q || eq_by_cmp lock_cmp key q)
+pub among-push : (freed : List LockKey) (key q : LockKey) → is_among (freed ++ key ∷ []) q ≡ (is_among freed q || eq_by_cmp lock_cmp key q)
 among-push freed key q = list_any-append (λ k. eq_by_cmp lock_cmp q k) freed (key ∷ []) ∙ ap (λ b. is_among freed q || b) (or_no (eq_by_cmp lock_cmp q key) ∙ lock_ties-symm q key)
 
 -- one is listed no more
-among-without : (freed : List LockKey) (key q : LockKey) → is_among (filter (λ f. not (eq_by_cmp lock_cmp f key)) freed) q ≡ cond (eq_by_cmp lock_cmp key q) false (is_among freed q)
+pub among-without : (freed : List LockKey) (key q : LockKey) → is_among (filter (λ f. not (eq_by_cmp lock_cmp f key)) freed) q ≡ cond (eq_by_cmp lock_cmp key q) false (is_among freed q)
 among-without [] key q = elim (eq_by_cmp lock_cmp key q) as (λ b. false ≡ cond b false false) [ true ↦ refl | false ↦ refl ]
 among-without (f ∷ freed) key q = elim (eq_by_cmp lock_cmp f key) as (λ b. eq_by_cmp lock_cmp f key ≡ b
     → is_among (cond (not b) (f ∷ filter (λ f. not (eq_by_cmp lock_cmp f key)) freed) (filter (λ f. not (eq_by_cmp lock_cmp f key)) freed)) q ≡ cond (eq_by_cmp lock_cmp key q) false (eq_by_cmp lock_cmp q f || is_among freed q)) [
@@ -141,7 +141,7 @@ among-without (f ∷ freed) key q = elim (eq_by_cmp lock_cmp f key) as (λ b. eq
       ] refl
     ] refl
 
--- what is listed still is another key, and was listed
+-- what is still listed is another key, and was listed
 stayed : (freed freed' : List LockKey) (key q : LockKey) → freed' ≡ filter (λ f. not (eq_by_cmp lock_cmp f key)) freed → is_among freed' q ≡ true → (eq_by_cmp lock_cmp key q ≡ false) × (is_among freed q ≡ true)
 stayed freed freed' key q is here =
     let both : cond (eq_by_cmp lock_cmp key q) false (is_among freed q) ≡ true = sym (among-without freed key q) ∙ ap (λ f. is_among f q) (sym is) ∙ here in
@@ -326,3 +326,19 @@ ready_is held waiting freed capacity listed =
 pub is_some-mapped : {A B : Type 0} (f : A → B) (o : Option A) → is_some (option_map f o) ≡ is_some o
 is_some-mapped f None = refl
 is_some-mapped f (Some a) = refl
+
+-- ---- what is seen otherwise
+
+-- the same holders, in another list
+pub listed_held : (held held' : Held) (waiting : List Waiting) (freed : List LockKey) (capacity : ℕ) → IsListed held waiting freed capacity → ((q : LockKey) → holder_of held' q ≡ holder_of held q) → IsListed held' waiting freed capacity
+listed_held held held' waiting freed capacity listed same = record {
+  distinct = listed.distinct;
+  free = λ q here. same q ∙ listed.free q here;
+  waited = listed.waited;
+  complete = all_more (λ w waited none. waited (sym (same (key_of w)) ∙ none)) waiting listed.complete;
+  room = listed.room;
+}
+
+-- the same wait queue
+pub listed_waiting : (held : Held) (waiting waiting' : List Waiting) (freed : List LockKey) (capacity : ℕ) → IsListed held waiting freed capacity → waiting' ≡ waiting → IsListed held waiting' freed capacity
+listed_waiting held waiting waiting' freed capacity listed same = subst (λ ws. IsListed held ws freed capacity) (sym same) listed

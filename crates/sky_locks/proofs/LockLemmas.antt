@@ -9,7 +9,7 @@ use Rattle.sky_locks.specs.Order.{lock_cmp}
 use Rattle.sky_locks.specs.Holders.{Held, holder_of, Frees}
 use Rattle.sky_locks.proofs.Orders.{is_same_key-ties, lock_ties-is}
 
--- the holders that a list of held keys tells
+-- the holders by a list of held keys
 abbrev pub holders : Held → Holders
 holders held table key = holder_of held (record { table = table; key = key })
 
@@ -46,7 +46,7 @@ not_held_is old new who key apart same i table k = (
     ∙ ap (λ b. cond b (other_than who (holders old table k)) (holders old table k)) (sym (is_same_key-ties key (record { table = table; key = k })))
     ) i
 
--- giving back one key of a session's is no more to be done when all are
+-- giving back one key of a session first makes no difference once all its keys are given back
 pub released_step : (old new : Held) (who : ℕ) (key : LockKey) → Frees old who key new → released who (holders new) ≡ released who (holders old)
 released_step old new who key frees i table k = (
     ap (other_than who) (frees.free (record { table = table; key = k }))
@@ -57,7 +57,7 @@ released_step old new who key frees i table k = (
     ] refl
     ) i
 
--- and where none is left, all are given back
+-- and if none is left, all are given back
 pub released_is : (held : Held) (who : ℕ) → ((q : LockKey) → holder_of held q ≢ Some who) → holders held ≡ released who (holders held)
 released_is held who none i table k = sym (another (holders held table k) who (none (record { table = table; key = k }))) i
 

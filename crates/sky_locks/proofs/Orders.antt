@@ -23,7 +23,7 @@ is_eq-then Less b = refl
 is_eq-then Equal b = refl
 is_eq-then Greater b = refl
 
--- two numbers are equal where their order ties them
+-- two numbers are equal if their order ties them
 pub nat_ties : (m n : ℕ) → is_eq (nat_cmp m n) ≡ (m == n)
 nat_ties m n = elim (m == n) as (λ b. (m == n) ≡ b → is_eq (nat_cmp m n) ≡ b) [
   | true ↦ λ e. ap (λ k. is_eq (nat_cmp m k)) (sym (eqb-true m n e)) ∙ ap is_eq (tied_itself nat_cmp_total m)
@@ -32,6 +32,9 @@ nat_ties m n = elim (m == n) as (λ b. (m == n) ≡ b → is_eq (nat_cmp m n) �
     | false ↦ λ _. refl
   ] refl
 ] refl
+
+pub tie_is : (a b : ℕ) → eq_by_cmp nat_cmp a b ≡ true → a ≡ b
+tie_is a b tie = nat_cmp-IsAntisymmetric a b ((Equal-is (nat_cmp a b)).0 tie)
 
 -- the same key of the same table is what the order ties
 pub is_same_key-ties : (x y : LockKey) → is_same_key x.table x.key y.table y.key ≡ eq_by_cmp lock_cmp x y
@@ -46,6 +49,9 @@ lock_ties-is x y tie =
 
 pub lock_ties-symm : (x y : LockKey) → eq_by_cmp lock_cmp x y ≡ eq_by_cmp lock_cmp y x
 lock_ties-symm = (eq_by_cmp_equiv lock_cmp-IsTotalOrder).symm
+
+pub lock_ties-itself : (x : LockKey) → eq_by_cmp lock_cmp x x ≡ true
+lock_ties-itself x = ap is_eq (tied_itself lock_cmp-IsTotalOrder x)
 
 -- what `==` holds of is what the order ties
 pub lock_eq-ties : (x y : LockKey) → equality.ghosts.eq x y ≡ eq_by_cmp lock_cmp x y

@@ -1,5 +1,5 @@
 -- Who holds which key, as entries in the order of the keys.
-use Rattle.std.specs.Prelude.{◌≡◌, ℕ, ◌+◌, ◌==◌, Bool, false, if◌then◌else◌, List, length, Option, None, Some}
+use Rattle.std.specs.Prelude.{◌≡◌, ℕ, ◌==◌, Bool, false, if◌then◌else◌, List, Option, None, Some}
 use Rattle.std.specs.Map.{lookup}
 use Rattle.std.specs.BTreeMap.{is_at}
 use Rattle.std.specs.Ordering.{eq_by_cmp}
@@ -23,4 +23,3 @@ is_holder who (Some s) = who == s
 pub record Frees (old : Held) (who : ℕ) (key : LockKey) (new : Held) : Type 0 where
   pub was : holder_of old key ≡ Some who
   pub free : (q : LockKey) → holder_of new q ≡ (if eq_by_cmp lock_cmp key q then None else holder_of old q)
-  pub count : length new + 1 ≡ length old

@@ -1,6 +1,8 @@
 pub mod Order
-pub mod Groups
+pub mod Sessions
 pub mod Holders
+pub mod Slots
 pub mod Waiters
+pub mod Table
 pub mod Freed
 pub mod Locks

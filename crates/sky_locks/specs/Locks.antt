@@ -9,7 +9,7 @@ use Rattle.sky_locks.specs.declared.taken.Taken.{Taken}
 use Rattle.sky_locks.specs.declared.taken.Taken.TheVariants.{Got, Waits, Cycle}
 use Rattle.sky_locks.specs.Order.{lock_cmp}
 
--- the keys that are held, in order, each with its holder, and the waiting list in order of arrival
+-- the keys that are held, in order, each with its holder, and the wait queue in order of arrival
 pub record LocksView : Type 0 where
   pub held : List (LockKey × ℕ)
   pub waiting : List Waiting
@@ -28,14 +28,14 @@ pub record TakesKey (old : LocksView) (who table : ℕ) (key : List Val) (new : 
   pub held : holder new ≡ taken who table key (holder old)
   pub waiting : new.waiting ≡ old.waiting
 
--- another one holds it, no way leads back from that one, and the asking one is the last that waits
+-- another one holds it, no path leads back from that one, and the asking one is the last that waits
 pub record WaitsForKey (old : LocksView) (who table : ℕ) (key : List Val) (other : ℕ) (new : LocksView) : Type 0 where
   pub holds : other_holder (holder old) who table key ≡ Some other
   pub apart : (way : List ℕ) → LeadsBack (waits_for_in old) who other way → ⊥
   pub held : holder new ≡ holder old
   pub waiting : new.waiting ≡ old.waiting ++ record { who = who; table = table; key = key } ∷ []
 
--- another one holds it, a way leads back from that one, and nothing changes: the ring is the asking one, and the way
+-- another one holds it, a path leads back from that one, and nothing changes: the deadlock cycle is the asking one, and the path
 pub record ClosesRing (old : LocksView) (who table : ℕ) (key : List Val) (ring : List ℕ) (new : LocksView) : Type 0 where
   pub other : ℕ
   pub way : List ℕ

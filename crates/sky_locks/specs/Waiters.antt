@@ -1,22 +1,32 @@
--- The waiting list as the code keeps it: entries by their arrival, with two indexes.
-use Rattle.std.specs.Prelude.{◌≡◌, ℕ, ◌==◌, Bool, false, List, map, min, Option, None, Some}
+-- The wait queue as the code keeps it: entries by arrival, with two indexes.
+use Rattle.std.specs.Prelude.{◌≡◌, ℕ, ◌==◌, Bool, false, List, [], ◌∷◌, map, filter, min, is_some, Option, None, Some}
 use Rattle.std.specs.List.{list_any}
-use Rattle.std.specs.Ordering.{nat_cmp, eq_by_cmp}
-use Rattle.std.specs.BTreeMap.{BTreeMap, IsOrdered, get}
+use Rattle.std.specs.Ordering.{eq_by_cmp}
 use Rattle.sky_keys.specs.Waits.{Waiting}
 use Rattle.sky_locks.specs.declared.lock_key.LockKey.{LockKey}
-use Rattle.sky_locks.specs.declared.waiters.Waiter.{Waiter}
+use Rattle.sky_locks.specs.declared.entries.Waiter.{Waiter}
 use Rattle.sky_locks.specs.Order.{lock_cmp}
-use Rattle.sky_locks.specs.Groups.{ArrivalsByKey, has_arrival}
+use Rattle.sky_locks.specs.Slots.{Queues}
+use Rattle.sky_locks.specs.Sessions.{at_number, arrival_of}
 use Rattle.sky_locks.specs.Holders.{is_holder}
 
 -- a session's entry
 abbrev pub entry : ℕ → LockKey → Waiting
 entry who key = record { who = who; table = key.table; key = key.key }
 
--- the waiting list of entries
-abbrev pub waiting_of : List (ℕ × Waiter) → List Waiting
-waiting_of entries = map (λ e. entry e.1.who e.1.key) entries
+-- who came at an arrival, if it is still there
+abbrev pub entry_at : List (Option Waiter) → ℕ → Option Waiter
+entry_at entries a = at_number (λ (w : Option Waiter). w) None entries a
+
+-- the wait queue of entries
+abbrev pub waiting_in : List (Option Waiter) → List Waiting
+waiting_in [] = []
+waiting_in (None ∷ es) = waiting_in es
+waiting_in (Some w ∷ es) = entry w.who w.key ∷ waiting_in es
+
+-- without the arrivals of those that have left
+abbrev pub packed : List (Option Waiter) → List (Option Waiter)
+packed entries = filter (λ e. is_some e) entries
 
 -- the key of an entry
 abbrev pub key_of : Waiting → LockKey
@@ -26,25 +36,19 @@ key_of w = record { table = w.table; key = w.key }
 abbrev pub is_among : List LockKey → LockKey → Bool
 is_among keys key = list_any (λ k. eq_by_cmp lock_cmp key k) keys
 
--- whether what arrived is the session's
+-- those that wait for a key
+abbrev pub queue_in : LockKey → List Waiting → List ℕ
+queue_in key waiting = map (λ w. w.who) (filter (λ w. eq_by_cmp lock_cmp (key_of w) key) waiting)
+
+-- whether what came is the session's
 abbrev pub is_of : ℕ → Option Waiter → Bool
 is_of who None = false
 is_of who (Some w) = w.who == who
 
--- whether what arrived waits for the key
-abbrev pub is_at_key : LockKey → Option Waiter → Bool
-is_at_key key None = false
-is_at_key key (Some w) = eq_by_cmp lock_cmp w.key key
-
--- both indexes tell what arrived: the arrival of each session, and the arrivals at each key
-pub record IsIndexed (arrived : ℕ → Option Waiter) (arrival : ℕ → Option ℕ) (queued : LockKey → ℕ → Bool) : Type 0 where
-  pub sessions : (s a : ℕ) → is_holder a (arrival s) ≡ is_of s (arrived a)
-  pub keys : (q : LockKey) (a : ℕ) → queued q a ≡ is_at_key q (arrived a)
-
--- what is true of all that is kept
-pub record IsKept (entries : BTreeMap ℕ Waiter) (arrivals : BTreeMap ℕ ℕ) (queues : ArrivalsByKey) : Type 0 where
-  pub in_order : IsOrdered nat_cmp entries
-  pub indexed : IsIndexed (get nat_cmp entries) (get nat_cmp arrivals) (has_arrival queues)
+-- both indexes record the entries: the arrival of each session, and the queue of each key
+pub record IsKept (entries : List (Option Waiter)) (arrivals : List (Option ℕ)) (queues : Queues) : Type 0 where
+  pub sessions : (s a : ℕ) → is_holder a (arrival_of arrivals s) ≡ is_of s (entry_at entries a)
+  pub queued : (q : LockKey) → queues q ≡ queue_in q (waiting_in entries)
 
 -- the less of two arrivals
 abbrev pub earlier : Option ℕ → Option ℕ → Option ℕ

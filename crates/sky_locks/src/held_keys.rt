@@ -1,26 +1,53 @@
-ghost use Rattle.std.specs.Prelude.{◌≡◌, ℕ, true, false, OnOk, OnErr, IfSome, IfNone};
-ghost use Rattle.sky_locks.specs.Groups.{has_key, KeepsKeys, ChangesKey};
+ghost use Rattle.std.specs.Prelude.{◌≡◌, ◌<◌, ℕ, length, slice_get, true, false, Some, OnOk, OnErr, OnSome, IfSome, IfNone};
+ghost use Rattle.sky_locks.specs.Sessions.{keys_of, has_key, KeepsKeys, ChangesKey};
+ghost use Rattle.sky_locks.specs.Waiters.{is_among};
 ghost use Rattle.sky_locks.specs.declared.lock_key.LockKey.{LockKey};
 
 use crate::lock_key::LockKey;
 use sky_val::{NoMemory, SessionId};
 use std::alloc::Global;
-use std::collections::{BTreeMap, BTreeSet};
+use std::marker::Model;
 
-/// Which keys each session holds.
+/// Which keys each session holds, each listed once.
 #[derive(Debug, Drop)]
 pub(crate) struct HeldKeys {
-    keys: BTreeMap<SessionId, BTreeSet<LockKey>>,
+    // By session. Those that it has no place for hold none.
+    keys: Vec<Vec<LockKey>>,
+}
+
+impl Model for HeldKeys {
+    ghost use Rattle.std.specs.Prelude.{ℕ};
+    ghost use Rattle.std.specs.List.{IsDistinct};
+    ghost use Rattle.std.specs.Ordering.{eq_by_cmp};
+    ghost use Rattle.sky_locks.specs.Order.{lock_cmp};
+    ghost use Rattle.sky_locks.specs.Sessions.{KeysBySession, keys_of};
+
+    ghost Value = { KeysBySession };
+
+    ghost view = { λ h. h.keys.items };
+
+    ghost invariant = { λ h. (s : ℕ) → IsDistinct (eq_by_cmp lock_cmp) (keys_of h.keys.items s) };
 }
 
 impl HeldKeys {
     /// None.
     pub(crate) fn new(alloc: Global) -> HeldKeys
-        ensures { (s : ℕ) (q : LockKey) → has_key result.keys s q ≡ false }
+        ensures { (s : ℕ) (q : LockKey) → has_key result s q ≡ false }
     {
         HeldKeys {
-            keys: BTreeMap::new(alloc),
+            keys: Vec::new(alloc),
         }
+    }
+
+    /// Makes a place for the session.
+    fn make_room(&mut self, alloc: Global, who: SessionId) -> Result<(), NoMemory>
+        ensures room { OnOk result (who < length self.new) }
+        ensures same { KeepsKeys self.old self.new }
+    {
+        while self.keys.len() <= who as usize {
+            self.keys.push(Vec::new(alloc))?;
+        }
+        Ok(())
     }
 
     /// Lists the key as one of the session's.
@@ -30,47 +57,54 @@ impl HeldKeys {
         who: SessionId,
         key: LockKey,
     ) -> Result<(), NoMemory>
-        ensures ok { OnOk result (ChangesKey self.old.keys who key true self.new.keys) }
-        ensures err { OnErr result (KeepsKeys self.old.keys self.new.keys) }
+        requires { has_key self.old who key ≡ false }
+        ensures ok { OnOk result (ChangesKey self.old who key true self.new) }
+        ensures err { OnErr result (KeepsKeys self.old self.new) }
     {
-        match self.keys.get_mut(&who) {
-            Some(keys) => {
-                keys.insert(key)?;
-            }
-            None => {
-                let mut keys = BTreeSet::new(alloc);
-                keys.insert(key)?;
-                self.keys.insert(who, keys)?;
-            }
-        }
+        self.make_room(alloc, who)?;
+        self.keys[who as usize].push(key)?;
         Ok(())
     }
 
-    /// The key is no longer one of the session's.
-    pub(crate) fn remove(&mut self, who: SessionId, key: &LockKey)
-        ensures { ChangesKey self.old.keys who key.now false self.new.keys }
+    /// Removes the key from the session's, if it is one of them.
+    pub(crate) fn take(&mut self, who: SessionId, key: &LockKey) -> Option<LockKey>
+        ensures none { IfNone result (has_key self.old who key.now ≡ false) }
+        ensures some { IfSome result (λ taken. (taken ≡ key.now) × (has_key self.old who key.now ≡ true)) }
+        ensures others { ChangesKey self.old who key.now false self.new }
     {
-        let Some(keys) = self.keys.get_mut(&who) else {
-            return;
-        };
-        keys.remove(key);
-        if keys.is_empty() {
-            self.keys.remove(&who);
+        let who = who as usize;
+        if who >= self.keys.len() {
+            return None;
         }
+        let place = place_of(&self.keys[who], key)?;
+        Some(self.keys[who].remove(place))
     }
 
-    /// Takes out one of the session's keys, if it has any.
+    /// Removes one of the session's keys, if it has any.
     pub(crate) fn pop(&mut self, who: SessionId) -> Option<LockKey>
-        ensures none { IfNone result ((q : LockKey) → has_key self.old.keys who q ≡ false) }
-        ensures same { IfNone result (KeepsKeys self.old.keys self.new.keys) }
-        ensures some { IfSome result (λ key. has_key self.old.keys who key ≡ true) }
-        ensures others { IfSome result (λ key. ChangesKey self.old.keys who key false self.new.keys) }
+        ensures none { IfNone result ((q : LockKey) → has_key self.old who q ≡ false) }
+        ensures same { IfNone result (KeepsKeys self.old self.new) }
+        ensures some { IfSome result (λ key. has_key self.old who key ≡ true) }
+        ensures others { IfSome result (λ key. ChangesKey self.old who key false self.new) }
+        ensures fewer { OnSome result (length (keys_of self.new who) < length (keys_of self.old who)) }
     {
-        let keys = self.keys.get_mut(&who)?;
-        let key = keys.pop_first()?;
-        if keys.is_empty() {
-            self.keys.remove(&who);
+        let who = who as usize;
+        if who >= self.keys.len() {
+            return None;
         }
-        Some(key)
+        self.keys[who].pop()
     }
+}
+
+/// Where the key is in the list.
+fn place_of(keys: &[LockKey], key: &LockKey) -> Option<usize>
+    ensures none { IfNone result (is_among keys.now key.now ≡ false) }
+    ensures some { IfSome result (λ place. (place < length keys.now) × (slice_get keys.now place ≡ Some key.now)) }
+{
+    for (place, one) in keys.iter().enumerate() {
+        if one == key {
+            return Some(place);
+        }
+    }
+    None
 }

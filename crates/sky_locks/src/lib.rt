@@ -1,17 +1,21 @@
 //! The row locks of one database: which session holds each key, and which sessions wait for one.
 //!
-//! `Locks` is seen as the holder of each key and the waiting list in order of arrival. Nothing here
-//! knows a transaction, a statement or what stands at a key: who ends a transaction gives its keys
-//! back, and who finds an entry ready takes it out and asks for its key again.
+//! `Locks` is seen as the holder of each key and the wait queue in order of arrival. One map has for each key its
+//! holder and those that wait for it; what a session holds, and when it came, is in vectors by its number, since these
+//! numbers are small.
+//!
+//! Nothing here knows a transaction, a statement or the row of a key: a caller that ends a transaction gives its keys
+//! back, and one that finds an entry ready removes it and asks for its key again.
 #![tactic(auto)]
 
+mod entries;
 mod held_keys;
-mod holders;
 mod lock_key;
 mod locks;
-mod queues;
+mod session_arrivals;
+mod slots;
+mod table;
 mod taken;
-mod waiters;
 
 pub use lock_key::LockKey;
 pub use locks::Locks;

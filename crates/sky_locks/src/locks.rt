@@ -1,13 +1,11 @@
-ghost use Rattle.std.specs.Prelude.{◌≡◌, ◌↔◌, ◌<◌, [], ◌∷◌, true, false, None, Some, length, is_some, option_map, vec_len, vec_capacity, IsTrue, IfOk, OnOk, OnErr};
+ghost use Rattle.std.specs.Prelude.{◌≡◌, ◌↔◌, ◌<◌, [], ◌∷◌, ◌++◌, if◌then◌else◌, true, false, None, Some, length, is_some, option_map, vec_len, vec_capacity, IsTrue, IfOk, OnOk, OnErr};
 ghost use Rattle.sky_keys.specs.Waits.{is_waiting, entry_of, without, first_waiter, ready, other_holder, taken, given_back, released, way_back};
 ghost use Rattle.sky_locks.specs.Waiters.{entry};
-ghost use Rattle.sky_locks.specs.Freed.{is_waited, noted};
 ghost use Rattle.sky_locks.specs.Locks.{LocksView, Takes, holder, waits_for_in};
 
-use crate::holders::Holders;
 use crate::lock_key::LockKey;
+use crate::table::Table;
 use crate::taken::{Ring, Taken};
-use crate::waiters::Waiters;
 use sky_val::{NoMemory, SessionId};
 use std::alloc::Global;
 use std::marker::Model;
@@ -16,8 +14,7 @@ use std::marker::Model;
 #[derive(Debug, Drop)]
 pub struct Locks {
     alloc: Global,
-    holders: Holders,
-    waiters: Waiters,
+    table: Table,
 
     // The keys that were given back and are waited for. There is room for the key of each that waits,
     // so that giving it back takes no memory.
@@ -31,9 +28,9 @@ impl Model for Locks {
 
     ghost Value = { LocksView };
 
-    ghost view = { λ l. record { held = l.holders; waiting = l.waiters } };
+    ghost view = { λ l. record { held = l.table.held; waiting = l.table.waiting } };
 
-    ghost invariant = { λ l. IsListed l.holders l.waiters l.freed.items (vec_capacity l.freed) };
+    ghost invariant = { λ l. IsListed l.table.held l.table.waiting l.freed.items (vec_capacity l.freed) };
 }
 
 impl Locks {
@@ -43,8 +40,7 @@ impl Locks {
     {
         Locks {
             alloc,
-            holders: Holders::new(alloc),
-            waiters: Waiters::new(alloc),
+            table: Table::new(alloc),
             freed: Vec::new(alloc),
         }
     }
@@ -53,39 +49,39 @@ impl Locks {
     pub fn holder(&self, key: &LockKey) -> Option<SessionId>
         ensures { result ≡ holder self.now key.now.table key.now.key }
     {
-        self.holders.get(key)
+        self.table.holder(key)
     }
 
     /// The key that the session waits for.
     pub fn waits_on(&self, who: SessionId) -> Option<&LockKey>
         ensures { option_map (λ key. entry who key.now) result ≡ entry_of who self.now.waiting }
     {
-        self.waiters.key(who)
+        self.table.key(who)
     }
 
     /// Whether nobody waits.
     pub fn is_at_rest(&self) -> bool
         ensures { IsTrue result ↔ (self.now.waiting ≡ []) }
     {
-        self.waiters.len() == 0
+        self.table.count() == 0
     }
 
     /// The first that waits for the key.
     pub fn first_waiter(&self, key: &LockKey) -> Option<SessionId>
         ensures { result ≡ first_waiter key.now.table key.now.key self.now.waiting }
     {
-        self.waiters.first(key)
+        self.table.first(key)
     }
 
-    /// The first entry of the waiting list whose key nobody holds.
+    /// The first entry of the wait queue whose key nobody holds.
     pub fn ready(&self) -> Option<(SessionId, &LockKey)>
         ensures { option_map (λ found. entry found.0 found.1.now) result ≡ ready (holder self.now) self.now.waiting }
     {
-        self.waiters.first_of(&self.freed)
+        self.table.first_of(&self.freed)
     }
 
-    /// Takes the key for the session, or lets it wait for the one that holds it. Where it would wait
-    /// for itself, nothing changes. After an error neither.
+    /// Takes the key for the session, or makes it wait for the one that holds it. If it would wait for itself, nothing
+    /// changes. Nor does anything after an error.
     pub fn try_key(&mut self, who: SessionId, key: &LockKey) -> Result<Taken, NoMemory>
         requires { is_waiting who self.old.waiting ≡ false }
         ensures ok { IfOk result (λ taken. Takes self.old who key.now.table key.now.key taken self.new) }
@@ -108,7 +104,7 @@ impl Locks {
         ensures waiting { OnOk result (self.new.waiting ≡ self.old.waiting) }
         ensures err { OnErr result (self.new ≡ self.old) }
     {
-        self.holders.hold(who, key)?;
+        self.table.hold(who, key)?;
         self.freed.retain(|freed| freed != key);
         Ok(())
     }
@@ -123,24 +119,24 @@ impl Locks {
         if let Some(ring) = self.ring(who, other)? {
             return Ok(Taken::Cycle(ring));
         }
-        self.freed.reserve(self.waiters.len() + 1)?;
-        self.waiters.arrive(who, key)?;
+        self.freed.reserve(self.table.count() + 1)?;
+        self.table.arrive(who, key)?;
         Ok(Taken::Waits(other))
     }
 
-    /// The ring that would close if `who` waited for the other session, if one would.
+    /// The deadlock cycle that would close if `who` waited for the other session, if one would.
     fn ring(&self, who: SessionId, other: SessionId) -> Result<Option<Ring>, NoMemory>
         ensures { IfOk result (λ ring. ring
             ≡ option_map (λ way. who ∷ way) (way_back (waits_for_in self.now) who (length self.now.waiting) other)) }
     {
-        // Mostly none would, and then no list is made.
+        // Usually none would, and then no list is made.
         if !self.leads_back(who, other) {
             return Ok(None);
         }
         let mut sessions = Vec::new(self.alloc);
         sessions.push(who)?;
         let mut last = other;
-        for _step in 0..self.waiters.len() {
+        for _step in 0..self.table.count() {
             sessions.push(last)?;
             match self.waits_for(last) {
                 Some(next) if next != who => last = next,
@@ -150,14 +146,14 @@ impl Locks {
         Ok(Some(Ring::new(sessions)))
     }
 
-    /// Whether a way leads from the other session back to `who`.
+    /// Whether a path leads from the other session back to `who`.
     fn leads_back(&self, who: SessionId, other: SessionId) -> bool
         ensures { result ≡ is_some (way_back (waits_for_in self.now) who (length self.now.waiting) other) }
     {
         let mut last = other;
 
-        // No way is longer than all who wait.
-        for _step in 0..self.waiters.len() {
+        // No path is longer than the number of those who wait.
+        for _step in 0..self.table.count() {
             match self.waits_for(last) {
                 Some(next) if next == who => return true,
                 Some(next) => last = next,
@@ -183,8 +179,8 @@ impl Locks {
         ensures held { holder self.new ≡ given_back who key.now.table key.now.key (holder self.old) }
         ensures waiting { self.new.waiting ≡ self.old.waiting }
     {
-        if let Some(key) = self.holders.give_back(who, key) {
-            note(&mut self.freed, &self.waiters, key);
+        if let Some((key, is_waited)) = self.table.give_back(who, key) {
+            note(&mut self.freed, key, is_waited);
         }
     }
 
@@ -193,8 +189,8 @@ impl Locks {
         ensures held { holder self.new ≡ released who (holder self.old) }
         ensures waiting { self.new.waiting ≡ self.old.waiting }
     {
-        while let Some(key) = self.holders.pop(who) {
-            note(&mut self.freed, &self.waiters, key);
+        while let Some((key, is_waited)) = self.table.pop(who) {
+            note(&mut self.freed, key, is_waited);
         }
     }
 
@@ -203,22 +199,22 @@ impl Locks {
         ensures held { holder self.new ≡ holder self.old }
         ensures waiting { self.new.waiting ≡ without who self.old.waiting }
     {
-        let Some(key) = self.waiters.leave(who) else {
+        let Some((key, is_waited)) = self.table.leave(who) else {
             return;
         };
-        if self.waiters.first(&key).is_none() {
+        if !is_waited {
             self.freed.retain(|freed| *freed != key);
         }
     }
 }
 
 /// Lists a key that was given back, if it is waited for.
-fn note(freed: &mut Vec<LockKey>, waiters: &Waiters, key: LockKey)
-    requires { is_waited waiters.now key ≡ true → vec_len freed.old < vec_capacity freed.old }
-    ensures items { freed.new.items ≡ noted waiters.now key freed.old.items }
+fn note(freed: &mut Vec<LockKey>, key: LockKey, is_waited: bool)
+    requires { is_waited ≡ true → vec_len freed.old < vec_capacity freed.old }
+    ensures items { freed.new.items ≡ (if is_waited then freed.old.items ++ key ∷ [] else freed.old.items) }
     ensures capacity { vec_capacity freed.new ≡ vec_capacity freed.old }
 {
-    if waiters.first(&key).is_some() {
+    if is_waited {
         freed.push_reserved(key);
     }
 }

@@ -3,7 +3,7 @@ ghost use Rattle.std.specs.Prelude.{◌≡◌};
 use sky_val::SessionId;
 use std::marker::Model;
 
-/// What came of asking for a key.
+/// The answer to asking for a key.
 #[derive(Debug, Drop)]
 pub enum Taken {
     /// The asking session holds the key.
@@ -14,8 +14,8 @@ pub enum Taken {
     Cycle(Ring),
 }
 
-/// Sessions in a ring: the one that asked for a key, its holder, and on from each to the one that it
-/// waits for. The last waits for the first.
+/// The sessions of a deadlock cycle: the one that asked for a key, its holder, and on from each to
+/// the one that it waits for. The last waits for the first.
 #[derive(Debug, Drop)]
 pub struct Ring {
     sessions: Vec<SessionId>,
@@ -30,7 +30,7 @@ impl Model for Ring {
 }
 
 impl Ring {
-    /// The ring of these sessions.
+    /// The cycle of these sessions.
     pub(crate) fn new(sessions: Vec<SessionId>) -> Ring
         ensures { result ≡ sessions.items }
     {

@@ -1,11 +1,10 @@
--- A transaction's versions go, key by key.
-use Rattle.std.proofs.Common.{arith, ◌≡◌, ℕ, Bool, true, false, cond, not, List, [], ◌∷◌, Ordering, Option, Some, None, nat_lt, refl, subst, ap, ◌∙◌}
+-- A transaction's versions are removed, key by key.
+use Rattle.std.proofs.Common.{arith, ◌≡◌, ℕ, Bool, true, false, cond, not, List, [], ◌∷◌, Ordering, Option, Some, None, nat_lt, refl, ap, ◌∙◌}
 use Rattle.std.specs.Prelude.{◌==◌, ◌||◌, ◌↔◌, ◌≢◌, IsTrue}
 use Rattle.std.specs.List.{list_any}
 use Rattle.std.specs.Option.{option_map_or}
 use Rattle.std.specs.Ordering.{nat_cmp, is_lt, is_eq, eq_by_cmp}
 use Rattle.std.specs.Map.{set_value, remove_entry}
-use Rattle.std.specs.Map.Calls.{RetainsPairs}
 use Rattle.std.specs.BTreeMap.{is_at, get}
 use Rattle.std.specs.BTreeSet.{BTreeSet, contains}
 use Rattle.std.specs.FinMap.Entries.{below_all}
@@ -21,7 +20,7 @@ use Rattle.sky_keys.proofs.EntryLemmas.{key_ties-is}
 use Rattle.sky_rows.specs.Table.{forgotten_at}
 use Rattle.sky_rows.specs.declared.written.Written.{Written}
 use Rattle.sky_rows.specs.Written.{listed, wrote, IsKept, AllKept}
-use Rattle.sky_rows.proofs.TableLemmas.{lookup-at, in_order-sorted, all_kept_more}
+use Rattle.sky_rows.proofs.TableLemmas.{all_kept_more}
 use Rattle.std.proofs.lemmas.Bool.Decides.{nat_tests}
 
 -- ---- at one key
@@ -30,12 +29,12 @@ pub forgotten_at-none : (t : ℕ) (k : List Val) (es : Entries (List Version)) �
 forgotten_at-none t k [] none = refl
 forgotten_at-none t k (e ∷ es) none = grind (arith, none, forgotten_at-none t k es)
 
--- what is left is set where there is some
+-- what is left is set if there is some
 pub forgotten_at-set : (t : ℕ) (k : List Val) (es : Entries (List Version)) (vs new : List Version) → at k es ≡ Some vs → new ≡ without t vs → unless_empty new ≡ Some new → set_value (is_at (key_cmp k)) es new ≡ forgotten_at t k es
 forgotten_at-set t k [] vs new found is some = absurd (cc found)
 forgotten_at-set t k (e ∷ es) vs new found is some = grind (arith, found, is, some, forgotten_at-set t k es vs new)
 
--- or the key goes
+-- or the key is removed
 pub forgotten_at-remove : (t : ℕ) (k : List Val) (es : Entries (List Version)) (vs new : List Version) → at k es ≡ Some vs → new ≡ without t vs → new ≡ [] → remove_entry (is_at (key_cmp k)) (set_value (is_at (key_cmp k)) es new) ≡ forgotten_at t k es
 forgotten_at-remove t k [] vs new found is none = absurd (cc found)
 forgotten_at-remove t k (e ∷ es) vs new found is none = grind (arith, found, is, none, forgotten_at-remove t k es vs new)
@@ -56,12 +55,12 @@ forgotten-entry : (t : ℕ) (k : List Val) (vs : List Version) (es : Entries (Li
 forgotten-entry t k [] es gone = refl
 forgotten-entry t k (v ∷ vs) es gone = ap (λ vs. and_entry k (unless_empty vs) (forgotten t es)) gone
 
--- what is done at one key first is no more to be done
+-- forgetting at one key first makes no difference once all keys are done
 pub forgotten-forgotten_at : (t : ℕ) (k : List Val) (es : Entries (List Version)) → forgotten t (forgotten_at t k es) ≡ forgotten t es
 forgotten-forgotten_at t k [] = refl
 forgotten-forgotten_at t k (e ∷ es) = grind (arith, forgotten-entry t e.0 (without t e.1) es (without-without t e.1), forgotten-forgotten_at t k es)
 
--- where a transaction wrote nothing, nothing goes
+-- if a transaction wrote nothing, nothing is removed
 pub forgotten-none : (w : ℕ → List Val → Bool) (t : ℕ) (es : Entries (List Version)) → ((q : List Val) → w t q ≡ false) → AllKept w es → forgotten t es ≡ es
 forgotten-none w t [] none kept = refl
 forgotten-none w t (e ∷ es) none kept = grind (arith, without-none t e.1 (kept.0.listed t (none e.0)), kept.0.some, forgotten-none w t es none kept.1)
@@ -69,25 +68,15 @@ forgotten-none w t (e ∷ es) none kept = grind (arith, without-none t e.1 (kept
 -- ---- at every key
 
 -- what is left of a key's versions stays with the key, unless that is none
-entry_left : (k : List Val) (new : List Version) (es : Entries (List Version)) (b : Bool) → IsTrue b ↔ (new ≢ []) → cond b ((k, new) ∷ es) es ≡ and_entry k (unless_empty new) es
+pub entry_left : (k : List Val) (new : List Version) (es : Entries (List Version)) (b : Bool) → IsTrue b ↔ (new ≢ []) → cond b ((k, new) ∷ es) es ≡ and_entry k (unless_empty new) es
 entry_left k [] es true left = absurd (left.0 refl refl)
 entry_left k [] es false left = refl
 entry_left k (v ∷ new) es true left = refl
 entry_left k (v ∷ new) es false left = let kept : false ≡ true = left.1 (λ e. cc e) in absurd (cc kept)
 
--- where each key's versions were gone through, the transaction's are gone
-pub forgotten-retained : {F : Type 0} (T : F → List Val → List Version → Bool → List Version → F → Type 0) (t : ℕ) (f : F)
-    → ((k : List Val) (vs : List Version) (b : Bool) (new : List Version) (f' : F) → T f k vs b new f' → (new ≡ without t vs) × (IsTrue b ↔ (new ≢ [])) × (f' ≡ f))
-    → (es kept : Entries (List Version)) → RetainsPairs T f es kept → kept ≡ forgotten t es
-forgotten-retained T t f called [] kept r = r
-forgotten-retained T t f called (e ∷ es) kept r =
-    let left = called e.0 e.1 r.0 r.1 r.2 r.4 in
-    let rest = forgotten-retained T t f called es r.3 (subst (λ g. RetainsPairs T g es r.3) left.2 r.5) in
-    r.6 ∙ entry_left e.0 r.1 r.3 r.0 left.1 ∙ (λ i. and_entry e.0 (unless_empty (left.0 i)) (rest i))
-
 -- ---- the keys that are left
 
--- whether a key may have a version of the transaction, where these keys are left; those of others aren't asked
+-- whether a key may have a version of the transaction, if these keys are left; those of others aren't asked
 abbrev pub may_have : ℕ → List (List Val) → ℕ → List Val → Bool
 may_have t keys u q = not (u == t) || list_any (is_at (key_cmp q)) keys
 
@@ -135,11 +124,11 @@ forgotten-all t es kept = forgotten-none (may_have t []) t es (λ q. ap (λ b. n
 
 -- ---- the index
 
--- of a transaction of which the index tells, it tells the keys that are listed
+-- if the index records a transaction, it records the keys that are listed for it
 pub wrote-listed : (index : Written) (t : ℕ) (q : List Val) (found : Option (BTreeSet (List Val))) → not (nat_lt t index.from) ≡ true → found ≡ get nat_cmp index.keys t → wrote index t q ≡ option_map_or (λ of_it. contains key_cmp of_it q) found false
 wrote-listed index t q found tells is = grind (arith, tells, is)
 
--- what the index tells of all transactions, it tells of the one whose versions are to go
+-- what the index records of all transactions, it records of the one whose versions are to be removed
 pub may_have-wrote : (w : ℕ → List Val → Bool) (t : ℕ) (keys : List (List Val)) (es : Entries (List Version)) → ((q : List Val) → w t q ≡ list_any (is_at (key_cmp q)) keys) → AllKept w es → AllKept (may_have t keys) es
 may_have-wrote w t keys es same kept = all_kept_more w (may_have t keys) es (λ u q none. grind (arith, nat_tests, none, same q)) kept
 
@@ -157,6 +146,3 @@ kept_forgotten v w t (e ∷ es) same kept =
 -- or had none
 pub kept_unlisted : (v w : ℕ → List Val → Bool) (t : ℕ) (es : Entries (List Version)) → ((u : ℕ) (q : List Val) → (u == t) ≡ false → w u q ≡ v u q) → ((q : List Val) → v t q ≡ false) → AllKept v es → AllKept w es
 kept_unlisted v w t es same none kept = all_kept_more v w es (λ u q unlisted. grind (arith, nat_tests, unlisted, same u q, none q)) kept
-
--- what the calls on the map of a table do to its entries where a version goes
-pub ruleset forget_calls = (lookup-at, in_order-sorted, forgotten_at-none, forgotten_at-left, forgotten_at-remove)

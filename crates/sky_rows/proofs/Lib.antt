@@ -1,5 +1,12 @@
-pub mod VersionsBack
-pub mod PlaceLemmas
+pub mod Nodes
+pub mod Found
+pub mod OlderLemmas
+pub mod Walk
+pub mod Everywhere
+pub mod KeptLemmas
+pub mod RowLemmas
+pub mod RowChanges
+pub mod RowsRetained
 pub mod TableLemmas
 pub mod ScanLemmas
 pub mod ForgetLemmas

@@ -1,4 +1,4 @@
--- The entries of a table, as the map that holds them and as its model tell of them.
+-- The entries of a table, as its map and its model have them.
 use Rattle.std.proofs.Common.{arith, ◌≡◌, ℕ, Bool, true, false, cond, List, [], ◌∷◌, Ordering, Less, Equal, Greater, Option, Some, None, Result, Ok, Err, refl, sym, subst, ap, ◌∙◌}
 use Rattle.std.specs.Prelude.{OnOk, OnErr}
 use Rattle.std.specs.List.{AllByRecursion}
@@ -51,7 +51,7 @@ below_all-less k q (e ∷ es) lt h = grind (arith, lt, h, less (key_cmp q e.0), 
 at-before : {X : Type 0} (k : List Val) (e : List Val × X) (es : Entries X) → key_cmp k e.0 ≡ Less → is_in_order (e ∷ es) ≡ true → at k (e ∷ es) ≡ None
 at-before k e es lt h = at-below k (e ∷ es) (grind (arith, lt, h, below_all-less k e.0 es lt))
 
--- where a value stands at a key, another is put there by setting it
+-- if a key has a value, putting another one there sets it
 set_value-put : {X : Type 0} (k : List Val) (x y : X) (es : Entries X) → is_in_order es ≡ true → at k es ≡ Some y → set_value (is_at (key_cmp k)) es x ≡ put k x es
 set_value-put k x y [] h found = absurd (cc found)
 set_value-put k x y (e ∷ es) h found = grind (arith, h, found, at-before k e es, set_value-put k x y es)
@@ -60,7 +60,7 @@ set_value-same : {X : Type 0} (k : List Val) (x : X) (es : Entries X) → at k e
 set_value-same k x [] found = refl
 set_value-same k x (e ∷ es) found = grind (arith, found, set_value-same k x es)
 
--- ---- what the index of the keys that were written says of the entries
+-- ---- what the index of the keys that were written records of the entries
 
 -- each key is one of those that its versions' transactions wrote
 pub kept_at : (w : ℕ → List Val → Bool) (t : ℕ) (q : List Val) (es : Entries (List Version)) → AllKept w es → w t q ≡ false → version_of t (versions_at q es) ≡ None
@@ -84,7 +84,7 @@ kept_put w k vs (e ∷ es) here kept =
       | Greater ↦ λ _. (kept.0, kept_put w k vs es here kept.1)
     ] refl
 
--- a reader that hasn't written the key needs not look for its own version
+-- a reader that hasn't written the key need not look for its own version
 pub own_version-writer : (w : ℕ → List Val → Bool) (own : Option ℕ) (q : List Val) (vs : List Version) → ((t : ℕ) → w t q ≡ false → version_of t vs ≡ None) → own_version (writer w own q) vs ≡ own_version own vs
 own_version-writer w None q vs listed = refl
 own_version-writer w (Some t) q vs listed = grind (arith, listed t)
@@ -94,16 +94,21 @@ read-writer w s own q es vs kept found =
     let is : versions_at q es ≡ vs = grind (arith, found) in
     rw is (ap (λ o. row_of (option_or o (newest_by (sees s) vs))) (own_version-writer w own q vs (λ t none. ap (version_of t) (sym is) ∙ kept_at w t q es kept none)))
 
+-- a key without versions has no row
+pub read_nothing : (s : SnapshotView) (own : Option ℕ) → read s own [] ≡ None
+read_nothing s None = refl
+read_nothing s (Some t) = refl
+
 -- ---- a write
 
--- a version is put where the key has others
+-- a version is put at a key that has others
 pub written-set : (t : ℕ) (key : List Val) (row : Option (List Val)) (es : Entries (List Version)) (vs new : List Version) → is_in_order es ≡ true → at key es ≡ Some vs → new ≡ with_version t row vs → set_value (is_at (key_cmp key)) es new ≡ written t key row es
 written-set t key row es vs new order found is = grind (arith, found, is, set_value-put key new vs es order found)
 
 pub unchanged-set : (key : List Val) (es : Entries (List Version)) (vs new : List Version) → at key es ≡ Some vs → new ≡ vs → set_value (is_at (key_cmp key)) es new ≡ es
 unchanged-set key es vs new found is = grind (arith, found, is, set_value-same key new es)
 
--- or where it has none
+-- or at one that has none
 pub written-insert : (t : ℕ) (key : List Val) (row : Option (List Val)) (es : Entries (List Version)) (new : List Version) → at key es ≡ None → new ≡ with_version t row [] → insert_entry key_cmp es key new ≡ written t key row es
 written-insert t key row es new none is = grind (arith, none, is, insert_entry-put key new es)
 
@@ -123,6 +128,3 @@ pub kept_either : {U E : Type 0} (v w : ℕ → List Val → Bool) (t : ℕ) (ke
     → w t key ≡ true → ((u : ℕ) (q : List Val) → w u q ≡ false → v u q ≡ false) → OnOk r (new ≡ written t key row es) → OnErr r (new ≡ es) → AllKept v es → AllKept w new
 kept_either v w t key row es new (Ok _) listed more ok err kept = subst (AllKept w) (sym ok) (kept_written v w t key row es listed more kept)
 kept_either v w t key row es new (Err _) listed more ok err kept = subst (AllKept w) (sym err) (all_kept_more v w es more kept)
-
--- what the calls on the map of a table do to its entries
-pub ruleset map_calls = (lookup-at, in_order-sorted, written-set, unchanged-set, written-insert)

@@ -1,3 +1,5 @@
 pub mod Table
 pub mod Versions
 pub mod Written
+pub mod Older
+pub mod Kept

@@ -13,7 +13,7 @@ pub record TableView : Type 0 where
   pub columns : List Column
   pub versions : Entries (List Version)
 
--- without a transaction's versions at one key, which goes if it has no others
+-- without a transaction's versions at one key, which is removed if it has no others
 abbrev pub forgotten_at : ℕ → List Val → Entries (List Version) → Entries (List Version)
 forgotten_at t key [] = []
 forgotten_at t key (e ∷ es) = if eq_by_cmp key_cmp key e.0 then and_entry e.0 (unless_empty (without t e.1)) es else e ∷ forgotten_at t key es

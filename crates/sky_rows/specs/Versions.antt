@@ -1,4 +1,4 @@
--- Versions of which each transaction has left one.
+-- Versions of which each transaction has written at most one.
 use Rattle.std.specs.Prelude.{◌≡◌, List, [], ◌∷◌, None}
 use Rattle.sky_keys.specs.declared.version.Version.{Version}
 use Rattle.sky_keys.specs.Versions.{version_of}

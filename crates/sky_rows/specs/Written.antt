@@ -1,4 +1,4 @@
--- Which keys each transaction wrote, as the index of a table tells.
+-- Which keys each transaction wrote, as the index of a table records.
 use Rattle.std.specs.Prelude.{◌≡◌, ℕ, Bool, false, nat_lt, ◌||◌, if◌then◌else◌, List, [], ◌∷◌, Option, None, Some}
 use Rattle.std.specs.Option.{option_map_or}
 use Rattle.std.specs.Ordering.{nat_cmp}
@@ -19,7 +19,7 @@ listed keys t key = option_map_or (λ of_it. contains key_cmp of_it key) (get na
 abbrev pub wrote : Written → ℕ → List Val → Bool
 wrote index t key = nat_lt t index.from || listed index.keys t key
 
--- the transaction that reads, where it wrote the key
+-- the transaction that reads, if it wrote the key
 abbrev pub writer : (ℕ → List Val → Bool) → Option ℕ → List Val → Option ℕ
 writer wrote None key = None
 writer wrote (Some t) key = if wrote t key then Some t else None

@@ -1,14 +1,16 @@
-ghost use Rattle.std.specs.Prelude.{◌≡◌, ◌==◌, ◌||◌, not, [], ◌∷◌, map, take, false, None, is_some, IsTrue, IfOk, OnOk, OnErr};
+ghost use Rattle.std.specs.Prelude.{◌≡◌, ◌==◌, ◌||◌, not, [], map, take, false, None, is_some, IsTrue, IfOk, OnOk, OnErr};
 ghost use Rattle.std.specs.Option.{option_copied};
 ghost use Rattle.std.specs.BTreeSet.{contains};
 ghost use Rattle.sky_val.specs.Order.{key_cmp};
-ghost use Rattle.sky_val.specs.Entries.{at, is_in_order};
+ghost use Rattle.sky_val.specs.Entries.{is_in_order};
 ghost use Rattle.sky_txid.specs.Snapshot.{sees};
 ghost use Rattle.sky_keys.specs.Versions.{version_of, newest_by, newest_but, read, versions_at, written, forgotten, rows_read, above};
 ghost use Rattle.sky_rows.specs.Table.{forgotten_at};
 ghost use Rattle.sky_rows.specs.Written.{AllKept};
+ghost use Rattle.sky_rows.specs.Kept.{all_versions, AreOwn};
 
-use crate::versions::Versions;
+use crate::kept::Kept;
+use crate::older::Older;
 use crate::written::Written;
 use sky_keys::Version;
 use sky_txid::Snapshot;
@@ -23,23 +25,28 @@ use std::ops::Bound;
 pub struct Table {
     alloc: Global,
     schema: Schema,
-    rows: BTreeMap<Key, Versions>,
 
-    // By it a transaction that has no version at a key needs not look through all that stand there,
-    // and `forget` goes to no key but its own. Of a transaction that was pruned it tells nothing: that one's
-    // version is looked for at the key, and `forget` goes through all keys.
+    // Each key's newest version is kept with it, and the others in its list of `older`.
+    rows: BTreeMap<Key, Kept>,
+    older: Older,
+
+    // By it a transaction that has no version at a key need not look through all versions there, and `forget` visits no
+    // key but its own. It records nothing of a transaction that was pruned: that one's version is looked for at the
+    // key, and `forget` visits all keys.
     written: Written,
 }
 
 impl Model for Table {
     ghost use Rattle.sky_rows.specs.Table.{TableView};
     ghost use Rattle.sky_rows.specs.Written.{wrote, AllKept};
+    ghost use Rattle.sky_rows.specs.Kept.{all_versions, AreOwn};
 
     ghost Value = { TableView };
 
-    ghost view = { λ t. record { columns = t.schema; versions = t.rows.entries } };
+    ghost view = { λ t. record { columns = t.schema; versions = all_versions t.older t.rows.entries } };
 
-    ghost invariant = { λ t. AllKept (wrote t.written) t.rows.entries };
+    ghost invariant = { λ t. AreOwn t.older t.rows.entries
+        × AllKept (wrote t.written) (all_versions t.older t.rows.entries) };
 }
 
 impl Table {
@@ -51,6 +58,7 @@ impl Table {
             alloc,
             schema,
             rows: BTreeMap::new(alloc),
+            older: Older::new(alloc),
             written: Written::new(alloc),
         }
     }
@@ -62,29 +70,21 @@ impl Table {
         &self.schema
     }
 
-    /// The versions of the key, if it has any.
-    #[tactic(auto, using(crate::proofs::TableLemmas::map_calls))]
-    fn versions(&self, key: &Key) -> Option<&Versions>
-        ensures { option_copied result ≡ at key.now self.now.versions }
-    {
-        self.rows.get(key)
-    }
-
     /// The row at the key: the own one if the reading transaction wrote the key, or else the newest
     /// that the snapshot sees.
     pub fn read(&self, key: &Key, snapshot: &Snapshot, own: Option<u64>) -> Option<&Row>
         ensures { option_copied result
             ≡ read snapshot.now own (versions_at key.now self.now.versions) }
     {
-        let versions = self.versions(key)?;
-        versions.read(snapshot, self.written.writer(own, key))
+        let kept = self.rows.get(key)?;
+        kept.read(&self.older, snapshot, self.written.writer(own, key))
     }
 
     /// The newest version at the key that isn't of this transaction.
     pub fn newest(&self, key: &Key, except: Option<u64>) -> Option<&Version>
         ensures { option_copied result ≡ newest_but except (versions_at key.now self.now.versions) }
     {
-        self.versions(key)?.newest(except)
+        self.rows.get(key)?.newest(&self.older, except)
     }
 
     /// The newest version at the key that the snapshot sees.
@@ -92,7 +92,7 @@ impl Table {
         ensures { option_copied result
             ≡ newest_by (sees snapshot.now) (versions_at key.now self.now.versions) }
     {
-        self.versions(key)?.newest_seen(snapshot)
+        self.rows.get(key)?.newest_seen(&self.older, snapshot)
     }
 
     /// Whether the transaction has a version at the key.
@@ -102,8 +102,8 @@ impl Table {
         if !self.written.has(txid, key) {
             return false;
         }
-        match self.versions(key) {
-            Some(versions) => versions.own(txid).is_some(),
+        match self.rows.get(key) {
+            Some(kept) => kept.own(&self.older, txid).is_some(),
             None => false,
         }
     }
@@ -125,19 +125,19 @@ impl Table {
             None => Bound::Unbounded,
         };
         let mut found = Vec::new(self.alloc);
-        for (key, versions) in self.rows.range((start, Bound::Unbounded)) {
+        for (key, kept) in self.rows.range((start, Bound::Unbounded)) {
             if found.len() == most {
                 break;
             }
-            if let Some(row) = versions.read(snapshot, self.written.writer(own, key)) {
+            if let Some(row) = kept.read(&self.older, snapshot, self.written.writer(own, key)) {
                 found.push(row.copy(self.alloc)?)?;
             }
         }
         Ok(found)
     }
 
-    /// Writes the row at the key, or none to delete it, as a version of the transaction. Where it has
-    /// one at the key already, this takes its place.
+    /// Writes the row at the key, or none to delete it, as a version of the transaction. If it has one at the key
+    /// already, this takes its place.
     pub fn write(&mut self, txid: u64, key: Key, row: Option<Row>) -> Result<(), NoMemory>
         ensures ok { OnOk result
             (self.new ≡ record self.old { versions = written txid key row self.old.versions }) }
@@ -145,8 +145,8 @@ impl Table {
     {
         let again = self.written.add(self.alloc, txid, &key)?;
         put_version(
-            self.alloc,
             &mut self.rows,
+            &mut self.older,
             key,
             Version { txid, row },
             again,
@@ -167,28 +167,28 @@ impl Table {
         let again = self.written.has(txid, &key);
         self.written.prune(next);
         put_version(
-            self.alloc,
             &mut self.rows,
+            &mut self.older,
             key,
             Version { txid, row },
             again,
         )
     }
 
-    /// Takes out all versions of the transaction. A key that is left without any goes too.
+    /// Removes all versions of the transaction. A key that is left without any is removed too.
     pub fn forget(&mut self, txid: u64)
         ensures { self.new ≡ record self.old { versions = forgotten txid self.old.versions } }
     {
         if !self.written.tells(txid) {
-            forget_everywhere(&mut self.rows, txid);
+            forget_everywhere(&mut self.rows, &mut self.older, txid);
         } else if let Some(keys) = self.written.take(txid) {
-            forget_all(&mut self.rows, &keys, txid);
+            forget_all(&mut self.rows, &mut self.older, &keys, txid);
         }
     }
 
-    /// Forgets which keys the transactions below this one wrote, though no version of them. What is
-    /// asked of one of them from now on is looked for in the versions, which costs more: let `below`
-    /// be the least transaction that may still write or be taken out.
+    /// Forgets which keys the transactions below this one wrote, though no version of them. What is asked of one of
+    /// them from now on is looked for in the versions, which costs more: let `below` be the least transaction that may
+    /// still write or be forgotten.
     pub fn prune(&mut self, below: u64)
         ensures { self.new ≡ self.old }
     {
@@ -196,59 +196,67 @@ impl Table {
     }
 }
 
-/// Puts the version at the key. Where its transaction may have one there already, that is looked for
-/// and replaced.
-#[tactic(auto, using(crate::proofs::TableLemmas::map_calls))]
+/// Puts the version at the key. If its transaction may have one there already, that is looked for and replaced.
 fn put_version(
-    alloc: Global,
-    rows: &mut BTreeMap<Key, Versions>,
+    rows: &mut BTreeMap<Key, Kept>,
+    older: &mut Older,
     key: Key,
     version: Version,
     again: bool,
 ) -> Result<(), NoMemory>
-    requires { again ≡ false → version_of version.txid (versions_at key rows.old.entries) ≡ None }
+    requires first { again ≡ false → version_of version.txid (versions_at key (all_versions older.old rows.old.entries)) ≡ None }
+    requires own { AreOwn older.old rows.old.entries }
     ensures ok { OnOk result
-        (rows.new.entries ≡ written version.txid key version.row rows.old.entries) }
-    ensures err { OnErr result (rows.new.entries ≡ rows.old.entries) }
+        (all_versions older.new rows.new.entries ≡ written version.txid key version.row (all_versions older.old rows.old.entries)) }
+    ensures err { OnErr result (all_versions older.new rows.new.entries ≡ all_versions older.old rows.old.entries) }
+    ensures own { AreOwn older.new rows.new.entries }
 {
     match rows.get_mut(&key) {
-        Some(versions) if again => versions.write(version),
-        Some(versions) => versions.push(version),
+        Some(kept) if again => kept.write(older, version),
+        Some(kept) => kept.push(older, version),
         None => {
-            rows.insert(key, Versions::first(alloc, version)?)?;
+            rows.insert(key, Kept::first(version))?;
             Ok(())
         }
     }
 }
 
-/// Takes out the transaction's versions, which all stand at these keys, and the keys with their last.
-fn forget_all(rows: &mut BTreeMap<Key, Versions>, keys: &BTreeSet<Key>, txid: u64)
-    requires { AllKept (λ t key. not (t == txid) || contains key_cmp keys.now key) rows.old.entries }
-    ensures { rows.new.entries ≡ forgotten txid rows.old.entries }
+/// Removes the transaction's versions, which are all at these keys, and the keys with their last.
+fn forget_all(rows: &mut BTreeMap<Key, Kept>, older: &mut Older, keys: &BTreeSet<Key>, txid: u64)
+    requires kept { AllKept (λ t key. not (t == txid) || contains key_cmp keys.now key) (all_versions older.old rows.old.entries) }
+    requires own { AreOwn older.old rows.old.entries }
+    ensures entries { all_versions older.new rows.new.entries ≡ forgotten txid (all_versions older.old rows.old.entries) }
+    ensures own { AreOwn older.new rows.new.entries }
 {
     for key in keys {
-        forget_at(rows, key, txid);
+        forget_at(rows, older, key, txid);
     }
 }
 
-/// Takes out the transaction's versions, at whatever keys they stand, and the keys with their last.
-fn forget_everywhere(rows: &mut BTreeMap<Key, Versions>, txid: u64)
-    ensures { rows.new.entries ≡ forgotten txid rows.old.entries }
+/// Removes the transaction's versions, at whatever keys they are, and the keys with their last. If such a key had a
+/// list, the number of that isn't used again: only `forget` on a transaction that was pruned comes here, which `prune`
+/// asks callers not to need.
+fn forget_everywhere(rows: &mut BTreeMap<Key, Kept>, older: &mut Older, txid: u64)
+    requires { AreOwn older.old rows.old.entries }
+    ensures entries { all_versions older.new rows.new.entries ≡ forgotten txid (all_versions older.old rows.old.entries) }
+    ensures own { AreOwn older.new rows.new.entries }
 {
-    rows.retain(|_, versions| versions.outlives(txid));
+    older.forget_everywhere(txid);
+    let older = &*older;
+    rows.retain(|_, kept| kept.outlives_at_newest(older, txid));
 }
 
-/// Takes out the transaction's version at the key, and the key with its last.
-#[tactic(auto, using(crate::proofs::ForgetLemmas::forget_calls))]
-fn forget_at(rows: &mut BTreeMap<Key, Versions>, key: &Key, txid: u64)
-    ensures entries { rows.new.entries ≡ forgotten_at txid key.now rows.old.entries }
-    ensures in_order { IsTrue (is_in_order rows.old.entries) }
+/// Removes the transaction's version at the key, and the key with its last.
+fn forget_at(rows: &mut BTreeMap<Key, Kept>, older: &mut Older, key: &Key, txid: u64)
+    requires { AreOwn older.old rows.old.entries }
+    ensures entries { all_versions older.new rows.new.entries ≡ forgotten_at txid key.now (all_versions older.old rows.old.entries) }
+    ensures own { AreOwn older.new rows.new.entries }
+    ensures in_order { IsTrue (is_in_order (all_versions older.old rows.old.entries)) }
 {
-    let Some(versions) = rows.get_mut(key) else {
+    let Some(kept) = rows.get_mut(key) else {
         return;
     };
-    versions.forget(txid);
-    if versions.is_empty() {
+    if !kept.outlives(older, txid) {
         rows.remove(key);
     }
 }

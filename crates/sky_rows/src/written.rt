@@ -46,7 +46,7 @@ impl Written {
         }
     }
 
-    /// The transaction that reads, where it may have written the key.
+    /// The transaction that reads, if it may have written the key.
     pub(crate) fn writer(&self, own: Option<u64>, key: &Key) -> Option<u64>
         ensures { result ≡ writer (wrote self.now) own key.now }
     {
@@ -56,8 +56,8 @@ impl Written {
         }
     }
 
-    /// Lists the key among those that the transaction wrote, and tells whether it may have been there
-    /// already. Nothing is forgotten, at an error neither.
+    /// Lists the key among those that the transaction wrote, and answers whether it may have been there already.
+    /// Nothing is forgotten, not after an error either.
     pub(crate) fn add(&mut self, alloc: Global, txid: u64, key: &Key) -> Result<bool, NoMemory>
         ensures again { IfOk result (λ again. again ≡ wrote self.old txid key.now) }
         ensures listed { OnOk result (wrote self.new txid key.now ≡ true) }
@@ -81,7 +81,7 @@ impl Written {
         Ok(false)
     }
 
-    /// Takes out what the transaction wrote.
+    /// Removes what the transaction wrote.
     pub(crate) fn take(&mut self, txid: u64) -> Option<BTreeSet<Key>>
         ensures taken { result ≡ get nat_cmp self.old.keys txid }
         ensures others { (t : ℕ) (q : List Val)

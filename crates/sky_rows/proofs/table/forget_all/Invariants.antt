@@ -1,8 +1,12 @@
 use Rattle.std.proofs.Common.{◌≡◌}
 use Rattle.sky_keys.specs.Versions.{forgotten}
 use Rattle.sky_rows.specs.Written.{AllKept}
+use Rattle.sky_rows.specs.Kept.{all_versions, AreOwn}
 use Rattle.sky_rows.proofs.ForgetLemmas.{may_have}
 use Rattle.sky_rows.proofs.table.forget_all.Given as goal
 
 abbrev pub invariant-loop-key : goal.invariant-loop-key
-invariant-loop-key l = AllKept (may_have l.txid l.key-iterator) l.rows.entries × (forgotten l.txid l.rows.entries ≡ forgotten l.txid l.initial.rows.entries)
+invariant-loop-key l =
+    AllKept (may_have l.txid l.key-iterator) (all_versions l.older l.rows.entries)
+    × (forgotten l.txid (all_versions l.older l.rows.entries) ≡ forgotten l.txid (all_versions l.initial.older l.initial.rows.entries))
+    × AreOwn l.older l.rows.entries

@@ -4,16 +4,17 @@ use Rattle.sky_keys.proofs.WaitLemmas.{no_way}
 use Rattle.sky_locks.specs.Holders.{holder_of}
 use Rattle.sky_locks.specs.Waiters.{entry}
 use Rattle.sky_locks.specs.Locks.{LocksView, holder, waits_for_in}
-use Rattle.sky_locks.proofs.ListedLemmas.{other_holds, listed_arrived}
+use Rattle.sky_locks.proofs.ListedLemmas.{other_holds, listed_arrived, listed_held}
 use Rattle.sky_locks.proofs.RingLemmas.{ring_way, no_ring}
 use Rattle.sky_locks.proofs.locks.Locks.wait.Goals as goal
 
 pub invariant_of-self-2 : goal.invariant_of-self-2
 invariant_of-self-2 c =
-    let fits : length c.self.inside.waiters + 1 ≤ vec_capacity c.reserve.new.self = omega (arith, c.in_ok-reserve.ensures.ok, c.len.ensures.len) in
-    listed_arrived c.self.inside.holders c.self.inside.waiters c.arrive.new.self c.self.inside.freed.items c.reserve.new.self.items (vec_capacity c.self.inside.freed) (vec_capacity c.reserve.new.self) c.args.who c.args.key.now c.self.invariant
-    (other_holds c.args.who c.args.other (holder_of c.self.inside.holders c.args.key.now) (ap (λ (l : LocksView). other_than c.args.who (holder_of l.held c.args.key.now)) c.self.view_is ∙ c.requires.holds))
-    c.in_ok-arrive.ensures.ok c.reserve.ensures.items fits
+    let fits : length c.self.inside.table.waiting + 1 ≤ vec_capacity c.reserve.new.self = omega (arith, c.in_ok-reserve.ensures.ok, c.count.ensures.count) in
+    listed_held c.self.inside.table.held c.arrive.new.self.held c.arrive.new.self.waiting c.reserve.new.self.items (vec_capacity c.reserve.new.self)
+    (listed_arrived c.self.inside.table.held c.self.inside.table.waiting c.arrive.new.self.waiting c.self.inside.freed.items c.reserve.new.self.items (vec_capacity c.self.inside.freed) (vec_capacity c.reserve.new.self) c.args.who c.args.key.now c.self.invariant
+    (other_holds c.args.who c.args.other (holder_of c.self.inside.table.held c.args.key.now) (ap (λ (l : LocksView). other_than c.args.who (holder_of l.held c.args.key.now)) c.self.view_is ∙ c.requires.holds))
+    c.in_ok-arrive.ensures.ok c.reserve.ensures.items fits) c.arrive.ensures.holders
 
 pub returns-in-Some-clause-ok : goal.returns-in-Some-clause-ok
 returns-in-Some-clause-ok c =
@@ -32,6 +33,6 @@ returns-clause-ok c = record {
   holds = c.requires.holds;
   apart = no_way (holder c.args.self.now) c.args.self.now.waiting c.args.who c.args.other
       (no_ring (waits_for_in c.args.self.now) c.args.who (length c.args.self.now.waiting) c.args.other (sym c.in_default.is ∙ c.in_ok-ring.ensures));
-  held = ap holder c.self.view_is;
+  held = (λ i table key. c.arrive.ensures.holders (record { table = table; key = key }) i) ∙ ap holder c.self.view_is;
   waiting = c.in_ok-arrive.ensures.ok ∙ ap (λ (l : LocksView). l.waiting ++ entry c.args.who c.args.key.now ∷ []) c.self.view_is;
 }

@@ -1,11 +1,36 @@
-use Rattle.std.proofs.Common.{◌∙◌, ap, subst, sym, is_some}
+use Rattle.std.proofs.Common.{◌≡◌, ◌∙◌, ap, sym, refl, is_some, Option, Some, None, Bor}
+use Rattle.std.specs.Option.{option_copied}
+use Rattle.sky_keys.specs.Versions.{version_of, versions_at}
 use Rattle.sky_rows.specs.Table.{TableView}
-use Rattle.sky_rows.specs.Written.{AllKept, wrote}
+use Rattle.sky_rows.specs.Kept.{all_versions}
+use Rattle.sky_rows.specs.Written.{wrote}
 use Rattle.sky_rows.proofs.TableLemmas.{kept_at}
+use Rattle.sky_rows.proofs.RowChanges.{used_at, one_at, versions_found, none_found}
 use Rattle.sky_rows.proofs.table.Table.has_own.Goals as goal
 
 pub returns-then-not-has : goal.returns-then-not-has
 returns-then-not-has c =
     let w = wrote c.self.inside.written in
-    sym (ap is_some (kept_at w c.args.txid c.args.key.now c.args.self.now.versions
-    (subst (λ (t : TableView). AllKept w t.versions) c.self.view_is c.self.invariant) (sym c.has.ensures ∙ c.if-not-has.true)))
+    sym (ap (λ (t : TableView). is_some (version_of c.args.txid (versions_at c.args.key.now t.versions))) (sym c.self.view_is)
+    ∙ ap is_some (kept_at w c.args.txid c.args.key.now (all_versions c.self.inside.older c.self.inside.rows.entries) c.self.invariant.1 (sym c.has.ensures ∙ c.if-not-has.true)))
+
+pub own-requires-clause-used : goal.own-requires-clause-used
+own-requires-clause-used c = used_at c.self.inside.older c.args.key.now c.self.inside.rows.entries c.in-Some.kept.now c.self.invariant.0 c.in-Some.ensures.value
+
+pub own-requires-clause-one : goal.own-requires-clause-one
+own-requires-clause-one c = one_at c.self.inside.older c.args.key.now c.self.inside.rows.entries c.in-Some.kept.now c.self.invariant.0 c.in-Some.ensures.value
+
+copied : {X : Type 0} (o : Option (Bor X)) → is_some o ≡ is_some (option_copied o)
+copied None = refl
+copied (Some x) = refl
+
+pub returns-in-Some : goal.returns-in-Some
+returns-in-Some c =
+    c.is_some.ensures ∙ copied c.own.result ∙ ap is_some (c.own.ensures
+    ∙ ap (version_of c.args.txid) (sym (versions_found c.self.inside.older c.args.key.now c.self.inside.rows.entries c.in-Some.kept.now c.in-Some.ensures.value))
+    ∙ ap (λ (t : TableView). version_of c.args.txid (versions_at c.args.key.now t.versions)) c.self.view_is)
+
+pub returns-in-None : goal.returns-in-None
+returns-in-None c =
+    ap (λ vs. is_some (version_of c.args.txid vs)) (sym (none_found c.self.inside.older c.args.key.now c.self.inside.rows.entries c.in-None.ensures.value)
+    ∙ ap (λ (t : TableView). versions_at c.args.key.now t.versions) c.self.view_is)

@@ -1,9 +1,14 @@
 use Rattle.std.proofs.Common.{◌≡◌, ◌∙◌, ◌∷◌, [], ◌++◌, ap, subst, sym, arith}
 use Rattle.std.specs.Option.{option_copied}
 use Rattle.std.specs.Bound.{bound_map}
+use Rattle.std.specs.BTreeMap.Range.{range_contains}
+use Rattle.std.specs.declared.collections.Bound.TheVariants.{Unbounded}
+use Rattle.sky_val.specs.Order.{key_cmp}
 use Rattle.sky_keys.specs.Versions.{read, above}
 use Rattle.sky_rows.specs.Table.{TableView}
+use Rattle.sky_rows.specs.Kept.{versions_of, all_versions, AreOwn}
 use Rattle.sky_rows.specs.Written.{wrote}
+use Rattle.sky_rows.proofs.RowLemmas.{own_filter, all_filter}
 use Rattle.sky_rows.proofs.ScanLemmas.{IsOnTheWay, start_of, started, past_row, past_none, found_all, found_most}
 use Rattle.sky_rows.proofs.table.Table.scan_from.Goals as goal
 use Rattle.sky_rows.proofs.table.Table.scan_from.Goals.{in-Some, in-None, in-None-2, in-Some-2+then-len-most}
@@ -15,24 +20,42 @@ loop-key-init c =
       | in-None w ↦ ap (bound_map (λ key. key.now)) w.start-is ∙ sym (ap (λ after. start_of (option_copied after)) w.in-None.is)
     ] in
     let w = wrote c.self.inside.written in
-    subst (λ (t : TableView). IsOnTheWay w c.args.snapshot.now c.args.own c.args.most (above (option_copied c.args.after) t.versions) c.into_iter-key-iterator.result c.new-found.result.items) c.self.view_is
-    (started w c.args.snapshot.now c.args.own c.args.most (option_copied c.args.after) (bound_map (λ key. key.now) c.match-after.start) c.self.inside.rows.entries c.into_iter-key-iterator.result c.new-found.result.items
-    c.self.invariant start (c.into_iter-key-iterator.ensures.into_iter_gives ∙ c.range-key-items.ensures.between tt) c.new-found.ensures.items)
+    let older = c.self.inside.older in
+    let es = c.self.inside.rows.entries in
+    let test = range_contains key_cmp (bound_map (λ key. key.now) c.match-after.start) Unbounded in
+    let between = c.into_iter-key-iterator.ensures.into_iter_gives ∙ c.range-key-items.ensures.between tt in (
+      subst (λ (t : TableView). IsOnTheWay w c.args.snapshot.now c.args.own c.args.most (above (option_copied c.args.after) t.versions) (all_versions older c.into_iter-key-iterator.result) c.new-found.result.items) c.self.view_is
+          (started w c.args.snapshot.now c.args.own c.args.most (option_copied c.args.after) (bound_map (λ key. key.now) c.match-after.start) (all_versions older es) (all_versions older c.into_iter-key-iterator.result) c.new-found.result.items
+          c.self.invariant.1 start (ap (all_versions older) between ∙ all_filter older test es) c.new-found.ensures.items),
+      subst (AreOwn older) (sym between) (own_filter older test es c.self.invariant.0),
+    )
+
+pub read-requires-clause-used : goal.read-requires-clause-used
+read-requires-clause-used c = (subst (AreOwn c.self.inside.older) c.in-Some-2.ensures.steps c.loop-key.invariant.1).0
+
+pub read-requires-clause-one : goal.read-requires-clause-one
+read-requires-clause-one c = (subst (AreOwn c.self.inside.older) c.in-Some-2.ensures.steps c.loop-key.invariant.1).1
 
 pub loop-key-preserved-in_ok-push : goal.loop-key-preserved-in_ok-push
 loop-key-preserved-in_ok-push c =
-    past_row _ _ _ _ _ _ _ _ _ c.in-Some-2.key.now c.in-Some-read.row.now c.in-Some-2.versions.now c.loop-key.invariant c.in-Some-2.ensures.steps
-    (c.in-Some-read.ensures ∙ ap (λ own. read c.args.snapshot.now own c.in-Some-2.versions.now) c.writer.ensures)
-    (λ e. omega arith)
-    (c.in_ok-push.ensures.items ∙ ap (λ row. c.loop-key.found.items ++ row ∷ []) c.in_ok-copy.ensures)
+    let vs = versions_of c.self.inside.older c.in-Some-2.kept.now in (
+      past_row _ _ _ _ _ _ (all_versions c.self.inside.older c.next.new.self) _ _ c.in-Some-2.key.now c.in-Some-read.row.now vs c.loop-key.invariant.0 (ap (all_versions c.self.inside.older) c.in-Some-2.ensures.steps)
+          (c.in-Some-read.ensures ∙ ap (λ own. read c.args.snapshot.now own vs) c.writer.ensures)
+          (λ e. omega arith)
+          (c.in_ok-push.ensures.items ∙ ap (λ row. c.loop-key.found.items ++ row ∷ []) c.in_ok-copy.ensures),
+      (subst (AreOwn c.self.inside.older) c.in-Some-2.ensures.steps c.loop-key.invariant.1).3,
+    )
 
 pub loop-key-preserved : goal.loop-key-preserved
 loop-key-preserved c =
-    past_none _ _ _ _ _ _ _ _ c.in-Some-2.key.now c.in-Some-2.versions.now c.loop-key.invariant c.in-Some-2.ensures.steps
-    (c.in_default.ensures ∙ ap (λ own. read c.args.snapshot.now own c.in-Some-2.versions.now) c.writer.ensures)
+    let vs = versions_of c.self.inside.older c.in-Some-2.kept.now in (
+      past_none _ _ _ _ _ _ (all_versions c.self.inside.older c.next.new.self) _ c.in-Some-2.key.now vs c.loop-key.invariant.0 (ap (all_versions c.self.inside.older) c.in-Some-2.ensures.steps)
+          (c.in_default.ensures ∙ ap (λ own. read c.args.snapshot.now own vs) c.writer.ensures),
+      (subst (AreOwn c.self.inside.older) c.in-Some-2.ensures.steps c.loop-key.invariant.1).3,
+    )
 
 pub returns : goal.returns
 returns c = elim c.match-next.branch [
-  | in-None-2 w ↦ found_all _ _ _ _ _ _ _ c.loop-key.invariant w.in-None-2.ensures.steps.0
-  | in-Some-2+then-len-most w ↦ found_most _ _ _ _ _ _ _ c.loop-key.invariant (omega arith)
+  | in-None-2 w ↦ found_all _ _ _ _ _ _ _ c.loop-key.invariant.0 (ap (all_versions c.self.inside.older) w.in-None-2.ensures.steps.0)
+  | in-Some-2+then-len-most w ↦ found_most _ _ _ _ _ _ _ c.loop-key.invariant.0 (omega arith)
 ]

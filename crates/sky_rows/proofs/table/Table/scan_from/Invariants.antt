@@ -1,8 +1,11 @@
 use Rattle.std.specs.Option.{option_copied}
 use Rattle.sky_keys.specs.Versions.{above}
+use Rattle.sky_rows.specs.Kept.{all_versions, AreOwn}
 use Rattle.sky_rows.specs.Written.{wrote}
 use Rattle.sky_rows.proofs.ScanLemmas.{IsOnTheWay}
 use Rattle.sky_rows.proofs.table.Table.scan_from.Given as goal
 
 abbrev pub invariant-loop-key : goal.invariant-loop-key
-invariant-loop-key l = IsOnTheWay (wrote l.self-inside.written) l.snapshot l.own l.most (above (option_copied l.after) l.self.versions) l.key-iterator l.found.items
+invariant-loop-key l =
+    IsOnTheWay (wrote l.self-inside.written) l.snapshot l.own l.most (above (option_copied l.after) l.self.versions) (all_versions l.self-inside.older l.key-iterator) l.found.items
+    × AreOwn l.self-inside.older l.key-iterator

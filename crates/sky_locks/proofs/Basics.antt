@@ -1,0 +1,60 @@
+-- Small facts on lists and results.
+use Rattle.std.proofs.Common.{◌≡◌, ℕ, zero, suc, nat_eq, not, Some, subst, Bool, true, false, cond, List, [], ◌∷◌, ◌++◌, length, slice_set, Result, Ok, Err, refl, sym, ◌∙◌, ap, arith}
+use Rattle.std.specs.Prelude.{◌==◌, OnErr, filter, slice_get}
+use Rattle.std.specs.List.{IsDistinct, AllByRecursion, list_any, remove}
+use Rattle.std.proofs.lemmas.Bool.{eqb-true, eq-eqb, or_parts}
+use Rattle.std.proofs.lemmas.Map.Keys.{IsDistinct-head, IsDistinct-tail}
+
+pub no_keys : {T : Type 0} (ks : List T) → length ks ≡ 0 → ks ≡ []
+no_keys [] e = refl
+no_keys (k ∷ ks) e = absurd (omega arith)
+
+-- what holds anyway holds if a call failed
+pub on_err_always : {X E P : Type 0} (r : Result X E) → P → OnErr r P
+on_err_always (Ok x) p = tt
+on_err_always (Err e) p = p
+
+-- what was put at a key and is replaced there leaves no trace
+pub put_away : {X : Type 0} (here : Bool) (last first rest : X) → cond here last (cond here first rest) ≡ cond here last rest
+put_away true last first rest = refl
+put_away false last first rest = refl
+
+-- the last item is replaced
+pub set-last : {X : Type 0} (xs : List X) (x y : X) → slice_set (xs ++ x ∷ []) (length xs) y ≡ xs ++ y ∷ []
+set-last [] x y = refl
+set-last (z ∷ xs) x y = ap (λ zs. z ∷ zs) (set-last xs x y)
+
+-- ---- one number is removed
+
+pub apart_turned : (m n : ℕ) → (m == n) ≡ false → (n == m) ≡ false
+apart_turned m n apart = elim (n == m) as (λ t. (n == m) ≡ t → t ≡ false) [
+  | true ↦ λ is. let both : true ≡ false = sym (eq-eqb m n (sym (eqb-true n m is))) ∙ apart in cc both
+  | false ↦ λ _. refl
+] refl
+
+kept_all : (who : ℕ) (xs : List ℕ) → AllByRecursion (λ y. nat_eq who y ≡ false) xs → xs ≡ filter (λ s. not (s == who)) xs
+kept_all who [] all = refl
+kept_all who (x ∷ xs) all = ap (λ ys. x ∷ ys) (kept_all who xs all.1) ∙ ap (λ b. cond (not b) (x ∷ filter (λ s. not (s == who)) xs) (filter (λ s. not (s == who)) xs)) (sym (apart_turned who x all.0))
+
+apart_at : (x who : ℕ) (xs : List ℕ) (i : ℕ) → AllByRecursion (λ y. nat_eq x y ≡ false) xs → slice_get xs i ≡ Some who → (x == who) ≡ false
+apart_at x who [] i all here = absurd (cc here)
+apart_at x who (y ∷ xs) zero all here = let same : y ≡ who = cc here in ap (λ n. x == n) (sym same) ∙ all.0
+apart_at x who (y ∷ xs) (suc i) all here = apart_at x who xs i all.1 here
+
+-- if no number is there twice, removing it once is enough
+pub unlinked : (xs : List ℕ) (i who : ℕ) → slice_get xs i ≡ Some who → IsDistinct nat_eq xs → remove xs i ≡ filter (λ s. not (s == who)) xs
+unlinked [] i who here once = absurd (cc here)
+unlinked (x ∷ xs) zero who here once =
+    let same : x ≡ who = cc here in
+    kept_all who xs (subst (λ n. AllByRecursion (λ y. nat_eq n y ≡ false) xs) same (IsDistinct-head nat_eq x xs once))
+    ∙ ap (λ b. cond (not b) (x ∷ filter (λ s. not (s == who)) xs) (filter (λ s. not (s == who)) xs)) (sym (eq-eqb x who same))
+unlinked (x ∷ xs) (suc i) who here once =
+    ap (λ ys. x ∷ ys) (unlinked xs i who here (IsDistinct-tail nat_eq x xs once))
+    ∙ ap (λ b. cond (not b) (x ∷ filter (λ s. not (s == who)) xs) (filter (λ s. not (s == who)) xs)) (sym (apart_at x who xs i (IsDistinct-head nat_eq x xs once) here))
+
+-- and if it isn't there, nothing is removed
+pub not_there : (xs : List ℕ) (who : ℕ) → list_any (λ s. s == who) xs ≡ false → xs ≡ filter (λ s. not (s == who)) xs
+not_there [] who none = refl
+not_there (x ∷ xs) who none =
+    let parts = or_parts (x == who) (list_any (λ s. s == who) xs) none in
+    ap (λ ys. x ∷ ys) (not_there xs who parts.1) ∙ ap (λ b. cond (not b) (x ∷ filter (λ s. not (s == who)) xs) (filter (λ s. not (s == who)) xs)) (sym parts.0)

@@ -1,0 +1,96 @@
+-- One map of holders and queues, after what is at one key changed.
+use Rattle.std.proofs.Common.{◌≡◌, ℕ, Bool, true, false, cond, List, [], ◌∷◌, length, Option, Some, None, is_some, refl, sym, ◌∙◌, ap}
+use Rattle.std.specs.Prelude.{◌||◌, ◌==◌, slice_get}
+use Rattle.std.specs.Ordering.{eq_by_cmp}
+use Rattle.std.specs.Map.{lookup, keys_of}
+use Rattle.std.specs.BTreeMap.{get, keys, is_at}
+use Rattle.sky_locks.specs.declared.lock_key.LockKey.{LockKey}
+use Rattle.sky_locks.specs.declared.slots.Slot.{Slot}
+use Rattle.sky_locks.specs.Order.{lock_cmp}
+use Rattle.sky_locks.specs.Holders.{holder_of}
+use Rattle.sky_locks.specs.Slots.{Slots, slot_holder, holder_at, held_also, held_among, held_in, SameHolders}
+use Rattle.sky_locks.specs.Waiters.{is_among}
+use Rattle.sky_locks.proofs.Orders.{lock_ties-is}
+
+-- what is at one key is another now
+abbrev pub Puts : Slots → LockKey → Option Slot → Slots → Type 0
+Puts old key now new = (q : LockKey) → get lock_cmp new q ≡ cond (eq_by_cmp lock_cmp key q) now (get lock_cmp old q)
+
+module _ {X : Type 0} (read : Option Slot → X) where
+  pub put-read : (f : X → X) (old new : Slots) (key : LockKey) (now : Option Slot) → Puts old key now new → read now ≡ f (read (get lock_cmp old key))
+      → (q : LockKey) → read (get lock_cmp new q) ≡ cond (eq_by_cmp lock_cmp key q) (f (read (get lock_cmp old q))) (read (get lock_cmp old q))
+  put-read f old new key now puts is q =
+      ap read (puts q)
+      ∙ elim (eq_by_cmp lock_cmp key q) as (λ t. eq_by_cmp lock_cmp key q ≡ t → read (cond t now (get lock_cmp old q)) ≡ cond t (f (read (get lock_cmp old q))) (read (get lock_cmp old q))) [
+        | true ↦ λ tie. is ∙ ap (λ k. f (read (get lock_cmp old k))) (lock_ties-is key q tie)
+        | false ↦ λ _. refl
+      ] refl
+
+  pub put-kept : (old new : Slots) (key : LockKey) (now : Option Slot) → Puts old key now new → read now ≡ read (get lock_cmp old key)
+      → (q : LockKey) → read (get lock_cmp new q) ≡ read (get lock_cmp old q)
+  put-kept old new key now puts is q = put-read (λ x. x) old new key now puts is q ∙ same (eq_by_cmp lock_cmp key q) (read (get lock_cmp old q))
+    where
+      same : (b : Bool) (x : X) → cond b x x ≡ x
+      same true x = refl
+      same false x = refl
+
+  -- nothing is at the key, and nothing changes
+  pub put-absent : (f : X → X) (old new : Slots) (key : LockKey) → new ≡ old → None ≡ get lock_cmp old key → read None ≡ f (read None)
+      → (q : LockKey) → read (get lock_cmp new q) ≡ cond (eq_by_cmp lock_cmp key q) (f (read (get lock_cmp old q))) (read (get lock_cmp old q))
+  put-absent f old new key same none is q =
+      ap (λ (m : Slots). read (get lock_cmp m q)) same
+      ∙ elim (eq_by_cmp lock_cmp key q) as (λ t. eq_by_cmp lock_cmp key q ≡ t → read (get lock_cmp old q) ≡ cond t (f (read (get lock_cmp old q))) (read (get lock_cmp old q))) [
+        | true ↦ λ tie.
+            let absent : get lock_cmp old q ≡ None = sym (none ∙ ap (get lock_cmp old) (lock_ties-is key q tie)) in
+            ap read absent ∙ is ∙ ap (λ o. f (read o)) (sym absent)
+        | false ↦ λ _. refl
+      ] refl
+
+-- ---- the list of keys that are held
+
+-- it is the same if the keys and their holders are
+pub held-same : (old new : Slots) → keys new ≡ keys old → SameHolders old new → held_in new ≡ held_in old
+held-same old new ks same = λ i. held_among (ks i) (λ q. same q i)
+
+held-found : (ks : List LockKey) (holder : LockKey → Option ℕ) (key : LockKey) → holder_of (held_among ks holder) key ≡ cond (is_among ks key) (holder key) None
+held-found [] holder key = refl
+held-found (k ∷ ks) holder key = of (holder k) refl (held-found ks holder key)
+  where
+    nothing : (b : Bool) (o : Option ℕ) → o ≡ None → cond b o None ≡ o
+    nothing true o is = refl
+    nothing false o is = sym is
+
+    of : (o : Option ℕ) → holder k ≡ o → holder_of (held_among ks holder) key ≡ cond (is_among ks key) (holder key) None
+        → holder_of (held_also k o (held_among ks holder)) key ≡ cond (eq_by_cmp lock_cmp key k || is_among ks key) (holder key) None
+    of None is rest = rest ∙ elim (eq_by_cmp lock_cmp key k) as (λ t. eq_by_cmp lock_cmp key k ≡ t → cond (is_among ks key) (holder key) None ≡ cond (t || is_among ks key) (holder key) None) [
+      | true ↦ λ tie. nothing (is_among ks key) (holder key) (ap holder (lock_ties-is key k tie) ∙ is)
+      | false ↦ λ _. refl
+    ] refl
+    of (Some s) is rest = elim (eq_by_cmp lock_cmp key k) as (λ t. eq_by_cmp lock_cmp key k ≡ t → cond t (Some s) (holder_of (held_among ks holder) key) ≡ cond (t || is_among ks key) (holder key) None) [
+      | true ↦ λ tie. sym (ap holder (lock_ties-is key k tie) ∙ is)
+      | false ↦ λ _. rest
+    ] refl
+
+absent_there : (es : List (LockKey × Slot)) (key : LockKey) → is_among (keys_of es) key ≡ false → lookup (is_at (lock_cmp key)) es ≡ None
+absent_there [] key none = refl
+absent_there (e ∷ es) key none = elim (eq_by_cmp lock_cmp key e.0) as (λ t. eq_by_cmp lock_cmp key e.0 ≡ t → (t || is_among (keys_of es) key) ≡ false → cond t (Some e.1) (lookup (is_at (lock_cmp key)) es) ≡ None) [
+  | true ↦ λ _ some. absurd (cc some)
+  | false ↦ λ _ rest. absent_there es key rest
+] refl none
+
+-- a key's holder, by the list
+pub held-is : (slots : Slots) (key : LockKey) → holder_of (held_in slots) key ≡ holder_at slots key
+held-is slots key = held-found (keys slots) (holder_at slots) key ∙ elim (is_among (keys slots) key) as (λ b. is_among (keys slots) key ≡ b → cond b (holder_at slots key) None ≡ holder_at slots key) [
+  | true ↦ λ _. refl
+  | false ↦ λ none. sym (ap slot_holder (absent_there slots.entries key none))
+] refl
+
+-- ---- whether someone is in a queue
+
+pub queue_filled : (queue : List ℕ) (n : ℕ) → length queue ≡ n → false ≡ (n == 0) → true ≡ is_some (slice_get queue 0)
+queue_filled [] n len other = let both : false ≡ true = other ∙ ap (λ m. m == 0) (sym len) in cc both
+queue_filled (s ∷ queue) n len other = refl
+
+pub no_holder : (o : Option ℕ) → is_some o ≡ false → o ≡ None
+no_holder None is = refl
+no_holder (Some s) is = absurd (cc is)
