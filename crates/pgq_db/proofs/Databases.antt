@@ -1,5 +1,5 @@
 -- What a database shows, after what the code changed in it.
-use Rattle.std.proofs.Common.{Err, is_ok, drop, ◌≡◌, ℕ, ℤ, ◌+◌, ◌<◌, ◌≤◌, ◌^◌, List, [], ◌∷◌, ◌++◌, Bool, true, false, nat_le, Option, Some, None, Result, Ok, IfOk, OnOk, IfSome, IfNone, is_some, length, append_assoc, get_or, option_map, refl, sym, ◌∙◌, ap, subst, arith, if◌then◌else◌, ◌↔◌, ◌==◌}
+use Rattle.std.proofs.Common.{Err, is_ok, drop, ◌≡◌, ℕ, ℤ, ◌+◌, ◌<◌, ◌≤◌, ◌^◌, List, [], ◌∷◌, ◌++◌, Bool, true, false, nat_le, Option, Some, None, Result, Ok, IfOk, OnOk, is_some, length, append_assoc, get_or, option_map, refl, sym, ◌∙◌, ap, subst, arith, if◌then◌else◌, ◌↔◌, ◌==◌}
 use Rattle.std.proofs.lemmas.Bool.Decides.{nat_tests}
 use Rattle.std.proofs.lemmas.List.{drop_more}
 use Rattle.sky_val.specs.declared.event.Event.{Event}
@@ -10,19 +10,17 @@ use Rattle.sky_model.specs.declared.reply.Reply.{Reply}
 use Rattle.std.specs.Prelude.{find, not}
 use Rattle.sky_model.specs.ShownRows.{least_writer}
 use Rattle.sky_model.specs.StepTrigger.{has_trigger, may_ignore, add_trigger}
-use Rattle.sky_model.specs.declared.reply.Reply.TheVariants.{Done, Number, Events}
+use Rattle.sky_model.specs.declared.reply.Reply.TheVariants.{Done, Number}
 use Rattle.sky_model.specs.declared.reply.Limit.TheVariants.{Queues, Triggers}
 use Rattle.sky_model.specs.declared.reply.Refusal.{Refusal}
-use Rattle.sky_model.specs.declared.reply.Refusal.TheVariants.{BadColumn, HasConsumers, HasTriggers, NoTable, QueueBusy, TableBusy, TooMany, TriggerExists, NoBatch, EventIdsSpent, IdsSpent}
+use Rattle.sky_model.specs.declared.reply.Refusal.TheVariants.{BadColumn, HasConsumers, HasTriggers, NoTable, QueueBusy, TableBusy, TooMany, TriggerExists, EventIdsSpent, IdsSpent}
 use Rattle.sky_model.specs.declared.stmt.Stmt.{Stmt}
 use Rattle.sky_model.specs.declared.stmt.Where.{Where}
-use Rattle.sky_model.specs.History.{Mark, ended, looked, block_failed, tabled, wrote, queued, QueueMark, made, raised, put, ticked, closed, dropped, traced}
+use Rattle.sky_model.specs.History.{Mark, ended, looked, block_failed, tabled, wrote, queued, QueueMark, made, raised, put, ticked, dropped, traced}
 use Rattle.sky_model.specs.Sessions.{Block, outside, inside}
 use Rattle.sky_model.specs.Queues.{queue_number}
 use Rattle.sky_model.specs.Triggers.{TableTrigger, triggers_of}
-use Rattle.sky_model.specs.Selection.{selected}
-use Rattle.sky_model.specs.StepConsumer.{finish_batch, finishes, get_batch_events}
-use Rattle.sky_model.specs.Printed.{EventsHaveMoments, ReplyHasMoments}
+use Rattle.sky_model.specs.Printed.{ReplyHasMoments}
 use Rattle.sky_model.specs.State.{RowPart, after_part_marks, Database, after_mark, after_marks}
 use Rattle.sky_model.specs.ShownRows.{snapshot_now}
 use Rattle.sky_model.specs.Outcome.{Outcome, Checked, ◌>>=◌, ◌>>◌, refused_if, refused_by, found_or, answers, does_marks, reply_of, end_of, aborts, abort, settled}
@@ -44,9 +42,8 @@ use Rattle.sky_session.specs.declared.effect.Effect.TheVariants.{Wrote, Aborted}
 use Rattle.sky_model.specs.SessionMarks.{look_of, failure, Enters, entry, entry_place}
 use Rattle.sky_state.specs.Views.{RowStateView}
 use Rattle.sky_state.specs.Seen.{seen}
-use Rattle.pgq_queues.specs.declared.batch.Batch.{Batch}
 use Rattle.pgq_queues.specs.Views.{QueuesView}
-use Rattle.pgq_queues.specs.Seen.{seen_batch, batch_at, seen_with}
+use Rattle.pgq_queues.specs.Seen.{seen_with}
 use Rattle.pgq_db.specs.Views.{DbView}
 use Rattle.pgq_db.specs.Seen.{seen_database}
 use Rattle.pgq_db.specs.Undone.{undone_by}
@@ -138,33 +135,6 @@ gives-event d s1 s2 s3 now time who name ev_type ev_data extra q seq t event bef
         does_marks (Number id) (written who x (d.part.session who) (queued (raised q id) ∷ queued (put q (made_event id now x ev_type ev_data extra)) ∷ []))))) txid
         ∙ ap (λ b. (refused_if b EventIdsSpent >> Ok ((d.queue q).seq + 1)) >>= result) unspent
         ∙ ap (λ n. result (n + 1)) (sym is)
-
--- what a batch gives that is finished, and one that there isn't
-pub gives-finish : (v now : DbView) (queues : QueuesView) (who id : ℕ) (found : Option Batch) (count : ℕ) (before after : List (ℕ × Reply)) → v ≡ now
-    → option_map (seen_batch id) found ≡ batch_at v.queues id
-    → IfSome found (λ b. (part : RowPart) → seen_with part queues ≡ after_mark (seen_with part v.queues) (queued (closed (seen_batch id b))))
-    → IfNone found ((part : RowPart) → seen_with part queues ≡ seen_with part v.queues)
-    → after ≡ before ++ (who, Number count) ∷ [] → count ≡ (if is_some found then 1 else 0)
-    → Runs (seen_database now) (seen_database (record v { queues = queues })) before after who (finish_batch (seen_database now) id)
-gives-finish v now queues who id found count before after same batch over nothing pushed is =
-    subst (λ (w : DbView). Runs (seen_database w) left before after who (finish_batch (seen_database w) id)) same
-    (subst (λ o. Runs (seen_database v) left before after who (finishes o)) batch (of found over nothing is))
-  where
-    left : Database
-    left = seen_database (record v { queues = queues })
-
-    of : (o : Option Batch) → IfSome o (λ b. (part : RowPart) → seen_with part queues ≡ after_mark (seen_with part v.queues) (queued (closed (seen_batch id b))))
-        → IfNone o ((part : RowPart) → seen_with part queues ≡ seen_with part v.queues) → count ≡ (if is_some o then 1 else 0)
-        → Runs (seen_database v) left before after who (finishes (option_map (seen_batch id) o))
-    of None over nothing is = (record { accepted = refl; replied = pushed ∙ ap (λ n. before ++ (who, Number n) ∷ []) is; changed = nothing (seen v.rows) }, tt)
-    of (Some b) over nothing is = (record { accepted = refl; replied = pushed ∙ ap (λ n. before ++ (who, Number n) ∷ []) is; changed = over (seen v.rows) }, tt)
-
--- what a query for a batch's events gives
-pub gives-events : (d : Database) (who id : ℕ) (batch : Batch) (events : List Event) (before after : List (ℕ × Reply)) → Some (seen_batch id batch) ≡ d.batch id
-    → events ≡ selected d (seen_batch id batch) → EventsHaveMoments events → after ≡ before ++ (who, Events events) ∷ [] → Runs d d before after who (get_batch_events (shown_by d).events id)
-gives-events d who id batch events before after there is have pushed =
-    subst (λ found. Runs d d before after who (found_or (option_map (selected d) found) NoBatch >>= (λ es. answers (Events es)))) there
-    (record { accepted = refl; replied = pushed ∙ ap (λ es. before ++ (who, Events es) ∷ []) is; changed = refl }, subst EventsHaveMoments is have)
 
 queue-written : (d : Database) (who t : ℕ) (o : Option ℕ) (b : Block) (n : ℕ) (name : List ℕ) (time : ℤ)
     → after_marks (after_marks d (begin_of who t o ++ commit_of who t b)) (queued (made name) ∷ queued (ticked n 1 time 0) ∷ [])
@@ -421,6 +391,13 @@ pub entered-steps : {E : Type 0} (d s : Database) (who : ℕ) (alone : Bool) (r 
     → s ≡ record d { part = s.part } → OnOk r (DatabaseSteps d s (call.entered who alone) (entry d.part who (entry_place alone)))
 entered-steps d s who alone (Ok refusal) enters but = database_enter_from_exact d s who alone refusal enters but
 entered-steps d s who alone (Err e) enters but = tt
+
+-- what is found in the rows, and in the queues, is so in the database
+pub table-there : (v now : DbView) (table : List ℕ) (n : ℕ) → v ≡ now → place_of table (seen v.rows).tables ≡ Some n → place_of table (seen_database now).part.tables ≡ Some n
+table-there v now table n same there = subst (λ (w : DbView). place_of table (seen w.rows).tables ≡ Some n) same there
+
+pub queue-known : (v now : DbView) (queue : List ℕ) (q : ℕ) → v ≡ now → ((part : RowPart) → queue_called queue (seen_with part v.queues) ≡ Ok q) → queue_called queue (seen_database now) ≡ Ok q
+queue-known v now queue q same known = subst (λ (w : DbView). queue_called queue (seen_database w) ≡ Ok q) same (known (seen v.rows))
 
 -- a trigger that is to ignore a column that it may not
 pub bad-column : (d : Database) (name table queue : List ℕ) (backup : Bool) (ignored : List (List ℕ)) (n q : ℕ) (column : List ℕ) → place_of table d.part.tables ≡ Some n → queue_called queue d ≡ Ok q

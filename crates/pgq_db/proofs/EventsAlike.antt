@@ -7,6 +7,7 @@ use Rattle.std.proofs.lemmas.List.{length-set}
 use Rattle.std.proofs.lemmas.List.Elements.{All-map, All-filter}
 use Rattle.sky_val.specs.declared.val.Val.{Val}
 use Rattle.sky_val.specs.declared.event.Event.{Event}
+use Rattle.sky_names.specs.Named.{value_of}
 use Rattle.sky_urlenc.specs.RowEvents.{RowEvent, Trigger, events_of, event_of}
 use Rattle.sky_model.specs.declared.reply.Refusal.TheVariants.{EventIdsSpent}
 use Rattle.sky_model.specs.History.{Mark, of_session, ended, tabled, wrote, queued}
@@ -25,7 +26,7 @@ use Rattle.sky_model.proofs.Inserted.{BesideQueues, inserted-beside}
 use Rattle.sky_model.proofs.Telling.{IsOther, TellsAlike, SameTold, settling-told, row_turn-told}
 use Rattle.sky_session.specs.declared.effect.Effect.{Effect}
 use Rattle.pgq_queues.specs.Views.{QueueView, TracedTableView, QueuesView}
-use Rattle.pgq_queues.specs.Seen.{no_queue, seen_queue, kept, keeps, seen_with}
+use Rattle.pgq_queues.specs.Seen.{no_queue, seen_queue, sub_at, batch_by, kept, keeps, seen_with}
 use Rattle.pgq_queues.specs.Traced.{traced_by, traced_at, IsTraced, AreTables}
 use Rattle.pgq_queues.specs.EventRule.{events_at, sequences, ids_left, telling, telling_all, event_rule}
 use Rattle.pgq_queues.proofs.Marked.{get_or-slice_set}
@@ -138,6 +139,25 @@ told-behind (e ∷ es) queues d now t told within is ok = by (nat_le (2 ^ 62) ((
     by true ih ok = absurd (cc)
     by false ih ok = joined (told_by behind now t es) (λ rest. ih rest later there) ok
 
+-- events change no subscription
+subs-told : (es : List RowEvent) (queues : List QueueView) (now : ℤ) (t : ℕ) → All (λ e. e.queue < length queues) es → sub_at (telling_all now t es queues) ≡ sub_at queues
+subs-told [] queues now t within = refl
+subs-told (e ∷ es) queues now t within = subs-told es (slice_set queues e.queue one) now t later ∙ (λ i n consumer. pointwise n consumer i)
+  where
+    one : QueueView
+    one = telling now t e (get_or queues e.queue no_queue)
+
+    later : All (λ x. x.queue < length (slice_set queues e.queue one)) es
+    later = λ k d lt. subst (λ n. (get_or es k d).queue < n) (sym (length-set queues e.queue one)) (within (suc k) d (omega (arith, lt)))
+
+    by : (n : ℕ) (consumer : List ℕ) (b : Bool) → (e.queue == n) ≡ b → value_of consumer (QueueView.subs (if b then one else get_or queues n no_queue)) ≡ sub_at queues n consumer
+    by n consumer true is = let same : e.queue ≡ n = grind (arith, nat_tests) in ap (λ m. sub_at queues m consumer) same
+    by n consumer false is = refl
+
+    pointwise : (n : ℕ) (consumer : List ℕ) → sub_at (slice_set queues e.queue one) n consumer ≡ sub_at queues n consumer
+    pointwise n consumer =
+        ap (λ (q : QueueView). value_of consumer q.subs) (get_or-slice_set queues e.queue n one (within 0 e (omega arith))) ∙ by n consumer (e.queue == n) refl
+
 -- ---- a database, its row part, and its queues
 
 -- a database, its row part and its queues at a time, where some transactions had been noted as rolled back
@@ -191,6 +211,7 @@ module _ (now : ℤ) (undone : List ℕ) where
         whole = λ i. record (ap (λ x. after_mark x write) is.whole i) {
           queues_made = (ap Database.queues_made is.whole ∙ sym (telling-length q.time t (events_at (traced_at q table) change) q.queues)) i;
           queue = shown (stored i);
+          batch = batches i;
         };
         time = is.time;
         noted = is.noted;
@@ -215,6 +236,12 @@ module _ (now : ℤ) (undone : List ℕ) where
 
       stored : telling_all now t events q.queues ≡ telling_all q.time t (events_at (traced_at q table) change) q.queues
       stored = λ i. telling_all (sym is.time i) t (same-events d p q table old new is i) q.queues
+
+      batches : d.batch ≡ (λ id. batch_by (sub_at (telling_all q.time t (events_at (traced_at q table) change) q.queues)) id (kept q.batches id))
+      batches =
+          ap Database.batch is.whole
+          ∙ ap (λ subs. λ id. batch_by subs id (kept q.batches id)) (sym (subs-told events q.queues now t within))
+          ∙ ap (λ queues. λ id. batch_by (sub_at queues) id (kept q.batches id)) stored
 
       behind : after_marks d (write ∷ told) ≡ record (after_mark d write) { queue = shown (telling_all now t events q.queues) }
       behind = told-behind events q.queues (after_mark d write) now t told within (ap Database.queue is.whole) ok

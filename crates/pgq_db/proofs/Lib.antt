@@ -1,4 +1,5 @@
 pub mod Databases
+pub mod ConsumerSteps
 pub mod Configuring
 pub mod Daemons
 pub mod Moments
@@ -6,3 +7,5 @@ pub mod Empty
 pub mod Waiters
 pub mod Tables
 pub mod EventsAlike
+pub mod Agreeing
+pub mod RetrySteps

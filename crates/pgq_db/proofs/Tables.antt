@@ -42,27 +42,13 @@ tables-kept p mark q are n = of (kept q.traced n) (are n)
     of None is = is
     of (Some t) is = table-kept p mark n t.name t.columns is
 
-tables-behind : (p : RowPart) (marks : List Mark) (q : QueuesView) → AreTables p q → AreTables (after_part_marks p marks) q
+pub tables-behind : (p : RowPart) (marks : List Mark) (q : QueuesView) → AreTables p q → AreTables (after_part_marks p marks) q
 tables-behind p [] q are = are
 tables-behind p (mark ∷ marks) q are = tables-behind (after_part p mark) marks q (tables-kept p mark q are)
 
 -- queues that keep of tables what they kept
 pub tables-stay : (p : RowPart) (old new : QueuesView) → KeepsRest old new → AreTables p old → AreTables p new
 tables-stay p old new keeps = subst (λ (s : List TableTrigger × List (ℕ × TracedTableView)). (n : ℕ) → IsTraced p n s.0 (kept s.1 n)) (λ i. (sym keeps.triggers i, sym keeps.traced i))
-
--- a row part after marks
-pub tables-then : (old new : RowPart) (marks : List Mark) (q : QueuesView) → new ≡ after_part_marks old marks → AreTables old q → AreTables new q
-tables-then old new marks q is are = subst (λ part. AreTables part q) (sym is) (tables-behind old marks q are)
-
-pub tables-same : (old new : RowPart) (q : QueuesView) → new ≡ old → AreTables old q → AreTables new q
-tables-same old new q is are = subst (λ part. AreTables part q) (sym is) are
-
--- and after a statement came in, or not
-pub tables-entered : (old new : RowPart) (who : ℕ) (place : Where) (r : Result (Option Refusal) AllocError) (q : QueuesView)
-    → IfOk r (λ refusal. Enters old new who place refusal) → OnErr r (new ≡ old) → AreTables old q → AreTables new q
-tables-entered old new who place (Ok None) q enters err are = tables-then old new (sight_marks old who place) q enters.1 are
-tables-entered old new who place (Ok (Some refusal)) q enters err are = tables-same old new q enters.1 are
-tables-entered old new who place (Err no_memory) q enters err are = tables-same old new q err are
 
 -- the table of a name
 pub is-table : (part : RowPart) (name : List ℕ) (n found : ℕ) (columns : List Column) → place_of name part.tables ≡ Some n → place_of name part.tables ≡ Some found → columns ≡ part.columns found

@@ -1,6 +1,7 @@
 pub mod Views
 pub mod Seen
 pub mod Undone
+pub mod Agreeing
 pub mod Gives
 pub mod Configured
 pub mod Waiters

@@ -1,18 +1,14 @@
-ghost use Rattle.std.specs.Prelude.{◌≡◌, ◌↔◌, ◌≢◌, ◌+◌, ◌<◌, ◌^◌, [], ◌∷◌, ◌++◌, true, None, Some, Ok, Err, IfOk, IfErr, OnOk, OnErr, IsTrue, ◌==◌, option_copied, length, find, not, nat_le, false, is_some};
+ghost use Rattle.std.specs.Prelude.{◌≡◌, ◌↔◌, ◌≢◌, ◌+◌, ◌^◌, [], ◌++◌, true, None, Some, Ok, Err, IfOk, IfErr, OnOk, OnErr, IsTrue, option_map, not, nat_le, false};
 ghost use Rattle.sky_keys.specs.Waits.{is_waiting};
-ghost use Rattle.sky_names.specs.Places.{place_of};
 ghost use Rattle.sky_model.specs.InForm.{IsRowInForm};
-ghost use Rattle.sky_model.specs.History.{queued, made, raised, put, ticked, registered, opened, dropped, traced};
-ghost use Rattle.sky_model.specs.Moment.{HasMoment, IsTime};
-ghost use Rattle.sky_model.specs.Queues.{queue_number};
+ghost use Rattle.sky_model.specs.History.{queued, ticked};
+ghost use Rattle.sky_model.specs.Moment.{IsTime};
 ghost use Rattle.sky_model.specs.ShownRows.{snapshot_now};
-ghost use Rattle.std.specs.List.{All};
 ghost use Rattle.sky_model.specs.StepQueue.{newest_id, least_producer};
 ghost use Rattle.sky_model.specs.Outcome.{refused_if};
 ghost use Rattle.sky_model.specs.Stops.{Stops};
 ghost use Rattle.sky_model.specs.declared.reply.Refusal.TheVariants.{IdsSpent};
 ghost use Rattle.sky_model.specs.State.{database_of, after_mark, after_marks};
-ghost use Rattle.sky_model.specs.StepTrigger.{may_ignore};
 ghost use Rattle.sky_model.specs.Printed.{HaveMoments};
 ghost use Rattle.sky_model.specs.OwnTransaction.{txid_for, begin_of, commit_of};
 ghost use Rattle.sky_model.specs.Reader.{database_by_itself, within_part};
@@ -23,21 +19,20 @@ ghost use Rattle.sky_model.specs.Calls.{database_turn};
 ghost use Rattle.sky_model.specs.SessionMarks.{Enters, entry, entry_place, failing};
 ghost use Rattle.sky_model.specs.DatabaseCalls.{entered, failed};
 ghost use Rattle.sky_model.specs.DatabaseSteps.{DatabaseSteps};
-ghost use Rattle.pgq_queues.specs.Seen.{seen_batch, Stands};
-ghost use Rattle.pgq_queues.specs.Batches.{StillStand};
+ghost use Rattle.pgq_sub.specs.Views.{seen_sub};
+ghost use Rattle.pgq_queues.specs.Seen.{Stands};
 ghost use Rattle.pgq_db.specs.Seen.{seen_database};
 ghost use Rattle.pgq_db.specs.Waiters.{StaysWithin};
 ghost use Rattle.pgq_db.specs.Gives.{Gives, Adds};
 ghost use Rattle.pgq_db.specs.Configured.{refusal_for, configured_as, Configures};
 
 use crate::noting::undo_aborted;
-use pgq_queues::{Batch, Queues, TableTrigger};
+use pgq_queues::Queues;
 use pgq_sub::Sub;
 use pgq_tick::ConfigFault;
 use sky_model::{Refusal, Replies, RowStmt, Stop};
 use sky_session::{RowDb, RowStep};
-use sky_txid::Snapshot;
-use sky_val::{Event, NoMemory, Schema, SessionId, Text};
+use sky_val::{NoMemory, SessionId, Text};
 use std::alloc::{AllocError, Global};
 use std::marker::Model;
 use std::mem;
@@ -51,22 +46,22 @@ pub struct Db {
     pub(crate) queues: Queues,
     // What the row part does in one call.
     step: RowStep,
-    // Whether memory was wanting in the midst of a statement on rows. What its tables are isn't known then, so no statement
-    // on rows is run from then on.
-    is_cut: bool,
+    // Whether memory was wanting in the midst of a statement on rows. What its tables are, and how often its events were
+    // retried, isn't known then, so no statement on rows or retries is run from then on.
+    pub(crate) is_cut: bool,
 }
 
 impl Model for Db {
     ghost use Rattle.std.specs.Prelude.{◌≡◌, false};
     ghost use Rattle.sky_state.specs.Seen.{seen};
-    ghost use Rattle.pgq_queues.specs.Traced.{AreTables};
     ghost use Rattle.pgq_db.specs.Views.{DbView};
+    ghost use Rattle.pgq_db.specs.Agreeing.{Agree};
 
     ghost Value = { DbView };
 
     ghost view = { λ d. record { rows = d.rows; queues = d.queues } };
 
-    ghost invariant = { λ d. d.is_cut ≡ false → AreTables (seen d.rows) d.queues };
+    ghost invariant = { λ d. d.is_cut ≡ false → Agree (seen d.rows) d.queues };
 }
 
 impl Db {
@@ -83,10 +78,11 @@ impl Db {
         }
     }
 
-    /// The subscription of a queue's consumer, if it is registered.
+    /// The subscription of a queue's consumer, if it is registered. It is said of the database, so that what reads it needs
+    /// no proof by hand.
     pub(crate) fn subscription(&self, queue: usize, consumer: &Text) -> Option<Sub>
         requires { Stands self.now.queues.queues queue }
-        ensures { result ≡ ((seen_database self.now).queue queue).sub consumer.now }
+        ensures { option_map seen_sub result ≡ ((seen_database self.now).queue queue).sub consumer.now }
     {
         self.queues.queue(queue).subscription(consumer)
     }
@@ -243,32 +239,6 @@ impl Db {
         }
     }
 
-    /// The first of the names that no trigger of the table may ignore: it is none of the table's columns, or is part of the
-    /// key.
-    pub(crate) fn bad_column<'a>(
-        &self,
-        table: &Text,
-        number: u32,
-        names: &'a [Text],
-    ) -> Option<&'a Text>
-        requires { place_of table.now (seen_database self.now).part.tables ≡ Some number }
-        ensures { option_copied result ≡ find (λ name. not (may_ignore ((seen_database self.now).part.columns number) name)) names.now }
-    {
-        match self.rows.table(table) {
-            Some((_, schema)) => first_bad(schema, names),
-            None => unreachable!(),
-        }
-    }
-
-    /// The sequence of a queue has this value from now on.
-    pub(crate) fn raise(&mut self, queue: usize, value: u64)
-        requires { Stands self.old.queues.queues queue }
-        ensures mark { seen_database self.new ≡ after_mark (seen_database self.old) (queued (raised queue value)) }
-        ensures stand { StillStand self.old.queues.queues self.new.queues.queues }
-    {
-        self.queues.raise(queue, value);
-    }
-
     /// A parameter of a queue gets the value that a text writes, or it is said why not.
     pub(crate) fn configure(&mut self, queue: usize, param: &Text, value: &Text) -> Result<(), Stop>
         requires { Stands self.old.queues.queues queue }
@@ -280,15 +250,6 @@ impl Db {
             return Err(Stop::Refused(refusal));
         }
         Ok(())
-    }
-
-    /// Stores an event in a queue, whether its transaction commits or not.
-    pub(crate) fn put(&mut self, queue: usize, event: Event) -> Result<(), NoMemory>
-        requires queue { Stands self.old.queues.queues queue }
-        requires time { HasMoment event.ev_time }
-        ensures { OnOk result (seen_database self.new ≡ after_mark (seen_database self.old) (queued (put queue event))) }
-    {
-        self.queues.put(queue, event)
     }
 
     /// One more tick of a queue, with the next id, which it gives, or a refusal where there is none.
@@ -305,28 +266,6 @@ impl Db {
         Ok(id)
     }
 
-    /// A queue of a new name, with its first tick.
-    pub(crate) fn make(&mut self, name: Text, now: i64, snapshot: Snapshot) -> Result<(), NoMemory>
-        requires new { queue_number name (seen_database self.old).queues ≡ None }
-        requires room { length (seen_database self.old).queues < 64 }
-        requires time { IsTime now }
-        requires snapshot { snapshot ≡ snapshot_now (seen_database self.old).part }
-        ensures { OnOk result (seen_database self.new ≡ after_marks (seen_database self.old)
-            (queued (made name) ∷ queued (ticked (seen_database self.old).queues_made 1 now 0) ∷ [])) }
-    {
-        self.queues.make(name, now, snapshot)
-    }
-
-    /// The queue of this name, which has this number, is dropped.
-    pub(crate) fn remove(&mut self, name: &Text, queue: usize)
-        requires found { queue_number name.now (seen_database self.old).queues ≡ Some queue }
-        requires consumers { ((seen_database self.old).queue queue).members ≡ [] }
-        requires triggers { All (λ t. (t.trigger.queue == queue) ≡ false) (seen_database self.old).triggers }
-        ensures { seen_database self.new ≡ after_mark (seen_database self.old) (queued (dropped queue)) }
-    {
-        self.queues.drop_queue(name, queue);
-    }
-
     /// The least running transaction that has an event in a queue.
     pub(crate) fn least_producer(&self, queue: usize) -> Result<Option<u64>, NoMemory>
         requires { Stands self.now.queues.queues queue }
@@ -334,40 +273,6 @@ impl Db {
     {
         let snapshot = self.rows.snapshot_now()?;
         Ok(self.queues.queue(queue).first_producer(snapshot.xip()))
-    }
-
-    /// Registers a new consumer, which stands at the newest tick.
-    pub(crate) fn register(&mut self, queue: usize, consumer: &Text) -> Result<(), NoMemory>
-        requires queue { Stands self.old.queues.queues queue }
-        requires new { ((seen_database self.old).queue queue).sub consumer.now ≡ None }
-        requires room { length ((seen_database self.old).queue queue).members < 256 }
-        requires id { (seen_database self.old).last_sub_id + 1 < 2 ^ 64 }
-        ensures { OnOk result (seen_database self.new ≡ after_mark (seen_database self.old)
-            (queued (registered queue consumer.now ((seen_database self.old).last_sub_id + 1) (newest_id ((seen_database self.old).queue queue))))) }
-    {
-        self.queues.register(queue, consumer)
-    }
-
-    /// The batch is active from now on, and is its consumer's.
-    pub(crate) fn open_batch(&mut self, id: u64, batch: Batch) -> Result<(), NoMemory>
-        requires queue { Stands self.old.queues.queues batch.queue }
-        requires registered { is_some (((seen_database self.old).queue batch.queue).sub batch.consumer) ≡ true }
-        ensures { OnOk result (seen_database self.new ≡ after_mark (seen_database self.old) (queued (opened (seen_batch id batch)))) }
-    {
-        self.queues.open_batch(id, batch)
-    }
-
-    /// One more trigger of the table of this name.
-    pub(crate) fn trace(&mut self, name: &Text, trigger: TableTrigger) -> Result<(), NoMemory>
-        requires table { place_of name.now (seen_database self.old).part.tables ≡ Some trigger.table }
-        requires queue { Stands self.old.queues.queues trigger.trigger.queue }
-        ensures ok { OnOk result (seen_database self.new ≡ after_mark (seen_database self.old) (queued (traced trigger.table trigger.name trigger.trigger))) }
-        ensures err { OnErr result (seen_database self.new ≡ seen_database self.old) }
-    {
-        match self.rows.table(name) {
-            Some((_, schema)) => self.queues.trace(name, schema, trigger),
-            None => unreachable!(),
-        }
     }
 }
 
@@ -380,21 +285,4 @@ fn refusal_for(alloc: Global, param: &Text, fault: ConfigFault) -> Result<Refusa
         ConfigFault::NoParam => Ok(Refusal::NoParam(param)),
         ConfigFault::BadValue => Ok(Refusal::BadValue(param)),
     }
-}
-
-/// The first of the names that a trigger may not ignore.
-fn first_bad<'a>(schema: &Schema, names: &'a [Text]) -> Option<&'a Text>
-    ensures { option_copied result ≡ find (λ name. not (may_ignore schema.now name)) names.now }
-{
-    names.iter().find(|name| !may_ignore(schema, name))
-}
-
-/// Whether a trigger may ignore the column of this name.
-fn may_ignore(schema: &Schema, name: &Text) -> bool
-    ensures { result ≡ may_ignore schema.now name.now }
-{
-    schema
-        .columns()
-        .iter()
-        .any(|column| column.name == *name && !column.key)
 }

@@ -8,9 +8,11 @@
 //! script.
 #![tactic(auto)]
 
+mod consumers;
 mod daemon;
 mod db;
 mod noting;
+mod retries;
 mod statements;
 
 pub use db::Db;

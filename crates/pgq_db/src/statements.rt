@@ -1,19 +1,16 @@
 //! The statements, each in the database that its session has open. A refusal changes nothing there but
 //! that it may abort the session's block.
 
-ghost use Rattle.std.specs.Prelude.{◌≡◌, ◌+◌, ◌<◌, [], ◌∷◌, ◌++◌, true, false, if◌then◌else◌, None, Some, Ok, Err, IfOk, IfErr, OnOk, length, is_some};
-ghost use Rattle.sky_names.specs.Places.{place_of};
+ghost use Rattle.std.specs.Prelude.{◌≡◌, ◌+◌, ◌<◌, find, not, option_copied, [], ◌∷◌, ◌++◌, true, false, if◌then◌else◌, None, Some, Ok, Err, IfOk, IfErr, OnOk, length};
 ghost use Rattle.sky_model.specs.declared.stmt.Where.TheVariants.{WhenReading, WhenOutside};
-ghost use Rattle.sky_model.specs.Queues.{queue_number, tick};
+ghost use Rattle.sky_model.specs.Queues.{queue_number};
 ghost use Rattle.sky_model.specs.History.{queued, made, ticked};
-ghost use Rattle.sky_model.specs.State.{after_marks};
+ghost use Rattle.sky_model.specs.State.{RowPart, after_marks};
 ghost use Rattle.sky_model.specs.Outcome.{settled};
 ghost use Rattle.sky_model.specs.Printed.{HaveMoments};
 ghost use Rattle.sky_model.specs.OwnTransaction.{txid_for, written};
 ghost use Rattle.sky_model.specs.StepQueue.{queue_called, create_queue, drop_queue, shown_name, set_queue_config, queue_info, insert_event, ticker, force_tick, made_event};
-ghost use Rattle.sky_model.specs.StepRows.{table_called};
-ghost use Rattle.sky_model.specs.StepTrigger.{add_trigger};
-ghost use Rattle.sky_model.specs.StepConsumer.{has_dot, opens_batch, register_consumer, next_batch, get_batch_events, finish_batch};
+ghost use Rattle.sky_model.specs.StepTrigger.{may_ignore, add_trigger};
 ghost use Rattle.sky_model.specs.InForm.{IsInForm};
 ghost use Rattle.sky_model.specs.Allowed.{where_of};
 ghost use Rattle.sky_model.specs.Reader.{shown_by, database_by_itself};
@@ -22,18 +19,17 @@ ghost use Rattle.sky_model.specs.Calls.{form, statement, database_turn};
 ghost use Rattle.sky_model.specs.DatabaseCalls.{stepped};
 ghost use Rattle.sky_model.specs.DatabaseSteps.{DatabaseSteps};
 ghost use Rattle.sky_model.specs.Moment.{IsTime};
-ghost use Rattle.pgq_queues.specs.Seen.{Stands};
+ghost use Rattle.pgq_queues.specs.Seen.{seen_with, Stands};
 ghost use Rattle.pgq_db.specs.Seen.{seen_database};
 ghost use Rattle.pgq_db.specs.Waiters.{StaysWithin};
 ghost use Rattle.pgq_db.specs.Gives.{is_clock, is_on_queues, Gives, Adds, Answers, Ran};
 ghost use Rattle.sky_model.specs.Stops.{StopsAs};
 
 use crate::db::Db;
-use pgq_queues::{Batch, EVENT_ID_END, TableTrigger};
-use pgq_sub::Sub;
-use sky_model::{BoxedExtra, ColumnNames, Events, Limit, Refusal, Replies, Reply, Stmt, Stop};
+use pgq_queues::{EVENT_ID_END, Queues, TableTrigger};
+use sky_model::{BoxedExtra, ColumnNames, Limit, Refusal, Replies, Reply, Stmt, Stop};
 use sky_urlenc::Trigger;
-use sky_val::{Event, NoMemory, SessionId, Text, copy_option};
+use sky_val::{Event, NoMemory, Schema, SessionId, Text, copy_option};
 use std::alloc::{AllocError, Global};
 
 impl Db {
@@ -114,6 +110,7 @@ impl Db {
         replies: &mut Replies,
     ) -> Result<(), NoMemory>
         requires time { IsTime now }
+        requires form { IsInForm stmt.now }
         requires kind { is_on_queues stmt.now ≡ true }
         ensures adds { OnOk result (Adds (seen_database self.old) (seen_database self.new) replies.old replies.new (database_turn database_by_itself (seen_database self.old) now who stmt.now)) }
         ensures rests { OnOk result (ready (seen_database self.new).part ≡ None) }
@@ -133,6 +130,7 @@ impl Db {
         replies: &mut Replies,
     ) -> Result<(), NoMemory>
         requires time { IsTime now }
+        requires form { IsInForm stmt.now }
         requires kind { is_on_queues stmt.now ≡ true }
         ensures { OnOk result (Answers (seen_database self.old) (seen_database self.new) replies.old replies.new who (statement database_by_itself (seen_database self.old) now who stmt.now)) }
     {
@@ -157,6 +155,7 @@ impl Db {
         replies: &mut Replies,
     ) -> Result<(), NoMemory>
         requires time { IsTime now }
+        requires form { IsInForm stmt.now }
         requires kind { is_on_queues stmt.now ≡ true }
         ensures { OnOk result (Answers (seen_database self.old) (seen_database self.new) replies.old replies.new who
             (settled who ((seen_database self.old).part.session who) (form (seen_database self.old) (shown_by (seen_database self.old)) now who stmt.now))) }
@@ -194,6 +193,7 @@ impl Db {
         replies: &mut Replies,
     ) -> Result<(), Stop>
         requires time { IsTime now }
+        requires form { IsInForm stmt.now }
         requires kind { is_on_queues stmt.now ≡ true }
         ensures ran { Ran self.old self.new replies.old replies.new who result (form (seen_database self.old) (shown_by (seen_database self.old)) now who stmt.now) }
     {
@@ -218,9 +218,27 @@ impl Db {
             Stmt::RegisterConsumer { queue, consumer } => {
                 self.register_consumer(who, queue, consumer, replies)
             }
+            Stmt::RegisterConsumerAt {
+                queue,
+                consumer,
+                tick,
+            } => self.register_consumer_at(who, queue, consumer, *tick, replies),
+            Stmt::UnregisterConsumer { queue, consumer } => {
+                self.unregister_consumer(who, queue, consumer, replies)
+            }
             Stmt::NextBatch { queue, consumer } => self.next_batch(who, queue, consumer, replies),
             Stmt::GetBatchEvents { batch } => self.get_batch_events(who, *batch, replies),
+            Stmt::GetBatchInfo { batch } => self.get_batch_info(who, *batch, replies),
+            Stmt::EventRetry {
+                batch,
+                event,
+                seconds,
+            } => self.event_retry(now, who, *batch, *event, *seconds, replies),
+            Stmt::MaintRetryEvents => self.maint_retry_events(now, who, replies),
             Stmt::FinishBatch { batch } => self.finish_batch(who, *batch, replies),
+            Stmt::ConsumerInfo { queue, consumer } => {
+                self.consumer_info(who, queue, consumer, replies)
+            }
             Stmt::AddTrigger {
                 name,
                 table,
@@ -237,15 +255,12 @@ impl Db {
     }
 
     /// The number of the queue of this name.
-    fn queue_called(&self, queue: &Text) -> Result<usize, Stop>
+    pub(crate) fn queue_called(&self, queue: &Text) -> Result<usize, Stop>
         ensures ok { IfOk result (λ number. queue_called queue.now (seen_database self.now) ≡ Ok number) }
         ensures stands { IfOk result (λ number. Stands self.now.queues.queues number) }
         ensures err { IfErr result (λ stop. StopsAs stop (queue_called queue.now (seen_database self.now))) }
     {
-        match self.queues.number(queue) {
-            Some(number) => Ok(number),
-            None => Err(Stop::Refused(Refusal::NoQueue(queue.copy(self.alloc)?))),
-        }
+        queue_called(self.alloc, &self.queues, queue)
     }
 
     /// `create_queue NAME`: the first tick is made when the transaction has ended.
@@ -289,7 +304,7 @@ impl Db {
         let name = name.copy(self.alloc)?;
         self.take_txid(who, txid)?;
         let snapshot = self.rows.snapshot_now()?;
-        self.make(name, now, snapshot)?;
+        self.queues.make(name, now, snapshot)?;
         Ok(())
     }
 
@@ -310,7 +325,7 @@ impl Db {
         if let Some(txid) = self.least_producer(queue)? {
             return Err(Stop::Refused(Refusal::QueueBusy(txid)));
         }
-        self.remove(name, queue);
+        self.queues.drop_queue(name, queue);
         replies.push(who, Reply::Number(1))?;
         Ok(())
     }
@@ -338,8 +353,8 @@ impl Db {
         let id = seq + 1;
         self.take_txid(who, txid)?;
         let event = made_event(self.alloc, id, now, txid, ev_type, ev_data, extra)?;
-        self.raise(queue, id);
-        self.put(queue, event)?;
+        self.queues.raise(queue, id);
+        self.queues.put(queue, event)?;
         replies.push(who, Reply::Number(id))?;
         Ok(())
     }
@@ -403,133 +418,9 @@ impl Db {
             return Err(Stop::Refused(Refusal::EventIdsSpent));
         }
         let newest = self.queues.queue(queue).ticks().newest().id();
-        self.raise(queue, seq + forced);
+        self.queues.raise(queue, seq + forced);
         replies.push(who, Reply::Number(newest))?;
         Ok(())
-    }
-
-    /// `register_consumer NAME CONSUMER`: a subscription that stands at the newest tick.
-    fn register_consumer(
-        &mut self,
-        who: SessionId,
-        name: &Text,
-        consumer: &Text,
-        replies: &mut Replies,
-    ) -> Result<(), Stop>
-        ensures { Ran self.old self.new replies.old replies.new who result (register_consumer (seen_database self.old) name.now consumer.now) }
-    {
-        let queue = self.queue_called(name)?;
-        if has_dot(consumer) {
-            return Err(Stop::Refused(Refusal::NodeConsumer));
-        }
-        if self.subscription(queue, consumer).is_some() {
-            replies.push(who, Reply::Number(0))?;
-            return Ok(());
-        }
-        if self.queues.queue(queue).consumer_count() >= Limit::Consumers.most() {
-            return Err(Stop::Refused(Refusal::TooMany(Limit::Consumers)));
-        }
-        if self.queues.last_sub() == u64::MAX {
-            return Err(Stop::Refused(Refusal::IdsSpent));
-        }
-        self.register(queue, consumer)?;
-        replies.push(who, Reply::Number(1))?;
-        Ok(())
-    }
-
-    /// `next_batch NAME CONSUMER`: the active batch, else a new one to the next tick, where that is made.
-    fn next_batch(
-        &mut self,
-        who: SessionId,
-        name: &Text,
-        consumer: &Text,
-        replies: &mut Replies,
-    ) -> Result<(), Stop>
-        ensures { Ran self.old self.new replies.old replies.new who result (next_batch (seen_database self.old) name.now consumer.now) }
-    {
-        let queue = self.queue_called(name)?;
-        if has_dot(consumer) {
-            return Err(Stop::Refused(Refusal::NodeConsumer));
-        }
-        let Some(sub) = self.subscription(queue, consumer) else {
-            let consumer = consumer.copy(self.alloc)?;
-            return Err(Stop::Refused(Refusal::NoConsumer(consumer)));
-        };
-        match sub.active() {
-            Some(batch) => {
-                replies.push(who, Reply::Number(batch))?;
-                Ok(())
-            }
-            None => self.new_batch(who, queue, consumer, &sub, replies),
-        }
-    }
-
-    fn new_batch(
-        &mut self,
-        who: SessionId,
-        queue: usize,
-        consumer: &Text,
-        sub: &Sub,
-        replies: &mut Replies,
-    ) -> Result<(), Stop>
-        requires queue { Stands self.old.queues.queues queue }
-        requires registered { is_some (((seen_database self.old).queue queue).sub consumer.now) ≡ true }
-        ensures { Ran self.old self.new replies.old replies.new who result (opens_batch (seen_database self.old) queue consumer.now sub.now (tick (sub.now.position + 1) ((seen_database self.old).queue queue).tick_list)) }
-    {
-        let Some(next) = self.queues.queue(queue).ticks().next_after(sub.position()) else {
-            replies.push(who, Reply::Null)?;
-            return Ok(());
-        };
-        let cur = next.id();
-        if self.queues.last_batch() == u64::MAX {
-            return Err(Stop::Refused(Refusal::IdsSpent));
-        }
-        let id = self.queues.last_batch() + 1;
-        let batch = Batch {
-            queue,
-            consumer: consumer.copy(self.alloc)?,
-            sub: sub.id(),
-            prev: sub.position(),
-            cur,
-        };
-        self.open_batch(id, batch)?;
-        replies.push(who, Reply::Number(id))?;
-        Ok(())
-    }
-
-    /// `get_batch_events N`: the events of an active batch.
-    fn get_batch_events(&self, who: SessionId, id: u64, replies: &mut Replies) -> Result<(), Stop>
-        ensures { Ran self.now self.now replies.old replies.new who result (get_batch_events (shown_by (seen_database self.now)).events id) }
-    {
-        let Some(batch) = self.queues.batch(id) else {
-            return Err(Stop::Refused(Refusal::NoBatch));
-        };
-        let events = Events::new(self.queues.batch_events(batch)?);
-        replies.push(who, Reply::Events(events))?;
-        Ok(())
-    }
-
-    /// `finish_batch N`: the consumer stands at the batch's closing tick.
-    fn finish_batch(&mut self, who: SessionId, id: u64, replies: &mut Replies) -> Result<(), Stop>
-        ensures { Ran self.old self.new replies.old replies.new who result (finish_batch (seen_database self.old) id) }
-    {
-        let count = match self.queues.close_batch(id) {
-            Some(_) => 1,
-            None => 0,
-        };
-        replies.push(who, Reply::Number(count))?;
-        Ok(())
-    }
-
-    /// The number of the table of this name.
-    fn table_called(&self, table: &Text) -> Result<u32, Stop>
-        ensures ok { IfOk result (λ number. place_of table.now (seen_database self.now).part.tables ≡ Some number) }
-        ensures err { IfErr result (λ stop. StopsAs stop (table_called table.now (seen_database self.now).part)) }
-    {
-        match self.rows.table(table) {
-            Some((number, _)) => Ok(number),
-            None => Err(Stop::Refused(Refusal::NoTable(table.copy(self.alloc)?))),
-        }
     }
 
     /// `add_trigger NAME TABLE NAME`: from now on events of the queue tell of the table's writes.
@@ -545,8 +436,10 @@ impl Db {
     ) -> Result<(), Stop>
         ensures { Ran self.old self.new replies.old replies.new who result (add_trigger (seen_database self.old) name.now table.now queue.now backup ignored.now) }
     {
-        let number = self.table_called(table)?;
-        let queue = self.queue_called(queue)?;
+        let Some((number, schema)) = self.rows.table(table) else {
+            return Err(Stop::Refused(Refusal::NoTable(table.copy(self.alloc)?)));
+        };
+        let queue = queue_called(self.alloc, &self.queues, queue)?;
         if self.queues.has_trigger(number, name) {
             let name = name.copy(self.alloc)?;
             return Err(Stop::Refused(Refusal::TriggerExists(name)));
@@ -554,7 +447,7 @@ impl Db {
         if self.queues.trigger_count(number) >= Limit::Triggers.most() {
             return Err(Stop::Refused(Refusal::TooMany(Limit::Triggers)));
         }
-        if let Some(column) = self.bad_column(table, number, ignored.as_slice()) {
+        if let Some(column) = first_bad(schema, ignored.as_slice()) {
             let column = column.copy(self.alloc)?;
             return Err(Stop::Refused(Refusal::BadColumn(column)));
         }
@@ -562,9 +455,38 @@ impl Db {
             return Err(Stop::Refused(Refusal::TableBusy(txid)));
         }
         let trigger = new_trigger(self.alloc, number, name, queue, backup, ignored.as_slice())?;
-        self.trace(table, trigger)?;
+        self.queues.trace(table, schema, trigger)?;
         replies.push(who, Reply::Done)?;
         Ok(())
+    }
+}
+
+/// The first of the names that a trigger may not ignore.
+fn first_bad<'a>(schema: &Schema, names: &'a [Text]) -> Option<&'a Text>
+    ensures { option_copied result ≡ find (λ name. not (may_ignore schema.now name)) names.now }
+{
+    names.iter().find(|name| !may_ignore(schema, name))
+}
+
+/// Whether a trigger may ignore the column of this name.
+fn may_ignore(schema: &Schema, name: &Text) -> bool
+    ensures { result ≡ may_ignore schema.now name.now }
+{
+    schema
+        .columns()
+        .iter()
+        .any(|column| column.name == *name && !column.key)
+}
+
+/// The same, of the queues alone: `add_trigger` holds a table meanwhile.
+fn queue_called(alloc: Global, queues: &Queues, queue: &Text) -> Result<usize, Stop>
+    ensures ok { (part : RowPart) → IfOk result (λ number. queue_called queue.now (seen_with part queues.now) ≡ Ok number) }
+    ensures stands { IfOk result (λ number. Stands queues.now.queues number) }
+    ensures err { (part : RowPart) → IfErr result (λ stop. StopsAs stop (queue_called queue.now (seen_with part queues.now))) }
+{
+    match queues.number(queue) {
+        Some(number) => Ok(number),
+        None => Err(Stop::Refused(Refusal::NoQueue(queue.copy(alloc)?))),
     }
 }
 
@@ -598,12 +520,6 @@ fn shown_name(alloc: Global, trigger: &TableTrigger) -> Result<Text, NoMemory>
         Some(name) => name.copy(alloc),
         None => Text::from_str(alloc, ""),
     }
-}
-
-fn has_dot(name: &Text) -> bool
-    ensures { result ≡ has_dot name.now }
-{
-    name.bytes().contains(&b'.')
 }
 
 /// An event without an owner.

@@ -11,7 +11,7 @@ use Rattle.sky_txid.specs.Ids.{contains, rises_within}
 use Rattle.sky_txid.proofs.Rising.{rising_parts, contains-below}
 use Rattle.sky_txid.proofs.Searched.{found, is_ok-found}
 
--- whether an id lies below the one that was found, if one was
+-- whether an id is below the one that was found, if one was
 abbrev pub before : ℕ → Option ℕ → Bool
 before x least = unwrap_or (option_map (nat_lt x) least) true
 
@@ -19,7 +19,7 @@ before x least = unwrap_or (option_map (nat_lt x) least) true
 abbrev pub first_of : List Event → List ℕ → Option ℕ
 first_of events ids = find (λ t. list_any (λ e. e.ev_txid == t) events) ids
 
--- with no event none is found
+-- if there is no event none is found
 pub none_of : (ids : List ℕ) → None ≡ first_of [] ids
 none_of [] = refl
 none_of (t ∷ ts) = none_of ts
@@ -65,6 +65,6 @@ found_next events k e x low high ids least h within is own so_far is_less is_lis
     more : (t : ℕ) → list_any (λ e. e.ev_txid == t) (take (k + 1) events) ≡ (list_any (λ e. e.ev_txid == t) (take k events) || (x == t))
     more t = rw (own ∙ ap Event.ev_txid is) (list_any_more (λ e. e.ev_txid == t) events k e within)
 
--- a search finds an id exactly where the list contains it
+-- a search finds an id if and only if the list contains it
 pub listed_by_search : (low high x : ℕ) (ids : List ℕ) (r : Result ℕ ℕ) → rises_within low high ids ≡ true → IsBinarySearchResult (λ y. nat_cmp y x) ids r → contains x ids ≡ is_ok r
 listed_by_search low high x ids r h position = sym (is_ok-found ids x r (found low high ids x r h position))

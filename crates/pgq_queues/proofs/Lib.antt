@@ -2,5 +2,11 @@ pub mod NumberedQueues
 pub mod Slotted
 pub mod Marked
 pub mod TracedLists
+pub mod Indexed
+pub mod ById
+pub mod Consumed
+pub mod Waiting
+pub mod BroughtBack
 pub mod Telling
 pub mod FirstOf
+pub mod FirstById

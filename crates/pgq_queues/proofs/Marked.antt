@@ -1,10 +1,10 @@
 -- What queues show after what the code changed in them.
-use Rattle.std.proofs.Common.{◌≡◌, ℕ, ℤ, suc, zero, ◌+◌, ◌<◌, List, [], ◌∷◌, ◌++◌, Bool, true, false, ◌||◌, ◌==◌, Option, Some, None, Result, Ok, Err, OnErr, Vec, Global, IfOk, length, get_or, slice_set, get_or-set_same, get_or-set_other, ◌≢◌, option_map, filter, nat_cmp, cond, length-append, refl, sym, ◌∙◌, ap, subst, arith, if◌then◌else◌}
+use Rattle.std.proofs.Common.{◌≡◌, ℕ, ℤ, suc, zero, ◌+◌, ◌<◌, List, [], ◌∷◌, ◌++◌, Bool, true, false, ◌||◌, ◌==◌, Option, Some, None, Result, Ok, Err, OnErr, Vec, Global, IfOk, length, get_or, slice_set, get_or-set_same, get_or-set_other, ◌≢◌, filter, nat_cmp, cond, length-append, refl, sym, ◌∙◌, ap, subst, arith, if◌then◌else◌}
 use Rattle.std.proofs.lemmas.Bool.Decides.{nat_tests}
 use Rattle.std.proofs.lemmas.List.Elements.{All-filter}
 use Rattle.std.specs.Prelude.{option_and_then, slice_get}
 use Rattle.std.specs.List.{remove}
-use Rattle.std.proofs.lemmas.List.{set-get_or, length-set}
+use Rattle.std.proofs.lemmas.List.{set-get_or, length-set, get_or_read}
 use Rattle.std.proofs.Math.ListN.{get_or-eq_default}
 use Rattle.std.proofs.Math.Seq.{get_or-append_seam}
 use Rattle.std.proofs.lemmas.Result.{IfOk-weaker}
@@ -19,20 +19,23 @@ use Rattle.sky_model.specs.Moment.{HasMoment}
 use Rattle.sky_model.specs.Printed.{EventsHaveMoments}
 use Rattle.sky_names.specs.Named.{NamedView, value_of}
 use Rattle.sky_names.specs.Places.{place_of}
-use Rattle.sky_model.specs.History.{queued, made, ticked, registered, opened, closed, dropped, traced}
-use Rattle.sky_model.specs.StepQueue.{newest_id}
-use Rattle.sky_model.specs.Consumers.{Subscription}
+use Rattle.sky_model.specs.History as model
+use Rattle.sky_model.specs.History.{queued, made, ticked, dropped, traced}
 use Rattle.sky_model.specs.Queues.{Tick, tick}
 use Rattle.sky_model.specs.Triggers.{TableTrigger}
+use Rattle.sky_model.specs.Batches.{by_id}
 use Rattle.sky_model.specs.Selection.{snapshot_at, is_selected, selected_in, selected}
-use Rattle.sky_model.specs.State.{Queue, RowPart, Database, changed_at, changed_for, with_batch, at_position, emptied, after_mark, after_marks}
+use Rattle.sky_model.specs.State.{Queue, RowPart, changed_at, emptied, after_mark, after_marks}
 use Rattle.sky_model.specs.ShownRows.{snapshot_now}
 use Rattle.pgq_queues.specs.declared.batch.Batch.{Batch}
-use Rattle.pgq_sub.specs.Seen.{SubsSeen, seen_subs, no_subs}
+use Rattle.pgq_queues.specs.declared.batch.Place.{Place}
+use Rattle.pgq_sub.specs.Views.{SubView}
+use Rattle.pgq_sub.specs.Seen.{SubsSeen, seen_subs, shown, no_subs}
 use Rattle.pgq_queues.specs.Views.{QueueView, TracedTableView, QueuesView}
-use Rattle.pgq_queues.specs.Seen.{seen_queue, no_queue, seen_batch, keeps, numbered, queue_at, seen_with}
+use Rattle.pgq_queues.specs.Seen.{seen_queue, no_queue, seen_batch, batch_by, sub_at, kept, keeps, numbered, queue_at, seen_with}
 use Rattle.pgq_queues.specs.Traced.{AreTables}
 use Rattle.pgq_queues.specs.Numbers.{Rise}
+use Rattle.pgq_queues.proofs.ById.{All-by_id}
 use Rattle.pgq_queues.proofs.NumberedQueues.{numbered-more, others-removed}
 use Rattle.sky_model.specs.Config.{default_config}
 
@@ -40,17 +43,10 @@ use Rattle.sky_model.specs.Config.{default_config}
 pub is_at-nat : (k n : ℕ) → is_at (nat_cmp k) n ≡ (k == n)
 is_at-nat k n = grind (arith, nat_tests)
 
--- a batch under a new id, or one that is gone
-pub batches-updated : (old new : List (ℕ × Batch)) (id : ℕ) (o : Option Batch) → ((q : ℕ) → lookup (is_at (nat_cmp q)) new ≡ cond (is_at (nat_cmp id) q) o (lookup (is_at (nat_cmp q)) old))
-    → (λ n. option_map (seen_batch n) (lookup (is_at (nat_cmp n)) new)) ≡ changed_at id (λ _. option_map (seen_batch id) o) (λ n. option_map (seen_batch n) (lookup (is_at (nat_cmp n)) old))
-batches-updated old new id o updates = λ i n. pointwise n i
-  where
-    by : (n : ℕ) (b : Bool) → (id == n) ≡ b → option_map (seen_batch n) (cond b o (lookup (is_at (nat_cmp n)) old)) ≡ (if b then option_map (seen_batch id) o else option_map (seen_batch n) (lookup (is_at (nat_cmp n)) old))
-    by n true e = let same : id ≡ n = grind (arith, nat_tests) in ap (λ m. option_map (seen_batch m) o) (sym same)
-    by n false e = refl
-
-    pointwise : (n : ℕ) → option_map (seen_batch n) (lookup (is_at (nat_cmp n)) new) ≡ (if id == n then option_map (seen_batch id) o else option_map (seen_batch n) (lookup (is_at (nat_cmp n)) old))
-    pointwise n = ap (option_map (seen_batch n)) (updates n ∙ ap (λ b. cond b o (lookup (is_at (nat_cmp n)) old)) (is_at-nat id n)) ∙ by n (id == n) refl
+-- what is kept under numbers, after that under one has changed
+pub kept-updated : {A : Type 0} → (old new : List (ℕ × A)) (n : ℕ) (o : Option A) → ((q : ℕ) → lookup (is_at (nat_cmp q)) new ≡ cond (is_at (nat_cmp n) q) o (lookup (is_at (nat_cmp q)) old))
+    → (m : ℕ) → kept new m ≡ (if n == m then o else kept old m)
+kept-updated old new n o updates m = updates m ∙ ap (λ b. cond b o (kept old m)) (is_at-nat n m)
 
 -- a queue that is made has its first tick alone
 pub queues-made : (queues : List QueueView) (t : Tick) (count : ℕ) → count ≡ length queues
@@ -85,26 +81,26 @@ get_or-slice_set xs i n x lt = by (i == n) refl
     by false e = let other : n ≢ i = grind (arith, nat_tests) in get_or-set_other xs i n x no_queue other
 
 -- a queue whose subscriptions alone have changed
-pub subs-changed : (old new : QueueView) (subs : SubsSeen) → new ≡ record old { subs = new.subs } → seen_subs new.subs ≡ subs → seen_queue new ≡ record (seen_queue old) { members = subs.members; sub = subs.sub }
-subs-changed old new subs but is = ap seen_queue but ∙ (λ i. record (seen_queue old) { members = (is i).members; sub = (is i).sub })
+pub subs-changed : (old new : QueueView) (subs : SubsSeen) → new ≡ record old { subs = new.subs } → seen_subs new.subs ≡ subs → seen_queue new ≡ record (seen_queue old) { members = subs.members; sub = shown subs.kept }
+subs-changed old new subs but is = ap seen_queue but ∙ (λ i. record (seen_queue old) { members = (is i).members; sub = shown (is i).kept })
 
 -- what is selected between two ticks are the events of a batch
-pub selects : (undone : ℕ → Bool) (v now : QueueView) (batch : Batch) (prev cur : Option Tick) (events : List Event) (id : ℕ) (r : Result (Vec Event Global) AllocError) → v ≡ now
+pub selects : (undone : ℕ → Bool) (v now : QueueView) (batch : Batch) (prev cur : Option Tick) (events : List Event) (r : Result (Vec Event Global) AllocError) → v ≡ now
     → prev ≡ tick batch.prev v.ticks → cur ≡ tick batch.cur v.ticks → events ≡ v.events
-    → IfOk r (λ selected. selected.items ≡ filter (is_selected undone (snapshot_at prev) (snapshot_at cur) batch.sub) events)
-    → IfOk r (λ selected. selected.items ≡ selected_in undone (seen_queue now) (seen_batch id batch))
-selects undone v now batch prev cur events id r same from_is to_is all is =
+    → IfOk r (λ selected. selected.items ≡ by_id (filter (is_selected undone (snapshot_at prev) (snapshot_at cur) batch.sub) events))
+    → IfOk r (λ selected. selected.items ≡ selected_in undone (seen_queue now) (seen_batch batch))
+selects undone v now batch prev cur events r same from_is to_is all is =
     IfOk-weaker r _ _ (λ selected e. e
-    ∙ ap (λ es. filter (is_selected undone (snapshot_at prev) (snapshot_at cur) batch.sub) es) all
-    ∙ ap (λ t. filter (is_selected undone (snapshot_at t) (snapshot_at cur) batch.sub) v.events) from_is
-    ∙ ap (λ t. filter (is_selected undone (snapshot_at (tick batch.prev v.ticks)) (snapshot_at t) batch.sub) v.events) to_is
-    ∙ ap (λ (q : QueueView). selected_in undone (seen_queue q) (seen_batch id batch)) same) is
+    ∙ ap (λ es. by_id (filter (is_selected undone (snapshot_at prev) (snapshot_at cur) batch.sub) es)) all
+    ∙ ap (λ t. by_id (filter (is_selected undone (snapshot_at t) (snapshot_at cur) batch.sub) v.events)) from_is
+    ∙ ap (λ t. by_id (filter (is_selected undone (snapshot_at (tick batch.prev v.ticks)) (snapshot_at t) batch.sub) v.events)) to_is
+    ∙ ap (λ (q : QueueView). selected_in undone (seen_queue q) (seen_batch batch)) same) is
 
 -- they were made at times that are printed, as all are
 pub selects-moments : (stored events : List Event) (p : Event → Bool) (r : Result (Vec Event Global) AllocError) → EventsHaveMoments stored → events ≡ stored
-    → IfOk r (λ selected. selected.items ≡ filter p events) → IfOk r (λ selected. EventsHaveMoments selected.items)
+    → IfOk r (λ selected. selected.items ≡ by_id (filter p events)) → IfOk r (λ selected. EventsHaveMoments selected.items)
 selects-moments stored events p r have all is =
-    IfOk-weaker r _ _ (λ selected e. subst EventsHaveMoments (sym (e ∙ ap (filter p) all)) (All-filter p (λ event. HasMoment event.ev_time) stored have)) is
+    IfOk-weaker r _ _ (λ selected e. subst EventsHaveMoments (sym (e ∙ ap (λ es. by_id (filter p es)) all)) (All-by_id (λ event. HasMoment event.ev_time) (filter p stored) (All-filter p (λ event. HasMoment event.ev_time) stored have))) is
 
 -- a transaction that was noted as rolled back
 pub undone-insert : (old new : List ℕ) (t : ℕ) → ((q : ℕ) → list_any (is_at (nat_cmp q)) new ≡ cond (is_at (nat_cmp t) q) true (list_any (is_at (nat_cmp q)) old))
@@ -121,7 +117,7 @@ undone-insert old new t updates = λ i u. pointwise u i
 -- ---- the database that queues are shown in
 
 -- one of their queues in the place of another
-one-set : (v : QueuesView) (i : ℕ) (old new : QueueView) (f : Queue → Queue) → i < length v.queues → old ≡ get_or v.queues i old → seen_queue new ≡ f (seen_queue old)
+pub one-set : (v : QueuesView) (i : ℕ) (old new : QueueView) (f : Queue → Queue) → i < length v.queues → old ≡ get_or v.queues i old → seen_queue new ≡ f (seen_queue old)
     → (λ n. seen_queue (get_or (slice_set v.queues i new) n no_queue)) ≡ changed_at i f (queue_at v)
 one-set v i old new f lt at is = λ j n. pointwise n j
   where
@@ -137,10 +133,32 @@ one-set v i old new f lt at is = λ j n. pointwise n j
     pointwise : (n : ℕ) → seen_queue (get_or (slice_set v.queues i new) n no_queue) ≡ (if i == n then f (seen_queue (get_or v.queues n no_queue)) else seen_queue (get_or v.queues n no_queue))
     pointwise n = ap seen_queue (get_or-slice_set v.queues i n new lt) ∙ by n (i == n) refl
 
-pub queues-set : (v now : QueuesView) (i : ℕ) (old new : QueueView) (f : Queue → Queue) → v ≡ now → i < length v.queues → old ≡ get_or v.queues i old → seen_queue new ≡ f (seen_queue old)
+-- the subscriptions if one queue keeps its own
+pub sub_at-set : (queues : List QueueView) (i : ℕ) (old new : QueueView) → i < length queues → old ≡ get_or queues i old → new.subs ≡ old.subs
+    → (n : ℕ) (consumer : List ℕ) → sub_at (slice_set queues i new) n consumer ≡ sub_at queues n consumer
+sub_at-set queues i old new lt at same n consumer = ap (λ (q : QueueView). value_of consumer q.subs) (get_or-slice_set queues i n new lt) ∙ by (i == n) refl
+  where
+    by : (b : Bool) → (i == n) ≡ b → value_of consumer (QueueView.subs (if b then new else get_or queues n no_queue)) ≡ sub_at queues n consumer
+    by true e =
+        let one : i ≡ n = grind (arith, nat_tests) in
+        ap (value_of consumer) same ∙ ap (λ (q : QueueView). value_of consumer q.subs) (get_or_read queues i old lt at no_queue) ∙ ap (λ m. sub_at queues m consumer) one
+    by false e = refl
+
+-- the active batches, which are what they were if the subscriptions are
+abbrev pub batches_of : List QueueView → List (ℕ × Place) → ℕ → Option model.Batch
+batches_of queues batches id = batch_by (sub_at queues) id (kept batches id)
+
+pub batches-same : (old new : List QueueView) (batches : List (ℕ × Place)) → ((n : ℕ) (consumer : List ℕ) → sub_at new n consumer ≡ sub_at old n consumer) → batches_of new batches ≡ batches_of old batches
+batches-same old new batches same = λ j id. batch_by (λ n c. same n c j) id (kept batches id)
+
+pub queues-set : (v now : QueuesView) (i : ℕ) (old new : QueueView) (f : Queue → Queue) → v ≡ now → i < length v.queues → old ≡ get_or v.queues i old → seen_queue new ≡ f (seen_queue old) → new.subs ≡ old.subs
     → (part : RowPart) → seen_with part (record v { queues = slice_set v.queues i new }) ≡ record (seen_with part now) { queue = changed_at i f (queue_at now) }
-queues-set v now i old new f same lt at is part =
-    (λ j. record (seen_with part v) { queues_made = length-set v.queues i new j; queue = one-set v i old new f lt at is j })
+queues-set v now i old new f same lt at is subs part =
+    (λ j. record (seen_with part v) {
+      queues_made = length-set v.queues i new j;
+      queue = one-set v i old new f lt at is j;
+      batch = batches-same v.queues (slice_set v.queues i new) v.batches (sub_at-set v.queues i old new lt at subs) j;
+    })
     ∙ ap (λ (w : QueuesView). record (seen_with part w) { queue = changed_at i f (queue_at w) }) same
 
 -- the queue at a place is what is shown there
@@ -154,15 +172,33 @@ pub ticked-as : (v now : QueuesView) (i id : ℕ) (time : ℤ) (snapshot : Snaps
     → new ≡ record old { ticks = old.ticks ++ record { id = id; time = time; snapshot = snapshot; seq = old.seq } ∷ [] }
     → (part : RowPart) → snapshot ≡ snapshot_now part → seen_with part (record v { queues = slice_set v.queues i new }) ≡ after_mark (seen_with part now) (queued (ticked i id time (queue_at now i).seq))
 ticked-as v now i id time snapshot old new same lt at is part snap =
-    queues-set v now i old new (λ q. record q { tick_list = q.tick_list ++ record { id = id; time = time; snapshot = snapshot; seq = old.seq } ∷ [] }) same lt at (ap seen_queue is) part
+    queues-set v now i old new (λ q. record q { tick_list = q.tick_list ++ record { id = id; time = time; snapshot = snapshot; seq = old.seq } ∷ [] }) same lt at (ap seen_queue is) (ap QueueView.subs is) part
     ∙ (λ j. record (seen_with part now) {
       queue = changed_at i (λ q. record q { tick_list = q.tick_list ++ record { id = id; time = time; snapshot = snap j; seq = (queue-at v now i old same lt at j).seq } ∷ [] }) (queue_at now);
     })
 
--- nothing changes where a queue stays as it was
+-- nothing changes if a queue stays as it was
 pub queue-kept : (v now : QueuesView) (i : ℕ) (old new : QueueView) → v ≡ now → old ≡ get_or v.queues i old → new ≡ old → (part : RowPart) → seen_with part (record v { queues = slice_set v.queues i new }) ≡ seen_with part now
 queue-kept v now i old new same at is part =
     ap (λ (qs : List QueueView). seen_with part (record v { queues = qs })) (ap (slice_set v.queues i) (is ∙ at) ∙ set-get_or v.queues i old) ∙ ap (seen_with part) same
+
+-- a queue without subscriptions was made, or dropped
+pub sub_at-more : (queues : List QueueView) (q : QueueView) → q.subs ≡ no_subs → (n : ℕ) (consumer : List ℕ) → sub_at (queues ++ q ∷ []) n consumer ≡ sub_at queues n consumer
+sub_at-more [] q none zero consumer = ap (value_of consumer) none
+sub_at-more [] q none (suc n) consumer = refl
+sub_at-more (x ∷ xs) q none zero consumer = refl
+sub_at-more (x ∷ xs) q none (suc n) consumer = sub_at-more xs q none n consumer
+
+pub no-subs : (subs : NamedView SubView) (consumer : List ℕ) → (seen_subs subs).members ≡ [] → value_of consumer subs ≡ None
+no-subs subs consumer none = ap (λ ns. option_and_then (slice_get subs.values) (place_of consumer ns)) none
+
+pub sub_at-gone : (queues : List QueueView) (i : ℕ) → i < length queues → (seen_queue (get_or queues i no_queue)).members ≡ []
+    → (n : ℕ) (consumer : List ℕ) → sub_at (slice_set queues i no_queue) n consumer ≡ sub_at queues n consumer
+sub_at-gone queues i lt none n consumer = ap (λ (q : QueueView). value_of consumer q.subs) (get_or-slice_set queues i n no_queue lt) ∙ by (i == n) refl
+  where
+    by : (b : Bool) → (i == n) ≡ b → value_of consumer (QueueView.subs (if b then no_queue else get_or queues n no_queue)) ≡ sub_at queues n consumer
+    by true e = let one : i ≡ n = grind (arith, nat_tests) in sym (no-subs (get_or queues i no_queue).subs consumer none) ∙ ap (λ m. sub_at queues m consumer) one
+    by false e = refl
 
 -- a queue that is made has its first tick, with the snapshot as it was
 pub made-as : (v now : QueuesView) (names : NamedView ℕ) (queues : List QueueView) (q : QueueView) (name : List ℕ) (number : ℕ) (t : Tick) → v ≡ now
@@ -179,6 +215,7 @@ made-as v now names queues q name number t same more next one new count id seq p
       queue = ((λ j n. seen_queue (get_or (one j) n no_queue))
           ∙ ap (λ x. λ n. seen_queue (get_or (v.queues ++ x ∷ []) n no_queue)) new
           ∙ queues-made v.queues t (length v.queues) refl) i;
+      batch = batches-same v.queues queues v.batches (λ m c. ap (λ qs. sub_at qs m c) one ∙ sub_at-more v.queues q (ap QueueView.subs new) m c) i;
     })
     ∙ ap (λ (w : QueuesView). record (seen_with part w) {
       queues_made = length w.queues + 1;
@@ -195,14 +232,11 @@ made-as v now names queues q name number t same more next one new count id seq p
     is = λ i. record { id = id i; time = t.time; snapshot = snap i; seq = seq i }
 
 -- a queue that is dropped has nothing, once it had no consumers
-no-members : (subs : NamedView Subscription) → (seen_subs subs).members ≡ [] → record { members = []; sub = λ name. None } ≡ seen_subs subs
-no-members subs none = λ i. record { members = sym none i; sub = λ name. unfound name i }
-  where
-    unfound : (name : List ℕ) → None ≡ value_of name subs
-    unfound name = ap (λ ns. option_and_then (slice_get subs.values) (place_of name ns)) (sym none)
+no-members : (subs : NamedView SubView) → (seen_subs subs).members ≡ [] → record { members = []; kept = λ name. None } ≡ seen_subs subs
+no-members subs none = λ i. record { members = sym none i; kept = λ name. sym (no-subs subs name none) i }
 
 emptied-as : (q : QueueView) → (seen_queue q).members ≡ [] → seen_queue no_queue ≡ emptied (seen_queue q)
-emptied-as q none = ap (λ (s : SubsSeen). record { config = default_config; seq = 0; stored = []; tick_list = []; members = s.members; sub = s.sub }) (no-members q.subs none)
+emptied-as q none = ap (λ (s : SubsSeen). record { config = default_config; seq = 0; stored = []; tick_list = []; members = s.members; sub = shown s.kept }) (no-members q.subs none)
 
 pub dropped-as : (v now : QueuesView) (names : NamedView ℕ) (queues : List QueueView) (n place : ℕ) → v ≡ now → names ≡ record { names = remove v.names.names place; values = remove v.names.values place }
     → queues ≡ slice_set v.queues n no_queue → length v.names.values ≡ length v.names.names → Rise 0 v.names.values → slice_get v.names.values place ≡ Some n → n < length v.queues
@@ -212,6 +246,7 @@ dropped-as v now names queues n place same gone empty count rise at low none par
       queues_made = (ap length empty ∙ length-set v.queues n no_queue) i;
       queues = (ap (λ (x : NamedView ℕ). numbered x.names x.values) gone ∙ sym (others-removed n 0 place v.names.names v.names.values count rise at)) i;
       queue = (ap (λ qs. λ m. seen_queue (get_or qs m no_queue)) empty ∙ (λ j m. pointwise m j)) i;
+      batch = batches-same v.queues queues v.batches (λ m c. ap (λ qs. sub_at qs m c) empty ∙ sub_at-gone v.queues n low there m c) i;
     })
     ∙ ap (λ (w : QueuesView). after_mark (seen_with part w) (queued (dropped n))) same
   where
@@ -226,52 +261,6 @@ dropped-as v now names queues n place same gone empty count rise at low none par
 
     pointwise : (m : ℕ) → seen_queue (get_or (slice_set v.queues n no_queue) m no_queue) ≡ changed_at n emptied (queue_at v) m
     pointwise m = ap seen_queue (get_or-slice_set v.queues n m no_queue low) ∙ by m (n == m) refl
-
--- a consumer that is registered stands at the newest tick
-pub registered-as : (v now : QueuesView) (i id newest : ℕ) (name : List ℕ) (old new : QueueView) → v ≡ now → i < length v.queues → old ≡ get_or v.queues i old
-    → seen_queue new ≡ record (seen_queue old) {
-      members = (seen_queue old).members ++ name ∷ [];
-      sub = changed_for name (λ _. Some (record { id = id; position = newest; active = None })) (seen_queue old).sub;
-    }
-    → id ≡ now.last_sub_id + 1 → newest ≡ newest_id (queue_at now i)
-    → (part : RowPart) → seen_with part (record v { last_sub_id = id; queues = slice_set v.queues i new })
-    ≡ after_mark (seen_with part now) (queued (registered i name (now.last_sub_id + 1) (newest_id (queue_at now i))))
-registered-as v now i id newest name old new same lt at is next last part =
-    ap (λ (d : Database). record d { last_sub_id = id })
-    (queues-set v now i old new (λ q. record q {
-      members = q.members ++ name ∷ [];
-      sub = changed_for name (λ _. Some (record { id = id; position = newest; active = None })) q.sub;
-    }) same lt at is part)
-    ∙ (λ j. after_mark (seen_with part now) (queued (registered i name (next j) (last j))))
-
--- a batch is open once its consumer has it and it is noted
-pub opened-as : (v now : QueuesView) (more : List (ℕ × Batch)) (id : ℕ) (batch : Batch) (old new : QueueView) → v ≡ now → batch.queue < length v.queues → old ≡ get_or v.queues batch.queue old
-    → seen_queue new ≡ record (seen_queue old) { sub = changed_for batch.consumer (option_map (with_batch id)) (seen_queue old).sub }
-    → ((q : ℕ) → lookup (is_at (nat_cmp q)) more ≡ cond (is_at (nat_cmp id) q) (Some batch) (lookup (is_at (nat_cmp q)) v.batches))
-    → (part : RowPart) → seen_with part (record v { last_batch_id = id; queues = slice_set v.queues batch.queue new; batches = more })
-    ≡ after_mark (seen_with part now) (queued (opened (seen_batch id batch)))
-opened-as v now more id batch old new same lt at is updates part =
-    (λ i. record (seen_with part v) {
-      last_batch_id = id;
-      queues_made = length-set v.queues batch.queue new i;
-      queue = one-set v batch.queue old new (λ q. record q { sub = changed_for batch.consumer (option_map (with_batch id)) q.sub }) lt at is i;
-      batch = batches-updated v.batches more id (Some batch) updates i;
-    })
-    ∙ ap (λ (w : QueuesView). after_mark (seen_with part w) (queued (opened (seen_batch id batch)))) same
-
--- and it is closed once it is gone, and its consumer stands at its closing tick
-pub closed-as : (v now : QueuesView) (rest : List (ℕ × Batch)) (id : ℕ) (batch : Batch) (old new : QueueView) → v ≡ now → batch.queue < length v.queues → old ≡ get_or v.queues batch.queue old
-    → seen_queue new ≡ record (seen_queue old) { sub = changed_for batch.consumer (option_map (at_position batch.cur)) (seen_queue old).sub }
-    → ((q : ℕ) → lookup (is_at (nat_cmp q)) rest ≡ cond (is_at (nat_cmp id) q) None (lookup (is_at (nat_cmp q)) v.batches))
-    → (part : RowPart) → seen_with part (record v { queues = slice_set v.queues batch.queue new; batches = rest })
-    ≡ after_mark (seen_with part now) (queued (closed (seen_batch id batch)))
-closed-as v now rest id batch old new same lt at is updates part =
-    (λ i. record (seen_with part v) {
-      queues_made = length-set v.queues batch.queue new i;
-      queue = one-set v batch.queue old new (λ q. record q { sub = changed_for batch.consumer (option_map (at_position batch.cur)) q.sub }) lt at is i;
-      batch = batches-updated v.batches rest id None updates i;
-    })
-    ∙ ap (λ (w : QueuesView). after_mark (seen_with part w) (queued (closed (seen_batch id batch)))) same
 
 -- a transaction is noted as rolled back
 pub undone-as : (v now : QueuesView) (more : List ℕ) (t : ℕ) → v ≡ now → ((q : ℕ) → list_any (is_at (nat_cmp q)) more ≡ cond (is_at (nat_cmp t) q) true (list_any (is_at (nat_cmp q)) v.undone))
@@ -288,12 +277,12 @@ traced-as v now more tables x same is part =
     ∙ ap (λ (w : QueuesView). after_mark (seen_with part w) (queued (traced x.table x.name x.trigger))) same
 
 -- the events of a batch of a queue that is there
-pub selects-at : (now : QueuesView) (undone : List ℕ) (q : QueueView) (batch : Batch) (id : ℕ) (r : Result (Vec Event Global) AllocError) → undone ≡ now.undone → seen_queue q ≡ queue_at now batch.queue
-    → IfOk r (λ events. events.items ≡ selected_in (keeps undone) (seen_queue q) (seen_batch id batch)) → (part : RowPart) → IfOk r (λ events. events.items ≡ selected (seen_with part now) (seen_batch id batch))
-selects-at now undone q batch id r but same is part =
-    IfOk-weaker r _ _ (λ events e. e ∙ ap (λ u. selected_in (keeps u) (seen_queue q) (seen_batch id batch)) but ∙ ap (λ x. selected_in (keeps now.undone) x (seen_batch id batch)) same) is
+pub selects-at : (now : QueuesView) (undone : List ℕ) (q : QueueView) (batch : Batch) (r : Result (Vec Event Global) AllocError) → undone ≡ now.undone → seen_queue q ≡ queue_at now batch.queue
+    → IfOk r (λ events. events.items ≡ selected_in (keeps undone) (seen_queue q) (seen_batch batch)) → (part : RowPart) → IfOk r (λ events. events.items ≡ selected (seen_with part now) (seen_batch batch))
+selects-at now undone q batch r but same is part =
+    IfOk-weaker r _ _ (λ events e. e ∙ ap (λ u. selected_in (keeps u) (seen_queue q) (seen_batch batch)) but ∙ ap (λ x. selected_in (keeps now.undone) x (seen_batch batch)) same) is
 
--- what is kept of tables stays true where neither they nor the triggers change
+-- what is kept of tables stays true if neither they nor the triggers change
 pub tables-kept : (v now : QueuesView) → v ≡ now → (part : RowPart) → AreTables part now → AreTables part v
 tables-kept v now same part are = subst (AreTables part) (sym same) are
 

@@ -1,8 +1,9 @@
 -- The queues that stand: their names and their numbers.
-use Rattle.std.proofs.Common.{◌≡◌, ℕ, zero, suc, ◌+◌, ◌<◌, ◌≤◌, List, [], ◌∷◌, ◌++◌, Bool, true, false, Option, Some, None, option_map, option_and_then, slice_get, get_or, length, length-append, bytes_eq, cond, refl, sym, ◌∙◌, ap, subst, arith, if◌then◌else◌, ◌==◌, not}
+use Rattle.std.proofs.Common.{◌≡◌, ℕ, zero, suc, ◌+◌, ◌<◌, ◌≤◌, List, [], ◌∷◌, ◌++◌, Bool, true, false, Option, Some, None, option_map, option_and_then, slice_get, get_or, length, length-append, bytes_eq, cond, refl, sym, ◌∙◌, ap, subst, arith, if◌then◌else◌, ◌==◌, not, find, drop}
 use Rattle.std.specs.List.{All, remove}
 use Rattle.std.proofs.lemmas.Bool.Decides.{nat_tests}
 use Rattle.std.proofs.lemmas.List.Elements.{All-cons, All-head, All-tail, All-append}
+use Rattle.std.proofs.lemmas.List.{get_or_read}
 use Rattle.std.proofs.lemmas.Option.{slice_get_read, get_or_from_slice_get, slice_get_within}
 use Rattle.sky_names.specs.Places.{place_of, named}
 use Rattle.sky_names.specs.Named.{NamedView, value_of}
@@ -75,7 +76,7 @@ pub stands-at : (v now : QueuesView) (place number : ℕ) → v ≡ now → AreN
 stands-at v now place number same are lt at =
     subst (λ (w : QueuesView). Stands w.queues number) same (subst (Stands v.queues) (sym at) (are.stand place number lt))
 
--- a name at the end, with its number
+-- a name is appended, with its number
 pub numbered-more : (names : List (List ℕ)) (numbers : List ℕ) (name : List ℕ) (n : ℕ) → length numbers ≡ length names
     → numbered (names ++ name ∷ []) (numbers ++ n ∷ []) ≡ numbered names numbers ++ record { number = n; name = name } ∷ []
 numbered-more [] [] name n same = refl
@@ -134,7 +135,7 @@ others-removed n low (suc p) (x ∷ xs) (m ∷ ms) same rise at =
     least low zero (k ∷ ks) rise at = let one : k ≡ n = cc in let first = rise.0 in omega (arith, one, first)
     least low (suc q) (k ∷ ks) rise at = let above = least (suc k) q ks rise.1 at in let first = rise.0 in omega (arith, above, first)
 
--- and their queues stand where they did, if only that of the number has gone
+-- and their queues stand as they did, if only that of the number was dropped
 above : (n low : ℕ) (P Q : ℕ → Type 0) (ns : List ℕ) → n < low → Rise low ns → All P ns → ((m : ℕ) → (n ≡ m → ⊥) → P m → Q m) → All Q ns
 above n low P Q [] lt rise all step = λ k d low. absurd (omega arith)
 above n low P Q (m ∷ ms) lt rise all step =
@@ -168,7 +169,7 @@ numbers-removed n p names old new are lt at step = record {
   stand = all-removed n 0 p (Stands old) (Stands new) names.values are.rise at are.stand step;
 }
 
--- one more name, with the number of a queue that has come behind the others
+-- one more name, with the number of a queue that was made after the others
 pub numbers-more : (names : NamedView ℕ) (name : List ℕ) (old : List QueueView) (q : QueueView) → 0 < length q.ticks → AreNumbers names old → All (λ n. n < length old) names.values → All (Stands (old ++ q ∷ [])) names.values
     → Stands (old ++ q ∷ []) (length old) → AreNumbers (record { names = names.names ++ name ∷ []; values = names.values ++ length old ∷ [] }) (old ++ q ∷ [])
 numbers-more names name old q ticks are low still last = record {
@@ -176,3 +177,57 @@ numbers-more names name old q ticks are low still last = record {
   rise = rise-more 0 (length old) names.values (omega arith) are.rise low;
   stand = All-append (Stands (old ++ q ∷ [])) names.values (length old ∷ []) still (All-cons (Stands (old ++ q ∷ [])) (length old) [] last (λ k d lt. absurd (omega (arith, lt))));
 }
+
+-- ---- the name of a number
+
+-- the first of that number
+abbrev pub of_number : ℕ → List NamedQueue → Option NamedQueue
+of_number number queues = find (λ q. q.number == number) queues
+
+-- is the one at a place, or after it
+pub from-place : (number : ℕ) (names : List (List ℕ)) (numbers : List ℕ) (place : ℕ) → length numbers ≡ length names → place < length numbers → of_number number (drop place (numbered names numbers))
+    ≡ cond (get_or numbers place 0 == number) (Some (record { number = get_or numbers place 0; name = get_or names place [] })) (of_number number (drop (suc place) (numbered names numbers)))
+from-place number names [] place same lt = absurd (omega (arith, lt))
+from-place number [] (n ∷ ns) place same lt = absurd (omega (arith, same))
+from-place number (x ∷ xs) (n ∷ ns) zero same lt = refl
+from-place number (x ∷ xs) (n ∷ ns) (suc p) same lt = from-place number xs ns p (omega (arith, same)) (omega (arith, lt))
+
+pub name-found : (v now : QueuesView) (number place value : ℕ) (name : List ℕ) → v ≡ now → length v.names.values ≡ length v.names.names → place < length v.names.values → value ≡ get_or v.names.values place value → value ≡ number
+    → name ≡ get_or v.names.names place name → of_number number (drop place (queues_of v)) ≡ of_number number (queues_of v) → Some name ≡ option_map NamedQueue.name (of_number number (queues_of now))
+name-found v now number place value name same count lt at one named is =
+    let read : get_or v.names.values place 0 ≡ number = sym (get_or_read v.names.values place value lt at 0) ∙ one in
+    let yes : (get_or v.names.values place 0 == number) ≡ true = grind (arith, nat_tests) in
+    ap Some (get_or_read v.names.names place name (omega (arith, lt, count)) named [])
+    ∙ ap (λ b. option_map NamedQueue.name (cond b (Some (record { number = get_or v.names.values place 0; name = get_or v.names.names place [] })) (of_number number (drop (suc place) (queues_of v))))) (sym yes)
+    ∙ ap (option_map NamedQueue.name) (sym (from-place number v.names.names v.names.values place count lt) ∙ is)
+    ∙ ap (λ (w : QueuesView). option_map NamedQueue.name (of_number number (queues_of w))) same
+
+-- another one is after it
+pub name-behind : (n : NamedView ℕ) (number place value : ℕ) → length n.values ≡ length n.names → place < length n.values → value ≡ get_or n.values place value → (value ≡ number → ⊥)
+    → of_number number (drop place (numbered n.names n.values)) ≡ of_number number (numbered n.names n.values) → of_number number (drop (place + 1) (numbered n.names n.values)) ≡ of_number number (numbered n.names n.values)
+name-behind n number place value count lt at other is =
+    let no : (get_or n.values place 0 == number) ≡ false = false_unless (get_or n.values place 0) number (λ e. other (get_or_read n.values place value lt at 0 ∙ e)) in
+    let next : place + 1 ≡ suc place = omega arith in
+    ap (λ p. of_number number (drop p (numbered n.names n.values))) next
+    ∙ ap (λ b. cond b (Some (record { number = get_or n.values place 0; name = get_or n.names place [] })) (of_number number (drop (suc place) (numbered n.names n.values)))) (sym no)
+    ∙ sym (from-place number n.names n.values place count lt) ∙ is
+  where
+    false_unless : (m k : ℕ) → (m ≡ k → ⊥) → (m == k) ≡ false
+    false_unless m k apart = by (m == k) refl
+      where
+        by : (b : Bool) → (m == k) ≡ b → (m == k) ≡ false
+        by true e = let one : m ≡ k = grind (arith, nat_tests) in absurd (apart one)
+        by false e = e
+
+-- after all of them there is none
+none-behind : (number : ℕ) (names : List (List ℕ)) (numbers : List ℕ) (place : ℕ) → length numbers ≡ length names → length names ≤ place → of_number number (drop place (numbered names numbers)) ≡ None
+none-behind number [] numbers zero same le = refl
+none-behind number [] numbers (suc p) same le = refl
+none-behind number (x ∷ xs) [] place same le = absurd (omega (arith, same))
+none-behind number (x ∷ xs) (n ∷ ns) zero same le = absurd (omega (arith, le))
+none-behind number (x ∷ xs) (n ∷ ns) (suc p) same le = none-behind number xs ns p (omega (arith, same)) (omega (arith, le))
+
+pub name-none : (v now : QueuesView) (number place : ℕ) → v ≡ now → length v.names.values ≡ length v.names.names → length v.names.names ≤ place → of_number number (drop place (queues_of v)) ≡ of_number number (queues_of v)
+    → None ≡ option_map NamedQueue.name (of_number number (queues_of now))
+name-none v now number place same count le is =
+    ap (option_map NamedQueue.name) (sym (none-behind number v.names.names v.names.values place count le) ∙ is) ∙ ap (λ (w : QueuesView). option_map NamedQueue.name (of_number number (queues_of w))) same

@@ -16,7 +16,7 @@ map-at f [] i x is lt = absurd (omega (arith, lt))
 map-at f (y ∷ ys) zero x is lt = ap f (sym is)
 map-at f (y ∷ ys) (suc i) x is lt = map-at f ys i x is (omega (arith, lt))
 
--- what is read in place of what isn't there doesn't matter where it is
+-- the default that is read for a missing item doesn't matter if the item is there
 any-default : {A : Type 0} (xs : List A) (i : ℕ) (d e : A) → i < length xs → get_or xs i d ≡ get_or xs i e
 any-default [] i d e lt = absurd (omega (arith, lt))
 any-default (x ∷ xs) zero d e lt = refl

@@ -1,4 +1,4 @@
--- The events of triggers, told of one after the other.
+-- The events of triggers, stored one after another.
 use Rattle.std.proofs.Common.{◌≡◌, ℕ, ℤ, ◌+◌, ◌-◌, ◌<◌, ◌≤◌, ◌^◌, Bool, true, false, nat_le, ◌==◌, List, [], ◌∷◌, ◌++◌, Option, Some, Result, Ok, Err, OnOk, map, filter, length, take, drop, get_or, slice_set, refl, sym, ◌∙◌, ap, subst, arith, if◌then◌else◌}
 use Rattle.std.specs.Prelude.{◌≢◌, not, ◌&&◌}
 use Rattle.std.proofs.lemmas.Bool.{and_parts}
@@ -51,7 +51,7 @@ module _ (t : TracedView) (old new : Option (List Val)) where
   abbrev write : Write
   write = record { table = t.name; columns = t.columns; old = old; new = new }
 
-  -- whether a trigger tells of the write
+  -- whether a trigger records the write
   abbrev tells : Trigger → Bool
   tells x = not (leaves_out x t.columns old new)
 
@@ -62,7 +62,7 @@ module _ (t : TracedView) (old new : Option (List Val)) where
   abbrev pub event_at : ℕ → RowEvent
   event_at i = event_of write (trigger_at i).trigger
 
-  -- whether it leaves the write out
+  -- whether it leaves out the write
   abbrev pub out_at : ℕ → Bool
   out_at i = leaves_out (trigger_at i).trigger t.columns old new
 
@@ -90,7 +90,7 @@ module _ (t : TracedView) (old new : Option (List Val)) where
       ∙ ap (map (event_of write)) (filter-append tells (map TableTrigger.trigger xs) (map TableTrigger.trigger ys))
       ∙ map-append (event_of write) (filter tells (map TableTrigger.trigger xs)) (filter tells (map TableTrigger.trigger ys))
 
-  -- a trigger that tells of the write, and one that leaves it out
+  -- a trigger that records the write, and one that leaves it out
   pub from-told : (i : ℕ) → i < length t.triggers → out_at i ≡ false → from i ≡ event_at i ∷ from (i + 1)
   from-told i lt out = ap (events_by t old new) (drop_more t.triggers i no_trigger lt) ∙ one_more (trigger_at i) (drop (i + 1) t.triggers) false out
 
@@ -112,7 +112,7 @@ module _ (t : TracedView) (old new : Option (List Val)) where
       → count_of queue (upto (i + 1)) ≡ (if (trigger_at i).trigger.queue == queue then count_of queue (upto i) + 1 else count_of queue (upto i))
   counted-told queue i lt out = ap (count_of queue) (upto-told i lt out) ∙ count-more queue (upto i) (event_at i)
 
-  -- one that tells of the write by an event of the queue, and one whose event would be of another one
+  -- one that records the write by an event of the queue, and one whose event would be of another one
   pub count-told : (queue i count : ℕ) → i < length t.triggers → out_at i ≡ false → (trigger_at i).trigger.queue ≡ queue → count ≡ count_of queue (upto i) → count + 1 ≡ count_of queue (upto (i + 1))
   count-told queue i count lt out its is =
       let yes : ((trigger_at i).trigger.queue == queue) ≡ true = grind (arith, nat_tests) in
@@ -128,7 +128,7 @@ module _ (t : TracedView) (old new : Option (List Val)) where
       by true out = count-left_out queue i count lt out is
       by false out = is ∙ ap (λ b. if b then count_of queue (upto i) + 1 else count_of queue (upto i)) (sym no) ∙ sym (counted-told queue i lt out)
 
-  -- ---- whether there are ids: behind the events of the first triggers, for those of the rest
+  -- ---- whether there are ids: after the events of the first triggers, for those of the rest
 
   abbrev pub ids_from : (ℕ → ℕ) → ℕ → Bool
   ids_from seq i = ids_left (λ n. seq n + count_of n (upto i)) (from i)
@@ -151,7 +151,7 @@ module _ (t : TracedView) (old new : Option (List Val)) where
 
 -- ---- events stored
 
--- behind it there are ids for the rest
+-- after it there are ids for the rest
 pub ids-rest : (queues : List QueueView) (now : ℤ) (txid : ℕ) (e : RowEvent) (es : List RowEvent) → e.queue < length queues → ids_left (sequences queues) (e ∷ es) ≡ true
     → ids_left (sequences (slice_set queues e.queue (telling now txid e (get_or queues e.queue no_queue)))) es ≡ true
 ids-rest queues now txid e es lt ids = ap (λ f. ids_left f es) (λ i n. pointwise n i) ∙ (and_parts _ _ ids).1
@@ -195,14 +195,14 @@ back-there queues told now txid q e was is there lt low after found back =
 
 -- ---- a whole write
 
--- as many queues stand behind events as before
+-- as many queues stand after events as before
 pub telling-length : (now : ℤ) (txid : ℕ) (es : List RowEvent) (queues : List QueueView) → length (telling_all now txid es queues) ≡ length queues
 telling-length now txid [] queues = refl
 telling-length now txid (e ∷ es) queues =
     let next : QueueView = telling now txid e (get_or queues e.queue no_queue) in
     telling-length now txid es (slice_set queues e.queue next) ∙ length-set queues e.queue next
 
--- the queues that stood stand behind an event
+-- the queues that stood stand after an event
 pub told-stand : (queues : List QueueView) (i : ℕ) (was is : QueueView) (now : ℤ) (txid : ℕ) (event : RowEvent) → i < length queues → was ≡ get_or queues i was → Stands queues i → is ≡ telling now txid event was → StillStand queues (slice_set queues i is)
 told-stand queues i was is now txid event lt at stands told = goes-alike queues i was is lt at stands (ap QueueView.ticks told) (ap QueueView.subs told)
 

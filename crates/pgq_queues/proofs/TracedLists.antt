@@ -1,38 +1,32 @@
 -- The tables with triggers that a database keeps, after one of them changed.
 use Rattle.std.proofs.lemmas.List.{map-append, append-nil, get_or_read}
-use Rattle.std.proofs.Common.{◌≡◌, ℕ, zero, suc, ◌<◌, length-append, Bool, true, false, ◌==◌, List, [], ◌∷◌, ◌++◌, Option, Some, None, Result, Ok, Err, IfOk, OnErr, option_copied, Bor, IfSome, is_some, length, bytes_eq, get_or, slice_set, get_or-set_other, option_map, nat_cmp, cond, refl, sym, ◌∙◌, ap, subst, arith, if◌then◌else◌}
+use Rattle.std.proofs.Common.{◌≡◌, ℕ, zero, suc, ◌<◌, length-append, Bool, true, false, ◌==◌, List, [], ◌∷◌, ◌++◌, Option, Some, None, Result, Ok, Err, IfOk, OnErr, is_some, length, get_or, slice_set, get_or-set_other, option_map, nat_cmp, cond, refl, sym, ◌∙◌, ap, subst, arith, if◌then◌else◌}
 use Rattle.std.proofs.lemmas.Bool.Decides.{nat_tests}
 use Rattle.std.proofs.lemmas.List.Elements.{All-cons, All-append, filter-append}
-use Rattle.std.proofs.lemmas.Option.{IfSome_then}
 use Rattle.std.proofs.Math.ListN.{get_or-append}
 use Rattle.std.proofs.Math.Seq.{get_or-append_seam}
 use Rattle.std.specs.List.{All, remove}
-use Rattle.std.specs.Prelude.{option_and_then, slice_get}
-use Rattle.sky_names.specs.Places.{place_of}
+use Rattle.std.specs.Prelude.{slice_get}
 use Rattle.std.specs.BTreeMap.{is_at}
 use Rattle.std.specs.Map.{lookup}
 use Rattle.sky_val.specs.declared.column.Column.{Column}
 use Rattle.sky_model.specs.Triggers.{TableTrigger, triggers_of}
 use Rattle.sky_model.specs.State.{RowPart}
 use Rattle.pgq_queues.specs.Views.{QueueView, TracedTableView, TracedView, QueuesView}
-use Rattle.pgq_queues.specs.Seen.{no_queue, seen_queue, Stands, kept}
+use Rattle.pgq_queues.specs.Seen.{no_queue, seen_queue, sub_at, Stands, kept}
 use Rattle.pgq_queues.specs.Traced.{no_trigger, triggers_at, traced_by, traced_at, places_of, ArePlaced, TracedWithin, IsTable, IsTraced, AreTables}
-use Rattle.pgq_queues.specs.declared.batch.Batch.{Batch}
+use Rattle.pgq_queues.specs.declared.batch.Place.{Place}
 use Rattle.sky_names.specs.Named.{NamedView}
-use Rattle.sky_model.specs.Consumers.{Subscription}
-use Rattle.pgq_sub.specs.Seen.{SubsSeen, seen_subs, with_member, with_sub}
+use Rattle.pgq_sub.specs.Seen.{no_subs}
 use Rattle.sky_model.specs.Queues.{Tick}
-use Rattle.pgq_queues.specs.Batches.{IsRegistered, StillStand, BatchesWithin}
+use Rattle.pgq_queues.specs.Batches.{StillStand, open_id, AreIndexed, BatchesWithin}
 use Rattle.pgq_queues.specs.Numbers.{AreNumbers}
-use Rattle.pgq_queues.proofs.NumberedQueues.{numbers-more, numbers-removed}
-use Rattle.pgq_queues.proofs.Marked.{is_at-nat, get_or-slice_set}
+use Rattle.pgq_queues.proofs.NumberedQueues.{numbers-more, numbers-removed, stands-there}
+use Rattle.pgq_queues.proofs.Marked.{kept-updated, get_or-slice_set, sub_at-set, sub_at-more, no-subs, sub_at-gone}
 
 -- what is under one number has changed
 abbrev pub Updated : List (ℕ × TracedTableView) → List (ℕ × TracedTableView) → ℕ → Option TracedTableView → Type 0
 Updated old new n o = (q : ℕ) → lookup (is_at (nat_cmp q)) new ≡ cond (is_at (nat_cmp n) q) o (lookup (is_at (nat_cmp q)) old)
-
-kept-updated : (old new : List (ℕ × TracedTableView)) (n : ℕ) (o : Option TracedTableView) → Updated old new n o → (m : ℕ) → kept new m ≡ (if n == m then o else kept old m)
-kept-updated old new n o updates m = updates m ∙ ap (λ b. cond b o (kept old m)) (is_at-nat n m)
 
 -- ---- queues that change, and what stays true of them
 
@@ -43,82 +37,49 @@ there (q ∷ qs) zero stands = omega arith
 there (q ∷ qs) (suc n) stands = let low = there qs n stands in omega (arith, low)
 
 pub goes-same : (old new : List QueueView) → new ≡ old → StillStand old new
-goes-same old new same = record {
-  stands = λ n s. subst (λ qs. Stands qs n) (sym same) s;
-  registered = λ n c r. subst (λ qs. IsRegistered qs n c) (sym same) r;
-}
+goes-same old new same = record { stands = λ n s. subst (λ qs. Stands qs n) (sym same) s; subs = λ n c. ap (λ qs. sub_at qs n c) same }
 
 pub goes-then : (one two three : List QueueView) → StillStand one two → StillStand two three → StillStand one three
-goes-then one two three first rest = record { stands = λ n s. rest.stands n (first.stands n s); registered = λ n c r. rest.registered n c (first.registered n c r) }
+goes-then one two three first rest = record { stands = λ n s. rest.stands n (first.stands n s); subs = λ n c. rest.subs n c ∙ first.subs n c }
 
--- one queue has changed, and stands, and has the consumers that it had
-pub goes-at : (queues : List QueueView) (i : ℕ) (new : QueueView) → i < length queues → 0 < length new.ticks
-    → ((consumer : List ℕ) → IsRegistered queues i consumer → is_some ((seen_queue new).sub consumer) ≡ true) → StillStand queues (slice_set queues i new)
-goes-at queues i new lt ticks subs = record {
-  stands = λ n s. subst (λ (q : QueueView). 0 < length q.ticks) (sym (get_or-slice_set queues i n new lt)) (still n s (i == n) refl);
-  registered = λ n c r. subst (λ (q : QueueView). is_some ((seen_queue q).sub c) ≡ true) (sym (get_or-slice_set queues i n new lt)) (had n c r (i == n) refl);
-}
+-- one queue has changed, and stands
+pub stands-set : (queues : List QueueView) (i : ℕ) (new : QueueView) → i < length queues → 0 < length new.ticks → (n : ℕ) → Stands queues n → Stands (slice_set queues i new) n
+stands-set queues i new lt ticks n s = subst (λ (q : QueueView). 0 < length q.ticks) (sym (get_or-slice_set queues i n new lt)) (still (i == n) refl)
   where
-    still : (n : ℕ) → Stands queues n → (b : Bool) → (i == n) ≡ b → 0 < length (QueueView.ticks (if b then new else get_or queues n no_queue))
-    still n s true e = ticks
-    still n s false e = s
+    still : (b : Bool) → (i == n) ≡ b → 0 < length (QueueView.ticks (if b then new else get_or queues n no_queue))
+    still true e = ticks
+    still false e = s
 
-    had : (n : ℕ) (c : List ℕ) → IsRegistered queues n c → (b : Bool) → (i == n) ≡ b → is_some ((seen_queue (if b then new else get_or queues n no_queue)).sub c) ≡ true
-    had n c r true e = let one : n ≡ i = grind (arith, nat_tests) in subs c (subst (λ m. IsRegistered queues m c) one r)
-    had n c r false e = r
+-- if its ticks and its subscriptions stay
+pub ticks-kept : (queues : List QueueView) (i : ℕ) (old new : QueueView) → i < length queues → old ≡ get_or queues i old → Stands queues i → new.ticks ≡ old.ticks → 0 < length new.ticks
+ticks-kept queues i old new lt at stands ticks = subst (λ ts. 0 < length ts) (ap QueueView.ticks (sym (get_or_read queues i old lt at no_queue)) ∙ sym ticks) stands
 
-pub goes-set : (queues : List QueueView) (i : ℕ) (old new : QueueView) → i < length queues → old ≡ get_or queues i old → 0 < length new.ticks
-    → ((consumer : List ℕ) → is_some ((seen_queue old).sub consumer) ≡ true → is_some ((seen_queue new).sub consumer) ≡ true) → StillStand queues (slice_set queues i new)
-goes-set queues i old new lt at ticks subs =
-    goes-at queues i new lt ticks (λ c r. subs c (subst (λ (q : QueueView). is_some ((seen_queue q).sub c) ≡ true) (sym (get_or_read queues i old lt at no_queue)) r))
-
--- where its ticks and its consumers stay
 pub goes-alike : (queues : List QueueView) (i : ℕ) (old new : QueueView) → i < length queues → old ≡ get_or queues i old → Stands queues i → new.ticks ≡ old.ticks → new.subs ≡ old.subs → StillStand queues (slice_set queues i new)
-goes-alike queues i old new lt at stands ticks subs =
-    goes-set queues i old new lt at (subst (λ ts. 0 < length ts) (ap QueueView.ticks here ∙ sym ticks) stands)
-    (λ c r. subst (λ (x : NamedView Subscription). is_some ((seen_subs x).sub c) ≡ true) (sym subs) r)
-  where
-    here : get_or queues i no_queue ≡ old
-    here = sym (get_or_read queues i old lt at no_queue)
-
--- one more queue
-pub goes-more : (queues : List QueueView) (q : QueueView) → StillStand queues (queues ++ q ∷ [])
-goes-more queues q = record {
-  stands = λ n s. subst (λ (x : QueueView). 0 < length x.ticks) (sym (get_or-append queues (q ∷ []) no_queue n (there queues n s))) s;
-  registered = λ n c r. subst (λ (x : QueueView). is_some ((seen_queue x).sub c) ≡ true) (sym (before n c r)) r;
+goes-alike queues i old new lt at stands ticks subs = record {
+  stands = stands-set queues i new lt (ticks-kept queues i old new lt at stands ticks);
+  subs = sub_at-set queues i old new lt at subs;
 }
-  where
-    none : (n : ℕ) (c : List ℕ) → (queues : List QueueView) → IsRegistered queues n c → n < length queues
-    none n c [] r = absurd (cc)
-    none zero c (x ∷ xs) r = omega arith
-    none (suc n) c (x ∷ xs) r = let low = none n c xs r in omega (arith, low)
 
-    before : (n : ℕ) (c : List ℕ) → IsRegistered queues n c → get_or (queues ++ q ∷ []) n no_queue ≡ get_or queues n no_queue
-    before n c r = get_or-append queues (q ∷ []) no_queue n (none n c queues r)
+-- one more queue, at which nobody has registered
+pub goes-more : (queues : List QueueView) (q : QueueView) → q.subs ≡ no_subs → StillStand queues (queues ++ q ∷ [])
+goes-more queues q none = record {
+  stands = λ n s. subst (λ (x : QueueView). 0 < length x.ticks) (sym (get_or-append queues (q ∷ []) no_queue n (there queues n s))) s;
+  subs = sub_at-more queues q none;
+}
 
 -- the triggers' queues, those of batches, and the numbers
-pub within-on : (old new : List QueueView) (triggers : List TableTrigger) (all : List (ℕ × TracedTableView)) → StillStand old new → TracedWithin old triggers all → TracedWithin new triggers all
-within-on old new triggers all on within = record { stand = λ k d lt. on.stands _ (within.stand k d lt); places = within.places }
+pub within-on : (old new : List QueueView) (triggers : List TableTrigger) (all : List (ℕ × TracedTableView)) → ((n : ℕ) → Stands old n → Stands new n) → TracedWithin old triggers all → TracedWithin new triggers all
+within-on old new triggers all on within = record { stand = λ k d lt. on _ (within.stand k d lt); places = within.places }
 
-pub batches-on : (old new : List QueueView) (batches : List (ℕ × Batch)) → StillStand old new → BatchesWithin old batches → BatchesWithin new batches
-batches-on old new batches on within id = IfSome_then (kept batches id) (within id) (λ b has. (on.stands b.queue has.0, on.registered b.queue b.consumer has.1))
+indexed-on : (last : ℕ) (old new : List QueueView) (batches : List (ℕ × Place)) → ((n : ℕ) (consumer : List ℕ) → sub_at new n consumer ≡ sub_at old n consumer) → AreIndexed last (sub_at old) (kept batches)
+    → AreIndexed last (sub_at new) (kept batches)
+indexed-on last old new batches same are = subst (λ subs. AreIndexed last subs (kept batches)) (λ j n c. sym (same n c) j) are
 
-pub numbers-on : (old new : List QueueView) (names : NamedView ℕ) → StillStand old new → AreNumbers names old → AreNumbers names new
-numbers-on old new names on are = record { each = are.each; rise = are.rise; stand = λ k d lt. on.stands _ (are.stand k d lt) }
+pub batches-on : {last : ℕ} → (old new : List QueueView) (batches : List (ℕ × Place)) → StillStand old new → BatchesWithin last old batches → BatchesWithin last new batches
+batches-on {last} old new batches on within = record { indexed = indexed-on last old new batches on.subs within.indexed; stand = λ id p is. on.stands _ (within.stand id p is) }
 
--- a batch that is found, and batches of which one has changed
-pub batch-within : (queues : List QueueView) (r : Option (Bor Batch)) (found : Option Batch) → option_copied r ≡ found → IfSome found (λ (b : Batch). Stands queues b.queue × IsRegistered queues b.queue b.consumer)
-    → IfSome r (λ b. Stands queues b.now.queue)
-batch-within queues None found is within = tt
-batch-within queues (Some b) found is within = (subst (λ o. IfSome o (λ (x : Batch). Stands queues x.queue × IsRegistered queues x.queue x.consumer)) (sym is) within).0
-
-pub batches-updated : (queues : List QueueView) (old new : List (ℕ × Batch)) (n : ℕ) (o : Option Batch) → ((q : ℕ) → lookup (is_at (nat_cmp q)) new ≡ cond (is_at (nat_cmp n) q) o (lookup (is_at (nat_cmp q)) old))
-    → IfSome o (λ (b : Batch). Stands queues b.queue × IsRegistered queues b.queue b.consumer) → BatchesWithin queues old → BatchesWithin queues new
-batches-updated queues old new n o updates here within m = subst (λ x. IfSome x (λ (b : Batch). Stands queues b.queue × IsRegistered queues b.queue b.consumer)) (sym (updates m)) (by (is_at (nat_cmp n) m))
-  where
-    by : (b : Bool) → IfSome (cond b o (lookup (is_at (nat_cmp m)) old)) (λ (x : Batch). Stands queues x.queue × IsRegistered queues x.queue x.consumer)
-    by true = here
-    by false = within m
+pub numbers-on : (old new : List QueueView) (names : NamedView ℕ) → ((n : ℕ) → Stands old n → Stands new n) → AreNumbers names old → AreNumbers names new
+numbers-on old new names on are = record { each = are.each; rise = are.rise; stand = λ k d lt. on _ (are.stand k d lt) }
 
 -- ---- the places of a table's triggers
 
@@ -196,7 +157,7 @@ pub queues-more : (queues : List QueueView) (xs : List TableTrigger) (x : TableT
 queues-more queues xs x all lt =
     All-append (λ (y : TableTrigger). Stands queues y.trigger.queue) xs (x ∷ []) all (All-cons (λ (y : TableTrigger). Stands queues y.trigger.queue) x [] lt (λ k d low. absurd (omega arith)))
 
--- what is kept of the triggers and their tables, where nothing has come to them
+-- what is kept of the triggers and their tables, if nothing was added to them
 pub traced-kept : (queues : List QueueView) (ts triggers : List TableTrigger) (old new : List (ℕ × TracedTableView)) (n : ℕ) (t was : TracedTableView) → ts ≡ triggers → Updated old new n (Some t)
     → Some was ≡ kept old n → t ≡ was → TracedWithin queues triggers old → TracedWithin queues ts new
 traced-kept queues ts triggers old new n t was same updates at is within =
@@ -205,7 +166,7 @@ traced-kept queues ts triggers old new n t was same updates at is within =
       places = places-kept triggers old new n t updates (ap TracedTableView.places is ∙ ap places_of at) within.places;
     })
 
--- where a table has come that has no trigger
+-- if a table was added that has no trigger
 nothing-kept : (o : Option TracedTableView) → is_some o ≡ false → [] ≡ places_of o
 nothing-kept None e = refl
 nothing-kept (Some t) e = absurd (cc)
@@ -217,7 +178,7 @@ traced-new queues triggers old new n t updates absent none within = record {
   places = places-kept triggers old new n t updates (none ∙ nothing-kept (kept old n) absent) within.places;
 }
 
--- and where a trigger has come
+-- and if a trigger was added
 pub traced-more : (queues : List QueueView) (triggers ts more : List TableTrigger) (x : TableTrigger) (old new : List (ℕ × TracedTableView)) (n place : ℕ) (t was : TracedTableView)
     → ts ≡ triggers → more ≡ ts ++ x ∷ [] → Updated old new n (Some t) → x.table ≡ n → Some was ≡ kept old n → t ≡ record was { places = was.places ++ place ∷ [] } → place ≡ length ts
     → Stands queues x.trigger.queue → TracedWithin queues triggers old → TracedWithin queues more new
@@ -229,7 +190,7 @@ traced-more queues triggers ts more x old new n place t was same is updates its 
 
 -- ---- that names and columns are kept of tables
 
--- where what is kept of a table has changed, and only triggers of it may have come, each other table is as it was
+-- if what is kept of a table has changed, and only triggers of it may have been added, each other table is as it was
 tables-where : (v : QueuesView) (ts : List TableTrigger) (new : List (ℕ × TracedTableView)) (n : ℕ) (t : TracedTableView) → Updated v.traced new n (Some t)
     → ((m : ℕ) → (n == m) ≡ false → triggers_of m ts ≡ triggers_of m v.triggers) → (part : RowPart) → IsTable part n t.name t.columns → AreTables part v → (m : ℕ) → IsTraced part m ts (kept new m)
 tables-where v ts new n t updates same part here are m = subst (IsTraced part m ts) (sym (kept-updated v.traced new n (Some t) updates m)) (by (n == m) refl)
@@ -242,13 +203,13 @@ tables-where v ts new n t updates same part here are m = subst (IsTraced part m 
     by true e = let one : n ≡ m = grind (arith, nat_tests) in subst (λ k. IsTable part k t.name t.columns) one here
     by false e = other (kept v.traced m) (same m e) (are m)
 
--- a table has come
+-- a table was added
 pub tables-new : (v now : QueuesView) (new : List (ℕ × TracedTableView)) (n : ℕ) (t : TracedTableView) (name : List ℕ) (columns : List Column) → v ≡ now → Updated v.traced new n (Some t)
     → t.name ≡ name → t.columns ≡ columns → (part : RowPart) → IsTable part n name columns → AreTables part now → (m : ℕ) → IsTraced part m v.triggers (kept new m)
 tables-new v now new n t name columns same updates named of_columns part here are =
     tables-where v v.triggers new n t updates (λ m other. refl) part (here.0 ∙ ap Some (sym named), here.1 ∙ sym of_columns) (subst (AreTables part) (sym same) are)
 
--- or a trigger of a table has come
+-- or a trigger of a table was added
 table-there : (part : RowPart) (n : ℕ) (ts : List TableTrigger) (was : TracedTableView) (o : Option TracedTableView) → Some was ≡ o → IsTraced part n ts o → IsTable part n was.name was.columns
 table-there part n ts was o at is = subst (IsTraced part n ts) (sym at) is
 
@@ -299,99 +260,72 @@ none-found v now n o same at none placed =
 
 -- ---- what holds of all queues, when one of them changes
 
--- a queue that stood stands, with the consumers that it had
+-- a queue that stood stands, with the subscriptions that it had
 pub record Stays (old new : QueueView) : Type 0 where
   pub ticks : 0 < length old.ticks → 0 < length new.ticks
-  pub subs : (consumer : List ℕ) → is_some ((seen_queue old).sub consumer) ≡ true → is_some ((seen_queue new).sub consumer) ≡ true
+  pub subs : new.subs ≡ old.subs
 
 pub stays-alike : (old new : QueueView) → new.ticks ≡ old.ticks → new.subs ≡ old.subs → Stays old new
-stays-alike old new ticks subs = record {
-  ticks = λ lt. subst (λ ts. 0 < length ts) (sym ticks) lt;
-  subs = λ c r. subst (λ (x : NamedView Subscription). is_some ((seen_subs x).sub c) ≡ true) (sym subs) r;
-}
+stays-alike old new ticks subs = record { ticks = λ lt. subst (λ ts. 0 < length ts) (sym ticks) lt; subs = subs }
 
 -- with one more tick
 pub stays-ticked : (old new : QueueView) (t : Tick) → new ≡ record old { ticks = old.ticks ++ t ∷ [] } → Stays old new
 stays-ticked old new t is = record {
   ticks = λ lt. subst (λ (q : QueueView). 0 < length q.ticks) (sym is) (omega (arith, length-append old.ticks (t ∷ [])));
-  subs = λ c r. subst (λ (q : QueueView). is_some ((seen_subs q.subs).sub c) ≡ true) (sym is) r;
+  subs = ap QueueView.subs is;
 }
 
 pub stays-tick : {E : Type 0} (r : Result ℕ E) (old new : QueueView) (t : ℕ → Tick) → IfOk r (λ id. new ≡ record old { ticks = old.ticks ++ t id ∷ [] }) → OnErr r (new ≡ old) → Stays old new
 stays-tick (Ok id) old new t ok err = stays-ticked old new (t id) ok
 stays-tick (Err e) old new t ok err = stays-alike old new (ap QueueView.ticks err) (ap QueueView.subs err)
 
--- with one more consumer, or another subscription of one
-pub stays-member : (old new : QueueView) (name : List ℕ) (id position : ℕ) → seen_subs new.subs ≡ with_member name id position (seen_subs old.subs) → new ≡ record old { subs = new.subs } → Stays old new
-stays-member old new name id position is but = record {
-  ticks = λ lt. subst (λ ts. 0 < length ts) (sym (ap QueueView.ticks but)) lt;
-  subs = λ c r. ap (λ (s : SubsSeen). is_some (s.sub c)) is ∙ by (bytes_eq c name) ((seen_subs old.subs).sub c) r;
-}
-  where
-    by : (b : Bool) (o : Option Subscription) → is_some o ≡ true → is_some (if b then Some (record { id = id; position = position; active = None }) else o) ≡ true
-    by true o r = refl
-    by false o r = r
-
-pub stays-sub : (old new : QueueView) (name : List ℕ) (f : Subscription → Subscription) → seen_subs new.subs ≡ with_sub name f (seen_subs old.subs) → new ≡ record old { subs = new.subs } → Stays old new
-stays-sub old new name f is but = record {
-  ticks = λ lt. subst (λ ts. 0 < length ts) (sym (ap QueueView.ticks but)) lt;
-  subs = λ c r. ap (λ (s : SubsSeen). is_some (s.sub c)) is ∙ by (bytes_eq c name) ((seen_subs old.subs).sub c) r;
-}
-  where
-    by : (b : Bool) (o : Option Subscription) → is_some o ≡ true → is_some (if b then option_map f o else o) ≡ true
-    by true None r = r
-    by true (Some s) r = refl
-    by false o r = r
-
 -- the queues that stood stand
 pub stand-set : (queues : List QueueView) (i : ℕ) (old new : QueueView) → Stands queues i → i < length queues → old ≡ get_or queues i old → Stays old new → StillStand queues (slice_set queues i new)
-stand-set queues i old new stands lt at stays =
-    goes-set queues i old new lt at (stays.ticks (subst (λ (q : QueueView). 0 < length q.ticks) (sym (get_or_read queues i old lt at no_queue)) stands)) stays.subs
+stand-set queues i old new stands lt at stays = record {
+  stands = stands-set queues i new lt (stays.ticks (subst (λ (q : QueueView). 0 < length q.ticks) (sym (get_or_read queues i old lt at no_queue)) stands));
+  subs = sub_at-set queues i old new lt at stays.subs;
+}
 
--- and what holds of all goes on to hold
-pub within-still : (numbers : NamedView ℕ) (old new : List QueueView) (batches : List (ℕ × Batch)) (triggers : List TableTrigger) (all : List (ℕ × TracedTableView)) → StillStand old new
-    → AreNumbers numbers old × (BatchesWithin old batches × TracedWithin old triggers all) → AreNumbers numbers new × (BatchesWithin new batches × TracedWithin new triggers all)
+-- and what holds of all still holds
+pub within-still : {last : ℕ} → (numbers : NamedView ℕ) (old new : List QueueView) (batches : List (ℕ × Place)) (triggers : List TableTrigger) (all : List (ℕ × TracedTableView)) → StillStand old new
+    → AreNumbers numbers old × (BatchesWithin last old batches × TracedWithin old triggers all) → AreNumbers numbers new × (BatchesWithin last new batches × TracedWithin new triggers all)
 within-still numbers old new batches triggers all still within =
-    (numbers-on old new numbers still within.0, (batches-on old new batches still within.1.0, within-on old new triggers all still within.1.1))
+    (numbers-on old new numbers still.stands within.0, (batches-on old new batches still within.1.0, within-on old new triggers all still.stands within.1.1))
 
 -- a queue stands in what is kept as in what is shown
 pub stands-kept : (v now : QueuesView) (n : ℕ) → v ≡ now → Stands now.queues n → Stands v.queues n
 stands-kept v now n same stands = subst (λ (w : QueuesView). Stands w.queues n) (sym same) stands
 
-pub registered-kept : (v now : QueuesView) (n : ℕ) (consumer : List ℕ) → v ≡ now → IsRegistered now.queues n consumer → IsRegistered v.queues n consumer
-registered-kept v now n consumer same registered = subst (λ (w : QueuesView). IsRegistered w.queues n consumer) (sym same) registered
-
 pub stand-shown : (v now : QueuesView) (new : List QueueView) → v ≡ now → StillStand v.queues new → StillStand now.queues new
 stand-shown v now new same still = subst (λ (w : QueuesView). StillStand w.queues new) same still
 
 -- one more queue, with its name
-pub within-made : (names : NamedView ℕ) (name : List ℕ) (number : ℕ) (old : List QueueView) (q : QueueView) (more : NamedView ℕ) (new : List QueueView) (batches : List (ℕ × Batch)) (triggers : List TableTrigger)
-    (all : List (ℕ × TracedTableView)) → more ≡ record { names = names.names ++ name ∷ []; values = names.values ++ number ∷ [] } → number ≡ length old → new ≡ old ++ q ∷ [] → 0 < length q.ticks
-    → AreNumbers names old × (BatchesWithin old batches × TracedWithin old triggers all) → AreNumbers more new × (BatchesWithin new batches × TracedWithin new triggers all)
-within-made names name number old q more new batches triggers all named is come ticks within =
-    let later = within-still names old (old ++ q ∷ []) batches triggers all (goes-more old q) within in
-    let last : Stands (old ++ q ∷ []) (length old) = subst (λ (x : QueueView). 0 < length x.ticks) (sym (get_or-append_seam old q [] no_queue)) ticks in
-    let numbers = numbers-more names name old q ticks within.0 (λ k d lt. there old _ (within.0.stand k d lt)) later.0.stand last in
+pub within-made : {last : ℕ} → (names : NamedView ℕ) (name : List ℕ) (number : ℕ) (old : List QueueView) (q : QueueView) (more : NamedView ℕ) (new : List QueueView) (batches : List (ℕ × Place)) (triggers : List TableTrigger)
+    (all : List (ℕ × TracedTableView)) → more ≡ record { names = names.names ++ name ∷ []; values = names.values ++ number ∷ [] } → number ≡ length old → new ≡ old ++ q ∷ [] → 0 < length q.ticks → q.subs ≡ no_subs
+    → AreNumbers names old × (BatchesWithin last old batches × TracedWithin old triggers all) → AreNumbers more new × (BatchesWithin last new batches × TracedWithin new triggers all)
+within-made {last} names name number old q more new batches triggers all named is come ticks none within =
+    let later = within-still names old (old ++ q ∷ []) batches triggers all (goes-more old q none) within in
+    let newest : Stands (old ++ q ∷ []) (length old) = subst (λ (x : QueueView). 0 < length x.ticks) (sym (get_or-append_seam old q [] no_queue)) ticks in
+    let numbers = numbers-more names name old q ticks within.0 (λ k d lt. there old _ (within.0.stand k d lt)) later.0.stand newest in
     let whole : more ≡ record { names = names.names ++ name ∷ []; values = names.values ++ length old ∷ [] } = named ∙ ap (λ n. record { names = names.names ++ name ∷ []; values = names.values ++ n ∷ [] }) is in
-    subst (λ qs. AreNumbers more qs × (BatchesWithin qs batches × TracedWithin qs triggers all)) (sym come) (subst (λ (n : NamedView ℕ). AreNumbers n (old ++ q ∷ [])) (sym whole) numbers, later.1)
+    subst (λ qs. AreNumbers more qs × (BatchesWithin last qs batches × TracedWithin qs triggers all)) (sym come) (subst (λ (n : NamedView ℕ). AreNumbers n (old ++ q ∷ [])) (sym whole) numbers, later.1)
 
 -- one less
-gone-apart : (queues : List QueueView) (n m : ℕ) → (n ≡ m → ⊥) → get_or (slice_set queues n no_queue) m no_queue ≡ get_or queues m no_queue
+pub gone-apart : (queues : List QueueView) (n m : ℕ) → (n ≡ m → ⊥) → get_or (slice_set queues n no_queue) m no_queue ≡ get_or queues m no_queue
 gone-apart queues n m other = get_or-set_other queues n m no_queue no_queue (λ e. other (sym e))
 
-pub within-dropped : (names : NamedView ℕ) (n place : ℕ) (old new : List QueueView) (less : NamedView ℕ) (batches : List (ℕ × Batch)) (triggers : List TableTrigger) (all : List (ℕ × TracedTableView))
+pub within-dropped : {last : ℕ} → (names : NamedView ℕ) (n place : ℕ) (old new : List QueueView) (less : NamedView ℕ) (batches : List (ℕ × Place)) (triggers : List TableTrigger) (all : List (ℕ × TracedTableView))
     → less ≡ record { names = remove names.names place; values = remove names.values place } → new ≡ slice_set old n no_queue → place < length names.names → slice_get names.values place ≡ Some n
     → (seen_queue (get_or old n no_queue)).members ≡ [] → All (λ t. (t.trigger.queue == n) ≡ false) triggers
-    → AreNumbers names old × (BatchesWithin old batches × TracedWithin old triggers all) → AreNumbers less new × (BatchesWithin new batches × TracedWithin new triggers all)
-within-dropped names n place old new less batches triggers all named empty low at none untold within =
-    subst (λ qs. AreNumbers less qs × (BatchesWithin qs batches × TracedWithin qs triggers all)) (sym empty) (
+    → AreNumbers names old × (BatchesWithin last old batches × TracedWithin old triggers all) → AreNumbers less new × (BatchesWithin last new batches × TracedWithin new triggers all)
+within-dropped {last} names n place old new less batches triggers all named empty low at none untold within =
+    subst (λ qs. AreNumbers less qs × (BatchesWithin last qs batches × TracedWithin qs triggers all)) (sym empty) (
       subst (λ (x : NamedView ℕ). AreNumbers x left) (sym named) (numbers-removed n place names old left within.0 low at stays),
       (
-        (λ id. IfSome_then (kept batches id) (within.1.0 id) (λ b has.
-            let other = apart b.queue b.consumer has.1 in (
-              stays b.queue other has.0,
-              subst (λ (q : QueueView). is_some ((seen_queue q).sub b.consumer) ≡ true) (sym (gone-apart old n b.queue other)) has.1,
-            ))),
+        record {
+          indexed = indexed-on last old left batches (sub_at-gone old n there_is none) within.1.0.indexed;
+          stand = λ id p is. stays p.queue (apart p.queue p.consumer id (within.1.0.indexed.there id p is)) (within.1.0.stand id p is);
+        },
         record {
           stand = λ k d lt.
               let other : n ≡ (get_or triggers k d).trigger.queue → ⊥ = λ e.
@@ -410,11 +344,10 @@ within-dropped names n place old new less batches triggers all named empty low a
     stays : (m : ℕ) → (n ≡ m → ⊥) → Stands old m → Stands left m
     stays m other stands = subst (λ (q : QueueView). 0 < length q.ticks) (sym (gone-apart old n m other)) stands
 
-    unregistered : (subs : NamedView Subscription) (consumer : List ℕ) → (seen_subs subs).members ≡ [] → is_some ((seen_subs subs).sub consumer) ≡ false
-    unregistered subs consumer none = ap (λ ns. is_some (option_and_then (slice_get subs.values) (place_of consumer ns))) none
+    there_is : n < length old
+    there_is = there old n (stands-there names old place n within.0 at)
 
-    apart : (m : ℕ) (consumer : List ℕ) → IsRegistered old m consumer → n ≡ m → ⊥
-    apart m consumer has same =
-        let no = unregistered (get_or old n no_queue).subs consumer none in
-        let yes : is_some ((seen_subs (get_or old n no_queue).subs).sub consumer) ≡ true = subst (λ k. IsRegistered old k consumer) (sym same) has in
+    apart : (m : ℕ) (consumer : List ℕ) (id : ℕ) → open_id (sub_at old m consumer) ≡ Some id → n ≡ m → ⊥
+    apart m consumer id has same =
+        let nothing : open_id (sub_at old m consumer) ≡ None = ap (λ k. open_id (sub_at old k consumer)) (sym same) ∙ ap open_id (no-subs (get_or old n no_queue).subs consumer none) in
         absurd (cc)

@@ -1,5 +1,5 @@
--- The queues as a gate in front of the writes of rows: they have room for a write where there are ids for the events that
--- tell of it, and store these behind it.
+-- The queues as a gate in front of the writes of rows: they have room for a write if there are ids for the events that record it, and store these
+-- after it.
 use Rattle.std.specs.Prelude.{ℕ, ℤ, ◌+◌, ◌^◌, Bool, true, not, ◌&&◌, ◌==◌, nat_le, if◌then◌else◌, List, [], ◌∷◌, ◌++◌, Option, Some, None, map, slice_set, slice_index_or}
 use Rattle.sky_val.specs.declared.val.Val.{Val}
 use Rattle.sky_urlenc.specs.RowEvents.{RowEvent, events_of}
@@ -11,7 +11,7 @@ use Rattle.pgq_queues.specs.Views.{QueueView, TracedView, QueuesView}
 use Rattle.pgq_queues.specs.Seen.{no_queue}
 use Rattle.pgq_queues.specs.Traced.{traced_at}
 
--- the events of triggers that tell of a write in a table, and those of all its triggers
+-- the events of triggers that record a write in a table, and those of all its triggers
 abbrev pub events_by : TracedView → (old new : Option (List Val)) → List TableTrigger → List RowEvent
 events_by t old new triggers =
     events_of (record { table = t.name; columns = t.columns; old = old; new = new }) (map TableTrigger.trigger triggers)
@@ -19,7 +19,7 @@ events_by t old new triggers =
 abbrev pub table_events : TracedView → (old new : Option (List Val)) → List RowEvent
 table_events t old new = events_by t old new t.triggers
 
--- the events that tell of a write in a table, if anything is kept of that
+-- the events that record a write in a table, if anything is kept of that
 abbrev pub events_at : Option TracedView → RowWrite → List RowEvent
 events_at None write = []
 events_at (Some t) write = table_events t write.old write.new
@@ -47,7 +47,7 @@ abbrev pub telling_all : ℤ → ℕ → List RowEvent → List QueueView → Li
 telling_all now t [] queues = queues
 telling_all now t (e ∷ es) queues = telling_all now t es (slice_set queues e.queue (telling now t e (slice_index_or queues e.queue no_queue)))
 
--- there is room for a write where there are ids for all its events; then these are stored
+-- there is room for a write if there are ids for all its events; then these are stored
 abbrev pub event_rule : Gate QueuesView
 event_rule = record {
   has_room = λ q write. ids_left (sequences q.queues) (events_at (traced_at q write.table) write);

@@ -3,4 +3,5 @@ pub mod Seen
 pub mod Batches
 pub mod Numbers
 pub mod Traced
+pub mod Retried
 pub mod EventRule

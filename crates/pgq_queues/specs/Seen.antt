@@ -1,5 +1,5 @@
 -- The readings of the definitions, in what the code keeps of a database's queues.
-use Rattle.std.specs.Prelude.{ℕ, pos, ◌<◌, Bool, List, [], ◌∷◌, length, Option, option_map, slice_index_or}
+use Rattle.std.specs.Prelude.{ℕ, pos, ◌<◌, Bool, List, [], ◌∷◌, length, Option, option_map, option_and_then, slice_index_or}
 use Rattle.std.specs.List.{list_any}
 use Rattle.std.specs.Ordering.{nat_cmp}
 use Rattle.std.specs.BTreeMap.{is_at}
@@ -8,8 +8,11 @@ use Rattle.sky_model.specs.History as model
 use Rattle.sky_model.specs.Queues.{NamedQueue}
 use Rattle.sky_model.specs.Config.{default_config}
 use Rattle.sky_model.specs.State.{Queue, RowPart, Database}
-use Rattle.pgq_sub.specs.Seen.{seen_subs, no_subs}
+use Rattle.pgq_sub.specs.declared.sub.OpenBatch.{OpenBatch}
+use Rattle.pgq_sub.specs.Views.{SubView}
+use Rattle.pgq_sub.specs.Seen.{seen_subs, shown, no_subs}
 use Rattle.pgq_queues.specs.declared.batch.Batch.{Batch}
+use Rattle.pgq_queues.specs.declared.batch.Place.{Place}
 use Rattle.pgq_queues.specs.Views.{QueueView, QueuesView}
 
 abbrev pub seen_queue : QueueView → Queue
@@ -19,7 +22,7 @@ seen_queue q = record {
   stored = q.events;
   tick_list = q.ticks;
   members = (seen_subs q.subs).members;
-  sub = (seen_subs q.subs).sub;
+  sub = shown (seen_subs q.subs).kept;
 }
 
 -- a queue that isn't made, or was dropped
@@ -30,9 +33,21 @@ no_queue = record { config = default_config; seq = 0; events = []; ticks = []; s
 abbrev pub Stands : List QueueView → ℕ → Type 0
 Stands queues n = 0 < length (slice_index_or queues n no_queue).ticks
 
--- a batch that is kept under an id
-abbrev pub seen_batch : ℕ → Batch → model.Batch
-seen_batch id b = record { id = id; queue = b.queue; consumer = b.consumer; sub = b.sub; prev = b.prev; cur = b.cur }
+-- the subscription of the queue of a number under a consumer
+abbrev pub sub_at : List QueueView → ℕ → List ℕ → Option SubView
+sub_at queues n consumer = (seen_subs (slice_index_or queues n no_queue).subs).kept consumer
+
+-- a batch that is read
+abbrev pub seen_batch : Batch → model.Batch
+seen_batch b = record { id = b.id; queue = b.queue; consumer = b.consumer.now; sub = b.sub; prev = b.prev; cur = b.cur }
+
+-- the active batch of a subscription at a place, under an id
+abbrev pub batch_of : ℕ → Place → SubView → Option model.Batch
+batch_of id p s = option_map (λ (batch : OpenBatch). record { id = id; queue = p.queue; consumer = p.consumer; sub = s.id; prev = s.position; cur = batch.cur }) s.active
+
+-- of the subscription that is there, if anything is kept under the id
+abbrev pub batch_by : (ℕ → List ℕ → Option SubView) → ℕ → Option Place → Option model.Batch
+batch_by subs id place = option_and_then (λ (p : Place). option_and_then (batch_of id p) (subs p.queue p.consumer)) place
 
 -- what is kept under a number
 abbrev pub kept : {A : Type 0} → List (ℕ × A) → ℕ → Option A
@@ -62,7 +77,7 @@ queue_at q n = seen_queue (slice_index_or q.queues n no_queue)
 
 -- the active batch of an id
 abbrev pub batch_at : QueuesView → ℕ → Option model.Batch
-batch_at q id = option_map (seen_batch id) (kept q.batches id)
+batch_at q id = batch_by (sub_at q.queues) id (kept q.batches id)
 
 -- the database that these are the queues of, with its row part
 abbrev pub seen_with : RowPart → QueuesView → Database
@@ -76,6 +91,7 @@ seen_with part q = record {
   queue = queue_at q;
   batch = batch_at q;
   triggers = q.triggers;
+  retries = q.retries;
 }
 
 -- the queues of a database in which nothing has happened
@@ -90,4 +106,6 @@ no_queues = record {
   undone = [];
   triggers = [];
   traced = [];
+  retries = [];
+  rounds = 0;
 }

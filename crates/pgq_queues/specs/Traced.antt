@@ -23,12 +23,12 @@ traced_by triggers t = record { name = t.name; columns = t.columns; triggers = t
 abbrev pub traced_at : QueuesView → ℕ → Option TracedView
 traced_at q n = option_map (traced_by (triggers_of n q.triggers)) (kept q.traced n)
 
--- the places of a table, which has none where nothing is kept of it
+-- the places of a table, which has none if nothing is kept of it
 abbrev pub places_of : Option TracedTableView → List ℕ
 places_of None = []
 places_of (Some t) = t.places
 
--- there are these places, and at them stand a table's triggers
+-- there are these places, and at them are a table's triggers
 pub record ArePlaced (triggers : List TableTrigger) (table : ℕ) (places : List ℕ) : Type 0 where
   pub within : All (λ place. place < length triggers) places
   pub own : triggers_at triggers places ≡ triggers_of table triggers
@@ -38,11 +38,12 @@ pub record TracedWithin (queues : List QueueView) (triggers : List TableTrigger)
   pub stand : All (λ t. Stands queues t.trigger.queue) triggers
   pub places : (n : ℕ) → ArePlaced triggers n (places_of (kept traced n))
 
--- the time of the statement that runs, and what is kept of triggers and of tables with triggers, stay the same
+-- the time of the running statement, what is kept of triggers and of tables with triggers, and how often retries came back, stay the same
 pub record KeepsRest (old new : QueuesView) : Type 0 where
   pub time : new.time ≡ old.time
   pub triggers : new.triggers ≡ old.triggers
   pub traced : new.traced ≡ old.traced
+  pub rounds : new.rounds ≡ old.rounds
 
 -- a table of a row part, by its name and its columns
 abbrev pub IsTable : RowPart → ℕ → List ℕ → List Column → Type 0

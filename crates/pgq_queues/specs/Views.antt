@@ -3,11 +3,12 @@ use Rattle.std.specs.Prelude.{ℕ, ℤ, List}
 use Rattle.sky_val.specs.declared.column.Column.{Column}
 use Rattle.sky_val.specs.declared.event.Event.{Event}
 use Rattle.sky_names.specs.Named.{NamedView}
+use Rattle.pgq_retry.specs.declared.retry.Retry.{Retry}
 use Rattle.sky_model.specs.Config.{Config}
-use Rattle.sky_model.specs.Consumers.{Subscription}
 use Rattle.sky_model.specs.Queues.{Tick}
 use Rattle.sky_model.specs.Triggers.{TableTrigger}
-use Rattle.pgq_queues.specs.declared.batch.Batch.{Batch}
+use Rattle.pgq_sub.specs.Views.{SubView}
+use Rattle.pgq_queues.specs.declared.batch.Place.{Place}
 
 pub record QueueView : Type 0 where
   pub config : Config
@@ -15,7 +16,7 @@ pub record QueueView : Type 0 where
   pub events : List Event
   pub ticks : List Tick
   -- by their consumers, in the order of registering
-  pub subs : NamedView Subscription
+  pub subs : NamedView SubView
 
 -- a table with triggers: its name, its columns, and the places of its own among the triggers of all tables
 pub record TracedTableView : Type 0 where
@@ -23,15 +24,15 @@ pub record TracedTableView : Type 0 where
   pub columns : List Column
   pub places : List ℕ
 
--- the same with the triggers that stand there
+-- the same with the triggers that are there
 pub record TracedView : Type 0 where
   pub name : List ℕ
   pub columns : List Column
   pub triggers : List TableTrigger
 
--- the queues of a database, and what it keeps beside them
+-- the queues of a database, and what it keeps with them
 pub record QueuesView : Type 0 where
-  -- the time of the statement that runs
+  -- the time of the running statement
   pub time : ℤ
   pub last_batch_id : ℕ
   pub last_sub_id : ℕ
@@ -39,10 +40,15 @@ pub record QueuesView : Type 0 where
   pub names : NamedView ℕ
   -- the queues by their numbers; one that was dropped is empty
   pub queues : List QueueView
-  pub batches : List (ℕ × Batch)
+  -- where each active batch is: under its id, its queue and its consumer
+  pub batches : List (ℕ × Place)
   -- the transactions that were rolled back
   pub undone : List ℕ
   -- the triggers, in the order of making
   pub triggers : List TableTrigger
   -- the tables with triggers, each under its number
   pub traced : List (ℕ × TracedTableView)
+  -- the retries that wait, in the order of asking
+  pub retries : List Retry
+  -- how often retries came back: no event was retried more often
+  pub rounds : ℕ

@@ -1,4 +1,4 @@
-//! The queues as the gate in front of the writes of rows: they store the events that tell of them.
+//! The queues as the gate in front of the writes of rows: they store the events that record them.
 
 ghost use Rattle.std.specs.Prelude.{◌≡◌, ◌<◌, ◌≤◌, ◌-◌, true, OnOk, OnErr, option_copied, length, take, drop};
 ghost use Rattle.std.specs.List.{All};
@@ -13,7 +13,7 @@ use crate::traced::Traced;
 use sky_model::WriteGate;
 use sky_val::{NoMemory, Op, Row};
 
-/// The number at which the event ids of a queue are spent.
+/// The number at which the event ids of a queue run out.
 pub const EVENT_ID_END: u64 = 1 << 62;
 
 impl WriteGate for Queues {
@@ -42,7 +42,7 @@ impl WriteGate for Queues {
     }
 }
 
-/// How many of the first triggers tell of the write by an event of the queue.
+/// How many of the first triggers record the write by an event of the queue.
 fn told_before(
     traced: &Traced<'_>,
     place: usize,
@@ -83,7 +83,7 @@ fn has_ids(queues: &Slots, traced: &Traced<'_>, old: Option<&Row>, new: Option<&
     true
 }
 
-/// Tells of the write by the events of the triggers from this place on, each with the next id of its queue.
+/// Records the write by the events of the triggers from this place on, each with the next id of its queue.
 fn tell(
     queues: &mut Slots,
     traced: &Traced<'_>,

@@ -1,15 +1,16 @@
 //! The queues of one database, with their consumers, batches and triggers.
 //!
-//! `Queues` keeps them, and decides nothing: it has the readings that statements need, and a method for each mark of the
-//! definitions that changes a queue. What a contract sees of it is read by `seen_with`, with any row part, as the
-//! definitions' database. It is itself the gate in front of the writes of rows: it stores the events that tell of them.
-//! Nothing here knows a session or a transaction that runs.
+//! `Queues` keeps them, and decides nothing: it has the readings that statements need, and a method for each mark of
+//! the definitions that changes a queue. What a contract sees of it is read by `seen_with`, with any row part, as the
+//! definitions' database. It is itself the gate in front of the writes of rows: it stores the events that record them.
+//! Nothing here knows a session or a running transaction.
 #![tactic(auto)]
 
 mod batch;
 mod gate;
 mod queue;
 mod queues;
+mod retries;
 mod slots;
 mod stored;
 mod traced;

@@ -1,24 +1,25 @@
-ghost use Rattle.std.specs.Prelude.{◌≡◌, ℕ, ℤ, ◌+◌, ◌<◌, ◌^◌, [], ◌∷◌, ◌++◌, Some, None, IfOk, IfErr, OnOk, OnErr, length, ◌↔◌, ◌≤◌, Ok, Err, find, ◌==◌, true, IsTrue, nat_lt, option_map, unwrap_or};
-ghost use Rattle.std.specs.List.{list_any};
+ghost use Rattle.std.specs.Prelude.{◌≡◌, ℕ, ℤ, ◌+◌, ◌<◌, ◌^◌, [], ◌∷◌, ◌++◌, Some, None, IfOk, IfErr, OnOk, OnErr, IfNone, IfSome, length, is_some, ◌↔◌, ◌≤◌, Ok, Err, find, ◌==◌, true, IsTrue, nat_lt, option_map, option_copied, unwrap_or};
+ghost use Rattle.std.specs.List.{list_any, All};
 ghost use Rattle.sky_model.specs.Config.{default_config, param_of};
 ghost use Rattle.pgq_tick.specs.Config.{set_to};
 ghost use Rattle.sky_model.specs.Queues.{newest_tick};
 ghost use Rattle.sky_model.specs.Selection.{selected_in};
-ghost use Rattle.sky_model.specs.State.{with_batch, at_position};
-ghost use Rattle.pgq_sub.specs.Seen.{seen_subs, no_subs, with_member, with_sub};
+ghost use Rattle.pgq_sub.specs.Views.{with_open, finished, at_tick, seen_sub};
+ghost use Rattle.pgq_sub.specs.Seen.{seen_subs, open_in, no_subs, with_member, with_sub, without_member};
 ghost use Rattle.sky_model.specs.StepQueue.{id_of, is_due, info_of};
 ghost use Rattle.pgq_queues.specs.Seen.{keeps, seen_queue, seen_batch};
 ghost use Rattle.sky_model.specs.Moment.{HasMoment, IsTime};
 ghost use Rattle.sky_model.specs.Printed.{EventsHaveMoments};
 ghost use Rattle.pgq_queues.specs.Views.{QueueView};
 ghost use Rattle.pgq_queues.specs.EventRule.{telling};
+ghost use Rattle.pgq_queues.specs.Retried.{RetriedAtMost};
 ghost use Rattle.sky_model.specs.Telling.{told_event};
 ghost use Rattle.sky_urlenc.specs.RowEvents.{RowEvent};
 ghost use Rattle.sky_txid.specs.Ids.{rises_within};
 
-use crate::batch::{Batch, select};
+use crate::batch::{Batch, first_of, select};
 use crate::stored::Stored;
-use pgq_sub::{Sub, Subs};
+use pgq_sub::{OpenBatch, Sub, Subs};
 use pgq_tick::{ConfigFault, QueueConfig, Tick, TickFault, Ticks};
 use sky_model::{Counts, QueueInfo};
 use sky_txid::Snapshot;
@@ -130,10 +131,24 @@ impl Queue {
 
     /// The subscription of a consumer, if it is registered.
     pub fn subscription(&self, consumer: &Text) -> Option<Sub>
-        ensures { result ≡ (seen_queue self.now).sub consumer.now }
+        ensures { option_map seen_sub result ≡ (seen_queue self.now).sub consumer.now }
     {
-        let sub = self.subs.get(consumer)?;
+        let sub = self.sub(consumer)?;
         Some(sub.copy())
+    }
+
+    /// The same, as it is kept.
+    pub(crate) fn sub(&self, consumer: &Text) -> Option<&Sub>
+        ensures { option_copied result ≡ (seen_subs self.now.subs).kept consumer.now }
+    {
+        self.subs.get(consumer)
+    }
+
+    /// Whether a consumer is registered.
+    pub fn has_consumer(&self, consumer: &Text) -> bool
+        ensures { result ≡ is_some ((seen_queue self.now).sub consumer.now) }
+    {
+        self.sub(consumer).is_some()
     }
 
     /// The first of these transactions, given in rising order, that has an event here.
@@ -207,7 +222,7 @@ impl Queue {
         self.seq -= 1;
     }
 
-    /// One more tick, with the next id, which it gives.
+    /// One more tick, with the next id, which is the answer.
     pub(crate) fn tick(&mut self, now: i64, snapshot: Snapshot) -> Result<u64, TickFault>
         requires { IsTime now }
         ensures id { IfOk result (λ id. id ≡ id_of (newest_tick self.old.ticks) + 1) }
@@ -218,7 +233,7 @@ impl Queue {
         self.ticks.add(now, snapshot, self.seq)
     }
 
-    /// Registers a new consumer as a subscription that stands at a tick.
+    /// Registers a new consumer as a subscription that is at a tick.
     pub(crate) fn register(
         &mut self,
         alloc: Global,
@@ -237,19 +252,38 @@ impl Queue {
     }
 
     /// A consumer has this batch from now on.
-    pub(crate) fn open_batch(&mut self, consumer: &Text, batch: u64)
-        ensures subs { seen_subs self.new.subs ≡ with_sub consumer.now (with_batch batch) (seen_subs self.old.subs) }
+    pub(crate) fn open_batch(&mut self, consumer: &Text, batch: OpenBatch)
+        ensures subs { seen_subs self.new.subs ≡ with_sub consumer.now (with_open batch) (seen_subs self.old.subs) }
         ensures but { self.new ≡ record self.old { subs = self.new.subs } }
     {
         self.subs.open_batch(consumer, batch);
     }
 
-    /// A consumer has finished its batch, and stands at its closing tick.
-    pub(crate) fn close_batch(&mut self, consumer: &Text, position: u64)
-        ensures subs { seen_subs self.new.subs ≡ with_sub consumer.now (at_position position) (seen_subs self.old.subs) }
+    /// A consumer has finished its batch, if it has one, and is at its closing tick.
+    pub(crate) fn close_batch(&mut self, consumer: &Text)
+        ensures subs { seen_subs self.new.subs ≡ with_sub consumer.now finished (seen_subs self.old.subs) }
         ensures but { self.new ≡ record self.old { subs = self.new.subs } }
     {
-        self.subs.finish(consumer, position);
+        self.subs.finish(consumer);
+    }
+
+    /// A consumer is at this tick from now on. Its batch, if it had one, is given up, and is the answer.
+    pub(crate) fn move_to(&mut self, consumer: &Text, tick: u64) -> Option<OpenBatch>
+        ensures subs { seen_subs self.new.subs ≡ with_sub consumer.now (at_tick tick) (seen_subs self.old.subs) }
+        ensures but { self.new ≡ record self.old { subs = self.new.subs } }
+        ensures given_up { result ≡ open_in ((seen_subs self.old.subs).kept consumer.now) }
+    {
+        self.subs.move_to(consumer, tick)
+    }
+
+    /// A consumer is no longer registered. The answer is the subscription that it had.
+    pub(crate) fn unregister(&mut self, consumer: &Text) -> Option<Sub>
+        ensures subs { seen_subs self.new.subs ≡ without_member consumer.now (seen_subs self.old.subs) }
+        ensures but { self.new ≡ record self.old { subs = self.new.subs } }
+        ensures was { result ≡ (seen_subs self.old.subs).kept consumer.now }
+        ensures none { IfNone result (self.new ≡ self.old) }
+    {
+        self.subs.unregister(consumer)
     }
 
     /// The events of a batch of this queue, without those of the transactions that were rolled back.
@@ -257,14 +291,36 @@ impl Queue {
         &self,
         alloc: Global,
         undone: &BTreeSet<u64>,
-        batch: &Batch,
+        batch: &Batch<'_>,
     ) -> Result<Vec<Event>, NoMemory>
-        ensures events { (id : ℕ) → IfOk result (λ events. events.items ≡ selected_in (keeps undone.now.keys) (seen_queue self.now) (seen_batch id batch.now)) }
+        ensures events { IfOk result (λ events. events.items ≡ selected_in (keeps undone.now.keys) (seen_queue self.now) (seen_batch batch.now)) }
         ensures moments { IfOk result (λ events. EventsHaveMoments events.items) }
     {
         let prev = self.ticks.get(batch.prev);
         let cur = self.ticks.get(batch.cur);
         select(alloc, self.events.as_slice(), prev, cur, undone, batch.sub)
+    }
+
+    /// Of the events of a batch of this queue with an id the first one by id. Those with equal ids are in the order in
+    /// which they are stored.
+    pub(crate) fn find(
+        &self,
+        alloc: Global,
+        undone: &BTreeSet<u64>,
+        batch: &Batch<'_>,
+        id: u64,
+    ) -> Result<Option<Event>, NoMemory>
+        ensures found { IfOk result (λ found. found ≡ find (λ e. e.ev_id == id) (selected_in (keeps undone.now.keys) (seen_queue self.now) (seen_batch batch.now))) }
+        ensures moment { IfOk result (λ found. IfSome found (λ e. HasMoment e.ev_time)) }
+        ensures rounds { (rounds : ℕ) → All (RetriedAtMost rounds) self.now.events → IfOk result (λ found. IfSome found (λ e. RetriedAtMost rounds e)) }
+    {
+        let prev = self.ticks.get(batch.prev);
+        let cur = self.ticks.get(batch.cur);
+        let found = first_of(self.events.as_slice(), prev, cur, undone, batch.sub, id);
+        match found {
+            Some(event) => Ok(Some(event.event(alloc)?)),
+            None => Ok(None),
+        }
     }
 }
 

@@ -1,26 +1,33 @@
 ghost use Rattle.std.specs.Prelude.{◌≡◌, ℕ, ◌+◌, ◌<◌, ◌^◌, [], ◌∷◌, ◌||◌, ◌==◌, true, Some, None, is_ok, Ok, IfOk, IfErr, OnOk, OnErr, IfSome, IfNone, option_copied, option_map, length, is_some, ◌↔◌, ◌≤◌, Err, find, slice_index_or, false};
 ghost use Rattle.std.specs.List.{All};
 ghost use Rattle.sky_model.specs.Config.{Config, param_of};
-ghost use Rattle.sky_model.specs.History.{queued, made, raised, put, ticked, registered, opened, closed, configured, dropped, traced};
+ghost use Rattle.sky_model.specs.Consumers.{Subscription};
+ghost use Rattle.sky_model.specs.History.{queued, made, raised, put, ticked, registered, moved, unregistered, opened, closed, configured, dropped, traced};
 ghost use Rattle.pgq_tick.specs.Config.{set_to};
 ghost use Rattle.sky_model.specs.Moment.{HasMoment, IsTime};
 ghost use Rattle.sky_model.specs.Printed.{EventsHaveMoments};
-ghost use Rattle.sky_model.specs.Queues.{queue_number};
+ghost use Rattle.sky_model.specs.Queues.{NamedQueue, queue_number};
 ghost use Rattle.sky_model.specs.Selection.{selected};
 ghost use Rattle.sky_model.specs.ShownRows.{snapshot_now};
 ghost use Rattle.sky_model.specs.State.{RowPart, after_mark, after_marks};
+ghost use Rattle.sky_model.specs.StepConsumer.{batch_info_of};
 ghost use Rattle.sky_model.specs.StepQueue.{newest_id};
 ghost use Rattle.sky_model.specs.StepTrigger.{has_trigger};
 ghost use Rattle.sky_model.specs.Triggers.{triggers_of};
 ghost use Rattle.pgq_queues.specs.Seen.{kept, seen_with, seen_queue, seen_batch, unnamed, queues_of, queue_at, batch_at, no_queues, Stands};
-ghost use Rattle.pgq_queues.specs.Batches.{StillStand};
+ghost use Rattle.pgq_queues.specs.Batches.{StillStand, but_of};
+ghost use Rattle.pgq_sub.specs.declared.sub.OpenBatch.{OpenBatch};
 ghost use Rattle.pgq_queues.specs.Traced.{traced_at, IsTable, AreTables, KeepsRest};
+ghost use Rattle.pgq_queues.specs.Retried.{RetriedAtMost, HasConsumer};
 
-use crate::batch::Batch;
+use crate::batch::{Batch, Place, seq_at};
 use crate::queue::Queue;
 use crate::slots::Slots;
 use crate::traced::{TableTrigger, Traced, TracedTable};
+use pgq_retry::RetryQueue;
+use pgq_sub::OpenBatch;
 use pgq_tick::{ConfigFault, TickFault};
+use sky_model::BatchInfo;
 use sky_names::Named;
 use sky_txid::Snapshot;
 use sky_val::{Event, NoMemory, Schema, Text};
@@ -32,21 +39,26 @@ use std::marker::Model;
 /// lists; and the triggers of tables, whose events go to queues.
 #[derive(Drop)]
 pub struct Queues {
-    alloc: Global,
-    // The time of the statement that runs.
+    pub(crate) alloc: Global,
+    // The time of the running statement.
     pub(crate) time: i64,
     last_batch_id: u64,
     last_sub_id: u64,
     // The queues that stand: the number of each under its name, in the order of making.
     names: Named<usize>,
     pub(crate) slots: Slots,
-    batches: BTreeMap<u64, Batch>,
+    // Where each active batch is, under its id. All else of it is in its subscription.
+    batches: BTreeMap<u64, Place>,
     // The transactions that were rolled back.
-    undone: BTreeSet<u64>,
+    pub(crate) undone: BTreeSet<u64>,
     // The triggers, in the order of making.
     pub(crate) triggers: Vec<TableTrigger>,
     // The tables with triggers, each under its number.
     pub(crate) traced: BTreeMap<u32, TracedTable>,
+    // The retries that wait.
+    pub(crate) retries: RetryQueue,
+    // How often retries came back: no event was retried more often.
+    pub(crate) rounds: u64,
 }
 
 impl Model for Queues {
@@ -55,6 +67,7 @@ impl Model for Queues {
     ghost use Rattle.pgq_queues.specs.Numbers.{AreNumbers};
     ghost use Rattle.pgq_queues.specs.Batches.{BatchesWithin};
     ghost use Rattle.pgq_queues.specs.Traced.{TracedWithin};
+    ghost use Rattle.pgq_queues.specs.Retried.{RetriedWithin};
 
     ghost Value = { QueuesView };
 
@@ -68,10 +81,12 @@ impl Model for Queues {
       undone = q.undone.keys;
       triggers = q.triggers.items;
       traced = q.traced.entries;
+      retries = q.retries;
+      rounds = q.rounds;
     } };
 
-    ghost invariant = { λ q. HasMoment q.time
-        × (AreNumbers q.names q.slots × (BatchesWithin q.slots q.batches.entries × TracedWithin q.slots q.triggers.items q.traced.entries)) };
+    ghost invariant = { λ q. (HasMoment q.time × RetriedWithin q.rounds q.slots q.retries)
+        × (AreNumbers q.names q.slots × (BatchesWithin q.last_batch_id q.slots q.batches.entries × TracedWithin q.slots q.triggers.items q.traced.entries)) };
 }
 
 impl Queues {
@@ -90,10 +105,12 @@ impl Queues {
             undone: BTreeSet::new(alloc),
             triggers: Vec::new(alloc),
             traced: BTreeMap::new(alloc),
+            retries: RetryQueue::new(alloc),
+            rounds: 0,
         }
     }
 
-    /// The statement that runs now has this time.
+    /// The running statement has this time.
     pub fn set_time(&mut self, time: i64)
         requires { HasMoment time }
         ensures time { self.new ≡ record self.old { time = time } }
@@ -127,6 +144,18 @@ impl Queues {
         *self.names.get(place)
     }
 
+    /// The name of the queue of this number, if it stands.
+    pub fn name(&self, number: usize) -> Option<&Text>
+        ensures { option_copied result ≡ option_map NamedQueue.name (find (λ q. q.number == number) (queues_of self.now)) }
+    {
+        for place in 0..self.names.len() {
+            if *self.names.get(place) == number {
+                return Some(&self.names.names()[place]);
+            }
+        }
+        None
+    }
+
     /// The queue of this number.
     pub fn queue(&self, number: usize) -> &Queue
         requires { Stands self.now.queues number }
@@ -150,21 +179,52 @@ impl Queues {
     }
 
     /// An active batch, by its id.
-    pub fn batch(&self, id: u64) -> Option<&Batch>
-        ensures batch { option_map (seen_batch id) (option_copied result) ≡ batch_at self.now id }
-        ensures stands { IfSome result (λ b. Stands self.now.queues b.now.queue) }
+    pub fn batch(&self, id: u64) -> Option<Batch<'_>>
+        ensures batch { option_map seen_batch result ≡ batch_at self.now id }
+        ensures stands { IfSome result (λ b. Stands self.now.queues b.queue) }
+        ensures owner { IfSome result (λ b. HasConsumer self.now.queues b.queue b.sub) }
     {
-        self.batches.get(&id)
+        let place = self.batches.get(&id)?;
+        let sub = self.slots.get(place.queue).sub(&place.consumer)?;
+        let batch = sub.active()?;
+        Some(Batch {
+            id,
+            queue: place.queue,
+            consumer: &place.consumer,
+            sub: sub.id(),
+            prev: sub.position(),
+            cur: batch.cur,
+        })
     }
 
     /// The events of a batch, without those of the transactions that were rolled back.
-    pub fn batch_events(&self, batch: &Batch) -> Result<Vec<Event>, NoMemory>
+    pub fn batch_events(&self, batch: &Batch<'_>) -> Result<Vec<Event>, NoMemory>
         requires { Stands self.now.queues batch.now.queue }
-        ensures events { (part : RowPart) (id : ℕ) → IfOk result (λ events. events.items ≡ selected (seen_with part self.now) (seen_batch id batch.now)) }
+        ensures events { (part : RowPart) → IfOk result (λ events. events.items ≡ selected (seen_with part self.now) (seen_batch batch.now)) }
         ensures moments { IfOk result (λ events. EventsHaveMoments events.items) }
     {
         self.queue(batch.queue)
             .select(self.alloc, &self.undone, batch)
+    }
+
+    /// What is shown of a batch.
+    pub fn batch_info(&self, batch: &Batch<'_>) -> Result<BatchInfo, NoMemory>
+        requires { Stands self.now.queues batch.now.queue }
+        ensures { (part : RowPart) → IfOk result (λ info. info ≡ batch_info_of (seen_with part self.now) (seen_batch batch.now)) }
+    {
+        let queue = match self.name(batch.queue) {
+            Some(name) => name.copy(self.alloc)?,
+            None => Text::from_str(self.alloc, "")?,
+        };
+        let ticks = self.queue(batch.queue).ticks();
+        Ok(BatchInfo {
+            queue,
+            consumer: batch.consumer.copy(self.alloc)?,
+            prev_tick: batch.prev,
+            tick: batch.cur,
+            prev_seq: seq_at(ticks.get(batch.prev)),
+            seq: seq_at(ticks.get(batch.cur)),
+        })
     }
 
     /// A table with its triggers, if anything is kept of it.
@@ -215,7 +275,7 @@ impl Queues {
         Ok(())
     }
 
-    /// A queue of a new name, with its first tick, which has the snapshot as it is now.
+    /// Makes a queue of a new name, with its first tick, which has the snapshot as it is now.
     pub fn make(&mut self, name: Text, now: i64, snapshot: Snapshot) -> Result<(), NoMemory>
         requires new { queue_number name (queues_of self.old) ≡ None }
         requires room { length (queues_of self.old) < 64 }
@@ -279,6 +339,7 @@ impl Queues {
     pub fn put(&mut self, queue: usize, event: Event) -> Result<(), NoMemory>
         requires queue { Stands self.old.queues queue }
         requires time { HasMoment event.ev_time }
+        requires rounds { RetriedAtMost self.old.rounds event }
         ensures mark { OnOk result ((part : RowPart) → seen_with part self.new ≡ after_mark (seen_with part self.old) (queued (put queue event))) }
         ensures stand { StillStand self.old.queues self.new.queues }
         ensures err { OnErr result ((part : RowPart) → seen_with part self.new ≡ seen_with part self.old) }
@@ -288,7 +349,7 @@ impl Queues {
         Ok(())
     }
 
-    /// One more tick of a queue, with the snapshot as it is now and the next id, which it gives.
+    /// One more tick of a queue, with the snapshot as it is now and the next id, which is the answer.
     pub fn tick(&mut self, queue: usize, now: i64, snapshot: Snapshot) -> Result<u64, TickFault>
         requires queue { Stands self.old.queues queue }
         requires time { IsTime now }
@@ -302,56 +363,91 @@ impl Queues {
         self.slots.get_mut(queue).tick(now, snapshot)
     }
 
-    /// Registers a new consumer, with the next subscription id, which stands at the newest tick.
-    pub fn register(&mut self, queue: usize, consumer: &Text) -> Result<(), NoMemory>
+    /// Registers a new consumer, with the next subscription id, which is at a tick.
+    pub fn register(&mut self, queue: usize, consumer: &Text, tick: u64) -> Result<(), NoMemory>
         requires queue { Stands self.old.queues queue }
         requires new { (queue_at self.old queue).sub consumer.now ≡ None }
         requires room { length (queue_at self.old queue).members < 256 }
         requires id { self.old.last_sub_id + 1 < 2 ^ 64 }
         ensures mark { OnOk result ((part : RowPart) → seen_with part self.new
-            ≡ after_mark (seen_with part self.old) (queued (registered queue consumer.now (self.old.last_sub_id + 1) (newest_id (queue_at self.old queue))))) }
+            ≡ after_mark (seen_with part self.old) (queued (registered queue consumer.now (self.old.last_sub_id + 1) tick))) }
         ensures err { OnErr result ((part : RowPart) → seen_with part self.new ≡ seen_with part self.old) }
         ensures rest { KeepsRest self.old self.new }
     {
-        let newest = self.slots.get(queue).ticks().newest().id();
         let id = self.last_sub_id + 1;
         self.slots
             .get_mut(queue)
-            .register(self.alloc, consumer, id, newest)?;
+            .register(self.alloc, consumer, id, tick)?;
         self.last_sub_id = id;
         Ok(())
     }
 
-    /// The batch is active from now on, is its consumer's, and is the last that was made.
-    pub fn open_batch(&mut self, id: u64, batch: Batch) -> Result<(), NoMemory>
-        requires queue { Stands self.old.queues batch.queue }
-        requires registered { is_some ((queue_at self.old batch.queue).sub batch.consumer) ≡ true }
-        ensures mark { OnOk result ((part : RowPart) → seen_with part self.new ≡ after_mark (seen_with part self.old) (queued (opened (seen_batch id batch)))) }
+    /// A consumer is at this tick from now on. Its batch, if it had one, is given up.
+    pub fn move_to(&mut self, queue: usize, consumer: &Text, tick: u64)
+        requires { Stands self.old.queues queue }
+        ensures mark { (part : RowPart) → seen_with part self.new ≡ after_mark (seen_with part self.old) (queued (moved queue consumer.now tick)) }
         ensures rest { KeepsRest self.old self.new }
     {
-        self.slots
-            .get_mut(batch.queue)
-            .open_batch(&batch.consumer, id);
-        self.last_batch_id = id;
-        self.batches.insert(id, batch)?;
-        Ok(())
+        let given_up = self.slots.get_mut(queue).move_to(consumer, tick);
+        forget(&mut self.batches, given_up);
     }
 
-    /// The batch of this id, if there is one, is no longer active; its consumer stands at its closing tick.
-    pub fn close_batch(&mut self, id: u64) -> Option<Batch>
-        ensures batch { option_map (seen_batch id) result ≡ batch_at self.old id }
-        ensures mark { IfSome result (λ b. (part : RowPart) → seen_with part self.new ≡ after_mark (seen_with part self.old) (queued (closed (seen_batch id b)))) }
+    /// A consumer is no longer registered. Its batch, if it had one, is given up, and its retries wait no more. The
+    /// answer is its subscription's id, if it was registered.
+    pub fn unregister(&mut self, queue: usize, consumer: &Text) -> Option<u64>
+        requires { Stands self.old.queues queue }
+        ensures was { result ≡ option_map Subscription.id ((queue_at self.old queue).sub consumer.now) }
+        ensures mark { IfSome result (λ sub. (part : RowPart) → seen_with part self.new
+            ≡ after_mark (seen_with part self.old) (queued (unregistered queue consumer.now sub))) }
         ensures none { IfNone result ((part : RowPart) → seen_with part self.new ≡ seen_with part self.old) }
         ensures rest { KeepsRest self.old self.new }
     {
-        let batch = self.batches.remove(&id)?;
-        self.slots
-            .get_mut(batch.queue)
-            .close_batch(&batch.consumer, batch.cur);
-        Some(batch)
+        let sub = self.slots.get_mut(queue).unregister(consumer)?;
+        let id = sub.id();
+        forget(&mut self.batches, sub.active());
+        self.retries.drop_sub(id);
+        Some(id)
     }
 
-    /// One more trigger of the table of this name and these columns.
+    /// A consumer without a batch has one from now on, with the next batch id, from its position to a tick.
+    pub fn open_batch(&mut self, queue: usize, consumer: &Text, cur: u64) -> Result<(), NoMemory>
+        requires queue { Stands self.old.queues queue }
+        requires free { option_map Subscription.active ((queue_at self.old queue).sub consumer.now) ≡ Some None }
+        requires id { self.old.last_batch_id + 1 < 2 ^ 64 }
+        ensures mark { OnOk result ((part : RowPart) (sub : Subscription) → (queue_at self.old queue).sub consumer.now ≡ Some sub → seen_with part self.new
+            ≡ after_mark (seen_with part self.old) (queued (opened
+            (record { id = self.old.last_batch_id + 1; queue = queue; consumer = consumer.now; sub = sub.id; prev = sub.position; cur = cur })))) }
+        ensures err { OnErr result ((part : RowPart) → seen_with part self.new ≡ seen_with part self.old) }
+        ensures rest { KeepsRest self.old self.new }
+    {
+        let id = self.last_batch_id + 1;
+        let place = Place {
+            queue,
+            consumer: consumer.copy(self.alloc)?,
+        };
+        self.batches.insert(id, place)?;
+        self.slots
+            .get_mut(queue)
+            .open_batch(consumer, OpenBatch { id, cur });
+        self.last_batch_id = id;
+        Ok(())
+    }
+
+    /// The batch of this id is no longer active, and its consumer is at its closing tick; false if there is none.
+    pub fn close_batch(&mut self, id: u64) -> bool
+        ensures found { result ≡ is_some (batch_at self.old id) }
+        ensures mark { IfSome (batch_at self.old id) (λ batch. (part : RowPart) → seen_with part self.new ≡ after_mark (seen_with part self.old) (queued (closed batch))) }
+        ensures none { IfNone (batch_at self.old id) ((part : RowPart) → seen_with part self.new ≡ seen_with part self.old) }
+        ensures rest { KeepsRest self.old self.new }
+    {
+        let Some(place) = self.batches.remove(&id) else {
+            return false;
+        };
+        self.slots.get_mut(place.queue).close_batch(&place.consumer);
+        true
+    }
+
+    /// Adds a trigger of the table of this name and these columns.
     pub fn trace(
         &mut self,
         name: &Text,
@@ -363,18 +459,20 @@ impl Queues {
             ≡ after_mark (seen_with part self.old) (queued (traced trigger.table trigger.name trigger.trigger))) }
         ensures err { OnErr result ((part : RowPart) → seen_with part self.new ≡ seen_with part self.old) }
         ensures tables { (part : RowPart) → IsTable part trigger.table name.now schema.now → AreTables part self.old → AreTables part self.new }
+        ensures rounds { self.new.rounds ≡ self.old.rounds }
     {
         self.keep_table(name, schema, trigger.table)?;
         self.store_trigger(trigger)?;
         Ok(())
     }
 
-    /// Keeps what events say of a table, where that isn't kept yet.
+    /// Keeps what events say of a table, if that isn't kept yet.
     fn keep_table(&mut self, name: &Text, schema: &Schema, number: u32) -> Result<(), NoMemory>
         ensures same { (part : RowPart) → seen_with part self.new ≡ seen_with part self.old }
         ensures stand { StillStand self.old.queues self.new.queues }
         ensures kept { OnOk result (is_some (kept self.new.traced number) ≡ true) }
         ensures tables { (part : RowPart) → IsTable part number name.now schema.now → AreTables part self.old → AreTables part self.new }
+        ensures rounds { self.new.rounds ≡ self.old.rounds }
     {
         if self.traced.contains_key(&number) {
             return Ok(());
@@ -384,7 +482,7 @@ impl Queues {
         Ok(())
     }
 
-    /// One more trigger of a table of which is kept what events say of it.
+    /// Adds a trigger of a table of which is kept what events say of it.
     fn store_trigger(&mut self, trigger: TableTrigger) -> Result<(), NoMemory>
         requires table { is_some (kept self.old.traced trigger.table) ≡ true }
         requires queue { Stands self.old.queues trigger.trigger.queue }
@@ -392,6 +490,7 @@ impl Queues {
             ≡ after_mark (seen_with part self.old) (queued (traced trigger.table trigger.name trigger.trigger))) }
         ensures err { OnErr result ((part : RowPart) → seen_with part self.new ≡ seen_with part self.old) }
         ensures tables { (part : RowPart) → AreTables part self.old → AreTables part self.new }
+        ensures rounds { self.new.rounds ≡ self.old.rounds }
     {
         self.triggers.reserve(1)?;
         let place = self.triggers.len();
@@ -401,5 +500,14 @@ impl Queues {
         }
         self.triggers.push_reserved(trigger);
         Ok(())
+    }
+}
+
+/// A batch that is given up, if there is one, is no longer anywhere.
+fn forget(places: &mut BTreeMap<u64, Place>, given_up: Option<OpenBatch>)
+    ensures { (id : ℕ) → kept places.new.entries id ≡ but_of (option_map OpenBatch.id given_up) id (kept places.old.entries id) }
+{
+    if let Some(batch) = given_up {
+        places.remove(&batch.id);
     }
 }

@@ -66,7 +66,7 @@ impl Slots {
         &mut self.slots[number][0]
     }
 
-    /// One more queue, which has the next number.
+    /// Appends a queue, which has the next number.
     pub(crate) fn add(&mut self, queue: Queue) -> Result<(), NoMemory>
         ensures ok { OnOk result (self.new ≡ self.old ++ queue ∷ []) }
         ensures err { OnErr result (self.new ≡ self.old) }

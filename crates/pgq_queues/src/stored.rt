@@ -63,7 +63,7 @@ impl Rest {
 }
 
 impl Stored {
-    /// Takes an event's texts over.
+    /// Takes over an event's texts.
     pub(crate) fn new(alloc: Global, event: Event) -> Result<Stored, NoMemory>
         ensures { IfOk result (λ stored. stored ≡ event) }
     {
@@ -88,6 +88,13 @@ impl Stored {
             ev_data: event.ev_data,
             rest,
         })
+    }
+
+    /// Its id.
+    pub(crate) fn id(&self) -> u64
+        ensures { result ≡ self.now.ev_id }
+    {
+        self.ev_id
     }
 
     /// The id of the transaction that inserted it.

@@ -72,7 +72,7 @@ impl TracedTable {
         self.places.len()
     }
 
-    /// One more trigger, at this place.
+    /// Adds a trigger, at this place.
     pub fn add(&mut self, place: usize) -> Result<(), NoMemory>
         ensures ok { OnOk result (self.new ≡ record self.old { places = self.old.places ++ place ∷ [] }) }
         ensures err { OnErr result (self.new ≡ self.old) }
@@ -82,7 +82,7 @@ impl TracedTable {
     }
 }
 
-/// A table with its triggers, which stand among those of all tables.
+/// A table with its triggers, which are among those of all tables.
 #[derive(Drop)]
 pub struct Traced<'a> {
     triggers: &'a [TableTrigger],

@@ -1,8 +1,8 @@
-ghost use Rattle.std.specs.Prelude.{◌≡◌, ◌<◌, ◌^◌, ◌-◌, None, OnOk, OnErr, length, option_copied};
-ghost use Rattle.sky_model.specs.State.{with_batch, at_position};
-ghost use Rattle.pgq_sub.specs.Seen.{seen_subs, no_subs, with_member, with_sub};
+ghost use Rattle.std.specs.Prelude.{◌≡◌, ◌<◌, ◌^◌, ◌-◌, None, OnOk, OnErr, IfNone, length, option_copied};
+ghost use Rattle.pgq_sub.specs.Views.{with_open, finished, at_tick};
+ghost use Rattle.pgq_sub.specs.Seen.{seen_subs, open_in, no_subs, with_member, with_sub, without_member};
 
-use crate::sub::Sub;
+use crate::sub::{OpenBatch, Sub};
 use sky_names::Named;
 use sky_val::{NoMemory, Text};
 use std::alloc::Global;
@@ -16,9 +16,9 @@ pub struct Subs {
 
 impl Model for Subs {
     ghost use Rattle.sky_names.specs.Named.{NamedView};
-    ghost use Rattle.sky_model.specs.Consumers.{Subscription};
+    ghost use Rattle.pgq_sub.specs.Views.{SubView};
 
-    ghost Value = { NamedView Subscription };
+    ghost Value = { NamedView SubView };
 
     ghost view = { λ s. s.subs };
 }
@@ -42,13 +42,13 @@ impl Subs {
 
     /// The subscription of a consumer, if it is registered.
     pub fn get(&self, consumer: &Text) -> Option<&Sub>
-        ensures { option_copied result ≡ (seen_subs self.now).sub consumer.now }
+        ensures { option_copied result ≡ (seen_subs self.now).kept consumer.now }
     {
         let number = self.subs.number(consumer)?;
         Some(self.subs.get(number as usize))
     }
 
-    /// Registers a new consumer as a subscription that stands at a tick.
+    /// Registers a new consumer as a subscription that is at a tick.
     pub fn register(
         &mut self,
         alloc: Global,
@@ -56,7 +56,7 @@ impl Subs {
         id: u64,
         position: u64,
     ) -> Result<(), NoMemory>
-        requires new { (seen_subs self.old).sub consumer.now ≡ None }
+        requires new { (seen_subs self.old).kept consumer.now ≡ None }
         requires room { length self.old.names < 2 ^ 32 - 1 }
         ensures ok { OnOk result (seen_subs self.new ≡ with_member consumer.now id position (seen_subs self.old)) }
         ensures err { OnErr result (self.new ≡ self.old) }
@@ -67,20 +67,43 @@ impl Subs {
     }
 
     /// A consumer has this batch from now on.
-    pub fn open_batch(&mut self, consumer: &Text, batch: u64)
-        ensures { seen_subs self.new ≡ with_sub consumer.now (with_batch batch) (seen_subs self.old) }
+    pub fn open_batch(&mut self, consumer: &Text, batch: OpenBatch)
+        ensures { seen_subs self.new ≡ with_sub consumer.now (with_open batch) (seen_subs self.old) }
     {
         if let Some(number) = self.subs.number(consumer) {
             self.subs.get_mut(number as usize).open_batch(batch);
         }
     }
 
-    /// A consumer has finished its batch, and stands at its closing tick.
-    pub fn finish(&mut self, consumer: &Text, position: u64)
-        ensures { seen_subs self.new ≡ with_sub consumer.now (at_position position) (seen_subs self.old) }
+    /// A consumer has finished its batch, if it has one, and is at its closing tick.
+    pub fn finish(&mut self, consumer: &Text)
+        ensures { seen_subs self.new ≡ with_sub consumer.now finished (seen_subs self.old) }
     {
         if let Some(number) = self.subs.number(consumer) {
-            self.subs.get_mut(number as usize).finish(position);
+            self.subs.get_mut(number as usize).finish();
         }
+    }
+
+    /// A consumer is at this tick from now on. Its batch, if it had one, is given up, and is the answer.
+    pub fn move_to(&mut self, consumer: &Text, tick: u64) -> Option<OpenBatch>
+        ensures moved { seen_subs self.new ≡ with_sub consumer.now (at_tick tick) (seen_subs self.old) }
+        ensures given_up { result ≡ open_in ((seen_subs self.old).kept consumer.now) }
+    {
+        let number = self.subs.number(consumer)?;
+        self.subs.get_mut(number as usize).move_to(tick)
+    }
+
+    /// A consumer is no longer registered. The answer is the subscription that it had.
+    pub fn unregister(&mut self, consumer: &Text) -> Option<Sub>
+        ensures gone { seen_subs self.new ≡ without_member consumer.now (seen_subs self.old) }
+        ensures was { result ≡ (seen_subs self.old).kept consumer.now }
+        ensures none { IfNone result (self.new ≡ self.old) }
+    {
+        let number = self.subs.number(consumer)? as usize;
+        let sub = self.subs.get(number).copy();
+        // No other one has its name.
+        let _ = self.subs.names();
+        self.subs.remove(number);
+        Some(sub)
     }
 }

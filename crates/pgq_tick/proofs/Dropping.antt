@@ -1,4 +1,4 @@
--- Where the lower bounds of the snapshots never fall along the ticks, ticks are dropped at the front alone.
+-- If the lower bounds of the snapshots never fall along the ticks, ticks are dropped only at the front.
 use Rattle.std.proofs.Common.{◌≡◌, ℕ, suc, ◌≤◌, ◌+◌, List, [], ◌∷◌, drop, Bool, true, false, not, refl, ◌∙◌, ap, arith, if◌then◌else◌}
 use Rattle.std.specs.List.{prefix_len}
 use Rattle.std.proofs.lemmas.Bool.Decides.{nat_tests}

@@ -1,4 +1,4 @@
--- Lists of ticks whose ids rise.
+-- Lists of ticks with rising ids.
 use Rattle.std.proofs.Common.{◌≡◌, ◌≢◌, ℕ, suc, zero, ◌+◌, ◌-◌, ◌<◌, ◌≤◌, List, [], ◌∷◌, ◌++◌, Bool, true, false, ◌==◌, Option, Some, None, Result, Ok, Err, length, slice_get, get_or, option_copied, IfSome, Bor, length-append, option_map, refl, sym, ◌∙◌, ap, subst, arith, if◌then◌else◌}
 use Rattle.std.specs.Prelude.{filter, option_and_then}
 use Rattle.std.specs.Result.{result_ok}
@@ -40,7 +40,7 @@ AreTicks-filter keeps n (t ∷ ts) are = of (keeps t) (AreTicks-filter keeps (t.
     of true kept = (are.0, are.1, kept)
     of false kept = (let least : n ≤ t.id = are.0 in AreTicks-from n (t.id + 1) (filter keeps ts) (omega arith) kept)
 
--- where the newest tick is kept, some are
+-- if the newest tick is kept, the list isn't empty
 pub some-filter : (keeps : Tick → Bool) (ts : List Tick) → IfSome (newest_tick ts) (λ t. keeps t ≡ true) → 0 < length ts → 0 < length (filter keeps ts)
 some-filter keeps [] newest some = absurd (omega arith)
 some-filter keeps (t ∷ []) newest some = rw newest (omega arith)
@@ -122,7 +122,7 @@ time-at n [] i t are e = absurd (cc)
 time-at n (u ∷ ts) zero t are e = (let same : u ≡ t = cc in subst (λ (x : Tick). IsTime x.time) same are.1)
 time-at n (u ∷ ts) (suc i) t are e = time-at (u.id + 1) ts i t are.2 e
 
--- of a single tick there is none before
+-- before a single tick there is none
 pub last_two-one : (ts : List Tick) → length ts < 2 → last_two None ts ≡ option_map (λ t. (t, None)) (newest_tick ts)
 last_two-one [] lt = refl
 last_two-one (t ∷ []) lt = refl

@@ -7,7 +7,7 @@ use Rattle.pgq_tick.specs.declared.config.ConfigFault.{ConfigFault}
 use Rattle.std.specs.Prelude.{Result}
 use Rattle.pgq_tick.specs.Config.{set_to}
 
--- the settings from the start, with a parameter set
+-- the default settings, with a parameter set
 abbrev set : List ℕ → List ℕ → Result Config ConfigFault
 set param value = set_to default_config (param_of param) value
 

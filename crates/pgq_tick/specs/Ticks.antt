@@ -3,11 +3,11 @@ use Rattle.std.specs.Prelude.{ℕ, ◌+◌, ℤ, pos, neg_ℤ, ◌≤◌, ◌≤
 use Rattle.sky_model.specs.Moment.{IsTime}
 use Rattle.sky_model.specs.Queues.{Tick}
 
--- a time between two moments of the clock
+-- a time from one moment of the clock to another
 abbrev pub IsSpan : ℤ → Type 0
 IsSpan time = (neg_ℤ (pos 1000000000000000) ≤ℤ time) × (time ≤ℤ pos 1000000000000000)
 
--- ids that rise, the first at least this one, at moments of the clock
+-- rising ids, the first at least this one, at moments of the clock
 abbrev pub AreTicks : ℕ → List Tick → Type 0
 AreTicks least [] = Unit {0}
 AreTicks least (t ∷ ts) = (least ≤ t.id) × IsTime t.time × AreTicks (t.id + 1) ts
@@ -16,7 +16,7 @@ AreTicks least (t ∷ ts) = (least ≤ t.id) × IsTime t.time × AreTicks (t.id 
 abbrev pub is_above : ℕ → Tick → Bool
 is_above txid t = nat_lt txid t.snapshot.xmin
 
--- the least id of the ticks above a transaction id, which is the first one's, since ids rise
+-- the least id of the ticks above a transaction id: that of the first such tick, since ids rise
 abbrev pub least_above : ℕ → List Tick → Option ℕ
 least_above txid ts = option_map Tick.id (find (is_above txid) ts)
 

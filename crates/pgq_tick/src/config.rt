@@ -7,7 +7,7 @@ use sky_val::{interval_of, number_of};
 use std::marker::Model;
 use thiserror::Error;
 
-/// The most events that a queue may be set to wait for.
+/// The largest number of events that a queue may be set to wait for.
 const MOST_EVENTS: u64 = 1_000_000_000;
 
 /// Why a parameter of a queue isn't set.
@@ -21,7 +21,7 @@ pub enum ConfigFault {
     BadValue,
 }
 
-/// How a queue is set. Intervals are in microseconds.
+/// The settings of a queue. Intervals are in microseconds.
 #[derive(Debug, Drop)]
 pub struct QueueConfig {
     max_count: u64,
@@ -45,7 +45,7 @@ impl Model for QueueConfig {
 }
 
 impl QueueConfig {
-    /// As a queue is set from the start.
+    /// The default settings.
     pub fn new() -> QueueConfig
         ensures { result ≡ default_config }
     {
@@ -58,7 +58,7 @@ impl QueueConfig {
         }
     }
 
-    /// With at least this many new events a tick is due at once.
+    /// With this many new events or more, a tick is due at once.
     pub fn ticker_max_count(&self) -> u64
         ensures value { result ≡ self.now.max_count }
         ensures some { 0 < result }
@@ -67,8 +67,8 @@ impl QueueConfig {
         self.max_count
     }
 
-    /// With new events a tick is due once this time has passed since the last one; without any, none is due before twice the
-    /// time since the last one reaches it.
+    /// With new events, a tick is due when this much time has passed since the last one. Without any, none is due
+    /// before half of it has passed.
     pub fn ticker_max_lag(&self) -> i64
         ensures value { result ≡ self.now.max_lag }
         ensures interval { IsInterval result }
@@ -76,8 +76,8 @@ impl QueueConfig {
         self.max_lag as i64
     }
 
-    /// Without a new event a tick is due once this time has passed, if not before, at twice the time between the last two, but
-    /// not before twice the time that has passed reaches the longest lag.
+    /// Without new events, a tick is due when this much time has passed, or earlier, when twice the time between the
+    /// last two ticks has; but never before half of `ticker_max_lag`.
     pub fn ticker_idle_period(&self) -> i64
         ensures value { result ≡ self.now.idle_period }
         ensures interval { IsInterval result }

@@ -1,7 +1,8 @@
-//! The ticks of a queue, and how the queue is set.
+//! The ticks of a queue, and the settings of the queue.
 //!
-//! `Ticks` is seen as the list of the definitions' ticks, and decides when the next one is due by a `QueueConfig`, which is
-//! seen as the definitions' settings. Nothing here knows an event, a consumer, or which transactions run.
+//! `Ticks` is seen as the list of the definitions' ticks, and decides when the next one is due by a `QueueConfig`,
+//! which is seen as the definitions' settings. Nothing here knows an event, a consumer, or which transactions are
+//! running.
 #![tactic(auto)]
 
 mod config;

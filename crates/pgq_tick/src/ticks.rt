@@ -77,8 +77,7 @@ impl Tick {
     }
 }
 
-/// The ticks of a queue that are kept, of which there is at least one. Ids rise from 1 on; those of ticks that were dropped
-/// are missing.
+/// The ticks of a queue that are kept, at least one. Ids rise, starting at 1; those of dropped ticks are missing.
 #[derive(Debug, Drop)]
 pub struct Ticks {
     ticks: Vec<Tick>,
@@ -97,7 +96,7 @@ impl Model for Ticks {
 }
 
 impl Ticks {
-    /// The ticks of a queue that is made with this tick.
+    /// The ticks of a new queue, whose first tick is this one.
     pub fn new(alloc: Global, first: Tick) -> Result<Ticks, NoMemory>
         requires first { first.id ≡ 1 }
         requires time { IsTime first.time }
@@ -145,7 +144,7 @@ impl Ticks {
     pub fn least(&self, above: u64) -> Option<u64>
         ensures { result ≡ least_above above self.now }
     {
-        // Nothing says that the bounds rise along the ticks, so this walks.
+        // No contract says that the bounds rise along the ticks, so this is no binary search.
         let tick = self.ticks.iter().find(|tick| tick.is_above(above))?;
         Some(tick.id)
     }
@@ -158,7 +157,7 @@ impl Ticks {
         self.ticks.retain(|tick| tick.is_above(txid));
     }
 
-    /// One more tick, with the next id, which it gives.
+    /// Appends a tick with the next id, and answers that id.
     pub fn add(&mut self, now: i64, snapshot: Snapshot, seq: u64) -> Result<u64, TickFault>
         requires { IsTime now }
         ensures id { IfOk result (λ id. id ≡ id_of (newest_tick self.old) + 1) }
@@ -193,7 +192,7 @@ impl Ticks {
         Ok(())
     }
 
-    /// Whether a tick is due at this time and this value of the sequence.
+    /// Whether a tick is due at this time and this value of the sequence. A paused queue gets none.
     pub fn due(&self, cfg: &QueueConfig, now: i64, seq: u64) -> bool
         requires { IsTime now }
         ensures { result ≡ due_of cfg.now now seq (last_two None self.now) }
@@ -227,6 +226,9 @@ impl Ticks {
     }
 }
 
+/// Whether a tick is due after the last one. With new events, it is due at `ticker_max_count` of them or at
+/// `ticker_max_lag`, whichever comes first. Without any, it is due at once if no tick is kept before the last one, and
+/// else by `is_idle`.
 fn is_due_after(cfg: &QueueConfig, last: &Tick, before: Option<&Tick>, now: i64, seq: u64) -> bool
     requires now { IsTime now }
     requires last { IsTime last.now.time }
@@ -243,8 +245,8 @@ fn is_due_after(cfg: &QueueConfig, last: &Tick, before: Option<&Tick>, now: i64,
     }
 }
 
-/// Whether a tick is due without a new event, by the times since the last tick and between the last two. It stands apart for
-/// the prover, which finds `is_idle` of four numbers by itself.
+/// Whether a tick is due without new events, by the time since the last tick and the time between the last two. It is
+/// apart from `is_idle` for the prover alone, which proves the rule of four plain numbers by itself.
 fn is_idle_due(cfg: &QueueConfig, lag: i64, gap: i64) -> bool
     requires lag { IsSpan lag }
     requires gap { IsSpan gap }
@@ -253,6 +255,9 @@ fn is_idle_due(cfg: &QueueConfig, lag: i64, gap: i64) -> bool
     is_idle(lag, gap, cfg.ticker_max_lag(), cfg.ticker_idle_period())
 }
 
+/// Whether a tick is due without new events: at twice the gap between the last two ticks or at the idle period,
+/// whichever comes first, but never before half of `max_lag`. So an idle queue gets ticks less and less often, down to
+/// one in each idle period.
 fn is_idle(lag: i64, gap: i64, max_lag: i64, idle_period: i64) -> bool
     requires lag { IsSpan lag }
     requires gap { IsSpan gap }

@@ -10,7 +10,7 @@ use std::io::ErrorKind;
 use std::process::ExitCode;
 use std::rt::Env;
 
-/// The status where memory is refused.
+/// The status if memory runs out.
 const NO_MEMORY: u8 = 5;
 
 fn main(rt: HostRuntime) -> ExitCode {
@@ -23,7 +23,8 @@ fn main(rt: HostRuntime) -> ExitCode {
     ExitCode::from(run_main(rt.alloc(), &words, &mut src, &mut out, &mut err))
 }
 
-// A word that can't be read, as one that isn't UTF-8, is none that the program knows, so no words at all are as good.
+// Words that can't be read, such as one that isn't UTF-8, are none that the program knows. No words at all give the
+// same status.
 fn words_behind_name<R: Env + AllocGlobal>(rt: &R) -> Result<Vec<String>, AllocError> {
     match env::args(rt) {
         Ok(args) => args.skip(1).collect(rt.alloc()),

@@ -1,4 +1,4 @@
--- Where the column of a schema's fault stands.
+-- The column that a schema's fault names is one of its columns.
 use Rattle.std.specs.Prelude.{option_map, position, nat_lt}
 use Rattle.std.proofs.Common.{◌≡◌, ℕ, ◌+◌, ◌<◌, arith, Bool, true, false, cond, List, [], ◌∷◌, ◌++◌, length, Option, None, Some, length-append}
 use Rattle.std.specs.Option.{option_or}

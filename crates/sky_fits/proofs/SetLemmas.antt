@@ -1,4 +1,4 @@
--- Steps through the changes of an update.
+-- The changes of an update, one by one.
 use Rattle.std.specs.Prelude.{◌||◌, option_map, bytes_eq, slice_get, slice_set}
 use Rattle.std.proofs.Common.{◌≡◌, ℕ, ◌+◌, ◌<◌, ◌≤◌, arith, Bool, true, false, cond, List, [], ◌∷◌, ◌++◌, length, take, drop, get_or, Option, None, Some, zero, suc, add-one, refl, sym, ◌∙◌, ap}
 use Rattle.std.specs.List.{list_any, position, position_from}
@@ -14,7 +14,7 @@ use Rattle.sky_model.specs.declared.reply.BadRow as bad
 use Rattle.sky_model.specs.declared.reply.BadRow.TheVariants as badly
 use Rattle.sky_model.specs.StepRows.{column_called, is_change_of, bad_set, bad_sets, changed, with_set}
 
--- these names with those of changes in front, the last one first
+-- these names, after those of changes, the last one first
 abbrev pub names_onto : List (List ℕ) → List Set → List (List ℕ)
 names_onto before [] = before
 names_onto before (set ∷ sets) = names_onto (set.column ∷ before) sets
@@ -38,7 +38,7 @@ or-false : (b : Bool) → (b || false) ≡ b
 or-false true = refl
 or-false false = refl
 
--- whether one of the changes in front is of this column
+-- whether one of the changes before is of this column
 pub named_before : (name : List ℕ) (sets : List Set) → list_any (bytes_eq name) (names_onto [] sets) ≡ list_any (λ set. bytes_eq name set.column) sets
 named_before name sets = list_any-names_onto (bytes_eq name) [] sets ∙ or-false (list_any (λ set. bytes_eq name set.column) sets)
 
@@ -55,7 +55,7 @@ bad_sets-from columns sets place set within is =
     ∙ ap (λ ns. option_or (bad_set before set (column_called set.column columns)) (bad_sets columns ns (drop (suc place) sets))) names
     ∙ ap (λ n. option_or (bad_set before set (column_called set.column columns)) (bad_sets columns (names_onto [] (take n sets)) (drop n sets))) (sym (add-one place))
 
--- a row with the change of what stands at a place, if anything does
+-- a row with the change of the value at a place, if there is one
 abbrev pub changed_in : Change → List Val → ℕ → Option Val → Option (List Val)
 changed_in change row place None = Some row
 changed_in change row place (Some v) = option_map (λ w. slice_set row place w) (changed change v)
@@ -81,7 +81,7 @@ with_set-from (column ∷ columns) set (v ∷ row) k e =
 pub with_set-nowhere : (columns : List Column) (set : Set) (row : List Val) → position (λ column. bytes_eq column.name set.column) columns ≡ None → with_set columns set row ≡ Some row
 with_set-nowhere columns set row e = with_set-from columns set row 0 (sym (position_from-zero (λ column. bytes_eq column.name set.column) columns) ∙ e)
 
--- a place that is found from another on isn't in front of that
+-- a place that is found from another on isn't before that
 position_from-low : (test : Column → Bool) (k : ℕ) (columns : List Column) (n : ℕ) → position_from test k columns ≡ Some n → k ≤ n
 position_from-low test k [] n e = absurd (none-some n e)
 position_from-low test k (column ∷ columns) n e =
@@ -90,7 +90,7 @@ position_from-low test k (column ∷ columns) n e =
       | false ↦ (λ further. let low = position_from-low test (k + 1) columns n further in omega arith)
     ] e
 
--- in front of a row, one value more
+-- a value before a row, and the change of a value in it
 at_next : (change : Change) (row : List Val) (v : Val) (place : ℕ) → option_map (λ rest. v ∷ rest) (changed_in change row place (slice_get row place)) ≡ changed_in change (v ∷ row) (suc place) (slice_get row place)
 at_next change row v place = behind change v row place (slice_get row place)
 
@@ -114,7 +114,7 @@ first_found columns set column k n same e =
       | false ↦ (λ later. let low = position_from-low (λ c. bytes_eq c.name set.column) (k + 1) columns n later in absurd (omega arith))
     ] e
 
--- found behind it
+-- found after it
 next_found : (columns : List Column) (set : Set) (column : Column) (k n : ℕ) → k < n → position_from (λ c. bytes_eq c.name set.column) k (column ∷ columns) ≡ Some n
     → (bytes_eq column.name set.column ≡ false) × (position_from (λ c. bytes_eq c.name set.column) (k + 1) columns ≡ Some n)
 next_found columns set column k n above e =
@@ -145,7 +145,7 @@ bad_sets-at columns sets place set found fault within is so_far called e =
     let rest = bad_sets columns (names_onto [] (take (place + 1) sets)) (drop (place + 1) sets) in
     sym so_far ∙ bad_sets-from columns sets place set within is ∙ ap (λ o. option_or (bad_set (names_onto [] (take place sets)) set o) rest) (sym called) ∙ ap (λ o. option_or o rest) e
 
--- a change that isn't bad may be passed
+-- a change that isn't bad is passed
 pub bad_sets-pass : (columns : List Column) (sets : List Set) (place : ℕ) (set : Set) (found : Option Column) → place < length sets → get_or sets place set ≡ set
     → found ≡ column_called set.column columns → bad_set (names_onto [] (take place sets)) set found ≡ None
     → bad_sets columns (names_onto [] (take (place + 1) sets)) (drop (place + 1) sets) ≡ bad_sets columns (names_onto [] (take place sets)) (drop place sets)
@@ -153,7 +153,7 @@ bad_sets-pass columns sets place set found within is called e =
     let rest = bad_sets columns (names_onto [] (take (place + 1) sets)) (drop (place + 1) sets) in
     sym (bad_sets-from columns sets place set within is ∙ ap (λ o. option_or (bad_set (names_onto [] (take place sets)) set o) rest) (sym called) ∙ ap (λ o. option_or o rest) e)
 
--- a change of a column that is there, by what the tests gave
+-- a change of a column that exists, by what the tests gave
 pub twice_bad : (before : List (List ℕ)) (set : Set) (column : Column) → list_any (bytes_eq set.column) before ≡ true → bad_set before set (Some column) ≡ Some (badly.Twice set.column)
 twice_bad before set column e = ap (λ b. cond b (Some (badly.Twice set.column)) (cond (is_change_of column.kind set.change) None (Some (badly.Type set.column)))) e
 

@@ -1,4 +1,4 @@
--- Steps through the columns of a table and the values of a row or of a key.
+-- The columns of a table and the values of a row or of a key, one by one.
 use Rattle.std.proofs.Common.{◌≡◌, ℕ, ◌+◌, ◌<◌, arith, Bool, true, false, cond, List, [], ◌∷◌, length, drop, get_or, Option, None, Some, Ok, suc, add-one, refl, sym, ◌∙◌, ap, eq-eqb}
 use Rattle.std.specs.Prelude.{◌⊎◌, not, ◌&&◌, option_map}
 use Rattle.std.specs.Option.{option_or}
@@ -15,7 +15,7 @@ use Rattle.sky_model.specs.Outcome.{Checked, ◌>>◌}
 use Rattle.sky_model.specs.Outcome.{refused_by}
 use Rattle.sky_model.specs.StepRows.{column_name, bad_values, fits}
 
--- the first value that its column doesn't take, however many they are
+-- the first value that its column doesn't take, however many there are
 abbrev pub takes : List Column → List Val → Checked (Unit {0})
 takes columns values = refused_by (option_map (bad_values columns) (values_fault 0 columns values))
 
@@ -31,7 +31,7 @@ moved column columns place false null rest later e = ap (λ name. Some (BadRow (
 moved column columns place true true rest later e = ap (λ name. Some (BadRow (badly.NullKey name))) (column_name-behind column columns place)
 moved column columns place true false rest later e = e
 
--- behind one more column in front, each fault stands one place further on, and is of the same column
+-- after one more column, each fault is one place further on, and of the same column
 fault-behind : (column : Column) (columns left : List Column) (values : List Val) (place : ℕ)
     → option_map (bad_values (column ∷ columns)) (values_fault (place + 1) left values) ≡ option_map (bad_values columns) (values_fault place left values)
 fault-behind column columns [] values place = refl
@@ -54,7 +54,7 @@ takes-cons column columns value values =
     taken column columns (is_of_kind column.kind value) (column.key && is_null value) (values_fault (0 + 1) columns values) value values
     (fault-behind column columns columns values 0)
 
--- of as many values as columns
+-- if there are as many values as columns
 pub fits-alike : (columns : List Column) (values : List Val) → length values ≡ length columns → fits columns values ≡ takes columns values
 fits-alike columns values alike =
     ap (λ b. refused_by (option_map (bad_values columns) (cond b (values_fault 0 columns values) (Some Count)))) (eq-eqb (length values) (length columns) alike)
@@ -62,7 +62,7 @@ fits-alike columns values alike =
 pub takes-end : (columns : List Column) (values : List Val) → (length columns ≡ 0) ⊎ (length values ≡ 0) → takes columns values ≡ Ok tt
 takes-end columns values none = ap (λ fault. refused_by (option_map (bad_values columns) fault)) (values_fault-end 0 columns values none)
 
--- a list from a place on, at which this item stands
+-- a list from a place on, with this item at that place
 drop-from : {X : Type 0} (xs : List X) (place : ℕ) (x : X) → place < length xs → get_or xs place x ≡ x → drop place xs ≡ x ∷ drop (place + 1) xs
 drop-from xs place x within is = drop-cons xs place x within ∙ ap (λ y. y ∷ drop (suc place) xs) is ∙ ap (λ n. x ∷ drop n xs) (sym (add-one place))
 
@@ -79,14 +79,14 @@ pub key_columns-later : (columns : List Column) (index : ℕ) (column : Column) 
     → key_columns (drop index columns) ≡ key_columns (drop (index + 1) columns)
 key_columns-later columns index column within is other = key_columns-from columns index column within is ∙ ap (λ b. cond b (column ∷ key_columns (drop (index + 1) columns)) (key_columns (drop (index + 1) columns))) other
 
--- where a value stands for the first key column that is left, so many are left behind it
+-- if there is a value for the first key column that is left, there are as many values as columns after it
 pub one_left : (columns : List Column) (key : List Val) (index place : ℕ) (column : Column) → key_columns (drop index columns) ≡ column ∷ key_columns (drop (index + 1) columns)
     → place + length (key_columns (drop index columns)) ≡ length key → (place < length key) × (place + 1 + length (key_columns (drop (index + 1) columns)) ≡ length key)
 one_left columns key index place column here alike =
     let counted : length (key_columns (drop index columns)) ≡ suc (length (key_columns (drop (index + 1) columns))) = ap length here in
     (omega arith, omega arith)
 
--- a value that its column takes may be passed
+-- a value that its column takes is passed
 pub takes-pass : (column : Column) (columns : List Column) (value : Val) (values : List Val) → fits (column ∷ []) (value ∷ []) ≡ Ok tt → takes (column ∷ columns) (value ∷ values) ≡ takes columns values
 takes-pass column columns value values taken_here = takes-cons column columns value values ∙ ap (λ first. first >> takes columns values) taken_here
 

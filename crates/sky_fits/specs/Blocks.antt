@@ -1,4 +1,4 @@
--- A block of the definitions, in what the code keeps.
+-- A transaction block as the code keeps it, read as the definitions' one.
 use Rattle.sky_model.specs.Sessions as model
 use Rattle.sky_fits.specs.declared.standing.Block.{Block}
 use Rattle.sky_fits.specs.declared.standing.Block.TheVariants.{Outside, Inside, Failed}

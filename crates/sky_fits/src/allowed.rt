@@ -5,7 +5,7 @@ ghost use Rattle.sky_fits.specs.Blocks.{seen_block};
 use crate::standing::{Block, Standing};
 use sky_model::{Refusal, RowStmt, Where};
 
-/// Where a statement may stand.
+/// Where the statement is allowed.
 pub fn where_of(stmt: &RowStmt) -> Where
     ensures { result ≡ spec.where_of_row stmt.now }
 {
@@ -26,8 +26,9 @@ pub fn where_of(stmt: &RowStmt) -> Where
     }
 }
 
-/// Refuses a statement of a session that waits, or hasn't the database open, or one that may not stand in the session's
-/// block.
+/// Refuses a statement that its session can't make now. The tests come in the order of the refusals: a session that
+/// waits is busy, whatever it asks for; then the database has to be open; then the statement has to be allowed in the
+/// session's block. `Always` (`cancel`) passes all of them, and `Anywhere` (`open`) needs no open database.
 pub fn allow(waits: bool, standing: Standing, place: Where) -> Result<(), Refusal>
     ensures ok { OnOk result (spec.allowed waits standing.is_open (seen_block standing.block) place ≡ Ok tt) }
     ensures err { IfErr result (λ refusal. spec.allowed waits standing.is_open (seen_block standing.block) place ≡ Err refusal) }

@@ -1,15 +1,15 @@
-/// Where a session stands among transaction blocks.
+/// A session's transaction block.
 #[derive(Clone, Copy, Debug, PartialEq, Eq)]
 pub enum Block {
-    /// In no transaction block.
+    /// It is in no transaction block.
     Outside,
-    /// In one.
+    /// It is in one.
     Inside,
-    /// In one that a refusal has aborted.
+    /// It is in one that a refusal has aborted.
     Failed,
 }
 
-/// Where a session stands in a database.
+/// The state of a session in a database, as far as it decides which statements are allowed.
 #[derive(Clone, Copy, Debug)]
 pub struct Standing {
     /// Whether it has the database open.

@@ -33,7 +33,8 @@ fn fits_column(alloc: Global, column: &Column, value: &Val) -> Result<(), Stop>
     Ok(())
 }
 
-/// Refuses a row that the columns don't take.
+/// Refuses a row that the columns don't take: first by the number of its values, then by the first value that its
+/// column doesn't take.
 pub fn row_fits(alloc: Global, columns: &[Column], row: &Row) -> Result<(), Stop>
     ensures ok { OnOk result (spec.fits columns.now row.now ≡ Ok tt) }
     ensures err { IfErr result (λ stop. StopsAs stop (spec.fits columns.now row.now)) }
@@ -55,7 +56,7 @@ fn key_len(columns: &[Column]) -> usize
     columns.iter().filter(|column| column.key).count()
 }
 
-/// Refuses a key that the key columns don't take.
+/// Refuses a key that the key columns don't take, in the same order of tests.
 pub fn key_fits(alloc: Global, columns: &[Column], key: &Key) -> Result<(), Stop>
     ensures ok { OnOk result (spec.fits (key_columns columns.now) key.now ≡ Ok tt) }
     ensures err { IfErr result (λ stop. StopsAs stop (spec.fits (key_columns columns.now) key.now)) }
@@ -81,7 +82,7 @@ fn column_called<'a>(columns: &'a [Column], name: &Text) -> Option<&'a Column>
     columns.iter().find(|column| column.name == *name)
 }
 
-/// Whether a column of this kind may change so.
+/// Whether a column of this kind takes such a change.
 fn is_change_of(kind: ColKind, change: &Change) -> bool
     ensures { result ≡ spec.is_change_of kind change.now }
 {
@@ -98,8 +99,9 @@ fn changes(sets: &[Set], column: &Text) -> bool
     sets.iter().any(|set| *column == set.column)
 }
 
-/// Refuses the changes by the first one that is of no column, of a column that an earlier one changes,
-/// or such that its column can't change so.
+/// Refuses the first bad change, by the first test that it fails: its column exists, no earlier change is of the same
+/// column, and the column takes such a change. So what is refused depends on the order in which the changes are
+/// written, and on no row.
 pub fn sets_fit(alloc: Global, columns: &[Column], sets: &[Set]) -> Result<(), Stop>
     ensures ok { OnOk result (spec.bad_sets columns.now [] sets.now ≡ None) }
     ensures err { IfErr result (λ stop. StopsAs stop (refused_by (option_map Refusal.BadRow (spec.bad_sets columns.now [] sets.now)))) }
@@ -135,7 +137,7 @@ fn key_change<'a>(columns: &[Column], sets: &'a [Set]) -> Option<&'a Set>
     sets.iter().find(|set| is_key_change(columns, set))
 }
 
-/// Refuses the first change of a key column.
+/// Refuses the first change of a key column: an update leaves a row's key as it is.
 pub fn key_stays(alloc: Global, columns: &[Column], sets: &[Set]) -> Result<(), Stop>
     ensures ok { OnOk result (spec.key_stays columns.now sets.now ≡ Ok tt) }
     ensures err { IfErr result (λ stop. StopsAs stop (spec.key_stays columns.now sets.now)) }
@@ -149,7 +151,7 @@ pub fn key_stays(alloc: Global, columns: &[Column], sets: &[Set]) -> Result<(), 
     }
 }
 
-/// The value after a change; none where the sum is no number of 64 bits.
+/// The value after a change; none if the sum doesn't fit 64 bits. A sum with Null is Null.
 fn changed(alloc: Global, change: &Change, old: &Val) -> Result<Option<Val>, NoMemory>
     ensures { IfOk result (λ new. new ≡ spec.changed change.now old.now) }
 {
@@ -167,7 +169,7 @@ fn place_of(columns: &[Column], name: &Text) -> Option<usize>
     columns.iter().position(|column| column.name == *name)
 }
 
-/// Makes the change in a row.
+/// Makes the change in a row, or refuses it if a sum doesn't fit 64 bits.
 fn change_row(alloc: Global, columns: &[Column], set: &Set, row: &mut Row) -> Result<(), Stop>
     ensures ok { OnOk result (spec.with_set columns.now set.now row.old ≡ Some row.new) }
     ensures err { IfErr result (λ stop. StopsAs stop (found_or (spec.with_set columns.now set.now row.old) (Refusal.OutOfRange set.now.column))) }
@@ -190,7 +192,7 @@ fn change_row(alloc: Global, columns: &[Column], set: &Set, row: &mut Row) -> Re
     }
 }
 
-/// The row after the changes, the first one first.
+/// The row after the changes, one after another.
 pub fn with_sets(alloc: Global, columns: &[Column], sets: &[Set], row: &Row) -> Result<Row, Stop>
     ensures ok { IfOk result (λ new. spec.with_sets columns.now sets.now row.now ≡ Ok new) }
     ensures err { IfErr result (λ stop. StopsAs stop (spec.with_sets columns.now sets.now row.now)) }

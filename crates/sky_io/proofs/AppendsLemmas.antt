@@ -19,7 +19,7 @@ Appends-taken old mid new count more text first second = rw (take-add count more
 pub AppendsPrefix-nothing : (held : Option (List ℕ)) (text : List ℕ) → AppendsPrefix held held text
 AppendsPrefix-nothing held text = record { got = []; rest = text; appends = known.Appends-nil held; whole = refl }
 
--- what is kept has a prefix of any text appended
+-- a sink that keeps what it held got a prefix of any text
 pub AppendsPrefix-kept : (old new : Option (List ℕ)) (text : List ℕ) → Keeps old new → AppendsPrefix old new text
 AppendsPrefix-kept old new text kept = record { got = []; rest = text; appends = known.Appends-kept old old new [] (known.Appends-nil old) kept; whole = refl }
 

@@ -1,11 +1,11 @@
--- Counts of 64 bits that never fall and stand still at the largest.
+-- Counts of 64 bits that never fall and stay at the largest once they reach it.
 use Rattle.std.specs.Prelude.{◌≡◌, ℕ, ◌+◌, ◌-◌, ◌^◌, ◌<◌, ◌⊎◌, min}
 
--- the count rose, or stands still at the largest
+-- the count rose, or was the largest and stays it
 abbrev pub Rose : ℕ → ℕ → Type 0
 Rose old new = (old < new) ⊎ (new ≡ 2 ^ 64 - 1)
 
--- this number, or the largest count where it is above that
+-- this number, or the largest count if it is above that
 abbrev pub count_of : ℕ → ℕ
 count_of number = min number (2 ^ 64 - 1)
 

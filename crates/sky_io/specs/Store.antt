@@ -21,6 +21,6 @@ after_writing sink piece = record sink { held = sink.held ++ piece; calls = rais
 abbrev pub after_failing : Store → Store
 after_failing sink = record sink { calls = raised sink.calls; faults = raised sink.faults }
 
--- the sink after a call that found no memory
+-- the sink after a call that ran out of memory
 abbrev pub after_no_memory : Store → Store
 after_no_memory sink = record sink { calls = raised sink.calls }

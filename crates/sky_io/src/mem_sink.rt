@@ -62,7 +62,7 @@ impl Sink for MemSink {
         ensures failed { IsErrOf result SinkFault.Failed → Rose (count_of self.old.faults) (count_of self.new.faults) }
         ensures never_falls { count_of self.old.faults ≤ count_of self.new.faults }
 
-        // What this sink tells beside.
+        // What this sink promises besides.
         ensures fails { IsErrOf result SinkFault.Failed ↔ FailsNext self.old }
         ensures whole { IfOk result (λ count. count ≡ length piece.now) }
         ensures ok { OnOk result (self.new ≡ after_writing self.old piece.now) }

@@ -62,7 +62,7 @@ impl Source for MemSource {
         ensures failed { OnErr result (Rose (count_of self.old.faults) (count_of self.new.faults)) }
         ensures never_falls { count_of self.old.faults ≤ count_of self.new.faults }
 
-        // What this source tells beside.
+        // What this source promises besides.
         ensures fails { IsErr result ↔ FailsNext self.old }
         ensures count { IfOk result (λ count. count ≡ given_count self.old (length buf.old)) }
         ensures bytes { IfOk result (λ count. buf.new ≡ take count self.old.left ++ drop count buf.old) }

@@ -17,13 +17,13 @@ pub enum SinkFault {
 
 /// Where bytes go.
 pub trait Sink {
-    // The bytes written, where they are told.
+    // The bytes written, if they are shown.
     ghost held: { Self → Option (List ℕ) };
 
     // How often the sink failed.
     ghost faults: { Self → ℕ };
 
-    /// Appends the front of `piece` to what the sink holds, and tells how many bytes that is.
+    /// Appends the front of `piece` to what the sink holds, and answers how many bytes that is.
     fn write(&mut self, piece: &[u8]) -> Result<usize, SinkFault>
         requires { 0 < length piece.now }
         ensures at_least { IfOk result (λ count. 1 ≤ count) }
@@ -32,11 +32,11 @@ pub trait Sink {
         ensures failed { IsErrOf result SinkFault.Failed → Rose (faults self.old) (faults self.new) }
         ensures never_falls { faults self.old ≤ faults self.new };
 
-    // A count of 64 bits. It stands still at the largest, so `Rose` holds there too.
+    // A count of 64 bits. It stays at the largest, so `Rose` holds there too.
     ghost bounded: { (sink : Self) → faults sink < 2 ^ 64 };
 }
 
-/// Writes the whole piece, in as many writes as the sink asks for. Stops at the first fault.
+/// Writes the whole piece, in as many writes as the sink needs. Stops at the first fault.
 pub fn write_all<S: Sink>(sink: &mut S, piece: &[u8]) -> Result<(), SinkFault>
     ensures ok { OnOk result (Appends (S.held sink.old) (S.held sink.new) piece.now) }
     ensures prefix { AppendsPrefix (S.held sink.old) (S.held sink.new) piece.now }

@@ -12,13 +12,14 @@ pub struct Failed;
 
 /// Where bytes come from.
 pub trait Source {
-    // The bytes still to come, where they are told.
+    // The bytes still to come, if they are shown.
     ghost left: { Self → Option (List ℕ) };
 
     // How often the source failed.
     ghost faults: { Self → ℕ };
 
-    /// Puts some of the bytes still to come at the front of `buf`, and tells how many. 0 is the end.
+    /// Puts some of the bytes still to come at the front of `buf`, and answers how many. 0 is the
+    /// end.
     fn read(&mut self, buf: &mut [u8]) -> Result<usize, Failed>
         requires { 0 < length buf.old }
         ensures at_most { ReadsAtMost result buf.new }
@@ -26,6 +27,6 @@ pub trait Source {
         ensures failed { OnErr result (Rose (faults self.old) (faults self.new)) }
         ensures never_falls { faults self.old ≤ faults self.new };
 
-    // A count of 64 bits. It stands still at the largest, so `Rose` holds there too.
+    // A count of 64 bits. It stays at the largest, so `Rose` holds there too.
     ghost bounded: { (source : Self) → faults source < 2 ^ 64 };
 }

@@ -7,7 +7,7 @@ use crate::sink::{Sink, SinkFault};
 use std::io::Write;
 use std::marker::Model;
 
-/// A sink over one of std's writers, flushed after each write. It tells no bytes, and is seen as
+/// A sink over one of std's writers, flushed after each write. It shows no bytes, and is seen as
 /// the count of its faults.
 #[derive(Drop)]
 pub struct StdSink<W> {
@@ -46,7 +46,7 @@ impl<W: Write> Sink for StdSink<W> {
         ensures failed { IsErrOf result SinkFault.Failed → Rose (count_of self.old) (count_of self.new) }
         ensures never_falls { count_of self.old ≤ count_of self.new }
 
-        // What this sink tells beside.
+        // What this sink promises besides.
         ensures ok { OnOk result (self.new ≡ self.old) }
         ensures err { OnErr result (self.new ≡ raised self.old) }
         ensures never_no_memory { IfErr result (λ fault. fault ≡ SinkFault.Failed) }
@@ -61,7 +61,7 @@ impl<W: Write> Sink for StdSink<W> {
     }
 }
 
-// Writes and flushes. None where either failed, or where the writer took nothing.
+// Writes and flushes. None if either failed, or the writer took nothing.
 fn write_through<W: Write>(writer: &mut W, piece: &[u8]) -> Option<usize>
     ensures { IfSome result (λ count. (1 ≤ count) × (count ≤ length piece.now)) }
 {

@@ -9,8 +9,8 @@ use std::io;
 use std::io::{ErrorKind, Read};
 use std::marker::Model;
 
-/// A source over one of std's readers. It tells what the reader tells, and is seen as the reader and the
-/// count of its faults.
+/// A source over one of std's readers. It shows what the reader shows, and is seen as the reader and the count of its
+/// faults.
 #[derive(Drop)]
 pub struct StdSource<R> {
     reader: R,
@@ -48,7 +48,7 @@ impl<R: Read> Source for StdSource<R> {
         ensures failed { OnErr result (Rose (count_of self.old.faults) (count_of self.new.faults)) }
         ensures never_falls { count_of self.old.faults ≤ count_of self.new.faults }
 
-        // What this source tells beside.
+        // What this source promises besides.
         ensures ok { OnOk result (self.new.faults ≡ self.old.faults) }
         ensures err { OnErr result (self.new.faults ≡ raised self.old.faults) }
     {
@@ -62,11 +62,11 @@ impl<R: Read> Source for StdSource<R> {
     }
 }
 
-// How often a read that a signal cut off is begun again.
+// How often a read that a signal interrupted is retried.
 const RETRIES: usize = 1000;
 
-// A process that was stopped and continued finds its read interrupted, which is no fault of the
-// reader's. A reader that answers nothing else is one in the end.
+// A process that was stopped and continued finds its read interrupted, which is no fault of the reader's. A reader that
+// never answers anything else is one in the end.
 fn read_retrying<R: Read>(reader: &mut R, buf: &mut [u8]) -> io::Result<usize>
     ensures at_most { ReadsAtMost result buf.new }
     ensures consumes { ReadConsumes (R.remaining reader.old) (R.remaining reader.new) result buf.new }

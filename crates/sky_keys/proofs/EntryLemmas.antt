@@ -1,4 +1,4 @@
--- What a write, the end of a transaction and a reading do to the versions of a table, key by key.
+-- What a write, the end of a transaction and a read do to the versions of a table, key by key.
 use Rattle.std.proofs.Common.{arith, ◌≡◌, ℕ, true, cond, List, [], ◌∷◌, Ordering, Less, Equal, Greater, Option, Some, None, refl}
 use Rattle.std.specs.Prelude.{unwrap_or}
 use Rattle.std.specs.Option.{option_and_then}
@@ -26,12 +26,12 @@ less Greater e = absurd (cc e)
 pub key_ties-is : (q k : List Val) → eq_by_cmp key_cmp q k ≡ true → q ≡ k
 key_ties-is q k e = key_cmp-IsAntisymmetric q k (tie (key_cmp q k) e)
 
--- what is below all keys is none of them
+-- a key below all keys is none of them
 pub at-below : {X : Type 0} (key : List Val) (es : Entries X) → below_all key_cmp key es ≡ true → at key es ≡ None
 at-below key [] h = refl
 at-below key (e ∷ es) h = grind (arith, h, at-below key es, less (key_cmp key e.0))
 
--- what is below all keys stays so, and what is in order stays so, where values change or keys go
+-- a key below all keys stays so, and keys in order stay so, if values change or keys are removed
 
 below-values_by : {X Y : Type 0} (f : X → Option Y) (key : List Val) (es : Entries X) → below_all key_cmp key es ≡ true → below_all key_cmp key (values_by f es) ≡ true
 below-values_by f key [] h = refl
@@ -58,7 +58,7 @@ versions_at-written q t key row es = grind (arith, at-written q t key row es, ke
 pub is_in_order-written : (t : ℕ) (key : List Val) (row : Option (List Val)) (es : Entries (List Version)) → is_in_order es ≡ true → is_in_order (written t key row es) ≡ true
 is_in_order-written t key row es h = is_in_order-put key (with_version t row (versions_at key es)) es h
 
--- a transaction's versions go
+-- a transaction's versions are removed
 
 unless_empty-back : {X : Type 0} (xs : List X) → unwrap_or (unless_empty xs) [] ≡ xs
 unless_empty-back [] = refl
@@ -73,7 +73,7 @@ versions_at-forgotten t q es h = grind (arith, at-forgotten t q es h, unless_emp
 pub is_in_order-forgotten : (t : ℕ) (es : Entries (List Version)) → is_in_order es ≡ true → is_in_order (forgotten t es) ≡ true
 is_in_order-forgotten t es h = is_in_order-values_by (λ vs. unless_empty (without t vs)) es h
 
--- the rows that are read
+-- the rows that a read gives
 
 read-none : (s : SnapshotView) (own : Option ℕ) → read s own [] ≡ None
 read-none s None = refl

@@ -12,7 +12,7 @@ use Rattle.sky_keys.specs.Versions.{with_version, without, version_of, newest_fr
 abbrev pub left : ℕ → Option (List Val) → Version
 left t row = record { txid = t; row = row }
 
--- all versions but the last are of transactions that pass
+-- each version but the last is of a transaction that passes
 abbrev pub OnlyLast : (ℕ → Bool) → List Version → Type 0
 OnlyLast p [] = Unit {0}
 OnlyLast p (v ∷ vs) = ((p v.txid ≡ true) ⊎ (vs ≡ [])) × OnlyLast p vs
@@ -23,7 +23,7 @@ newest_from-last : (p : ℕ → Bool) (newest : Option Version) (vs : List Versi
 newest_from-last p newest [] v = refl
 newest_from-last p newest (w ∷ vs) v = newest_from-last p (cond (p w.txid) (Some w) newest) vs v
 
--- the last version is the newest, where its transaction passes
+-- the last version is the newest, if its transaction passes
 pub newest_by-last : (p : ℕ → Bool) (vs : List Version) (v : Version) → newest_by p (vs ++ v ∷ []) ≡ cond (p v.txid) (Some v) (newest_by p vs)
 newest_by-last p vs v = newest_from-last p None vs v
 
@@ -33,27 +33,27 @@ newest_from-with : (p : ℕ → Bool) (t : ℕ) (row : Option (List Val)) (newes
 newest_from-with p t row newest [] unseen = grind (arith, unseen)
 newest_from-with p t row newest (v ∷ vs) unseen = grind (arith, nat_tests, unseen, newest_from-with p t row newest vs unseen, newest_from-with p t row (Some v) vs unseen)
 
--- a transaction that doesn't pass may write
+-- a write of a transaction that doesn't pass leaves the newest version that does
 pub newest_with : (p : ℕ → Bool) (t : ℕ) (row : Option (List Val)) (vs : List Version) → p t ≡ false → newest_by p (with_version t row vs) ≡ newest_by p vs
 newest_with p t row vs unseen = newest_from-with p t row None vs unseen
 
--- a write is the transaction's own version, and no other's
+-- a write changes the transaction's own version, and no other
 pub version_of-with : (u t : ℕ) (row : Option (List Val)) (vs : List Version) → version_of u (with_version t row vs) ≡ cond (u == t) (Some (left t row)) (version_of u vs)
 version_of-with u t row [] = refl
 version_of-with u t row (v ∷ vs) = grind (arith, nat_tests, version_of-with u t row vs)
 
--- the first write of a transaction is the last version
+-- the first write of a transaction appends its version
 pub with_version-new : (t : ℕ) (row : Option (List Val)) (vs : List Version) → version_of t vs ≡ None → with_version t row vs ≡ vs ++ left t row ∷ []
 with_version-new t row [] none = refl
 with_version-new t row (v ∷ vs) none = grind (arith, none, with_version-new t row vs)
 
--- a transaction's versions go
+-- a transaction's versions are removed
 
 newest_from-without : (p : ℕ → Bool) (t : ℕ) (newest : Option Version) (vs : List Version) → p t ≡ false → newest_from p newest (without t vs) ≡ newest_from p newest vs
 newest_from-without p t newest [] unseen = refl
 newest_from-without p t newest (v ∷ vs) unseen = grind (arith, nat_tests, unseen, newest_from-without p t newest vs unseen, newest_from-without p t (Some v) vs unseen)
 
--- the versions of a transaction that doesn't pass may go
+-- removing the versions of a transaction that doesn't pass leaves the newest version that does
 pub newest_without : (p : ℕ → Bool) (t : ℕ) (vs : List Version) → p t ≡ false → newest_by p (without t vs) ≡ newest_by p vs
 newest_without p t vs unseen = newest_from-without p t None vs unseen
 
@@ -61,19 +61,19 @@ pub version_of-without : (u t : ℕ) (vs : List Version) → version_of u (witho
 version_of-without u t [] = grind arith
 version_of-without u t (v ∷ vs) = grind (arith, nat_tests, version_of-without u t vs)
 
--- where a transaction has no version, none goes
+-- if a transaction has no version, none is removed
 pub without-none : (t : ℕ) (vs : List Version) → version_of t vs ≡ None → without t vs ≡ vs
 without-none t [] none = refl
 without-none t (v ∷ vs) none = grind (arith, none, without-none t vs)
 
--- a transaction passes that didn't
+-- a transaction passes that didn't before
 
 newest_from-more : (p q : ℕ → Bool) (t : ℕ) (newest : Option Version) (vs : List Version) → OnlyLast p vs → p t ≡ false → ((u : ℕ) → q u ≡ ((t == u) || p u))
     → newest_from q newest vs ≡ option_or (version_of t vs) (newest_from p newest vs)
 newest_from-more p q t newest [] only unseen more = refl
 newest_from-more p q t newest (v ∷ vs) only unseen more = grind (arith, nat_tests, only.0, unseen, more v.txid, newest_from-more p q t newest vs only.1 unseen more, newest_from-more p q t (Some v) vs only.1 unseen more)
 
--- where only the last version may be of one that doesn't pass, the version of such a transaction is the newest once it passes
+-- if only the last version may be of a transaction that doesn't pass, the version of such a transaction is the newest once it passes
 pub newest_more : (p q : ℕ → Bool) (t : ℕ) (vs : List Version) → OnlyLast p vs → p t ≡ false → ((u : ℕ) → q u ≡ ((t == u) || p u))
     → newest_by q vs ≡ option_or (version_of t vs) (newest_by p vs)
 newest_more p q t vs only unseen more = newest_from-more p q t None vs only unseen more

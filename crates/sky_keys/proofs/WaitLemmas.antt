@@ -1,4 +1,5 @@
--- Ways back along those that wait for each other: there is at most one from a session, none is longer than all who wait, and stepping along finds it.
+-- Paths from a session back to itself along its waits: there is at most one, none is longer than the number of waiting sessions, and following the
+-- waits finds it.
 use Rattle.std.proofs.Common.{◌≡◌, ◌≢◌, ℕ, zero, suc, ◌<◌, ◌≤◌, true, false, cond, List, [], ◌∷◌, map, length, Option, Some, None, refl, sym, subst, ◌∙◌, ap, arith}
 use Rattle.std.specs.Prelude.{◌==◌, ◌||◌, option_map, is_some, nat_eq}
 use Rattle.std.specs.Option.{option_and_then}
@@ -15,7 +16,7 @@ use Rattle.sky_keys.specs.Waits.{Holders, Waiting, is_waiting, entry_of, without
 some_is : (a b : ℕ) → Some a ≡ Some b → a ≡ b
 some_is a b e = cc e
 
--- ---- one way
+-- ---- one path
 
 pub one_way : {whom : ℕ → Option ℕ} {who s : ℕ} {one other : List ℕ} → LeadsBack whom who s one → LeadsBack whom who s other → one ≡ other
 one_way (last p) (last q) = refl
@@ -25,7 +26,7 @@ one_way {whom = whom} {who = who} {s = s} (next {t = t} {way = way} p apart on) 
     let same : u ≡ t = some_is u t (sym q ∙ p) in
     ap (λ ways. s ∷ ways) (one_way on (subst (λ v. LeadsBack whom who v rest) same on'))
 
--- ---- found by steps
+-- ---- found by following the waits
 
 pub leads_back : (whom : ℕ → Option ℕ) (who most s : ℕ) (way : List ℕ) → way_back whom who most s ≡ Some way → LeadsBack whom who s way
 leads_back whom who zero s way found = absurd (cc found)
@@ -52,9 +53,9 @@ way_back_is whom who zero s way (next p apart on) short = absurd (omega arith)
 way_back_is whom who (suc most) s way (last p) short = grind (arith, nat_tests, p)
 way_back_is whom who (suc most) s whole (next {t = t} {way = way} p apart on) short = grind (arith, nat_tests, p, apart, way_back_is whom who most t way on)
 
--- ---- no way is longer than all who wait
+-- ---- no path is longer than the number of waiting sessions
 
--- from each session on a way it goes on
+-- from each session on a path there is a path on
 goes_on : {whom : ℕ → Option ℕ} {who s : ℕ} {way : List ℕ} → LeadsBack whom who s way → (u : ℕ) → list_any (λ v. u == v) way ≡ true → (rest : List ℕ) × LeadsBack whom who u rest × (length rest ≤ length way)
 goes_on {whom = whom} {who = who} {s = s} (last p) u here =
     let same : s ≡ u = sym (eqb-true u s (elim (u == s) as (λ b. (b || false) ≡ true → b ≡ true) [ true ↦ λ _. refl | false ↦ λ e. e ] here)) in
@@ -81,7 +82,7 @@ unfolding IsDistinct
 distinct {s = s} (last p) = IsDistinct-cons nat_eq s [] tt tt
 distinct {s = s} (next {t = t} {way = way} p apart on) = IsDistinct-cons nat_eq s way (all_apart s way (grind (arith, not_again (next p apart on) on))) (distinct on)
 
--- who waits for another is among those that wait
+-- a session that waits for another is among the waiting ones
 waits : (holder : Holders) (waiting : List Waiting) (s t : ℕ) → waits_for holder waiting s ≡ Some t → is_some (entry_of s waiting) ≡ true
 waits holder waiting s t goes = of (entry_of s waiting) goes
   where
@@ -108,28 +109,28 @@ no_longer holder waiting who s way leads =
     subst (λ n. length way ≤ n) (length-map waiting (λ (w : Waiting). (w.who, w)))
     (length-le_from_keys nat_eq_equiv way (map (λ (w : Waiting). (w.who, w)) waiting) (distinct leads) (λ u here. listed u waiting (all_wait holder waiting leads u here)))
 
--- so in as many steps each way is found, and where none is, there is none
+-- so that many steps find each path, and if they find none, there is none
 pub no_way : (holder : Holders) (waiting : List Waiting) (who s : ℕ) → way_back (waits_for holder waiting) who (length waiting) s ≡ None → (way : List ℕ) → LeadsBack (waits_for holder waiting) who s way → ⊥
 no_way holder waiting who s none way leads = cc (sym none ∙ way_back_is (waits_for holder waiting) who (length waiting) s way leads (no_longer holder waiting who s way leads))
 
--- and each way is found
+-- and each path is found
 pub way_found : (holder : Holders) (waiting : List Waiting) (who s : ℕ) (way : List ℕ) → LeadsBack (waits_for holder waiting) who s way
     → way_back (waits_for holder waiting) who (length waiting) s ≡ Some way
 way_found holder waiting who s way leads = way_back_is (waits_for holder waiting) who (length waiting) s way leads (no_longer holder waiting who s way leads)
 
 -- ---- who waits
 
--- a session waits where it has an entry
+-- a session waits if it has an entry
 pub is_waiting-entry : (who : ℕ) (waiting : List Waiting) → is_waiting who waiting ≡ is_some (entry_of who waiting)
 is_waiting-entry who [] = refl
 is_waiting-entry who (w ∷ waiting) = grind (arith, is_waiting-entry who waiting)
 
--- and no more once that is taken out
+-- and no longer once its entry is removed
 pub is_waiting-without : (who : ℕ) (waiting : List Waiting) → is_waiting who (without who waiting) ≡ false
 is_waiting-without who [] = refl
 is_waiting-without who (w ∷ waiting) = grind (arith, is_waiting-without who waiting)
 
--- a session that waits has an entry, and without it the list is shorter
+-- a session that waits has an entry, and the list without it is shorter
 without_most : (who : ℕ) (ws : List Waiting) → length (without who ws) ≤ length ws
 without_most who [] = omega arith
 without_most who (w ∷ ws) = grind (arith, without_most who ws)

@@ -1,4 +1,4 @@
--- Sessions that wait for keys which others hold: who waits for whom, who may go on, and which wait would close a ring.
+-- Sessions that wait for keys that others hold: who waits for whom, who is ready to resume, and which wait would close a deadlock cycle.
 use Rattle.std.specs.Prelude.{◌≡◌, ◌≢◌, ℕ, zero, suc, ◌==◌, Bool, not, ◌&&◌, if◌then◌else◌, List, [], ◌∷◌, Option, None, Some, is_none, option_map, filter, find}
 use Rattle.std.specs.Option.{option_and_then}
 use Rattle.std.specs.List.{list_any}
@@ -21,25 +21,25 @@ abbrev pub other_than : ℕ → Option ℕ → Option ℕ
 other_than who None = None
 other_than who (Some s) = if s == who then None else Some s
 
--- the holder of a key, where it is another session
+-- the holder of a key, if it is another session
 abbrev pub other_holder : Holders → ℕ → ℕ → List Val → Option ℕ
 other_holder holder who table key = other_than who (holder table key)
 
--- the holders once a session has taken a key
+-- the holders after a session has taken a key
 abbrev pub taken : ℕ → ℕ → List Val → Holders → Holders
 taken who table key holder t k = if is_same_key table key t k then Some who else holder t k
 
--- once it has given a key back
+-- the holders after it has given a key back
 abbrev pub given_back : ℕ → ℕ → List Val → Holders → Holders
 given_back who table key holder t k = if is_same_key table key t k then other_than who (holder t k) else holder t k
 
--- once all its keys are free
+-- the holders after all its keys were freed
 abbrev pub released : ℕ → Holders → Holders
 released who holder t k = other_than who (holder t k)
 
 -- ---- who waits
 
--- an entry of the waiting list: a session, and the key for which it waits
+-- an entry of the wait queue: a session, and the key that it waits for
 pub record Waiting : Type 0 where
   pub who : ℕ
   pub table : ℕ
@@ -57,7 +57,7 @@ entry_of who waiting = find (λ w. w.who == who) waiting
 abbrev pub without : ℕ → List Waiting → List Waiting
 without who waiting = filter (λ w. not (w.who == who)) waiting
 
--- the first that waits for a key
+-- the first session that waits for a key
 abbrev pub first_waiter : ℕ → List Val → List Waiting → Option ℕ
 first_waiter table key waiting = option_map (λ w. w.who) (find (λ w. is_same_key table key w.table w.key) waiting)
 
@@ -67,21 +67,21 @@ ready holder waiting = find (λ w. is_none (holder w.table w.key)) waiting
 
 -- ---- who waits for whom
 
--- whom a session waits for: the other session that holds the key for which it waits
+-- whom a session waits for: the other session that holds the key that it waits for
 abbrev pub waits_for : Holders → List Waiting → ℕ → Option ℕ
 waits_for holder waiting who = option_and_then (λ w. other_holder holder who w.table w.key) (entry_of who waiting)
 
--- a way from a session back to `who`: each session on it waits for the next, only the last one waits for `who`
+-- a path from a session back to `who`: each session on it waits for the next, and only the last waits for `who`
 pub data LeadsBack (whom : ℕ → Option ℕ) (who : ℕ) : ℕ → List ℕ → Type 0 where
   last : {s : ℕ} → whom s ≡ Some who → LeadsBack whom who s (s ∷ [])
   next : {s t : ℕ} {way : List ℕ} → whom s ≡ Some t → t ≢ who → LeadsBack whom who t way → LeadsBack whom who s (s ∷ way)
 
--- a session in front of a way
+-- a path with a session before it
 abbrev pub along : ℕ → ℕ → Option ℕ → (ℕ → Option (List ℕ)) → Option (List ℕ)
 along who s None way = None
 along who s (Some t) way = if t == who then Some (s ∷ []) else option_map (λ rest. s ∷ rest) (way t)
 
--- the way from a session back to `who`, if it is of at most so many
+-- the path from a session back to `who`, if it has at most so many sessions
 abbrev pub way_back : (ℕ → Option ℕ) → ℕ → ℕ → ℕ → Option (List ℕ)
 way_back whom who zero s = None
 way_back whom who (suc most) s = along who s (whom s) (way_back whom who most)

@@ -5,6 +5,6 @@ use sky_val::Row;
 pub struct Version {
     /// The transaction.
     pub txid: u64,
-    /// The row; none where it is deleted.
+    /// The row; none for a deletion.
     pub row: Option<Row>,
 }

@@ -1,4 +1,4 @@
--- Where the first line feed of bytes stands.
+-- The first line feed of bytes.
 use Rattle.std.proofs.Common.{◌≡◌, ℕ, ◌+◌, ◌-◌, ◌<◌, ◌≤◌, false, List, ◌∷◌, ◌++◌, length, take, drop, sym, ap, ◌∙◌, arith, length-append, length-take}
 use Rattle.std.specs.Option.{option_map}
 use Rattle.std.specs.Prelude.{◌==◌, slice_range, Option, None, Some, nat_lt}
@@ -10,7 +10,7 @@ use Rattle.memchr.specs.Find.{Passes, IsFirstByte, is_byte}
 use Rattle.sky_model.specs.Transcript.{most_in_line}
 use Rattle.sky_lines.specs.Feeds.{has_feed, is_settled, FeedsAt, IsFirstFeed}
 
--- none stands where a search finds none
+-- there is none if a search finds none
 has_feed-nowhere : (bytes : List ℕ) → ((k : ℕ) → k < length bytes → ¬ (Passes (is_byte 10) bytes k)) → has_feed bytes ≡ false
 has_feed-nowhere bytes none =
     list_any_none (λ b. b == 10) bytes (λ k d within. false_from_ne_true _ (λ passes. none k within (ap (λ b. b == 10) (get_or_default bytes k 0 d within) ∙ passes)))
@@ -28,7 +28,7 @@ IsFirstFeed-searched bytes (Some at) here =
           first.before k (omega arith) (omega (arith, size)) (ap (λ b. b == 10) (sym (get_or-take at bytes k 0 (omega (arith, size)))) ∙ passes));
     }
 
--- the first stands behind bytes that have none
+-- the first one, after bytes that have none
 pub FeedsAt-behind : (front piece : List ℕ) (at : ℕ) → has_feed front ≡ false → FeedsAt piece at → FeedsAt (front ++ piece) (length front + at)
 FeedsAt-behind front piece at none here = record {
   within = omega (arith, length-append front piece, here.within);
@@ -39,7 +39,7 @@ FeedsAt-behind front piece at none here = record {
 pub has_feed-behind : (front piece : List ℕ) → has_feed front ≡ false → has_feed piece ≡ false → has_feed (front ++ piece) ≡ false
 has_feed-behind front piece none also = list_any-append (λ b. b == 10) front piece ∙ or_from _ _ none also
 
--- a search behind bytes that have none finds the first
+-- a search after bytes that have none finds the first
 pub IsFirstFeed-behind : (bytes : List ℕ) (len : ℕ) (found : Option ℕ) → len ≤ length bytes → has_feed (take len bytes) ≡ false → IsFirstByte (is_byte 10) (take (length bytes - len) (drop len bytes)) found
     → IsFirstFeed bytes (option_map (λ at. len + at) found)
 IsFirstFeed-behind bytes len found within none searched =
@@ -51,7 +51,7 @@ IsFirstFeed-behind bytes len found within none searched =
     behind front piece bytes len None whole long none first = ap has_feed (sym whole) ∙ has_feed-behind front piece none first
     behind front piece bytes len (Some at) whole long none first = rw (← whole, ← long) (FeedsAt-behind front piece at none first)
 
--- a first feed parts the bytes
+-- a first line feed splits the bytes
 pub FeedsAt-parts : (bytes : List ℕ) (at : ℕ) → FeedsAt bytes at → bytes ≡ take at bytes ++ 10 ∷ drop (at + 1) bytes
 FeedsAt-parts bytes at here =
     let within = here.within in
@@ -76,7 +76,7 @@ line_taken items old line start end len view here taken =
     ap (drop (len + 1)) (sym view) ∙ drop-slice_range items start end (len + 1) (omega arith) ∙ ap (λ n. slice_range items n end) place in
     FeedsAt-parts old len here ∙ ap (λ xs. xs ++ 10 ∷ drop (len + 1) old) front ∙ ap (λ xs. line ++ 10 ∷ xs) rest
 
--- bytes that tell no line yet have no feed, and are no more than a line may have
+-- bytes that don't settle their first line have no feed, and are no more than a line may have
 pub unsettled : (bytes : List ℕ) → is_settled bytes ≡ false → (has_feed bytes ≡ false) × (length bytes ≤ most_in_line)
 unsettled bytes h = let parts = or_parts (has_feed bytes) (nat_lt most_in_line (length bytes)) h in (parts.0, ltb-false _ _ parts.1)
 

@@ -12,7 +12,7 @@ use Rattle.std.proofs.Math.Seq.{take-append-add}
 use Rattle.sky_lines.specs.Feeds.{is_settled, Grows}
 use Rattle.sky_lines.proofs.FeedLemmas.{unsettled}
 
--- a piece was got, and then another
+-- a piece was read, and then another
 pub Grows-both : (old mid new : List ℕ) (before between after : Option (List ℕ)) → Grows old mid before between → Grows mid new between after → Grows old new before after
 Grows-both old mid new before between after first second = record {
   got = first.got ++ second.got;
@@ -20,7 +20,7 @@ Grows-both old mid new before between after first second = record {
   new_is = second.new_is ∙ ap (λ front. front ++ second.got) first.new_is ∙ append_assoc old first.got second.got;
 }
 
--- a piece was read behind the front of a room
+-- a piece was read into a room, after what is at its front
 pub take-read : (room piece : List ℕ) (len size count : ℕ) → len ≤ length room → count ≤ length piece → take (len + count) (put_mid len size room piece) ≡ take len room ++ take count piece
 take-read room piece len size count fits few =
     let front = take len room in
@@ -40,14 +40,14 @@ bytes_read bytes room piece old len size count fills fits long few front =
     ∙ ap (λ n. take n (put_mid len size room piece)) end
     ∙ take-read room piece len size count (omega arith) few ∙ ap (λ xs. xs ++ take count piece) front
 
--- how much of a room stands in front of a read
+-- how much of a room comes before a read
 pub length-front : (items old : List ℕ) (start end : ℕ) → slice_range items start end ≡ old → end ≤ length items → is_settled old ≡ false → end - start ≤ 65536
 length-front items old start end view within unsure =
     let size : length old ≡ end - start = ap length (sym view) ∙ length-take-le (end - start) (drop start items) (omega (arith, length-drop start items)) in
     let fits = (unsettled old unsure).1 in
     omega arith
 
--- what is left where what was left is told
+-- what is left, if the source shows it
 pub record Told (left : List ℕ) (after : Option (List ℕ)) (got : List ℕ) : Type 0 where
   pub rest : List ℕ
   pub left_is : left ≡ got ++ rest
@@ -60,6 +60,6 @@ Consumes-told left (Some rest) got consumed = record { rest = rest; left_is = co
 pub Told-consumed : (left : List ℕ) (before after : Option (List ℕ)) (got : List ℕ) → before ≡ Some left → Consumes before after got → Told left after got
 Told-consumed left before after got told consumed = let now = rw told at consumed in Consumes-told left after got now
 
--- a told end has nothing left
+-- at an end that the source shows nothing is left
 pub nothing_told : (after : Option (List ℕ)) (rest : List ℕ) → after ≡ Some rest → IsAtEnd after → rest ≡ []
 nothing_told after rest told end = rw told at end

@@ -1,4 +1,4 @@
--- What pending bytes say of all that were left.
+-- What the pending bytes say of all that were left.
 use Rattle.std.proofs.Common.{◌≡◌, ℕ, ◌+◌, ◌<◌, ◌≤◌, ◌⊎◌, inl, inr, true, false, List, [], ◌∷◌, ◌++◌, take, drop, sym, ap, subst, ◌∙◌, arith, append_assoc, append-nil, ⊎_elim}
 use Rattle.std.specs.Prelude.{Option, Some, Result, Ok, Err, OnOk}
 use Rattle.std.specs.Result.{is_err}
@@ -35,7 +35,7 @@ EndsTooLate-feeds taken bytes at here fits over =
       too_late = omega (arith, size);
     }
 
--- what starts bad does so however it goes on, where it is settled or doesn't go on
+-- bytes that start with a fault do so whatever follows them, if they are settled or nothing follows
 pub StartsBad-goes_on : (fault : LineFault) (taken : ℕ) (bytes more : List ℕ) → (is_settled bytes ≡ true) ⊎ (more ≡ []) → StartsBad fault taken bytes → StartsBad fault taken (bytes ++ more)
 StartsBad-goes_on Read taken bytes more whole bad = tt
 StartsBad-goes_on NoMemory taken bytes more whole bad = tt
@@ -59,7 +59,7 @@ StartsBad-goes_on ScriptTooLong taken bytes more whole bad = record {
   too_late = bad.too_late;
 }
 
--- what pending bytes that are settled, or all that were left, start with, starts what was pending and left before
+-- pending bytes that are settled, or all that were left, start as the bytes do that were pending and left before
 pub StartsBad-told : (fault : LineFault) (taken : ℕ) (old mid left : List ℕ) (before after : Option (List ℕ)) → Grows old mid before after → (is_settled mid ≡ true) ⊎ IsAtEnd after → before ≡ Some left → StartsBad fault taken mid
     → StartsBad fault taken (old ++ left)
 StartsBad-told fault taken old mid left before after grown whole told bad =
@@ -67,7 +67,7 @@ StartsBad-told fault taken old mid left before after grown whole told bad =
     let bytes : mid ++ now.rest ≡ old ++ left = ap (λ front. front ++ now.rest) grown.new_is ∙ append_assoc old grown.got now.rest ∙ ap (λ more. old ++ more) (sym now.left_is) in
     subst (StartsBad fault taken) bytes (StartsBad-goes_on fault taken mid now.rest (⊎_elim inl (λ end. inr (nothing_told after now.rest now.after_is end)) whole) bad)
 
--- what holds at an answer that isn't an error
+-- what holds of an answer that isn't an error
 pub OnOk-not_err : {T E : Type 0} (r : Result T E) (P : Type 0) → is_err r ≡ false → OnOk r P → P
 OnOk-not_err (Ok value) P right holds = holds
 OnOk-not_err (Err e) P right holds = absurd (true≢false right)

@@ -5,14 +5,14 @@ use Rattle.sky_lines.specs.Feeds.{has_feed, is_settled}
 use Rattle.sky_lines.specs.declared.reader.LineFault.{LineFault}
 use Rattle.sky_lines.specs.declared.reader.LineFault.TheVariants.{Read, TooLong, Truncated, ScriptTooLong, NoMemory}
 
--- the bytes that were got and stand in no line yet, the line that was taken last, how many bytes the lines had, and the fault that was given
+-- the bytes that were read and are in no line yet, the line that was taken last, how many bytes the lines had, and the fault that was given
 pub record Reader : Type 0 where
   pub pending : List ℕ
   pub line : List ℕ
   pub taken : ℕ
   pub fault : Option LineFault
 
--- whether the next answer needs no byte of the source
+-- whether the next answer needs no more bytes from the source
 abbrev pub is_at_hand : Reader → Bool
 is_at_hand reader = is_some reader.fault || is_settled reader.pending
 
@@ -30,7 +30,7 @@ pub record TakesLine (old new : Reader) (left : List ℕ) (after : Option (List 
   pub old_sound : old.fault ≡ None
   pub new_sound : new.fault ≡ None
 
--- a line was counted with its line feed, and the script isn't too long for it
+-- a line was counted with its line feed, and the script isn't too long with it
 abbrev pub CountsLine : Reader → Reader → List ℕ → Type 0
 CountsLine old new line = (new.taken ≡ old.taken + length line + 1) × (new.taken ≤ most_in_script)
 
@@ -66,7 +66,7 @@ pub record IsTruncated (bytes : List ℕ) : Type 0 where
   pub unbroken : has_feed bytes ≡ false
   pub line_fits : length bytes ≤ most_in_line
 
--- the first line ends behind more bytes than a script may have
+-- the first line ends after more bytes than a script may have
 pub record EndsTooLate (taken : ℕ) (bytes : List ℕ) : Type 0 where
   pub line : List ℕ
   pub more : List ℕ
@@ -75,7 +75,7 @@ pub record EndsTooLate (taken : ℕ) (bytes : List ℕ) : Type 0 where
   pub line_fits : length line ≤ most_in_line
   pub too_late : most_in_script < taken + length line + 1
 
--- the bytes behind so many others start with what this fault names
+-- the bytes after so many others start with what this fault names
 abbrev pub StartsBad : LineFault → ℕ → List ℕ → Type 0
 StartsBad Read taken bytes = ⊤
 StartsBad TooLong taken bytes = StartsTooLong bytes
@@ -83,7 +83,7 @@ StartsBad Truncated taken bytes = IsTruncated bytes
 StartsBad ScriptTooLong taken bytes = EndsTooLate taken bytes
 StartsBad NoMemory taken bytes = ⊤
 
--- what the source gave before it failed is pending, and tells no line yet
+-- what the source gave before it failed is pending, and doesn't settle the first line
 pub record Kept (old new : Reader) (left : List ℕ) (after : Option (List ℕ)) : Type 0 where
   pub got : List ℕ
   pub rest : List ℕ

@@ -1,4 +1,4 @@
--- A buffer with room for a piece of 65536 bytes behind the longest line.
+-- A buffer with room for a piece of 65536 bytes after the longest line.
 use Rattle.std.specs.Prelude.{◌≡◌, ℕ, ◌+◌, ◌≤◌, List, length, slice_range, Option}
 use Rattle.sky_model.specs.Transcript.{most_in_line}
 use Rattle.sky_lines.specs.Feeds.{IsFirstFeed}
@@ -8,7 +8,7 @@ pub record Held : Type 0 where
   pub pending : List ℕ
   pub line : List ℕ
 
--- the bytes from start to end stand in the room, and their first line feed is known; the line stands there, too
+-- the bytes from start to end are in the room, and their first line feed is known; the line is in the room, too
 pub record IsBuffer (bytes : List ℕ) (start end : ℕ) (feed : Option ℕ) (line_start line_end : ℕ) : Type 0 where
   pub room : length bytes ≡ most_in_line + 65536
   pub in_order : start ≤ end

@@ -15,14 +15,14 @@ pub const MOST_IN_LINE: usize = 65_536;
 /// How many bytes a read asks for.
 const PIECE: usize = 65_536;
 
-/// Room for a piece behind a line that may still go on.
+/// Room for a piece after a line that isn't complete.
 const ROOM: usize = MOST_IN_LINE + PIECE;
 
-/// The bytes that were read and not taken, and before them the line that was taken last. Each is moved once
-/// at most, and looked at once for a line feed.
+/// The bytes that were read and not taken, and before them the line that was taken last. Each byte is moved at most
+/// once, and searched once for a line feed.
 #[derive(Drop)]
 pub struct Buffer {
-    // `bytes[start..end]` were read and not taken, and the first line feed stands at the place `feed` among them.
+    // `bytes[start..end]` were read and not taken, and the first line feed is at the place `feed` among them.
     bytes: Vec<u8>,
     start: usize,
     end: usize,
@@ -66,7 +66,7 @@ impl Buffer {
         self.end - self.start
     }
 
-    /// How many bytes stand before the first line feed, if there is one.
+    /// How many bytes come before the first line feed, if there is one.
     pub fn line_len(&self) -> Option<usize>
         ensures { IsFirstFeed self.now.pending result }
     {
@@ -92,7 +92,7 @@ impl Buffer {
         self.feed = memchr(b'\n', &self.bytes[self.start..self.end]);
     }
 
-    /// The line that was taken last, without its line feed. Each read forgets it.
+    /// The line that was taken last, without its line feed. Each read drops it.
     pub fn line(&self) -> &[u8]
         ensures { result.now ≡ self.now.line }
     {
@@ -116,7 +116,7 @@ impl Buffer {
         Ok(())
     }
 
-    // Reads a piece behind a line that may still go on, and forgets the line that was taken.
+    // Reads a piece after a line that isn't complete, and drops the line that was taken.
     fn fill<S: Source>(&mut self, src: &mut S) -> Result<usize, Failed>
         requires { is_settled self.old.pending ≡ false }
         ensures grows { Grows self.old.pending self.new.pending (S.left src.old) (S.left src.new) }
@@ -140,7 +140,7 @@ impl Buffer {
     }
 }
 
-// Moves `bytes[start..end]` to the front. Bytes that stand there already are not moved again at each read.
+// Moves `bytes[start..end]` to the front. Bytes that are there already aren't moved again at each read.
 fn move_to_front(bytes: &mut [u8], start: usize, end: usize)
     requires in_order { start ≤ end }
     requires within { end ≤ length bytes.old }
@@ -151,7 +151,7 @@ fn move_to_front(bytes: &mut [u8], start: usize, end: usize)
     }
 }
 
-// The place of the first line feed, where none stands among the first `len` bytes.
+// The place of the first line feed, if there is none among the first `len` bytes.
 fn feed_behind(bytes: &[u8], len: usize) -> Option<usize>
     requires within { len ≤ length bytes.now }
     requires none { has_feed (take len bytes.now) ≡ false }

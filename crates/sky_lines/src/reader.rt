@@ -70,8 +70,8 @@ impl LineReader {
         self.fault.is_some() || self.buffer.is_settled()
     }
 
-    /// The line that was taken last, without its line feed. It stands where it was read, until the next
-    /// `advance`; where that takes none, what is shown is left open.
+    /// The line that was taken last, without its line feed. It is shown in place, until the next `advance`; if that
+    /// takes none, what is shown is left open.
     pub fn line(&self) -> &[u8]
         ensures { result.now ≡ self.now.line }
     {
@@ -96,15 +96,15 @@ impl LineReader {
             → Rose (S.faults src.old) (S.faults src.new) }
         ensures never_falls { S.faults src.old ≤ S.faults src.new }
 
-        // No memory is taken, so none is wanting.
+        // No memory is taken, so it can't run out.
         ensures takes_no_memory { self.old.fault ≡ None → ¬ (IsErrOf result LineFault.NoMemory) }
 
-        // A fault is given for good.
+        // Once given, a fault is given at each later call.
         ensures kept { IfErr result (λ fault. self.new.fault ≡ Some fault) }
         ensures again { IfSome self.old.fault (λ fault.
             (result ≡ Err fault) × (self.new ≡ self.old) × (src.new ≡ src.old)) }
 
-        // What holds of a source that tells nothing, too.
+        // What holds of a source that shows nothing, too.
         ensures sound { OnOk result (self.new.fault ≡ None) }
         ensures at_hand { is_at_hand self.old ≡ true → src.new ≡ src.old }
         ensures counted { result ≡ Ok true → CountsLine self.old self.new self.new.line }
@@ -123,7 +123,7 @@ impl LineReader {
 
     /// The next line, without its line feed, or `None` at the end of the script: a copy of what `advance` takes.
     ///
-    /// Where memory is wanting for a line, which of its bytes are still pending is left open.
+    /// Out of memory for a line, which of its bytes are still pending is left open.
     pub fn next_line<S: Source>(&mut self, src: &mut S) -> Result<Option<Vec<u8>>, LineFault>
         ensures line { IfOk result (λ answer. IfSome answer (λ line.
             (left : List ℕ) → S.left src.old ≡ Some left
@@ -143,12 +143,12 @@ impl LineReader {
             → Rose (S.faults src.old) (S.faults src.new) }
         ensures never_falls { S.faults src.old ≤ S.faults src.new }
 
-        // A fault is given for good.
+        // Once given, a fault is given at each later call.
         ensures kept { IfErr result (λ fault. self.new.fault ≡ Some fault) }
         ensures again { IfSome self.old.fault (λ fault.
             (result ≡ Err fault) × (self.new ≡ self.old) × (src.new ≡ src.old)) }
 
-        // What holds of a source that tells nothing, too.
+        // What holds of a source that shows nothing, too.
         ensures sound { OnOk result (self.new.fault ≡ None) }
         ensures at_hand { is_at_hand self.old ≡ true → src.new ≡ src.old }
         ensures counted { IfOk result (λ answer. IfSome answer (λ line.
@@ -163,7 +163,7 @@ impl LineReader {
         }
     }
 
-    // What the pending bytes answer, where they are settled or are the last of the script.
+    // What the pending bytes answer, if they are settled or are the last of the script.
     fn answer(&mut self) -> Result<bool, LineFault>
         ensures line { result ≡ Ok true → TakesPending self.old self.new self.new.line }
         ensures end { result ≡ Ok false → (self.old.pending ≡ []) × (self.new ≡ self.old) }
@@ -186,7 +186,7 @@ impl LineReader {
         Ok(true)
     }
 
-    // The same, where no line feed is pending.
+    // The same, if no line feed is pending.
     fn answer_unended(&self) -> Result<bool, LineFault>
         requires { has_feed self.now.pending ≡ false }
         ensures end { IfOk result (λ found. (found ≡ false) × (self.now.pending ≡ [])) }

@@ -1,4 +1,4 @@
--- An active batch is its consumer's, begins where the consumer stands and closes at the next tick.
+-- An active batch is its consumer's, begins at the consumer's position and closes at the next tick.
 use Rattle.std.proofs.Common.{◌≡◌, ℕ, ◌+◌, List, [], ◌∷◌, Bool, true, false, ◌&&◌, ◌==◌, Option, Some, None, unwrap_or, option_map, is_some, bytes_eq, refl, sym, ◌∙◌, ap, subst, arith, if◌then◌else◌}
 use Rattle.std.proofs.lemmas.Bool.{and_parts, or_right}
 use Rattle.std.proofs.lemmas.Bool.Decides.{nat_tests}
@@ -10,7 +10,7 @@ use Rattle.sky_model.proofs.Legal.{Opens, ticks_next, registers, moves, unregist
 use Rattle.sky_model.proofs.TickOrder.{is_made, is_made-tick}
 use Rattle.sky_model.proofs.Cases.{by_test, by_same}
 
--- what is read of a consumer is the same where the queue and the name are
+-- what is read of a consumer is the same if the queue and the name are
 pub same_consumer : {A : Type 0} (read : ℕ → List ℕ → A) (q queue : ℕ) (name consumer : List ℕ)
     → (q == queue && bytes_eq consumer name) ≡ true → read queue consumer ≡ read q name
 same_consumer read q queue name consumer e =

@@ -15,7 +15,7 @@ use Rattle.sky_model.proofs.WholeWords.{joined, words-joined}
 use Rattle.sky_model.proofs.InFormLaw.{whole-line_of_words}
 use Rattle.sky_model.proofs.Cases.{by_test}
 
--- where words go wrong: at the session's word, behind it where it is alone, at the first word of the statement, or behind that
+-- where words go wrong: at the session's word, after it if it is alone, at the first word of the statement, or after that
 data Fault (w : List ℕ) (ws : List (List ℕ)) (k : ℕ) : Type 0 where
   no_session : session_of w ≡ None → k ≡ 1 → Fault w ws k
   session_alone : (name : List ℕ) → session_of w ≡ Some name → ws ≡ [] → k ≡ 2 → Fault w ws k
@@ -172,7 +172,7 @@ same_first (suc k) u w us ws some same = cc
 hashed : (b : ℕ) (bs : List ℕ) → b ≡ 35 → Hashed (words (b ∷ bs))
 hashed b bs hash = rw hash (hashed-with_first (pieces (quoted_after false 35) bs))
 
--- a comment's words don't begin as those of a line that is none
+-- a comment's words don't begin as those of a line that isn't one
 no_comment : (c : ℕ) (cs : List ℕ) (b : ℕ) (bs w : List ℕ) (ws : List (List ℕ)) (k : ℕ) → c ≡ 35 → words (b ∷ bs) ≡ w ∷ ws → (b == 35) ≡ false → 1 ≤ k → take k (words (c ∷ cs)) ≡ take k (w ∷ ws) → ⊥
 no_comment c cs b bs w ws k hash are no_hash some same =
     let comment = hashed c cs hash in

@@ -5,7 +5,7 @@ use Rattle.std.proofs.lemmas.Bool.{eqb-true, cond_both}
 use Rattle.sky_model.specs.Sessions.{Block, outside, inside, failed}
 use Rattle.sky_model.specs.Outcome.{Checked, ◌>>=◌}
 
--- what holds of a test where it holds and where it fails
+-- what holds of a test if it holds and if it fails
 pub by_test : (P : Bool → Type 0) (b : Bool) → (b ≡ true → P true) → (b ≡ false → P false) → P b
 by_test P true here there = here refl
 by_test P false here there = there refl

@@ -1,4 +1,4 @@
--- What holds as the clock moves: what the clock's standing at a moment and the turns of daemons keep.
+-- What holds as the clock moves: what setting the clock to a moment and the turns of daemons keep.
 use Rattle.std.proofs.Common.{ℕ, zero, suc, ◌+◌, ℤ, ◌+ℤ◌, ◌-ℤ◌, int_lt, unsigned_abs, List, [], ◌∷◌, Bool, true, false, map, length, Option, Some, None, sym, subst, append-nil, if◌then◌else◌}
 use Rattle.sky_model.specs.declared.daemon.DaemonPart.{DaemonPart}
 use Rattle.sky_model.specs.declared.daemon.DaemonPart.TheVariants.{Tick, Retry, Maintain}

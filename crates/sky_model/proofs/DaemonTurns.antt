@@ -12,7 +12,7 @@ use Rattle.sky_model.specs.Daemon.{quietly, ticks_of, daemon_does}
 use Rattle.sky_model.proofs.StatementMarks.{EachMark, each-append, each-given, AnyReply, gives-tick}
 
 module _ {P Q : Type 0} (r : DatabaseReader P) (s : DatabaseReader Q) (at : P → Q) (same : (p : P) → r.database p ≡ s.database (at p)) (behind : (p : P) (mark : Mark) → at (r.behind p mark) ≡ s.behind (at p) mark) where
-  -- a place behind marks is read as the other one behind them
+  -- a place after marks is read as the other one after them
   at-behind : (now : ℤ) (p : P) (marks : List Mark) → at (behind_marks (within_part r now) p marks) ≡ behind_marks (within_part s now) (at p) marks
   at-behind now p [] = refl
   at-behind now p (mark ∷ marks) = at-behind now (r.behind p mark) marks ∙ ap (λ q. behind_marks (within_part s now) q marks) (behind p mark)

@@ -1,4 +1,4 @@
--- No wait begins or ends by what is told of writes, so in a whole database, too, none is ready behind a turn.
+-- What records writes begins and ends no wait, so in a whole database, too, none is ready after a turn.
 use Rattle.std.proofs.Common.{ℤ, refl}
 use Rattle.sky_model.specs.State.{database_of}
 use Rattle.sky_model.specs.Printed.{ReplyHasMoments}

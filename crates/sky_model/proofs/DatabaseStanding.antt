@@ -36,7 +36,7 @@ use Rattle.sky_model.proofs.Promised.{promised}
 use Rattle.sky_model.proofs.Entering.{entered-part}
 use Rattle.sky_model.proofs.GatedStanding.{each-past}
 
--- marks one after the other
+-- marks one after another
 pub after_marks-append : (d : Database) (xs ys : List Mark) → after_marks d (xs ++ ys) ≡ after_marks (after_marks d xs) ys
 after_marks-append d [] ys = refl
 after_marks-append d (x ∷ xs) ys = after_marks-append (after_mark d x) xs ys
@@ -45,7 +45,7 @@ pub behind-all : (now : ℤ) (d : Database) (marks : List Mark) → behind_marks
 behind-all now d [] = refl
 behind-all now d (mark ∷ marks) = behind-all now (after_mark d mark) marks
 
--- of an active batch the queue stands, which keeps what is listed
+-- the queue of an active batch stands, and keeps what the batch lists
 same-events : (h : History) → Legal h → (id : ℕ) (o : Option Batch) → active_batch id h ≡ o → option_map (batch_events h) o ≡ option_map (selected (database_of h)) o
 same-events h l id None is = refl
 same-events h l id (Some b) is =
@@ -82,7 +82,7 @@ as-kept now = record {
   behind = λ h d mark keeps fine. record { legal = next keeps.legal fine; shows = database_of-mark h mark ∙ ap (λ x. after_mark x mark) keeps.shows };
 }
 
--- and so do those that it lets go on
+-- and so do those that it unblocks
 settling-kept : (h : History) → Legal h → (now : ℤ) (turn turn' : Turn) → turn ≡ turn' → Chain h (with_settling (within_part database_by_history now) h turn).marks
     → with_settling (within_part database_by_history now) h turn ≡ with_settling (within_part database_by_itself now) (database_of h) turn'
 settling-kept h l now turn turn' same chain =
@@ -101,13 +101,13 @@ same-database_does h l (entered who outside) = refl
 same-database_does h l (worked part now) = sym (same-daemon_does database_by_history database_by_itself database_of (λ g. refl) database_of-mark h part now)
 same-database_does h l (failed who now) = sym (settling-kept h l now (failing (part_of h) who) (failing (part_of h) who) refl (good_does h l (failed who now)))
 
--- the database behind a call
+-- the database after a call
 behind-does : (h : History) → Legal h → (call : DatabaseCall)
     → after_marks (database_of h) (database_does database_by_itself (database_of h) call).marks ≡ database_of (database_part.after h call)
 behind-does h l call =
     ap (λ (turn : Turn). after_marks (database_of h) turn.marks) (same-database_does h l call) ∙ sym (database_of-marks h (database_does database_by_history h call).marks)
 
--- a call that changes a database as the database itself tells keeps its promise
+-- a call that changes a database as the database itself says keeps its promise
 pub database_steps_from_exact : (old new : Database) (call : DatabaseCall) → new ≡ after_marks old (database_does database_by_itself old call).marks
     → DatabaseSteps old new call (database_does database_by_itself old call)
 database_steps_from_exact old new call changed =

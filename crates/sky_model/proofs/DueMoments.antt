@@ -1,4 +1,4 @@
--- The moments at which daemons are due, as the clock goes from one to the next.
+-- The moments at which daemons are due, as the clock moves from one to the next.
 use Rattle.std.proofs.Common.{◌≡◌, ◌⊎◌, inl, inr, ℕ, zero, suc, ◌+◌, ◌*◌, ◌/◌, ◌%◌, ◌<◌, ◌≤◌, ℤ, pos, ◌+ℤ◌, ◌-ℤ◌, ◌<ℤ◌, ◌≤ℤ◌, int_lt, unsigned_abs, List, [], ◌∷◌, ◌++◌, Bool, true, false, ◌&&◌, ◌==◌, nat_le, map, length, Option, Some, None, IfSome, option_map, Contains, refl, sym, ◌∙◌, ap, subst, arith, if◌then◌else◌}
 use Rattle.std.proofs.lemmas.Int.{ints}
 use Rattle.std.proofs.lemmas.Bool.{eqb-true}
@@ -90,7 +90,7 @@ due-split daemons n part x is = by (is.database == n) refl
     by true e = inr (subst (λ d. is_due_at x part (daemons d) ≡ true) (eqb-true is.database n e) is.due)
     by false e = inl (record { database = is.database; below = grind (arith, is.below, e); due = is.due })
 
--- the first moment of one more daemon
+-- the first moment, with one more daemon
 abbrev IsFirstOf : ℤ → Option ℤ → Option ℤ → Type 0
 IsFirstOf now daemon None = (x : ℤ) (part : DaemonPart) → is_due_at x part daemon ≡ true → ⊥
 IsFirstOf now daemon (Some moment) = (now <ℤ moment) × (is_due_at moment Tick daemon ≡ true) × ((x : ℤ) (part : DaemonPart) → now <ℤ x → is_due_at x part daemon ≡ true → moment ≤ℤ x)
@@ -313,7 +313,7 @@ through-due to (suc n) past enough le since =
 abbrev AreStarted : Past → Type 0
 AreStarted past = AreOnSince (clock past) (daemon past)
 
--- the clock doesn't go back
+-- the clock doesn't move back
 clock-later : (past : Past) (who : ℕ) (time : ℤ) (waits : Bool) → pos 1 ≤ℤ time → clock past ≤ℤ clock (on_top past (statement.clock by_past past who time waits).facts)
 clock-later past who time true more = omega (arith, ints)
 clock-later past who time false more = of (int_lt last_moment to)
@@ -344,7 +344,7 @@ started-clock past who time waits more since d = subst (λ o. IfSome o (λ start
     by None le = tt
     by (Some start) le = omega (arith, ints, le, clock-later past who time waits more)
 
--- facts behind which it is so where it was so before
+-- facts after which it is so if it was so before
 abbrev Keep : List Fact → Type 0
 Keep facts = (past : Past) → AreStarted past → AreStarted (on_top past facts)
 
@@ -359,7 +359,7 @@ keep-left : (who : ℕ) (leaving : Bool) → Keep (left_if who leaving)
 keep-left who true past since = since
 keep-left who false past since = since
 
--- a daemon is put on from now on
+-- a daemon is switched on
 keep-on : (d : ℕ) → Keep (daemon_on d ∷ [])
 keep-on d past since e = by (d == e)
   where

@@ -1,4 +1,4 @@
--- An event that stands between the ends of a consumer's finished batches stands in one of them alone.
+-- An event between the ends of a consumer's finished batches is in one of them alone.
 use Rattle.std.proofs.Common.{◌≡◌, ℕ, ◌+◌, List, [], ◌∷◌, Bool, true, false, not, ◌&&◌, Some, unwrap_or, length, filter, refl, sym, ◌∙◌, ap, subst, arith, if◌then◌else◌}
 use Rattle.sky_val.specs.declared.event.Event.{Event}
 use Rattle.sky_model.specs.History.{Batch, History}
@@ -15,14 +15,14 @@ use Rattle.sky_model.proofs.FinishedBatches.{Follows, LeadFor, finished_lead}
 pub batches_list_what_stands : BatchesListWhatStands
 batches_list_what_stands h b = refl
 
--- 1 where the test holds
+-- 1 if the test holds
 abbrev tally : Bool → ℕ
 tally b = if b then 1 else 0
 
 length-kept : (test : Bool) (b : Batch) (bs : List Batch) → length (if test then b ∷ bs else bs) ≡ tally test + length bs
 length-kept test b bs = grind arith
 
--- what stands between two ticks stands before a tick between them, or behind it
+-- what is between two ticks is before a tick between them, or after it
 tally-split : (from mid to own : Bool) → (from ≡ true → mid ≡ true) → (mid ≡ true → to ≡ true)
     → tally (mid && not from && own) + tally (to && not mid && own) ≡ tally (to && not from && own)
 tally-split from mid to own up on = grind arith

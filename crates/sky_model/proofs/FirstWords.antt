@@ -2,7 +2,7 @@
 use Rattle.std.proofs.Common.{◌≡◌, ℕ, false, true, cond, List, [], ◌∷◌, refl}
 use Rattle.sky_model.specs.Words.{is_parting, quoted_after, with_first, pieces, words}
 
--- a first word, and those behind it
+-- a first word, and those after it
 pub record HasFirst (ws : List (List ℕ)) : Type 0 where
   pub first : List ℕ
   pub others : List (List ℕ)

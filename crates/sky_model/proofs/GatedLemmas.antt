@@ -1,4 +1,4 @@
--- What a gate in front of writes does: it is told of each write, refuses those that it has no room for, and leaves all else.
+-- What a gate for writes does: it is notified of each write, refuses those that it has no room for, and leaves all else.
 use Rattle.std.proofs.Common.{◌≡◌, ℕ, Bool, true, false, List, [], ◌∷◌, ◌++◌, Option, Ok, Err, refl, ◌∙◌, ap, not, ◌&&◌}
 use Rattle.sky_val.specs.declared.val.Val.{Val}
 use Rattle.sky_model.specs.declared.stmt.RowStmt.{RowStmt}
@@ -19,13 +19,13 @@ use Rattle.sky_model.specs.Printed.{ReplyHasMoments}
 use Rattle.sky_model.proofs.StatementMarks.{EachMark, each-map, AnyReply, each-given, Kinds, no_more, may_leave, gives-row_form, each-abort}
 use Rattle.sky_model.proofs.Turns.{ReadAlike, same-with_settling, alike-turn, Any, each-any}
 
--- a place behind marks is the part behind them, and the gate behind them
+-- a place after marks is the part after them, and the gate after them
 pub gated-behind : {G : Type 0} (gate : Gate G) (d : RowPart) (g : G) (marks : List Mark)
     → behind_marks (by_gate gate part_by_itself) (d, g) marks ≡ (after_part_marks d marks, passed_all gate g marks)
 gated-behind gate d g [] = refl
 gated-behind gate d g (mark ∷ marks) = gated-behind gate (after_part d mark) (passed gate g mark) marks
 
--- the gate behind marks and more of them
+-- the gate after marks and more of them
 pub passed-append : {G : Type 0} (gate : Gate G) (g : G) (xs ys : List Mark) → passed_all gate g (xs ++ ys) ≡ passed_all gate (passed_all gate g xs) ys
 passed-append gate g [] ys = refl
 passed-append gate g (x ∷ xs) ys = passed-append gate (passed gate g x) xs ys
@@ -38,7 +38,7 @@ is_no_write _ = true
 abbrev pub WritesNone : List Mark → Type 0
 WritesNone marks = EachMark is_no_write marks
 
--- nor of what a statement does, where it isn't refused
+-- nor of what a statement does, if it isn't refused
 abbrev pub PlainOutcome : Checked Outcome → Type 0
 PlainOutcome c = WritesNone (marks_of c)
 
@@ -51,7 +51,7 @@ none-told gate g (mark ∷ marks) plain = none-told gate g marks plain
 pub passed-none : {G : Type 0} (gate : Gate G) (g : G) (marks : List Mark) → WritesNone marks → passed_all gate g marks ≡ g
 passed-none gate g marks plain = (none-told gate g marks plain).1
 
--- and what writes nothing is done as without it
+-- and what writes nothing is done as without the gate
 pub gated-none : {G : Type 0} (gate : Gate G) (g : G) (c : Checked Outcome) → PlainOutcome c → gated gate g c ≡ c
 gated-none gate g (Err refusal) plain = refl
 gated-none gate g (Ok o) plain = ap (λ b. refused_if (not b) EventIdsSpent >> Ok o) (none-told gate g o.marks plain).0
@@ -72,7 +72,7 @@ plain-get d shown who name key =
     each-map (may_leave no_more who) is_no_write (plain-if no_more refl who) (marks_of (get d shown who name key))
     (each-given ReplyHasMoments (may_leave no_more who) (get d shown who name key) (gives-row_form who d shown (Get name key)))
 
--- a refusal that aborts a block tells it of nothing
+-- a refusal that aborts a block doesn't notify the gate
 pub passed-abort : {G : Type 0} (gate : Gate G) (g : G) (who : ℕ) (b : Block) (txid : Option ℕ) (refusal : Refusal) → passed_all gate g (abort who b txid refusal) ≡ g
 passed-abort gate g who b txid refusal = passed-none gate g (abort who b txid refusal) (plain-abort who b txid refusal)
 
@@ -98,7 +98,7 @@ as-open = record {
   behind = λ p d mark is _. ap (λ x. after_part x mark) is;
 }
 
--- a turn, with those that it lets go on
+-- a turn, with those that it unblocks
 pub open-with_settling : (d : RowPart) (turn : Turn) → with_settling (by_gate open_gate part_by_itself) (d, tt) turn ≡ with_settling part_by_itself d turn
 open-with_settling d turn =
     same-with_settling (by_gate open_gate part_by_itself) part_by_itself Any (λ p x. p.0 ≡ x) as-open (d, tt) d turn turn refl refl

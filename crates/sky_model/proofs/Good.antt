@@ -15,11 +15,11 @@ use Rattle.sky_model.proofs.Legal.{ends, fails_block, Chain, done, more}
 use Rattle.std.proofs.lemmas.Bool.{cond_both}
 use Rattle.sky_model.proofs.Cases.{by_block}
 
--- a session is itself
+-- a session's number equals itself
 pub same-session : (who : ℕ) → (who == who) ≡ true
 same-session who = grind (arith, nat_tests)
 
--- a session may make a statement there that may stand in such a place
+-- a session may make a statement there that is allowed in such a place
 abbrev pub MayStand : History → ℕ → Where → Type 0
 MayStand h who place = is_ok (allowed (is_waiting who (waiting h)) (has_open who h) (block who h) place) ≡ true
 
@@ -27,7 +27,7 @@ MayStand h who place = is_ok (allowed (is_waiting who (waiting h)) (has_open who
 abbrev pub Good : History → ℕ → Checked Outcome → Type 0
 Good h who c = Chain h (settled who (session h who) c).marks
 
--- a block's may that is rolled back, and stays aborted
+-- those of a block may that is rolled back, and stays aborted
 good_rolled_back : (h : History) (who : ℕ) → block who h ≡ inside → Chain h (end_of false who (own_txid who h) ++ block_failed who ∷ [])
 good_rolled_back h who is = of (own_txid who h) refl
   where
@@ -71,7 +71,7 @@ pub good_checked : {A : Type 0} (h : History) (who : ℕ) (o : Checked A) (c : A
 good_checked h who (Err refusal) c good = good_refused h who refusal
 good_checked h who (Ok a) c good = good a refl
 
--- a transaction that is running may commit where its statement stands outside a block
+-- a transaction that is running may commit if its statement is outside a block
 pub good_commits : (h : History) (who t : ℕ) (b : Block) → own_txid who h ≡ Some t → Chain h (commit_of who t b)
 good_commits h who t outside mine = more (ends who t true mine) done
 good_commits h who t _ mine = done

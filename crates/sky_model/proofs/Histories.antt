@@ -115,7 +115,7 @@ legal_calls (call ∷ calls) =
 
 -- ---- calls of the world
 
--- in the past a statement, with what it lets go on, reads its database's history
+-- in the past a statement, with what it unblocks, reads its database's history
 pub same-turn-within : (past : Past) (d : ℕ) (now : ℤ) (who : ℕ) (stmt : Stmt) → database_turn (within_database by_past d) past now who stmt ≡ database_turn database_by_history (history_in past d) now who stmt
 same-turn-within past d now who stmt =
     same-turn_read (within_database by_past d) database_by_history (λ p. history_in p d) (record {
@@ -210,7 +210,7 @@ made_called formed past call None is_form all =
     (λ d. subst (λ p. Made formed (history_in p d)) (sym (on_top-append past (appears call.who).facts (turn by_past (length (session_names past)) call.stmt (appeared call.who ∷ past)).facts))
     (made_statement formed (appeared call.who ∷ past) (length (session_names past)) call.stmt is_form all d))
 
--- if something else holds that gives it
+-- if something else holds that implies it
 made_if_given : (formed given : Type 0) → (given → formed) → (h : History) → Made formed h → Made given h
 made_if_given formed given gives h made = record { calls = made.calls; in_form = λ holds. made.in_form (gives holds); make = made.make }
 

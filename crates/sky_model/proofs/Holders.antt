@@ -1,4 +1,4 @@
--- A session holds a key exactly where its running transaction has written it.
+-- A session holds a key if and only if its running transaction has written it.
 use Rattle.std.proofs.Common.{◌≡◌, ℕ, true, false, List, [], ◌∷◌, ◌++◌, Option, Some, None, sym, ◌∙◌, ap, arith, if◌then◌else◌, ◌||◌, ◌&&◌, ◌==◌}
 use Rattle.std.proofs.lemmas.Bool.{or_parts, eqb-true, false_from_ne_true}
 use Rattle.std.specs.Ordering.{eq_by_cmp}
@@ -15,7 +15,7 @@ use Rattle.sky_model.specs.Sessions.{own_txid}
 use Rattle.sky_model.specs.Rows.{Write, writes as writes_of, has_written}
 use Rattle.sky_model.specs.Locks.{holder}
 use Rattle.sky_model.specs.LawsOfLocks.{HasWritten}
-use Rattle.sky_model.proofs.Legal.{Fine, begins, ends, writes, Legal, start, next}
+use Rattle.sky_model.proofs.Legal.{Fine, begins, ends, writes, Legal, start, next, ends_work}
 use Rattle.sky_model.proofs.Snapshots.{sound, own-unended}
 use Rattle.sky_model.proofs.Cases.{by_test, by_same}
 
@@ -27,7 +27,7 @@ pub has_written-push : (key : List Val) (ws : List Write) (w : Write) → has_wr
 has_written-push key [] w = grind arith
 has_written-push key (x ∷ ws) w = grind (arith, has_written-push key ws w)
 
--- who holds a key, but a session, is another than it
+-- if a key has a holder other than a session, that holder holds the key, and isn't the session
 unless-another : (who w : ℕ) (o : Option ℕ) → other_than who o ≡ Some w → (o ≡ Some w) × ((who == w) ≡ false)
 unless-another who w None e = absurd (cc)
 unless-another who w (Some h) e =
@@ -94,6 +94,9 @@ held-step h _ (ends v t c mine) l table key ih = λ u unended wrote_it.
     another : (v u t who : ℕ) → own_txid who h ≡ Some u → own_txid v h ≡ Some t → (u == t) ≡ false → (v == who) ≡ false
     another v u t who owns mine other = false_from_ne_true (v == who) (λ is.
         let same : t ≡ u = cc (sym mine ∙ ap (λ x. own_txid x h) (eqb-true v who is) ∙ owns) in absurd (grind (arith, nat_tests)))
+held-step h _ (ends_work t c is) l table key ih = λ u unended wrote_it.
+    let o = ih u (or_parts (u == t) (has_ended h u) unended).1 wrote_it in
+    record { who = o.who; owns = o.owns; holds = o.holds }
 held-step h _ (writes v t n at_key old new mine free stands) l table key ih = λ u unended wrote_it.
     by_test (λ _. Holding (tabled (wrote (of_session v) t n at_key old new) ∷ h) table key u) ((n == table && eq_by_cmp key_cmp at_key key) && t == u)
     (λ is. record { who = v; owns = grind (arith, nat_tests); holds = grind (arith, nat_tests) })
@@ -112,7 +115,7 @@ written-holder h l table key who w =
     let o = held h l table key w.txid (own-unended h l who w.txid w.runs) w.wrote in
     o.holds ∙ ap Some ((sound h l).once o.who who w.txid o.owns w.runs)
 
--- where no other session holds a key, no other transaction that hasn't ended has written it
+-- if no other session holds a key, no other transaction that hasn't ended has written it
 pub nobody-else : (h : History) → Legal h → (who t n : ℕ) (key : List Val) → own_txid who h ≡ Some t → other_than who (holder n key h) ≡ None
     → (u : ℕ) → has_ended h u ≡ false → (t == u) ≡ false → has_written key (writes_of n u h) ≡ true → ⊥
 nobody-else h l who t n key mine free u unended other wrote_it =

@@ -61,13 +61,13 @@ block-open _ (next {h = h} {mark = mark} l fine) who there = block-step h mark f
 pub blocks_are_open : BlocksAreOpen
 blocks_are_open p is who there = block-open p (legal_place p is) who there
 
--- ---- who has a database open behind a turn
+-- ---- who has a database open after a turn
 
--- behind marks it is open to one session as told, and to the others as before
+-- after marks it is open to one session as given, and to the others as before
 abbrev Opens : History → List Mark → ℕ → Bool → Type 0
 Opens h marks who b = (v : ℕ) → has_open v (marked h marks) ≡ (if who == v then b else has_open v h)
 
--- behind a turn, where it is so behind its statement: those that go on leave it
+-- after a turn, if it is so after its statement: those that resume leave it
 turn-opens : (h : History) (now : ℤ) (who : ℕ) (stmt : Stmt) (b : Bool) → Opens h (statement database_by_history h now who stmt).marks who b
     → Opens h (database_turn database_by_history h now who stmt).marks who b
 turn-opens h now who stmt b own v =
@@ -77,7 +77,7 @@ turn-opens h now who stmt b own v =
     ∙ open-stays v (marked h marks) (settling (within_part database_by_history now) there).marks (stay-settling there now)
     ∙ own v
 
--- nothing changes, where the session had it as told
+-- nothing changes, if the session had it as given
 stay-opens : (h : History) (marks : List Mark) (who : ℕ) (b : Bool) → Stay marks → has_open who h ≡ b → Opens h marks who b
 stay-opens h marks who b stay is v = grind (arith, nat_tests, open-stays v h marks stay, is)
 
@@ -88,7 +88,7 @@ stay-statement h now who stmt may is =
     (given-runs AnyReply is_staying (λ _. tt) (stays-if no_more refl) (making database_by_history now who stmt) (where_of stmt) who h may
     (stays-form (database_of h) (shown_in h) now who stmt is) (stays-form (database_of (looked who ∷ h)) (shown_in (looked who ∷ h)) now who stmt is)).1
 
--- how a statement is made, by whether it may be
+-- how a statement is made, by whether it is allowed
 abbrev made : History → ℤ → ℕ → Stmt → Checked (Unit {0}) → Outcome
 made h now who stmt may = runs_if (making database_by_history now who stmt) (where_of stmt) who h may
 
@@ -142,7 +142,7 @@ home-marks : (past : Past) (d : ℕ) (marks : List Mark) (v : ℕ) → home (on_
 home-marks past d [] v = refl
 home-marks past d (mark ∷ marks) v = home-marks (within d mark ∷ past) d marks v
 
--- a turn in a database that its session has open then, or hasn't, where it is said so of its home
+-- a turn in a database that its session has open then, or hasn't, according to its home
 homed-turn : (past : Past) → Homed past → (d who : ℕ) (marks : List Mark) (beside : List Fact) (b : Bool) → AreOutside beside
     → ((v : ℕ) → home (on_top (on_top past (map (within d) marks)) beside) v ≡ (if who == v then home_if b d else home past v))
     → Opens (history_in past d) marks who b
@@ -155,7 +155,7 @@ homed-turn past homed d who marks beside b none homes own elsewhere v e =
     (λ other. grind (arith, nat_tests, homed v e, elsewhere e other))
     ∙ ap (λ o. stands o e) (sym (ap (λ p. home p v) (on_top-append past (map (within d) marks) beside) ∙ homes v))
 
--- where its home is no other database it has no other open
+-- if its home is no other database it has no other open
 elsewhere-none : (past : Past) → Homed past → (d who : ℕ) (at : Option ℕ) → home past who ≡ at → (at ≡ None) ⊎ (at ≡ Some d) → (e : ℕ) → (d == e) ≡ false → has_open who (history_in past e) ≡ false
 elsewhere-none past homed d who at is where_it_is e other = grind (arith, nat_tests, homed who e)
 
@@ -209,7 +209,7 @@ homed-outside past all homed who stmt (Some name) is none =
     subst (λ (s : Stmt). Homed (on_top past (opens by_past past who s name (place_of name (database_names past))).facts)) (sym (opening-name stmt name is))
     (homed-opens past all homed who name (place_of name (database_names past)) none)
 
--- a statement is `close`, or leaves its session where it is
+-- a statement is `close`, or leaves its session as it is
 close-or-stays : (stmt : Stmt) (waits is_open : Bool) → is_open ≡ true → (stmt ≡ Row Close) ⊎ ((is_leaving waits stmt ≡ false) × IsStaying is_open stmt)
 close-or-stays (Row Close) waits is_open is = inl refl
 close-or-stays (Row (OpenDb name)) waits is_open is = inr (refl, ap not is)

@@ -1,25 +1,29 @@
--- The events that tell of a write have smaller ids than those of the same queue that tell of a later write.
-use Rattle.std.proofs.Common.{◌≡◌, ℕ, zero, suc, ℤ, ◌<◌, All, Contains, List, [], ◌∷◌, ◌++◌, ◌==◌, Some, Ok, Err, length, refl, sym, ◌∙◌, ap, subst, arith, if◌then◌else◌, ◌⊎◌, inl, inr, append_assoc, length-append, slice_index_or}
+-- The events that record a write have smaller ids than those of the same queue that record a later write.
+use Rattle.std.proofs.Common.{◌≡◌, ℕ, zero, suc, ℤ, ◌<◌, All, Contains, List, [], ◌∷◌, ◌++◌, Bool, true, not, ◌==◌, Option, Some, None, is_some, IfOk, Ok, Err, length, refl, sym, ◌∙◌, ap, subst, arith, if◌then◌else◌, ◌⊎◌, inl, inr, append_assoc, length-append, slice_index_or}
 use Rattle.std.proofs.lemmas.Bool.{cond_both}
 use Rattle.std.proofs.lemmas.List.Elements.{All-pop}
 use Rattle.sky_val.specs.declared.event.Event.{Event}
 use Rattle.sky_model.specs.History.{Mark, of_session, tabled, wrote, queued, put, History}
 use Rattle.sky_model.specs.Queues.{events}
-use Rattle.sky_model.specs.State.{Database, database_of}
+use Rattle.sky_model.specs.State.{Database, database_of, after_marks}
 use Rattle.sky_model.specs.Outcome.{Checked}
-use Rattle.sky_model.specs.Telling.{events_in, told_of}
+use Rattle.sky_model.specs.Telling.{events_in, told_event, event_marks, told_by, told_of}
+use Rattle.sky_model.specs.StepQueue.{next_event_id}
+use Rattle.sky_urlenc.specs.RowEvents.{RowEvent}
+use Rattle.std.proofs.lemmas.Result.{IfOk-at_ok}
+use Rattle.sky_model.proofs.Cases.{ok-then}
 use Rattle.sky_model.specs.Settling.{marked}
 use Rattle.sky_model.specs.HistoryPlaces.{IsPlace}
 use Rattle.sky_model.specs.LawsOfWrites.{IsToldBy, EventIdsFollowWrites}
 use Rattle.sky_model.proofs.Inserted.{none}
 use Rattle.sky_model.proofs.Telling.{EventMarks, told_by-events}
-use Rattle.sky_model.proofs.StatementMarks.{each-append, each-first, each-rest}
+use Rattle.sky_model.proofs.StatementMarks.{EachMark, each-append, each-first, each-rest, when-true}
 use Rattle.sky_model.proofs.GatedLemmas.{is_no_write, WritesNone}
 use Rattle.sky_model.proofs.WritesTold.{first, rest, events-plain}
 use Rattle.sky_model.proofs.EventIds.{event_ids_rise}
 use Rattle.sky_model.proofs.Good.{same-session}
 
--- ---- what is told of a mark
+-- ---- what records a mark
 
 abbrev IsWrite : Mark → Type 0
 IsWrite (tabled (wrote who t table key old new)) = Unit {0}
@@ -33,7 +37,7 @@ told_of-events : (d : Database) (now : ℤ) (mark : Mark) → EventMarks (told_o
 told_of-events d now (tabled (wrote (of_session who) t table key old new)) = told_by-events d now t (events_in d table old new)
 told_of-events d now _ = none
 
--- of anything but a write nothing is
+-- nothing records anything but a write
 write-or-none : (d : Database) (now : ℤ) (mark : Mark) → IsWrite mark ⊎ (told_of d now mark ≡ Ok [])
 write-or-none d now (tabled (wrote who t table key old new)) = inl tt
 write-or-none d now _ = inr refl
@@ -45,9 +49,41 @@ Have (Err refusal) mark = ⊥
 none-has : (mark : Mark) → Contains [] mark → ⊥
 none-has mark (k, less, is) = absurd (omega (arith, less))
 
+-- ---- what is told has no owner
+
+abbrev is_unowned : Mark → Bool
+is_unowned (queued (put q e)) = not (is_some e.ev_owner)
+is_unowned _ = true
+
+told_by-unowned : (d : Database) (now : ℤ) (t : ℕ) (es : List RowEvent) → IfOk (told_by d now t es) (EachMark is_unowned)
+told_by-unowned d now t [] = tt
+told_by-unowned d now t (e ∷ es) =
+    ok-then (EachMark is_unowned) (next_event_id (d.queue e.queue)) _ (λ id _.
+    ok-then (EachMark is_unowned) (told_by (after_marks d (event_marks e.queue (told_event id now t e))) now t es) _ (λ rest is.
+    IfOk-at_ok _ is (told_by-unowned (after_marks d (event_marks e.queue (told_event id now t e))) now t es)))
+
+told_of-unowned : (d : Database) (now : ℤ) (mark : Mark) → IfOk (told_of d now mark) (EachMark is_unowned)
+told_of-unowned d now (tabled (wrote (of_session who) t table key old new)) = told_by-unowned d now t (events_in d table old new)
+told_of-unowned d now _ = tt
+
+-- what passes of each passes of one of them
+each-contains : (p : Mark → Bool) (marks : List Mark) → EachMark p marks → (mark : Mark) → Contains marks mark → p mark ≡ true
+each-contains p [] all mark (k, less, is) = absurd (omega (arith, less))
+each-contains p (m ∷ marks) all mark (zero, less, is) = ap p (sym is) ∙ when-true (EachMark p marks) (p m) all
+each-contains p (m ∷ marks) all mark (suc k, less, is) = each-contains p marks (each-rest p m marks all) mark (k, omega (arith, less), is)
+
+told-unowned : (told : Checked (List Mark)) → IfOk told (EachMark is_unowned) → (marks : List Mark) → told ≡ Ok marks → (queue : ℕ) (e : Event)
+    → Contains marks (queued (put queue e)) → e.ev_owner ≡ None
+told-unowned told all marks same queue e there =
+    no-owner e.ev_owner (each-contains is_unowned marks (IfOk-at_ok _ same all) (queued (put queue e)) there)
+  where
+    no-owner : (o : Option ℕ) → not (is_some o) ≡ true → o ≡ None
+    no-owner None is = refl
+    no-owner (Some n) is = absurd (cc)
+
 -- ---- marks on top of a history
 
--- on top of it stand marks of which none is a write
+-- on top of it come marks of which none is a write
 record IsOnTop (h q : History) : Type 0 where
   marks : List Mark
   plain : WritesNone marks
@@ -59,7 +95,7 @@ on_top q (mark ∷ marks) plain =
     let top : IsOnTop (marked (mark ∷ q) marks) (mark ∷ q) = on_top (mark ∷ q) marks (each-rest is_no_write mark marks plain) in
     record { marks = top.marks ++ mark ∷ []; plain = each-append is_no_write top.marks (mark ∷ []) top.plain (each-first is_no_write mark marks [] plain tt); is = top.is ∙ sym (append_assoc top.marks (mark ∷ []) q) }
 
--- on top of it stands this mark, among others
+-- on top of it comes this mark, among others
 record StandsOnTop (mark : Mark) (h q : History) : Type 0 where
   above : List Mark
   below : List Mark
@@ -89,13 +125,13 @@ above-or-below [] a ys s b e = inl (ys, e)
 above-or-below (x ∷ xs) a [] s b e = inr (xs, sym (ap rest e))
 above-or-below (x ∷ xs) a (y ∷ ys) s b e = above-or-below xs a ys s b (ap rest e)
 
--- where none of the marks on top of a history is a write, no write stands on top of it
+-- if none of the marks on top of a history is a write, no write comes on top of it
 no-write-among : (marks : List Mark) → WritesNone marks → (q : History) (z : List Mark) (s : Mark) (middle : List Mark) → IsWrite s → marks ++ q ≡ z ++ s ∷ (middle ++ q) → ⊥
 no-write-among [] plain q z s middle is e = absurd (omega (arith, ap length e, length-append z (s ∷ (middle ++ q)), length-append middle q))
 no-write-among (x ∷ marks) plain q [] s middle is e = not-both x marks (subst IsWrite (sym (ap (first x) e)) is) plain
 no-write-among (x ∷ marks) plain q (y ∷ z) s middle is e = no-write-among marks (each-rest is_no_write x marks plain) q z s middle is (ap rest e)
 
--- so what is told of a write stands below a later one
+-- so what records a write is below a later one
 below-later : (h : History) (later : List Mark) (s : Mark) (middle : List Mark) (q : History) → IsWrite s → h ≡ later ++ s ∷ (middle ++ q)
     → (above told : List Mark) → WritesNone told → h ≡ above ++ marked q told → (z : List Mark) × (middle ++ q ≡ z ++ marked q told)
 below-later h later s middle q write e above told plain stands = of (above-or-below above (marked q told) later s (middle ++ q) (sym stands ∙ e))
@@ -163,6 +199,7 @@ follow h place later middle p first second queue e f same one other write =
 
     risen : All (λ x. x.ev_id < f.ev_id) (events queue (at_f.below ++ second ∷ k))
     risen = event_ids_rise (at_f.below ++ second ∷ k) queue f at_place
+        (told-unowned (told_of (database_of (second ∷ k)) other.is_told.time second) (told_of-unowned (database_of (second ∷ k)) other.is_told.time second) other.is_told.events other.is_told.told queue f other.is_put)
 
 pub event_ids_follow_writes : EventIdsFollowWrites
 event_ids_follow_writes h place later middle p first second queue e f same one other =

@@ -1,4 +1,4 @@
--- A line's statement is in form: the rows of all forms end with such statements, and so do the rows that are left behind each word.
+-- A line's statement is in form: the rows of all forms end with such statements, and so do the rows that are left after each word.
 use Rattle.std.proofs.Common.{◌≡◌, ℕ, ◌+◌, ◌-◌, ◌==◌, true, false, cond, List, [], ◌∷◌, ◌++◌, length, take, drop, Option, Some, None, IfSome, Result, Ok, Err, IfOk, refl, ap, ◌∙◌, arith, codes, bytes_eq}
 use Rattle.std.proofs.lemmas.Bool.{and_parts, cond_both}
 use Rattle.std.proofs.lemmas.List.Elements.{All-nil, All-cons}
@@ -38,7 +38,7 @@ FormsEndInForm (form ∷ forms) = EndsInForm form.1 × FormsEndInForm forms
 some_of : (k : Kind) (v : Of k) (vs : List (Of k)) → IsOf k v → All (IsOf k) vs → AreOf k (v ∷ vs)
 some_of k v vs first rest = (omega arith, All-cons (IsOf k) v vs first rest)
 
--- a form that ends so, in front of others
+-- a form that ends so, before others
 ends : {A B : Type 0} → A → B → A × B
 ends form forms = (form, forms)
 
@@ -72,16 +72,22 @@ forms_end =
     (ends (λ queue is. is)
     (ends (λ queue is. is)
     (ends (λ queue is consumer dotted. (is, dotted))
+    (ends (λ queue is consumer dotted tick number. (is, dotted, number))
+    (ends (λ queue is consumer dotted. (is, dotted))
     (ends (λ queue is consumer dotted. (is, dotted))
     (ends (λ batch number. number)
     (ends (λ batch number. number)
+    (ends (λ batch number event also seconds few. (number, also, few))
+    (ends (λ batch number. number)
+    (ends tt
+    (ends (λ queue is consumer dotted. (is, dotted))
     (ends (λ time is. is)
     (ends (tt, tt)
-    tt))))))))))))))))))))))))))))
+    tt))))))))))))))))))))))))))))))))))
 
--- ---- behind a word
+-- ---- after a word
 
--- these rows end so, and the word that they are left behind is whole
+-- these rows end so, and the word that they are left after is whole
 abbrev EndBehind : List ℕ → List Row → Type 0
 EndBehind w [] = Unit {0}
 EndBehind w (row ∷ rows) = (IsWhole w × EndsInForm row) × EndBehind w rows
@@ -94,7 +100,7 @@ when_ends : (k : Kind) (w : List ℕ) (f : Of k → Row) (o : Option (Of k)) →
 when_ends k w f None known ends = tt
 when_ends k w f (Some v) known ends = ((known.0, ends v known.1), tt)
 
--- behind a fixed word
+-- after a fixed word
 text_ends : (w text : List ℕ) (row : Row) (rest : List Row) → IsWhole text → EndsInForm row → EndBehind w rest → EndBehind w (cond (bytes_eq w text) (row ∷ []) rest)
 text_ends w text row rest text_so ends also =
     cond_both (bytes_eq w text) (row ∷ []) rest (EndBehind w) (λ is. ((ap (whole false) ((bytes_eq-Decides w text).0 is) ∙ text_so, ends), tt)) (λ _. also)

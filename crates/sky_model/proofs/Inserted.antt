@@ -1,7 +1,9 @@
--- Marks with marks of events among them: what they leave of a database beside its queues.
+-- Marks with marks of events among them: what they leave of a database besides its queues.
 use Rattle.std.proofs.Common.{◌≡◌, ℕ, ◌+◌, Bool, false, List, [], ◌∷◌, ◌++◌, Option, Some, None, refl, ◌||◌, ◌==◌, true}
 use Rattle.sky_val.specs.declared.event.Event.{Event}
-use Rattle.sky_model.specs.History.{Batch, Mark, ended, queued, made, raised, put, ticked, registered, moved, unregistered, opened, closed, traced, configured, dropped}
+use Rattle.pgq_retry.specs.declared.retry.Retry.{Retry}
+use Rattle.pgq_retry.specs.Retries.{without as without_retry, without_sub}
+use Rattle.sky_model.specs.History.{Batch, Mark, ended, queued, made, raised, put, ticked, registered, moved, unregistered, opened, closed, asked, returned, traced, configured, dropped}
 use Rattle.sky_model.specs.Triggers.{TableTrigger}
 use Rattle.sky_model.specs.Queues.{NamedQueue, others_than}
 use Rattle.sky_model.specs.Consumers.{of_another}
@@ -25,7 +27,7 @@ inserted-append (kept mark more) also = kept mark (inserted-append more also)
 inserted-append (with_raised queue value more) also = with_raised queue value (inserted-append more also)
 inserted-append (with_put queue event more) also = with_put queue event (inserted-append more also)
 
--- what a database keeps beside its queues
+-- what a database keeps besides its queues
 pub record BesideQueues : Type 0 where
   pub part : RowPart
   pub undone : ℕ → Bool
@@ -35,9 +37,10 @@ pub record BesideQueues : Type 0 where
   pub queues : List NamedQueue
   pub batch : ℕ → Option Batch
   pub triggers : List TableTrigger
+  pub retries : List Retry
 
 abbrev pub beside : Database → BesideQueues
-beside d = record { part = d.part; undone = d.undone; last_batch_id = d.last_batch_id; last_sub_id = d.last_sub_id; queues_made = d.queues_made; queues = d.queues; batch = d.batch; triggers = d.triggers }
+beside d = record { part = d.part; undone = d.undone; last_batch_id = d.last_batch_id; last_sub_id = d.last_sub_id; queues_made = d.queues_made; queues = d.queues; batch = d.batch; triggers = d.triggers; retries = d.retries }
 
 -- a mark changes it alike
 beside-mark : (d e : Database) (mark : Mark) → beside d ≡ beside e → beside (after_mark d mark) ≡ beside (after_mark e mark)
@@ -52,9 +55,11 @@ beside-mark d e (queued (put queue event)) same = same
 beside-mark d e (queued (ticked queue id time seq)) same = same
 beside-mark d e (queued (registered queue name id tick)) same = λ i. record (same i) { last_sub_id = id }
 beside-mark d e (queued (moved queue name tick)) same = λ i. record (same i) { batch = λ id. of_another queue name ((same i).batch id) }
-beside-mark d e (queued (unregistered queue name)) same = λ i. record (same i) { batch = λ id. of_another queue name ((same i).batch id) }
+beside-mark d e (queued (unregistered queue name sub)) same = λ i. record (same i) { batch = λ id. of_another queue name ((same i).batch id); retries = without_sub sub (same i).retries }
 beside-mark d e (queued (opened b)) same = λ i. record (same i) { last_batch_id = b.id; batch = changed_at b.id (λ _. Some b) (same i).batch }
 beside-mark d e (queued (closed b)) same = λ i. record (same i) { batch = changed_at b.id (λ _. None) (same i).batch }
+beside-mark d e (queued (asked retry)) same = λ i. record (same i) { retries = (same i).retries ++ retry ∷ [] }
+beside-mark d e (queued (returned retry moment)) same = λ i. record (same i) { retries = without_retry retry.sub retry.event.ev_id (same i).retries }
 beside-mark d e (queued (configured queue config)) same = same
 beside-mark d e (queued (dropped queue)) same = λ i. record (same i) { queues = others_than queue (same i).queues }
 beside-mark d e (queued (traced table name trigger)) same = λ i. record (same i) {
@@ -68,6 +73,6 @@ beside-alike d e (kept mark more) same = beside-alike (after_mark d mark) (after
 beside-alike d e (with_raised queue value more) same = beside-alike (after_mark d (queued (raised queue value))) e more same
 beside-alike d e (with_put queue event more) same = beside-alike (after_mark d (queued (put queue event))) e more same
 
--- and all that a database keeps beside its queues is the same behind both
+-- and all that a database keeps besides its queues is the same after both
 pub inserted-beside : (d : Database) {xs ys : List Mark} → Inserted xs ys → beside (after_marks d ys) ≡ beside (after_marks d xs)
 inserted-beside d inserted = beside-alike d d inserted refl

@@ -13,14 +13,14 @@ use Rattle.sky_keys.specs.declared.version.Version.{Version}
 use Rattle.sky_keys.specs.Versions.{with_version, without, version_of, newest_by, row_of, versions_at}
 use Rattle.sky_keys.proofs.VersionLemmas.{OnlyLast, OthersPass, newest_with, newest_without, newest_more, version_of-with, version_of-without, only_more, only_without, only_with}
 use Rattle.sky_keys.proofs.EntryLemmas.{key_ties-is, versions_at-written, versions_at-forgotten}
-use Rattle.sky_model.specs.History.{Mark, of_session, ended, tabled, wrote, History}
+use Rattle.sky_model.specs.History.{Mark, of_session, ended, tabled, wrote, History, Whose}
 use Rattle.sky_model.specs.Transactions.{has_ended}
 use Rattle.sky_model.specs.Sessions.{own_txid}
 use Rattle.sky_model.specs.Rows.{committed, has_written, writes as writes_of, rows, last_writer}
 use Rattle.sky_model.specs.Versions.{versions}
 use Rattle.sky_model.specs.Locks.{holder}
-use Rattle.sky_model.proofs.Legal.{Fine, ends, writes, Legal, start, next}
-use Rattle.sky_model.proofs.Snapshots.{own-unended}
+use Rattle.sky_model.proofs.Legal.{Fine, writes, Legal, start, next}
+use Rattle.sky_model.proofs.Snapshots.{own-unended, ender-unended}
 use Rattle.sky_model.proofs.RowWrites.{last_of, at-put_all, last_of-push, has_written-last_of, in_turn-push, in_turn-same, last_writer-push, last_writer-same}
 use Rattle.sky_model.proofs.RowKeys.{is_in_order-versions, committed-ended}
 use Rattle.sky_model.proofs.Holders.{nobody-else}
@@ -32,7 +32,7 @@ kept h table key = versions_at key (versions table h)
 
 -- what the versions of a key say at a place
 pub record KeyHolds (h : History) (table : ℕ) (key : List Val) : Type 0 where
-  -- the newest one whose transaction has ended is the row
+  -- the row of the newest one whose transaction has ended is the row
   pub newest : row_of (newest_by (has_ended h) (kept h table key)) ≡ at key (rows table h)
   -- and its transaction is the last that has written the key, of those that have committed
   pub writer : option_map Version.txid (newest_by (has_ended h) (kept h table key)) ≡ last_writer key (λ t. writes_of table t h) None (committed h)
@@ -50,41 +50,41 @@ version_of-txid t (w ∷ vs) v e = grind (arith, nat_tests, version_of-txid t vs
 ended-or : (h : History) (t u : ℕ) → ((u == t) || has_ended h u) ≡ ((t == u) || has_ended h u)
 ended-or h t u = grind (arith, nat_tests)
 
-key_committed : (h : History) → Legal h → (who t : ℕ) → has_ended h t ≡ false → (table : ℕ) (key : List Val) → KeyHolds h table key → KeyHolds (ended (of_session who) t true ∷ h) table key
-key_committed h l who t unended table key k = record {
+key_committed : (h : History) → Legal h → (whose : Whose) (t : ℕ) → has_ended h t ≡ false → (table : ℕ) (key : List Val) → KeyHolds h table key → KeyHolds (ended whose t true ∷ h) table key
+key_committed h l whose t unended table key k = record {
   newest = ap row_of newer ∙ grind (arith, k.own t unended, k.newest, in_turn-push (λ u. writes_of table u h) (committed h) t [], at-put_all key (writes_of table t h) (rows table h));
   writer = ap (option_map Version.txid) newer
       ∙ grind (arith, k.own t unended, k.writer, version_of-txid t (kept h table key), has_written-last_of key (writes_of table t h), last_writer-push key (λ u. writes_of table u h) (committed h) t);
   own = λ u e. k.own u ((or_parts (u == t) (has_ended h u) e).1);
-  only = only_more (has_ended h) (has_ended (ended (of_session who) t true ∷ h)) (kept h table key) (λ u e. or_right (u == t) (has_ended h u) e) k.only;
+  only = only_more (has_ended h) (has_ended (ended whose t true ∷ h)) (kept h table key) (λ u e. or_right (u == t) (has_ended h u) e) k.only;
 }
   where
-    newer : newest_by (has_ended (ended (of_session who) t true ∷ h)) (kept h table key) ≡ option_or (version_of t (kept h table key)) (newest_by (has_ended h) (kept h table key))
-    newer = newest_more (has_ended h) (has_ended (ended (of_session who) t true ∷ h)) t (kept h table key) k.only unended (ended-or h t)
+    newer : newest_by (has_ended (ended whose t true ∷ h)) (kept h table key) ≡ option_or (version_of t (kept h table key)) (newest_by (has_ended h) (kept h table key))
+    newer = newest_more (has_ended h) (has_ended (ended whose t true ∷ h)) t (kept h table key) k.only unended (ended-or h t)
 
-key_rolled_back : (h : History) → Legal h → (who t : ℕ) → has_ended h t ≡ false → (table : ℕ) (key : List Val) → KeyHolds h table key → KeyHolds (ended (of_session who) t false ∷ h) table key
-key_rolled_back h l who t unended table key k = record {
+key_rolled_back : (h : History) → Legal h → (whose : Whose) (t : ℕ) → has_ended h t ≡ false → (table : ℕ) (key : List Val) → KeyHolds h table key → KeyHolds (ended whose t false ∷ h) table key
+key_rolled_back h l whose t unended table key k = record {
   newest = ap row_of same ∙ k.newest;
   writer = ap (option_map Version.txid) same ∙ k.writer;
   own = λ u e. ap (λ vs. option_map Version.row (version_of u vs)) gone
       ∙ ap (option_map Version.row) (version_of-without u t (kept h table key) ∙ ap (λ b. cond b None (version_of u (kept h table key))) ((or_parts (u == t) (has_ended h u) e).0))
       ∙ k.own u ((or_parts (u == t) (has_ended h u) e).1);
-  only = subst (OnlyLast (has_ended (ended (of_session who) t false ∷ h))) (sym gone) (only_more (has_ended h) (has_ended (ended (of_session who) t false ∷ h)) (without t (kept h table key))
+  only = subst (OnlyLast (has_ended (ended whose t false ∷ h))) (sym gone) (only_more (has_ended h) (has_ended (ended whose t false ∷ h)) (without t (kept h table key))
       (λ u e. or_right (u == t) (has_ended h u) e) (only_without (has_ended h) t (kept h table key) k.only));
 }
   where
-    gone : kept (ended (of_session who) t false ∷ h) table key ≡ without t (kept h table key)
+    gone : kept (ended whose t false ∷ h) table key ≡ without t (kept h table key)
     gone = versions_at-forgotten t key (versions table h) (is_in_order-versions table h)
 
-    same : newest_by (has_ended (ended (of_session who) t false ∷ h)) (kept (ended (of_session who) t false ∷ h) table key) ≡ newest_by (has_ended h) (kept h table key)
+    same : newest_by (has_ended (ended whose t false ∷ h)) (kept (ended whose t false ∷ h) table key) ≡ newest_by (has_ended h) (kept h table key)
     same =
         let mine : (t == t) ≡ true = grind (arith, nat_tests) in
-        ap (newest_by (has_ended (ended (of_session who) t false ∷ h))) gone
-        ∙ newest_more (has_ended h) (has_ended (ended (of_session who) t false ∷ h)) t (without t (kept h table key)) (only_without (has_ended h) t (kept h table key) k.only) unended (ended-or h t)
+        ap (newest_by (has_ended (ended whose t false ∷ h))) gone
+        ∙ newest_more (has_ended h) (has_ended (ended whose t false ∷ h)) t (without t (kept h table key)) (only_without (has_ended h) t (kept h table key) k.only) unended (ended-or h t)
         ∙ ap (λ o. option_or o (newest_by (has_ended h) (without t (kept h table key)))) (version_of-without t t (kept h table key) ∙ ap (λ b. cond b None (version_of t (kept h table key))) mine)
         ∙ newest_without (has_ended h) t (kept h table key) unended
 
--- where no other transaction that hasn't ended has a version, all others' pass
+-- if no other transaction that hasn't ended has a version, all others' pass
 others-from : (p : ℕ → Bool) (t : ℕ) (vs : List Version) → ((u : ℕ) → p u ≡ false → (t == u) ≡ false → version_of u vs ≡ None) → OthersPass p t vs
 others-from p t [] none = tt
 others-from p t (v ∷ vs) none = (
@@ -99,7 +99,7 @@ module _ (h : History) (l : Legal h) (who t n : ℕ) (at_key : List Val) (old ne
   unended : has_ended h t ≡ false
   unended = own-unended h l who t mine
 
-  -- nobody else that runs has a version of the key
+  -- no other running transaction has a version of the key
   unwritten : (k : KeyHolds h n at_key) (u : ℕ) → has_ended h u ≡ false → (t == u) ≡ false → version_of u (kept h n at_key) ≡ None
   unwritten k u runs_on other =
       let quiet = false_from_ne_true (has_written at_key (writes_of n u h)) (nobody-else h l who t n at_key mine free u runs_on other) in
@@ -108,7 +108,7 @@ module _ (h : History) (l : Legal h) (who t n : ℕ) (at_key : List Val) (old ne
   pub kept-wrote : (table : ℕ) (key : List Val) → kept g table key ≡ (if (n == table) && eq_by_cmp key_cmp key at_key then with_version t new (kept h table key) else kept h table key)
   kept-wrote table key = grind (arith, versions_at-written key t at_key new (versions table h))
 
-  -- a write is in nobody's that has committed
+  -- a write changes no committed transaction's writes
   same-writes : (table u : ℕ) → contains u (committed h) ≡ true → writes_of table u g ≡ writes_of table u h
   same-writes table u there = grind (arith, nat_tests, committed-ended h u there, unended)
 
@@ -146,8 +146,8 @@ module _ (h : History) (l : Legal h) (who t n : ℕ) (at_key : List Val) (old ne
   }
 
 key_step : (h : History) (mark : Mark) → Fine h mark → Legal h → (table : ℕ) (key : List Val) → KeyHolds h table key → KeyHolds (mark ∷ h) table key
-key_step h _ (ends who t true e) l table key k = key_committed h l who t (own-unended h l who t e) table key k
-key_step h _ (ends who t false e) l table key k = key_rolled_back h l who t (own-unended h l who t e) table key k
+key_step h (ended whose t true) fine l table key k = key_committed h l whose t (ender-unended h l whose t true fine) table key k
+key_step h (ended whose t false) fine l table key k = key_rolled_back h l whose t (ender-unended h l whose t false fine) table key k
 key_step h _ (writes who t n at_key old new e free stands) l table key k = key_written h l who t n at_key old new e free table key k
 key_step h _ _ l table key k = record { newest = k.newest; writer = k.writer; own = k.own; only = k.only }
 

@@ -1,25 +1,30 @@
 -- Whatever is called of a database, its history is legal.
-use Rattle.std.proofs.Common.{◌≡◌, All, ℕ, suc, zero, ℤ, ◌+◌, ◌<◌, List, [], ◌∷◌, ◌++◌, true, ◌==◌, nat_le, Option, Some, None, Ok, Err, is_ok, option_map, find, not, length, is_some, refl, sym, ◌∙◌, ap, subst, arith, ◌^◌, if◌then◌else◌}
+use Rattle.std.proofs.Common.{◌≡◌, All, ℕ, suc, zero, ℤ, ◌+◌, ◌<◌, List, [], ◌∷◌, ◌++◌, true, false, ◌==◌, ◌||◌, ◌≤◌, nat_le, nat_lt, Option, Some, None, Ok, Err, is_ok, option_map, unwrap_or, find, not, length, is_some, refl, sym, ◌∙◌, ap, subst, arith, ◌^◌, if◌then◌else◌}
 use Rattle.std.proofs.lemmas.Bool.{cond_both}
 use Rattle.std.proofs.lemmas.Bool.Decides.{nat_tests}
 use Rattle.sky_model.specs.declared.stmt.Stmt.{Stmt}
 use Rattle.sky_model.specs.declared.stmt.Extra.{Extra}
 use Rattle.sky_model.specs.declared.stmt.RowStmt.{RowStmt}
-use Rattle.sky_model.specs.declared.stmt.Stmt.TheVariants.{Row, CreateQueue, DropQueue, SetQueueConfig, QueueInfo, InsertEvent, Ticker, ForceTick, RegisterConsumer, NextBatch, GetBatchEvents, FinishBatch, AddTrigger, Clock, PgqdOn, PgqdOff}
+use Rattle.sky_model.specs.declared.stmt.Stmt.TheVariants.{Row, CreateQueue, DropQueue, SetQueueConfig, QueueInfo, InsertEvent, Ticker, ForceTick, RegisterConsumer, RegisterConsumerAt, UnregisterConsumer, NextBatch, GetBatchEvents, GetBatchInfo, EventRetry, FinishBatch, MaintRetryEvents, ConsumerInfo, AddTrigger, Clock, PgqdOn, PgqdOff}
 use Rattle.sky_model.specs.declared.reply.Reply.TheVariants.{Number}
 use Rattle.sky_model.specs.declared.reply.Limit.TheVariants.{Queues, Triggers}
-use Rattle.sky_model.specs.declared.reply.Refusal.TheVariants.{BadColumn, BadValue, HasConsumers, HasTriggers, NoParam, NoQueue, NoTable, QueueBusy, TableBusy, TooMany, TriggerExists, TxidsSpent, EventIdsSpent, NoConsumer}
+use Rattle.sky_model.specs.declared.reply.Refusal.TheVariants.{BadColumn, BadValue, HasConsumers, HasTriggers, NoParam, NoQueue, NoTable, QueueBusy, TableBusy, TooMany, TriggerExists, TxidsSpent, EventIdsSpent, NoBatch, NoConsumer, NoEvent}
 use Rattle.sky_keys.specs.Waits.{Waiting, is_waiting}
+use Rattle.pgq_retry.specs.declared.retry.Retry.{Retry}
+use Rattle.pgq_retry.specs.Retries.{is_asked, due_now}
+use Rattle.sky_model.specs.Batches.{batch_events}
+use Rattle.sky_model.specs.Retries.{retries}
+use Rattle.sky_model.specs.StepRetry.{retry_of, brings, most_back}
 use Rattle.sky_names.specs.Places.{place_of}
-use Rattle.sky_model.specs.History.{Batch, Mark, of_session, began, ended, looked, tabled, waited, queued, made, raised, put, ticked, moved, unregistered, opened, closed, History}
-use Rattle.sky_model.specs.Transactions.{next_txid, running}
+use Rattle.sky_model.specs.History.{Batch, Mark, of_session, of_worker, began, ended, looked, tabled, waited, queued, made, raised, put, ticked, moved, unregistered, opened, closed, History}
+use Rattle.sky_model.specs.Transactions.{next_txid, running, workers}
 use Rattle.sky_model.specs.Sessions.{Block, outside, has_open, block, own_txid, session}
 use Rattle.sky_model.specs.Rows.{table_names, columns_of}
 use Rattle.sky_model.specs.Triggers.{triggers, triggers_of}
 use Rattle.sky_model.specs.StepTrigger.{has_trigger, may_ignore}
 use Rattle.sky_model.specs.Config.{param_of, configured_by}
 use Rattle.sky_model.specs.Queues.{queues_made, queues, queue_number, config, Tick, ticks, kept_ticks, tick, newest_tick, sequence, events, stored}
-use Rattle.sky_model.specs.Consumers.{consumers, subscription_id, Subscription, subscription, active_batch}
+use Rattle.sky_model.specs.Consumers.{consumers, subscription_id, position, active, Subscription, subscription, active_batch}
 use Rattle.sky_model.specs.Locks.{waiting}
 use Rattle.sky_model.specs.State.{RowPart, part_of, database_of}
 use Rattle.sky_model.specs.ShownRows.{RowsShown, rows_in, least_writer}
@@ -28,13 +33,13 @@ use Rattle.sky_model.specs.Outcome.{Outcome, Checked, ◌>>=◌, ◌>>◌, refus
 use Rattle.sky_model.specs.Allowed.{where_of_row, where_of, allowed}
 use Rattle.sky_model.specs.StepRows.{attempts}
 use Rattle.sky_model.specs.StepQueue.{create_queue, first_trigger_into, shown_name, least_producer, insert_event, next_tick, is_due, forced, newest_id, id_of, next_event_id, made_event}
-use Rattle.sky_model.specs.StepConsumer.{has_dot, opens_batch, takes_batch, finishes}
+use Rattle.sky_model.specs.StepConsumer.{has_dot, registers as registers_at, leaves, opens_batch, takes_batch, finishes}
 use Rattle.sky_model.specs.Reader.{shown_in, PartReader, part_by_history, database_by_history, within_part}
 use Rattle.sky_model.specs.Gates.{Gate, takes_all, gated, by_gate}
 use Rattle.sky_model.specs.Made.{takes_sight, looking, runs_if}
 use Rattle.sky_model.specs.Settling.{Turn, turn_of, behind_marks, and_then, ready, attempted, resumed, goes_on, settles, settling, with_settling}
 use Rattle.sky_model.specs.Calls.{row_form, form, row_making, making, row_statement, row_turn, statement, database_turn, turn}
-use Rattle.sky_model.proofs.Legal.{MayWait, IsAmong, IsQueue, begins, ends, looks, ends_waiting, makes, raises, puts, ticks_next, registers, opens as opens_fine, closes, configures, drops, traces, Chain, done, more, Legal, next}
+use Rattle.sky_model.proofs.Legal.{MayWait, IsAmong, IsQueue, begins, ends, looks, begins_work, ends_work, ends_waiting, makes, asks, raises, puts, ticks_next, registers, opens as opens_fine, closes, moves, unregisters, configures, drops, traces, Chain, done, more, Legal, next}
 use Rattle.sky_model.proofs.Good.{MayStand, Good, same-session, good_test, good_test_then, good_found, good_if, good_refused, good_refused_by, good_commits}
 use Rattle.sky_model.proofs.RowOutcomes.{OfRows, attempts-rows, form-rows}
 use Rattle.sky_model.proofs.LawfulTelling.{good_append, legal_behind, good_tells}
@@ -43,7 +48,9 @@ use Rattle.sky_model.proofs.LawfulRows.{no-one, nothing, good_attempts, good_row
 use Rattle.sky_model.proofs.QueueNumbers.{among-number, among-last}
 use Rattle.sky_model.proofs.Ticks.{ticks_beyond}
 use Rattle.sky_model.proofs.StandingQueues.{whole}
-use Rattle.sky_model.proofs.ActiveBatches.{of_another-is}
+use Rattle.sky_model.proofs.ActiveBatches.{of_another-is, active_batches}
+use Rattle.sky_model.proofs.RetriesBack.{AreBack, due-back, good_back, listed_is_stored}
+use Rattle.sky_model.proofs.Snapshots.{contains-push}
 use Rattle.sky_model.proofs.Unneeded.{no-member, none-into, none-put}
 use Rattle.sky_model.proofs.Selecting.{events_below-next}
 use Rattle.sky_names.proofs.PlaceLemmas.{place_of_within}
@@ -54,7 +61,7 @@ active_batch-id [] id batch is = absurd (cc)
 active_batch-id (queued (opened b) ∷ h) id batch is = grind (arith, nat_tests, active_batch-id h id batch)
 active_batch-id (queued (closed b) ∷ h) id batch is = grind (arith, active_batch-id h id batch)
 active_batch-id (queued (moved q name tick) ∷ h) id batch is = active_batch-id h id batch (of_another-is q name (active_batch id h) batch is).0
-active_batch-id (queued (unregistered q name) ∷ h) id batch is = active_batch-id h id batch (of_another-is q name (active_batch id h) batch is).0
+active_batch-id (queued (unregistered q name sub) ∷ h) id batch is = active_batch-id h id batch (of_another-is q name (active_batch id h) batch is).0
 active_batch-id (_ ∷ h) id batch is = active_batch-id h id batch is
 
 good_create_queue : (h : History) → Legal h → (now : ℤ) (who : ℕ) (name : List ℕ) → Good h who (create_queue (database_of h) now who name)
@@ -129,6 +136,29 @@ good_takes_batch h l who q consumer sub (Some batch) below stands = done
 good_takes_batch h l who q consumer sub None below stands =
     good_opens_batch h who q consumer sub (tick (sub.position + 1) (kept_ticks q h)) below stands (ap (tick (sub.position + 1)) (sym (whole h l q below).all_ticks))
 
+-- a new consumer, whose position is a tick that is made
+good_registers : (h : History) (who q : ℕ) (consumer : List ℕ) (at : ℕ) → IsQueue h q → subscription_id q consumer h ≡ None → at ≤ id_of (newest_tick (ticks q h))
+    → Good h who (registers_at (database_of h) q consumer at)
+good_registers h who q consumer at below new within =
+    good_test h who (nat_le 256 (length ((database_of h).queue q).members)) _ _ (λ _.
+    good_test h who (nat_le (2 ^ 64) ((database_of h).last_sub_id + 1)) _ _ (λ _.
+    more (registers q consumer _ at below new (omega arith) within) done))
+
+-- one that leaves
+good_leaves : (h : History) (who q : ℕ) (consumer : List ℕ) (o : Option ℕ) → IsQueue h q → subscription_id q consumer h ≡ o
+    → Good h who (leaves q consumer (option_map (λ id. record { id = id; position = position q consumer h; active = active q consumer h }) o))
+good_leaves h who q consumer None below stands = done
+good_leaves h who q consumer (Some sub) below stands = more (unregisters q consumer sub below stands) done
+
+-- retries that are due come back
+good_brings : (h : History) → Legal h → (now : ℤ) (who : ℕ) (rs : List Retry) → AreBack h now rs → Good h who (brings (database_of h) now rs)
+good_brings h l now who [] are = done
+good_brings h l now who (r ∷ rs) are =
+    good_test_then h who (nat_le (2 ^ 62) (next_txid h)) TxidsSpent (next_txid h) _
+    (more begins_work (good_back now (next_txid h) (r ∷ rs) (ended of_worker (next_txid h) true ∷ []) (λ g legal works. more (ends_work (next_txid h) true works) done)
+    (began of_worker (next_txid h) ∷ h) (next l begins_work) (grind (arith, nat_tests, contains-push (next_txid h) (next_txid h) (workers h)))
+    (record { wait = are.wait; once = are.once; due = are.due })))
+
 good_finishes : (h : History) (who id : ℕ) (batch : Option Batch) → active_batch id h ≡ batch → Good h who (finishes batch)
 good_finishes h who id None is = done
 good_finishes h who id (Some batch) is = more (closes batch (ap (λ n. active_batch n h) (active_batch-id h id batch is) ∙ is)) done
@@ -167,17 +197,54 @@ good_form h l now who (RegisterConsumer name consumer) may =
     good_found h who (queue_number name (queues h)) (NoQueue name) _ (λ q is.
     good_test h who (has_dot consumer) _ _ (λ _.
     good_if h who (is_some (((database_of h).queue q).sub consumer)) _ _ done (λ new.
-    good_test h who (nat_le 256 (length ((database_of h).queue q).members)) _ _ (λ _.
-    good_test h who (nat_le (2 ^ 64) ((database_of h).last_sub_id + 1)) _ _ (λ _.
-    more (registers q consumer _ _ (among-number name (queues h) q is) (no-one _ (subscription_id q consumer h) (nothing _ new)) (omega arith)
-    (let all : newest_id ((database_of h).queue q) ≡ id_of (newest_tick (ticks q h)) = ap (λ ts. id_of (newest_tick ts)) (whole h l q (among-number name (queues h) q is)).all_ticks in omega arith)) done)))))
+    let all : newest_id ((database_of h).queue q) ≡ id_of (newest_tick (ticks q h)) = ap (λ ts. id_of (newest_tick ts)) (whole h l q (among-number name (queues h) q is)).all_ticks in
+    good_registers h who q consumer _ (among-number name (queues h) q is) (no-one _ (subscription_id q consumer h) (nothing _ new)) (omega arith))))
+good_form h l now who (RegisterConsumerAt name consumer at) may =
+    good_found h who (queue_number name (queues h)) (NoQueue name) _ (λ q is.
+    good_test h who (has_dot consumer) _ _ (λ _.
+    good_test h who (at == 0 || nat_lt (newest_id ((database_of h).queue q)) at) _ _ (λ within. good_at q is within (subscription_id q consumer h) refl)))
+  where
+    stands_as : ℕ → Option ℕ → Option Subscription
+    stands_as q o = option_map (λ id. record { id = id; position = position q consumer h; active = active q consumer h }) o
+
+    good_at : (q : ℕ) → queue_number name (queues h) ≡ Some q → (at == 0 || nat_lt (newest_id ((database_of h).queue q)) at) ≡ false
+        → (o : Option ℕ) → subscription_id q consumer h ≡ o
+        → Good h who (if is_some (((database_of h).queue q).sub consumer) then does_marks (Number 0) (queued (moved q consumer at) ∷ []) else registers_at (database_of h) q consumer at)
+    good_at q is within (Some sub) stands =
+        let all : newest_id ((database_of h).queue q) ≡ id_of (newest_tick (ticks q h)) = ap (λ ts. id_of (newest_tick ts)) (whole h l q (among-number name (queues h) q is)).all_ticks in
+        good_if h who (is_some (((database_of h).queue q).sub consumer)) _ _
+        (more (moves q consumer sub at (among-number name (queues h) q is) stands (grind (arith, nat_tests, within)) (grind (arith, nat_tests, within, all))) done)
+        (λ new. good_registers h who q consumer at (among-number name (queues h) q is) (no-one _ (subscription_id q consumer h) (nothing _ new)) (grind (arith, nat_tests, within, all)))
+    good_at q is within None stands =
+        let all : newest_id ((database_of h).queue q) ≡ id_of (newest_tick (ticks q h)) = ap (λ ts. id_of (newest_tick ts)) (whole h l q (among-number name (queues h) q is)).all_ticks in
+        subst (λ o. Good h who (if is_some (stands_as q o) then does_marks (Number 0) (queued (moved q consumer at) ∷ []) else registers_at (database_of h) q consumer at))
+        (sym stands) (good_registers h who q consumer at (among-number name (queues h) q is) stands (grind (arith, nat_tests, within, all)))
+good_form h l now who (UnregisterConsumer name consumer) may =
+    good_found h who (queue_number name (queues h)) (NoQueue name) _ (λ q is.
+    good_test h who (has_dot consumer) _ _ (λ _. good_leaves h who q consumer (subscription_id q consumer h) (among-number name (queues h) q is) refl))
 good_form h l now who (NextBatch name consumer) may =
     good_found h who (queue_number name (queues h)) (NoQueue name) _ (λ q is.
     good_test h who (has_dot consumer) _ _ (λ _.
     good_found h who (((database_of h).queue q).sub consumer) (NoConsumer consumer) _ (λ sub stands.
     good_takes_batch h l who q consumer sub sub.active (among-number name (queues h) q is) stands)))
 good_form h l now who (GetBatchEvents batch) may = good_found h who ((shown_in h).events batch) _ _ (λ b _. done)
+good_form h l now who (GetBatchInfo batch) may = good_found h who (active_batch batch h) _ _ (λ b _. done)
+good_form h l now who (EventRetry id event seconds) may =
+    good_found h who ((shown_in h).events id) NoBatch _ (λ es listed.
+    good_found h who (active_batch id h) NoBatch _ (λ b active.
+    good_found h who (find (λ e. e.ev_id == event) es) NoEvent _ (λ e found.
+    good_if h who (is_asked b.sub e.ev_id (retries h)) _ _ done (λ fresh.
+    more (asks b.consumer e (retry_of now seconds b e) (record {
+      registered = (active_batches h l id b active).owned;
+      stored = listed_is_stored h b e event (subst (λ xs. find (λ e. e.ev_id == event) xs ≡ Some e) (sym (ap (λ o. unwrap_or o []) (ap (option_map (batch_events h)) (sym active) ∙ listed))) found);
+      copied = refl;
+      fresh = fresh;
+    })) done))))
+good_form h l now who MaintRetryEvents may = good_brings h l now who (due_now now most_back (retries h)) (due-back h l now most_back)
 good_form h l now who (FinishBatch batch) may = good_finishes h who batch (active_batch batch h) refl
+good_form h l now who (ConsumerInfo name consumer) may =
+    good_found h who (queue_number name (queues h)) (NoQueue name) _ (λ q is.
+    good_found h who (subscription q consumer h) (NoConsumer consumer) _ (λ sub _. done))
 good_form h l now who (AddTrigger name table_name queue_name backup ignored) may =
     good_found h who (place_of table_name (table_names h)) (NoTable table_name) _ (λ table there.
     good_found h who (queue_number queue_name (queues h)) (NoQueue queue_name) _ (λ queue is.
@@ -200,8 +267,7 @@ good_runs_if h l now who stmt (Ok _) is =
 good_statement : (h : History) → Legal h → (now : ℤ) (who : ℕ) (stmt : Stmt) → Chain h (statement database_by_history h now who stmt).marks
 good_statement h l now who stmt = good_runs_if h l now who stmt (allowed (is_waiting who (waiting h)) (has_open who h) (block who h) (where_of stmt)) refl
 
--- a place that reads as its past does, and where what a statement on rows does that may come there still may once its
--- writes are told of
+-- a place that reads as its past does; what a statement on rows does and may come there, still may once its writes are recorded
 pub record ReadsPast {P : Type 0} (r : PartReader P) (past : P → History) : Type 0 where
   pub part : (p : P) → r.part p ≡ part_of (past p)
   pub rows : (p : P) → r.rows p ≡ rows_in (past p)
@@ -216,12 +282,12 @@ history-reads = record { part = λ h. refl; rows = λ h. refl; behind = λ h mar
 pub database-reads : (now : ℤ) → ReadsPast (within_part database_by_history now) (λ h. h)
 database-reads now = record { part = λ h. refl; rows = λ h. refl; behind = λ h mark. refl; tells = λ h l who c rows good. good_tells h l now who c rows good }
 
--- what a gate lets pass may come where it might
+-- what a gate accepts may come where it might without the gate
 pub good_gated : {G : Type 0} (gate : Gate G) (g : G) (h : History) (who : ℕ) (c : Checked Outcome) → Good h who c → Good h who (gated gate g c)
 good_gated gate g h who (Err refusal) good = good
 good_gated gate g h who (Ok o) good = good_test h who (not (takes_all gate g o.marks)) EventIdsSpent (Ok o) (λ _. good)
 
--- so a place still does behind a gate
+-- so a place still does with a gate
 pub by_gate-reads : {G P : Type 0} (gate : Gate G) (r : PartReader P) (past : P → History) → ReadsPast r past → ReadsPast (by_gate gate r) (λ p. past p.0)
 by_gate-reads gate r past reads = record {
   part = λ p. reads.part p.0;
@@ -231,12 +297,12 @@ by_gate-reads gate r past reads = record {
 }
 
 module _ {P : Type 0} (r : PartReader P) (past : P → History) (reads : ReadsPast r past) where
-  -- the past behind marks
+  -- the past after marks
   pub past-behind : (p : P) (marks : List Mark) → past (behind_marks r p marks) ≡ behind_marks part_by_history (past p) marks
   past-behind p [] = refl
   past-behind p (mark ∷ marks) = past-behind (r.behind p mark) marks ∙ ap (λ h. behind_marks part_by_history h marks) (reads.behind p mark)
 
-  -- what a session does there may come, once its writes are told of
+  -- what a session does there may come, once its writes are recorded
   good_told : (p : P) → Legal (past p) → (who : ℕ) (c : Checked Outcome) → OfRows c → Good (past p) who c → Chain (past p) (settled who ((r.part p).session who) (r.tells p c)).marks
   good_told p l who c rows good =
       subst (λ (d : RowPart). Chain (past p) (settled who (d.session who) (r.tells p c)).marks) (sym (reads.part p)) (reads.tells p l who c rows good)
@@ -281,7 +347,7 @@ module _ {P : Type 0} (r : PartReader P) (past : P → History) (reads : ReadsPa
   good_settles zero p l = done
   good_settles (suc n) p l = good_goes_on p l (settles r n) (ready (r.part p)) refl (good_settles n)
 
-  -- a turn with those that it lets go on, at a place that reads as its past
+  -- a turn with those that it unblocks, at a place that reads as its past
   pub good_with_settling-by : (p : P) → Legal (past p) → (turn : Turn) → Chain (past p) turn.marks → Chain (past p) (with_settling r p turn).marks
   good_with_settling-by p l turn chain = good_then p l turn (settling r) chain (λ q legal. good_settles (length (r.part q).waiting) q legal)
 
@@ -307,7 +373,7 @@ module _ {P : Type 0} (r : PartReader P) (past : P → History) (reads : ReadsPa
           (subst (λ d. Good (past q) who (row_form d (r.rows q) who stmt)) (sym (reads.part q))
           (subst (λ rows. Good (past q) who (row_form (part_of (past q)) rows who stmt)) (sym (reads.rows q)) (good_row_form (past q) legal who stmt stands)))
 
-  -- and a statement on rows with those that it lets go on
+  -- and a statement on rows with those that it unblocks
   pub good_row_turn-by : (p : P) → Legal (past p) → (who : ℕ) (stmt : RowStmt) → Chain (past p) (row_turn r p who stmt).marks
   good_row_turn-by p l who stmt =
       good_with_settling-by p l (turn_of who (row_statement r p who stmt))

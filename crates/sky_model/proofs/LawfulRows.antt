@@ -55,7 +55,7 @@ good_txid_current h who None none =
     (more (begins who none) (good_commits (began (of_session who) (next_txid h) ∷ h) who (next_txid h) (block who h) (ap (λ b. if b then Some (next_txid h) else own_txid who h) (same-session who))))
 good_txid_current h who (Some t) mine = good_commits h who t (block who h) mine
 
--- a statement that may stand where only one that reads may is made by a session that doesn't wait
+-- a statement that is allowed where only one that reads is, is made by a session that doesn't wait
 quiet-reading : (h : History) (who : ℕ) → MayStand h who WhenReading → is_waiting who (waiting h) ≡ false
 quiet-reading h who may = grind arith
 
@@ -71,7 +71,7 @@ open-beginning h who may = grind arith
 quiet-closing : (h : History) (who : ℕ) → MayStand h who WhenOpen → is_waiting who (waiting h) ≡ false
 quiet-closing h who may = grind arith
 
--- a write in a table that there is, over the row that stands; if that is one of the table, so is the new one
+-- a write to a table that exists, over the row that is there; if that is one of the table, so is the new one
 good_writes_key : (h : History) → Legal h → (who table : ℕ) (key : List Val) (old new : Option (List Val)) → other_than who (holder table key h) ≡ None → table < length (table_names h)
     → ((rows_in h).key who table key).standing ≡ old → (IfSome old (IsRowOf (columns_of table h) key) → IfSome new (IsRowOf (columns_of table h) key))
     → Good h who (writes_key (part_of h) who table key old new)
@@ -89,7 +89,7 @@ good_writes_key h l who table key old new free within stands fits = by_own (own_
         more (writes who t table key old new mine free (record { within = within; stands = stands-by h l who table key old stands; fits = fits }))
         (good_commits (tabled (wrote (of_session who) t table key old new) ∷ h) who t (block who h) mine)
 
--- what is done once a key is free
+-- what is done when a key is free
 good_once_free : (h : History) (who table : ℕ) (key : List Val) (attempt : Attempt) (c : Checked Outcome) → MayWait (part_of h) who table key attempt
     → (other_than who (holder table key h) ≡ None → Good h who c)
     → Good h who (once_free (part_of h) who table key attempt (other_than who (holder table key h)) c)

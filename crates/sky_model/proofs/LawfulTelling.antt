@@ -1,12 +1,13 @@
--- A statement on rows leaves a legal history legal once its writes are told of.
+-- A statement on rows leaves a legal history legal once its writes are recorded.
 use Rattle.std.proofs.Common.{◌≡◌, ℕ, ℤ, ◌+◌, ◌^◌, List, [], ◌∷◌, ◌++◌, Bool, true, false, ◌==◌, nat_le, Option, Some, Ok, Err, IfOk, map, get_or, refl, sym, ◌∙◌, ap, subst, arith, if◌then◌else◌, All}
 use Rattle.std.proofs.lemmas.List.Elements.{All-nil, All-head, All-tail, All-push, All-weaker, All-map, All-filter}
 use Rattle.sky_val.specs.declared.val.Val.{Val}
+use Rattle.sky_txid.specs.Ids.{contains}
 use Rattle.sky_keys.specs.Waits.{other_than, is_waiting}
 use Rattle.sky_names.specs.Places.{place_of}
 use Rattle.sky_urlenc.specs.RowEvents.{Trigger, Write, event_of, RowEvent, events_of}
 use Rattle.sky_model.specs.declared.reply.Refusal.TheVariants.{EventIdsSpent}
-use Rattle.sky_model.specs.History.{Mark, of_session, began, tabled, wrote, queued, made, raised, put, dropped, traced, History}
+use Rattle.sky_model.specs.History.{Mark, of_session, began, tabled, wrote, queued, made, raised, put, dropped, traced, History, of_worker}
 use Rattle.sky_model.specs.Sessions.{has_open, Block, block, own_txid}
 use Rattle.sky_model.specs.Triggers.{TableTrigger, triggers, triggers_of}
 use Rattle.sky_model.specs.Queues.{NamedQueue, queues_made, queues, sequence}
@@ -15,7 +16,7 @@ use Rattle.sky_model.specs.Outcome.{Outcome, Checked, ◌>>=◌, ◌>>◌, refus
 use Rattle.sky_model.specs.Telling.{write_in, events_in, told_event, event_marks, told_by, told_of, with_told, tells}
 use Rattle.sky_model.specs.Reader.{part_by_history}
 use Rattle.sky_model.specs.Settling.{behind_marks, marked}
-use Rattle.sky_model.proofs.Legal.{Replaces, MayWait, IsAmong, IsQueue, Fine, begins, ends, begins_block, fails_block, ends_block, connects, disconnects, repeats_block, looks, makes_table, writes, begins_waiting, ends_waiting, raises, puts, drops, traces, Chain, done, more, Legal, next}
+use Rattle.sky_model.proofs.Legal.{Replaces, MayWait, IsAmong, IsQueue, Fine, begins, ends, begins_work, ends_work, begins_block, fails_block, ends_block, connects, disconnects, repeats_block, looks, makes_table, writes, begins_waiting, ends_waiting, raises, puts, drops, traces, Chain, done, more, Legal, next}
 use Rattle.sky_model.proofs.QueueNumbers.{among-before, among-others}
 use Rattle.sky_model.proofs.Marks.{part_of-mark, database_of-mark, database_of-marks}
 use Rattle.sky_model.proofs.Selecting.{events_below-next}
@@ -25,7 +26,7 @@ use Rattle.sky_model.proofs.Cases.{ok-then}
 use Rattle.sky_model.proofs.StatementMarks.{each-rest}
 use Rattle.sky_model.proofs.RowOutcomes.{is_of_rows, RowMarks, OfRows}
 
--- marks that may come next, and behind them more that may
+-- marks that may come next, and after them more that may
 pub good_append : (h : History) (xs ys : List Mark) → Chain h xs → Chain (behind_marks part_by_history h xs) ys → Chain h (xs ++ ys)
 good_append h [] ys done also = also
 good_append h (x ∷ xs) ys (more fine chain) also = more fine (good_append (x ∷ h) xs ys chain also)
@@ -70,7 +71,7 @@ events-queues : (queues : List NamedQueue) (w : Write) (ts : List TableTrigger) 
 events-queues queues w ts among =
     All-map (λ e. IsAmong e.queue queues) (event_of w) _ (All-filter _ (λ t. IsAmong t.queue queues) (map TableTrigger.trigger ts) (All-map (λ t. IsAmong t.queue queues) TableTrigger.trigger ts among))
 
--- ---- what is told of a mark may come behind it
+-- ---- what records a mark may come after it
 
 -- marks that may come next, and leave the row part as it was; or a refusal
 abbrev ToldWell : History → Checked (List Mark) → Type 0
@@ -129,6 +130,8 @@ fine-alike : (h g : History) → part_of h ≡ part_of g → (mark : Mark) (mark
 fine-alike h g same (queued mark) marks rows fine = absurd rows
 fine-alike h g same _ marks rows (begins who none) = subst (λ n. Fine g (began (of_session who) n)) (sym (ap RowPart.next same)) (begins who (own-alike h g same who _ none))
 fine-alike h g same _ marks rows (ends who t committed mine) = ends who t committed (own-alike h g same who _ mine)
+fine-alike h g same _ marks rows begins_work = subst (λ n. Fine g (began of_worker n)) (sym (ap RowPart.next same)) begins_work
+fine-alike h g same _ marks rows (ends_work t committed is) = ends_work t committed (sym (ap (λ (d : RowPart). contains t d.workers) same) ∙ is)
 fine-alike h g same _ marks rows (begins_block who is is_open) = begins_block who (block-alike h g same who _ is) (open-alike h g same who _ is_open)
 fine-alike h g same _ marks rows (fails_block who is none) = fails_block who (block-alike h g same who _ is) (own-alike h g same who _ none)
 fine-alike h g same _ marks rows (ends_block who none) = ends_block who (own-alike h g same who _ none)
@@ -155,7 +158,7 @@ chain-alike h g same (mark ∷ marks) rows (more fine chain) =
 abbrev ChainOf : History → Checked (List Mark) → Type 0
 ChainOf h x = IfOk x (Chain h)
 
--- marks may come with what is told of them
+-- marks may come with what records them
 with_told-well : (h : History) → Legal h → (now : ℤ) (marks : List Mark) → RowMarks marks → Chain h marks → ChainOf h (with_told (database_of h) now marks)
 with_told-well h l now [] rows chain = done
 with_told-well h l now (mark ∷ marks) rows (more fine chain) =
@@ -167,7 +170,7 @@ with_told-well h l now (mark ∷ marks) rows (more fine chain) =
     (IfOk-at_ok (Chain g) is (subst (λ d. ChainOf g (with_told d now marks)) (database_of-marks h (mark ∷ told))
     (with_told-well g (legal_behind (mark ∷ h) told (next l fine) well.0) now marks rest_rows (chain-alike (mark ∷ h) g (sym well.1) marks rest_rows chain)))))))
 
--- so what a statement on rows does may come where it might, once its writes are told of
+-- so what a statement on rows does may come where it might, once its writes are recorded
 pub good_tells : (h : History) → Legal h → (now : ℤ) (who : ℕ) (c : Checked Outcome) → OfRows c → Good h who c → Good h who (tells (database_of h) now c)
 good_tells h l now who (Err refusal) rows good = good
 good_tells h l now who (Ok o) rows good = of (with_told (database_of h) now o.marks) (with_told-well h l now o.marks rows.1 good)

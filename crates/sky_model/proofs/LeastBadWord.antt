@@ -18,7 +18,7 @@ or_bad-err : (n m : ℕ) (stmt : Option Stmt) → or_bad n stmt ≡ Err m → m 
 or_bad-err n m None bad = cc
 or_bad-err n m (Some stmt) bad = absurd (cc)
 
--- the bad word is one of those read, or the one behind them
+-- the bad word is one of those read, or the one after them
 pub record Within (n m : ℕ) (ws : List (List ℕ)) : Type 0 where
   pub low : n ≤ m
   pub high : m ≤ n + length ws
@@ -73,7 +73,7 @@ or_else_assoc : (a b c : Option Stmt) → or_else (or_else a b) c ≡ or_else a 
 or_else_assoc None b c = refl
 or_else_assoc (Some stmt) b c = refl
 
--- either of two rows reads what both read beside each other
+-- either of two rows reads what both together read
 reads-either : (a b : Row) (rows : List Row) (n : ℕ) (ws : List (List ℕ)) → reads (either a b ∷ rows) n ws ≡ reads (a ∷ b ∷ rows) n ws
 reads-either a b rows n [] = ap (or_bad n) (or_else_assoc (ended a) (ended b) (all_ended rows))
 reads-either a b rows n (w ∷ ws) = ap (λ left. goes_on left n (λ l. reads l (n + 1) ws)) (append_assoc (next a w) (next b w) (all_next rows w))

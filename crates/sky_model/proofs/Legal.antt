@@ -1,6 +1,6 @@
--- Legal histories: each mark has evidence of why it stands there, so that a law about histories has one
--- line for each kind of mark, and none for each statement.
-use Rattle.std.proofs.Common.{◌≡◌, ℕ, ◌+◌, ◌<◌, ◌≤◌, ◌==◌, ℤ, Bool, true, false, IfSome, All, List, [], ◌∷◌, Option, Some, None, length}
+-- Legal histories: each mark has evidence of why it may be there, so that a law about histories has one line for each kind of mark, and none for each
+-- statement.
+use Rattle.std.proofs.Common.{◌≡◌, ℕ, ◌+◌, ◌<◌, ◌≤◌, ◌==◌, ℤ, ◌≤ℤ◌, Bool, true, false, IfSome, All, Contains, List, [], ◌∷◌, Option, Some, None, length}
 use Rattle.std.specs.List.{list_any}
 use Rattle.sky_val.specs.declared.event.Event.{Event}
 use Rattle.sky_val.specs.declared.val.Val.{Val}
@@ -9,19 +9,22 @@ use Rattle.sky_keys.specs.Waits.{other_than, is_waiting}
 use Rattle.sky_txid.specs.Ids.{contains}
 use Rattle.sky_val.specs.Schemas.{row_fault, key_columns}
 use Rattle.sky_urlenc.specs.RowEvents.{Trigger}
+use Rattle.pgq_retry.specs.declared.retry.Retry.{Retry}
+use Rattle.pgq_retry.specs.Retries.{is_asked}
 use Rattle.sky_names.specs.Places.{place_of}
 use Rattle.sky_model.specs.declared.stmt.Set.{Set}
 use Rattle.sky_model.specs.declared.stmt.Attempt.{Attempt}
 use Rattle.sky_model.specs.declared.stmt.Attempt.TheVariants.{Insertion, Changes, Deletion}
-use Rattle.sky_model.specs.History.{Batch, Mark, of_session, began, ended, block_begun, repeats, looked, block_failed, block_ended, connected, disconnected, tabled, table_made, wrote, waits, waited, queued, made, raised, put, ticked, registered, moved, unregistered, opened, closed, configured, dropped, traced, History}
+use Rattle.sky_model.specs.History.{Batch, Mark, of_session, of_worker, began, ended, block_begun, repeats, looked, block_failed, block_ended, connected, disconnected, tabled, table_made, wrote, waits, waited, queued, made, raised, put, ticked, registered, moved, unregistered, opened, closed, asked, returned, configured, dropped, traced, History}
 use Rattle.sky_model.specs.Config.{Config}
-use Rattle.sky_model.specs.Transactions.{next_txid, running}
+use Rattle.sky_model.specs.Transactions.{next_txid, running, workers}
 use Rattle.sky_model.specs.Sessions.{has_open, outside, inside, block, own_txid}
 use Rattle.sky_model.specs.Rows.{table_names}
 use Rattle.sky_model.specs.Locks.{holder, waiting}
 use Rattle.sky_model.specs.Triggers.{triggers, triggers_of}
 use Rattle.sky_model.specs.Queues.{NamedQueue, queues, queue_number, sequence, events, stored, Tick, ticks, tick, newest_tick}
 use Rattle.sky_model.specs.Consumers.{subscription_id, subscription, last_subscription, last_batch, active_batch}
+use Rattle.sky_model.specs.Retries.{retries, retried, brought_by}
 use Rattle.sky_model.specs.StepQueue.{id_of}
 use Rattle.sky_model.specs.State.{RowPart, part_of}
 use Rattle.sky_model.specs.ShownRows.{rows_by}
@@ -37,7 +40,7 @@ IsAmong q queues = list_any (λ x. x.number == q) queues ≡ true
 abbrev pub IsQueue : History → ℕ → Type 0
 IsQueue h q = IsAmong q (queues h)
 
--- a batch may be made: from where its consumer stands, without an active one, to the tick with the next id
+-- a batch may be made: from the position of its consumer, which has no active one, to the tick with the next id
 pub record Opens (h : History) (batch : Batch) : Type 0 where
   pub within : IsQueue h batch.queue
   pub stands : subscription batch.queue batch.consumer h ≡ Some (record { id = batch.sub; position = batch.prev; active = None })
@@ -60,24 +63,39 @@ AttemptFits columns key (Insertion row) = IsRowOf columns key row
 AttemptFits columns key (Changes sets) = ChangesFit columns sets
 AttemptFits columns key Deletion = row_fault (key_columns columns) key ≡ None
 
--- a write in a table that there is: the old row is the one that stands, and if it is one that the table may have there,
--- so is the new one
+-- a write to a table that exists: the old row is the one that is there, and if it is one that the table may have there, so is the new one
 pub record Replaces (d : RowPart) (who table : ℕ) (key : List Val) (old new : Option (List Val)) : Type 0 where
   pub within : table < length d.tables
   pub stands : ((rows_by d).key who table key).standing ≡ old
   pub fits : IfSome old (IsRowOf (d.columns table) key) → IfSome new (IsRowOf (d.columns table) key)
 
--- a session that has the database open and doesn't wait yet is to wait for a key of a table that there is, with an attempt that fits
+-- a session that has the database open and doesn't wait yet begins to wait for a key of a table that exists, with an attempt that fits
 pub record MayWait (d : RowPart) (who table : ℕ) (key : List Val) (attempt : Attempt) : Type 0 where
   pub within : table < length d.tables
   pub fits : AttemptFits (d.columns table) key attempt
   pub quiet : is_waiting who d.waiting ≡ false
   pub is_open : (d.session who).is_open ≡ true
 
+-- an event that was put into a queue is to be retried for a subscription of this queue, for which none with its id waits
+pub record Asks (h : History) (consumer : List ℕ) (source : Event) (retry : Retry) : Type 0 where
+  pub registered : subscription_id retry.queue consumer h ≡ Some retry.sub
+  pub stored : Contains (events retry.queue h) source
+  pub copied : retry.event ≡ retried retry.sub source
+  pub fresh : is_asked retry.sub retry.event.ev_id (retries h) ≡ false
+
+-- a retry that waits comes back into its queue, which stands, in a worker's transaction; its event has an id that was given there
+pub record Returns (h : History) (retry : Retry) (t : ℕ) : Type 0 where
+  pub waits : Contains (retries h) retry
+  pub works : contains t (workers h) ≡ true
+  pub stands : IsQueue h retry.queue
+  pub given : retry.event.ev_id ≤ sequence retry.queue h
+
 -- the mark may come next
 pub data Fine (h : History) : Mark → Type 0 where
   begins : (who : ℕ) → own_txid who h ≡ None → Fine h (began (of_session who) (next_txid h))
   ends : (who t : ℕ) (committed : Bool) → own_txid who h ≡ Some t → Fine h (ended (of_session who) t committed)
+  begins_work : Fine h (began of_worker (next_txid h))
+  ends_work : (t : ℕ) (committed : Bool) → contains t (workers h) ≡ true → Fine h (ended of_worker t committed)
   begins_block : (who : ℕ) → block who h ≡ outside → has_open who h ≡ true → Fine h (block_begun who)
   fails_block : (who : ℕ) → block who h ≡ inside → own_txid who h ≡ None → Fine h (block_failed who)
   ends_block : (who : ℕ) → own_txid who h ≡ None → Fine h (block_ended who)
@@ -100,9 +118,13 @@ pub data Fine (h : History) : Mark → Type 0 where
       → tick ≤ id_of (newest_tick (ticks q h)) → Fine h (queued (registered q name sub tick))
   moves : (q : ℕ) (name : List ℕ) (sub tick : ℕ) → IsQueue h q → subscription_id q name h ≡ Some sub → 1 ≤ tick
       → tick ≤ id_of (newest_tick (ticks q h)) → Fine h (queued (moved q name tick))
-  unregisters : (q : ℕ) (name : List ℕ) (sub : ℕ) → IsQueue h q → subscription_id q name h ≡ Some sub → Fine h (queued (unregistered q name))
+  unregisters : (q : ℕ) (name : List ℕ) (sub : ℕ) → IsQueue h q → subscription_id q name h ≡ Some sub → Fine h (queued (unregistered q name sub))
   opens : (batch : Batch) → Opens h batch → Fine h (queued (opened batch))
   closes : (batch : Batch) → active_batch batch.id h ≡ Some batch → Fine h (queued (closed batch))
+  asks : (consumer : List ℕ) (source : Event) (retry : Retry) → Asks h consumer source retry → Fine h (queued (asked retry))
+  puts_back : (retry : Retry) (t : ℕ) → Returns h retry t → Fine h (queued (put retry.queue (brought_by t retry.event)))
+  returns : (below : History) (retry : Retry) (t : ℕ) (moment : ℤ) → h ≡ queued (put retry.queue (brought_by t retry.event)) ∷ below → Returns below retry t
+      → retry.due ≤ℤ moment → Fine h (queued (returned retry moment))
   configures : (q : ℕ) (config : Config) → IsQueue h q → Fine h (queued (configured q config))
   drops : (q : ℕ) → ((consumer : List ℕ) → subscription_id q consumer h ≡ None) → All (λ t. (t.trigger.queue == q) ≡ false) (triggers h)
       → All (λ e. contains e.ev_txid (running h) ≡ false) (stored q h) → Fine h (queued (dropped q))
@@ -110,12 +132,12 @@ pub data Fine (h : History) : Mark → Type 0 where
       → IfSome name (λ n. has_trigger n (triggers_of table (triggers h)) ≡ false)
       → Fine h (queued (traced table name trigger))
 
--- these marks may come next, one after the other
+-- these marks may come next, one after another
 pub data Chain : History → List Mark → Type 0 where
   done : {h : History} → Chain h []
   more : {h : History} {mark : Mark} {marks : List Mark} → Fine h mark → Chain (mark ∷ h) marks → Chain h (mark ∷ marks)
 
--- each mark might come where it came
+-- each mark was allowed to come where it came
 pub data Legal : History → Type 0 where
   start : Legal []
   next : {h : History} {mark : Mark} → Legal h → Fine h mark → Legal (mark ∷ h)

@@ -4,6 +4,8 @@ mod WorkedMoments
 pub mod WorkedScripts
 mod WorkedClock
 mod WorkedDrops
+mod WorkedConsumers
+mod WorkedRetries
 mod WorkedOpening
 mod WorkedRows
 mod WorkedBatches
@@ -75,11 +77,16 @@ pub mod Telling
 pub mod LockLaws
 pub mod Writers
 pub mod WriteOrder
+pub mod Subscriptions
+pub mod RetryCopies
+pub mod RetryLaws
+pub mod RetriesBack
 pub mod EventIds
 pub mod WritesTold
 pub mod IdsFollowWrites
 mod WorkedWrites
 mod WorkedTriggers
+mod WorkedWorkers
 pub mod Splitting
 pub mod Scripts
 pub mod Naming

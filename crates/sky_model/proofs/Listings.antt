@@ -1,18 +1,19 @@
--- What a batch lists doesn't change once its closing tick is made: an event that is put later is of a
--- transaction that runs, so it hadn't committed at that tick, and a tick that is made stays.
+-- What a batch lists doesn't change once its closing tick is made: an event that is put later is of a running transaction, so it hadn't committed at
+-- that tick, and a tick that is made stays.
 use Rattle.std.proofs.Common.{◌≡◌, ℕ, ◌+◌, ◌<◌, ◌≤◌, List, [], ◌∷◌, ◌++◌, Bool, true, false, not, ◌&&◌, ◌==◌, Some, filter, refl, sym, ◌∙◌, ap, subst, arith, append-nil, if◌then◌else◌}
 use Rattle.std.proofs.lemmas.Bool.{or_right, false_from_ne_true, eqb-true, cond_both}
 use Rattle.std.proofs.lemmas.List.Elements.{filter-append}
 use Rattle.sky_val.specs.declared.event.Event.{Event}
-use Rattle.sky_model.specs.History.{Batch, Mark, queued, ticked, History}
-use Rattle.sky_model.specs.Transactions.{has_committed, has_rolled_back}
+use Rattle.sky_model.specs.History.{Batch, Mark, queued, put, ticked, History}
+use Rattle.sky_model.specs.Transactions.{has_ended, has_committed, has_rolled_back}
 use Rattle.sky_model.specs.Sessions.{own_txid}
 use Rattle.sky_model.specs.Queues.{events, ticks, newest_tick, at_tick}
 use Rattle.sky_model.specs.Batches.{by_id, is_for, batch_events}
+use Rattle.sky_model.specs.Retries.{brought_by}
 use Rattle.sky_model.specs.StepQueue.{id_of}
 use Rattle.sky_model.specs.LawsOfBatches.{stands_in, ListingsStay}
-use Rattle.sky_model.proofs.Legal.{Fine, puts, ticks_next, Legal}
-use Rattle.sky_model.proofs.Snapshots.{own-unended, has_committed-ended}
+use Rattle.sky_model.proofs.Legal.{Fine, puts, puts_back, ticks_next, Legal}
+use Rattle.sky_model.proofs.Snapshots.{sound, runs-unended, own-unended, has_committed-ended}
 use Rattle.sky_model.proofs.SnapshotLaws.{legal-below_mark, fine_mark, legal-below, legal_place}
 use Rattle.sky_model.proofs.TickOrder.{is_made, unmade_above, committed_since}
 use Rattle.sky_model.proofs.ActiveBatches.{IsActive, active_batches}
@@ -24,10 +25,22 @@ made_since q id [] p made = made
 made_since q id (queued (ticked r m time seq) ∷ later) p made = or_right (r == q && m == id) (is_made q id (later ++ p)) (made_since q id later p made)
 made_since q id (_ ∷ later) p made = made_since q id later p made
 
--- the transaction of a session hadn't committed at a tick
-own-uncommitted : (h : History) → Legal h → (who t : ℕ) → own_txid who h ≡ Some t → (q id : ℕ) → has_committed (at_tick q id h) t ≡ false
-own-uncommitted h l who t mine q id = false_from_ne_true (has_committed (at_tick q id h) t) (λ was.
-    cc (sym (committed_since h q id t was) ∙ has_committed-ended h l t ∙ ap (λ e. e && not (has_rolled_back h t)) (own-unended h l who t mine)))
+-- a transaction that hasn't ended hadn't committed at a tick
+unended-uncommitted : (h : History) → Legal h → (t : ℕ) → has_ended h t ≡ false → (q id : ℕ) → has_committed (at_tick q id h) t ≡ false
+unended-uncommitted h l t unended q id = false_from_ne_true (has_committed (at_tick q id h) t) (λ was.
+    cc (sym (committed_since h q id t was) ∙ has_committed-ended h l t ∙ ap (λ e. e && not (has_rolled_back h t)) unended))
+
+-- an event of one changes no listing of a batch whose closing tick is made
+same_put : (h : History) → Legal h → (q : ℕ) (e : Event) → has_ended h e.ev_txid ≡ false → (b : Batch) → batch_events (queued (put q e) ∷ h) b ≡ batch_events h b
+same_put h l q e unended b =
+    cond_both (q == b.queue) (events b.queue h ++ e ∷ []) (events b.queue h) (λ es. by_id (filter (stands_in h b) es) ≡ batch_events h b)
+    (λ _. ap by_id (filter-append (stands_in h b) (events b.queue h) (e ∷ [])
+    ∙ ap (λ c. filter (stands_in h b) (events b.queue h) ++ (if c then e ∷ [] else [])) out
+    ∙ append-nil (filter (stands_in h b) (events b.queue h)))) (λ _. refl)
+  where
+    out : stands_in h b e ≡ false
+    out = ap (λ c. c && not (has_committed (at_tick b.queue b.prev h) e.ev_txid) && is_for b.sub e.ev_owner)
+        (unended-uncommitted h l e.ev_txid unended b.queue b.cur)
 
 -- a new tick has another id than the ticks up to one that is made
 new_tick : (h : History) → Legal h → (q made id new : ℕ) → is_made q made h ≡ true → id ≤ made → id_of (newest_tick (ticks q h)) < new → (new == id) ≡ false
@@ -37,15 +50,9 @@ new_tick h l q made id new there le above = false_from_ne_true (new == id) (λ t
 -- with one more mark a batch whose closing tick is made lists the same
 same_listing : (h : History) (mark : Mark) → Legal h → Fine h mark → (b : Batch) → b.prev ≤ b.cur → is_made b.queue b.cur h ≡ true
     → batch_events (mark ∷ h) b ≡ batch_events h b
-same_listing h _ l (puts who q e i s mine newest) b le made =
-    cond_both (q == b.queue) (events b.queue h ++ e ∷ []) (events b.queue h) (λ es. by_id (filter (stands_in h b) es) ≡ batch_events h b)
-    (λ _. ap by_id (filter-append (stands_in h b) (events b.queue h) (e ∷ [])
-    ∙ ap (λ c. filter (stands_in h b) (events b.queue h) ++ (if c then e ∷ [] else [])) out
-    ∙ append-nil (filter (stands_in h b) (events b.queue h)))) (λ _. refl)
-  where
-    out : stands_in h b e ≡ false
-    out = ap (λ c. c && not (has_committed (at_tick b.queue b.prev h) e.ev_txid) && is_for b.sub e.ev_owner)
-        (own-uncommitted h l who e.ev_txid mine b.queue b.cur)
+same_listing h _ l (puts who q e i s mine newest) b le made = same_put h l q e (own-unended h l who e.ev_txid mine) b
+same_listing h _ l (puts_back retry t back) b le made =
+    same_put h l retry.queue (brought_by t retry.event) (runs-unended h (sound h l) t ((sound h l).works t back.works)) b
 same_listing h _ l (ticks_next q m time seq i above) b le made = by_same (λ x. lists (x && m == b.cur) (x && m == b.prev) ≡ lists false false) q b.queue there (λ _. refl)
   where
     lists : (to from : Bool) → List Event

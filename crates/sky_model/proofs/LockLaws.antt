@@ -31,7 +31,7 @@ use Rattle.sky_model.proofs.DaemonTurns.{daemon-part}
 pub holders_have_written : HoldersHaveWritten
 holders_have_written p is table key who = (holder-written p (legal_place p is) table key who, written-holder p (legal_place p is) table key who)
 
--- a wait is refused with the ring that it would close
+-- a wait is refused with the cycle that it would close
 refused-ring : (d : RowPart) (who table : ℕ) (key : List Val) (attempt : Attempt) (other : ℕ) (sessions : List ℕ) → blocked d who table key attempt other ≡ Err (Deadlock sessions) → ring d who other ≡ Some sessions
 refused-ring d who table key attempt other sessions refused = grind arith
 
@@ -54,13 +54,13 @@ deadlocks_are_rings p is who table key attempt other way = (
         let one : rest ≡ way = cc in
         subst (LeadsBack (waits_for d.holder d.waiting) who other) one (leads_back (waits_for d.holder d.waiting) who (length d.waiting) other rest is)
 
--- in a history none is ready behind a turn with all that it lets go on
+-- in a history none is ready after a turn with all that it unblocks
 history-rests : (h : History) (now : ℤ) (turn : Turn) → ready (part_of (marked h (with_settling (within_part database_by_history now) h turn).marks)) ≡ None
 history-rests h now turn =
     ap (λ g. ready (part_of g)) (sym (past-behind (within_part database_by_history now) (λ g. g) (database-reads now) h (with_settling (within_part database_by_history now) h turn).marks))
     ∙ turn-rests (within_part database_by_history now) (history-keeps now) h turn
 
--- nor behind the sight of a session that enters
+-- nor after the sight of a session that enters
 enters-rests : (h : History) (who : ℕ) (sight : Bool) (may : Checked (Unit {0})) → ready (part_of h) ≡ None → ready (part_of (marked h (enters who (look_of who sight) may).marks)) ≡ None
 enters-rests h who true (Ok _) rests = rests
 enters-rests h who false (Ok _) rests = rests

@@ -6,7 +6,7 @@ use Rattle.sky_model.specs.Outcome.{Checked, settled}
 use Rattle.sky_model.specs.Allowed.{allowed}
 use Rattle.sky_model.specs.Made.{Making, takes_sight, looking, runs_if, made_by}
 
--- two places read alike: the session and the outcome are the same there, and behind the mark that takes the sight
+-- two places read alike: the session and the outcome are the same there, and after the mark that takes the sight
 pub record Alike {P Q : Type 0} (m : Making P) (n : Making Q) (who : ℕ) (p : P) (q : Q) : Type 0 where
   pub sessions : m.session p ≡ n.session q
   pub waiting : m.waits p ≡ n.waits q

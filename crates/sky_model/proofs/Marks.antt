@@ -2,7 +2,8 @@
 use Rattle.std.proofs.Common.{◌≡◌, ℕ, ◌+◌, List, [], ◌∷◌, ◌++◌, Bool, true, false, not, ◌&&◌, ◌||◌, ◌==◌, filter, Option, Some, None, refl, ◌∙◌, ap, bytes_eq, option_map, if◌then◌else◌}
 use Rattle.sky_keys.specs.Waits.{released}
 use Rattle.sky_keys.specs.Versions.{forgotten}
-use Rattle.sky_model.specs.History.{Mark, of_session, of_worker, began, ended, block_begun, repeats, looked, block_failed, block_ended, connected, disconnected, tabled, wrote, queued, QueueMark, made, raised, put, ticked, registered, moved, unregistered, opened, closed, configured, dropped, traced, History, Fact, appeared, founded, entered, left, within, clock_at, daemon_on, daemon_off, Past}
+use Rattle.pgq_retry.specs.Retries.{without_sub}
+use Rattle.sky_model.specs.History.{Mark, of_session, of_worker, began, ended, block_begun, repeats, looked, block_failed, block_ended, connected, disconnected, tabled, wrote, queued, QueueMark, made, raised, put, ticked, registered, moved, unregistered, opened, closed, asked, returned, configured, dropped, traced, History, Fact, appeared, founded, entered, left, within, clock_at, daemon_on, daemon_off, Past}
 use Rattle.sky_model.specs.Config.{default_config}
 use Rattle.sky_model.specs.Queues.{queues, others_than}
 use Rattle.sky_model.specs.Consumers.{all_but, Subscription, subscription_id, position, active, of_another}
@@ -64,7 +65,8 @@ database_of-queue_mark h (moved q name tick) = λ i. record (database_of h) {
       (λ m. closes (subscription_id n m h) (position n m h) (active n m h) tick))
       ∙ by_case (q == n) (λ c. record (queue_of h n) { sub = if c then changed_for name (option_map (at_position tick)) (queue_of h n).sub else (queue_of h n).sub })) i;
 }
-database_of-queue_mark h (unregistered q name) = λ i. record (database_of h) {
+database_of-queue_mark h (unregistered q name sub) = λ i. record (database_of h) {
+  retries = without_sub sub (database_of h).retries;
   batch = λ id. of_another q name ((database_of h).batch id);
   queue = λ n. (ap (λ s. record (queue_of h n) { members = if q == n then all_but name (queue_of h n).members else (queue_of h n).members; sub = s })
       (changed_sub (q == n) name (λ b c. sub_of (if b then None else subscription_id n c h) (if b then 0 else position n c h) (if b then None else active n c h)) (λ _. None) (λ c. refl))
@@ -73,6 +75,8 @@ database_of-queue_mark h (unregistered q name) = λ i. record (database_of h) {
         sub = if b then changed_for name (λ _. None) (queue_of h n).sub else (queue_of h n).sub;
       })) i;
 }
+database_of-queue_mark h (asked retry) = refl
+database_of-queue_mark h (returned retry moment) = refl
 database_of-queue_mark h (opened b) = λ i. record (database_of h) {
   last_batch_id = b.id;
   batch = changed_at b.id (λ _. Some b) (database_of h).batch;
@@ -137,7 +141,7 @@ database_of-mark h (ended who t false) = λ i. record (database_of h) { part = p
 database_of-mark h (queued mark) = database_of-queue_mark h mark
 database_of-mark h mark = λ i. record (database_of h) { part = part_of-mark h mark i }
 
--- marks one after the other do so too
+-- and so do marks one after another
 pub database_of-marks : (h : History) (marks : List Mark) → database_of (marked h marks) ≡ after_marks (database_of h) marks
 database_of-marks h [] = refl
 database_of-marks h (mark ∷ marks) = database_of-marks (mark ∷ h) marks ∙ ap (λ d. after_marks d marks) (database_of-mark h mark)
@@ -157,7 +161,7 @@ world_of-fact past (daemon_on d) = refl
 world_of-fact past (daemon_off d) = refl
 world_of-fact past (within d mark) = λ i. record (world_of past) { database = λ n. within_at (d == n) (history_in past n) mark i }
 
--- and so do facts one after the other
+-- and so do facts one after another
 pub world_of-facts : (past : Past) (facts : List Fact) → world_of (on_top past facts) ≡ after_facts (world_of past) facts
 world_of-facts past [] = refl
 world_of-facts past (fact ∷ facts) = world_of-facts (fact ∷ past) facts ∙ ap (λ w. after_facts w facts) (world_of-fact past fact)

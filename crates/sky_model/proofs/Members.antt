@@ -7,7 +7,7 @@ use Rattle.sky_model.specs.History.{queued, registered, unregistered, History}
 use Rattle.sky_model.specs.Consumers.{all_but, consumers, subscription_id}
 use Rattle.sky_model.proofs.Cases.{by_test}
 
--- a name is among the others than another one where it was among all, and is another
+-- a name is among the others than another one if it is among all, and is another
 among-all_but : (name consumer : List ℕ) (names : List (List ℕ))
     → list_any (λ n. bytes_eq consumer n) (all_but name names) ≡ (not (bytes_eq consumer name) && list_any (λ n. bytes_eq consumer n) names)
 among-all_but name consumer [] = grind arith
@@ -23,6 +23,6 @@ pub among-consumers : (h : History) (q : ℕ) (consumer : List ℕ) → list_any
 among-consumers [] q consumer = refl
 among-consumers (queued (registered p name sub tick) ∷ h) q consumer =
     grind (arith, list_any-append (λ n. bytes_eq consumer n) (consumers q h) (name ∷ []), among-consumers h q consumer)
-among-consumers (queued (unregistered p name) ∷ h) q consumer =
+among-consumers (queued (unregistered p name sub) ∷ h) q consumer =
     grind (arith, among-all_but name consumer (consumers q h), among-consumers h q consumer)
 among-consumers (_ ∷ h) q consumer = among-consumers h q consumer

@@ -1,4 +1,4 @@
--- Answers whose sessions, and those that they speak of, have names.
+-- Answers whose sessions, and those that they name, have names.
 use Rattle.std.proofs.Common.{◌≡◌, ℕ, zero, suc, true, ◌<◌, List, [], ◌∷◌, ◌++◌, map, length, unwrap_or, refl, ap, ◌∙◌, arith, codes, All, slice_get, flat_map}
 use Rattle.sky_model.specs.declared.reply.Reply.{Reply}
 use Rattle.sky_model.specs.declared.reply.Reply.TheVariants as reply
@@ -24,7 +24,7 @@ lines-named names more (reply.Refused (refusal.Deadlock waiters)) named = ap (λ
 lines-named names more (reply.Bool true) named = refl
 lines-named names more _ named = refl
 
--- further names change nothing for answers whose sessions have one, and that speak of none without one
+-- further names change nothing for answers whose sessions have one, and that name none without one
 pub printed-named : (names more : List (List ℕ)) (replies : List (ℕ × Reply)) → AllNamed names replies → printed (names ++ more) replies ≡ printed names replies
 printed-named names more [] named = refl
 printed-named names more (answer ∷ replies) named =

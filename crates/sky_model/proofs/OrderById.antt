@@ -1,12 +1,16 @@
--- Events by id: their ids don't fall, and those with equal ids stay as they stood.
+-- Events by id: their ids don't fall, and those with equal ids stay in their order.
 use Rattle.std.proofs.Common.{◌≡◌, ℕ, ◌<◌, ◌≤◌, List, [], ◌∷◌, ◌++◌, false, ◌==◌, nat_lt, refl, sym, ◌∙◌, ap, arith, append-nil, append_assoc, if◌then◌else◌}
 use Rattle.std.proofs.lemmas.Bool.Decides.{nat_tests}
 use Rattle.sky_val.specs.declared.event.Event.{Event}
 use Rattle.sky_model.specs.Batches.{with_event, by_id_onto, by_id}
 use Rattle.sky_model.specs.LawsOfBatches.{InOrder, with_id, IdsDontFall, EqualIdsStay}
-use Rattle.sky_model.proofs.Selecting.{Ordered}
 use Rattle.std.proofs.lemmas.Bool.{cond_both}
 use Rattle.sky_model.proofs.Cases.{by_test}
+
+-- the ids don't fall, and none is above a number
+abbrev Ordered : ℕ → List Event → Type 0
+Ordered low [] = Unit {0}
+Ordered low (e ∷ es) = (low ≤ e.ev_id) × Ordered e.ev_id es
 
 Ordered-with_event : (low : ℕ) (e : Event) (es : List Event) → low ≤ e.ev_id → Ordered low es → Ordered low (with_event e es)
 Ordered-with_event low e [] le o = (le, tt)
@@ -34,7 +38,7 @@ with_id-below id low (e ∷ es) less o =
     let other : (e.ev_id == id) ≡ false = grind (arith, nat_tests) in
     ap (λ b. if b then e ∷ with_id id es else with_id id es) other ∙ with_id-below id e.ev_id es (omega arith) o.1
 
--- an event goes behind those with its id
+-- an event is inserted after those with its id
 with_id-with_event : (id low : ℕ) (e : Event) (es : List Event) → Ordered low es → with_id id (with_event e es) ≡ with_id id es ++ with_id id (e ∷ [])
 with_id-with_event id low e [] o = refl
 with_id-with_event id low e (x ∷ xs) o =

@@ -1,4 +1,4 @@
--- What facts make of the histories of databases.
+-- What facts do to the histories of databases.
 use Rattle.std.proofs.Common.{◌≡◌, ℕ, ℤ, List, [], ◌∷◌, ◌++◌, Bool, true, false, map, Option, Some, None, refl, ◌∙◌, ap, if◌then◌else◌, ◌==◌, arith}
 use Rattle.sky_model.specs.History.{Mark, Fact, within, Past}
 use Rattle.sky_model.specs.World.{World, home, history_in, on_top}
@@ -27,7 +27,7 @@ AreOutside facts = (past : Past) (n : ℕ) → history_in (on_top past facts) n 
 pub history-outside : (past : Past) (facts outside : List Fact) (n : ℕ) → AreOutside outside → history_in (on_top past (facts ++ outside)) n ≡ history_in (on_top past facts) n
 history-outside past facts outside n none = ap (λ p. history_in p n) (on_top-append past facts outside) ∙ none (on_top past facts) n
 
--- such is that a session leaves its database
+-- a session leaving its database is such
 pub left-outside : (who : ℕ) (leaving : Bool) → AreOutside (left_if who leaving)
 left-outside who true past n = refl
 left-outside who false past n = refl
@@ -37,7 +37,7 @@ pub record AreQuiet (facts : List Fact) : Type 0 where
   pub histories : AreOutside facts
   pub homes : (past : Past) (who : ℕ) → home (on_top past facts) who ≡ home past who
 
--- such is that a daemon is on or off
+-- a daemon being on or off is such
 pub daemon-quiet : (may : Bool) (d : ℕ) (start : Option ℤ) (stmt : Stmt) → AreQuiet (of_daemon_if may d start stmt)
 daemon-quiet true d None PgqdOn = record { histories = λ past n. refl; homes = λ past who. refl }
 daemon-quiet true d (Some moment) PgqdOn = record { histories = λ past n. refl; homes = λ past who. refl }
@@ -46,7 +46,7 @@ daemon-quiet true d (Some moment) PgqdOff = record { histories = λ past n. refl
 daemon-quiet true d start _ = record { histories = λ past n. refl; homes = λ past who. refl }
 daemon-quiet false d start stmt = record { histories = λ past n. refl; homes = λ past who. refl }
 
--- and facts one behind the other that change no history
+-- and facts one after another that change no history
 pub both-outside : (xs ys : List Fact) → AreOutside xs → AreOutside ys → AreOutside (xs ++ ys)
 both-outside xs ys none neither past n = history-outside past xs ys n neither ∙ none past n
 

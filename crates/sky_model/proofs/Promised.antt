@@ -13,7 +13,7 @@ promised part in_form call answers changed same_answers same_changes old new ans
   stands = λ calls formed is. stands ∙ ap changed is ∙ same_changes calls formed;
 }
 
--- two calls that keep theirs, one after the other: what holds after the first holds before the second
+-- two calls that keep theirs, one after another: what holds after the first holds before the second
 pub chained : {C H V A : Type 0} (part : Part C H V A) (in_form : C → Type 0) (old mid new : V) (first second : C) (answer later : A)
     → Promises part in_form old mid first answer → in_form first → Promises part in_form mid new second later
     → (calls : List C) → All in_form calls → old ≡ part.shows (after_all part calls)

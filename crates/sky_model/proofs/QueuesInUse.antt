@@ -6,16 +6,17 @@ use Rattle.std.proofs.lemmas.Bool.{eqb-true}
 use Rattle.std.proofs.lemmas.List.Elements.{All-nil, All-push, All-weaker}
 use Rattle.sky_val.specs.declared.event.Event.{Event}
 use Rattle.sky_txid.specs.Ids.{contains}
-use Rattle.sky_model.specs.History.{of_session, began, queued, dropped, History}
+use Rattle.sky_model.specs.History.{began, ended, queued, dropped, History}
 use Rattle.sky_model.specs.Transactions.{next_txid, running, snapshot}
 use Rattle.sky_model.specs.Config.{default_config}
 use Rattle.sky_model.specs.Queues.{NamedQueue, queues_made, queues, others_than, config, sequence, events, stored, kept_ticks}
 use Rattle.sky_model.specs.Consumers.{all_but, consumers, subscription_id, position, active}
+use Rattle.sky_model.specs.Retries.{brought_by}
 use Rattle.sky_model.specs.LawsOfQueues.{QueuesOfConsumersStand, QueuesOfTriggersStand, BusyQueuesStand, StandingQueuesKeepAll, OtherQueuesKeepNothing, NewQueuesAreOthers}
-use Rattle.sky_model.proofs.Legal.{IsAmong, IsQueue, begins, ends, makes, raises, puts, ticks_next, registers, unregisters, configures, drops, Legal, start, next}
+use Rattle.sky_model.proofs.Legal.{IsAmong, IsQueue, begins, ends, makes, raises, puts, puts_back, ticks_next, registers, unregisters, configures, drops, Legal, start, next}
 use Rattle.sky_model.proofs.QueueNumbers.{among-before, among-others}
 use Rattle.sky_model.proofs.Members.{among-consumers}
-use Rattle.sky_model.proofs.Snapshots.{sound, runs-below, contains-push, contains-filter}
+use Rattle.sky_model.proofs.Snapshots.{sound, runs-below, begun-next, contains-push, contains-filter}
 use Rattle.sky_model.proofs.StandingQueues.{whole, beyond, registered-stands}
 use Rattle.sky_model.proofs.LawfulTelling.{trigger-queues}
 use Rattle.sky_model.proofs.SnapshotLaws.{legal_place}
@@ -24,17 +25,19 @@ use Rattle.sky_model.proofs.Cases.{by_test, by_same}
 
 -- ---- running transactions
 
--- the transaction of an event has got its id
+-- the transaction of an event has its id
 abbrev Begun : History → Event → Type 0
 Begun h e = e.ev_txid < next_txid h
 
 events-begun : (h : History) → Legal h → (q : ℕ) → All (Begun h) (events q h)
 events-begun [] start q = All-nil (Begun [])
-events-begun _ (next {h = h} l (begins who none)) q =
-    All-weaker (Begun h) (Begun (began (of_session who) (next_txid h) ∷ h)) (λ e lt. omega arith) (events q h) (events-begun h l q)
+events-begun (began whose t ∷ h) (next l fine) q = All-weaker (Begun h) (Begun (began whose t ∷ h)) (λ e lt. omega arith) (events q h) (events-begun h l q)
 events-begun _ (next {h = h} l (puts who p event i at mine newest)) q =
     by_test (λ b. All (Begun h) (if b then events q h ++ event ∷ [] else events q h)) (p == q)
     (λ _. All-push (Begun h) (events q h) event (events-begun h l q) (runs-below h (sound h l) event.ev_txid ((sound h l).owns who event.ev_txid mine))) (λ _. events-begun h l q)
+events-begun _ (next {h = h} l (puts_back retry t back)) q =
+    by_test (λ b. All (Begun h) (if b then events q h ++ brought_by t retry.event ∷ [] else events q h)) (retry.queue == q)
+    (λ _. All-push (Begun h) (events q h) (brought_by t retry.event) (events-begun h l q) (runs-below h (sound h l) t ((sound h l).works t back.works))) (λ _. events-begun h l q)
 events-begun _ (next {h = h} l _) q = events-begun h l q
 
 -- the queue of an event stands while the event's transaction runs
@@ -43,17 +46,20 @@ Needs h q e = contains e.ev_txid (running h) ≡ true → IsQueue h q
 
 running-stands : (h : History) → Legal h → (q : ℕ) → All (Needs h q) (events q h)
 running-stands [] start q = All-nil (Needs [] q)
-running-stands _ (next {h = h} l (begins who none)) q =
+running-stands (began whose t ∷ h) (next l fine) q =
     λ k e less runs. running-stands h l q k e less
     (let begun : Begun h (get_or (events q h) k e) = events-begun h l q k e less in
-    grind (arith, nat_tests, contains-push (get_or (events q h) k e).ev_txid (next_txid h) (running h), runs, begun))
-running-stands _ (next {h = h} l (ends who t committed mine)) q =
+    grind (arith, nat_tests, contains-push (get_or (events q h) k e).ev_txid t (running h), runs, begun, begun-next h whose t fine))
+running-stands (ended whose t committed ∷ h) (next l fine) q =
     λ k e less runs. running-stands h l q k e less (grind (arith, contains-filter (get_or (events q h) k e).ev_txid t (running h), runs))
 running-stands _ (next {h = h} l (makes name new)) q =
     λ k e less runs. among-before (queues h) (record { number = queues_made h; name = name }) q (running-stands h l q k e less runs)
 running-stands _ (next {h = h} l (puts who p event i at mine newest)) q =
     by_same (λ b. All (Needs h q) (if b then events q h ++ event ∷ [] else events q h)) p q
     (λ same. All-push (Needs h q) (events q h) event (running-stands h l q) (λ _. subst (IsQueue h) same i)) (λ _. running-stands h l q)
+running-stands _ (next {h = h} l (puts_back retry t back)) q =
+    by_same (λ b. All (Needs h q) (if b then events q h ++ brought_by t retry.event ∷ [] else events q h)) retry.queue q
+    (λ same. All-push (Needs h q) (events q h) (brought_by t retry.event) (running-stands h l q) (λ _. subst (IsQueue h) same back.stands)) (λ _. running-stands h l q)
 running-stands _ (next {h = h} l (drops p none untold idle)) q =
     λ k e less runs.
     let stands : IsQueue h q = running-stands h l q k e less runs in
@@ -108,6 +114,15 @@ bare _ (next {h = h} l (raises p value i le)) q away =
 bare _ (next {h = h} l (puts who p event i at mine newest)) q away =
     let b : IsBare h q = bare h l q away in
     record { unset = b.unset; no_id = b.no_id; no_event = ap (λ c. if c then stored q h ++ event ∷ [] else stored q h) (apart (queues h) p q i away) ∙ b.no_event; no_tick = b.no_tick; no_consumer = b.no_consumer }
+bare _ (next {h = h} l (puts_back retry t back)) q away =
+    let b : IsBare h q = bare h l q away in
+    record {
+      unset = b.unset;
+      no_id = b.no_id;
+      no_event = ap (λ c. if c then stored q h ++ brought_by t retry.event ∷ [] else stored q h) (apart (queues h) retry.queue q back.stands away) ∙ b.no_event;
+      no_tick = b.no_tick;
+      no_consumer = b.no_consumer;
+    }
 bare _ (next {h = h} l (ticks_next p id time seq i e)) q away =
     let b : IsBare h q = bare h l q away in
     record {

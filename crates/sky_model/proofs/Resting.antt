@@ -1,4 +1,4 @@
--- When those that a statement lets go on have been run, none is ready, and no more are run than wait.
+-- When those that a statement unblocks have been run, none is ready, and at most as many are run as wait.
 use Rattle.std.proofs.Common.{◌≡◌, ℕ, zero, suc, ◌<◌, ◌≤◌, Bool, true, false, ◌==◌, List, [], ◌∷◌, ◌++◌, Option, Some, None, length, is_some, refl, sym, ◌∙◌, ap, subst, arith, if◌then◌else◌, is_none, ◌&&◌, ◌||◌}
 use Rattle.std.proofs.lemmas.Bool.{or_right, eq-eqb}
 use Rattle.sky_val.specs.declared.val.Val.{Val}
@@ -27,7 +27,7 @@ is_quiet _ = true
 abbrev pub NoWaits : List Mark → Type 0
 NoWaits marks = EachMark is_quiet marks
 
--- nor does what a statement on rows does, where it isn't refused
+-- nor does what a statement on rows does, if it isn't refused
 abbrev pub Quiet : Checked Outcome → Type 0
 Quiet c = Gives ReplyHasMoments is_quiet c
 
@@ -69,7 +69,7 @@ ready-found holder (x ∷ ws) w e =
 pub is-ready : (d : RowPart) (w : Waiting) → ready d ≡ Some w → IsReady d w
 is-ready d w e = let found : (is_waiting w.who d.waiting ≡ true) × (d.holder w.table w.key ≡ None) = ready-found d.holder d.waiting w e in record { there = found.0; free = found.1 }
 
--- a place that keeps a row part by itself, and where no wait begins or ends by what is told of writes
+-- a place that keeps a row part by itself, and where what records writes begins and ends no wait
 pub record KeepsPart {P : Type 0} (r : PartReader P) : Type 0 where
   pub part : (p : P) (mark : Mark) → r.part (r.behind p mark) ≡ after_part (r.part p) mark
   pub quiet : (p : P) (c : Checked Outcome) → Quiet c → Quiet (r.tells p c)
@@ -78,19 +78,19 @@ pub record KeepsPart {P : Type 0} (r : PartReader P) : Type 0 where
 pub itself-keeps : KeepsPart part_by_itself
 itself-keeps = record { part = λ d mark. refl; quiet = λ d c quiet. quiet }
 
--- and still does behind a gate
+-- and still does with a gate
 pub by_gate-keeps : {G P : Type 0} (gate : Gate G) (r : PartReader P) → KeepsPart r → KeepsPart (by_gate gate r)
 by_gate-keeps gate r keeps = record { part = λ p mark. keeps.part p.0 mark; quiet = λ p c quiet. gives-gated ReplyHasMoments is_quiet gate p.1 (r.tells p.0 c) (keeps.quiet p.0 c quiet) }
 
 pub gated-keeps : {G : Type 0} (gate : Gate G) → KeepsPart (by_gate gate part_by_itself)
 gated-keeps gate = by_gate-keeps gate part_by_itself itself-keeps
 
--- the part behind marks
+-- the part after marks
 pub part-behind_marks : {P : Type 0} (r : PartReader P) → KeepsPart r → (p : P) (marks : List Mark) → r.part (behind_marks r p marks) ≡ behind_marks part_by_itself (r.part p) marks
 part-behind_marks r keeps p [] = refl
 part-behind_marks r keeps p (mark ∷ marks) = part-behind_marks r keeps (r.behind p mark) marks ∙ ap (λ d. behind_marks part_by_itself d marks) (keeps.part p mark)
 
--- when it has been run, it is out of the list, and nobody has come in
+-- once it has been run, it is out of the queue, and nobody has entered it
 pub waiting-resumed : {P : Type 0} (r : PartReader P) → KeepsPart r → (p : P) (w : Waiting) → ready (r.part p) ≡ Some w
     → (r.part (behind_marks r p (resumed r p w).marks)).waiting ≡ without w.who (r.part p).waiting
 waiting-resumed {P = P} r keeps p w e =
@@ -139,7 +139,7 @@ enough {P = P} r keeps (suc n) (suc m) p some also = of (ready (r.part p)) refl 
     of (Some w) e ih =
         ap (joined (resumed r p w)) (ih (behind_marks r p (resumed r p w).marks) (omega (arith, fewer-wait r keeps p w e, some)) (omega (arith, fewer-wait r keeps p w e, also)))
 
--- those that go on: nobody, where none is ready
+-- those that resume: nobody, if none is ready
 pub settling-none : {P : Type 0} (r : PartReader P) → KeepsPart r → (p : P) → ready (r.part p) ≡ None → settling r p ≡ rests
 settling-none r keeps p e = of (length (r.part p).waiting)
   where
@@ -147,7 +147,7 @@ settling-none r keeps p e = of (length (r.part p).waiting)
     of zero = refl
     of (suc n) = ap (goes_on r p (settles r n)) e
 
--- or the one that is ready, and then all that are ready behind it
+-- or the one that is ready, and then all that are ready after it
 pub settling-some : {P : Type 0} (r : PartReader P) → KeepsPart r → (p : P) (w : Waiting) → ready (r.part p) ≡ Some w → settling r p ≡ and_then r p (resumed r p w) (settling r)
 settling-some r keeps p w e = of (length (r.part p).waiting) refl
   where
@@ -159,7 +159,7 @@ settling-some r keeps p w e = of (length (r.part p).waiting) refl
         (enough r keeps n (length (r.part (behind_marks r p (resumed r p w).marks)).waiting) (behind_marks r p (resumed r p w).marks)
         (omega (arith, fewer-wait r keeps p w e, is)) (omega arith))
 
--- the place behind marks and more of them
+-- the place after marks and more of them
 pub behind-append : {P : Type 0} (r : PartReader P) (p : P) (xs ys : List Mark) → behind_marks r p (xs ++ ys) ≡ behind_marks r (behind_marks r p xs) ys
 behind-append r p [] ys = refl
 behind-append r p (x ∷ xs) ys = behind-append r (r.behind p x) xs ys
@@ -175,7 +175,7 @@ settles-rest {P = P} r keeps (suc n) p most = of (ready (r.part p)) refl (settle
         ap (λ q. ready (r.part q)) (behind-append r p (resumed r p w).marks (settles r n (behind_marks r p (resumed r p w).marks)).marks)
         ∙ ih (behind_marks r p (resumed r p w).marks) (omega (arith, fewer-wait r keeps p w e, most))
 
--- behind a turn with all that it lets go on none is ready
+-- after a turn with all that it unblocks none is ready
 pub turn-rests : {P : Type 0} (r : PartReader P) → KeepsPart r → (p : P) (turn : Turn) → ready (r.part (behind_marks r p (and_then r p turn (settling r)).marks)) ≡ None
 turn-rests r keeps p turn =
     ap (λ q. ready (r.part q)) (behind-append r p turn.marks (settling r (behind_marks r p turn.marks)).marks)

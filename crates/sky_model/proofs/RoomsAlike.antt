@@ -1,4 +1,4 @@
--- Behind a gate a row part does what it does behind the room that the gate has at the call.
+-- With a gate a row part does what it does with the room that the gate has at the call.
 use Rattle.std.proofs.Common.{◌≡◌, ℕ, List, [], ◌∷◌, ◌++◌, Ok, Err, refl, sym, ◌∙◌, ap, not, ◌&&◌}
 use Rattle.sky_model.specs.declared.stmt.RowStmt.{RowStmt}
 use Rattle.sky_model.specs.declared.reply.Refusal.TheVariants.{EventIdsSpent}
@@ -51,13 +51,13 @@ module _ {G : Type 0} (gate : Gate G) (g : G) where
     behind = λ p q mark is _. (ap (λ d. after_part d mark) is.0, ap (λ x. passed gate x mark) is.1 ∙ same-passed q.1 mark);
   }
 
-  -- a statement, with what it lets go on
+  -- a statement, with what it unblocks
   pub room-turn : (d : RowPart) (who : ℕ) (stmt : RowStmt) → row_turn (by_gate gate part_by_itself) (d, g) who stmt ≡ row_turn (by_gate as_room part_by_itself) (d, []) who stmt
   room-turn d who stmt =
       alike-turn (by_gate gate part_by_itself) (by_gate as_room part_by_itself) Any AsRoom as-room (d, g) (d, []) who stmt (refl, refl) tt
       (each-any (by_gate gate part_by_itself) (d, g) _)
 
-  -- and what another turn lets go on
+  -- and what another turn unblocks
   pub room-settling : (d : RowPart) (turn : Turn) → with_settling (by_gate gate part_by_itself) (d, g) turn ≡ with_settling (by_gate as_room part_by_itself) (d, []) turn
   room-settling d turn =
       same-with_settling (by_gate gate part_by_itself) (by_gate as_room part_by_itself) Any AsRoom as-room (d, g) (d, []) turn turn (refl, refl) refl

@@ -1,16 +1,17 @@
 -- The calls of a row part keep their promises.
-use Rattle.std.proofs.Common.{◌≡◌, ℕ, ◌^◌, Bool, true, false, nat_le, List, [], ◌∷◌, Option, Some, None, Ok, Err, refl, sym, ◌∙◌, ap}
+use Rattle.std.proofs.Common.{◌≡◌, ℕ, ◌^◌, Bool, true, false, nat_le, List, [], ◌∷◌, Option, Some, None, Ok, Err, refl, sym, ◌∙◌, ap, if◌then◌else◌}
+use Rattle.sky_txid.specs.Ids.{contains}
 use Rattle.sky_keys.specs.Waits.{is_waiting}
 use Rattle.sky_model.specs.declared.stmt.RowStmt.{RowStmt}
 use Rattle.sky_model.specs.declared.reply.Refusal.{Refusal}
 use Rattle.sky_model.specs.declared.reply.Refusal.TheVariants.{TxidsSpent}
-use Rattle.sky_model.specs.History.{History}
-use Rattle.sky_model.specs.Transactions.{next_txid}
+use Rattle.sky_model.specs.History.{History, of_worker, began, ended}
+use Rattle.sky_model.specs.Transactions.{next_txid, workers}
 use Rattle.sky_model.specs.Sessions.{Block, outside, has_open, block, own_txid, session}
 use Rattle.sky_model.specs.Locks.{waiting}
-use Rattle.sky_model.specs.State.{RowPart, part_of, after_part_marks}
+use Rattle.sky_model.specs.State.{RowPart, part_of, after_part, after_part_marks}
 use Rattle.sky_model.specs.Outcome.{◌>>◌, refused_if}
-use Rattle.sky_model.specs.OwnTransaction.{own_or_next, txid_for, begin_of}
+use Rattle.sky_model.specs.OwnTransaction.{own_or_next, txid_for, begin_of, next_id}
 use Rattle.sky_model.specs.Allowed.{allowed}
 use Rattle.sky_model.specs.Made.{takes_sight}
 use Rattle.sky_model.specs.Reader.{part_by_history, part_by_itself}
@@ -19,14 +20,16 @@ use Rattle.sky_model.specs.Rooms.{any_room, room_of, room_gate}
 use Rattle.sky_model.specs.Settling.{Turn, rests, settling, with_settling}
 use Rattle.sky_model.specs.Calls.{row_turn}
 use Rattle.sky_model.specs.SessionMarks.{single_end, Enters, entry_place, entry, failing, takes_id, taking, ending}
+use Rattle.sky_model.specs.WorkerMarks.{begins_with, beginning, ending_work}
 use Rattle.sky_model.specs.Promises.{after_all}
-use Rattle.sky_model.specs.RowCalls.{RowCall, row_stepped, row_entered, row_failed, row_settled, txid_taken, single_ended, rolled_back, IsRowCallInForm, row_does, row_part}
+use Rattle.sky_model.specs.RowCalls.{RowCall, row_stepped, row_entered, row_failed, row_settled, txid_taken, single_ended, rolled_back, IsRowCallInForm, row_does, row_part, worker_begun, worker_ended}
 use Rattle.sky_model.specs.RowSteps.{RowSteps}
-use Rattle.sky_model.proofs.Legal.{begins, ends, Chain, done, more, Legal, start}
+use Rattle.sky_model.proofs.Legal.{begins, ends, Chain, done, more, Legal, start, begins_work, ends_work}
 use Rattle.sky_model.proofs.Good.{good_failure}
 use Rattle.sky_model.proofs.LawfulTelling.{legal_behind}
 use Rattle.sky_model.proofs.Histories.{good_enters}
 use Rattle.sky_model.proofs.Promised.{promised}
+use Rattle.sky_model.proofs.Cases.{by_test}
 use Rattle.sky_model.proofs.Entering.{entered-part}
 use Rattle.sky_model.proofs.RowStanding.{part_of-marks}
 use Rattle.sky_model.proofs.GatedLemmas.{open-turn, open-with_settling}
@@ -54,6 +57,18 @@ good_ending h who = of (own_txid who h) (block who h) refl
     of (Some t) _ mine = done
     of None b none = done
 
+good_beginning : (h : History) → Chain h (beginning (part_of h)).marks
+good_beginning h = of (nat_le (2 ^ 62) (next_txid h))
+  where
+    of : (b : Bool) → Chain h (begins_with (refused_if b TxidsSpent >> Ok (next_txid h))).marks
+    of true = done
+    of false = more begins_work done
+
+good_ending_work : (h : History) (t : ℕ) (committed : Bool) → Chain h (ending_work (part_of h) t committed).marks
+good_ending_work h t committed =
+    by_test (λ (b : Bool). Chain h (if b then record { answers = []; marks = ended of_worker t committed ∷ [] } else rests).marks) (contains t (workers h))
+    (λ is. more (ends_work t committed is) done) (λ isnt. done)
+
 -- what a call does may come
 good_row_does : (h : History) → Legal h → (call : RowCall) → Chain h (row_does part_by_history h call).marks
 good_row_does h l (row_stepped room who stmt) = good_gated_turn (room_gate room) h l [] who stmt
@@ -63,6 +78,8 @@ good_row_does h l (row_settled room) = good_gated_settling (room_gate room) h l 
 good_row_does h l (txid_taken who) = good_taking h who
 good_row_does h l (single_ended who) = good_ending h who
 good_row_does h l (rolled_back who) = good_failure h who
+good_row_does h l worker_begun = good_beginning h
+good_row_does h l (worker_ended t committed) = good_ending_work h t committed
 
 -- so the history that calls make is legal
 legal_row_calls : (calls : List RowCall) → Legal (after_all row_part calls)
@@ -82,14 +99,16 @@ same-row_does h l (row_settled room) = sym (same-gated_settling (room_gate room)
 same-row_does h l (txid_taken who) = refl
 same-row_does h l (single_ended who) = refl
 same-row_does h l (rolled_back who) = refl
+same-row_does h l worker_begun = refl
+same-row_does h l (worker_ended t committed) = refl
 
--- the part behind a call
+-- the part after a call
 behind-row_does : (h : History) → Legal h → (call : RowCall)
     → after_part_marks (part_of h) (row_does part_by_itself (part_of h) call).marks ≡ part_of (row_part.after h call)
 behind-row_does h l call =
     ap (λ (turn : Turn). after_part_marks (part_of h) turn.marks) (same-row_does h l call) ∙ sym (part_of-marks h (row_does part_by_history h call).marks)
 
--- a call that changes a part as this turn says keeps its promise, if the turn is the one that the part tells
+-- a call that changes a part as this turn says keeps its promise, if the turn is the one by what the part keeps
 row_call_from_exact : (old new : RowPart) (call : RowCall) (turn : Turn) → turn ≡ row_does part_by_itself old call → new ≡ after_part_marks old turn.marks → RowSteps old new call turn
 row_call_from_exact old new call turn is changed =
     promised row_part IsRowCallInForm call (λ d. row_does part_by_itself d call) (λ d. after_part_marks d (row_does part_by_itself d call).marks)
@@ -99,7 +118,7 @@ row_call_from_exact old new call turn is changed =
 
 -- ---- each call's
 
--- behind a gate
+-- with a gate
 pub gated_step_from_exact : {G : Type 0} (gate : Gate G) (old new : RowPart) (g : G) (who : ℕ) (stmt : RowStmt)
     → new ≡ after_part_marks old (row_turn (by_gate gate part_by_itself) (old, g) who stmt).marks
     → RowSteps old new (row_stepped (room_of gate g) who stmt) (row_turn (by_gate gate part_by_itself) (old, g) who stmt)
@@ -151,3 +170,20 @@ end_single_from_exact old new who = row_call_from_exact old new (single_ended wh
 
 pub roll_back_from_exact : (old new : RowPart) (who : ℕ) → new ≡ after_part_marks old (failing old who).marks → RowSteps old new (rolled_back who) (failing old who)
 roll_back_from_exact old new who = row_call_from_exact old new (rolled_back who) (failing old who) refl
+
+-- a worker's transaction begins
+pub begin_worker_from_exact : (old new : RowPart) (t : ℕ) → next_id old ≡ Ok t → new ≡ after_part_marks old (began of_worker t ∷ []) → RowSteps old new worker_begun (beginning old)
+begin_worker_from_exact old new t is changed =
+    row_call_from_exact old new worker_begun (beginning old) refl (changed ∙ sym (ap (λ o. after_part_marks old (begins_with o).marks) is))
+
+-- no id is left, and nothing has changed
+pub no_worker_from_exact : (old new : RowPart) (refusal : Refusal) → next_id old ≡ Err refusal → new ≡ old → RowSteps old new worker_begun (beginning old)
+no_worker_from_exact old new refusal is same =
+    row_call_from_exact old new worker_begun (beginning old) refl (same ∙ sym (ap (λ o. after_part_marks old (begins_with o).marks) is))
+
+-- one that runs ends
+pub end_worker_from_exact : (old new : RowPart) (t : ℕ) (committed : Bool) → contains t old.workers ≡ true → new ≡ after_part old (ended of_worker t committed)
+    → RowSteps old new (worker_ended t committed) (ending_work old t committed)
+end_worker_from_exact old new t committed runs changed =
+    row_call_from_exact old new (worker_ended t committed) (ending_work old t committed) refl
+    (changed ∙ sym (ap (λ b. after_part_marks old (if b then record { answers = []; marks = ended of_worker t committed ∷ [] } else rests).marks) runs))

@@ -5,21 +5,21 @@ use Rattle.std.proofs.lemmas.Bool.Decides.{nat_tests}
 use Rattle.sky_val.specs.Entries.{is_in_order}
 use Rattle.sky_txid.specs.Ids.{contains}
 use Rattle.sky_keys.proofs.EntryLemmas.{is_in_order-written, is_in_order-forgotten}
-use Rattle.sky_model.specs.History.{Mark, ended, tabled, wrote, History}
+use Rattle.sky_model.specs.History.{Mark, ended, tabled, wrote, History, began}
 use Rattle.sky_model.specs.Transactions.{next_txid, has_ended}
 use Rattle.sky_model.specs.Rows.{committed, writes as writes_of}
 use Rattle.sky_model.specs.Versions.{versions}
-use Rattle.sky_model.proofs.Legal.{Fine, begins, writes, Legal, start, next}
+use Rattle.sky_model.proofs.Legal.{Fine, writes, Legal, start, next}
 use Rattle.sky_model.proofs.Snapshots.{contains-push, sound, runs-below}
 
--- the versions of a table stand in the order of their keys
+-- the versions of a table are in the order of their keys
 pub is_in_order-versions : (table : ℕ) (h : History) → is_in_order (versions table h) ≡ true
 is_in_order-versions table [] = refl
 is_in_order-versions table (tabled (wrote who t n key old new) ∷ h) = grind (arith, is_in_order-versions table h, is_in_order-written t key new (versions table h))
 is_in_order-versions table (ended who t false ∷ h) = is_in_order-forgotten t (versions table h) (is_in_order-versions table h)
 is_in_order-versions table (_ ∷ h) = is_in_order-versions table h
 
--- who has committed has ended
+-- a transaction that has committed has ended
 pub committed-ended : (h : History) (t : ℕ) → contains t (committed h) ≡ true → has_ended h t ≡ true
 committed-ended [] t e = absurd (cc)
 committed-ended (ended who u true ∷ h) t e =
@@ -33,7 +33,7 @@ abbrev pub Begun : History → Type 0
 Begun h = (table t : ℕ) → next_txid h ≤ t → writes_of table t h ≡ []
 
 begun_step : (h : History) (mark : Mark) → Fine h mark → Legal h → Begun h → Begun (mark ∷ h)
-begun_step h _ (begins who e) l b = λ table t le. b table t (omega arith)
+begun_step h (began whose t) fine l b = λ table u le. b table u (omega arith)
 begun_step h _ (writes who t n key old new e free stands) l b = λ table u le. grind (arith, nat_tests, b table u le, runs-below h (sound h l) t ((sound h l).owns who t e))
 begun_step h _ _ l b = b
 

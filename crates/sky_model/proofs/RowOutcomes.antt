@@ -29,7 +29,7 @@ is_of_rows _ = true
 abbrev pub RowMarks : List Mark → Type 0
 RowMarks marks = EachMark is_of_rows marks
 
--- no event is the answer either, where a statement isn't refused
+-- no event is the answer either, if a statement isn't refused
 abbrev pub OfRows : Checked Outcome → Type 0
 OfRows c = Gives ReplyHasMoments is_of_rows c
 
@@ -64,22 +64,22 @@ form-rows d shown who stmt =
     let k : Kinds = row_kinds (d.session who).is_open stmt in
     gives-map ReplyHasMoments ReplyHasMoments (may_leave k who) is_of_rows (λ reply has. has) (rows-if k (no-queues (d.session who).is_open stmt) who) _ (gives-row_form who d shown stmt)
 
--- a place whose statements on rows do so still once their writes are refused where there is no room for them: a row part
+-- a place whose statements on rows do so still when their writes are refused if there is no room for them: a row part
 abbrev pub KeepsRows : {P : Type 0} → PartReader P → Type 0
 KeepsRows r = KeepsMarks is_of_rows r
 
 pub itself-rows : KeepsRows part_by_itself
 itself-rows = record { tells = λ d c rows. rows }
 
--- and one behind a gate
+-- and one with a gate
 pub by_gate-rows : {G P : Type 0} (gate : Gate G) (r : PartReader P) → KeepsRows r → KeepsRows (by_gate gate r)
 by_gate-rows gate r keeps = record { tells = λ p c rows. gives-gated ReplyHasMoments is_of_rows gate p.1 (r.tells p.0 c) (keeps.tells p.0 c rows) }
 
--- those that go on list no event, and touch no queue
+-- those that resume list no event, and touch no queue
 pub settling-rows-by : {P : Type 0} (r : PartReader P) → KeepsRows r → (p : P) → TurnOfRows (settling r p)
 settling-rows-by r keeps p = settling-gives is_of_rows (λ who. refl) (rows-if (attempt_kinds true) refl) r keeps p
 
--- nor does a statement on rows with those that it lets go on
+-- nor does a statement on rows with those that it unblocks
 pub row_turn-rows-by : {P : Type 0} (r : PartReader P) → KeepsRows r → (p : P) (who : ℕ) (stmt : RowStmt) → TurnOfRows (row_turn r p who stmt)
 row_turn-rows-by {P = P} r keeps p who stmt =
     then-gives is_of_rows r p (turn_of who (row_statement r p who stmt)) (settling r)

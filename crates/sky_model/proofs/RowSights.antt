@@ -1,4 +1,4 @@
--- What the versions that are kept show at a sight is what the history shows there.
+-- What the kept versions show at a sight is what the history shows there.
 use Rattle.std.proofs.Common.{◌≡◌, ℕ, true, false, List, [], ◌∷◌, Option, Some, None, option_map, is_some, refl, sym, ◌∙◌, ap, subst, arith, if◌then◌else◌, ◌||◌, ◌==◌}
 use Rattle.std.proofs.lemmas.Bool.{or_right}
 use Rattle.std.specs.Option.{option_or}
@@ -18,14 +18,14 @@ use Rattle.sky_model.specs.Rows.{committed, writes as writes_of, rows, own_write
 use Rattle.sky_model.specs.Versions.{versions}
 use Rattle.sky_model.specs.State.{part_of}
 use Rattle.sky_model.specs.ShownRows.{rows_in, rows_by, unseen_in}
-use Rattle.sky_model.proofs.Legal.{Fine, ends, writes, Legal, next}
-use Rattle.sky_model.proofs.Snapshots.{contains-push, sees-snapshot, own-unended, has_committed-ended}
+use Rattle.sky_model.proofs.Legal.{Fine, writes, Legal, next}
+use Rattle.sky_model.proofs.Snapshots.{contains-push, sees-snapshot, own-unended, has_committed-ended, ender-unended}
 use Rattle.sky_model.proofs.RowWrites.{over, last_of, at-put_all, is_in_order-put_all, is_in_order-in_turn, has_written-last_of, last_writer-has}
 use Rattle.sky_model.proofs.RowKeys.{is_in_order-versions}
 use Rattle.sky_model.proofs.KeyVersions.{kept, key_holds, kept-wrote}
 use Rattle.sky_model.proofs.Cases.{by_test}
 
--- a history goes on from another
+-- a history continues another
 pub data Since (k : History) : History → Type 0 where
   here : Since k k
   later : {h : History} {mark : Mark} → Since k h → Since k (mark ∷ h)
@@ -80,15 +80,15 @@ snapshot-place h who = of (sight who h)
     of at_first = refl
     of (at_place k) = refl
 
--- a mark of one that hasn't ended at a place changes nothing that has
+-- a mark of a transaction that hasn't ended at a place changes none that has
 unended-at : {k h : History} → Since k h → (t : ℕ) → has_ended h t ≡ false → has_ended k t ≡ false
 unended-at since t runs = grind (arith, ended-since since t)
 
 newest-behind : (k h : History) → Since k h → Legal h → (mark : Mark) → Fine h mark → (table : ℕ) (key : List Val)
     → newest_by (has_ended k) (kept (mark ∷ h) table key) ≡ newest_by (has_ended k) (kept h table key)
-newest-behind k h since l _ (ends who t false e) table key =
+newest-behind k h since l (ended whose t false) fine table key =
     ap (newest_by (has_ended k)) (versions_at-forgotten t key (versions table h) (is_in_order-versions table h))
-    ∙ newest_without (has_ended k) t (kept h table key) (unended-at since t (own-unended h l who t e))
+    ∙ newest_without (has_ended k) t (kept h table key) (unended-at since t (ender-unended h l whose t false fine))
 newest-behind k h since l _ (writes who t n at_key old new e free stands) table key =
     grind (arith, kept-wrote h l who t n at_key old new e free table key, newest_with (has_ended k) t new (kept h table key) (unended-at since t (own-unended h l who t e)))
 newest-behind k h since l _ _ table key = refl
@@ -128,7 +128,7 @@ rows-at h l who table =
     (λ key. read-at (place h who) h (place-since h who) l who table key
     ∙ sym (at-rows_read (snapshot (place h who)) (own_txid who h) key (versions table h) (is_in_order-versions table h)))
 
--- who stands among the committed has committed
+-- a transaction among the committed ones has committed
 committed-has : (h : History) (t : ℕ) → contains t (committed h) ≡ true → has_committed h t ≡ true
 committed-has [] t e = absurd (cc)
 committed-has (ended who u true ∷ h) t e =
@@ -166,7 +166,7 @@ unseen-is h l who table key =
         ∙ ap (λ b. if b then None else Some t) (sym (committed-at (place-since h who) l t has))
         ∙ sym (ap (unless (has_ended (place h who))) is)
 
--- so statements on rows are shown the same by the history as by the versions that are kept
+-- so the history shows statements on rows the same as the kept versions do
 pub same-rows : (h : History) → Legal h → rows_in h ≡ rows_by (part_of h)
 same-rows h l = λ i. record {
   key = λ who table key. record {

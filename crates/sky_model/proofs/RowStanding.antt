@@ -31,13 +31,13 @@ pub part_of-marks : (h : History) (marks : List Mark) → part_of (marked h mark
 part_of-marks h [] = refl
 part_of-marks h (mark ∷ marks) = part_of-marks (mark ∷ h) marks ∙ ap (λ d. after_part_marks d marks) (part_of-mark h mark)
 
--- the row part of a database behind a mark
+-- the row part of a database after a mark
 pub part-behind : (d : Database) (mark : Mark) → (after_mark d mark).part ≡ after_part d.part mark
 part-behind d (ended who t true) = refl
 part-behind d (queued (made name)) = refl
 part-behind d _ = refl
 
--- within the world a statement, with what it lets go on, is one of the database
+-- within the world a statement, with what it unblocks, is one of the database
 pub turn-within : (w : World) (d : ℕ) (now : ℤ) (who : ℕ) (stmt : Stmt) → database_turn (within_database by_world d) w now who stmt ≡ database_turn database_by_itself (w.database d) now who stmt
 turn-within w d now who stmt =
     same-turn_read (within_database by_world d) database_by_itself (λ (v : World). v.database d) (record {

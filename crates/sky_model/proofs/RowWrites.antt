@@ -75,7 +75,7 @@ pub is_in_order-in_turn : (writes_of : ℕ → List Write) (ts : List ℕ) (rows
 is_in_order-in_turn writes_of [] rows ordered = ordered
 is_in_order-in_turn writes_of (t ∷ ts) rows ordered = is_in_order-in_turn writes_of ts (put_all (writes_of t) rows) (is_in_order-put_all (writes_of t) rows ordered)
 
--- one write more
+-- one more write
 last_from-push : (q : List Val) (left : Option (Option (List Val))) (ws : List Write) (w : Write) → last_from q left (ws ++ w ∷ []) ≡ (if eq_by_cmp key_cmp q w.key then Some w.row else last_from q left ws)
 last_from-push q left [] w = refl
 last_from-push q left (x ∷ ws) w = last_from-push q (if eq_by_cmp key_cmp q x.key then Some x.row else left) ws w
@@ -87,11 +87,11 @@ is_some-last_from : (q : List Val) (left : Option (Option (List Val))) (ws : Lis
 is_some-last_from q left [] = refl
 is_some-last_from q left (w ∷ ws) = grind (arith, is_some-last_from q (if eq_by_cmp key_cmp q w.key then Some w.row else left) ws)
 
--- a key is written where some write left something of it
+-- a key is written if some write left something of it
 pub has_written-last_of : (q : List Val) (ws : List Write) → has_written q ws ≡ is_some (last_of q ws)
 has_written-last_of q ws = grind (arith, is_some-last_from q None ws)
 
--- one transaction more, in the order of commits
+-- one more transaction, in the order of commits
 pub in_turn-push : (writes_of : ℕ → List Write) (ts : List ℕ) (t : ℕ) (rows : Entries (List Val)) → in_turn writes_of (ts ++ t ∷ []) rows ≡ put_all (writes_of t) (in_turn writes_of ts rows)
 in_turn-push writes_of [] t rows = refl
 in_turn-push writes_of (u ∷ ts) t rows = in_turn-push writes_of ts t (put_all (writes_of u) rows)
@@ -128,7 +128,7 @@ last_writer-from-same q f g last (t ∷ ts) same =
 pub last_writer-same : (q : List Val) (f g : ℕ → List Write) (ts : List ℕ) → ((u : ℕ) → contains u ts ≡ true → f u ≡ g u) → last_writer q f None ts ≡ last_writer q g None ts
 last_writer-same q f g ts same = last_writer-from-same q f g None ts same
 
--- what holds of the transactions of a list, and of one in front, holds of the last writer
+-- what holds of the transactions of a list, and of one before, holds of the last writer
 pub last_writer-has : (q : List Val) (f : ℕ → List Write) (holds : ℕ → Type 0) (last : Option ℕ) (ts : List ℕ) → ((u : ℕ) → contains u ts ≡ true → holds u)
     → ((u : ℕ) → last ≡ Some u → holds u) → (t : ℕ) → last_writer q f last ts ≡ Some t → holds t
 last_writer-has q f holds last [] in_list in_front t is = in_front t is

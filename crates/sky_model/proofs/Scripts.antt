@@ -82,11 +82,11 @@ stops_unended n taken bytes unbroken some fits = record {
 pub said-too_long : (taken : ℕ) (line : List ℕ) → most_in_line < length line → said taken line ≡ bad TooLong
 said-too_long taken line over = grind (arith, nat_tests)
 
--- one that ends behind too many
+-- one that ends after too many
 pub said-too_late : (taken : ℕ) (line : List ℕ) → length line ≤ most_in_line → most_in_script < taken + length line + 1 → said taken line ≡ bad ScriptTooLong
 said-too_late taken line fits over = grind (arith, nat_tests)
 
--- one that has room says what its words say
+-- one that fits says what its words say
 pub said-fits : (taken : ℕ) (line : List ℕ) → length line ≤ most_in_line → taken + length line + 1 ≤ most_in_script → said taken line ≡ (if is_utf8 line then said_by (line_of line) else bad NotUtf8)
 said-fits taken line fits in_time = grind (arith, nat_tests)
 
@@ -99,6 +99,6 @@ stops_long n taken bytes front [] rest splits over = record {
 stops_long n taken bytes front (line ∷ lines) rest splits over =
     stops_at n taken bytes (front ++ line) lines rest TooLong splits (said-too_long taken (front ++ line) (omega (arith, length-append front line)))
 
--- more bytes than a line may have, without a line feed, are bad however they go on
+-- more bytes than a line may have, without a line feed, are bad whatever follows them
 pub stops_too_long : (n taken : ℕ) (front more : List ℕ) → IsUnbroken front → most_in_line < length front → StopsHere n taken TooLong (front ++ more)
 stops_too_long n taken front more unbroken over = stops_long n taken (front ++ more) front (split more).lines (split more).rest (split-front front more unbroken) over

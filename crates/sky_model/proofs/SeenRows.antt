@@ -1,4 +1,4 @@
--- Where no writer is unseen, the row that a session is shown is the one that stands.
+-- If no writer is unseen, the row that a session is shown is the one that its write meets.
 use Rattle.std.proofs.Common.{◌≡◌, ℕ, ◌⊎◌, inl, inr, Bool, true, List, [], ◌∷◌, Option, Some, None, option_map, is_some, refl, sym, ◌∙◌, ap, subst, le_refl, if◌then◌else◌}
 use Rattle.std.specs.Option.{option_or}
 use Rattle.sky_val.specs.declared.val.Val.{Val}
@@ -21,7 +21,7 @@ use Rattle.sky_model.proofs.RowKeys.{begun}
 use Rattle.sky_model.proofs.KeyVersions.{kept}
 use Rattle.sky_model.proofs.RowSights.{legal-since, ended-since, place, place-since, snapshot-place, same-rows}
 
--- the newest version that passes a test is the newest that passes a narrower one, where that one passes it too
+-- the newest version that passes a test is the newest that passes a narrower one, if it passes that too
 newest-seen : (p q : ℕ → Bool) → ((t : ℕ) → q t ≡ true → p t ≡ true) → (vs : List Version) (a b : Option Version)
     → (b ≡ a) ⊎ (unless q (option_map Version.txid a) ≡ None → ⊥)
     → unless q (option_map Version.txid (newest_from p a vs)) ≡ None → newest_from q b vs ≡ newest_from p a vs
@@ -50,12 +50,12 @@ seen-stands h l who table key =
         sees-snapshot h l t
         ∙ ended-since (place-since h who) t (sym (sees-snapshot (place h who) (legal-since (place-since h who) l) t) ∙ sym (ap (λ s. sees s t) (snapshot-place h who)) ∙ e)
 
--- what stands by the history stands by its row part
+-- the row that a write meets is the same by the history and by its row part
 pub stands-by : (h : History) → Legal h → (who table : ℕ) (key : List Val) (old : Option (List Val)) → ((rows_in h).key who table key).standing ≡ old
     → ((rows_by (part_of h)).key who table key).standing ≡ old
 stands-by h l who table key old stands = ap (λ (r : RowsShown). (r.key who table key).standing) (sym (same-rows h l)) ∙ stands
 
--- and it still does once the session's transaction has begun
+-- and it still is once the session's transaction has begun
 pub stands-begun : (h : History) → Legal h → (who table : ℕ) (key : List Val) (old : Option (List Val)) → own_txid who h ≡ None → ((rows_in h).key who table key).standing ≡ old
     → ((rows_by (part_of (began (of_session who) (next_txid h) ∷ h))).key who table key).standing ≡ old
 stands-begun h l who table key old none stands =

@@ -1,4 +1,4 @@
--- A row that changes that fit have changed is one of the table under the same key, if it was one before.
+-- A row that fitting changes have changed is one of the table under the same key, if it was one before.
 use Rattle.std.proofs.Common.{◌≡◌, ℕ, suc, ℤ, ◌+◌, Bool, true, false, List, [], ◌∷◌, Option, Some, None, Ok, Err, IfSome, length, bytes_eq, option_map, refl, sym, ◌∙◌, ap, subst, if◌then◌else◌, arith, find, ◌||◌, ◌==◌, ◌+ℤ◌}
 use Rattle.std.specs.List.{list_any}
 use Rattle.std.specs.Option.{option_or}
@@ -136,7 +136,7 @@ with_sets-keeps columns (set ∷ sets) row next may fits e =
         let rest : (row_fault columns next ≡ None) × (key_of columns next ≡ key_of columns between) = ih between (still-fits columns row between (row-fits columns row fits) k) e in
         (rest.0, rest.1 ∙ k.key)
 
--- so the changed row, if there is one, is one of the table under the key, where the row before was
+-- so the changed row, if there is one, is one of the table under the key, if the row before was
 pub sets-fit : (columns : List Column) (key : List Val) (sets : List Set) → ChangesFit columns sets → (row : List Val) (new : Option (List Val))
     → some_row (with_sets columns sets row) ≡ Ok new → IsRowOf columns key row → IfSome new (IsRowOf columns key)
 sets-fit columns key sets may row new e fits = of (with_sets columns sets row) refl e

@@ -4,11 +4,11 @@ use Rattle.std.specs.List.{list_any}
 use Rattle.std.proofs.lemmas.Bool.{or_parts}
 use Rattle.sky_model.specs.Lines.{Split, with_byte, with_line, split}
 
--- no line feed stands among the bytes
+-- there is no line feed among the bytes
 abbrev pub IsUnbroken : List ℕ → Type 0
 IsUnbroken bytes = list_any (λ b. b == 10) bytes ≡ false
 
--- bytes without a line feed in front of lines
+-- bytes without a line feed before lines
 abbrev pub with_bytes : List ℕ → List (List ℕ) → List ℕ → Split
 with_bytes front [] rest = record { lines = []; rest = front ++ rest }
 with_bytes front (line ∷ lines) rest = record { lines = (front ++ line) ∷ lines; rest = rest }
@@ -22,7 +22,7 @@ with_bytes-nothing : (lines : List (List ℕ)) (rest : List ℕ) → record { li
 with_bytes-nothing [] rest = refl
 with_bytes-nothing (line ∷ lines) rest = refl
 
--- what is split behind them is split as it was
+-- what comes after them is split as it was
 pub split-front : (front more : List ℕ) → IsUnbroken front → split (front ++ more) ≡ with_bytes front (split more).lines (split more).rest
 split-front [] more unbroken = with_bytes-nothing (split more).lines (split more).rest
 split-front (b ∷ front) more unbroken =

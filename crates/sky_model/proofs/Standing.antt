@@ -24,13 +24,13 @@ use Rattle.sky_model.proofs.Promised.{promised}
 use Rattle.sky_model.proofs.RowStanding.{turn-within}
 use Rattle.sky_model.proofs.DatabaseStanding.{same-turn_at}
 
--- in a past a statement does, with those that it lets go on, what it does by what the world shows
+-- in a past a statement does, with those that it unblocks, what it does by what the world shows
 same-database_turn : (past : Past) → AllLegal past → (d : ℕ) (now : ℤ) (who : ℕ) (stmt : Stmt)
     → database_turn (within_database by_past d) past now who stmt ≡ database_turn (within_database by_world d) (world_of past) now who stmt
 same-database_turn past all d now who stmt =
     same-turn-within past d now who stmt ∙ same-turn_at (history_in past d) (all d) now who stmt ∙ sym (turn-within (world_of past) d now who stmt)
 
--- so does a deed behind another, where each of them does
+-- so does a deed after another, if each of them does
 same-followed : (past : Past) (rest : Past → Deed) (rest_shown : World → Deed) (deed : Deed) → AllLegal (on_top past deed.facts)
     → ((later : Past) → AllLegal later → rest later ≡ rest_shown (world_of later)) → followed by_past past rest deed ≡ followed by_world (world_of past) rest_shown deed
 same-followed past rest rest_shown deed all same = ap (joined deed) (same (on_top past deed.facts) all ∙ ap rest_shown (world_of-facts past deed.facts))
@@ -57,7 +57,7 @@ same-session past all who stmt (Some d) =
 
 -- ---- the clock
 
--- a deed and one behind it
+-- a deed and one after it
 same-both : (past : Past) (rest : Past → Deed) (rest_shown : World → Deed) (deed deed_shown : Deed) → deed ≡ deed_shown → ((later : Past) → rest later ≡ rest_shown (world_of later))
     → followed by_past past rest deed ≡ followed by_world (world_of past) rest_shown deed_shown
 same-both past rest rest_shown deed deed_shown one same =
@@ -121,7 +121,7 @@ world_of-after : (past : Past) → AllLegal past → (call : Call) → world_of 
 world_of-after past all call =
     world_of-facts past (does past call).facts ∙ ap (λ (deed : Deed). after_facts (world_of past) deed.facts) (does-deed_at past all call)
 
--- a call that answers and changes the world as the world itself tells keeps its promise
+-- a call that answers and changes the world as the world itself says keeps its promise
 pub steps_from_exact : (old new : World) (call : Call) (replies : List (ℕ × Reply)) → replies ≡ answers_at old call → new ≡ after_call old call → Steps old new call replies
 steps_from_exact old new call =
     promised world_part IsCallInForm call (λ w. answers_at w call) (λ w. after_call w call)

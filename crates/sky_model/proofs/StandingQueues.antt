@@ -1,4 +1,4 @@
--- What is kept of the queues that stand: all that ever was put into them, and made of them.
+-- What is kept of the queues that stand: all that was ever put into them, and made of them.
 use Rattle.std.proofs.Common.{◌≡◌, ℕ, ◌≤◌, List, [], ◌∷◌, ◌++◌, false, ◌==◌, Some, refl, sym, ◌∙◌, ap, arith, if◌then◌else◌}
 use Rattle.std.specs.List.{list_any}
 use Rattle.std.proofs.lemmas.Bool.Decides.{nat_tests}
@@ -8,7 +8,8 @@ use Rattle.sky_model.specs.History.{queued, made, History}
 use Rattle.sky_model.specs.Transactions.{snapshot}
 use Rattle.sky_model.specs.Queues.{queues_made, queues, events, stored, Tick, ticks, kept_ticks}
 use Rattle.sky_model.specs.Consumers.{subscription_id}
-use Rattle.sky_model.proofs.Legal.{IsQueue, makes, puts, ticks_next, registers, unregisters, drops, Legal, start, next}
+use Rattle.sky_model.specs.Retries.{brought_by}
+use Rattle.sky_model.proofs.Legal.{IsQueue, makes, puts, puts_back, ticks_next, registers, unregisters, drops, Legal, start, next}
 use Rattle.sky_model.proofs.QueueNumbers.{queue-below, among-before, others-among, others-apart, among-others}
 use Rattle.sky_model.proofs.Cases.{by_test}
 
@@ -28,6 +29,15 @@ beyond _ (next {h = h} l (puts who p event i is o newest)) q le =
     record {
       stored = ap (λ c. if c then stored q h ++ event ∷ [] else stored q h) other ∙ b.stored;
       events = ap (λ c. if c then events q h ++ event ∷ [] else events q h) other ∙ b.events;
+      kept = b.kept;
+      ticks = b.ticks;
+    }
+beyond _ (next {h = h} l (puts_back retry t back)) q le =
+    let b : IsBeyond h q = beyond h l q le in
+    let other : (retry.queue == q) ≡ false = grind (arith, nat_tests, queue-below h retry.queue back.stands) in
+    record {
+      stored = ap (λ c. if c then stored q h ++ brought_by t retry.event ∷ [] else stored q h) other ∙ b.stored;
+      events = ap (λ c. if c then events q h ++ brought_by t retry.event ∷ [] else events q h) other ∙ b.events;
       kept = b.kept;
       ticks = b.ticks;
     }
@@ -70,6 +80,9 @@ whole _ (next {h = h} l (makes name new)) q is =
 whole _ (next {h = h} l (puts who p event i at o newest)) q is =
     let w : IsWhole h q = whole h l q is in
     record { all_events = ap (λ es. if p == q then es ++ event ∷ [] else es) w.all_events; all_ticks = w.all_ticks }
+whole _ (next {h = h} l (puts_back retry t back)) q is =
+    let w : IsWhole h q = whole h l q is in
+    record { all_events = ap (λ es. if retry.queue == q then es ++ brought_by t retry.event ∷ [] else es) w.all_events; all_ticks = w.all_ticks }
 whole _ (next {h = h} l (ticks_next p id time seq i e)) q is =
     let w : IsWhole h q = whole h l q is in
     record { all_events = w.all_events; all_ticks = ap (λ ts. if p == q then ts ++ record { id = id; time = time; snapshot = snapshot h; seq = seq } ∷ [] else ts) w.all_ticks }
@@ -82,7 +95,7 @@ whole _ (next {h = h} l (drops p none untold idle)) q is =
     }
 whole _ (next {h = h} l _) q is = let w : IsWhole h q = whole h l q is in record { all_events = w.all_events; all_ticks = w.all_ticks }
 
--- a queue where a consumer is registered stands
+-- a queue with a registered consumer stands
 pub registered-stands : (h : History) → Legal h → (q : ℕ) (consumer : List ℕ) (sub : ℕ) → subscription_id q consumer h ≡ Some sub → IsQueue h q
 registered-stands [] start q consumer sub is = absurd (cc)
 registered-stands _ (next {h = h} l (makes name new)) q consumer sub is = among-before (queues h) (record { number = queues_made h; name = name }) q (registered-stands h l q consumer sub is)

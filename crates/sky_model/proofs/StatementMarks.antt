@@ -9,13 +9,13 @@ use Rattle.sky_model.specs.declared.stmt.Attempt.TheVariants.{Insertion, Changes
 use Rattle.sky_model.specs.declared.stmt.RowStmt.{RowStmt}
 use Rattle.sky_model.specs.declared.stmt.RowStmt.TheVariants.{OpenDb, Close, Cancel, Begin, BeginRepeatableRead, Commit, Rollback, TxidCurrent, TxidCurrentSnapshot, TxidVisibleInSnapshot, CreateTable, Insert, Update, Delete, Get, Scan}
 use Rattle.sky_model.specs.declared.stmt.Stmt.{Stmt}
-use Rattle.sky_model.specs.declared.stmt.Stmt.TheVariants.{Row, CreateQueue, DropQueue, SetQueueConfig, QueueInfo, InsertEvent, Ticker, ForceTick, RegisterConsumer, NextBatch, GetBatchEvents, FinishBatch, AddTrigger, Clock, PgqdOn, PgqdOff}
+use Rattle.sky_model.specs.declared.stmt.Stmt.TheVariants.{Row, CreateQueue, DropQueue, SetQueueConfig, QueueInfo, InsertEvent, Ticker, ForceTick, RegisterConsumer, RegisterConsumerAt, UnregisterConsumer, NextBatch, GetBatchEvents, GetBatchInfo, EventRetry, FinishBatch, MaintRetryEvents, ConsumerInfo, AddTrigger, Clock, PgqdOn, PgqdOff}
 use Rattle.sky_model.specs.declared.stmt.Where.{Where}
 use Rattle.sky_model.specs.declared.reply.Reply.{Reply}
 use Rattle.sky_model.specs.declared.reply.Reply.TheVariants.{Refused}
 use Rattle.sky_model.specs.declared.reply.Refusal.{Refusal}
 use Rattle.sky_model.specs.declared.reply.Refusal.TheVariants.{Canceled, IdsSpent}
-use Rattle.sky_model.specs.History.{Batch, Mark, QueueMark, of_session, connected, disconnected, looked, block_failed, tabled, wrote, waits, waited, queued, raised, put, ticked}
+use Rattle.sky_model.specs.History.{Batch, Mark, QueueMark, of_session, of_worker, ended, connected, disconnected, looked, block_failed, tabled, wrote, waits, waited, queued, raised, put, ticked}
 use Rattle.sky_model.specs.Queues.{Tick, tick}
 use Rattle.sky_model.specs.Consumers.{Subscription}
 use Rattle.sky_model.specs.Sessions.{Block, outside, inside, failed, Session}
@@ -28,7 +28,11 @@ use Rattle.sky_model.specs.StepSession.{open_db, begin, begin_repeatable_read, l
 use Rattle.sky_model.specs.SessionMarks.{failure}
 use Rattle.sky_model.specs.StepRows.{writes_key, changes, attempts, row_or_none}
 use Rattle.sky_model.specs.StepQueue.{queue_called, next_event_id, next_tick, is_due, newest_id}
-use Rattle.sky_model.specs.StepConsumer.{opens_batch, takes_batch, finishes}
+use Rattle.sky_model.specs.StepConsumer.{leaves as leaves_queue, opens_batch, takes_batch, finishes}
+use Rattle.pgq_retry.specs.declared.retry.Retry.{Retry}
+use Rattle.pgq_retry.specs.Retries.{due_now}
+use Rattle.sky_model.specs.OwnTransaction.{next_id}
+use Rattle.sky_model.specs.StepRetry.{back, brings, most_back}
 use Rattle.sky_model.specs.Telling.{events_in, told_event, event_marks, told_by, told_of, with_told, tells}
 use Rattle.sky_model.specs.Printed.{ReplyHasMoments, HaveMoments}
 use Rattle.sky_model.specs.Made.{Making, takes_sight, looking, runs_if}
@@ -41,7 +45,7 @@ use Rattle.std.proofs.lemmas.Result.{IfOk-at_ok}
 use Rattle.sky_model.proofs.Cases.{by_test, ok-then, by_block}
 use Rattle.sky_model.proofs.Good.{same-session}
 
--- so it is where a test holds, and nothing is where it fails
+-- it is so, and the test holds
 abbrev pub When : Bool → Type 0 → Type 0
 When true T = T
 When false T = ⊥
@@ -63,16 +67,16 @@ pub each-append : (p : Mark → Bool) (xs ys : List Mark) → EachMark p xs → 
 each-append p [] ys all also = also
 each-append p (x ∷ xs) ys all also = when-map (p x) (p x) (λ e. e) (λ rest. each-append p xs ys rest also) all
 
--- with a mark in front
+-- with a mark before them
 each-front : (p : Mark → Bool) (mark : Mark) (marks : List Mark) → p mark ≡ true → EachMark p marks → EachMark p (mark ∷ marks)
 each-front p mark marks e all = subst (λ b. When b (EachMark p marks)) (sym e) all
 
--- where it is so at all, the test holds
+-- in particular the test holds
 pub when-true : (T : Type 0) (b : Bool) → When b T → b ≡ true
 when-true T true t = refl
 when-true T false t = absurd t
 
--- with others behind it
+-- with others after it
 pub each-first : (p : Mark → Bool) (mark : Mark) (marks later : List Mark) → EachMark p (mark ∷ marks) → EachMark p later → EachMark p (mark ∷ later)
 each-first p mark marks later all also = when-map (p mark) (p mark) (λ e. e) (λ _. also) all
 
@@ -86,11 +90,11 @@ each-rest p mark marks all = of (p mark) all
 
 -- ---- what a statement does
 
--- its answer is such, and each of its marks
+-- its answer is such, and so is each of its marks
 abbrev pub Given : (Reply → Type 0) → (Mark → Bool) → Outcome → Type 0
 Given R p o = R o.reply × EachMark p o.marks
 
--- where it isn't refused
+-- if it isn't refused
 abbrev pub Gives : (Reply → Type 0) → (Mark → Bool) → Checked Outcome → Type 0
 Gives R p (Ok o) = Given R p o
 Gives R p (Err refusal) = Unit {0}
@@ -104,12 +108,12 @@ pub gives-map : (R S : Reply → Type 0) (p q : Mark → Bool) → ((reply : Rep
 gives-map R S p q replies marks (Ok o) given = (replies o.reply given.0, each-map p q marks o.marks given.1)
 gives-map R S p q replies marks (Err refusal) given = tt
 
--- the marks of a statement that does so, where it isn't refused
+-- the marks of a statement that does so, if it isn't refused
 pub each-given : (R : Reply → Type 0) (p : Mark → Bool) (c : Checked Outcome) → Gives R p c → EachMark p (marks_of c)
 each-given R p (Ok o) given = given.1
 each-given R p (Err refusal) given = tt
 
--- what something else comes in front of
+-- with something else before it
 pub after : {A : Type 0} (R : Reply → Type 0) (p : Mark → Bool) (x : Checked A) (c : Checked Outcome) → Gives R p c → Gives R p (x >> c)
 after R p (Ok a) c gives = gives
 after R p (Err refusal) c gives = tt
@@ -124,8 +128,8 @@ either R p false c e gives also = also
 
 -- ---- which marks there may be
 
--- beside those of a session's transaction and block, and of a new table: of the database being opened or closed, of writes,
--- of waits that begin or end, and of queues
+-- besides those of a session's transaction and block, and of a new table: of the database being opened or closed, of writes, of waits that begin or
+-- end, and of queues
 pub record Kinds : Type 0 where
   pub moves : Bool
   pub writes : Bool
@@ -136,7 +140,7 @@ pub record Kinds : Type 0 where
 abbrev pub no_more : Kinds
 no_more = record { moves = false; writes = false; blocks = false; wakes = false; queues = false }
 
--- whether a session may leave a mark, where there may be these
+-- whether a session may leave a mark, if these kinds are allowed
 abbrev pub may_leave : Kinds → ℕ → Mark → Bool
 may_leave k who (connected v) = k.moves
 may_leave k who (disconnected v) = k.moves
@@ -160,7 +164,7 @@ row_kinds is_open (Update table key sets) = attempt_kinds true
 row_kinds is_open (Delete table key) = attempt_kinds true
 row_kinds is_open _ = no_more
 
--- and those of any, whose writes are told of
+-- and those of any, whose writes are recorded
 abbrev pub kinds : Bool → Stmt → Kinds
 kinds is_open (Row stmt) = record (row_kinds is_open stmt) { queues = true }
 kinds is_open _ = record no_more { queues = true }
@@ -217,7 +221,7 @@ module _ (who : ℕ) where
   gives-attempts d shown table key (Changes sets) = search (gives-changes)
   gives-attempts d shown table key Deletion = search (gives-changes)
 
-  -- where it isn't known whether another session holds it
+  -- if it isn't known whether another session holds it
   pub gives-attempt : (d : RowPart) (shown : KeyShown) (table : ℕ) (key : List Val) (attempt : Attempt) → RowGives (attempt_kinds true) (attempts d shown who table key attempt)
   gives-attempt d shown table key attempt =
       gives-map ReplyHasMoments ReplyHasMoments (may_leave (attempt_kinds held) who) (may_leave (attempt_kinds true) who) (λ reply has. has) (also held) _ (gives-attempts d shown table key attempt)
@@ -264,7 +268,7 @@ module _ (who : ℕ) where
   gives-row_form d shown (Get name key) = search (checked, after, gives-row_or_none)
   gives-row_form d shown (Scan name) = search (checked)
 
--- ---- what is told of writes
+-- ---- what records writes
 
 -- marks that may be refused
 abbrev EachChecked : (Mark → Bool) → Checked (List Mark) → Type 0
@@ -292,14 +296,14 @@ module _ (p : Mark → Bool) (of_queues : (mark : QueueMark) → p (queued mark)
       each-first p mark marks (told ++ rest) all (each-append p told rest (IfOk-at_ok (EachMark p) same (each-told_of (after_mark d mark) now mark))
       (IfOk-at_ok (EachMark p) is (each-with_told (after_marks d (mark ∷ told)) now marks (each-rest p mark marks all))))))
 
-  -- a tick that is due, where it isn't refused
+  -- a tick that is due, if it isn't refused
   pub gives-tick : (d : Database) (now : ℤ) (queue : ℕ) → Gives AnyReply p (next_tick d now queue)
   gives-tick d now queue =
       either AnyReply p (is_due now (d.queue queue)) _ _
       (after AnyReply p (refused_if (nat_le (2 ^ 64) (newest_id (d.queue queue) + 1)) IdsSpent) _
       (tt, each-front p (queued (ticked queue (newest_id (d.queue queue) + 1) now (d.queue queue).seq)) [] (of_queues _) tt)) (tt, tt)
 
-  -- a statement does the same once its writes are told of
+  -- a statement does the same once its writes are recorded
   pub gives-tells : (R : Reply → Type 0) (d : Database) (now : ℤ) (c : Checked Outcome) → Gives R p c → Gives R p (tells d now c)
   gives-tells R d now (Err refusal) given = tt
   gives-tells R d now (Ok o) given = of (with_told d now o.marks) (each-with_told d now o.marks given.1)
@@ -308,7 +312,7 @@ module _ (p : Mark → Bool) (of_queues : (mark : QueueMark) → p (queued mark)
       of (Ok marks) also = (given.0, also)
       of (Err refusal) also = tt
 
--- and where a gate stands in front of its writes
+-- and with a gate for its writes
 pub gives-gated : {G : Type 0} (R : Reply → Type 0) (p : Mark → Bool) (gate : Gate G) (g : G) (c : Checked Outcome) → Gives R p c → Gives R p (gated gate g c)
 gives-gated R p gate g (Err refusal) given = tt
 gives-gated R p gate g (Ok o) given = search (after)
@@ -326,6 +330,19 @@ module _ (who : ℕ) where
   gives-takes : (d : Database) (q : ℕ) (consumer : List ℕ) (sub : Subscription) (o : Option ℕ) → QueueGives (takes_batch d q consumer sub o)
   gives-takes d q consumer sub (Some batch) = (tt, tt)
   gives-takes d q consumer sub None = gives-opens d q consumer sub (tick (sub.position + 1) (d.queue q).tick_list)
+
+  gives-leaves : (q : ℕ) (consumer : List ℕ) (o : Option Subscription) → QueueGives (leaves_queue q consumer o)
+  gives-leaves q consumer None = (tt, tt)
+  gives-leaves q consumer (Some sub) = (tt, tt)
+
+  each-back : (now : ℤ) (t : ℕ) (rs : List Retry) → EachMark (may_leave (record no_more { queues = true }) who) (back now t rs)
+  each-back now t [] = tt
+  each-back now t (r ∷ rs) = each-back now t rs
+
+  gives-brings : (d : Database) (now : ℤ) (rs : List Retry) → QueueGives (brings d now rs)
+  gives-brings d now [] = (tt, tt)
+  gives-brings d now (r ∷ rs) =
+      checked AnyReply _ (next_id d.part) _ (λ t. (tt, each-append (may_leave (record no_more { queues = true }) who) (back now t (r ∷ rs)) (ended of_worker t true ∷ []) (each-back now t (r ∷ rs)) tt))
 
   gives-finishes : (o : Option Batch) → QueueGives (finishes o)
   gives-finishes None = (tt, tt)
@@ -351,15 +368,21 @@ module _ (who : ℕ) where
   gives-form d shown now (Ticker name) = checked AnyReply _ (queue_called name d) _ (gives-tick (may_leave (record no_more { queues = true }) who) (λ mark. refl) d now)
   gives-form d shown now (ForceTick name) = search (checked, after)
   gives-form d shown now (RegisterConsumer name consumer) = search (checked, after, either) depth 8
+  gives-form d shown now (RegisterConsumerAt name consumer tick) = search (checked, after, either) depth 10
+  gives-form d shown now (UnregisterConsumer name consumer) = search (checked, after, gives-leaves) depth 8
   gives-form d shown now (NextBatch name consumer) = search (checked, after, gives-takes) depth 8
   gives-form d shown now (GetBatchEvents batch) = search (checked)
+  gives-form d shown now (GetBatchInfo batch) = search (checked)
+  gives-form d shown now (EventRetry batch event seconds) = search (checked, either) depth 10
   gives-form d shown now (FinishBatch batch) = gives-finishes (d.batch batch)
+  gives-form d shown now MaintRetryEvents = gives-brings d now (due_now now most_back d.retries)
+  gives-form d shown now (ConsumerInfo name consumer) = search (checked) depth 8
   gives-form d shown now (AddTrigger name table queue backup ignored) = search (checked, after) depth 8
   gives-form d shown now (Clock time) = (tt, tt)
   gives-form d shown now PgqdOn = (tt, tt)
   gives-form d shown now PgqdOff = (tt, tt)
 
--- ---- what is settled of it, and what goes on
+-- ---- how it is settled, and what resumes
 
 -- a test that each mark passes which every session may leave, and answers among which is every refusal
 module _ (R : Reply → Type 0) (p : Mark → Bool) (refuses : (refusal : Refusal) → R (Refused refusal)) (plain : (who : ℕ) (mark : Mark) → may_leave no_more who mark ≡ true → p mark ≡ true) where
@@ -375,7 +398,7 @@ module _ (R : Reply → Type 0) (p : Mark → Bool) (refuses : (refusal : Refusa
   given-settled who s (Ok o) given = given
   given-settled who s (Err refusal) given = (refuses refusal, each-abort who s.block s.txid refusal)
 
-  -- a statement of a session, where it does so here and behind the mark of its sight
+  -- a statement of a session, if it does so here and after the mark of its sight
   pub given-runs : {P : Type 0} (m : Making P) (place : Where) (who : ℕ) (x : P) (may : Checked (Unit {0})) → Gives R p (m.outcome x) → Gives R p (m.outcome (m.behind x (looked who)))
       → Given R p (runs_if m place who x may)
   given-runs m place who x (Err refusal) here behind = given-settled who (m.session x) (Err refusal) tt
@@ -385,7 +408,7 @@ module _ (R : Reply → Type 0) (p : Mark → Bool) (refuses : (refusal : Refusa
       cond_both (takes_sight place (m.session x).sight) (looking who (settled who (m.session y) (m.outcome y))) (settled who (m.session x) (m.outcome x)) (Given R p)
       (λ _. (given.0, each-front p (looked who) (settled who (m.session y) (m.outcome y)).marks (plain who (looked who) refl) given.1)) (λ _. given-settled who (m.session x) (m.outcome x) here)
 
--- a place whose statements leave such marks still, once their writes are told of
+-- a place whose statements leave such marks still, once their writes are recorded
 pub record KeepsMarks {P : Type 0} (p : Mark → Bool) (r : PartReader P) : Type 0 where
   pub tells : (x : P) (c : Checked Outcome) → Gives ReplyHasMoments p c → Gives ReplyHasMoments p (r.tells x c)
 
@@ -430,6 +453,6 @@ module _ {P : Type 0} (p : Mark → Bool) (wakes : (who : ℕ) → p (tabled (wa
       of None also = record { moments = λ k a within. absurd (omega arith); marks = tt }
       of (Some w) also = then-gives p r x (resumed r x w) (settles r n) (resumed-gives x w) also
 
-  -- those that go on
+  -- those that resume
   pub settling-gives : (x : P) → TurnGives p (settling r x)
   settling-gives x = settles-gives (length (r.part x).waiting) x

@@ -19,7 +19,7 @@ is_staying _ = true
 abbrev pub Stay : List Mark → Type 0
 Stay marks = EachMark is_staying marks
 
--- so it is open to the same sessions behind them
+-- so it is open to the same sessions after them
 pub open-stays : (v : ℕ) (h : History) (marks : List Mark) → Stay marks → has_open v (marked h marks) ≡ has_open v h
 open-stays v h [] stay = refl
 open-stays v h (connected who ∷ marks) stay = absurd stay
@@ -40,7 +40,7 @@ stays-form d shown now who stmt is =
     let k : Kinds = kinds (d.part.session who).is_open stmt in
     gives-map AnyReply AnyReply (may_leave k who) is_staying (λ reply any. any) (stays-if k is who) _ (gives-form who d shown now stmt)
 
--- those that go on
+-- those that resume
 pub stay-settling : (h : History) (now : ℤ) → Stay (settling (within_part database_by_history now) h).marks
 stay-settling h now =
     (settling-gives is_staying (λ who. refl) (stays-if (attempt_kinds true) refl) (within_part database_by_history now)

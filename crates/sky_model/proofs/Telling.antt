@@ -1,4 +1,4 @@
--- A gate in front of the writes of a row part, and a whole database that is told of them, do the same.
+-- A gate for the writes of a row part, and a whole database that records them, do the same.
 use Rattle.std.proofs.Common.{◌≡◌, ℕ, zero, suc, ℤ, ◌+◌, ◌^◌, Bool, true, false, nat_le, List, [], ◌∷◌, ◌++◌, Option, Some, None, Ok, Err, MatchResult, length, refl, sym, ap, subst, if◌then◌else◌, not, ◌&&◌, is_ok}
 use Rattle.sky_val.specs.declared.val.Val.{Val}
 use Rattle.sky_keys.specs.Waits.{Waiting, is_waiting}
@@ -33,7 +33,7 @@ IsOther (tabled (wrote (of_session who) t table key old new)) = ⊥
 IsOther (queued mark) = ⊥
 IsOther _ = Unit {0}
 
--- a gate keeps what tells of writes at this time: whether there are ids for their events, and what they leave
+-- a gate keeps what records writes at this time: whether there are ids for their events, and what they leave
 pub record TellsAlike {G : Type 0} (gate : Gate G) (now : ℤ) (related : Database → RowPart → G → Type 0) : Type 0 where
   pub part : (d : Database) (p : RowPart) (g : G) → related d p g → d.part ≡ p
   pub other : (d : Database) (p : RowPart) (g : G) (mark : Mark) → IsOther mark → related d p g → related (after_mark d mark) (after_part p mark) g
@@ -45,13 +45,13 @@ pub record TellsAlike {G : Type 0} (gate : Gate G) (now : ℤ) (related : Databa
       → related (after_marks d (tabled (wrote (of_session who) t table key old new) ∷ told)) (after_part p (tabled (wrote (of_session who) t table key old new)))
       (passed gate g (tabled (wrote (of_session who) t table key old new)))
 
--- the answer is the same, the database has the marks of events among those of the row part, and all stands alike behind them
+-- the answer is the same, the database has the marks of events among those of the row part, and all is alike after them
 record SameOutcome {G : Type 0} (gate : Gate G) (related : Database → RowPart → G → Type 0) (d : Database) (p : RowPart) (g : G) (behind_gate told : Outcome) : Type 0 where
   reply : told.reply ≡ behind_gate.reply
   inserted : Inserted behind_gate.marks told.marks
   stands : related (after_marks d told.marks) (after_part_marks p behind_gate.marks) (passed_all gate g behind_gate.marks)
 
--- the same of a turn behind a gate and one that is told of
+-- the same of a turn with a gate and one that is recorded
 pub record SameTold {G : Type 0} (gate : Gate G) (related : Database → RowPart → G → Type 0) (d : Database) (p : RowPart) (g : G) (behind_gate told : Turn) : Type 0 where
   pub answers : told.answers ≡ behind_gate.answers
   pub inserted : Inserted behind_gate.marks told.marks
@@ -61,9 +61,9 @@ part_marks-append : (p : RowPart) (xs ys : List Mark) → after_part_marks p (xs
 part_marks-append p [] ys = refl
 part_marks-append p (x ∷ xs) ys = part_marks-append (after_part p x) xs ys
 
--- ---- what is told of a write
+-- ---- what records a write
 
--- marks of events, or the refusal where there are no ids for them
+-- marks of events, or the refusal if there are no ids for them
 abbrev pub EventMarks : Checked (List Mark) → Type 0
 EventMarks (Ok marks) = Inserted [] marks
 EventMarks (Err refusal) = refusal ≡ EventIdsSpent
@@ -100,7 +100,7 @@ module _ {G : Type 0} (gate : Gate G) (now : ℤ) (related : Database → RowPar
   others (tabled (wrote who t table key old new) ∷ marks) rows plain d p g is = absurd plain
   others (mark ∷ marks) rows plain d p g is = others marks rows plain (after_mark d mark) (after_part p mark) g (alike.other d p g mark tt is)
 
-  -- a gate takes a mark, and it is told of; or neither
+  -- a gate takes a mark, and it is recorded; or neither
   abbrev ToldMark : Database → RowPart → G → Mark → Bool → Checked (List Mark) → Type 0
   ToldMark d p g mark b x = MatchResult x (λ told. (b ≡ true) × Inserted [] told × related (after_marks d (mark ∷ told)) (after_part p mark) (passed gate g mark)) (λ refusal. (b ≡ false) × (refusal ≡ EventIdsSpent))
 
@@ -206,7 +206,7 @@ module _ {G : Type 0} (gate : Gate G) (now : ℤ) (related : Database → RowPar
       told : (e : Database) → related e e.part g → Outcomes e e.part g (here e) (there e)
       told e is = told-does who (e.part.session who) _ (form-rows e.part (rows_by e.part) who stmt) e e.part g is
 
-  -- ---- what it lets go on
+  -- ---- what it unblocks
 
   told-then : (d : Database) (p : RowPart) (g : G) (turn turn' : Turn) (rest : RowPart × G → Turn) (rest' : Database → Turn) → Turns d p g turn turn'
       → ((e : Database) (q : RowPart) (k : G) → related e q k → Turns e q k (rest (q, k)) (rest' e))
@@ -265,13 +265,13 @@ module _ {G : Type 0} (gate : Gate G) (now : ℤ) (related : Database → RowPar
       at-own d p g (λ x. Turns d x g (settles (by_gate gate part_by_itself) (suc n) (x, g)) (settles (within_part database_by_itself now) (suc n) d)) is
       (λ own. told-goes_on (settles (by_gate gate part_by_itself) n) (settles (within_part database_by_itself now) n) (ready d.part) d g own (told-settles n))
 
-  -- those that go on do the same
+  -- those that resume do the same
   pub settling-told : (d : Database) (p : RowPart) (g : G) → related d p g
       → SameTold gate related d p g (settling (by_gate gate part_by_itself) (p, g)) (settling (within_part database_by_itself now) d)
   settling-told d p g is =
       at-own d p g (λ x. Turns d x g (settling (by_gate gate part_by_itself) (x, g)) (settling (within_part database_by_itself now) d)) is (λ own. told-settles (length d.part.waiting) d d.part g own)
 
-  -- so does a turn with those that it lets go on
+  -- so does a turn with those that it unblocks
   pub with_settling-told : (d : Database) (p : RowPart) (g : G) (turn turn' : Turn) → SameTold gate related d p g turn turn'
       → SameTold gate related d p g (with_settling (by_gate gate part_by_itself) (p, g) turn) (with_settling (within_part database_by_itself now) d turn')
   with_settling-told d p g turn turn' same =

@@ -23,12 +23,12 @@ newest_tick-push [] t = refl
 newest_tick-push (u ∷ []) t = refl
 newest_tick-push (u ∷ v ∷ ts) t = newest_tick-push (v ∷ ts) t
 
--- a tick that is there is there in a list with one more
+-- a tick that is in a list is in the list with one more
 tick-push_found : (id : ℕ) (ts : List Tick) (t u : Tick) → tick id ts ≡ Some u → tick id (ts ++ t ∷ []) ≡ Some u
 tick-push_found id [] t u e = cc
 tick-push_found id (v ∷ ts) t u e = grind (arith, tick-push_found id ts t u)
 
--- one that isn't is the one more, or none
+-- one that isn't is the added one, or none
 tick-push_none : (id : ℕ) (ts : List Tick) (t : Tick) → tick id ts ≡ None → tick id (ts ++ t ∷ []) ≡ (if t.id == id then Some t else None)
 tick-push_none id [] t e = refl
 tick-push_none id (v ∷ ts) t e = grind (arith, tick-push_none id ts t)
@@ -59,7 +59,7 @@ snapshot-at_tick _ (next {h = h} l (ticks_next p m time seq i e)) q id =
     grind (arith, nat_tests, snapshot-at_tick h l q id, none_above h l q id, e, tick-push_found id (ticks q h) new, tick-push_none id (ticks q h) new)
 snapshot-at_tick _ (next {h = h} l _) q id = snapshot-at_tick h l q id
 
--- what stands below a tick is legal
+-- what is below a tick is legal
 pub legal-at_tick : (h : History) → Legal h → (q id : ℕ) → Legal (at_tick q id h)
 legal-at_tick [] start q id = start
 legal-at_tick _ (next {h = h} l (ticks_next p m time seq i e)) q id = cond_both (p == q && m == id) h (at_tick q id h) Legal (λ _. l) (λ _. legal-at_tick h l q id)

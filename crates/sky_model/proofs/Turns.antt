@@ -1,4 +1,4 @@
--- What is let go on is the same at places that read alike.
+-- What is unblocked is the same at places that read alike.
 use Rattle.std.proofs.Common.{◌≡◌, ℕ, ℤ, suc, zero, List, [], ◌∷◌, ◌++◌, Option, Some, None, length, refl, ◌∙◌, ap}
 use Rattle.sky_keys.specs.Waits.{Waiting, is_waiting}
 use Rattle.sky_model.specs.declared.stmt.RowStmt.{RowStmt}
@@ -14,12 +14,12 @@ use Rattle.sky_model.specs.Settling.{Turn, turn_of, behind_marks, joined, and_th
 use Rattle.sky_model.specs.Calls.{row_form, form, row_making, making, row_statement, row_turn, database_turn}
 use Rattle.sky_model.proofs.MadeAt.{same-made_by}
 
--- marks come one after the other, each where it may
+-- marks come one after another, each where it may
 abbrev pub Each : {P : Type 0} → PartReader P → (P → Mark → Type 0) → P → List Mark → Type 0
 Each r may p [] = Unit {0}
 Each r may p (mark ∷ marks) = may p mark × Each r may (r.behind p mark) marks
 
--- related places read alike, and so do those behind a mark that may come there
+-- related places read alike, and so do those after a mark that may come there
 pub record ReadAlike {P Q : Type 0} (r : PartReader P) (s : PartReader Q) (may : P → Mark → Type 0) (related : P → Q → Type 0) : Type 0 where
   pub parts : (p : P) (q : Q) → related p q → r.part p ≡ s.part q
   pub rows : (p : P) (q : Q) → related p q → r.rows p ≡ s.rows q
@@ -74,13 +74,13 @@ module _ {P Q : Type 0} (r : PartReader P) (s : PartReader Q) (may : P → Mark 
       same-goes_on p q (settles r n) (settles s n) (ready (r.part p)) is (same-settles n) each
       ∙ ap (λ d. goes_on s q (settles s n) (ready d)) (alike.parts p q is)
 
-  -- so a turn with all that it lets go on is the same
+  -- so a turn with all that it unblocks is the same
   pub same-with_settling : (p : P) (q : Q) (turn turn' : Turn) → related p q → turn ≡ turn' → Each r may p (with_settling r p turn).marks → with_settling r p turn ≡ with_settling s q turn'
   same-with_settling p q turn turn' is same each =
       same-and_then p q turn turn' (settling r) (settling s) is same
       (λ p' q' is' each'. same-settles _ p' q' is' each' ∙ ap (λ d. settles s (length d.waiting) q') (alike.parts p' q' is')) each
 
-  -- and so is a statement on rows, where the sight may be taken
+  -- and so is a statement on rows, if the sight may be taken
   pub alike-statement : (p : P) (q : Q) (who : ℕ) (stmt : RowStmt) → related p q → may p (looked who) → row_statement r p who stmt ≡ row_statement s q who stmt
   alike-statement p q who stmt is may_look =
       same-made_by (row_making r who stmt) (row_making s who stmt) (where_of_row stmt) who p q (record {
@@ -94,13 +94,13 @@ module _ {P Q : Type 0} (r : PartReader P) (s : PartReader Q) (may : P → Mark 
       behind : related (r.behind p (looked who)) (s.behind q (looked who))
       behind = alike.behind p q (looked who) is may_look
 
-  -- with those that it lets go on
+  -- with those that it unblocks
   pub alike-turn : (p : P) (q : Q) (who : ℕ) (stmt : RowStmt) → related p q → may p (looked who) → Each r may p (row_turn r p who stmt).marks → row_turn r p who stmt ≡ row_turn s q who stmt
   alike-turn p q who stmt is may_look each =
       same-with_settling p q (turn_of who (row_statement r p who stmt)) (turn_of who (row_statement s q who stmt)) is
       (ap (turn_of who) (alike-statement p q who stmt is may_look)) each
 
--- where every mark may come
+-- every mark may come
 abbrev pub Any : {P : Type 0} → P → Mark → Type 0
 Any p mark = Unit {0}
 
@@ -114,7 +114,7 @@ pub record ReadsAs {P Q : Type 0} (r : DatabaseReader P) (s : DatabaseReader Q) 
   pub shown : (p : P) → r.shown p ≡ s.shown (at p)
   pub behind : (p : P) (mark : Mark) → at (r.behind p mark) ≡ s.behind (at p) mark
 
--- a statement does the same there, with what it lets go on
+-- a statement does the same there, with what it unblocks
 pub same-turn_read : {P Q : Type 0} (r : DatabaseReader P) (s : DatabaseReader Q) (at : P → Q) → ReadsAs r s at → (p : P) (now : ℤ) (who : ℕ) (stmt : Stmt)
     → database_turn r p now who stmt ≡ database_turn s (at p) now who stmt
 same-turn_read r s at reads p now who stmt =

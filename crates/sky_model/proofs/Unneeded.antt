@@ -1,5 +1,4 @@
--- What isn't there where nothing refuses that a queue is dropped: a consumer of it, a trigger into it, and an event of a
--- running transaction in it.
+-- What doesn't exist if nothing refuses that a queue is dropped: a consumer of it, a trigger into it, and an event of a running transaction in it.
 use Rattle.std.proofs.Common.{◌≡◌, ℕ, List, [], ◌∷◌, false, not, ◌==◌, ◌||◌, ◌∙◌, All, get_or, length, find, ap, Option, Some, None, is_some, bytes_eq, option_map, refl, arith, if◌then◌else◌}
 use Rattle.std.specs.List.{list_any}
 use Rattle.std.proofs.lemmas.Bool.Decides.{nat_tests}

@@ -98,6 +98,6 @@ waiter-open h who (w ∷ ws) all e =
     by_same (λ b. (b || is_waiting who ws) ≡ true → has_open who h ≡ true) w.who who (λ one _. ap (λ n. has_open n h) (sym one) ∙ (All-head (EntryFits h) w ws all).is_open)
     (λ _. waiter-open h who ws (All-tail (EntryFits h) w ws all)) e
 
--- who waits has the database open
+-- a session that waits has the database open
 pub waits-open : (h : History) → Legal h → (who : ℕ) → is_waiting who (waiting h) ≡ true → has_open who h ≡ true
 waits-open h l who is = waiter-open h who (waiting h) (all-fit h l) is

@@ -10,12 +10,12 @@ use Rattle.sky_val.specs.Numbers.{is_number}
 use Rattle.sky_model.specs.Kinds.{is_bare, is_bare_word, continues_name, is_identifier, is_name, names_around, first_place, is_dotted, between_commas}
 use Rattle.sky_model.proofs.NameLemmas.{list_all-is_identifier, around_first}
 
--- over these bytes no space parts words, and no quote is open behind them
+-- over these bytes no space separates words, and no quote is open after them
 abbrev pub whole : Bool → List ℕ → Bool
 whole quoted [] = not quoted
 whole quoted (b ∷ bs) = not (is_parting quoted b) && whole (quoted_after quoted b) bs
 
--- a whole word and a space come before the words behind the space
+-- a whole word and a space come before the words after the space
 pieces-whole_space : (quoted : Bool) (w rest : List ℕ) → whole quoted w ≡ true → pieces quoted (w ++ 32 ∷ rest) ≡ w ∷ words rest
 pieces-whole_space true [] rest so = absurd (cc)
 pieces-whole_space false [] rest so = refl
@@ -90,12 +90,12 @@ whole-is_name w so = whole-is_identifier w (and_parts (nat_le (length w) 63) (is
 pub whole-is_dotted : (w : List ℕ) → is_dotted w ≡ true → whole false w ≡ true
 whole-is_dotted w so = whole-names_around w (first_place 46 w) refl (and_parts (nat_le (length w) 63) (names_around (first_place 46 w) w) so).1
 
--- a word is whole where what stands around a byte of it is
+-- a word is whole if what is around a byte of it is
 pub whole-around : (mark : ℕ) (w : List ℕ) (at : ℕ) → IsPlain mark → first_place mark w ≡ Some at → whole false (take at w) ≡ true → whole false (drop (at + 1) w) ≡ true → whole false w ≡ true
 whole-around mark w at plain is front back =
     ap (whole false) (sym (around_first mark w at is)) ∙ whole-append false (take at w) (mark ∷ drop (at + 1) w) front (rw (plain.0, plain.1) back)
 
--- a word is whole where what stands before its last byte is, and that byte
+-- a word is whole if what comes before its last byte is, and that byte
 pub whole-last : (w last : List ℕ) → bytes_eq (drop (length w - 1) w) last ≡ true → whole false last ≡ true → whole false (take (length w - 1) w) ≡ true → whole false w ≡ true
 whole-last w last is last_so front_so =
     let front : List ℕ = take (length w - 1) w in
@@ -103,7 +103,7 @@ whole-last w last is last_so front_so =
     let all : front ++ last ≡ w = ap (λ b. front ++ b) (sym ((bytes_eq-Decides back last).0 is)) ∙ take-append-drop (length w - 1) w in
     ap (whole false) (sym all) ∙ whole-append false front last front_so last_so
 
--- every byte of these may stand in a name
+-- every byte of these is allowed in a name
 abbrev pub continues_all : List (List ℕ) → Bool
 continues_all ws = list_all (λ w. list_all continues_name w) ws
 
@@ -118,7 +118,7 @@ continues_all-onto_first b (w ∷ ws) so =
     let here = and_parts (continues_name b) (list_all continues_name w) parts.0 in
     (here.0, and_from (list_all continues_name w) (continues_all ws) here.1 parts.1)
 
--- a word is whole where only such bytes stand between its commas
+-- a word is whole if only such bytes are between its commas
 pub whole-between_commas : (w : List ℕ) → continues_all (between_commas w) ≡ true → whole false w ≡ true
 whole-between_commas [] so = refl
 whole-between_commas (b ∷ bs) so = grind (arith, nat_tests, whole-between_commas bs, continues_all-onto_first b (between_commas bs), continues_name-plain b)

@@ -1,4 +1,4 @@
--- A word of a kind is whole, and what it is worth is what a word of that kind can be worth.
+-- A word of a kind is whole, and its value is one that a word of that kind can have.
 use Rattle.std.proofs.Common.{◌≡◌, ℕ, zero, suc, ◌+◌, ◌-◌, ◌^◌, ◌<◌, ◌≤◌, ◌==◌, pos, Bool, true, false, not, ◌&&◌, cond, List, [], ◌∷◌, length, take, drop, Option, Some, None, IfSome, option_map, refl, sym, ap, ◌∙◌, arith, codes, bytes_eq, nat_le, FitsSigned, w64, take-append-drop, subst, T}
 use Rattle.std.proofs.lemmas.Bool.{and_parts, and_from, eqb-true, leb-true}
 use Rattle.std.proofs.lemmas.Bool.Decides.{nat_tests}
@@ -30,7 +30,7 @@ if_text P w text x rest text_so here there =
 
 -- ---- texts
 
--- from inside quotes, or from behind a quote, to a text's closing quote; no byte of the text is a line feed or the zero byte
+-- from inside quotes, or from after a quote, to a text's closing quote; no byte of the text is a line feed or the zero byte
 texts : (quote : Bool) (bs : List ℕ) → IfSome (text_from quote bs) (λ text. (whole (not quote) bs ≡ true) × (list_all is_text_byte text ≡ true))
 texts true [] = (refl, refl)
 texts false [] = tt

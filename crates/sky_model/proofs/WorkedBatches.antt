@@ -1,4 +1,4 @@
--- A consumer's finished batches in a worked run, by computation: the laws on batches speak of something.
+-- A consumer's finished batches in a worked run, by computation: the laws on batches aren't vacuous.
 use Rattle.std.proofs.Common.{◌≡◌, ℕ, List, [], ◌∷◌, true, false, Some, None, refl, codes, map}
 use Rattle.sky_model.specs.declared.stmt.Stmt.{Stmt}
 use Rattle.sky_model.specs.declared.stmt.RowStmt.TheVariants.{OpenDb}
@@ -10,7 +10,7 @@ use Rattle.sky_model.specs.World.{history_in}
 use Rattle.sky_model.specs.Calls.{past_of}
 use Rattle.sky_model.specs.LawsOfBatches.{first_tick, finished, stands_between, stands_in}
 
--- an event before the consumer registers and one behind, each before a tick, and two batches, the last statement first
+-- an event before the consumer registers and one after, each before a tick, and two batches, the last statement first
 abbrev run : List Stmt
 run = FinishBatch 2 ∷ NextBatch (codes "q") (codes "w") ∷ FinishBatch 1 ∷ NextBatch (codes "q") (codes "w")
     ∷ Ticker (codes "q") ∷ ForceTick (codes "q") ∷ Ticker (codes "q") ∷ ForceTick (codes "q")
@@ -35,7 +35,7 @@ to_here = refl
 registered_once : subscription_id 0 (codes "w") then ≡ Some 1
 registered_once = refl
 
--- of the two events the second stands in the first batch, and there alone
+-- of the two events the second is in the first batch, and there alone
 where_each_stands : map (λ e. map (λ b. stands_in then b e) (finished 0 (codes "w") then)) (events 0 then)
     ≡ (false ∷ false ∷ []) ∷ (true ∷ false ∷ []) ∷ []
 where_each_stands = refl

@@ -32,7 +32,7 @@ too_large : bad_line watched ≡ Some (11, BadWord 5)
 unfolding is_utf8 chars encode digits moment day_after last_digits
 too_large = refl
 
--- of two databases whose daemons are on since different moments each is due at its own
+-- of two databases whose daemons were started at different moments each is due at its own
 two_daemons : Prints (codes "a: open d" ∷ codes "a: create_queue q" ∷ codes "a: pgqd on" ∷ codes "b: open e" ∷ codes "b: create_queue q" ∷ codes "a: clock +500ms" ∷ codes "b: pgqd on" ∷ codes "a: clock +500ms" ∷ codes "a: queue_info q" ∷ codes "b: queue_info q" ∷ codes "a: pgqd off" ∷ codes "a: clock +500ms" ∷ codes "b: queue_info q" ∷ [])
     (codes "a: ok" ∷ codes "a: 1" ∷ codes "a: ok" ∷ codes "b: ok" ∷ codes "b: 1" ∷ codes "a: 2012-01-01 00:00:00.500000" ∷ codes "b: ok" ∷ codes "a: 2012-01-01 00:00:01.000000" ∷ codes "a: ntables 3 cur_table 0 last_tick 2 seq 0 stored 0 0 0" ∷ codes "b: ntables 3 cur_table 0 last_tick 1 seq 0 stored 0 0 0" ∷ codes "a: ok" ∷ codes "a: 2012-01-01 00:00:01.500000" ∷ codes "b: ntables 3 cur_table 0 last_tick 2 seq 0 stored 0 0 0" ∷ [])
 unfolding is_utf8 chars encode digits moment day_after last_digits

@@ -16,7 +16,7 @@ abbrev beginning_printed : List (List ℕ)
 beginning_printed =
     codes "a: ok" ∷ codes "b: ok" ∷ codes "c: ok" ∷ codes "a: 1" ∷ codes "a: 1" ∷ codes "a: ok" ∷ codes "a: ok" ∷ []
 
--- a queue is dropped, and made anew under its name: the ids of its ticks and events begin anew, and nothing is stored
+-- a queue is dropped, and made again under its name: the ids of its ticks and events begin again, and nothing is stored
 made_anew : Prints
     (beginning ++ codes "a: insert_event q 't' 'x'" ∷ codes "a: force_tick q" ∷ codes "a: ticker q" ∷ codes "a: queue_info q" ∷ codes "a: drop_queue q"
     ∷ codes "a: queue_info q" ∷ codes "a: drop_queue q" ∷ codes "a: create_queue q" ∷ codes "a: queue_info q"
@@ -43,7 +43,7 @@ has_consumers : Prints
 unfolding is_utf8 chars encode digits moment day_after last_digits
 has_consumers = record { transcript_is = refl; none_bad = refl }
 
--- one without, into which a trigger writes: the first one that was made, be it of a later table
+-- one without, into which a trigger writes: the first one that was made, even if it is of a later table
 has_triggers : Prints
     (beginning ++ codes "a: add_trigger first u p" ∷ codes "a: add_trigger second u q" ∷ codes "a: add_trigger third t q"
     ∷ codes "a: register_consumer p w" ∷ codes "c: begin" ∷ codes "c: insert_event q null null" ∷ codes "a: drop_queue q"
@@ -53,7 +53,7 @@ has_triggers : Prints
 unfolding is_utf8 chars encode digits moment day_after last_digits
 has_triggers = record { transcript_is = refl; none_bad = refl }
 
--- one into which running transactions have put events: the least of them, though it came second there
+-- one into which running transactions have put events: the least of them, though its event came second
 queue_busy : Prints
     (beginning ++ codes "c: begin" ∷ codes "c: insert_event p null null" ∷ codes "b: begin" ∷ codes "b: insert_event q null null"
     ∷ codes "c: insert_event q null null" ∷ codes "a: insert_event q null null" ∷ codes "a: drop_queue q" ∷ codes "c: rollback"

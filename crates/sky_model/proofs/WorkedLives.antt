@@ -61,7 +61,7 @@ finished_one = refl
 abbrev back : History
 back = queued (moved 0 w 1) ∷ both_have
 
--- it stands at the tick without a batch, keeps its id, and its life begins there
+-- it is at the tick without a batch, keeps its id, and its life begins there
 moved_there : subscription 0 w back ≡ Some (record { id = 2; position = 1; active = None })
 moved_there = refl
 
@@ -102,7 +102,7 @@ passed_over = (refl, refl, refl, refl)
 -- ---- the first one leaves
 
 abbrev left_one : History
-left_one = queued (unregistered 0 v) ∷ both_have
+left_one = queued (unregistered 0 v 1) ∷ both_have
 
 no_subscription : subscription 0 v left_one ≡ None
 no_subscription = refl
@@ -116,7 +116,7 @@ one_left = refl
 second_stays : (subscription 0 w left_one ≡ Some (record { id = 2; position = 3; active = Some 2 })) × (active_batch 2 left_one ≡ Some (of_w 2 3 4))
 second_stays = (refl, refl)
 
--- and registers anew: as the last one, under a new id, and its old batch stays gone
+-- and registers again: as the last one, under a new id, and its old batch stays gone
 abbrev anew : History
 anew = queued (registered 0 v 3 4) ∷ left_one
 
@@ -129,8 +129,8 @@ at_the_end = refl
 stays_gone : active_batch 3 anew ≡ None
 stays_gone = refl
 
--- of another queue a consumer of the same name leaves this one as it is
-elsewhere : (subscription 0 w (queued (unregistered 1 w) ∷ both_have) ≡ Some (record { id = 2; position = 3; active = Some 2 }))
+-- when a consumer of the same name leaves another queue, this one stays as it is
+elsewhere : (subscription 0 w (queued (unregistered 1 w 9) ∷ both_have) ≡ Some (record { id = 2; position = 3; active = Some 2 }))
     × (active_batch 2 (queued (moved 1 w 1) ∷ both_have) ≡ Some (of_w 2 3 4))
 elsewhere = (refl, refl)
 

@@ -1,4 +1,4 @@
--- Worked rows of one database by its own calls: a session that hasn't it open may only open it, and cancel.
+-- Worked calls of one database: a session that hasn't it open may only open it, and cancel.
 use Rattle.std.proofs.Common.{◌≡◌, ℕ, pos, List, [], ◌∷◌, true, map, refl, codes}
 use Rattle.sky_model.specs.declared.stmt.Stmt.{Stmt}
 use Rattle.sky_model.specs.declared.stmt.Stmt.TheVariants.{Row, CreateQueue}
@@ -17,11 +17,11 @@ a stmt = stepped 0 stmt (pos 0)
 abbrev open_d : Stmt
 open_d = Row (OpenDb (codes "d"))
 
--- what is answered after calls, the last one first
+-- the answers to a call after calls, the last one first
 abbrev answered : List DatabaseCall → DatabaseCall → List (ℕ × Reply)
 answered calls call = (database_does database_by_history (after_all database_part calls) call).answers
 
--- calls, the next one, and what that is answered
+-- calls, the next one, and its answers
 abbrev worked : List (List DatabaseCall × DatabaseCall × List (ℕ × Reply))
 worked =
     ([], a (Row TxidCurrent), (0, Refused NotOpen) ∷ [])

@@ -52,7 +52,7 @@ snapshots : Prints (codes "a: open d" ∷ codes "a: txid_visible_in_snapshot 9 '
 unfolding is_utf8 chars encode digits moment day_after last_digits
 snapshots = record { transcript_is = refl; none_bad = refl }
 
--- a last line that no line feed ends
+-- a last line without a line feed
 unended : bad_line (codes "a: open d" ++ 10 ∷ codes "b: op") ≡ Some (2, Truncated)
 unfolding is_utf8 chars encode digits moment day_after last_digits
 unended = refl
@@ -61,7 +61,7 @@ unended_printed : transcript (codes "a: open d" ++ 10 ∷ codes "b: op") ≡ scr
 unfolding is_utf8 chars encode digits moment day_after last_digits
 unended_printed = refl
 
--- lines count, also those that do nothing
+-- lines count even if they do nothing
 third_word : bad_line (script (codes "# no line" ∷ [] ∷ codes "a: open d e" ∷ [])) ≡ Some (3, BadWord 4)
 unfolding is_utf8 chars encode digits moment day_after last_digits
 third_word = refl

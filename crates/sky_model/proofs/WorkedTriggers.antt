@@ -1,4 +1,4 @@
--- The events of writes in a worked run, by computation: the laws on them speak of something.
+-- The events of writes in a worked run, by computation: the laws on them aren't vacuous.
 use Rattle.std.proofs.Common.{◌≡◌, ℕ, pos, List, [], ◌∷◌, ◌++◌, true, false, Option, Some, None, take, refl, codes, map}
 use Rattle.sky_val.specs.declared.event.Event.{Event}
 use Rattle.sky_val.specs.declared.val.Val.{Val}
@@ -43,7 +43,7 @@ update k n = Row (Update (codes "t") (key k) (record { column = codes "n"; chang
 abbrev insert : ℕ → Stmt
 insert k = Row (Insert (codes "t") (row k 0))
 
--- a queue, and a table with two triggers, of which the second leaves out what changes `n` alone; the last statement first
+-- a queue, and a table with two triggers, of which the second ignores what changes `n` alone; the last statement first
 abbrev run : List Call
 run = b (Row (OpenDb (codes "d"))) ∷ a (AddTrigger (codes "keys") (codes "t") (codes "q") false (codes "n" ∷ [])) ∷ a (AddTrigger (codes "all") (codes "t") (codes "q") true [])
     ∷ a (Row (CreateTable (codes "t") columns))
@@ -67,7 +67,7 @@ event id t ev_type ev_data before = record {
   ev_extra4 = None;
 }
 
--- behind an insert stand an event of each trigger, and then the end of its transaction
+-- after an insert come an event of each trigger, and then the end of its transaction
 inserted : take 6 (then (a (insert 1) ∷ []))
     ≡ ended (of_session 0) 4 true
     ∷ queued (put 0 (event 2 4 (codes "I:id") (text 1 0) None)) ∷ queued (raised 0 2)
@@ -75,7 +75,7 @@ inserted : take 6 (then (a (insert 1) ∷ []))
     ∷ tabled (wrote (of_session 0) 4 0 (key 1) None (Some (row 1 0))) ∷ []
 inserted = refl
 
--- a statement that waited writes when it goes on, so its event comes behind those of the other one
+-- a statement that waited writes when it resumes, so its event comes after those of the other one
 abbrev waited_for : List Call
 waited_for = a (Row Commit) ∷ b (update 1 2) ∷ a (update 1 1) ∷ a (Row Begin) ∷ b (insert 2) ∷ b (Row Begin) ∷ a (insert 1) ∷ []
 
@@ -88,7 +88,7 @@ in_turn = refl
 written_in_turn : writers 0 (key 1) (then waited_for) ≡ 4 ∷ 6 ∷ 5 ∷ []
 written_in_turn = refl
 
--- the update has its row as it was, too
+-- the update has its old row, too
 updated : take 3 (then waited_for)
     ≡ queued (put 0 (event 6 5 (codes "U:id") (text 1 2) (Some (text 1 1)))) ∷ queued (raised 0 6)
     ∷ tabled (wrote (of_session 1) 5 0 (key 1) (Some (row 1 1)) (Some (row 1 2))) ∷ []

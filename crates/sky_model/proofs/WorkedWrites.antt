@@ -1,4 +1,4 @@
--- Who writes a key in a worked run, by computation: the law on the order of writes speaks of something.
+-- Who writes a key in a worked run, by computation: the law on the order of writes isn't vacuous.
 use Rattle.std.proofs.Common.{◌≡◌, ℕ, pos, List, [], ◌∷◌, ◌++◌, Bool, true, false, refl, codes, map}
 use Rattle.sky_val.specs.declared.val.Val.TheVariants as value
 use Rattle.sky_val.specs.declared.column.ColKind.TheVariants as kind
@@ -46,7 +46,7 @@ seen calls = map (sees (snapshot (then calls))) (3 ∷ 4 ∷ 5 ∷ [])
 it_waits : is_waiting 1 (waiting (then [])) ≡ true
 it_waits = refl
 
--- once `a` commits, `b` writes the key: behind 5, though its id is 4; had `a` rolled back, its write would stand first nevertheless
+-- once `a` commits, `b` writes the key: after 5, though its id is 4; had `a` rolled back, its write would nevertheless come first
 behind : map written ([] ∷ (a Commit ∷ []) ∷ (b Commit ∷ a Rollback ∷ []) ∷ []) ≡ (3 ∷ 5 ∷ []) ∷ (3 ∷ 5 ∷ 4 ∷ []) ∷ (3 ∷ 5 ∷ 4 ∷ []) ∷ []
 behind = refl
 

@@ -9,8 +9,8 @@ use Rattle.sky_model.specs.History.{Mark, Whose, ended, tabled, wrote, History}
 use Rattle.sky_model.specs.Transactions.{has_ended, has_committed, has_rolled_back}
 use Rattle.sky_model.specs.Rows.{committed, writes as writes_of, has_written}
 use Rattle.sky_model.specs.LawsOfWrites.{writers, is_before, KeysAreWrittenInTurn, WritesAndCommitsHaveOneOrder, SnapshotsSeeEarlierWriters}
-use Rattle.sky_model.proofs.Legal.{Fine, ends, writes, Legal}
-use Rattle.sky_model.proofs.Snapshots.{contains-push, own-unended, has_committed-ended, sees-snapshot}
+use Rattle.sky_model.proofs.Legal.{Fine, writes, Legal}
+use Rattle.sky_model.proofs.Snapshots.{contains-push, own-unended, has_committed-ended, sees-snapshot, ender-unended}
 use Rattle.sky_model.proofs.SnapshotLaws.{legal-below_mark, fine_mark, legal-below, legal_place}
 use Rattle.sky_model.proofs.RowKeys.{committed-ended}
 use Rattle.sky_model.proofs.RowSights.{ended-behind}
@@ -22,17 +22,17 @@ use Rattle.sky_model.proofs.Cases.{by_same}
 apart : (t u : ℕ) → t ≢ u → (t == u) ≡ false
 apart t u other = false_from_ne_true (t == u) (λ is. other (grind (arith, nat_tests)))
 
--- with one more at the end
+-- with one more, appended
 is_before-push : (t u x : ℕ) (xs : List ℕ) → is_before t u (xs ++ x ∷ []) ≡ (is_before t u xs || (contains t xs && u == x))
 is_before-push t u x [] = grind arith
 is_before-push t u x (y ∷ ys) = grind (arith, contains-push u x ys, is_before-push t u x ys)
 
--- who isn't in a list stands before nobody
+-- a transaction that isn't in a list is before none
 is_before-none : (t u : ℕ) (xs : List ℕ) → contains t xs ≡ false → is_before t u xs ≡ false
 is_before-none t u [] none = refl
 is_before-none t u (x ∷ xs) none = grind (arith, is_before-none t u xs)
 
--- of two in a list that are apart one stands before the other
+-- of two different ones in a list one is before the other
 one-before : (t u : ℕ) (xs : List ℕ) → (t == u) ≡ false → contains t xs ≡ true → contains u xs ≡ true → is_before u t xs ≡ false → is_before t u xs ≡ true
 one-before t u [] other has_t has_u isnt = absurd (cc)
 one-before t u (x ∷ xs) other has_t has_u isnt = grind (arith, nat_tests, one-before t u xs other)
@@ -53,7 +53,7 @@ writers-written table key t (tabled (wrote whose v n k old new) ∷ h) =
     grind (arith, nat_tests, writers-written table key t h, contains-push t v (writers table key h), has_written-push key (writes_of table t h) (record { key = k; row = new }), turned key k)
 writers-written table key t (_ ∷ h) = writers-written table key t h
 
--- ---- who has ended where another one writes a key
+-- ---- who has ended when another one writes a key
 
 -- one that writes a key hasn't ended
 writer-unended : (h : History) (whose : Whose) (u table : ℕ) (key : List Val) (old new : Option (List Val)) → Legal h → Fine h (tabled (wrote whose u table key old new)) → has_ended h u ≡ false
@@ -71,7 +71,7 @@ keys_are_written_in_turn p whose u table key old new is =
     let fine : Fine p (tabled (wrote whose u table key old new)) = fine_mark l in
     (writer-unended p whose u table key old new (legal-below_mark l) fine, λ t other wrote_it. others-ended p whose u table key old new (legal-below_mark l) fine t (apart t u other) wrote_it)
 
--- where one wrote a key before another, it has ended
+-- if one wrote a key before another, it has ended
 before-ended : (table : ℕ) (key : List Val) (t u : ℕ) (h : History) → Legal h → (t == u) ≡ false → is_before t u (writers table key h) ≡ true → has_ended h t ≡ true
 before-ended table key t u [] l other e = absurd (cc)
 before-ended table key t u (tabled (wrote whose v n k old new) ∷ h) l other e =
@@ -85,7 +85,7 @@ ended-later : (later : List Mark) (p : History) (t : ℕ) → has_ended p t ≡ 
 ended-later [] p t e = e
 ended-later (mark ∷ later) p t e = ended-behind (later ++ p) mark t (ended-later later p t e)
 
--- one that has ended writes no more, so nobody comes to stand before it
+-- one that has ended writes no more, so none comes to be before it
 still-before : (table : ℕ) (key : List Val) (t u : ℕ) (later : List Mark) (p : History) → Legal (later ++ p) → has_ended p u ≡ true
     → is_before t u (writers table key (later ++ p)) ≡ is_before t u (writers table key p)
 still-before table key t u [] p l over = refl
@@ -102,7 +102,7 @@ snapshots_see_earlier_writers later p is table key t u first seen =
 
 -- ---- commits
 
--- who has committed stands among those that have, but the three that had before there was a history
+-- a committed transaction is in the list of those, but for the three that had committed before there was a history
 committed-listed : (h : History) (t : ℕ) → has_committed h t ≡ true → nat_lt t 3 ≡ false → contains t (committed h) ≡ true
 committed-listed [] t e over = absurd (cc)
 committed-listed (ended whose u true ∷ h) t e over = contains-push t u (committed h) ∙ grind (arith, λ (e : has_committed h t ≡ true). committed-listed h t e over)
@@ -120,10 +120,6 @@ writer-late table key t [] l e = absurd (cc)
 writer-late table key t (tabled (wrote whose v n k old new) ∷ h) l e =
     grind (arith, nat_tests, writer-late table key t h (legal-below_mark l), contains-push t v (writers table key h), early-ended h t, writer-unended h whose v n k old new (legal-below_mark l) (fine_mark l))
 writer-late table key t (_ ∷ h) l e = writer-late table key t h (legal-below_mark l) e
-
--- one that ends hadn't
-ender-unended : (h : History) (whose : Whose) (v : ℕ) (c : Bool) → Legal h → Fine h (ended whose v c) → has_ended h v ≡ false
-ender-unended h _ _ _ l (ends who v c mine) = own-unended h l who v mine
 
 -- who hasn't ended hasn't committed
 unended-unlisted : (h : History) (t : ℕ) → has_ended h t ≡ false → contains t (committed h) ≡ false
@@ -143,9 +139,9 @@ in_one_order table key t u (tabled (wrote whose v n k old new) ∷ h) l other st
     grind (arith, nat_tests, in_one_order table key t u h (legal-below_mark l) other stays, push_t, push_u, is_before-push t u v (writers table key h), is_before-none t u (writers table key h), is_before-none t u (committed h), unended-unlisted h t)
 in_one_order table key t u (ended whose v true ∷ h) l other stays has_t has_u listed =
     let below = legal-below_mark l in
-    let runs : has_ended h v ≡ false = ender-unended h whose v true below (fine_mark l) in
+    let runs : has_ended h v ≡ false = ender-unended h below whose v true (fine_mark l) in
     let earlier = before-ended table key t u h below other in
-    -- where the second one commits now, it ran until now, so its writes are the last ones
+    -- if the second one commits now, it was running until now, so its writes are the last ones
     let later = before-ended table key u t h below (turned_test u t false other) in
     let push = contains-push u v (committed h) in
     let first = one-before t u (writers table key h) other in

@@ -1,4 +1,4 @@
--- A transaction counts as one that has written in a table exactly where it has, and hasn't ended.
+-- A transaction counts as one that has written in a table if and only if it has, and hasn't ended.
 use Rattle.std.proofs.Common.{◌≡◌, ◌≢◌, ℕ, List, [], ◌∷◌, ◌++◌, Bool, true, false, not, Option, refl, sym, ◌∙◌, arith, ◌&&◌}
 use Rattle.std.proofs.lemmas.Bool.{and_parts, not-true}
 use Rattle.std.proofs.lemmas.Bool.Decides.{nat_tests}

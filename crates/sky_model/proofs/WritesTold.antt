@@ -1,4 +1,4 @@
--- In the history that calls make the events that tell of a write stand right behind it.
+-- In the history that calls make the events that record a write come right after it.
 use Rattle.std.proofs.Common.{◌≡◌, ℕ, zero, suc, ℤ, List, [], ◌∷◌, ◌++◌, Bool, true, false, Option, Some, None, Ok, Err, IfOk, length, refl, sym, ap, subst}
 use Rattle.sky_val.specs.declared.val.Val.{Val}
 use Rattle.sky_keys.specs.Waits.{Waiting, is_waiting}
@@ -43,7 +43,7 @@ abbrev pub rest : List Mark → List Mark
 rest [] = []
 rest (x ∷ xs) = xs
 
--- each write of a history is told of in another one, which has it below
+-- each write of a history is recorded in another one, which has it below
 abbrev ToldIn : History → History → Type 0
 ToldIn k h = (later : List Mark) (p : History) (whose : Whose) (t table : ℕ) (key : List Val) (old new : Option (List Val)) → h ≡ later ++ tabled (wrote whose t table key old new) ∷ p
     → IsTold k (tabled (wrote whose t table key old new)) p
@@ -78,7 +78,7 @@ told-behind k h (mark ∷ marks) plain told =
 plain-told : (h : History) (marks : List Mark) → WritesNone marks → AllTold h → AllTold (marked h marks)
 plain-told h marks plain told = told-behind (marked h marks) h marks plain (told-later h h marks told)
 
--- ---- a write, and what is told of it
+-- ---- a write, and what records it
 
 pub events-plain : (marks : List Mark) → Inserted [] marks → WritesNone marks
 events-plain _ none = tt
@@ -91,7 +91,7 @@ write-told h time write events same told [] p whose t table key old new e =
 write-told h time write events same told (x ∷ later) p whose t table key old new e =
     told-later h h (write ∷ events) told later p whose t table key old new (ap rest e)
 
--- behind a mark and what is told of it, or where that is refused
+-- after a mark and what records it, or if that is refused
 abbrev MarkTold : History → Checked (List Mark) → Type 0
 MarkTold h x = IfOk x (λ marks. AllTold (marked h marks))
 
@@ -145,7 +145,7 @@ runs-told h told now who stmt (Ok _) =
 statement-told : (h : History) → AllTold h → (now : ℤ) (who : ℕ) (stmt : Stmt) → AllTold (marked h (statement database_by_history h now who stmt).marks)
 statement-told h told now who stmt = runs-told h told now who stmt (allowed (is_waiting who (waiting h)) (has_open who h) (block who h) (where_of stmt))
 
--- ---- what it lets go on
+-- ---- what it unblocks
 
 then-told : (now : ℤ) (h : History) (turn : Turn) (next : History → Turn) → AllTold (marked h turn.marks) → ((g : History) → AllTold g → AllTold (marked g (next g).marks))
     → AllTold (marked h (and_then (within_part database_by_history now) h turn next).marks)

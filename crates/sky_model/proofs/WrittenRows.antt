@@ -1,4 +1,4 @@
--- Writes name the rows that stand, and what they leave are rows of their tables.
+-- Writes name the rows that they meet, and what they leave are rows of their tables.
 use Rattle.std.proofs.Common.{◌≡◌, ℕ, ◌+◌, ◌<◌, Bool, true, false, List, [], ◌∷◌, ◌++◌, Option, Some, None, IfSome, length, refl, sym, ◌∙◌, ap, subst, arith, if◌then◌else◌, length-append, ◌&&◌, ◌==◌, All}
 use Rattle.std.specs.Ordering.{eq_by_cmp}
 use Rattle.std.proofs.lemmas.Bool.{cond_both, and_parts, eqb-true}
@@ -20,7 +20,7 @@ use Rattle.sky_model.specs.Versions.{versions}
 use Rattle.sky_model.specs.State.{part_of}
 use Rattle.sky_model.specs.ShownRows.{RowsShown, rows_by, snapshot_now}
 use Rattle.sky_model.specs.LawsOfWrites.{IsRowOf, WritesNameWhatStands, WrittenRowsFit, StandingRowsFit}
-use Rattle.sky_model.proofs.Legal.{Replaces, Fine, ends, makes_table, writes, Legal, start, next}
+use Rattle.sky_model.proofs.Legal.{Replaces, Fine, makes_table, writes, Legal, start, next}
 use Rattle.sky_model.proofs.SnapshotLaws.{legal_place, legal-below_mark, fine_mark}
 use Rattle.sky_model.proofs.Cases.{if_or}
 use Rattle.sky_model.proofs.RowKeys.{is_in_order-versions}
@@ -52,9 +52,9 @@ own-of P None vs all = tt
 own-of P (Some t) [] all = tt
 own-of P (Some t) (v ∷ vs) all = cond_both (t == v.txid) (Some v) (version_of t vs) (λ o. IfSome o P) (λ _. All-head P v vs all) (λ _. own-of P (Some t) vs (All-tail P v vs all))
 
--- ---- the versions that are kept
+-- ---- the kept versions
 
--- its row, if it left one, is one of a table that there is, under the key
+-- its row, if it left one, is one of a table that exists, under the key
 record Left (h : History) (table : ℕ) (key : List Val) (v : Version) : Type 0 where
   within : table < length (table_names h)
   fits : IfSome v.row (IsRowOf (columns_of table h) key)
@@ -66,7 +66,7 @@ row-left : (h : History) (table : ℕ) (key : List Val) (o : Option Version) →
 row-left h table key None this = tt
 row-left h table key (Some v) this = this.fits
 
--- so is what stands for a session
+-- so is the row that a session's write meets
 standing-left : (h : History) → AllLeft h → (who table : ℕ) (key : List Val) → IfSome ((rows_by (part_of h)).key who table key).standing (IsRowOf (columns_of table h) key)
 standing-left h all who table key =
     row-left h table key _
@@ -74,7 +74,7 @@ standing-left h all who table key =
     (own-of (Left h table key) (own_txid who h) (kept h table key) (all table key))
     (newest-of (Left h table key) (sees (snapshot_now (part_of h))) (kept h table key) None (all table key) tt))
 
--- a write over what stands leaves a row of its table
+-- a write over the row that it meets leaves a row of its table
 new-fits : (h : History) → AllLeft h → (who table : ℕ) (key : List Val) (old new : Option (List Val)) → Replaces (part_of h) who table key old new → IfSome new (IsRowOf (columns_of table h) key)
 new-fits h all who table key old new is = is.fits (subst (λ o. IfSome o (IsRowOf (columns_of table h) key)) is.stands (standing-left h all who table key))
 
@@ -112,10 +112,10 @@ left-step h _ (writes who t n at_key old new mine free stands) l all = λ table 
         let both = and_parts (n == table) (eq_by_cmp key_cmp key at_key) is in
         all-with (Left g table key) t new (kept h table key) (before table key)
         (subst (λ m. Left g m key (record { txid = t; row = new })) (eqb-true n table both.0) (subst (λ k. Left g n k (record { txid = t; row = new })) (sym (key_ties-is key at_key both.1)) written))
-left-step h _ (ends who t false mine) l all = λ table key.
-    subst (All (Left (ended (of_session who) t false ∷ h) table key)) (sym (versions_at-forgotten t key (versions table h) (is_in_order-versions table h)))
-    (all-without (Left (ended (of_session who) t false ∷ h) table key) t (kept h table key)
-    (All-weaker (Left h table key) (Left (ended (of_session who) t false ∷ h) table key) (λ v is. record { within = is.within; fits = is.fits }) (kept h table key) (all table key)))
+left-step h (ended whose t false) fine l all = λ table key.
+    subst (All (Left (ended whose t false ∷ h) table key)) (sym (versions_at-forgotten t key (versions table h) (is_in_order-versions table h)))
+    (all-without (Left (ended whose t false ∷ h) table key) t (kept h table key)
+    (All-weaker (Left h table key) (Left (ended whose t false ∷ h) table key) (λ v is. record { within = is.within; fits = is.fits }) (kept h table key) (all table key)))
 left-step h mark _ l all = left-same h mark (λ table key v is. record { within = is.within; fits = is.fits }) (λ table key. refl) all
 
 all-left : (h : History) → Legal h → AllLeft h

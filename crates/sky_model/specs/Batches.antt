@@ -5,12 +5,12 @@ use Rattle.sky_model.specs.History.{Batch, History}
 use Rattle.sky_model.specs.Transactions.{has_committed}
 use Rattle.sky_model.specs.Queues.{events, at_tick}
 
--- an event into a list in order of ids, behind those with its id
+-- an event is inserted into a list in order of ids, after those with its id
 abbrev pub with_event : Event → List Event → List Event
 with_event e [] = e ∷ []
 with_event e (x ∷ xs) = if nat_lt e.ev_id x.ev_id then e ∷ x ∷ xs else x ∷ with_event e xs
 
--- events in order of their ids, those with equal ids as they stood
+-- events in order of their ids, those with equal ids in their order
 abbrev pub by_id_onto : List Event → List Event → List Event
 by_id_onto sorted [] = sorted
 by_id_onto sorted (e ∷ es) = by_id_onto (with_event e sorted) es
@@ -23,8 +23,8 @@ abbrev pub is_for : ℕ → Option ℕ → Bool
 is_for sub None = true
 is_for sub (Some owner) = owner == sub
 
--- the events of a batch: those for its subscription whose transaction had committed when the closing
--- tick was made, and hadn't when the opening one was, by id
+-- the events of a batch: those for its subscription whose transaction had committed when the closing tick was made, and hadn't when the opening one
+-- was, by id
 abbrev pub batch_events : History → Batch → List Event
 batch_events h b =
     by_id (filter (λ e. has_committed (at_tick b.queue b.cur h) e.ev_txid

@@ -3,7 +3,7 @@ use Rattle.std.specs.Prelude.{ℕ, ℤ, Bool, true, false, List, [], ◌∷◌, 
 use Rattle.sky_model.specs.declared.stmt.Stmt.{Stmt}
 use Rattle.sky_model.specs.declared.stmt.RowStmt.{RowStmt}
 use Rattle.sky_model.specs.declared.stmt.RowStmt.TheVariants.{OpenDb, Close, Cancel, Begin, BeginRepeatableRead, Commit, Rollback, TxidCurrent, TxidCurrentSnapshot, TxidVisibleInSnapshot, CreateTable, Insert, Update, Delete, Get, Scan}
-use Rattle.sky_model.specs.declared.stmt.Stmt.TheVariants.{Row, CreateQueue, DropQueue, SetQueueConfig, QueueInfo, InsertEvent, Ticker, ForceTick, RegisterConsumer, NextBatch, GetBatchEvents, FinishBatch, AddTrigger, Clock, PgqdOn, PgqdOff}
+use Rattle.sky_model.specs.declared.stmt.Stmt.TheVariants.{Row, CreateQueue, DropQueue, SetQueueConfig, QueueInfo, InsertEvent, Ticker, ForceTick, RegisterConsumer, RegisterConsumerAt, UnregisterConsumer, NextBatch, GetBatchEvents, GetBatchInfo, EventRetry, FinishBatch, MaintRetryEvents, ConsumerInfo, AddTrigger, Clock, PgqdOn, PgqdOff}
 use Rattle.sky_model.specs.declared.reply.Reply.{Reply}
 use Rattle.sky_model.specs.declared.reply.Reply.TheVariants.{Done, NotWaiting, Refused}
 use Rattle.sky_model.specs.declared.reply.Limit.TheVariants.{Sessions, Databases}
@@ -23,13 +23,14 @@ use Rattle.sky_model.specs.StepSession.{open_db, begin, begin_repeatable_read, c
 use Rattle.sky_model.specs.StepRows.{create_table, insert, update, delete, get, scan}
 use Rattle.sky_model.specs.StepTrigger.{add_trigger}
 use Rattle.sky_model.specs.Telling.{tells}
-use Rattle.sky_model.specs.StepConsumer.{register_consumer, next_batch, get_batch_events, finish_batch}
+use Rattle.sky_model.specs.StepConsumer.{register_consumer, register_consumer_at, unregister_consumer, next_batch, get_batch_events, get_batch_info, finish_batch, consumer_info}
+use Rattle.sky_model.specs.StepRetry.{event_retry, maint_retry_events}
 use Rattle.sky_model.specs.World.{World, world_of, on_top}
 use Rattle.sky_model.specs.Reader.{Shown, PartReader, DatabaseReader, Reader, within_part, within_database, by_past, Deed, answers_with, refuses, appears, founds, followed}
 use Rattle.sky_model.specs.Settling.{Turn, turn_of, with_settling}
 use Rattle.sky_model.specs.Promises.{Part, after_all}
 
--- what a statement on sessions, transactions, tables and rows does that its session may make
+-- what a statement on sessions, transactions, tables and rows does, if its session may make it
 abbrev pub row_form : RowPart → RowsShown → ℕ → RowStmt → Checked Outcome
 row_form d shown who (OpenDb name) = open_db who (d.session who).is_open
 row_form d shown who Close = close who (d.session who).txid (d.session who).block
@@ -48,7 +49,7 @@ row_form d shown who (Delete table key) = delete d shown who table key
 row_form d shown who (Get table key) = get d shown who table key
 row_form d shown who (Scan table) = scan d shown who table
 
--- what a statement does that its session may make; the clock and the daemons are the world's, which says below what becomes of them
+-- what a statement does, if its session may make it; the clock and the daemons are the world's, so what theirs do is defined below
 abbrev pub form : Database → Shown → ℤ → ℕ → Stmt → Checked Outcome
 form d shown now who (Row stmt) = tells d now (row_form d.part shown.rows who stmt)
 form d shown now who (CreateQueue queue) = create_queue d now who queue
@@ -59,9 +60,15 @@ form d shown now who (InsertEvent queue ev_type ev_data extra) = insert_event d 
 form d shown now who (Ticker queue) = ticker d now queue
 form d shown now who (ForceTick queue) = force_tick d queue
 form d shown now who (RegisterConsumer queue consumer) = register_consumer d queue consumer
+form d shown now who (RegisterConsumerAt queue consumer tick) = register_consumer_at d queue consumer tick
+form d shown now who (UnregisterConsumer queue consumer) = unregister_consumer d queue consumer
 form d shown now who (NextBatch queue consumer) = next_batch d queue consumer
 form d shown now who (GetBatchEvents batch) = get_batch_events shown.events batch
+form d shown now who (GetBatchInfo batch) = get_batch_info d batch
+form d shown now who (EventRetry batch event seconds) = event_retry d shown.events now batch event seconds
 form d shown now who (FinishBatch batch) = finish_batch d batch
+form d shown now who MaintRetryEvents = maint_retry_events d now
+form d shown now who (ConsumerInfo queue consumer) = consumer_info d queue consumer
 form d shown now who (AddTrigger name table queue backup ignored) = add_trigger d name table queue backup ignored
 form d shown now who (Clock time) = answers Done
 form d shown now who PgqdOn = answers Done
@@ -79,7 +86,7 @@ row_making r who stmt = record {
 abbrev pub row_statement : {P : Type 0} → PartReader P → P → ℕ → RowStmt → Outcome
 row_statement r p who stmt = made_by (row_making r who stmt) (where_of_row stmt) who p
 
--- with those that it lets go on
+-- with those that it unblocks
 abbrev pub row_turn : {P : Type 0} → PartReader P → P → ℕ → RowStmt → Turn
 row_turn r p who stmt = with_settling r p (turn_of who (row_statement r p who stmt))
 
@@ -95,7 +102,7 @@ making r now who stmt = record {
 abbrev pub statement : {P : Type 0} → DatabaseReader P → P → ℤ → ℕ → Stmt → Outcome
 statement r p now who stmt = made_by (making r now who stmt) (where_of stmt) who p
 
--- with those that it lets go on
+-- with those that it unblocks
 abbrev pub database_turn : {P : Type 0} → DatabaseReader P → P → ℤ → ℕ → Stmt → Turn
 database_turn r p now who stmt = with_settling (within_part r now) p (turn_of who (statement r p now who stmt))
 
@@ -104,7 +111,7 @@ abbrev pub opening : Stmt → Option (List ℕ)
 opening (Row (OpenDb name)) = Some name
 opening _ = None
 
--- what one is answered that opens none, of a session that has none open
+-- the answer to a statement that opens none, of a session that has none open
 abbrev pub unopened : Stmt → Reply
 unopened (Row Cancel) = NotWaiting
 unopened _ = Refused NotOpen
@@ -113,7 +120,7 @@ unopened _ = Refused NotOpen
 abbrev pub opens_in : {P : Type 0} → Reader P → ℕ → Stmt → ℕ → P → Deed
 opens_in r who stmt d p = deed_in d (entered who d ∷ []) (database_turn (within_database r d) p (r.world p).now who stmt)
 
--- in the one of this name, which is made where it is new
+-- in the one of this name, which is made if it is new
 abbrev pub opens : {P : Type 0} → Reader P → P → ℕ → Stmt → List ℕ → Option ℕ → Deed
 opens r p who stmt name (Some d) = opens_in r who stmt d p
 opens r p who stmt name None =
@@ -135,17 +142,17 @@ abbrev pub left_if : ℕ → Bool → List Fact
 left_if who true = left who ∷ []
 left_if who false = []
 
--- whether a session may make a statement where it stands
+-- whether a session may make a statement in its state
 abbrev pub may_make : Database → ℕ → Stmt → Bool
 may_make d who stmt = is_ok (allowed (is_waiting who d.part.waiting) (d.part.session who).is_open (d.part.session who).block (where_of stmt))
 
--- the daemon of a database, which is on since a moment or off, is put on or off by a statement that its session may make
+-- the daemon of a database, which is on since a moment or off, is switched on or off by a statement that its session may make
 abbrev pub of_daemon_if : Bool → ℕ → Option ℤ → Stmt → List Fact
 of_daemon_if true d None PgqdOn = daemon_on d ∷ []
 of_daemon_if true d start PgqdOff = daemon_off d ∷ []
 of_daemon_if _ d start stmt = []
 
--- what a statement changes in the world beside its database
+-- what a statement changes in the world besides its database
 abbrev pub beside : World → ℕ → Stmt → ℕ → List Fact
 beside w who stmt d =
     left_if who (is_leaving (is_waiting who (w.database d).part.waiting) stmt)
@@ -186,7 +193,7 @@ does past call = step by_past past call
 abbrev pub after : Past → Call → Past
 after past call = on_top past (does past call).facts
 
--- the answers of a call, each with its session: the call's own, and those of statements that it lets go on
+-- the answers of a call, each with its session: the call's own, and those of statements that it unblocks
 abbrev pub answers_of : Past → Call → List (ℕ × Reply)
 answers_of past call = (does past call).answers
 

@@ -1,5 +1,4 @@
--- What `clock` does in the world: the clock goes from one moment to the next at which a daemon is due, and then to its new
--- moment.
+-- What `clock` does in the world: the clock moves from one moment to the next at which a daemon is due, and then to its new moment.
 use Rattle.std.specs.Prelude.{ℕ, zero, suc, ◌+◌, ℤ, pos, ◌+ℤ◌, ◌-ℤ◌, int_lt, unsigned_abs, Bool, true, false, if◌then◌else◌, List, [], ◌∷◌, ◌++◌, map, length, Option, Some, None}
 use Rattle.sky_keys.specs.Waits.{is_waiting}
 use Rattle.sky_model.specs.declared.daemon.DaemonPart.{DaemonPart}
@@ -16,13 +15,13 @@ use Rattle.sky_model.specs.Daemon.{daemon_does, is_due_at, next_due}
 abbrev pub deed_in : ℕ → List Fact → Turn → Deed
 deed_in d facts turn = record { answers = turn.answers; facts = map (within d) turn.marks ++ facts }
 
--- a part of a database's daemon, where it is due
+-- a part of a database's daemon, if it is due
 abbrev pub part_works : {P : Type 0} → Reader P → ℕ → DaemonPart → P → Deed
 part_works r d part p =
     if is_due_at (r.world p).now part ((r.world p).daemons d) then deed_in d [] (daemon_does (within_database r d) p part (r.world p).now)
     else idles
 
--- all parts, one after the other
+-- all parts, one after another
 abbrev pub daemon_works : {P : Type 0} → Reader P → ℕ → P → Deed
 daemon_works r d p = followed r p (λ q. followed r q (part_works r d Maintain) (part_works r d Retry q)) (part_works r d Tick p)
 
@@ -31,7 +30,7 @@ abbrev pub daemons_work : {P : Type 0} → Reader P → ℕ → ℕ → P → De
 daemons_work r zero d p = idles
 daemons_work r (suc n) d p = followed r p (daemons_work r n (d + 1)) (daemon_works r d p)
 
--- the clock stands at a moment, and the daemons that are due do their work
+-- the clock is set to a moment, and the daemons that are due work
 abbrev pub at_moment : {P : Type 0} → Reader P → ℤ → P → Deed
 at_moment r moment p =
     followed r p (λ q. daemons_work r (length (r.world q).databases) 0 q) (record { answers = []; facts = clock_at moment ∷ [] })
@@ -50,7 +49,7 @@ through r last (suc n) p = goes_to r last (through r last n) p (next_due (r.worl
 abbrev pub last_moment : ℤ
 last_moment = pos 1_000_000_000_000_000
 
--- the clock goes to a moment: all moments before it at which a daemon is due are no more than the microseconds
+-- the clock moves to a moment: there are at most as many moments before it at which a daemon is due as there are microseconds
 abbrev pub clock_goes : {P : Type 0} → Reader P → P → ℕ → ℤ → Deed
 clock_goes r p who to =
     if int_lt last_moment to then refuses who ClockSpent

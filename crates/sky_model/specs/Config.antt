@@ -1,4 +1,4 @@
--- How a queue is set, and which values each of its parameters can have.
+-- The settings of a queue, and which values each of its parameters can have.
 use Rattle.std.specs.Prelude.{ℕ, ◌==◌, ℤ, pos, Bool, true, false, if◌then◌else◌, List, [], ◌∷◌, Option, Some, None, option_map, find, bytes_eq, codes}
 use Rattle.std.specs.Option.{option_and_then}
 use Rattle.sky_val.specs.Numbers.{number_of}
@@ -12,7 +12,7 @@ pub record Config : Type 0 where
   pub rotation_period : ℤ
   pub paused : Bool
 
--- as it is set from the start: 500 events, 3 seconds, 1 minute, 2 hours
+-- the default settings: 500 events, 3 seconds, 1 minute, 2 hours
 abbrev pub default_config : Config
 default_config = record {
   max_count = 500;

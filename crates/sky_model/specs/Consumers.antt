@@ -1,4 +1,4 @@
--- Consumers of queues: where each stands, and which batch it has.
+-- Consumers of queues: the position of each, and which batch it has.
 use Rattle.std.specs.Prelude.{ℕ, List, [], ◌∷◌, ◌++◌, not, Option, Some, None, ◌==◌, ◌&&◌, bytes_eq, filter, option_map, if◌then◌else◌}
 use Rattle.sky_model.specs.History.{Batch, queued, registered, moved, unregistered, opened, closed, History}
 
@@ -10,7 +10,7 @@ all_but consumer names = filter (λ name. not (bytes_eq name consumer)) names
 abbrev pub consumers : ℕ → History → List (List ℕ)
 consumers queue [] = []
 consumers queue (queued (registered q name sub tick) ∷ h) = if q == queue then consumers queue h ++ name ∷ [] else consumers queue h
-consumers queue (queued (unregistered q name) ∷ h) = if q == queue then all_but name (consumers queue h) else consumers queue h
+consumers queue (queued (unregistered q name sub) ∷ h) = if q == queue then all_but name (consumers queue h) else consumers queue h
 consumers queue (_ ∷ h) = consumers queue h
 
 -- the id of a consumer's subscription, if it is registered
@@ -18,19 +18,18 @@ abbrev pub subscription_id : ℕ → List ℕ → History → Option ℕ
 subscription_id queue consumer [] = None
 subscription_id queue consumer (queued (registered q name sub tick) ∷ h) =
     if q == queue && bytes_eq consumer name then Some sub else subscription_id queue consumer h
-subscription_id queue consumer (queued (unregistered q name) ∷ h) =
+subscription_id queue consumer (queued (unregistered q name sub) ∷ h) =
     if q == queue && bytes_eq consumer name then None else subscription_id queue consumer h
 subscription_id queue consumer (_ ∷ h) = subscription_id queue consumer h
 
--- a consumer's last tick: where it registered or was moved to, or the closing tick of the last batch that it finished since;
--- 0 where it isn't registered
+-- a consumer's last tick: where it registered or was moved to, or the closing tick of the last batch that it finished since; 0 if it isn't registered
 abbrev pub position : ℕ → List ℕ → History → ℕ
 position queue consumer [] = 0
 position queue consumer (queued (registered q name sub tick) ∷ h) =
     if q == queue && bytes_eq consumer name then tick else position queue consumer h
 position queue consumer (queued (moved q name tick) ∷ h) =
     if q == queue && bytes_eq consumer name then tick else position queue consumer h
-position queue consumer (queued (unregistered q name) ∷ h) =
+position queue consumer (queued (unregistered q name sub) ∷ h) =
     if q == queue && bytes_eq consumer name then 0 else position queue consumer h
 position queue consumer (queued (closed batch) ∷ h) =
     if batch.queue == queue && bytes_eq consumer batch.consumer then batch.cur else position queue consumer h
@@ -43,7 +42,7 @@ active queue consumer (queued (registered q name sub tick) ∷ h) =
     if q == queue && bytes_eq consumer name then None else active queue consumer h
 active queue consumer (queued (moved q name tick) ∷ h) =
     if q == queue && bytes_eq consumer name then None else active queue consumer h
-active queue consumer (queued (unregistered q name) ∷ h) =
+active queue consumer (queued (unregistered q name sub) ∷ h) =
     if q == queue && bytes_eq consumer name then None else active queue consumer h
 active queue consumer (queued (opened batch) ∷ h) =
     if batch.queue == queue && bytes_eq consumer batch.consumer then Some batch.id else active queue consumer h
@@ -86,5 +85,5 @@ active_batch id [] = None
 active_batch id (queued (opened batch) ∷ h) = if batch.id == id then Some batch else active_batch id h
 active_batch id (queued (closed batch) ∷ h) = if batch.id == id then None else active_batch id h
 active_batch id (queued (moved q name tick) ∷ h) = of_another q name (active_batch id h)
-active_batch id (queued (unregistered q name) ∷ h) = of_another q name (active_batch id h)
+active_batch id (queued (unregistered q name sub) ∷ h) = of_another q name (active_batch id h)
 active_batch id (_ ∷ h) = active_batch id h

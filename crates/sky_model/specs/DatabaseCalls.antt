@@ -15,7 +15,7 @@ use Rattle.sky_model.specs.Promises.{Part}
 pub data DatabaseCall : Type 0 where
   -- a session made a statement, at a time
   stepped : (who : ℕ) (stmt : Stmt) (now : ℤ) → DatabaseCall
-  -- something is to be done in a session's name, which may stand outside blocks alone, or in one too
+  -- something is to be done in a session's name, which is allowed only outside blocks, or inside too
   entered : (who : ℕ) (outside : Bool) → DatabaseCall
   -- it failed, at a time
   failed : (who : ℕ) (now : ℤ) → DatabaseCall

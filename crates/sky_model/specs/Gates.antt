@@ -1,4 +1,4 @@
--- A gate in front of writes of rows: it is asked whether there is room for a write, and told of each that is made.
+-- A gate for writes of rows: it is asked whether it has room for a write, and notified of each that is made.
 use Rattle.std.specs.Prelude.{ℕ, List, [], ◌∷◌, Bool, true, not, ◌&&◌, Option, Ok}
 use Rattle.sky_val.specs.declared.val.Val.{Val}
 use Rattle.sky_model.specs.declared.reply.Refusal.TheVariants.{EventIdsSpent}
@@ -6,13 +6,13 @@ use Rattle.sky_model.specs.History.{Mark, of_session, tabled, wrote}
 use Rattle.sky_model.specs.Outcome.{Outcome, Checked, ◌>>=◌, ◌>>◌, refused_if}
 use Rattle.sky_model.specs.Reader.{PartReader}
 
--- a write in a table: the row that the key had, and the row that it has
+-- a write to a table: the row that the key had, and the row that it has
 pub record RowWrite : Type 0 where
   pub table : ℕ
   pub old : Option (List Val)
   pub new : Option (List Val)
 
--- whether a gate, as it is, has room for a write; and as what a transaction's write leaves it that it is told of
+-- whether a gate, in its state, has room for a write; and its state after it was notified of a transaction's write
 pub record Gate (G : Type 0) : Type 0 where
   pub has_room : G → RowWrite → Bool
   pub after : G → ℕ → RowWrite → G
@@ -22,29 +22,29 @@ abbrev pub takes : {G : Type 0} → Gate G → G → Mark → Bool
 takes gate g (tabled (wrote (of_session who) t table key old new)) = gate.has_room g (record { table = table; old = old; new = new })
 takes gate g _ = true
 
--- the gate behind a mark
+-- the gate after a mark
 abbrev pub passed : {G : Type 0} → Gate G → G → Mark → G
 passed gate g (tabled (wrote (of_session who) t table key old new)) = gate.after g t (record { table = table; old = old; new = new })
 passed gate g _ = g
 
--- whether it has room for each of some marks, the first one first
+-- whether it has room for each of some marks, in their order
 abbrev pub takes_all : {G : Type 0} → Gate G → G → List Mark → Bool
 takes_all gate g [] = true
 takes_all gate g (mark ∷ marks) = takes gate g mark && takes_all gate (passed gate g mark) marks
 
--- the gate behind them
+-- the gate after them
 abbrev pub passed_all : {G : Type 0} → Gate G → G → List Mark → G
 passed_all gate g [] = g
 passed_all gate g (mark ∷ marks) = passed_all gate (passed gate g mark) marks
 
--- what a statement would do is refused where the gate has no room for its writes
+-- what a statement would do is refused if the gate has no room for its writes
 abbrev pub gated : {G : Type 0} → Gate G → G → Checked Outcome → Checked Outcome
 gated gate g checked = do
   outcome ← checked
   refused_if (not (takes_all gate g outcome.marks)) EventIdsSpent
   Ok outcome
 
--- a place with a gate in front of writes there
+-- a place with a gate for the writes there
 abbrev pub by_gate : {G P : Type 0} → Gate G → PartReader P → PartReader (P × G)
 by_gate gate r = record {
   part = λ p. r.part p.0;

@@ -12,7 +12,8 @@ use Rattle.sky_model.specs.Kinds.{Kind, Name, Dotted, Number, OptText, Raw, Valu
 
 -- ---- what may follow in a line
 
--- its end, with the statement; a fixed word, and on; a word of a kind, and on by its value; either of two; any words of a kind, and on by their values
+-- its end, with the statement; a fixed word, and then more; a word of a kind, and then more by its value; either of two; any words of a kind, and
+-- then more by their values
 pub data Row : Type 0 where
   stop : Stmt → Row
   literal : Fixed → Row → Row
@@ -24,7 +25,7 @@ pub data Row : Type 0 where
 abbrev pub last : (k : Kind) → (Of k → Stmt) → Row
 last k make = one k (λ v. stop (make v))
 
--- one or more words of a kind, and on by their values
+-- one or more words of a kind, and then more by their values
 abbrev pub some : (k : Kind) → (List (Of k) → Row) → Row
 some k f = one k (λ v. many k (λ vs. f (v ∷ vs)))
 
@@ -32,11 +33,11 @@ some k f = one k (λ v. many k (λ vs. f (v ∷ vs)))
 abbrev pub some_last : (k : Kind) → (List (Of k) → Stmt) → Row
 some_last k make = some k (λ vs. stop (make vs))
 
--- one or more words of a kind, a fixed word, and on by their values
+-- one or more words of a kind, a fixed word, and then more by their values
 abbrev pub some_until : Fixed → (k : Kind) → (List (Of k) → Row) → Row
 some_until end k f = some k (λ vs. literal end (f vs))
 
--- a fixed word or none, and on by whether it stands there
+-- a fixed word or none, and then more by whether it is there
 abbrev pub optional : Fixed → (Bool → Row) → Row
 optional fixed f = either (f false) (literal fixed (f true))
 
@@ -50,7 +51,7 @@ text_of fixed.Backup = codes "backup"
 text_of fixed.On = codes "on"
 text_of fixed.Off = codes "off"
 
--- ---- the statement forms: of each its first word, and what follows it
+-- ---- the statement forms: for each its first word, and what follows it
 
 -- on sessions and transactions
 abbrev pub session_forms : List (List ℕ × Row)
@@ -111,9 +112,15 @@ queue_forms =
     ∷ (codes "ticker", last Name (λ queue. stmt.Ticker queue))
     ∷ (codes "force_tick", last Name (λ queue. stmt.ForceTick queue))
     ∷ (codes "register_consumer", one Name (λ queue. last Dotted (λ consumer. stmt.RegisterConsumer queue consumer)))
+    ∷ (codes "register_consumer_at", one Name (λ queue. one Dotted (λ consumer. last (Number (2 ^ 64 - 1)) (λ tick. stmt.RegisterConsumerAt queue consumer tick))))
+    ∷ (codes "unregister_consumer", one Name (λ queue. last Dotted (λ consumer. stmt.UnregisterConsumer queue consumer)))
     ∷ (codes "next_batch", one Name (λ queue. last Dotted (λ consumer. stmt.NextBatch queue consumer)))
     ∷ (codes "get_batch_events", last (Number (2 ^ 64 - 1)) (λ batch. stmt.GetBatchEvents batch))
+    ∷ (codes "get_batch_info", last (Number (2 ^ 64 - 1)) (λ batch. stmt.GetBatchInfo batch))
+    ∷ (codes "event_retry", one (Number (2 ^ 64 - 1)) (λ batch. one (Number (2 ^ 64 - 1)) (λ event. last (Number 1_000_000_000) (λ seconds. stmt.EventRetry batch event seconds))))
     ∷ (codes "finish_batch", last (Number (2 ^ 64 - 1)) (λ batch. stmt.FinishBatch batch))
+    ∷ (codes "maint_retry_events", stop stmt.MaintRetryEvents)
+    ∷ (codes "consumer_info", one Name (λ queue. last Dotted (λ consumer. stmt.ConsumerInfo queue consumer)))
     ∷ []
 
 -- on the clock and the daemon
@@ -139,7 +146,7 @@ abbrev pub when : {A : Type 0} → Option A → (A → Row) → List Row
 when None f = []
 when (Some v) f = f v ∷ []
 
--- the rows with which a row may go on behind a word
+-- the rows with which a row may continue after a word
 abbrev pub next : Row → List ℕ → List Row
 next (stop stmt) w = []
 next (literal fixed row) w = if bytes_eq w (text_of fixed) then row ∷ [] else []
@@ -147,7 +154,7 @@ next (one k f) w = when (value k w) f
 next (either a b) w = next a w ++ next b w
 next (many k f) w = next (f []) w ++ when (value k w) (λ v. many k (λ vs. f (v ∷ vs)))
 
--- the rows with which some of these may go on behind a word
+-- the rows with which some of these may continue after a word
 abbrev pub all_next : List Row → List ℕ → List Row
 all_next [] w = []
 all_next (row ∷ rows) w = next row w ++ all_next rows w
@@ -175,12 +182,12 @@ abbrev pub or_bad : ℕ → Option Stmt → Result Stmt ℕ
 or_bad n None = Err n
 or_bad n (Some stmt) = Ok stmt
 
--- word n is bad where no row is left
+-- word n is bad if no row is left
 abbrev pub goes_on : List Row → ℕ → (List Row → Result Stmt ℕ) → Result Stmt ℕ
 goes_on [] n read = Err n
 goes_on (row ∷ rows) n read = read (row ∷ rows)
 
--- the statement of words from the nth on, or the number of the first word with which no row goes on
+-- the statement of words from the nth on, or the number of the first word with which no row continues
 abbrev pub reads : List Row → ℕ → List (List ℕ) → Result Stmt ℕ
 reads rows n [] = or_bad n (all_ended rows)
 reads rows n (w ∷ ws) = goes_on (all_next rows w) n (λ left. reads left (n + 1) ws)

@@ -1,10 +1,11 @@
--- What happened: marks in a database, facts in the world, each in order, the newest first. A place in a history is the
--- history as it was then, so 'before a place' is what stands below it in the list.
+-- What happened: marks in a database, facts in the world, each in order, the newest first. A place in a history is the history as it was then, so
+-- 'before a place' is what is below it in the list.
 use Rattle.std.specs.Prelude.{ℕ, ℤ, Bool, List, Option}
 use Rattle.sky_val.specs.declared.event.Event.{Event}
 use Rattle.sky_val.specs.declared.val.Val.{Val}
 use Rattle.sky_val.specs.declared.column.Column.{Column}
 use Rattle.sky_urlenc.specs.RowEvents.{Trigger}
+use Rattle.pgq_retry.specs.declared.retry.Retry.{Retry}
 use Rattle.sky_model.specs.declared.stmt.Attempt.{Attempt}
 use Rattle.sky_model.specs.Config.{Config}
 
@@ -17,7 +18,7 @@ pub record Batch : Type 0 where
   pub prev : ℕ
   pub cur : ℕ
 
--- what happened to the queues of a database; a queue goes by its number in the order of making
+-- what happened to the queues of a database; a queue is identified by its number in the order of making
 pub data QueueMark : Type 0 where
   -- a queue was made
   made : (name : List ℕ) → QueueMark
@@ -27,21 +28,25 @@ pub data QueueMark : Type 0 where
   put : (queue : ℕ) (event : Event) → QueueMark
   -- a tick was made
   ticked : (queue id : ℕ) (time : ℤ) (seq : ℕ) → QueueMark
-  -- a consumer was registered, as a subscription that stands at a tick
+  -- a consumer was registered, as a subscription whose position is a tick
   registered : (queue : ℕ) (consumer : List ℕ) (sub tick : ℕ) → QueueMark
-  -- a registered consumer stands at this tick from now on, and has given its batch up
+  -- the position of a registered consumer was set to a tick, and its batch was given up
   moved : (queue : ℕ) (consumer : List ℕ) (tick : ℕ) → QueueMark
-  -- a consumer is no longer registered, and has given its batch up
-  unregistered : (queue : ℕ) (consumer : List ℕ) → QueueMark
+  -- a consumer of this subscription is no longer registered, and its batch was given up
+  unregistered : (queue : ℕ) (consumer : List ℕ) (sub : ℕ) → QueueMark
   -- a batch was made
   opened : (batch : Batch) → QueueMark
   -- a batch was finished
   closed : (batch : Batch) → QueueMark
-  -- a queue is set so from now on
+  -- an event is to be retried
+  asked : (retry : Retry) → QueueMark
+  -- one that waited to be retried came back at this moment: its event was put just before
+  returned : (retry : Retry) (moment : ℤ) → QueueMark
+  -- a queue has these settings from now on
   configured : (queue : ℕ) (config : Config) → QueueMark
   -- a queue was dropped
   dropped : (queue : ℕ) → QueueMark
-  -- a table got a trigger, which may have a name: its writes are told of by events of a queue
+  -- a table got a trigger, which may have a name: events of a queue record the table's writes from now on
   traced : (table : ℕ) (name : Option (List ℕ)) (trigger : Trigger) → QueueMark
 
 -- whose a transaction is: a session's, or a worker's
@@ -49,13 +54,13 @@ pub data Whose : Type 0 where
   of_session : (who : ℕ) → Whose
   of_worker : Whose
 
--- what happened to the tables of a database; a table goes by its number in the order of making
+-- what happened to the tables of a database; a table is identified by its number in the order of making
 pub data TableMark : Type 0 where
   -- a table was made
   table_made : (name : List ℕ) (columns : List Column) → TableMark
   -- a transaction wrote a key of a table: the row that it had, and the row that it has
   wrote : (whose : Whose) (t table : ℕ) (key : List Val) (old new : Option (List Val)) → TableMark
-  -- the session waits for a key that another one's transaction has written, and is to attempt this with the key
+  -- the session waits for a key that another one's transaction has written, and attempts this with the key when it resumes
   waits : (who table : ℕ) (key : List Val) (attempt : Attempt) → TableMark
   -- the session no longer waits
   waited : (who : ℕ) → TableMark
@@ -68,7 +73,7 @@ pub data Mark : Type 0 where
   ended : (whose : Whose) (t : ℕ) (committed : Bool) → Mark
   -- the session began a transaction block
   block_begun : (who : ℕ) → Mark
-  -- which is to read at one place
+  -- which is repeatable read
   repeats : (who : ℕ) → Mark
   -- the place at which it reads is here
   looked : (who : ℕ) → Mark
@@ -87,8 +92,7 @@ pub data Mark : Type 0 where
 abbrev pub History : Type 0
 History = List Mark
 
--- what happened in the world; a database goes by its number in the order of making, a session by its
--- number in the order of appearance
+-- what happened in the world; a database is identified by its number in the order of making, a session by its number in the order of appearance
 pub data Fact : Type 0 where
   -- a session appeared
   appeared : (name : List ℕ) → Fact
@@ -100,7 +104,7 @@ pub data Fact : Type 0 where
   left : (who : ℕ) → Fact
   -- something happened in a database
   within : (database : ℕ) (mark : Mark) → Fact
-  -- the clock stands at a moment
+  -- the clock was set to a moment
   clock_at : (moment : ℤ) → Fact
   -- a database's daemon is on, from this moment on; it is off
   daemon_on : (database : ℕ) → Fact

@@ -1,4 +1,4 @@
--- What a word of a kind can be worth, and so which statements a line can have: those in form.
+-- Which values a word of a kind can have, and so which statements a line can have: those in form.
 use Rattle.std.specs.Prelude.{◌≡◌, ℕ, ◌-◌, ◌^◌, ◌<◌, ◌≤◌, pos, ◌≤ℤ◌, true, List, length, Option, Some, None, IsUtf8, All, FitsSigned, ⊤}
 use Rattle.std.specs.Int.{w64}
 use Rattle.sky_val.specs.declared.val.Val.{Val}
@@ -14,9 +14,9 @@ use Rattle.sky_model.specs.declared.line.Line.{Line}
 use Rattle.sky_model.specs.declared.line.Line.TheVariants.{Blank, Run}
 use Rattle.sky_model.specs.Kinds.{Kind, Name, Dotted, Number, OptText, Raw, Value, Column, Set, Ignore, Advance, Of, is_name, is_dotted, is_text_byte, longest_advance}
 
--- ---- what a word of a kind can be worth
+-- ---- which values a word of a kind can have
 
--- a text that can stand in quotes: its bytes are characters, and none is a line feed or the zero byte
+-- a text that can be in quotes: its bytes are UTF-8, and none is a line feed or the zero byte
 pub record IsQuotable (text : List ℕ) : Type 0 where
   pub characters : IsUtf8 text
   pub free : All (λ b. is_text_byte b ≡ true) text
@@ -26,18 +26,18 @@ abbrev pub IsOptText : Option (List ℕ) → Type 0
 IsOptText None = ⊤
 IsOptText (Some text) = IsQuotable text
 
--- null, a number of 64 bits with its sign, or such a text
+-- Null, a number that fits 64 bits with its sign, or such a text
 abbrev pub IsValue : Val → Type 0
 IsValue Null = ⊤
 IsValue (Int n) = FitsSigned w64 n
 IsValue (Text text) = IsQuotable text
 
--- such a value, or such a number more
+-- a change to such a value, or by such a number
 abbrev pub IsChange : Change → Type 0
 IsChange (To v) = IsValue v
 IsChange (Add n) = FitsSigned w64 n
 
--- what a word of a kind can be worth
+-- which value a word of a kind can have
 abbrev pub IsOf : (k : Kind) → Of k → Type 0
 IsOf Name name = is_name name ≡ true
 IsOf Dotted name = is_dotted name ≡ true
@@ -50,7 +50,7 @@ IsOf Set set = (is_name set.column ≡ true) × IsChange set.change
 IsOf Ignore names = (0 < length names) × All (λ name. is_name name ≡ true) names
 IsOf Advance time = (pos 1 ≤ℤ time) × (time ≤ℤ pos longest_advance)
 
--- what one word or more can be worth
+-- which values one word or more can have
 abbrev pub AreOf : (k : Kind) → List (Of k) → Type 0
 AreOf k vs = (0 < length vs) × All (IsOf k) vs
 
@@ -91,9 +91,15 @@ IsInForm (stmt.InsertEvent queue ev_type ev_data extra) = IsOf Name queue × IsO
 IsInForm (stmt.Ticker queue) = IsOf Name queue
 IsInForm (stmt.ForceTick queue) = IsOf Name queue
 IsInForm (stmt.RegisterConsumer queue consumer) = IsOf Name queue × IsOf Dotted consumer
+IsInForm (stmt.RegisterConsumerAt queue consumer tick) = IsOf Name queue × IsOf Dotted consumer × IsOf (Number (2 ^ 64 - 1)) tick
+IsInForm (stmt.UnregisterConsumer queue consumer) = IsOf Name queue × IsOf Dotted consumer
 IsInForm (stmt.NextBatch queue consumer) = IsOf Name queue × IsOf Dotted consumer
 IsInForm (stmt.GetBatchEvents batch) = IsOf (Number (2 ^ 64 - 1)) batch
+IsInForm (stmt.GetBatchInfo batch) = IsOf (Number (2 ^ 64 - 1)) batch
+IsInForm (stmt.EventRetry batch event seconds) = IsOf (Number (2 ^ 64 - 1)) batch × IsOf (Number (2 ^ 64 - 1)) event × IsOf (Number 1_000_000_000) seconds
 IsInForm (stmt.FinishBatch batch) = IsOf (Number (2 ^ 64 - 1)) batch
+IsInForm stmt.MaintRetryEvents = ⊤
+IsInForm (stmt.ConsumerInfo queue consumer) = IsOf Name queue × IsOf Dotted consumer
 IsInForm (stmt.AddTrigger name table queue backup ignored) = IsOf Name name × IsOf Dotted table × IsOf Name queue × All (IsOf Name) ignored
 IsInForm (stmt.Clock time) = IsOf Advance time
 IsInForm stmt.PgqdOn = ⊤

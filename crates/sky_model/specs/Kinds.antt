@@ -15,8 +15,8 @@ use Rattle.sky_model.specs.declared.stmt.Change.{Change}
 use Rattle.sky_model.specs.declared.stmt.Change.TheVariants.{To, Add}
 use Rattle.sky_model.specs.declared.stmt.Set as set
 
--- a name; one, or two with a dot between; a number, with the most that it may be; `null` or a text; a word without quotes or a text;
--- a value of a row; a column of a new table; the change of a column; the columns that a trigger ignores; how far the clock moves
+-- a name; one, or two with a dot between; a number, with the most that it may be; `null` or a text; a word without quotes or a text; a value of a
+-- row; a column of a new table; the change of a column; the columns that a trigger ignores; how far the clock moves
 pub data Kind : Type 0 where
   Name : Kind
   Dotted : Kind
@@ -29,7 +29,7 @@ pub data Kind : Type 0 where
   Ignore : Kind
   Advance : Kind
 
--- what a word of a kind is worth
+-- the type of the value of a word of a kind
 abbrev pub Of : Kind → Type 0
 Of Name = List ℕ
 Of Dotted = List ℕ
@@ -72,19 +72,19 @@ first_place byte w = position (λ b. b == byte) w
 abbrev pub is_dotted : List ℕ → Bool
 is_dotted w = nat_le (length w) 63 && names_around (first_place 46 w) w
 
--- a byte that may stand inside quotes: neither a line feed nor the zero byte
+-- a byte that is allowed inside quotes: neither a line feed nor the zero byte
 abbrev pub is_text_byte : ℕ → Bool
 is_text_byte b = not (b == 10) && not (b == 0)
 
--- the text from a place inside quotes on, two quotes being one, if the word ends with its closing quote;
--- `quote` says that the byte before is a quote, the closing one or the first of two
+-- the text from a place inside quotes on, two quotes being one, if the word ends with its closing quote; `quote` says that the byte before is a
+-- quote, the closing one or the first of two
 abbrev pub text_from : (quote : Bool) → List ℕ → Option (List ℕ)
 text_from true [] = Some []
 text_from true (b ∷ bs) = if b == 39 then option_map (λ text. 39 ∷ text) (text_from false bs) else None
 text_from false [] = None
 text_from false (b ∷ bs) = if b == 39 then text_from true bs else if is_text_byte b then option_map (λ text. b ∷ text) (text_from false bs) else None
 
--- the text, if its bytes are characters
+-- the text, if its bytes are UTF-8
 abbrev pub in_characters : Option (List ℕ) → Option (List ℕ)
 in_characters None = None
 in_characters (Some text) = if is_utf8 text then Some text else None
@@ -98,7 +98,7 @@ quoted_text (b ∷ bs) = if b == 39 then in_characters (text_from false bs) else
 abbrev pub opt_text : List ℕ → Option (Option (List ℕ))
 opt_text w = if bytes_eq w (codes "null") then Some None else option_map (λ text. Some text) (quoted_text w)
 
--- a byte that may stand outside quotes: printable, and neither the space nor the quote
+-- a byte that is allowed outside quotes: printable, and neither the space nor the quote
 abbrev pub is_bare : ℕ → Bool
 is_bare b = nat_le 33 b && nat_le b 126 && not (b == 39)
 
@@ -117,7 +117,7 @@ value_of w =
     if bytes_eq w (codes "null") then Some Null
     else option_or (option_map (λ n. Int n) (int_of w)) (option_map (λ text. Text text) (quoted_text w))
 
--- a column's kind and whether it is part of the key, by what stands behind its name's colon
+-- a column's kind and whether it is part of the key, by what comes after its name's colon
 abbrev pub column_kind : List ℕ → Option (ColKind × Bool)
 column_kind w =
     if bytes_eq w (codes "int") then Some (kind.Int, false)
@@ -143,7 +143,7 @@ column_of w = column_around (first_place 58 w) w
 abbrev pub set_as : List ℕ → Option Change → Option set.Set
 set_as name change = if is_name name then option_map (λ c. record { column = name; change = c }) change else None
 
--- the change by what stands before the first `=` and behind it: a number is added where `+` stands before it
+-- the change, by what comes before the first `=` and after it: a number is added if there is a `+` before it
 abbrev pub set_by : List ℕ → List ℕ → Option set.Set
 set_by front back =
     if bytes_eq (drop (length front - 1) front) (codes "+") then set_as (take (length front - 1) front) (option_map (λ n. Add n) (int_of back))
@@ -158,15 +158,15 @@ set_around (Some at) w = set_by (take at w) (drop (at + 1) w)
 abbrev pub set_of : List ℕ → Option set.Set
 set_of w = set_around (first_place 61 w) w
 
--- what stands between commas
+-- what is between commas
 abbrev pub between_commas : List ℕ → List (List ℕ)
 between_commas w = slice_split (λ b. b == 44) w
 
--- names with commas between
+-- names separated by commas
 abbrev pub names_of : List ℕ → Option (List (List ℕ))
 names_of w = if list_all is_name (between_commas w) then Some (between_commas w) else None
 
--- `ignore=` and names with commas between
+-- `ignore=` and names separated by commas
 abbrev pub ignore_of : List ℕ → Option (List (List ℕ))
 ignore_of w = if bytes_eq (take 7 w) (codes "ignore=") then names_of (drop 7 w) else None
 
@@ -188,7 +188,7 @@ advance_in (b ∷ bs) = if b == 43 then advance_by (interval_of bs) else None
 abbrev pub advance_of : List ℕ → Option ℤ
 advance_of w = option_and_then advance_in (raw w)
 
--- the value of a word of a kind; no value where the word is of another
+-- the value of a word of a kind; no value if the word is of another
 abbrev pub value : (k : Kind) → List ℕ → Option (Of k)
 value Name w = if is_name w then Some w else None
 value Dotted w = if is_dotted w then Some w else None

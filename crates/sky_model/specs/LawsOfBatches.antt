@@ -1,24 +1,22 @@
--- The laws on the batches that a consumer finishes in one life of its subscription: from its registering, or from a move
--- of it to a tick, to the next move or its unregistering. At each place of each history that calls make, or of any list
--- of marks or of events, as each says.
-use Rattle.std.specs.Prelude.{◌≡◌, ℕ, ◌+◌, ◌≤◌, List, [], ◌∷◌, ◌++◌, Bool, true, not, ◌&&◌, Some, is_some, ◌==◌, bytes_eq, length, filter, All, if◌then◌else◌}
+-- The laws on the batches that a consumer finishes in one life of its subscription: from its registering, or from a move to a tick, to the next move
+-- or its unregistering. They hold at each place of each history that calls make, or of any list of marks or of events, as each says.
+use Rattle.std.specs.Prelude.{◌≡◌, ℕ, ◌+◌, ◌<◌, ◌≤◌, List, [], ◌∷◌, ◌++◌, Bool, true, not, ◌&&◌, Some, is_some, ◌==◌, bytes_eq, length, filter, All, if◌then◌else◌}
 use Rattle.sky_val.specs.declared.event.Event.{Event}
 use Rattle.sky_model.specs.History.{Batch, Mark, queued, registered, moved, unregistered, closed, History}
 use Rattle.sky_model.specs.Transactions.{has_committed}
 use Rattle.sky_model.specs.Queues.{events, ticks, tick, at_tick}
-use Rattle.sky_model.specs.Consumers.{subscription_id, position, active_batch}
+use Rattle.sky_model.specs.Consumers.{subscription_id, position, last_subscription, active_batch}
 use Rattle.sky_model.specs.Batches.{is_for, by_id, batch_events}
 use Rattle.sky_model.specs.HistoryPlaces.{IsPlace}
 
--- the tick at which the life of a consumer of a queue began: where it registered, or was moved to since; 0 where it isn't
--- registered
+-- the tick at which the life of a consumer of a queue began: where it registered, or was moved to since; 0 if it isn't registered
 abbrev pub first_tick : ℕ → List ℕ → History → ℕ
 first_tick queue consumer [] = 0
 first_tick queue consumer (queued (registered q name sub tick) ∷ h) =
     if q == queue && bytes_eq consumer name then tick else first_tick queue consumer h
 first_tick queue consumer (queued (moved q name tick) ∷ h) =
     if q == queue && bytes_eq consumer name then tick else first_tick queue consumer h
-first_tick queue consumer (queued (unregistered q name) ∷ h) =
+first_tick queue consumer (queued (unregistered q name sub) ∷ h) =
     if q == queue && bytes_eq consumer name then 0 else first_tick queue consumer h
 first_tick queue consumer (_ ∷ h) = first_tick queue consumer h
 
@@ -29,7 +27,7 @@ finished queue consumer (queued (registered q name sub tick) ∷ h) =
     if q == queue && bytes_eq consumer name then [] else finished queue consumer h
 finished queue consumer (queued (moved q name tick) ∷ h) =
     if q == queue && bytes_eq consumer name then [] else finished queue consumer h
-finished queue consumer (queued (unregistered q name) ∷ h) =
+finished queue consumer (queued (unregistered q name sub) ∷ h) =
     if q == queue && bytes_eq consumer name then [] else finished queue consumer h
 finished queue consumer (queued (closed batch) ∷ h) =
     if batch.queue == queue && bytes_eq consumer batch.consumer then finished queue consumer h ++ batch ∷ [] else finished queue consumer h
@@ -54,17 +52,17 @@ abbrev pub BatchesAreConsecutive : Type 0
 BatchesAreConsecutive = (p : History) → IsPlace p → (queue : ℕ) (consumer : List ℕ)
     → Lead p queue consumer (first_tick queue consumer p) (finished queue consumer p) (position queue consumer p)
 
--- an event stands between two ticks of a queue for a subscription: its transaction had committed when
--- the later tick was made, and hadn't when the earlier one was
+-- an event is between two ticks of a queue for a subscription: its transaction had committed when the later tick was made, and hadn't when the
+-- earlier one was
 abbrev pub stands_between : History → ℕ → ℕ → ℕ → ℕ → Event → Bool
 stands_between h queue sub from to e =
     has_committed (at_tick queue to h) e.ev_txid && not (has_committed (at_tick queue from h) e.ev_txid) && is_for sub e.ev_owner
 
--- an event stands in a batch
+-- an event is in a batch
 abbrev pub stands_in : History → Batch → Event → Bool
 stands_in h b e = stands_between h b.queue b.sub b.prev b.cur e
 
--- a batch lists the events of its queue that stand in it
+-- a batch lists the events of its queue that are in it
 abbrev pub BatchesListWhatStands : Type 0
 BatchesListWhatStands = (h : History) (b : Batch) → batch_events h b ≡ by_id (filter (stands_in h b) (events b.queue h))
 
@@ -74,7 +72,7 @@ InOrder [] = Unit {0}
 InOrder (e ∷ []) = Unit {0}
 InOrder (e ∷ f ∷ es) = (e.ev_id ≤ f.ev_id) × InOrder (f ∷ es)
 
--- the events with an id, as they stand
+-- the events with an id, in their order
 abbrev pub with_id : ℕ → List Event → List Event
 with_id id es = filter (λ e. e.ev_id == id) es
 
@@ -82,12 +80,12 @@ with_id id es = filter (λ e. e.ev_id == id) es
 abbrev pub IdsDontFall : Type 0
 IdsDontFall = (es : List Event) → InOrder (by_id es)
 
--- and those with each id are the same ones, as they stood
+-- and those with each id are the same ones, in the same order
 abbrev pub EqualIdsStay : Type 0
 EqualIdsStay = (es : List Event) (id : ℕ) → with_id id (by_id es) ≡ with_id id es
 
--- an event stands in one of the batches that a registered consumer has finished since its life began, and in one alone,
--- where it stands between the tick where that began and the consumer's position, else in none
+-- an event is in one of the batches that a registered consumer has finished since its life began, and in one alone, if it is between the tick where
+-- that began and the consumer's position, else in none
 abbrev pub EventsAreListedOnce : Type 0
 EventsAreListedOnce = (p : History) → IsPlace p → (queue : ℕ) (consumer : List ℕ) (sub : ℕ) → subscription_id queue consumer p ≡ Some sub
     → (e : Event) → length (filter (λ b. stands_in p b e) (finished queue consumer p))
@@ -108,3 +106,16 @@ pub record WasActive (p : History) (b : Batch) : Type 0 where
 -- each batch that a consumer has finished since its life began was active before
 abbrev pub FinishedBatchesWereActive : Type 0
 FinishedBatchesWereActive = (p : History) → IsPlace p → (queue : ℕ) (consumer : List ℕ) → All (WasActive p) (finished queue consumer p)
+
+-- no two consumers have a subscription of one id, be they of one queue or of two
+abbrev pub SubscriptionsAreDistinct : Type 0
+SubscriptionsAreDistinct = (p : History) → IsPlace p → (q r : ℕ) (c d : List ℕ) (sub : ℕ)
+    → subscription_id q c p ≡ Some sub → subscription_id r d p ≡ Some sub → (q ≡ r) × (c ≡ d)
+
+-- no id in use exceeds the last that was given
+abbrev pub SubscriptionsAreGiven : Type 0
+SubscriptionsAreGiven = (p : History) → IsPlace p → (queue : ℕ) (consumer : List ℕ) (sub : ℕ) → subscription_id queue consumer p ≡ Some sub → sub ≤ last_subscription p
+
+-- and a new consumer's does; so it is none that anyone has, or had
+abbrev pub SubscriptionsAreNew : Type 0
+SubscriptionsAreNew = (p : History) (queue : ℕ) (consumer : List ℕ) (sub tick : ℕ) → IsPlace (queued (registered queue consumer sub tick) ∷ p) → last_subscription p < sub

@@ -1,4 +1,4 @@
--- Laws on histories: each database of the world has one that its own calls make, and each session has open the one that is its home.
+-- The laws on histories: each database of the world has one that its own calls make, and each session has open the one that is its home.
 use Rattle.std.specs.Prelude.{◌≡◌, ◌≢◌, ◌↔◌, ℕ, true, List, Some, All}
 use Rattle.sky_keys.specs.Waits.{is_waiting}
 use Rattle.sky_model.specs.History.{History}

@@ -17,8 +17,8 @@ pub record BeginsALine (line : List ℕ) (n : ℕ) : Type 0 where
   pub in_grammar : line_of other ≡ Ok says
   pub first_words : take n (words_of other) ≡ take n (words_of line)
 
--- k is the least number such that no line of the grammar begins with the line's first k words,
--- and the number of words plus 1 where the line only ends too early
+-- k is the least number such that no line of the grammar begins with the line's first k words, or the number of words plus 1 if the line only ends
+-- too early
 pub record IsLeastBadWord (line : List ℕ) (k : ℕ) : Type 0 where
   pub before : (n : ℕ) → n < k → BeginsALine line n
   pub none : k ≤ length (words_of line) → BeginsALine line k → ⊥

@@ -22,16 +22,16 @@ pub record HasWritten (h : History) (table : ℕ) (key : List Val) (who : ℕ) :
   pub runs : own_txid who h ≡ Some txid
   pub wrote : has_written key (writes table txid h) ≡ true
 
--- a session holds a key exactly where its running transaction has written it
+-- a session holds a key if and only if its running transaction has written it
 abbrev pub HoldersHaveWritten : Type 0
 HoldersHaveWritten = (p : History) → IsPlace p → (table : ℕ) (key : List Val) (who : ℕ) → (holder table key p ≡ Some who) ↔ HasWritten p table key who
 
--- a transaction counts as one that has written in a table exactly where it hasn't ended, and has written a row there
+-- a transaction counts as one that has written in a table if and only if it hasn't ended, and has written a row there
 abbrev pub WritersHaveWritten : Type 0
 WritersHaveWritten = (p : History) → IsPlace p → (table t : ℕ) → (wrote_in table t p ≡ true) ↔ ((has_ended p t ≡ false) × (writes table t p ≢ []))
 
--- a wait is refused exactly where it would close a ring: from the holder on each session waits for the next, and the
--- last one for the refused session; the refusal lists them, the refused one first
+-- a wait is refused if and only if it would close a cycle: from the holder on each session waits for the next, and the last one for the refused
+-- session; the refusal lists them, the refused one first
 abbrev pub DeadlocksAreRings : Type 0
 DeadlocksAreRings = (p : History) → IsPlace p → (who table : ℕ) (key : List Val) (attempt : Attempt) (other : ℕ) (way : List ℕ)
     → (blocked (part_of p) who table key attempt other ≡ Err (Deadlock (who ∷ way))) ↔ LeadsBack (waits_for (λ table key. holder table key p) (waiting p)) who other way

@@ -13,19 +13,19 @@ use Rattle.sky_model.specs.HistoryPlaces.{IsPlace}
 abbrev pub Stands : History → ℕ → Type 0
 Stands p queue = list_any (λ q. q.number == queue) (queues p) ≡ true
 
--- a queue stands where a consumer is registered with it
+-- a queue stands if a consumer is registered with it
 abbrev pub QueuesOfConsumersStand : Type 0
 QueuesOfConsumersStand = (p : History) → IsPlace p → (queue : ℕ) (consumer : List ℕ) (sub : ℕ) → subscription_id queue consumer p ≡ Some sub → Stands p queue
 
--- or a trigger puts events into it
+-- or if a trigger puts events into it
 abbrev pub QueuesOfTriggersStand : Type 0
 QueuesOfTriggersStand = (p : History) → IsPlace p → All (λ t. Stands p t.trigger.queue) (triggers p)
 
--- or a transaction that hasn't ended has put one into it
+-- or if a transaction that hasn't ended has put one into it
 abbrev pub BusyQueuesStand : Type 0
 BusyQueuesStand = (p : History) → IsPlace p → (queue : ℕ) → All (λ e. has_ended p e.ev_txid ≡ false → Stands p queue) (events queue p)
 
--- all that ever was put into a queue and made of it is kept
+-- all events that were ever put into a queue, and all ticks ever made of it, are kept
 pub record KeepsAll (p : History) (queue : ℕ) : Type 0 where
   pub all_events : stored queue p ≡ events queue p
   pub all_ticks : kept_ticks queue p ≡ ticks queue p
@@ -45,6 +45,6 @@ pub record KeepsNothing (p : History) (queue : ℕ) : Type 0 where
 abbrev pub OtherQueuesKeepNothing : Type 0
 OtherQueuesKeepNothing = (p : History) → IsPlace p → (queue : ℕ) → list_any (λ q. q.number == queue) (queues p) ≡ false → KeepsNothing p queue
 
--- into the next queue that is made nothing was put before, and no tick was made of it, whatever name it gets
+-- nothing was ever put into the next queue that is made, and no tick was made of it, whatever name it gets
 abbrev pub NewQueuesAreOthers : Type 0
 NewQueuesAreOthers = (p : History) → IsPlace p → (events (queues_made p) p ≡ []) × (ticks (queues_made p) p ≡ [])

@@ -8,9 +8,8 @@ use Rattle.sky_model.specs.Rows.{rows_shown}
 use Rattle.sky_model.specs.Versions.{versions}
 use Rattle.sky_model.specs.HistoryPlaces.{IsPlace}
 
--- the rows that a session is shown, which are those of the committed transactions at its sight in the order of
--- their commits with its own writes on top, are what is read of the versions that are kept: of each key the own
--- version, or else the newest that the snapshot of the sight sees
+-- the rows that a session is shown, which are those of the committed transactions at its sight, in the order of their commits, with its own writes on
+-- top, are what is read of the kept versions: for each key the own version, or else the newest that the snapshot of the sight sees
 abbrev pub RowsAreReadUnderSnapshots : Type 0
 RowsAreReadUnderSnapshots = (p : History) → IsPlace p → (who table : ℕ)
     → rows_shown who table p ≡ rows_read (snapshot (place_of_sight p (sight who p))) (own_txid who p) (versions table p)

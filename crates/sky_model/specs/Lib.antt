@@ -14,6 +14,7 @@ pub mod Locks
 pub mod Triggers
 pub mod Queues
 pub mod Consumers
+pub mod Retries
 pub mod Batches
 pub mod State
 pub mod ShownRows
@@ -27,6 +28,7 @@ pub mod StepRows
 pub mod StepQueue
 pub mod StepTrigger
 pub mod StepConsumer
+pub mod StepRetry
 pub mod Telling
 pub mod StepSession
 pub mod Selection
@@ -40,6 +42,7 @@ pub mod Clock
 pub mod Promises
 pub mod Calls
 pub mod SessionMarks
+pub mod WorkerMarks
 pub mod DatabaseCalls
 pub mod RowCalls
 pub mod HistoryPlaces
@@ -47,6 +50,7 @@ pub mod LawsOfSnapshots
 pub mod LawsOfRows
 pub mod LawsOfBatches
 pub mod LawsOfQueues
+pub mod LawsOfRetries
 pub mod LawsOfLocks
 pub mod LawsOfWrites
 pub mod Steps

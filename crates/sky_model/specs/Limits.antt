@@ -1,4 +1,4 @@
--- How many there can be of what there can be only so many of.
+-- The limits of what is limited in number.
 use Rattle.std.specs.Prelude.{ℕ}
 use Rattle.sky_model.specs.declared.reply.Limit.{Limit}
 use Rattle.sky_model.specs.declared.reply.Limit.TheVariants.{Sessions, Databases, Queues, Consumers, Tables, Columns, Triggers}

@@ -1,12 +1,12 @@
 -- The lines of a script.
 use Rattle.std.specs.Prelude.{ℕ, ◌==◌, List, [], ◌∷◌, if◌then◌else◌}
 
--- the lines that a line feed ends, and what stands after the last of them
+-- the lines that end with a line feed, and what comes after the last of them
 pub record Split : Type 0 where
   pub lines : List (List ℕ)
   pub rest : List ℕ
 
--- a byte in front
+-- with a byte before the first line
 abbrev pub with_byte : ℕ → List (List ℕ) → List ℕ → Split
 with_byte b [] rest = record { lines = []; rest = b ∷ rest }
 with_byte b (line ∷ lines) rest = record { lines = (b ∷ line) ∷ lines; rest = rest }

@@ -7,8 +7,8 @@ use Rattle.sky_model.specs.Sessions.{Sight, at_first, Session}
 use Rattle.sky_model.specs.Outcome.{Outcome, Checked, settled}
 use Rattle.sky_model.specs.Allowed.{allowed}
 
--- how a statement reads a place: the session there, whether it waits there, what the statement does there that may be
--- made, and the place behind a mark
+-- how a statement reads a place: the session there, whether it waits there, what the statement does there if it is allowed, and the place after a
+-- mark
 pub record Making (P : Type 0) : Type 0 where
   pub session : P → Session
   pub waits : P → Bool
@@ -24,7 +24,7 @@ takes_sight _ _ = false
 abbrev pub runs : {P : Type 0} → Making P → ℕ → P → Outcome
 runs m who p = settled who (m.session p) (m.outcome p)
 
--- with the sight taken in front
+-- with the sight taken before
 abbrev pub looking : ℕ → Outcome → Outcome
 looking who outcome = record outcome { marks = looked who ∷ outcome.marks }
 
@@ -34,7 +34,7 @@ runs_if m place who p (Ok _) =
     if takes_sight place (m.session p).sight then looking who (runs m who (m.behind p (looked who)))
     else runs m who p
 
--- a statement of a session: it is refused where it may not stand, and else a repeatable read block takes its sight
--- in front of the first one that reads
+-- a statement of a session: it is refused if it isn't allowed there, and otherwise a repeatable read block takes its sight before the first one that
+-- reads
 abbrev pub made_by : {P : Type 0} → Making P → Where → ℕ → P → Outcome
 made_by m place who p = runs_if m place who p (allowed (m.waits p) (m.session p).is_open (m.session p).block place)

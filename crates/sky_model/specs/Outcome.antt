@@ -7,12 +7,12 @@ use Rattle.sky_model.specs.declared.reply.Refusal.TheVariants.{AlreadyOpen, Busy
 use Rattle.sky_model.specs.History.{Mark, of_session, ended, block_failed}
 use Rattle.sky_model.specs.Sessions.{Block, inside, Session}
 
--- an answer, and what happened, the first mark first
+-- an answer, and what happened, in order
 pub record Outcome : Type 0 where
   pub reply : Reply
   pub marks : List Mark
 
--- something, or the first refusal that holds
+-- a value, or the first refusal that holds
 abbrev pub Checked : Type 0 → Type 0
 Checked A = Result A Refusal
 
@@ -21,7 +21,7 @@ abbrev pub reply_of : Checked Outcome → Reply
 reply_of (Ok outcome) = outcome.reply
 reply_of (Err refusal) = Refused refusal
 
--- what happened, where nothing is refused
+-- what happened, if nothing is refused
 abbrev pub marks_of : Checked Outcome → List Mark
 marks_of (Ok outcome) = outcome.marks
 marks_of (Err refusal) = []
@@ -36,7 +36,7 @@ abbrev pub ◌>>◌ : {A B : Type 0} → Checked A → Checked B → Checked B
 Err refusal >> next = Err refusal
 Ok a >> next = next
 
--- nothing is refused, or this where the test holds
+-- nothing is refused, or this if the test holds
 abbrev pub refused_if : Bool → Refusal → Checked (Unit {0})
 refused_if true refusal = Err refusal
 refused_if false refusal = Ok tt
@@ -46,7 +46,7 @@ abbrev pub refused_by : Option Refusal → Checked (Unit {0})
 refused_by None = Ok tt
 refused_by (Some refusal) = Err refusal
 
--- what is there, or this refusal
+-- the value, if there is one, or this refusal
 abbrev pub found_or : {A : Type 0} → Option A → Refusal → Checked A
 found_or None refusal = Err refusal
 found_or (Some a) refusal = Ok a
@@ -59,12 +59,12 @@ answers reply = Ok (record { reply = reply; marks = [] })
 abbrev pub does_marks : Reply → List Mark → Checked Outcome
 does_marks reply marks = Ok (record { reply = reply; marks = marks })
 
--- the end of a session's transaction, if it has got an id
+-- the end of a session's transaction, if it has an id
 abbrev pub end_of : Bool → ℕ → Option ℕ → List Mark
 end_of committed who None = []
 end_of committed who (Some t) = ended (of_session who) t committed ∷ []
 
--- a refusal aborts the session's transaction, but for these
+-- whether a refusal aborts the session's transaction: all but these do
 abbrev pub aborts : Refusal → Bool
 aborts AlreadyOpen = false
 aborts Busy = false

@@ -6,12 +6,16 @@ use Rattle.sky_model.specs.Sessions.{Block, outside, Session}
 use Rattle.sky_model.specs.State.{RowPart}
 use Rattle.sky_model.specs.Outcome.{Checked, ◌>>◌, refused_if}
 
--- the id of a session's transaction: its own, or the next one, if there is one
-abbrev pub own_or_next : RowPart → Option ℕ → Checked ℕ
-own_or_next d (Some t) = Ok t
-own_or_next d None = do
+-- the next id, if there is one
+abbrev pub next_id : RowPart → Checked ℕ
+next_id d = do
   refused_if (nat_le (2 ^ 62) d.next) TxidsSpent
   Ok d.next
+
+-- the id of a session's transaction: its own, or the next one
+abbrev pub own_or_next : RowPart → Option ℕ → Checked ℕ
+own_or_next d (Some t) = Ok t
+own_or_next d None = next_id d
 
 -- the same for a session
 abbrev pub txid_for : RowPart → ℕ → Checked ℕ

@@ -5,15 +5,17 @@ use Rattle.sky_val.specs.declared.event.Event.{Event}
 use Rattle.sky_val.specs.declared.val.Val.{Val}
 use Rattle.sky_val.specs.declared.val.Val.TheVariants as value
 use Rattle.sky_model.specs.declared.reply.QueueInfo as info
+use Rattle.sky_model.specs.declared.reply.BatchInfo as batch
+use Rattle.sky_model.specs.declared.reply.ConsumerInfo as consumer
 use Rattle.sky_model.specs.declared.reply.Reply.{Reply}
-use Rattle.sky_model.specs.declared.reply.Reply.TheVariants.{Done, Number, Null, Bool, Begin, AlreadyInTransaction, Commit, Rollback, NoTransaction, NotWaiting, Waits, Snapshot, Events, Row, NoRow, Rows, Moment, QueueInfo, Refused}
+use Rattle.sky_model.specs.declared.reply.Reply.TheVariants.{Done, Number, Null, Bool, Begin, AlreadyInTransaction, Commit, Rollback, NoTransaction, NotWaiting, Waits, Snapshot, Events, Row, NoRow, Rows, Moment, QueueInfo, BatchInfo, ConsumerInfo, Refused}
 use Rattle.sky_model.specs.Limits.{most_of}
 use Rattle.sky_model.specs.declared.reply.Limit.{Limit}
 use Rattle.sky_model.specs.declared.reply.Limit.TheVariants.{Sessions, Databases, Queues, Consumers, Tables, Columns, Triggers}
 use Rattle.sky_model.specs.declared.reply.BadRow as bad_row
 use Rattle.sky_model.specs.declared.reply.BadRow.TheVariants.{Count, «Type», NullKey, NoColumn, Twice}
 use Rattle.sky_model.specs.declared.reply.Refusal.{Refusal}
-use Rattle.sky_model.specs.declared.reply.Refusal.TheVariants.{Aborted, AlreadyOpen, BadColumn, BadRow, BadSnapshot, BadValue, Busy, Canceled, ClockSpent, Deadlock, Duplicate, EventIdsSpent, HasConsumers, HasTriggers, IdsSpent, InTransaction, KeyChange, NoBatch, NoConsumer, NodeConsumer, NoKey, NoParam, NoQueue, NoTable, NotOpen, OutOfRange, QueueBusy, ReservedColumn, Serialize, TableBusy, TableExists, TooMany, TriggerExists, TwiceNamed, TxidsSpent}
+use Rattle.sky_model.specs.declared.reply.Refusal.TheVariants.{Aborted, AlreadyOpen, BadColumn, BadRow, BadSnapshot, BadValue, Busy, Canceled, ClockSpent, Deadlock, Duplicate, EventIdsSpent, HasConsumers, HasTriggers, IdsSpent, InTransaction, KeyChange, NoBatch, NoConsumer, NoEvent, NodeConsumer, NoKey, NoParam, NoQueue, NoTable, NoTick, NotOpen, OutOfRange, QueueBusy, ReservedColumn, Serialize, TableBusy, TableExists, TooMany, TriggerExists, TwiceNamed, TxidsSpent}
 use Rattle.sky_txid.specs.SnapshotText.{snapshot_text}
 use Rattle.sky_model.specs.Moment.{moment, HasMoment}
 
@@ -69,7 +71,7 @@ row_text row = codes "row" ++ spaced (map value_text row)
 abbrev pub count_text : ℕ → List ℕ
 count_text n = codes "rows " ++ decimal n
 
--- what there can be only so many of, and how many
+-- what is limited in number, and by how much
 abbrev pub limit_name : Limit → List ℕ
 limit_name Sessions = codes "sessions"
 limit_name Databases = codes "databases"
@@ -94,7 +96,7 @@ bad_row_text (Twice column) = codes "twice " ++ column
 abbrev pub name_at : List (List ℕ) → ℕ → List ℕ
 name_at names n = unwrap_or (slice_get names n) []
 
--- a refusal, where the sessions have these names
+-- a refusal, if the sessions have these names
 abbrev pub refusal_text : List (List ℕ) → Refusal → List ℕ
 refusal_text names Aborted = codes "Aborted"
 refusal_text names AlreadyOpen = codes "AlreadyOpen"
@@ -115,11 +117,13 @@ refusal_text names InTransaction = codes "InTransaction"
 refusal_text names (KeyChange column) = codes "KeyChange " ++ column
 refusal_text names NoBatch = codes "NoBatch"
 refusal_text names (NoConsumer name) = codes "NoConsumer " ++ name
+refusal_text names NoEvent = codes "NoEvent"
 refusal_text names NodeConsumer = codes "NodeConsumer"
 refusal_text names NoKey = codes "NoKey"
 refusal_text names (NoParam param) = codes "NoParam " ++ param
 refusal_text names (NoQueue name) = codes "NoQueue " ++ name
 refusal_text names (NoTable name) = codes "NoTable " ++ name
+refusal_text names (NoTick tick newest) = codes "NoTick " ++ decimal tick ++ 32 ∷ decimal newest
 refusal_text names NotOpen = codes "NotOpen"
 refusal_text names (OutOfRange column) = codes "OutOfRange " ++ column
 refusal_text names (QueueBusy txid) = codes "QueueBusy " ++ decimal txid
@@ -138,7 +142,19 @@ queue_text q =
     codes "ntables " ++ decimal (length q.stored) ++ codes " cur_table " ++ decimal q.current ++ codes " last_tick " ++ decimal q.last_tick
     ++ codes " seq " ++ decimal q.seq ++ codes " stored" ++ spaced (map decimal q.stored)
 
--- the lines of an answer, where the sessions have these names
+-- what is shown of a batch
+abbrev pub batch_text : batch.BatchInfo → List ℕ
+batch_text b =
+    codes "queue " ++ b.queue ++ codes " consumer " ++ b.consumer ++ codes " prev_tick " ++ decimal b.prev_tick ++ codes " tick " ++ decimal b.tick
+    ++ codes " prev_seq " ++ decimal b.prev_seq ++ codes " seq " ++ decimal b.seq
+
+-- what is shown of a consumer
+abbrev pub consumer_text : consumer.ConsumerInfo → List ℕ
+consumer_text c =
+    codes "sub " ++ decimal c.sub ++ codes " last_tick " ++ decimal c.last_tick ++ codes " batch " ++ number_or_null c.batch
+    ++ codes " retries " ++ decimal c.retries
+
+-- the lines of an answer, if the sessions have these names
 abbrev pub reply_lines : List (List ℕ) → Reply → List (List ℕ)
 reply_lines names Done = codes "ok" ∷ []
 reply_lines names (Number n) = decimal n ∷ []
@@ -159,9 +175,11 @@ reply_lines names NoRow = codes "none" ∷ []
 reply_lines names (Rows rows) = map row_text rows ++ count_text (length rows) ∷ []
 reply_lines names (Moment now) = moment now ∷ []
 reply_lines names (QueueInfo queue) = queue_text queue ∷ []
+reply_lines names (BatchInfo batch) = batch_text batch ∷ []
+reply_lines names (ConsumerInfo consumer) = consumer_text consumer ∷ []
 reply_lines names (Refused refusal) = (codes "error " ++ refusal_text names refusal) ∷ []
 
--- a line of an answer, behind its session's name
+-- a line of an answer, after its session's name
 abbrev pub line_text : List ℕ → List ℕ → List ℕ
 line_text name line = name ++ codes ": " ++ line ++ 10 ∷ []
 
@@ -169,11 +187,11 @@ line_text name line = name ++ codes ": " ++ line ++ 10 ∷ []
 abbrev pub reply_text : List (List ℕ) → List ℕ → Reply → List ℕ
 reply_text names name reply = flat_map (line_text name) (reply_lines names reply)
 
--- answers, each behind the name of its session
+-- answers, each after the name of its session
 abbrev pub printed : List (List ℕ) → List (ℕ × Reply) → List ℕ
 printed names replies = flat_map (λ answer. reply_text names (name_at names answer.0) answer.1) replies
 
--- the sessions that an answer speaks of
+-- the sessions that an answer names
 abbrev pub sessions_in : Reply → List ℕ
 sessions_in (Waits holder) = holder ∷ []
 sessions_in (Refused (Deadlock waiters)) = waiters
@@ -183,7 +201,7 @@ sessions_in _ = []
 abbrev pub HaveNames : List (List ℕ) → List (ℕ × Reply) → Type 0
 HaveNames names replies = All (λ answer. answer.0 < length names) replies
 
--- and speaks of none that has none
+-- and names no session that has none
 abbrev pub AllNamed : List (List ℕ) → List (ℕ × Reply) → Type 0
 AllNamed names replies = All (λ answer. (answer.0 < length names) × All (λ who. who < length names) (sessions_in answer.1)) replies
 

@@ -1,5 +1,5 @@
 -- Queues: their names, settings, sequences, events and ticks.
-use Rattle.std.specs.Prelude.{ℕ, ◌+◌, ℤ, List, [], ◌∷◌, ◌++◌, not, Option, Some, None, ◌==◌, ◌&&◌, filter, find, option_map, if◌then◌else◌}
+use Rattle.std.specs.Prelude.{ℕ, ◌+◌, ℤ, List, [], ◌∷◌, ◌++◌, not, Option, Some, None, ◌==◌, ◌&&◌, filter, find, option_map, unwrap_or, if◌then◌else◌}
 use Rattle.sky_val.specs.declared.event.Event.{Event}
 use Rattle.sky_txid.specs.Snapshot.{SnapshotView}
 use Rattle.sky_names.specs.Places.{named}
@@ -18,7 +18,7 @@ queues_made [] = 0
 queues_made (queued (made name) ∷ h) = queues_made h + 1
 queues_made (_ ∷ h) = queues_made h
 
--- the others among some queues
+-- the other queues among some
 abbrev pub others_than : ℕ → List NamedQueue → List NamedQueue
 others_than queue queues = filter (λ q. not (q.number == queue)) queues
 
@@ -33,7 +33,11 @@ queues (_ ∷ h) = queues h
 abbrev pub queue_number : List ℕ → List NamedQueue → Option ℕ
 queue_number name queues = option_map NamedQueue.number (named NamedQueue.name name queues)
 
--- how a queue is set
+-- the name of the queue of a number, empty if that queue doesn't stand
+abbrev pub queue_name : ℕ → List NamedQueue → List ℕ
+queue_name number queues = unwrap_or (option_map NamedQueue.name (find (λ q. q.number == number) queues)) []
+
+-- the settings of a queue
 abbrev pub config : ℕ → History → Config
 config queue [] = default_config
 config queue (queued (configured q c) ∷ h) = if q == queue then c else config queue h
@@ -47,7 +51,7 @@ sequence queue (queued (dropped q) ∷ h) = if q == queue then 0 else sequence q
 sequence queue (queued (raised q value) ∷ h) = if q == queue then value else sequence queue h
 sequence queue (_ ∷ h) = sequence queue h
 
--- the events that ever were stored in a queue, in the order of storing
+-- the events that were ever stored in a queue, in the order of storing
 abbrev pub events : ℕ → History → List Event
 events queue [] = []
 events queue (queued (put q event) ∷ h) = if q == queue then events queue h ++ event ∷ [] else events queue h
@@ -67,7 +71,7 @@ pub record Tick : Type 0 where
   pub snapshot : SnapshotView
   pub seq : ℕ
 
--- the ticks that ever were made of a queue, in the order of making, each with the snapshot at its place
+-- the ticks that were ever made of a queue, in the order of making, each with the snapshot at its place
 abbrev pub ticks : ℕ → History → List Tick
 ticks queue [] = []
 ticks queue (queued (ticked q id time seq) ∷ h) =
@@ -90,13 +94,18 @@ kept_ticks queue (_ ∷ h) = kept_ticks queue h
 abbrev pub tick : ℕ → List Tick → Option Tick
 tick id ts = find (λ t. t.id == id) ts
 
+-- the value of the sequence when a tick was made, 0 if there is none
+abbrev pub seq_at : Option Tick → ℕ
+seq_at None = 0
+seq_at (Some t) = t.seq
+
 -- the newest tick
 abbrev pub newest_tick : List Tick → Option Tick
 newest_tick [] = None
 newest_tick (t ∷ []) = Some t
 newest_tick (t ∷ u ∷ ts) = newest_tick (u ∷ ts)
 
--- the history as it was when a tick was made; the empty one where it isn't made
+-- the history as it was when a tick was made; the empty one if it isn't made
 abbrev pub at_tick : ℕ → ℕ → History → History
 at_tick queue tick [] = []
 at_tick queue tick (queued (ticked q id time seq) ∷ h) = if q == queue && id == tick then h else at_tick queue tick h

@@ -1,4 +1,4 @@
--- What is read at a place, and what is done there.
+-- How a place is read, and what is done there.
 use Rattle.std.specs.Prelude.{ℕ, ℤ, List, [], ◌∷◌, ◌++◌, Option, option_map}
 use Rattle.sky_val.specs.declared.event.Event.{Event}
 use Rattle.sky_model.specs.declared.reply.Reply.{Reply}
@@ -14,7 +14,7 @@ use Rattle.sky_model.specs.Outcome.{Outcome, Checked}
 use Rattle.sky_model.specs.Telling.{tells}
 use Rattle.sky_model.specs.World.{World, world_of, after_facts, history_in, on_top}
 
--- what a database shows a statement beside what it keeps: the events of the active batch of an id, and the rows of its tables
+-- what a database shows a statement besides what it keeps: the events of the active batch of an id, and the rows of its tables
 pub record Shown : Type 0 where
   pub events : ℕ → Option (List Event)
   pub rows : RowsShown
@@ -27,15 +27,15 @@ shown_in h = record { events = λ id. option_map (batch_events h) (active_batch 
 abbrev pub shown_by : Database → Shown
 shown_by d = record { events = λ id. option_map (selected d) (d.batch id); rows = rows_by d.part }
 
--- how a place is read by a statement on rows: the row part there, what its tables show there, what becomes there of what a
--- statement would do once its writes are told of, and the place behind a mark
+-- how a statement on rows reads a place: the row part there, what its tables show there, what a statement does there once its writes are recorded,
+-- and the place after a mark
 pub record PartReader (P : Type 0) : Type 0 where
   pub part : P → RowPart
   pub rows : P → RowsShown
   pub tells : P → Checked Outcome → Checked Outcome
   pub behind : P → Mark → P
 
--- nobody is told of writes
+-- nothing records the writes
 abbrev pub silent : {P : Type 0} → P → Checked Outcome → Checked Outcome
 silent p checked = checked
 
@@ -58,11 +58,11 @@ database_by_history = record { database = database_of; shown = shown_in; behind 
 abbrev pub database_by_itself : DatabaseReader Database
 database_by_itself = record { database = λ d. d; shown = shown_by; behind = after_mark }
 
--- the row part of a database, whose writes are told of at this time
+-- the row part of a database, whose writes are recorded at this time
 abbrev pub within_part : {P : Type 0} → DatabaseReader P → ℤ → PartReader P
 within_part r now = record { part = λ p. (r.database p).part; rows = λ p. (r.shown p).rows; tells = λ p checked. tells (r.database p) now checked; behind = r.behind }
 
--- and of the world: the world there, what each database shows there, and the place behind what happens
+-- and of the world: the world there, what each database shows there, and the place after what happens
 pub record Reader (P : Type 0) : Type 0 where
   pub world : P → World
   pub shown : P → ℕ → Shown
@@ -84,7 +84,7 @@ by_past = record { world = world_of; shown = λ past d. shown_in (history_in pas
 abbrev pub by_world : Reader World
 by_world = record { world = λ w. w; shown = λ w d. shown_by (w.database d); behind = after_facts }
 
--- answers, each with its session, and what happened, the first fact first
+-- answers, each with its session, and what happened, in order
 pub record Deed : Type 0 where
   pub answers : List (ℕ × Reply)
   pub facts : List Fact
@@ -97,11 +97,11 @@ answers_with who reply facts = record { answers = (who, reply) ∷ []; facts = f
 abbrev pub refuses : ℕ → Refusal → Deed
 refuses who refusal = answers_with who (Refused refusal) []
 
--- a session appears, which nothing answers
+-- a session appears, without an answer
 abbrev pub appears : List ℕ → Deed
 appears name = record { answers = []; facts = appeared name ∷ [] }
 
--- a database is made, which nothing answers
+-- a database is made, without an answer
 abbrev pub founds : List ℕ → Deed
 founds name = record { answers = []; facts = founded name ∷ [] }
 
@@ -109,10 +109,10 @@ founds name = record { answers = []; facts = founded name ∷ [] }
 abbrev pub idles : Deed
 idles = record { answers = []; facts = [] }
 
--- a deed behind another
+-- a deed after another
 abbrev pub joined : Deed → Deed → Deed
 joined deed rest = record { answers = deed.answers ++ rest.answers; facts = deed.facts ++ rest.facts }
 
--- a deed, and then what is done at the place behind it
+-- a deed, and then what is done at the place after it
 abbrev pub followed : {P : Type 0} → Reader P → P → (P → Deed) → Deed → Deed
 followed r p rest deed = joined deed (rest (r.behind p deed.facts))

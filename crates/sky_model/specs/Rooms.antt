@@ -2,11 +2,11 @@
 use Rattle.std.specs.Prelude.{ℕ, Bool, true, List, [], ◌∷◌, ◌++◌}
 use Rattle.sky_model.specs.Gates.{RowWrite, Gate}
 
--- whether there is room for a write after those that the call has made, each with its transaction, the first one first
+-- whether there is room for a write after those that the call has made, each with its transaction, in order
 abbrev pub Room : Type 0
 Room = List (ℕ × RowWrite) → RowWrite → Bool
 
--- for any
+-- for any write
 abbrev pub any_room : Room
 any_room made write = true
 

@@ -10,23 +10,28 @@ use Rattle.sky_model.specs.Rooms.{Room, room_gate}
 use Rattle.sky_model.specs.Settling.{Turn, marked, settling, with_settling}
 use Rattle.sky_model.specs.Calls.{row_turn}
 use Rattle.sky_model.specs.SessionMarks.{entry_place, entry, failing, taking, ending}
+use Rattle.sky_model.specs.WorkerMarks.{beginning, ending_work}
 use Rattle.sky_model.specs.Promises.{Part}
 
 pub data RowCall : Type 0 where
   -- a session made a statement, and there was this room for writes
   row_stepped : (room : Room) (who : ℕ) (stmt : RowStmt) → RowCall
-  -- something is to be done in a session's name, which may stand outside blocks alone, or in one too
+  -- something is to be done in a session's name, which is allowed only outside blocks, or inside too
   row_entered : (who : ℕ) (outside : Bool) → RowCall
   -- it failed
   row_failed : (room : Room) (who : ℕ) → RowCall
-  -- those that may go on were run
+  -- the statements that were ready to resume were run
   row_settled : (room : Room) → RowCall
   -- a session's transaction got its id
   txid_taken : (who : ℕ) → RowCall
   -- it ended with its only statement
   single_ended : (who : ℕ) → RowCall
-  -- a session's block was rolled back, and nobody was run whom this lets go on
+  -- a session's block was rolled back, and nothing that this unblocks was run
   rolled_back : (who : ℕ) → RowCall
+  -- a worker's transaction began, if an id was left
+  worker_begun : RowCall
+  -- a worker's transaction ended
+  worker_ended : (t : ℕ) (committed : Bool) → RowCall
 
 -- its statement is in form
 abbrev pub IsRowCallInForm : RowCall → Type 0
@@ -37,6 +42,8 @@ IsRowCallInForm (row_settled room) = ⊤
 IsRowCallInForm (txid_taken who) = ⊤
 IsRowCallInForm (single_ended who) = ⊤
 IsRowCallInForm (rolled_back who) = ⊤
+IsRowCallInForm worker_begun = ⊤
+IsRowCallInForm (worker_ended t committed) = ⊤
 
 -- what a call does at a place
 abbrev pub row_does : {P : Type 0} → PartReader P → P → RowCall → Turn
@@ -47,6 +54,8 @@ row_does r p (row_settled room) = settling (by_gate (room_gate room) r) (p, [])
 row_does r p (txid_taken who) = taking (r.part p) who
 row_does r p (single_ended who) = ending (r.part p) who
 row_does r p (rolled_back who) = failing (r.part p) who
+row_does r p worker_begun = beginning (r.part p)
+row_does r p (worker_ended t committed) = ending_work (r.part p) t committed
 
 -- a row part, as its calls change it
 abbrev pub row_part : Part RowCall History RowPart Turn

@@ -1,5 +1,4 @@
--- Tables, and their rows at a place: what the transactions that have committed there wrote, one after the other
--- in the order of their commits.
+-- Tables, and their rows at a place: what the transactions that have committed there wrote, one after another in the order of their commits.
 use Rattle.std.specs.Prelude.{ℕ, List, [], ◌∷◌, ◌++◌, Bool, true, false, not, ◌&&◌, ◌||◌, ◌==◌, Option, Some, None, length, filter, if◌then◌else◌}
 use Rattle.std.specs.List.{list_any}
 use Rattle.std.specs.Ordering.{eq_by_cmp}
@@ -49,7 +48,7 @@ wrote_in table t (tabled (wrote who u n key old new) ∷ h) = (n == table && u =
 wrote_in table t (ended who u committed ∷ h) = not (u == t) && wrote_in table t h
 wrote_in table t (_ ∷ h) = wrote_in table t h
 
--- rows without the one of a key
+-- rows without the row of a key
 abbrev pub removed : List Val → Entries (List Val) → Entries (List Val)
 removed key rows = filter (λ e. not (eq_by_cmp key_cmp key e.0)) rows
 
@@ -58,12 +57,12 @@ abbrev pub put : List Val → Option (List Val) → Entries (List Val) → Entri
 put key None rows = removed key rows
 put key (Some row) rows = entries.put key row rows
 
--- rows after writes, the first one first
+-- rows after writes, one after another
 abbrev pub put_all : List Write → Entries (List Val) → Entries (List Val)
 put_all [] rows = rows
 put_all (w ∷ ws) rows = put_all ws (put w.key w.row rows)
 
--- rows after what each transaction wrote, in turn
+-- rows after what each transaction wrote, one after another
 abbrev pub in_turn : (ℕ → List Write) → List ℕ → Entries (List Val) → Entries (List Val)
 in_turn writes_of [] rows = rows
 in_turn writes_of (t ∷ ts) rows = in_turn writes_of ts (put_all (writes_of t) rows)
@@ -81,15 +80,15 @@ own_writes table (Some t) h = writes table t h
 abbrev pub rows_with_own : ℕ → Option ℕ → History → History → Entries (List Val)
 rows_with_own table own h place = put_all (own_writes table own h) (rows table place)
 
--- the rows that a session is shown: those at its sight, its own on top
+-- the rows that a session is shown: those at its sight, with its own writes on top
 abbrev pub rows_shown : ℕ → ℕ → History → Entries (List Val)
 rows_shown who table h = rows_with_own table (own_txid who h) h (place_of_sight h (sight who h))
 
--- the rows that stand for a session: those of now, its own on top
+-- the rows that a session's writes meet: the present ones, with its own writes on top
 abbrev pub rows_standing : ℕ → ℕ → History → Entries (List Val)
 rows_standing who table h = rows_with_own table (own_txid who h) h h
 
--- whether writes have a key among theirs
+-- whether writes include one of a key
 abbrev pub has_written : List Val → List Write → Bool
 has_written key ws = list_any (λ w. eq_by_cmp key_cmp key w.key) ws
 
@@ -103,8 +102,7 @@ abbrev pub unless : (ℕ → Bool) → Option ℕ → Option ℕ
 unless p None = None
 unless p (Some t) = if p t then None else Some t
 
--- the transaction of the newest committed write of a key, where it hadn't committed at the sight and the own
--- transaction hasn't written the key
+-- the transaction of the newest committed write of a key, if it hadn't committed at the sight and the own transaction hasn't written the key
 abbrev pub unseen_writer : ℕ → List Val → Option ℕ → History → History → Option ℕ
 unseen_writer table key own place h =
     if has_written key (own_writes table own h) then None

@@ -4,25 +4,25 @@ use Rattle.sky_val.specs.declared.event.Event.{Event}
 use Rattle.sky_txid.specs.Snapshot.{SnapshotView, snapshot_of, sees}
 use Rattle.sky_model.specs.History.{Batch}
 use Rattle.sky_model.specs.Queues.{Tick, tick}
-use Rattle.sky_model.specs.Batches.{is_for}
+use Rattle.sky_model.specs.Batches.{is_for, by_id}
 use Rattle.sky_model.specs.State.{Queue, Database}
 
--- the snapshot of a tick; without one it is that before anything happened
+-- the snapshot of a tick; without a tick, the one before anything happened
 abbrev pub snapshot_at : Option Tick → SnapshotView
 snapshot_at None = snapshot_of 3 []
 snapshot_at (Some t) = t.snapshot
 
--- an event is one of those between two ticks, for a subscription, and wasn't rolled back
+-- whether an event is between two ticks, for a subscription, and wasn't rolled back
 abbrev pub is_selected : (ℕ → Bool) → SnapshotView → SnapshotView → ℕ → Event → Bool
 is_selected undone from to sub e = sees to e.ev_txid && not (sees from e.ev_txid) && not (undone e.ev_txid) && is_for sub e.ev_owner
 
--- of events, those whose transaction the closing tick's snapshot sees and the opening one's doesn't
+-- the events whose transaction the closing tick's snapshot sees and the opening one's doesn't
 abbrev pub selected_of : (ℕ → Bool) → List Tick → List Event → Batch → List Event
 selected_of undone ticks events b = filter (is_selected undone (snapshot_at (tick b.prev ticks)) (snapshot_at (tick b.cur ticks)) b.sub) events
 
--- of those that a queue keeps
+-- of those that a queue keeps, by id
 abbrev pub selected_in : (ℕ → Bool) → Queue → Batch → List Event
-selected_in undone q b = selected_of undone q.tick_list q.stored b
+selected_in undone q b = by_id (selected_of undone q.tick_list q.stored b)
 
 abbrev pub selected : Database → Batch → List Event
 selected d b = selected_in d.undone (d.queue b.queue) b

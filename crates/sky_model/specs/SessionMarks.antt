@@ -1,4 +1,4 @@
--- What calls do in a session's name that are no statements.
+-- What calls that aren't statements do in a session's name.
 use Rattle.std.specs.Prelude.{◌≡◌, ℕ, Bool, true, false, List, [], ◌∷◌, ◌++◌, Option, Some, None, Ok, Err, if◌then◌else◌}
 use Rattle.sky_keys.specs.Waits.{is_waiting}
 use Rattle.sky_model.specs.declared.reply.Reply.TheVariants.{Number, Refused}
@@ -33,12 +33,12 @@ abbrev pub failure : ℕ → Option ℕ → Block → List Mark
 failure who txid inside = end_of false who txid ++ block_failed who ∷ []
 failure who txid _ = []
 
--- a statement may be made, and has taken its session's sight if it is to, or it is refused
+-- a statement is allowed, and has taken its session's sight if it is to, or it is refused
 abbrev pub Enters : RowPart → RowPart → ℕ → Where → Option Refusal → Type 0
 Enters old new who place (Some refusal) = (allowed (is_waiting who old.waiting) (old.session who).is_open (old.session who).block place ≡ Err refusal) × (new ≡ old)
 Enters old new who place None = (allowed (is_waiting who old.waiting) (old.session who).is_open (old.session who).block place ≡ Ok tt) × (new ≡ after_part_marks old (sight_marks old who place))
 
--- where what is done in a session's name may stand: outside a block, or wherever a statement may that reads
+-- where what is done in a session's name is allowed: outside a block, or wherever a statement that reads is
 abbrev pub entry_place : Bool → Where
 entry_place alone = if alone then WhenOutside else WhenReading
 

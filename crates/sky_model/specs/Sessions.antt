@@ -11,7 +11,7 @@ has_open who (connected w ∷ h) = if w == who then true else has_open who h
 has_open who (disconnected w ∷ h) = if w == who then false else has_open who h
 has_open who (_ ∷ h) = has_open who h
 
--- where a session stands: in no transaction block, in one, or in one that a refusal has aborted
+-- a session's transaction block: it is in none, in one, or in one that a refusal has aborted
 pub data Block : Type 0 where
   outside : Block
   inside : Block
@@ -24,15 +24,14 @@ block who (block_failed w ∷ h) = if w == who then failed else block who h
 block who (block_ended w ∷ h) = if w == who then outside else block who h
 block who (_ ∷ h) = block who h
 
--- the id of a session's running transaction, if it has got one
+-- the id of a session's running transaction, if it has one
 abbrev pub own_txid : ℕ → History → Option ℕ
 own_txid who [] = None
 own_txid who (began (of_session w) t ∷ h) = if w == who then Some t else own_txid who h
 own_txid who (ended (of_session w) t committed ∷ h) = if w == who then None else own_txid who h
 own_txid who (_ ∷ h) = own_txid who h
 
--- where a session's statements read: each at its own place; all at that of the first one, which is still
--- to come; or at this one
+-- where a session's statements read: each at its own place; all at that of the first one, which is still to come; or at this one
 pub data Sight (P : Type 0) : Type 0 where
   at_each : Sight P
   at_first : Sight P
@@ -58,7 +57,7 @@ abbrev pub place_of_sight : {P : Type 0} → P → Sight P → P
 place_of_sight own (at_place p) = p
 place_of_sight own _ = own
 
--- a session: its sight goes by the snapshot there
+-- a session: its sight is given by the snapshot there
 pub record Session : Type 0 where
   pub is_open : Bool
   pub block : Block

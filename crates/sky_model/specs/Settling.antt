@@ -1,5 +1,4 @@
--- What a statement lets go on: those that wait for a key that is free now are run, each at the place behind the one
--- before, until none is ready.
+-- What a statement unblocks: those that wait for a key that is free now are run, each at the place after the one before, until none is ready.
 use Rattle.std.specs.Prelude.{ℕ, suc, zero, List, [], ◌∷◌, ◌++◌, Option, Some, None, length}
 use Rattle.sky_keys.specs.Waits as waits
 use Rattle.sky_keys.specs.Waits.{Waiting}
@@ -11,7 +10,7 @@ use Rattle.sky_model.specs.Outcome.{Outcome, settled}
 use Rattle.sky_model.specs.StepRows.{attempts}
 use Rattle.sky_model.specs.Reader.{PartReader, part_by_history}
 
--- what is done in a database, one statement after the other: the answers, each with its session, and the marks
+-- what is done in a database, one statement after another: the answers, each with its session, and the marks
 pub record Turn : Type 0 where
   pub answers : List (ℕ × Reply)
   pub marks : List Mark
@@ -24,20 +23,20 @@ turn_of who outcome = record { answers = (who, outcome.reply) ∷ []; marks = ou
 abbrev pub rests : Turn
 rests = record { answers = []; marks = [] }
 
--- the place behind marks, the first one first
+-- the place after marks, in order
 abbrev pub behind_marks : {P : Type 0} → PartReader P → P → List Mark → P
 behind_marks r p [] = p
 behind_marks r p (mark ∷ marks) = behind_marks r (r.behind p mark) marks
 
--- marks on top of a history, the first one first
+-- marks on top of a history, in order
 abbrev pub marked : History → List Mark → History
 marked h marks = behind_marks part_by_history h marks
 
--- a turn behind another
+-- a turn after another
 abbrev pub joined : Turn → Turn → Turn
 joined turn rest = record { answers = turn.answers ++ rest.answers; marks = turn.marks ++ rest.marks }
 
--- a turn, and then what is done at the place behind it
+-- a turn, and then what is done at the place after it
 abbrev pub and_then : {P : Type 0} → PartReader P → P → Turn → (P → Turn) → Turn
 and_then r p turn rest = joined turn (rest (behind_marks r p turn.marks))
 
@@ -45,7 +44,7 @@ and_then r p turn rest = joined turn (rest (behind_marks r p turn.marks))
 abbrev pub ready : RowPart → Option Waiting
 ready d = waits.ready d.holder d.waiting
 
--- what a waiting statement does at a place at which it may go on
+-- what a waiting statement does at a place at which it resumes
 abbrev pub attempted : {P : Type 0} → PartReader P → Waiting → Attempt → P → Outcome
 attempted r w attempt p = settled w.who ((r.part p).session w.who) (r.tells p (attempts (r.part p) ((r.rows p).key w.who w.table w.key) w.who w.table w.key attempt))
 
@@ -60,15 +59,15 @@ abbrev pub goes_on : {P : Type 0} → PartReader P → P → (P → Turn) → Op
 goes_on r p rest None = rests
 goes_on r p rest (Some w) = and_then r p (resumed r p w) rest
 
--- those that are ready, one after the other, so many at most
+-- those that are ready, one after another, at most so many
 abbrev pub settles : {P : Type 0} → PartReader P → ℕ → P → Turn
 settles r zero p = rests
 settles r (suc n) p = goes_on r p (settles r n) (ready (r.part p))
 
--- all that are ready: no more than wait, since one that is run doesn't wait again
+-- all that are ready: at most as many as wait, since one that is run doesn't wait again
 abbrev pub settling : {P : Type 0} → PartReader P → P → Turn
 settling r p = settles r (length (r.part p).waiting) p
 
--- a turn, and then those that it lets go on
+-- a turn, and then those that it unblocks
 abbrev pub with_settling : {P : Type 0} → PartReader P → P → Turn → Turn
 with_settling r p turn = and_then r p turn (settling r)

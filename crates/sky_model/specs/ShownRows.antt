@@ -1,4 +1,4 @@
--- What the tables of a database show a statement: by the history, and by the versions that are kept.
+-- What the tables of a database show a statement: by the history, and by the kept versions.
 use Rattle.std.specs.Prelude.{ℕ, List, Option, None, option_map, is_some, find, if◌then◌else◌}
 use Rattle.sky_val.specs.declared.val.Val.{Val}
 use Rattle.sky_val.specs.Entries.{Entries, at}
@@ -16,7 +16,7 @@ pub record KeyShown : Type 0 where
   pub row : Option (List Val)
   -- its row now, or as the own transaction left it
   pub standing : Option (List Val)
-  -- the transaction of its newest committed write, where the sight doesn't have that and the own one hasn't written it
+  -- the transaction of its newest committed write, if the sight doesn't have that write and the own transaction hasn't written the key
   pub unseen : Option ℕ
 
 -- what the tables show each session
@@ -35,7 +35,7 @@ rows_in h = record {
   rows = λ who table. rows_shown who table h;
 }
 
--- the snapshot of now, and that of a session's sight
+-- the present snapshot, and that of a session's sight
 abbrev pub snapshot_now : RowPart → SnapshotView
 snapshot_now d = snapshot_of d.next d.running_ids
 
@@ -56,7 +56,7 @@ key_by d s vs = record {
   unseen = unseen_in d s vs;
 }
 
--- by the versions that are kept
+-- by the kept versions
 abbrev pub rows_by : RowPart → RowsShown
 rows_by d = record {
   key = λ who table key. key_by d (d.session who) (versions_at key (d.versions table));

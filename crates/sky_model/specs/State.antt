@@ -1,5 +1,4 @@
--- What a database shows at a place: all that a statement reads of it, each part by its definition. The
--- code keeps these, and a mark changes them.
+-- What a database shows at a place: all that a statement reads of it, each part by its definition. The code keeps these, and a mark changes them.
 use Rattle.std.specs.Prelude.{ℕ, ◌+◌, List, [], ◌∷◌, ◌++◌, Bool, true, false, not, ◌&&◌, ◌||◌, Option, Some, None, ◌==◌, bytes_eq, filter, length, option_map, if◌then◌else◌}
 use Rattle.sky_val.specs.declared.event.Event.{Event}
 use Rattle.sky_val.specs.declared.column.Column.{Column}
@@ -10,8 +9,8 @@ use Rattle.sky_txid.specs.Snapshot.{SnapshotView, snapshot_of}
 use Rattle.sky_keys.specs.Versions.{written, forgotten}
 use Rattle.sky_model.specs.declared.stmt.Attempt.{Attempt}
 use Rattle.sky_model.specs.declared.stmt.Attempt.TheVariants.{Deletion}
-use Rattle.sky_model.specs.History.{Batch, Mark, Whose, of_session, of_worker, began, ended, block_begun, repeats, looked, block_failed, block_ended, connected, disconnected, tabled, TableMark, table_made, wrote, waits, waited, queued, QueueMark, made, raised, put, ticked, registered, moved, unregistered, opened, closed, configured, dropped, traced, History}
-use Rattle.sky_model.specs.Transactions.{next_txid, running, has_rolled_back}
+use Rattle.sky_model.specs.History.{Batch, Mark, Whose, of_session, of_worker, began, ended, block_begun, repeats, looked, block_failed, block_ended, connected, disconnected, tabled, TableMark, table_made, wrote, waits, waited, queued, QueueMark, made, raised, put, ticked, registered, moved, unregistered, opened, closed, asked, returned, configured, dropped, traced, History}
+use Rattle.sky_model.specs.Transactions.{next_txid, running, workers, has_rolled_back}
 use Rattle.sky_model.specs.Sessions.{Block, inside, failed, outside, Sight, at_each, at_first, at_place, Session, session}
 use Rattle.sky_model.specs.Config.{Config, default_config}
 use Rattle.sky_model.specs.Rows.{table_names, columns_of, wrote_in}
@@ -19,6 +18,9 @@ use Rattle.sky_model.specs.Versions.{versions}
 use Rattle.sky_model.specs.Locks.{holder, waiting, attempt}
 use Rattle.sky_model.specs.Triggers.{TableTrigger, triggers}
 use Rattle.sky_model.specs.Queues.{NamedQueue, queues_made, queues, others_than, config, sequence, stored, Tick, kept_ticks}
+use Rattle.pgq_retry.specs.declared.retry.Retry.{Retry}
+use Rattle.pgq_retry.specs.Retries.{without as without_retry, without_sub}
+use Rattle.sky_model.specs.Retries.{retries}
 use Rattle.sky_model.specs.Consumers.{all_but, consumers, Subscription, subscription, last_subscription, last_batch, of_another, active_batch}
 
 -- a queue, as a statement reads it
@@ -34,6 +36,7 @@ pub record Queue : Type 0 where
 pub record RowPart : Type 0 where
   pub next : ℕ
   pub running_ids : List ℕ
+  pub workers : List ℕ
   pub session : ℕ → Session
   pub tables : List (List ℕ)
   pub columns : ℕ → List Column
@@ -54,6 +57,7 @@ pub record Database : Type 0 where
   pub queue : ℕ → Queue
   pub batch : ℕ → Option Batch
   pub triggers : List TableTrigger
+  pub retries : List Retry
 
 abbrev pub queue_of : History → ℕ → Queue
 queue_of h q = record {
@@ -69,6 +73,7 @@ abbrev pub part_of : History → RowPart
 part_of h = record {
   next = next_txid h;
   running_ids = running h;
+  workers = workers h;
   session = session h;
   tables = table_names h;
   columns = λ n. columns_of n h;
@@ -90,13 +95,14 @@ database_of h = record {
   queue = queue_of h;
   batch = λ id. active_batch id h;
   triggers = triggers h;
+  retries = retries h;
 }
 
--- the same function but at a number
+-- the same function except at a number
 abbrev pub changed_at : {A : Type 0} → ℕ → (A → A) → (ℕ → A) → ℕ → A
 changed_at k f g n = if k == n then f (g n) else g n
 
--- the same function but at a name
+-- the same function except at a name
 abbrev pub changed_for : {A : Type 0} → List ℕ → (A → A) → (List ℕ → A) → List ℕ → A
 changed_for name f g n = if bytes_eq n name then f (g n) else g n
 
@@ -104,7 +110,7 @@ changed_for name f g n = if bytes_eq n name then f (g n) else g n
 abbrev pub with_batch : ℕ → Subscription → Subscription
 with_batch batch s = record s { active = Some batch }
 
--- a subscription that has finished its batch or given it up, and stands at this tick
+-- a subscription that has finished its batch or given it up, with this tick as its position
 abbrev pub at_position : ℕ → Subscription → Subscription
 at_position tick s = record s { position = tick; active = None }
 
@@ -138,7 +144,8 @@ after_queue_mark d (moved q name tick) = record d {
     sub = changed_for name (option_map (at_position tick)) x.sub;
   }) d.queue;
 }
-after_queue_mark d (unregistered q name) = record d {
+after_queue_mark d (unregistered q name sub) = record d {
+  retries = without_sub sub d.retries;
   batch = λ id. of_another q name (d.batch id);
   queue = changed_at q (λ x. record x {
     members = all_but name x.members;
@@ -158,6 +165,8 @@ after_queue_mark d (closed b) = record d {
     sub = changed_for b.consumer (option_map (at_position b.cur)) x.sub;
   }) d.queue;
 }
+after_queue_mark d (asked retry) = record d { retries = d.retries ++ retry ∷ [] }
+after_queue_mark d (returned retry moment) = record d { retries = without_retry retry.sub retry.event.ev_id d.retries }
 after_queue_mark d (configured q config) = record d { queue = changed_at q (λ x. record x { config = config }) d.queue }
 after_queue_mark d (dropped q) = record d { queues = others_than q d.queues; queue = changed_at q emptied d.queue }
 after_queue_mark d (traced table name trigger) = record d {
@@ -186,6 +195,11 @@ abbrev pub by_session : {A : Type 0} → Whose → (ℕ → A → A) → A → A
 by_session (of_session who) f a = f who a
 by_session of_worker f a = a
 
+-- and what one of a worker's does
+abbrev pub by_worker : {A : Type 0} → Whose → (A → A) → A → A
+by_worker (of_session who) f a = a
+by_worker of_worker f a = f a
+
 -- tables after something happened to them
 abbrev pub after_table_mark : RowPart → TableMark → RowPart
 after_table_mark d (table_made name columns) = record d {
@@ -208,16 +222,19 @@ abbrev pub after_part : RowPart → Mark → RowPart
 after_part d (began whose t) = record d {
   next = d.next + 1;
   running_ids = d.running_ids ++ t ∷ [];
+  workers = by_worker whose (λ ts. ts ++ t ∷ []) d.workers;
   session = by_session whose (λ who. changed_at who (with_txid (Some t))) d.session;
 }
 after_part d (ended whose t true) = record d {
   running_ids = filter (λ u. not (u == t)) d.running_ids;
+  workers = by_worker whose (λ ts. filter (λ u. not (u == t)) ts) d.workers;
   session = by_session whose (λ who. changed_at who (with_txid None)) d.session;
   wrote_in = λ n u. not (t == u) && d.wrote_in n u;
   holder = by_session whose released d.holder;
 }
 after_part d (ended whose t false) = record d {
   running_ids = filter (λ u. not (u == t)) d.running_ids;
+  workers = by_worker whose (λ ts. filter (λ u. not (u == t)) ts) d.workers;
   session = by_session whose (λ who. changed_at who (with_txid None)) d.session;
   versions = λ n. forgotten t (d.versions n);
   wrote_in = λ n u. not (t == u) && d.wrote_in n u;

@@ -1,13 +1,16 @@
--- What the statements on consumers and batches do. Each reads the database `d` as it stands.
-use Rattle.std.specs.Prelude.{ℕ, ◌+◌, ◌^◌, List, [], ◌∷◌, Bool, ◌==◌, Option, Some, None, nat_le, is_some, length, if◌then◌else◌}
+-- What the statements on consumers and batches do. Each reads the database `d` as it is.
+use Rattle.std.specs.Prelude.{ℕ, ◌+◌, ◌^◌, List, [], ◌∷◌, Bool, ◌==◌, ◌||◌, Option, Some, None, nat_lt, nat_le, is_some, length, if◌then◌else◌}
 use Rattle.std.specs.List.{list_any}
 use Rattle.sky_val.specs.declared.event.Event.{Event}
-use Rattle.sky_model.specs.declared.reply.Reply.TheVariants.{Number, Null, Events}
+use Rattle.pgq_retry.specs.Retries.{count_of}
+use Rattle.sky_model.specs.declared.reply.BatchInfo as shown_batch
+use Rattle.sky_model.specs.declared.reply.ConsumerInfo as shown_consumer
+use Rattle.sky_model.specs.declared.reply.Reply.TheVariants.{Number, Null, Events, BatchInfo, ConsumerInfo}
 use Rattle.sky_model.specs.declared.reply.Limit.TheVariants.{Consumers}
-use Rattle.sky_model.specs.declared.reply.Refusal.TheVariants.{NoBatch, NoConsumer, NodeConsumer, TooMany, IdsSpent}
+use Rattle.sky_model.specs.declared.reply.Refusal.TheVariants.{NoBatch, NoConsumer, NodeConsumer, NoTick, TooMany, IdsSpent}
 use Rattle.sky_model.specs.Limits.{most_of}
-use Rattle.sky_model.specs.History.{Batch, queued, registered, opened, closed}
-use Rattle.sky_model.specs.Queues.{Tick, tick}
+use Rattle.sky_model.specs.History.{Batch, queued, registered, moved, unregistered, opened, closed}
+use Rattle.sky_model.specs.Queues.{queue_name, Tick, tick, seq_at}
 use Rattle.sky_model.specs.Consumers.{Subscription}
 use Rattle.sky_model.specs.State.{Database}
 use Rattle.sky_model.specs.Outcome.{Outcome, Checked, ◌>>=◌, ◌>>◌, refused_if, found_or, answers, does_marks}
@@ -17,17 +20,41 @@ use Rattle.sky_model.specs.StepQueue.{queue_called, newest_id}
 abbrev pub has_dot : List ℕ → Bool
 has_dot name = list_any (λ b. b == 46) name
 
--- `register_consumer NAME CONSUMER`: a subscription that stands at the newest tick
+-- a new consumer: a subscription with the next id, whose position is a tick
+abbrev pub registers : Database → ℕ → List ℕ → ℕ → Checked Outcome
+registers d queue consumer tick = do
+  refused_if (nat_le (most_of Consumers) (length (d.queue queue).members)) (TooMany Consumers)
+  refused_if (nat_le (2 ^ 64) (d.last_sub_id + 1)) IdsSpent
+  does_marks (Number 1) (queued (registered queue consumer (d.last_sub_id + 1) tick) ∷ [])
+
+-- `register_consumer NAME CONSUMER`: a subscription whose position is the newest tick
 abbrev pub register_consumer : Database → List ℕ → List ℕ → Checked Outcome
 register_consumer d name consumer = do
   queue ← queue_called name d
   refused_if (has_dot consumer) NodeConsumer
-  if is_some ((d.queue queue).sub consumer) then answers (Number 0) else (do
-    refused_if (nat_le (most_of Consumers) (length (d.queue queue).members)) (TooMany Consumers)
-    refused_if (nat_le (2 ^ 64) (d.last_sub_id + 1)) IdsSpent
-    does_marks (Number 1) (queued (registered queue consumer (d.last_sub_id + 1) (newest_id (d.queue queue))) ∷ []))
+  if is_some ((d.queue queue).sub consumer) then answers (Number 0) else registers d queue consumer (newest_id (d.queue queue))
 
--- a new batch, from a subscription's position to the tick with the next id, where that is made
+-- `register_consumer_at NAME CONSUMER N`: the same at the tick of this id; one that is registered is moved there
+abbrev pub register_consumer_at : Database → (name consumer : List ℕ) → ℕ → Checked Outcome
+register_consumer_at d name consumer id = do
+  queue ← queue_called name d
+  refused_if (has_dot consumer) NodeConsumer
+  refused_if (id == 0 || nat_lt (newest_id (d.queue queue)) id) (NoTick id (newest_id (d.queue queue)))
+  if is_some ((d.queue queue).sub consumer) then does_marks (Number 0) (queued (moved queue consumer id) ∷ []) else registers d queue consumer id
+
+-- a consumer leaves, if it is registered
+abbrev pub leaves : ℕ → List ℕ → Option Subscription → Checked Outcome
+leaves queue consumer None = answers (Number 0)
+leaves queue consumer (Some sub) = does_marks (Number 1) (queued (unregistered queue consumer sub.id) ∷ [])
+
+-- `unregister_consumer NAME CONSUMER`
+abbrev pub unregister_consumer : Database → (name consumer : List ℕ) → Checked Outcome
+unregister_consumer d name consumer = do
+  queue ← queue_called name d
+  refused_if (has_dot consumer) NodeConsumer
+  leaves queue consumer ((d.queue queue).sub consumer)
+
+-- a new batch, from a subscription's position to the tick with the next id, if that is made
 abbrev pub opens_batch : Database → ℕ → List ℕ → Subscription → Option Tick → Checked Outcome
 opens_batch d queue consumer sub None = answers Null
 opens_batch d queue consumer sub (Some next) = do
@@ -60,6 +87,34 @@ abbrev pub get_batch_events : (ℕ → Option (List Event)) → ℕ → Checked 
 get_batch_events events_of id = do
   events ← found_or (events_of id) NoBatch
   answers (Events events)
+
+-- what is shown of an active batch
+abbrev pub batch_info_of : Database → Batch → shown_batch.BatchInfo
+batch_info_of d b = record {
+  queue = queue_name b.queue d.queues;
+  consumer = b.consumer;
+  prev_tick = b.prev;
+  tick = b.cur;
+  prev_seq = seq_at (tick b.prev (d.queue b.queue).tick_list);
+  seq = seq_at (tick b.cur (d.queue b.queue).tick_list);
+}
+
+-- `get_batch_info N`
+abbrev pub get_batch_info : Database → ℕ → Checked Outcome
+get_batch_info d id = do
+  batch ← found_or (d.batch id) NoBatch
+  answers (BatchInfo (batch_info_of d batch))
+
+-- what is shown of a consumer
+abbrev pub consumer_info_of : Database → Subscription → shown_consumer.ConsumerInfo
+consumer_info_of d sub = record { sub = sub.id; last_tick = sub.position; batch = sub.active; retries = count_of sub.id d.retries }
+
+-- `consumer_info NAME CONSUMER`
+abbrev pub consumer_info : Database → (name consumer : List ℕ) → Checked Outcome
+consumer_info d name consumer = do
+  queue ← queue_called name d
+  sub ← found_or ((d.queue queue).sub consumer) (NoConsumer consumer)
+  answers (ConsumerInfo (consumer_info_of d sub))
 
 -- `finish_batch N`
 abbrev pub finishes : Option Batch → Checked Outcome

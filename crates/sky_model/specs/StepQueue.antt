@@ -1,4 +1,4 @@
--- What the statements on queues do. Each reads the database `d` as it stands.
+-- What the statements on queues do. Each reads the database `d` as it is.
 use Rattle.std.specs.Prelude.{ℕ, ◌+◌, ◌-◌, ◌*◌, ◌^◌, ℤ, pos, ◌-ℤ◌, ◌*ℤ◌, List, [], ◌∷◌, ◌++◌, Bool, true, false, not, ◌&&◌, ◌||◌, Option, Some, None, option_map, unwrap_or, nat_lt, nat_le, ◌==◌, is_some, length, find, int_lt, Ok, if◌then◌else◌}
 use Rattle.std.specs.List.{list_any}
 use Rattle.sky_val.specs.declared.event.Event.{Event}
@@ -37,11 +37,11 @@ least_producer d queue = find (λ t. list_any (λ e. e.ev_txid == t) (d.queue qu
 abbrev pub first_trigger_into : ℕ → List TableTrigger → Option TableTrigger
 first_trigger_into queue triggers = find (λ t. t.trigger.queue == queue) triggers
 
--- a trigger's name, as a refusal shows it: empty where it has none
+-- a trigger's name, as a refusal shows it: empty if it has none
 abbrev pub shown_name : TableTrigger → List ℕ
 shown_name t = unwrap_or t.name []
 
--- `drop_queue NAME`: a queue that nobody needs goes; one that is made anew under the name is another
+-- `drop_queue NAME`: a queue that nobody needs is dropped; one that is made again under the name is another
 abbrev pub drop_queue : Database → List ℕ → Checked Outcome
 drop_queue d name = do
   queue ← queue_called name d
@@ -86,15 +86,15 @@ insert_event d now who name ev_type ev_data extra = do
   does_marks (Number id)
       (written who t (d.part.session who) (queued (raised queue id) ∷ queued (put queue (made_event id now t ev_type ev_data extra)) ∷ []))
 
--- without a new event a tick is due where no other is kept, or the queue has been idle long enough:
--- twice the lag reaches the limit, and the lag twice the time between the last two ticks or the idle period
+-- without new events a tick is due if no other tick is kept, or the queue has been idle long enough: twice the lag reaches the limit, and the lag
+-- reaches twice the time between the last two ticks, or the idle period
 abbrev pub is_idle_due : Config → ℤ → Tick → Option Tick → Bool
 is_idle_due config lag last None = true
 is_idle_due config lag last (Some before) =
     not (int_lt (pos 2 *ℤ lag) config.max_lag
     || (int_lt lag (pos 2 *ℤ (last.time -ℤ before.time)) && int_lt lag config.idle_period))
 
--- with new events a tick is due unless they are few and the last tick isn't long ago
+-- with new events a tick is due unless they are few and the last tick is recent
 abbrev pub is_due_after : Config → ℤ → ℕ → Tick → Option Tick → Bool
 is_due_after config now seq last before =
     if nat_lt last.seq seq
@@ -125,7 +125,7 @@ id_of (Some t) = t.id
 abbrev pub newest_id : Queue → ℕ
 newest_id q = id_of (newest_tick q.tick_list)
 
--- a tick of a queue, where one is due
+-- a tick of a queue, if one is due
 abbrev pub next_tick : Database → ℤ → ℕ → Checked Outcome
 next_tick d now queue =
     if is_due now (d.queue queue)
@@ -158,7 +158,7 @@ set_queue_config d name param value = do
   config ← found_or (configured_by (d.queue queue).config p value) (BadValue param)
   does_marks (Number 1) (queued (configured queue config) ∷ [])
 
--- what is shown of a queue: as no table was switched yet, the first of its three tables has all its events
+-- what is shown of a queue: as event tables aren't rotated yet, the first of its three tables has all its events
 abbrev pub info_of : Queue → reply.QueueInfo
 info_of q = record { current = 0; last_tick = newest_id q; seq = q.seq; stored = length q.stored ∷ 0 ∷ 0 ∷ [] }
 

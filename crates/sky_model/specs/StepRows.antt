@@ -1,5 +1,4 @@
--- What the statements on tables and rows do. Each reads the part `d` of its database as it stands, and its rows
--- as they are shown.
+-- What the statements on tables and rows do. Each reads the part `d` of its database as it is, and its rows as they are shown.
 use Rattle.std.specs.Prelude.{ℕ, ℤ, pos, ◌+ℤ◌, ◌-ℤ◌, ◌^◌, int_lt, int_le, List, [], ◌∷◌, Bool, true, false, ◌&&◌, Option, Some, None, option_map, Ok, Err, nat_le, is_some, length, map, find, bytes_eq, unwrap_or, slice_get, if◌then◌else◌}
 use Rattle.std.specs.List.{list_any}
 use Rattle.std.specs.Option.{option_or}
@@ -71,13 +70,13 @@ fits columns values = refused_by (option_map (bad_values columns) (row_fault col
 abbrev pub column_called : List ℕ → List Column → Option Column
 column_called name columns = find (λ column. bytes_eq column.name name) columns
 
--- whether a column of a kind may change so
+-- whether a column of a kind takes such a change
 abbrev pub is_change_of : ColKind → Change → Bool
 is_change_of k (To v) = is_of_kind k v
 is_change_of kind.Int (Add n) = true
 is_change_of kind.Text (Add n) = false
 
--- why one change is bad, behind changes of the columns `before`
+-- why one change is bad, after changes of the columns `before`
 abbrev pub bad_set : List (List ℕ) → Set → Option Column → Option bad.BadRow
 bad_set before set None = Some (badly.NoColumn set.column)
 bad_set before set (Some column) =
@@ -94,11 +93,11 @@ bad_sets columns before (set ∷ sets) = option_or (bad_set before set (column_c
 abbrev pub is_key_change : List Column → Set → Bool
 is_key_change columns set = list_any (λ column. bytes_eq column.name set.column) (key_columns columns)
 
--- a number of 64 bits
+-- a number, if it fits 64 bits with its sign
 abbrev pub in_range : ℤ → Option Val
 in_range n = if int_le (pos 0 -ℤ pos (2 ^ 63)) n && int_lt n (pos (2 ^ 63)) then Some (value.Int n) else None
 
--- a value after a change, unless a sum is out of range; a number more than Null is Null
+-- a value after a change, unless a sum is out of range; Null plus a number is Null
 abbrev pub changed : Change → Val → Option Val
 changed (To v) old = Some v
 changed (Add n) (value.Int m) = in_range (m +ℤ n)
@@ -112,15 +111,14 @@ with_set (column ∷ columns) set (v ∷ row) =
     if bytes_eq column.name set.column then option_map (λ w. w ∷ row) (changed set.change v)
     else option_map (λ rest. v ∷ rest) (with_set columns set row)
 
--- a row after changes, the first one first
+-- a row after changes, one after another
 abbrev pub with_sets : List Column → List Set → List Val → Checked (List Val)
 with_sets columns [] row = Ok row
 with_sets columns (set ∷ sets) row = do
   next ← found_or (with_set columns set row) (OutOfRange set.column)
   with_sets columns sets next
 
--- refused where a write of the key was committed that the session's sight doesn't have, and the own transaction hasn't
--- written the key
+-- refused if a write of the key was committed that the session's sight doesn't have, and the own transaction hasn't written the key
 abbrev pub is_seen : KeyShown → Checked (Unit {0})
 is_seen shown = refused_by (option_map Serialize shown.unseen)
 
@@ -130,13 +128,13 @@ writes_key d who table key old new = do
   t ← txid_for d who
   does_marks (Number 1) (written who t (d.session who) (tabled (wrote (of_session who) t table key old new) ∷ []))
 
--- a row is put at the key
+-- a row is inserted at the key
 abbrev pub inserts : RowPart → KeyShown → ℕ → ℕ → List Val → List Val → Checked Outcome
 inserts d shown who table key row = once_free d who table key (Insertion row) (other_holder d.holder who table key) (do
   refused_if (is_some shown.standing) Duplicate
   writes_key d who table key None (Some row))
 
--- the row at the key is changed, which leaves `new_of` it; where none is shown, none is changed
+-- the row at the key is changed, which leaves `new_of` it; if none is shown, none is changed
 abbrev pub changes : RowPart → KeyShown → ℕ → ℕ → List Val → Attempt → (List Val → Checked (Option (List Val))) → Option (List Val) → Checked Outcome
 changes d shown who table key attempt new_of None = answers (Number 0)
 changes d shown who table key attempt new_of (Some row) = once_free d who table key attempt (other_holder d.holder who table key) (do
@@ -144,7 +142,7 @@ changes d shown who table key attempt new_of (Some row) = once_free d who table 
   new ← new_of row
   writes_key d who table key (Some row) new)
 
--- what is there, as an option
+-- a row as an option
 abbrev pub some_row : Checked (List Val) → Checked (Option (List Val))
 some_row (Ok row) = Ok (Some row)
 some_row (Err refusal) = Err refusal
@@ -182,7 +180,7 @@ delete d shown who name key = do
   fits (key_columns (d.columns table)) key
   attempts d (shown.key who table key) who table key Deletion
 
--- a row, or that there is none
+-- a row, or the answer that there is none
 abbrev pub row_or_none : Option (List Val) → Checked Outcome
 row_or_none None = answers NoRow
 row_or_none (Some row) = answers (Row row)

@@ -1,4 +1,4 @@
--- What the statements on sessions and transactions do. Each reads the part `d` of its database as it stands.
+-- What the statements on sessions and transactions do. Each reads the part `d` of its database as it is.
 use Rattle.std.specs.Prelude.{ℕ, List, [], ◌∷◌, ◌++◌, Bool, true, false, Option, Err}
 use Rattle.sky_txid.specs.Snapshot.{snapshot_of, sees}
 use Rattle.sky_txid.specs.SnapshotText.{parse_snapshot}
@@ -51,7 +51,7 @@ abbrev pub cancel : ℕ → Option ℕ → Block → Bool → Checked Outcome
 cancel who txid block false = answers NotWaiting
 cancel who txid block true = does_marks (Refused Canceled) (tabled (waited who) ∷ abort who block txid Canceled)
 
--- `txid_current`: the transaction gets its id, where it has none
+-- `txid_current`: the transaction gets its id, if it has none
 abbrev pub txid_current : RowPart → ℕ → Checked Outcome
 txid_current d who = do
   t ← txid_for d who

@@ -1,4 +1,4 @@
--- A statement's function stops: it is refused as its definition says, or memory was wanting.
+-- How a statement's function stops: it is refused as its definition says, or memory ran out.
 use Rattle.std.specs.Prelude.{◌≡◌, Err}
 use Rattle.sky_model.specs.declared.reply.Refusal.{Refusal}
 use Rattle.sky_model.specs.declared.stop.Stop.{Stop}
@@ -10,7 +10,7 @@ pub record Refuses {S A : Type 0} (old new : S) (refusal : Refusal) (checked : C
   pub refused : checked ≡ Err refusal
   pub same : new ≡ old
 
--- it is refused as its definition says, or memory was wanting
+-- it is refused as its definition says, or memory ran out
 abbrev pub Stops : {S A : Type 0} → Stop → S → S → Checked A → Type 0
 Stops (Refused refusal) old new checked = Refuses old new refusal checked
 Stops NoMemory old new checked = Unit {0}

@@ -1,4 +1,4 @@
--- What is told of writes of rows: behind each write stand the events of its table's triggers.
+-- What records writes of rows: after each write come the events of its table's triggers.
 use Rattle.std.specs.Prelude.{ℕ, ℤ, List, [], ◌∷◌, ◌++◌, Option, Some, None, Ok, map, slice_get, unwrap_or}
 use Rattle.sky_val.specs.declared.val.Val.{Val}
 use Rattle.sky_val.specs.declared.event.Event.{Event}
@@ -9,11 +9,11 @@ use Rattle.sky_model.specs.State.{Database, after_mark, after_marks}
 use Rattle.sky_model.specs.Outcome.{Outcome, Checked, ◌>>=◌, does_marks}
 use Rattle.sky_model.specs.StepQueue.{next_event_id}
 
--- a write in a table of the database
+-- a write to a table of the database
 abbrev pub write_in : Database → ℕ → (old new : Option (List Val)) → Write
 write_in d table old new = record { table = unwrap_or (slice_get d.part.tables table) []; columns = d.part.columns table; old = old; new = new }
 
--- the events that tell of it
+-- the events that record it
 abbrev pub events_in : Database → ℕ → (old new : Option (List Val)) → List RowEvent
 events_in d table old new = events_of (write_in d table old new) (map TableTrigger.trigger (triggers_of table d.triggers))
 
@@ -37,7 +37,7 @@ told_event id now t e = record {
 abbrev pub event_marks : ℕ → Event → List Mark
 event_marks queue e = queued (raised queue e.ev_id) ∷ queued (put queue e) ∷ []
 
--- the marks of events, each with the next id of its queue, or the refusal where one of them has none
+-- the marks of events, each with the next id of its queue, or the refusal if one of them has none
 abbrev pub told_by : Database → ℤ → ℕ → List RowEvent → Checked (List Mark)
 told_by d now t [] = Ok []
 told_by d now t (e ∷ es) = do
@@ -45,12 +45,12 @@ told_by d now t (e ∷ es) = do
   rest ← told_by (after_marks d (event_marks e.queue (told_event id now t e))) now t es
   Ok (event_marks e.queue (told_event id now t e) ++ rest)
 
--- what is told of a mark: of a session's write, its events
+-- what records a mark: for a session's write, its events
 abbrev pub told_of : Database → ℤ → Mark → Checked (List Mark)
 told_of d now (tabled (wrote (of_session who) t table key old new)) = told_by d now t (events_in d table old new)
 told_of d now _ = Ok []
 
--- marks, each with what is told of it behind it
+-- marks, each followed by what records it
 abbrev pub with_told : Database → ℤ → List Mark → Checked (List Mark)
 with_told d now [] = Ok []
 with_told d now (mark ∷ marks) = do
@@ -58,8 +58,7 @@ with_told d now (mark ∷ marks) = do
   rest ← with_told (after_marks d (mark ∷ told)) now marks
   Ok (mark ∷ told ++ rest)
 
--- what a statement on rows does in a whole database: its writes are told of, or it is refused where there are no ids for
--- all events
+-- what a statement on rows does in a whole database: its writes are recorded, or it is refused if there aren't ids for all events
 abbrev pub tells : Database → ℤ → Checked Outcome → Checked Outcome
 tells d now checked = do
   outcome ← checked

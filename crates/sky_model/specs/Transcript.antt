@@ -13,11 +13,11 @@ use Rattle.sky_model.specs.Printed.{printed}
 use Rattle.sky_model.specs.World.{session_names}
 use Rattle.sky_model.specs.Calls.{Call, after, answers_of}
 
--- a line may have this many bytes before its line feed
+-- how many bytes a line may have before its line feed
 abbrev pub most_in_line : ℕ
 most_in_line = 65536
 
--- a script may have this many bytes
+-- how many bytes a script may have
 abbrev pub most_in_script : ℕ
 most_in_script = 2 ^ 32
 
@@ -33,7 +33,7 @@ said_by (Ok Blank) = idle
 said_by (Ok (Run who stmt)) = asks (record { who = who; stmt = stmt })
 said_by (Err k) = bad (BadWord k)
 
--- a line that its line feed ends, behind so many bytes
+-- a line that ends with its line feed, after so many bytes
 abbrev pub said : ℕ → List ℕ → Said
 said taken line =
     if nat_lt most_in_line (length line) then bad TooLong
@@ -41,28 +41,28 @@ said taken line =
     else if is_utf8 line then said_by (line_of line)
     else bad NotUtf8
 
--- what a line asks for, and then the calls behind it
+-- what a line asks for, and then the calls after it
 abbrev pub with_said : Said → List Call → List Call
 with_said (asks call) calls = call ∷ calls
 with_said idle calls = calls
 with_said (bad cause) calls = []
 
--- the calls of lines behind so many bytes, up to the first bad one
+-- the calls of lines after so many bytes, up to the first bad one
 abbrev pub calls_from : ℕ → List (List ℕ) → List Call
 calls_from taken [] = []
 calls_from taken (line ∷ lines) = with_said (said taken line) (calls_from (taken + length line + 1) lines)
 
--- why bytes are bad that no line feed ends
+-- why bytes without a line feed are bad
 abbrev pub unended : List ℕ → Option Cause
 unended [] = None
 unended (b ∷ bs) = Some (if nat_lt most_in_line (length (b ∷ bs)) then TooLong else Truncated)
 
--- line n where it is bad, or a later one
+-- line n if it is bad, or else a later one
 abbrev pub bad_or : ℕ → Said → Option (ℕ × Cause) → Option (ℕ × Cause)
 bad_or n (bad cause) later = Some (n, cause)
 bad_or n _ later = later
 
--- the first bad line from the nth on, behind so many bytes, with its cause
+-- the first bad line from the nth on, after so many bytes, with its cause
 abbrev pub bad_from : ℕ → ℕ → List (List ℕ) → List ℕ → Option (ℕ × Cause)
 bad_from n taken [] rest = option_map (λ cause. (n, cause)) (unended rest)
 bad_from n taken (line ∷ lines) rest = bad_or n (said taken line) (bad_from (n + 1) (taken + length line + 1) lines rest)
@@ -71,12 +71,12 @@ bad_from n taken (line ∷ lines) rest = bad_or n (said taken line) (bad_from (n
 abbrev pub call_text : Past → Call → List ℕ
 call_text past call = printed (session_names (after past call) ++ call.who ∷ []) (answers_of past call)
 
--- what calls print, one after the other
+-- what calls print, one after another
 abbrev pub text_from : Past → List Call → List ℕ
 text_from past [] = []
 text_from past (call ∷ calls) = call_text past call ++ text_from (after past call) calls
 
--- what bytes print behind so many others
+-- what bytes print after so many others
 abbrev pub transcript_from : Past → ℕ → List ℕ → List ℕ
 transcript_from past taken bytes = text_from past (calls_from taken (split bytes).lines)
 
@@ -99,11 +99,11 @@ cause_text ScriptTooLong = codes "script too long"
 cause_text NotUtf8 = codes "not UTF-8"
 cause_text (BadWord k) = codes "bad word " ++ decimal k
 
--- what is said of a bad line
+-- the message about a bad line
 abbrev pub bad_text : ℕ × Cause → List ℕ
 bad_text (n, cause) = codes "line " ++ decimal n ++ codes ": " ++ cause_text cause ++ 10 ∷ []
 
--- what is said where the program's words aren't known
+-- the message if the program's words aren't known
 abbrev pub usage : List ℕ
 usage = codes "usage: pgqrun run" ++ 10 ∷ []
 

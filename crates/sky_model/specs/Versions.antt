@@ -1,4 +1,4 @@
--- The versions of a table's keys: what the transactions that weren't rolled back wrote last of each.
+-- The versions of a table's keys: for each key, what the transactions that weren't rolled back wrote last.
 use Rattle.std.specs.Prelude.{ℕ, List, [], ◌∷◌, false, ◌==◌, if◌then◌else◌}
 use Rattle.sky_val.specs.Entries.{Entries}
 use Rattle.sky_keys.specs.declared.version.Version.{Version}

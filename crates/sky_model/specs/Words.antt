@@ -1,15 +1,15 @@
 -- The words of a line.
 use Rattle.std.specs.Prelude.{ℕ, Bool, false, not, ◌&&◌, ◌==◌, if◌then◌else◌, List, [], ◌∷◌}
 
--- a space parts words where no quote is open
+-- whether a byte separates words: a space, if no quote is open
 abbrev pub is_parting : Bool → ℕ → Bool
 is_parting quoted b = not quoted && b == 32
 
--- whether a quote is open behind this byte
+-- whether a quote is open after this byte
 abbrev pub quoted_after : Bool → ℕ → Bool
 quoted_after quoted b = if b == 39 then not quoted else quoted
 
--- pieces with one more byte in front of the first
+-- pieces with one more byte before the first
 abbrev pub with_first : ℕ → List (List ℕ) → List (List ℕ)
 with_first b [] = (b ∷ []) ∷ []
 with_first b (w ∷ ws) = (b ∷ w) ∷ ws

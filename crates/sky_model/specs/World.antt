@@ -28,7 +28,7 @@ history_in [] database = []
 history_in (within d mark ∷ past) database = if d == database then mark ∷ history_in past database else history_in past database
 history_in (_ ∷ past) database = history_in past database
 
--- the moment at which the clock stands
+-- the moment that the clock is at
 abbrev pub clock : Past → ℤ
 clock [] = pos 0
 clock (clock_at moment ∷ past) = moment

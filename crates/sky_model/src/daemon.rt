@@ -3,8 +3,8 @@
 pub enum DaemonPart {
     /// It makes the ticks that are due.
     Tick,
-    /// It puts events back whose retry is due.
+    /// It puts back events whose retry is due.
     Retry,
-    /// It rotates tables of events.
+    /// It rotates event tables.
     Maintain,
 }

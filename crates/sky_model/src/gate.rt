@@ -5,18 +5,18 @@ ghost use Rattle.sky_model.specs.Gates.{Gate, open_gate};
 use sky_val::{NoMemory, Op, Row};
 use std::marker::Model;
 
-/// Stands in front of the writes of rows: it is asked whether there is room for each, and told of it.
+/// Guards the writes of rows: it is asked whether it has room for each, and notified of it.
 pub trait WriteGate {
-    // For which writes it has room, as it is, and as what a write leaves it that it is told of.
+    // For which writes it has room, in its state; and its state after it was notified of a write.
     ghost rule: { Gate Self };
 
-    /// Whether there is room for the write in the table of this number: `old` is the row that the key has, `new` the one
-    /// that it is to have. Where there is none, the statement is refused as `EventIdsSpent`.
+    /// Whether there is room for the write in the table of this number: `old` is the row that the key has, `new` the
+    /// one that it is to have. If there is none, the statement is refused as `EventIdsSpent`.
     fn room(&self, table: u32, op: Op, old: Option<&Row>, new: Option<&Row>) -> bool
         requires { op ≡ op_of (option_copied old) (option_copied new) }
         ensures { result ≡ rule.has_room self.now (record { table = table; old = option_copied old.entry; new = option_copied new.entry }) };
 
-    /// Tells of the write, which the transaction of this id makes.
+    /// Notifies it of the write, which the transaction of this id makes.
     fn wrote(
         &mut self,
         txid: u64,

@@ -17,7 +17,7 @@ impl<T> Model for Items<T> {
 }
 
 impl<T> Items<T> {
-    /// Those of a list. No memory is taken.
+    /// The items of a list. It takes no memory.
     pub fn new(items: Vec<T>) -> Items<T>
         ensures { result ≡ items.items }
     {

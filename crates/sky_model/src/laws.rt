@@ -1,23 +1,24 @@
 //! The laws of the definitions: functions that do nothing, so that their contracts are proved.
 
-ghost use Rattle.sky_model.specs.LawsOfBatches.{BatchesAreConsecutive, BatchesListWhatStands, EqualIdsStay, EventsAreListedOnce, FinishedBatchesWereActive, IdsDontFall, ListingsStay};
+ghost use Rattle.sky_model.specs.LawsOfBatches.{BatchesAreConsecutive, BatchesListWhatStands, EqualIdsStay, EventsAreListedOnce, FinishedBatchesWereActive, IdsDontFall, ListingsStay, SubscriptionsAreDistinct, SubscriptionsAreGiven, SubscriptionsAreNew};
 ghost use Rattle.sky_model.specs.LawsOfDaemons.{DaemonsHaveStarted, DaemonsWorkWhenDue, NextDueIsFirst};
 ghost use Rattle.sky_model.specs.LawsOfHistories.{HistoriesAreMadeByOwnCalls, HomesAreOpen, WaitersHaveOpen, BlocksAreOpen};
 ghost use Rattle.sky_model.specs.LawsOfLines.{BadWordIsLeast, LinesAreInForm};
 ghost use Rattle.sky_model.specs.LawsOfLocks.{DeadlocksAreRings, HoldersHaveWritten, NothingIsReady, WritersHaveWritten};
 ghost use Rattle.sky_model.specs.LawsOfQueues.{BusyQueuesStand, NewQueuesAreOthers, OtherQueuesKeepNothing, QueuesOfConsumersStand, QueuesOfTriggersStand, StandingQueuesKeepAll};
+ghost use Rattle.sky_model.specs.LawsOfRetries.{RetriesAreCopies, RetriesAreForTheirSubscription, RetriesComeBackDue, RetriesWaitOnce};
 ghost use Rattle.sky_model.specs.LawsOfRows.{RowsAreReadUnderSnapshots};
 ghost use Rattle.sky_model.specs.LawsOfSnapshots.{BatchesAreSelectedBySnapshots, SnapshotsSeeWhatHasEnded};
 ghost use Rattle.sky_model.specs.LawsOfWrites.{EventIdsFollowWrites, EventIdsRise, KeysAreWrittenInTurn, SnapshotsSeeEarlierWriters, StandingRowsFit, WritesAndCommitsHaveOneOrder, WritesAreTold, WritesNameWhatStands, WrittenRowsFit};
 
-/// The number of a line's bad word is the least such that no line of the grammar begins with the
-/// line's words up to it. So it does not depend on the order in which a reader tries the rows.
+/// The number of a line's bad word is the least such that no line of the grammar begins with the line's words up to it.
+/// So it doesn't depend on the order in which a reader tries the rows.
 pub fn bad_word_is_least()
     ensures { BadWordIsLeast }
 {}
 
-/// What a line of the grammar says is in form: the session's name is a name, and each word of its statement
-/// is worth what a word of its kind can be worth.
+/// What a line of the grammar says is in form: the session's name is a name, and the value of each word of its
+/// statement is one that a word of its kind can have.
 pub fn lines_are_in_form()
     ensures { LinesAreInForm }
 {}
@@ -28,9 +29,8 @@ pub fn histories_are_made_by_own_calls()
     ensures { HistoriesAreMadeByOwnCalls }
 {}
 
-/// After calls of the world each session has open the database that is its home, and no other. At each place of
-/// each history that calls of a database make, a session that waits there, or is in a block, has the
-/// database open.
+/// After calls of the world each session has open the database that is its home, and no other. At each place of each
+/// history that calls of a database make, a session that waits there, or is in a block, has the database open.
 pub fn homes_are_open()
     ensures homes { HomesAreOpen }
     ensures waiters { WaitersHaveOpen }
@@ -50,26 +50,26 @@ pub fn batches_are_selected_by_snapshots()
     ensures { BatchesAreSelectedBySnapshots }
 {}
 
-/// At each such place the rows that a session is shown, by the order of commits at its sight and its own
-/// writes on top, are what is read of the kept versions under the snapshot of its sight. So rows read under
-/// a snapshot are those of one serial order of commits.
+/// At each such place the rows that a session is shown, by the order of commits at its sight and its own writes on top,
+/// are what is read of the kept versions under the snapshot of its sight. So rows read under a snapshot are those of
+/// one serial order of commits.
 pub fn rows_are_read_under_snapshots()
     ensures { RowsAreReadUnderSnapshots }
 {}
 
-/// At each such place a session holds a key exactly where its running transaction has written it.
+/// At each such place a session holds a key if and only if its running transaction has written it.
 pub fn holders_have_written()
     ensures { HoldersHaveWritten }
 {}
 
-/// At each such place a transaction counts as one that has written in a table, which then has no new
-/// trigger, exactly where it hasn't ended, and has written a row there.
+/// At each such place a transaction counts as one that has written in a table, which then gets no new trigger, if and
+/// only if it hasn't ended, and has written a row there.
 pub fn writers_have_written()
     ensures { WritersHaveWritten }
 {}
 
-/// At each such place a wait is refused exactly where it would close a ring of sessions each of which
-/// waits for the next, and the refusal lists them, the refused one first.
+/// At each such place a wait is refused if and only if it would close a cycle of sessions each of which waits for the
+/// next, and the refusal lists them, the refused one first.
 pub fn deadlocks_are_rings()
     ensures { DeadlocksAreRings }
 {}
@@ -79,14 +79,14 @@ pub fn nothing_is_ready()
     ensures { NothingIsReady }
 {}
 
-/// At each such place the writes of a key and the commits of the transactions that made them have one
-/// order: a transaction that writes a key hasn't ended, and each other one that has written it has; of one
-/// that hasn't rolled back and one that has committed, the one wrote the key before the other exactly
-/// where it committed before the other; and no snapshot sees a transaction without those that wrote a
-/// key before it. So do the events that tell of the writes: they stand right behind their write, one of
-/// each trigger of its table that doesn't leave it out, each with the next id of its queue, and a queue's
-/// ids rise. And of two writes each event that tells of the first one has a smaller id than each event of
-/// the same queue that tells of the second one: ids come in the order of the writes.
+/// At each such place the writes of a key and the commits of the transactions that made them have one order: a
+/// transaction that writes a key hasn't ended, and each other one that has written it has; of one that hasn't rolled
+/// back and one that has committed, the one wrote the key before the other if and only if it committed before the
+/// other; and no snapshot sees a transaction without those that wrote a key before it. So do the events that record the
+/// writes: they come right after their write, one of each trigger of its table that doesn't ignore it, each with the
+/// next id of its queue, and a queue's ids rise, but for those of events that are retried. And of two
+/// writes each event that records the first one has a smaller
+/// id than each event of the same queue that records the second one: ids come in the order of the writes.
 pub fn writes_and_commits_have_one_order()
     ensures in_turn { KeysAreWrittenInTurn }
     ensures order { WritesAndCommitsHaveOneOrder }
@@ -96,20 +96,39 @@ pub fn writes_and_commits_have_one_order()
     ensures order_of_ids { EventIdsFollowWrites }
 {}
 
-/// At each such place at which a write of a session was just made, the old row that it names is the one that
-/// stood there for the session: the one that its own transaction wrote last, or else that of the newest
-/// committed write. The new row of a write, if there is one, fits the table's columns and has the key under
-/// which it was written. And so does each row that stands in a table.
+/// At each such place no two consumers have a subscription of one id; no id in use exceeds the last that was given, and
+/// that of a new consumer does. So whoever leaves and registers anew is another subscription.
+pub fn subscriptions_are_given_once()
+    ensures distinct { SubscriptionsAreDistinct }
+    ensures given { SubscriptionsAreGiven }
+    ensures new { SubscriptionsAreNew }
+{}
+
+/// At each such place each retry that waits is of a subscription of its queue, and its event a copy of one that was
+/// put there, with the subscription as its owner and one retry more; and for each event id of a subscription at most
+/// one waits. One that comes back waited and is due, its event was put just before, of a transaction that hadn't ended,
+/// and it waits no more. And an event with an owner is in no batch of another subscription.
+pub fn retries_come_back_once()
+    ensures copies { RetriesAreCopies }
+    ensures once { RetriesWaitOnce }
+    ensures due { RetriesComeBackDue }
+    ensures owned { RetriesAreForTheirSubscription }
+{}
+
+/// At each such place at which a session has just made a write, the old row that the write names is the one that was
+/// there for the session: the one that its own transaction wrote last, or else that of the newest committed write. The
+/// new row of a write, if there is one, fits the table's columns and has the key under which it was written. And so
+/// does each row of a table.
 pub fn writes_name_what_stands()
     ensures stands { WritesNameWhatStands }
     ensures written { WrittenRowsFit }
     ensures rows { StandingRowsFit }
 {}
 
-/// At each such place a queue stands where a consumer is registered with it, where a trigger puts events into
-/// it, or where a transaction that hasn't ended has put one into it: none of these loses its queue. All events
-/// and ticks of a queue that stands are kept, and nothing of one that was dropped or is to be made. And the next
-/// queue that is made is none that was dropped, even where it gets the name of one.
+/// At each such place a queue stands, that is, it was made and not dropped, if a consumer is registered with it, if a
+/// trigger puts events into it, or if a transaction that hasn't ended has put one into it: none of these loses its
+/// queue. All events and ticks of a queue that stands are kept, and nothing of one that was dropped or isn't made yet.
+/// And the next queue that is made is none that was dropped, even if it gets the name of one.
 pub fn queues_in_use_stand()
     ensures consumers { QueuesOfConsumersStand }
     ensures triggers { QueuesOfTriggersStand }
@@ -120,41 +139,40 @@ pub fn queues_in_use_stand()
 {}
 
 /// At each such place the batches that a consumer has finished since its life began are of its queue and its
-/// subscription, and lead from the tick where that began to its position: each begins where the one before
-/// closed, and closes at the next tick, which is made. Of a consumer that isn't registered there are none. A
-/// life of a subscription begins where the consumer registers, and anew where it is moved to a tick.
+/// subscription, and lead from the tick where that began to its position: each begins where the one before closed, and
+/// closes at the next tick, which is made. Of a consumer that isn't registered there are none. A life of a subscription
+/// begins when the consumer registers, and again when it is moved to a tick.
 pub fn batches_are_consecutive()
     ensures { BatchesAreConsecutive }
 {}
 
-/// Events by id: their ids don't fall, and for each id those that have it are the ones that had it before,
-/// as they stood. So a listing loses, adds and doubles nothing.
+/// Events by id: their ids don't fall, and for each id those that have it are the ones that had it before, in the same
+/// order. So a listing loses, adds and duplicates nothing.
 pub fn batches_are_in_order()
     ensures rises { IdsDontFall }
     ensures keeps { EqualIdsStay }
 {}
 
-/// At each such place an event whose transaction had committed at a registered consumer's position, and hadn't at
-/// the tick where the consumer's life began, and that is for its subscription, stands in one of the batches
-/// that the consumer has finished since, and in one alone; any other event stands in none. A batch
-/// lists the events of its queue that stand in it.
+/// At each such place an event whose transaction had committed at a registered consumer's position, and hadn't at the
+/// tick where the consumer's life began, and that is for its subscription, is in one of the batches that the consumer
+/// has finished since, and in one alone; any other event is in none. A batch lists the events of its queue that are in
+/// it.
 pub fn events_are_listed_once()
     ensures stands { BatchesListWhatStands }
     ensures once { EventsAreListedOnce }
 {}
 
-/// What a batch lists while it is active is what it lists at every later place: what is put or commits
-/// later isn't in it. Each batch that a consumer has finished since its life began was active before, so it
-/// lists what it listed then.
+/// What a batch lists while it is active is what it lists at every later place: what is put or commits later isn't in
+/// it. Each batch that a consumer has finished since its life began was active before, so it lists what it listed then.
 pub fn listings_stay()
     ensures stay { ListingsStay }
     ensures were_active { FinishedBatchesWereActive }
 {}
 
-/// After calls of the world no daemon is on from a later moment on than the clock's. From there the next moment is
-/// the first one at which a part of the daemon of some database is due, and there is none exactly where none ever is.
-/// As the clock goes on, daemons do their work at each moment up to the new one at which a part of one is due, in
-/// rising order, and at no other.
+/// After calls of the world no daemon was started at a later moment than the clock's. From there the next moment is the
+/// first one at which a part of the daemon of some database is due, and there is none if and only if none ever is. As
+/// the clock moves, daemons work at each moment up to the new one at which a part of one is due, in rising order, and
+/// at no other.
 pub fn daemons_work_when_due()
     ensures started { DaemonsHaveStarted }
     ensures next { NextDueIsFirst }

@@ -1,10 +1,10 @@
 //! What a script says and what it is answered, and every definition that a contract cites.
 //!
-//! `Stmt` and `RowStmt` have one variant for each statement form and `Reply` one for each answer form. The
-//! definitions are in `specs/`: what happened, as one list of facts; what each reading of it is; what
-//! a statement does; and what a script prints. `docs/DEFINITIONS.md` tells them in plain words. What a
-//! program runs of this crate is the small code of its types: they are made, read, copied and
-//! lengthened, and a refusal tells whether it aborts a block. No statement is run here.
+//! `Stmt` and `RowStmt` have one variant for each statement form and `Reply` one for each answer form. The definitions
+//! are in `specs/`: what happened, as one list of facts; what each reading of it is; what a statement does; and what a
+//! script prints. `docs/DEFINITIONS.md` puts them in plain words. What a program runs of this crate is the small code
+//! of its types: they are made, read, copied and appended to, and a refusal says whether it aborts a block. No
+//! statement is run here.
 #![tactic(auto)]
 
 mod daemon;
@@ -20,7 +20,10 @@ pub use daemon::DaemonPart;
 pub use gate::{OpenGate, WriteGate};
 pub use items::Items;
 pub use line::{Cause, Fixed, Line};
-pub use reply::{BadRow, Counts, Events, Limit, QueueInfo, Refusal, Replies, Reply, Rows, Waiters};
+pub use reply::{
+    BadRow, BatchInfo, BoxedBatchInfo, ConsumerInfo, Counts, Events, Limit, QueueInfo, Refusal,
+    Replies, Reply, Rows, Waiters,
+};
 pub use stmt::{
     Attempt, BoxedExtra, Change, ColumnNames, Columns, Extra, RowStmt, Set, Sets, Stmt, Where,
 };

@@ -1,7 +1,7 @@
 use crate::stmt::Stmt;
 use sky_val::Text;
 
-/// The words that stand in a statement as they are, behind its first word.
+/// The words that a statement has as they are, after its first word.
 #[derive(Clone, Copy, Debug, PartialEq, Eq)]
 pub enum Fixed {
     /// `repeatable`
@@ -25,9 +25,9 @@ pub enum Fixed {
 pub enum Cause {
     /// It has more bytes than a line may have.
     TooLong,
-    /// It is the last line and no line feed ends it.
+    /// It is the last line, and doesn't end with a line feed.
     Truncated,
-    /// It ends behind more bytes than a script may have.
+    /// It ends after more bytes than a script may have.
     ScriptTooLong,
     /// Its bytes are not UTF-8.
     NotUtf8,

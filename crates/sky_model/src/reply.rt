@@ -1,4 +1,4 @@
-ghost use Rattle.std.specs.Prelude.{◌≡◌, [], ◌∷◌, ◌++◌, OnOk, OnErr};
+ghost use Rattle.std.specs.Prelude.{◌≡◌, [], ◌∷◌, ◌++◌, IfOk, OnOk, OnErr};
 
 use crate::items::Items;
 use sky_txid::Snapshot;
@@ -6,7 +6,7 @@ use sky_val::{Event, MOST_COLUMNS, NoMemory, Row, SessionId, Text};
 use std::alloc::Global;
 use std::marker::Model;
 
-/// What there can be only so many of.
+/// What is limited in number.
 #[derive(Clone, Copy, Debug, PartialEq, Eq)]
 pub enum Limit {
     /// Sessions in a script.
@@ -28,7 +28,7 @@ pub enum Limit {
 impl Limit {
     ghost use Rattle.sky_model.specs.Limits.{most_of};
 
-    /// How many there can be.
+    /// The limit.
     pub fn most(self) -> usize
         ensures { result ≡ most_of self }
     {
@@ -51,7 +51,7 @@ pub enum BadRow {
     Count,
     /// A value is of another kind than this column, or a number is added to a text.
     Type(Text),
-    /// Null stands for this column, which is part of the key.
+    /// Null is given for this column, which is part of the key.
     NullKey(Text),
     /// The table has no column of this name.
     NoColumn(Text),
@@ -81,25 +81,26 @@ pub enum Refusal {
     Aborted,
     /// The session has a database open already.
     AlreadyOpen,
-    /// This column to ignore is part of the table's key, or is none of its columns.
+    /// This column to ignore is part of the table's key, or no column of it.
     BadColumn(Text),
     /// Values don't fit the table.
     BadRow(BadRow),
-    /// The text is no snapshot.
+    /// The text isn't a snapshot.
     BadSnapshot,
     /// This parameter of a queue can't have the value.
     BadValue(Text),
     /// The session waits.
     Busy,
-    /// The session was to wait no longer.
+    /// The session's wait was canceled.
     Canceled,
     /// The clock would pass its last moment.
     ClockSpent,
-    /// These sessions would wait for each other: the refused one, then each time the one that the last waits for.
+    /// These sessions would wait for each other in a cycle: the refused one first, then each time the one that the last
+    /// waits for.
     Deadlock(Waiters),
     /// The table has a row with this key.
     Duplicate,
-    /// The sequence of the queue's event ids has ended.
+    /// The last event id of the queue was given.
     EventIdsSpent,
     /// The queue has consumers, this many.
     HasConsumers(u64),
@@ -107,7 +108,7 @@ pub enum Refusal {
     HasTriggers(Text),
     /// The last tick, batch or subscription id was given.
     IdsSpent,
-    /// The statement may not stand in a transaction block.
+    /// The statement isn't allowed in a transaction block.
     InTransaction,
     /// An update names this column, which is part of the key.
     KeyChange(Text),
@@ -115,6 +116,8 @@ pub enum Refusal {
     NoBatch,
     /// The queue has no such consumer.
     NoConsumer(Text),
+    /// The batch has no event of this id.
+    NoEvent,
     /// The consumer is a node's.
     NodeConsumer,
     /// No column of the table is part of its key.
@@ -125,23 +128,25 @@ pub enum Refusal {
     NoQueue(Text),
     /// The database has no such table.
     NoTable(Text),
+    /// The queue has no tick of this id; the newest has that one.
+    NoTick(u64, u64),
     /// The session has no database open.
     NotOpen,
     /// The sum leaves the range of numbers in this column.
     OutOfRange(Text),
-    /// The transaction of this id runs, and has put an event into the queue.
+    /// The transaction of this id is running, and has put an event into the queue.
     QueueBusy(u64),
     /// No column may have this name.
     ReservedColumn(Text),
-    /// The transaction of this id wrote the key; it hadn't committed at the block's sight, and has now.
+    /// The transaction of this id wrote the key; it hadn't committed when the block's snapshot was taken, and has now.
     Serialize(u64),
-    /// The transaction of this id runs, and has written the table.
+    /// The transaction of this id is running, and has written the table.
     TableBusy(u64),
-    /// The database has such a table.
+    /// The database has a table of this name.
     TableExists(Text),
-    /// There are as many as there can be.
+    /// The limit is reached.
     TooMany(Limit),
-    /// The table has such a trigger.
+    /// The table has a trigger of this name.
     TriggerExists(Text),
     /// Two columns have this name.
     TwiceNamed(Text),
@@ -185,11 +190,13 @@ impl Drop for Refusal {
             Refusal::KeyChange(_) => {}
             Refusal::NoBatch => {}
             Refusal::NoConsumer(_) => {}
+            Refusal::NoEvent => {}
             Refusal::NodeConsumer => {}
             Refusal::NoKey => {}
             Refusal::NoParam(_) => {}
             Refusal::NoQueue(_) => {}
             Refusal::NoTable(_) => {}
+            Refusal::NoTick(_, _) => {}
             Refusal::NotOpen => {}
             Refusal::OutOfRange(_) => {}
             Refusal::QueueBusy(_) => {}
@@ -217,7 +224,7 @@ pub type Counts = Items<u64>;
 /// What is shown of a queue.
 #[derive(Debug, Drop)]
 pub struct QueueInfo {
-    /// The number of the table into which events go, from 0 on.
+    /// The number of the table that events go into, from 0 on.
     pub current: u64,
     /// The id of the newest tick.
     pub last_tick: u64,
@@ -225,6 +232,64 @@ pub struct QueueInfo {
     pub seq: u64,
     /// How many events each table has.
     pub stored: Counts,
+}
+
+/// What is shown of an active batch.
+#[derive(Debug, Drop)]
+pub struct BatchInfo {
+    /// The name of its queue.
+    pub queue: Text,
+    pub consumer: Text,
+    /// The ids of the ticks where it begins and ends.
+    pub prev_tick: u64,
+    pub tick: u64,
+    /// The value of the event sequence at each.
+    pub prev_seq: u64,
+    pub seq: u64,
+}
+
+/// The same in one word, so that an answer is small.
+#[derive(Debug, Drop)]
+pub struct BoxedBatchInfo {
+    info: Box<BatchInfo>,
+}
+
+impl Model for BoxedBatchInfo {
+    ghost use Rattle.sky_model.specs.declared.reply.BatchInfo.{BatchInfo};
+
+    ghost Value = { BatchInfo };
+
+    ghost view = { λ boxed. boxed.info.value };
+}
+
+impl BoxedBatchInfo {
+    /// The same.
+    pub fn new(alloc: Global, info: BatchInfo) -> Result<BoxedBatchInfo, NoMemory>
+        ensures { IfOk result (λ boxed. boxed ≡ info) }
+    {
+        let info = Box::new(alloc, info)?;
+        Ok(BoxedBatchInfo { info })
+    }
+
+    /// What is shown.
+    pub fn as_info(&self) -> &BatchInfo
+        ensures { result.now ≡ self.now }
+    {
+        &self.info
+    }
+}
+
+/// What is shown of a consumer.
+#[derive(Debug, Drop)]
+pub struct ConsumerInfo {
+    /// The id of its subscription.
+    pub sub: u64,
+    /// The id of the tick that is its position.
+    pub last_tick: u64,
+    /// The id of its active batch.
+    pub batch: Option<u64>,
+    /// How many events wait to be retried for it.
+    pub retries: u64,
 }
 
 /// What a statement answers.
@@ -266,6 +331,10 @@ pub enum Reply {
     Moment(i64),
     /// A queue's tables, newest tick and sequence.
     QueueInfo(QueueInfo),
+    /// A batch's queue, consumer and ticks.
+    BatchInfo(BoxedBatchInfo),
+    /// A consumer's position, and its batch.
+    ConsumerInfo(ConsumerInfo),
     /// `error` and the refusal.
     Refused(Refusal),
 }
@@ -291,13 +360,15 @@ impl Drop for Reply {
             Reply::Rows(_) => {}
             Reply::Moment(_) => {}
             Reply::QueueInfo(_) => {}
+            Reply::BatchInfo(_) => {}
+            Reply::ConsumerInfo(_) => {}
             Reply::Refused(_) => {}
         }
     }
 }
 
-/// Answers in order, each with the number of its session: a statement's own first, then those of the
-/// statements that it let go on.
+/// Answers in order, each with the number of its session: a statement's own first, then those of the statements that it
+/// unblocked.
 #[derive(Debug, Drop)]
 pub struct Replies {
     items: Vec<(SessionId, Reply)>,
@@ -313,7 +384,7 @@ impl Model for Replies {
 }
 
 impl Replies {
-    /// No answer. No memory is taken.
+    /// No answer. It takes no memory.
     pub fn new(alloc: Global) -> Replies
         ensures { result ≡ [] }
     {
@@ -322,7 +393,7 @@ impl Replies {
         }
     }
 
-    /// One more answer, at the end.
+    /// Appends an answer.
     pub fn push(&mut self, session: SessionId, reply: Reply) -> Result<(), NoMemory>
         ensures ok { OnOk result (self.new ≡ self.old ++ (session, reply) ∷ []) }
         ensures err { OnErr result (self.new ≡ self.old) }
@@ -331,7 +402,7 @@ impl Replies {
         Ok(())
     }
 
-    /// No answer any more. The memory is kept for the next ones.
+    /// Removes all answers. The memory is kept for the next ones.
     pub fn clear(&mut self)
         ensures { self.new ≡ [] }
     {

@@ -45,20 +45,20 @@ impl BoxedExtra {
     }
 }
 
-/// Where a statement may stand.
+/// Where a statement is allowed.
 #[derive(Clone, Copy, Debug, PartialEq, Eq)]
 pub enum Where {
-    /// in any state of its session, be it that it waits
+    /// always, even if its session waits
     Always,
-    /// in any state of its session, unless that waits
+    /// always, unless its session waits
     Anywhere,
-    /// where a database is open, and in an aborted block too
+    /// if a database is open, even in an aborted block
     WhenOpen,
-    /// where a database is open, but not in an aborted block
+    /// if a database is open, but not in an aborted block
     WhenSound,
-    /// the same, and a repeatable read block reads at the place of the first one
+    /// the same; a repeatable read block reads at the place of the first such statement
     WhenReading,
-    /// where a database is open, and in no block
+    /// if a database is open, outside a block
     WhenOutside,
 }
 
@@ -68,12 +68,12 @@ pub type Columns = Items<Column>;
 /// Names of columns, in order.
 pub type ColumnNames = Items<Text>;
 
-/// What an update makes of a column's value.
+/// What an update does to a column's value.
 #[derive(Debug, Drop)]
 pub enum Change {
-    /// this value
+    /// it becomes this value
     To(Val),
-    /// a number more
+    /// this number is added to it
     Add(i64),
 }
 
@@ -89,7 +89,7 @@ impl Change {
     }
 }
 
-/// What an update makes of the column of this name.
+/// What an update does to the column of this name.
 #[derive(Debug, Drop)]
 pub struct Set {
     pub column: Text,
@@ -127,7 +127,7 @@ impl Items<Set> {
 /// What a write attempts with a key of a table, at once or after a wait.
 #[derive(Debug, Drop)]
 pub enum Attempt {
-    /// A row is put there.
+    /// A row is inserted there.
     Insertion(Row),
     /// The row there is changed.
     Changes(Sets),
@@ -172,7 +172,7 @@ pub enum RowStmt {
     Scan { table: Text },
 }
 
-// By hand, so that letting a statement go is one step for the functions that own one.
+// By hand, so that dropping a statement is one step for the functions that own one.
 impl Drop for RowStmt {
     fn drop(self) {
         match self {
@@ -249,6 +249,17 @@ pub enum Stmt {
         queue: Text,
         consumer: Text,
     },
+    /// `register_consumer_at NAME CONSUMER N`
+    RegisterConsumerAt {
+        queue: Text,
+        consumer: Text,
+        tick: u64,
+    },
+    /// `unregister_consumer NAME CONSUMER`
+    UnregisterConsumer {
+        queue: Text,
+        consumer: Text,
+    },
     /// `next_batch NAME CONSUMER`
     NextBatch {
         queue: Text,
@@ -258,10 +269,27 @@ pub enum Stmt {
     GetBatchEvents {
         batch: u64,
     },
+    /// `get_batch_info N`
+    GetBatchInfo {
+        batch: u64,
+    },
+    /// `event_retry N N N`: a batch, an event, and seconds
+    EventRetry {
+        batch: u64,
+        event: u64,
+        seconds: u64,
+    },
     /// `finish_batch N`
     FinishBatch {
         batch: u64,
     },
+    /// `consumer_info NAME CONSUMER`
+    ConsumerInfo {
+        queue: Text,
+        consumer: Text,
+    },
+    /// `maint_retry_events`
+    MaintRetryEvents,
     /// `add_trigger NAME TABLE NAME`, then `backup` or not, then `ignore=` and names or not
     AddTrigger {
         name: Text,
@@ -305,12 +333,32 @@ impl Drop for Stmt {
                 queue: _,
                 consumer: _,
             } => {}
+            Stmt::RegisterConsumerAt {
+                queue: _,
+                consumer: _,
+                tick: _,
+            } => {}
+            Stmt::UnregisterConsumer {
+                queue: _,
+                consumer: _,
+            } => {}
             Stmt::NextBatch {
                 queue: _,
                 consumer: _,
             } => {}
             Stmt::GetBatchEvents { batch: _ } => {}
+            Stmt::GetBatchInfo { batch: _ } => {}
+            Stmt::EventRetry {
+                batch: _,
+                event: _,
+                seconds: _,
+            } => {}
             Stmt::FinishBatch { batch: _ } => {}
+            Stmt::ConsumerInfo {
+                queue: _,
+                consumer: _,
+            } => {}
+            Stmt::MaintRetryEvents => {}
             Stmt::AddTrigger {
                 name: _,
                 table: _,

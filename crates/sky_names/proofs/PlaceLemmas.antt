@@ -13,7 +13,7 @@ use Rattle.sky_names.specs.Places.{place_of, Distinct}
 pub bytes_eq_refl : (name : List ℕ) → bytes_eq name name ≡ true
 bytes_eq_refl name = (bytes_eq-Decides name name).1 refl
 
--- and the test has no sides
+-- and the test is symmetric
 pub bytes_eq_sym : (one other : List ℕ) → bytes_eq one other ≡ bytes_eq other one
 bytes_eq_sym one other = nat_list_eq_equiv.symm one other
 
@@ -21,7 +21,7 @@ bytes_eq_sym one other = nat_list_eq_equiv.symm one other
 pub same_name : (one other : List ℕ) → bytes_eq one other ≡ true → one ≡ other
 same_name one other = (bytes_eq-Decides one other).0
 
--- a name that stands somewhere stands at the head, or in the rest, one place later
+-- a name in a list is its first one, or is in the rest, one place later
 pub place_of-cons : (key first : List ℕ) (names : List (List ℕ)) (place : ℕ) → place_of key (first ∷ names) ≡ Some place
     → ((bytes_eq key first ≡ true) × (place ≡ 0)) ⊎ ((bytes_eq key first ≡ false) × ((before : ℕ) × (place_of key names ≡ Some before) × (place ≡ suc before)))
 place_of-cons key first names place = by (bytes_eq key first) (place_of key names)
@@ -41,12 +41,12 @@ place_of_within key (first ∷ names) place is =
       | inr (_, (before, at, later)) ↦ omega (arith, place_of_within key names before at)
     ]
 
--- so that what is found is a place within it
+-- so a place that is found is within it
 pub found_within : (key : List ℕ) (names : List (List ℕ)) (found : Option ℕ) → found ≡ place_of key names → IfSome found (λ place. place < length names)
 found_within key names None is = tt
 found_within key names (Some place) is = place_of_within key names place (sym is)
 
--- and the name stands there
+-- and the name is there
 pub slice_get-place_of : (key : List ℕ) (names : List (List ℕ)) (place : ℕ) → place_of key names ≡ Some place → slice_get names place ≡ Some key
 slice_get-place_of key [] place is = absurd (cc)
 slice_get-place_of key (first ∷ names) place is =
@@ -55,7 +55,7 @@ slice_get-place_of key (first ∷ names) place is =
       | inr (_, (before, at, later)) ↦ ap (slice_get (first ∷ names)) later ∙ slice_get-place_of key names before at
     ]
 
--- a name put at the end has the first free place, unless it stood before
+-- a name that is appended has the first free place, unless it was in the list before
 pub place_of-append : (key : List ℕ) (names : List (List ℕ)) (last : List ℕ)
     → place_of key (names ++ last ∷ []) ≡ option_or (place_of key names) (if bytes_eq key last then Some (length names) else None)
 place_of-append key [] last = by (bytes_eq key last)
@@ -84,7 +84,7 @@ place_of-position key (first ∷ names) = by (bytes_eq key first) (position_or_l
     by true n rest = grind (arith, nat_tests)
     by false n rest = grind (arith, nat_tests, rest)
 
--- a name has a place where some name of the list equals it
+-- a name has a place if some name of the list equals it
 pub list_any-place_of : (key : List ℕ) (names : List (List ℕ)) → list_any (bytes_eq key) names ≡ is_some (place_of key names)
 list_any-place_of key [] = refl
 list_any-place_of key (first ∷ names) = by (bytes_eq key first) (place_of key names) (list_any-place_of key names)
@@ -95,7 +95,7 @@ list_any-place_of key (first ∷ names) = by (bytes_eq key first) (place_of key 
     by false None is = is
     by false (Some place) is = is
 
--- where names are distinct, each is found at the place where it stands
+-- if names are distinct, each is found at the place where it is
 pub place_of-Distinct : (names : List (List ℕ)) (place : ℕ) (name : List ℕ) → Distinct names → slice_get names place ≡ Some name → place_of name names ≡ Some place
 place_of-Distinct [] place name distinct at = absurd (cc)
 place_of-Distinct (first ∷ names) zero name distinct at =

@@ -36,7 +36,7 @@ module _ {V : Type 0} where
   set_elsewhere (y ∷ xs) (suc i) zero x apart = refl
   set_elsewhere (y ∷ xs) (suc i) (suc p) x apart = set_elsewhere xs i p x (λ e. apart (ap suc e))
 
-  -- a value in the place of another is found by its name, and each other name finds what it found
+  -- a value in place of another is found by its name, and each other name finds what it found
   pub value_of-with_value : (n : NamedView V) (key : List ℕ) (place : ℕ) (value : V) → place_of key n.names ≡ Some place → place < length n.values
       → (name : List ℕ) → value_of name (with_value n place value) ≡ (if bytes_eq name key then Some value else value_of name n)
   value_of-with_value n key place value is lt name = by (bytes_eq name key) refl (place_of name n.names) refl
@@ -61,7 +61,7 @@ module _ {V : Type 0} where
   pushed_elsewhere (y ∷ xs) x zero lt = refl
   pushed_elsewhere (y ∷ xs) x (suc p) lt = pushed_elsewhere xs x p (omega arith)
 
-  -- so it is with one of a new name
+  -- and so it is with one of a new name
   pub value_of-added : (n : NamedView V) (key : List ℕ) (value : V) → length n.values ≡ length n.names → value_of key n ≡ None
       → (name : List ℕ) → value_of name (record { names = n.names ++ key ∷ []; values = n.values ++ value ∷ [] }) ≡ (if bytes_eq name key then Some value else value_of name n)
   value_of-added n key value count none name =

@@ -102,7 +102,7 @@ impl<V> Named<V> {
         Ok(number)
     }
 
-    /// Takes the value of this number out, with its name. Each value after it has a number one less from now on.
+    /// Removes the value of this number, and its name. Each value after it then has a number one less.
     pub fn remove(&mut self, number: usize)
     where
         V: Drop,

@@ -14,8 +14,8 @@ const HINTS: usize = 512;
 #[derive(Drop)]
 pub struct Names {
     texts: IndexSet<Text>,
-    // Where a name's bytes lead to, the number of the last name that they lead there. It is looked at first, in place of
-    // the set, and tells nothing of any other name.
+    // At the hash of a name's bytes, the number of the last name with that hash. It is tried first, before the set, and
+    // says nothing of any other name.
     hints: [u32; HINTS],
 }
 
@@ -52,7 +52,7 @@ impl Names {
         Some(place as u32)
     }
 
-    /// Whether the name stands at this place.
+    /// Whether the name is at this place.
     fn stands_at(&self, place: usize, name: &Text) -> bool
         ensures { result ≡ true → place_of name.now self.now ≡ Some place }
     {
@@ -62,7 +62,7 @@ impl Names {
         }
     }
 
-    /// Puts a new name at the end, and gives its number.
+    /// Appends a new name, and gives its number.
     pub fn add(&mut self, name: Text) -> Result<u32, NoMemory>
         requires new { place_of name self.old ≡ None }
         requires room { length self.old < 2 ^ 32 - 1 }
@@ -77,7 +77,7 @@ impl Names {
         Ok(number)
     }
 
-    /// Takes the name at this place out. Each name after it has a number one less from now on.
+    /// Removes the name at this place. Each name after it then has a number one less.
     pub fn remove(&mut self, place: usize)
         requires { place < length self.old }
         ensures { self.new ≡ remove self.old place }
@@ -110,7 +110,7 @@ impl Names {
     }
 }
 
-/// Where the bytes of a name lead to among the hints.
+/// The place of a name's bytes among the hints.
 #[inline(never)]
 fn hint_place(name: &[u8]) -> usize
     ensures { result < 512 }

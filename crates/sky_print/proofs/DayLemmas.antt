@@ -9,7 +9,7 @@ use Rattle.jiff_core.proofs.MarchLemmas.{day_count-early}
 use Rattle.jiff_core.proofs.SignedLemmas.{signed_arith}
 use Rattle.sky_model.specs.Moment.{month_length, Day, next_day, day_after}
 
--- the calendar has this day, in whatever year
+-- the calendar has this day, whatever its year is
 pub record IsDay (d : Day) : Type 0 where
   pub month_in : IsInRange 1 12 d.month
   pub day_in : IsInRange 1 (month_length d.year d.month) d.day

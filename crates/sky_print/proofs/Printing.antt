@@ -1,12 +1,32 @@
--- Answers, and the lines of one, are printed one behind the other.
-use Rattle.std.proofs.Common.{◌≡◌, ℕ, ◌+◌, ◌<◌, List, [], ◌∷◌, ◌++◌, length, take, get_or, map, flat_map, sym, subst, ap, ap₂, ◌∙◌, append_assoc, append-nil}
+-- Answers, and the lines of one, are printed one after another.
+use Rattle.std.proofs.Common.{◌≡◌, ℕ, ◌+◌, ◌<◌, List, [], ◌∷◌, ◌++◌, length, take, get_or, map, flat_map, sym, subst, ap, ap₂, ◌∙◌, append_assoc, append-nil, codes}
 use Rattle.std.proofs.lemmas.List.{take_more, get_or_read}
 use Rattle.std.proofs.lemmas.List.Elements.{All-get_or}
 use Rattle.std.proofs.lemmas.List.Folds.{flat_map-map}
 use Rattle.std.proofs.lemmas.Option.{unwrap_or-slice_get}
 use Rattle.std.proofs.lemmas.Grind.{flat_map-append}
+use Rattle.std.specs.Fmt.{decimal}
+use Rattle.sky_model.specs.declared.reply.BatchInfo.{BatchInfo}
 use Rattle.sky_model.specs.declared.reply.Reply.{Reply}
-use Rattle.sky_model.specs.Printed.{count_text, line_text, reply_text, name_at, printed, HaveNames}
+use Rattle.sky_model.specs.Printed.{batch_text, count_text, line_text, reply_text, name_at, printed, HaveNames}
+
+-- after a text, a field's name and the field
+field-behind : (old text mid name field new : List ℕ) → mid ≡ old ++ text → new ≡ mid ++ (name ++ field) → new ≡ old ++ (text ++ name ++ field)
+field-behind old text mid name field new before behind =
+    behind ∙ ap (λ front. front ++ (name ++ field)) before ∙ append_assoc old text (name ++ field) ∙ ap (λ more. old ++ more) (sym (append_assoc text name field))
+
+-- the fields of a batch, one after another
+pub batch-printed : (b : BatchInfo) (name who old queue consumer prev_tick tick prev_seq seq : List ℕ) → name ≡ b.queue → who ≡ b.consumer
+    → queue ≡ old ++ (codes "queue " ++ name) → consumer ≡ queue ++ (codes " consumer " ++ who)
+    → prev_tick ≡ consumer ++ (codes " prev_tick" ++ 32 ∷ decimal b.prev_tick) → tick ≡ prev_tick ++ (codes " tick" ++ 32 ∷ decimal b.tick)
+    → prev_seq ≡ tick ++ (codes " prev_seq" ++ 32 ∷ decimal b.prev_seq) → seq ≡ prev_seq ++ (codes " seq" ++ 32 ∷ decimal b.seq) → seq ≡ old ++ batch_text b
+batch-printed b name who old queue consumer prev_tick tick prev_seq seq name_is who_is is_queue is_consumer is_prev_tick is_tick is_prev_seq is_seq =
+    let to_queue = is_queue ∙ ap (λ n. old ++ (codes "queue " ++ n)) name_is in
+    let to_consumer = field-behind old _ queue (codes " consumer ") b.consumer consumer to_queue (is_consumer ∙ ap (λ n. queue ++ (codes " consumer " ++ n)) who_is) in
+    let to_prev_tick = field-behind old _ consumer (codes " prev_tick ") (decimal b.prev_tick) prev_tick to_consumer is_prev_tick in
+    let to_tick = field-behind old _ prev_tick (codes " tick ") (decimal b.tick) tick to_prev_tick is_tick in
+    let to_prev_seq = field-behind old _ tick (codes " prev_seq ") (decimal b.prev_seq) prev_seq to_tick is_prev_seq in
+    field-behind old _ prev_seq (codes " seq ") (decimal b.seq) seq to_prev_seq is_seq
 
 -- the lines of a batch or a table: one for each item, and one for how many they are
 pub lines-listed : {A : Type 0} (name : List ℕ) (text : A → List ℕ) (items : List A)
@@ -26,7 +46,7 @@ printed-take names replies i d within =
     ∙ flat_map-append text (take i replies) (get_or replies i d ∷ [])
     ∙ ap (λ last. printed names (take i replies) ++ last) (append-nil (text (get_or replies i d)))
 
--- an answer, printed behind those before it and by its session's name
+-- an answer, printed after those before it and by its session's name
 pub printed-more : (names : List (List ℕ)) (replies : List (ℕ × Reply)) (i : ℕ) (answer : ℕ × Reply) (name bytes old mid new : List ℕ)
     → HaveNames names replies → i < length replies → answer ≡ get_or replies i answer → name ≡ get_or names answer.0 name → bytes ≡ name
     → mid ≡ old ++ printed names (take i replies) → new ≡ mid ++ reply_text names bytes answer.1 → new ≡ old ++ printed names (take (i + 1) replies)

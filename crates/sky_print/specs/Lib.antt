@@ -1,2 +1,3 @@
 pub mod Calendar
+pub mod Fields
 pub mod Kept

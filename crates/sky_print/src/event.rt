@@ -8,8 +8,7 @@ use crate::moment::print_moment;
 use crate::print::append_number;
 use sky_val::{Event, NoMemory, Text};
 
-// Each of these may leave a part of its text where memory is refused, behind all that stood there
-// before.
+// If memory runs out, each of these may leave a part of its text, after all that was there before.
 
 /// Appends the event's words, without its session's name and the end of its line.
 pub(crate) fn append_event(event: &Event, into: &mut Vec<u8>) -> Result<(), NoMemory>
@@ -37,7 +36,7 @@ fn append_stamp(event: &Event, into: &mut Vec<u8>) -> Result<(), NoMemory>
     into.push(b' ')?;
     print_moment(event.ev_time, into)?;
     append_number_word(event.ev_txid, into)?;
-    append_retry(event.ev_retry, into)
+    append_optional_word(event.ev_retry, into)
 }
 
 // What was put in: type, data and extra fields.
@@ -60,7 +59,7 @@ fn append_texts(event: &Event, into: &mut Vec<u8>) -> Result<(), NoMemory>
     append_text_word(&event.ev_extra4, into)
 }
 
-/// Appends the number, behind a space.
+/// Appends the number, after a space.
 pub(crate) fn append_number_word(number: u64, into: &mut Vec<u8>) -> Result<(), NoMemory>
     ensures ok { OnOk result (into.new.items ≡ into.old.items ++ 32 ∷ decimal number) }
     ensures kept { OnErr result (Keeps into.old.items into.new.items) }
@@ -69,18 +68,18 @@ pub(crate) fn append_number_word(number: u64, into: &mut Vec<u8>) -> Result<(), 
     append_number(number, into)
 }
 
-// How often the event came back or `null`, behind a space.
-fn append_retry(retry: Option<u64>, into: &mut Vec<u8>) -> Result<(), NoMemory>
-    ensures ok { OnOk result (into.new.items ≡ into.old.items ++ 32 ∷ number_or_null retry) }
+/// Appends the number or `null`, after a space.
+pub(crate) fn append_optional_word(number: Option<u64>, into: &mut Vec<u8>) -> Result<(), NoMemory>
+    ensures ok { OnOk result (into.new.items ≡ into.old.items ++ 32 ∷ number_or_null number) }
     ensures kept { OnErr result (Keeps into.old.items into.new.items) }
 {
-    match retry {
+    match number {
         None => into.extend_from_slice(b" null"),
-        Some(count) => append_number_word(count, into),
+        Some(number) => append_number_word(number, into),
     }
 }
 
-// The text in quotes or `null`, behind a space.
+// The text in quotes or `null`, after a space.
 fn append_text_word(text: &Option<Text>, into: &mut Vec<u8>) -> Result<(), NoMemory>
     ensures ok { OnOk result (into.new.items ≡ into.old.items ++ 32 ∷ text_or_null text.now) }
     ensures kept { OnErr result (Keeps into.old.items into.new.items) }
@@ -91,7 +90,7 @@ fn append_text_word(text: &Option<Text>, into: &mut Vec<u8>) -> Result<(), NoMem
     append_quoted_word(text, into)
 }
 
-/// Appends the text in quotes, behind a space.
+/// Appends the text in quotes, after a space.
 pub(crate) fn append_quoted_word(text: &Text, into: &mut Vec<u8>) -> Result<(), NoMemory>
     ensures ok { OnOk result (into.new.items ≡ into.old.items ++ 32 ∷ quoted text.now) }
     ensures kept { OnErr result (Keeps into.old.items into.new.items) }

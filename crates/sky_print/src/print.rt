@@ -1,21 +1,21 @@
 ghost use Rattle.std.specs.Prelude.{◌≡◌, [], ◌∷◌, ◌++◌, map, flat_map, length, codes, OnOk, OnErr};
 ghost use Rattle.std.specs.Fmt.{decimal};
 ghost use Rattle.sky_model.specs.Moment.{moment, HasMoment};
-ghost use Rattle.sky_model.specs.Printed.{event_text, row_text, count_text, queue_text, name_at, refusal_text, line_text, reply_text, printed, HaveNames, EventsHaveMoments, ReplyHasMoments, HaveMoments};
+ghost use Rattle.sky_model.specs.Printed.{event_text, row_text, count_text, queue_text, batch_text, consumer_text, name_at, refusal_text, line_text, reply_text, printed, HaveNames, EventsHaveMoments, ReplyHasMoments, HaveMoments};
 ghost use Rattle.sky_txid.specs.SnapshotText.{snapshot_text};
 ghost use Rattle.sky_print.specs.Kept.{Keeps};
 
 use crate::event::append_event;
 use crate::moment::print_moment;
-use crate::queue::append_queue;
+use crate::queue::{append_batch_info, append_consumer_info, append_queue};
 use crate::refusal::append_refusal;
 use crate::row::append_row;
 use itoa::Buffer;
-use sky_model::{QueueInfo, Refusal, Replies, Reply};
+use sky_model::{BatchInfo, ConsumerInfo, QueueInfo, Refusal, Replies, Reply};
 use sky_txid::Snapshot;
 use sky_val::{Event, NoMemory, Row, SessionId, Text, Val};
 
-/// Appends the lines of these answers, each behind its session's name. A session's number is its
+/// Appends the lines of these answers, each after its session's name. A session's number is its
 /// name's place in `names`.
 pub fn print_replies(names: &[Text], replies: &Replies, into: &mut Vec<u8>) -> Result<(), NoMemory>
     requires named { HaveNames names.now replies.now }
@@ -31,8 +31,8 @@ pub fn print_replies(names: &[Text], replies: &Replies, into: &mut Vec<u8>) -> R
     appended
 }
 
-// Each of the following may leave a part of its text where memory is refused, behind all that stood
-// there before.
+// If memory runs out, each of the following may leave a part of its text, after all that was there
+// before.
 
 fn append_replies(
     names: &[Text],
@@ -50,7 +50,7 @@ fn append_replies(
     Ok(())
 }
 
-// The lines of an answer of the session of this name, where the sessions have these names.
+// The lines of an answer of the session of this name, if the sessions have these names.
 fn append_reply(
     names: &[Text],
     name: &[u8],
@@ -83,6 +83,8 @@ fn append_reply(
         Reply::Rows(rows) => append_listing(name, rows.as_slice(), into),
         Reply::Moment(now) => append_moment(name, *now, into),
         Reply::QueueInfo(queue) => append_queue_line(name, queue, into),
+        Reply::BatchInfo(batch) => append_batch_line(name, batch.as_info(), into),
+        Reply::ConsumerInfo(consumer) => append_consumer_line(name, consumer, into),
         Reply::Refused(refusal) => append_refused(names, name, refusal, into),
     }
 }
@@ -203,6 +205,32 @@ fn append_queue_line(name: &[u8], queue: &QueueInfo, into: &mut Vec<u8>) -> Resu
     Ok(())
 }
 
+fn append_batch_line(name: &[u8], batch: &BatchInfo, into: &mut Vec<u8>) -> Result<(), NoMemory>
+    ensures ok { OnOk result
+        (into.new.items ≡ into.old.items ++ line_text name.now (batch_text batch.now)) }
+    ensures kept { OnErr result (Keeps into.old.items into.new.items) }
+{
+    append_name(name, into)?;
+    append_batch_info(batch, into)?;
+    into.push(b'\n')?;
+    Ok(())
+}
+
+fn append_consumer_line(
+    name: &[u8],
+    consumer: &ConsumerInfo,
+    into: &mut Vec<u8>,
+) -> Result<(), NoMemory>
+    ensures ok { OnOk result
+        (into.new.items ≡ into.old.items ++ line_text name.now (consumer_text consumer.now)) }
+    ensures kept { OnErr result (Keeps into.old.items into.new.items) }
+{
+    append_name(name, into)?;
+    append_consumer_info(consumer, into)?;
+    into.push(b'\n')?;
+    Ok(())
+}
+
 fn append_refused(
     names: &[Text],
     name: &[u8],
@@ -220,7 +248,7 @@ fn append_refused(
     Ok(())
 }
 
-// What stands before a line of the session of this name.
+// What comes before a line of the session of this name.
 fn append_name(name: &[u8], into: &mut Vec<u8>) -> Result<(), NoMemory>
     ensures ok { OnOk result (into.new.items ≡ into.old.items ++ (name.now ++ codes ": ")) }
     ensures kept { OnErr result (Keeps into.old.items into.new.items) }
@@ -231,7 +259,7 @@ fn append_name(name: &[u8], into: &mut Vec<u8>) -> Result<(), NoMemory>
     Ok(())
 }
 
-/// The name of a session, or no byte where it has none.
+/// The name of a session, or no byte if it has none.
 pub(crate) fn name_of(names: &[Text], session: SessionId) -> &[u8]
     ensures { result.now ≡ name_at names.now session }
 {

@@ -1,14 +1,16 @@
-ghost use Rattle.std.specs.Prelude.{◌≡◌, ◌∷◌, ◌++◌, map, codes, OnOk, OnErr};
+ghost use Rattle.std.specs.Prelude.{◌≡◌, true, ℕ, List, ◌∷◌, ◌++◌, map, codes, OnOk, OnErr};
 ghost use Rattle.std.specs.Fmt.{decimal};
 ghost use Rattle.sky_model.specs.Printed.{spaced, limit_name, limit_text, bad_row_text, name_at, refusal_text};
+ghost use Rattle.sky_print.specs.Fields.{has_no_field};
 ghost use Rattle.sky_print.specs.Kept.{Keeps};
 
+use crate::event::append_number_word;
 use crate::print::{append_number, name_of};
 use sky_model::{BadRow, Limit, Refusal};
 use sky_val::{NoMemory, SessionId, Text};
 
-/// Appends the refusal's name and its fields. Sessions stand there by these names. Where memory is
-/// refused a part of them may be left, behind all that stood there before.
+/// Appends the refusal's name and its fields. Sessions are printed by these names. If memory runs
+/// out a part of them may be left, after all that was there before.
 pub(crate) fn append_refusal(
     names: &[Text],
     refusal: &Refusal,
@@ -18,31 +20,18 @@ pub(crate) fn append_refusal(
     ensures kept { OnErr result (Keeps into.old.items into.new.items) }
 {
     match refusal {
-        Refusal::Aborted => into.extend_from_slice(b"Aborted"),
-        Refusal::AlreadyOpen => into.extend_from_slice(b"AlreadyOpen"),
         Refusal::BadColumn(column) => append_named(b"BadColumn ", column.bytes(), into),
         Refusal::BadRow(why) => append_bad_row(why, into),
-        Refusal::BadSnapshot => into.extend_from_slice(b"BadSnapshot"),
         Refusal::BadValue(param) => append_named(b"BadValue ", param.bytes(), into),
-        Refusal::Busy => into.extend_from_slice(b"Busy"),
-        Refusal::Canceled => into.extend_from_slice(b"Canceled"),
-        Refusal::ClockSpent => into.extend_from_slice(b"ClockSpent"),
         Refusal::Deadlock(waiters) => append_deadlock(names, waiters.as_slice(), into),
-        Refusal::Duplicate => into.extend_from_slice(b"Duplicate"),
-        Refusal::EventIdsSpent => into.extend_from_slice(b"EventIdsSpent"),
         Refusal::HasConsumers(count) => append_numbered(b"HasConsumers ", *count, into),
         Refusal::HasTriggers(name) => append_named(b"HasTriggers ", name.bytes(), into),
-        Refusal::IdsSpent => into.extend_from_slice(b"IdsSpent"),
-        Refusal::InTransaction => into.extend_from_slice(b"InTransaction"),
         Refusal::KeyChange(column) => append_named(b"KeyChange ", column.bytes(), into),
-        Refusal::NoBatch => into.extend_from_slice(b"NoBatch"),
         Refusal::NoConsumer(name) => append_named(b"NoConsumer ", name.bytes(), into),
-        Refusal::NodeConsumer => into.extend_from_slice(b"NodeConsumer"),
-        Refusal::NoKey => into.extend_from_slice(b"NoKey"),
         Refusal::NoParam(param) => append_named(b"NoParam ", param.bytes(), into),
         Refusal::NoQueue(name) => append_named(b"NoQueue ", name.bytes(), into),
         Refusal::NoTable(name) => append_named(b"NoTable ", name.bytes(), into),
-        Refusal::NotOpen => into.extend_from_slice(b"NotOpen"),
+        Refusal::NoTick(tick, newest) => append_numbers(b"NoTick ", *tick, *newest, into),
         Refusal::OutOfRange(column) => append_named(b"OutOfRange ", column.bytes(), into),
         Refusal::QueueBusy(txid) => append_numbered(b"QueueBusy ", *txid, into),
         Refusal::ReservedColumn(column) => append_named(b"ReservedColumn ", column.bytes(), into),
@@ -52,7 +41,33 @@ pub(crate) fn append_refusal(
         Refusal::TooMany(limit) => append_limit(*limit, into),
         Refusal::TriggerExists(name) => append_named(b"TriggerExists ", name.bytes(), into),
         Refusal::TwiceNamed(column) => append_named(b"TwiceNamed ", column.bytes(), into),
-        Refusal::TxidsSpent => into.extend_from_slice(b"TxidsSpent"),
+        _ => into.extend_from_slice(name_alone(refusal)),
+    }
+}
+
+// The name of a refusal of which nothing else is printed.
+fn name_alone(refusal: &Refusal) -> &'static [u8]
+    requires { has_no_field refusal.now ≡ true }
+    ensures { (names : List (List ℕ)) → result.now ≡ refusal_text names refusal.now }
+{
+    match refusal {
+        Refusal::Aborted => b"Aborted",
+        Refusal::AlreadyOpen => b"AlreadyOpen",
+        Refusal::BadSnapshot => b"BadSnapshot",
+        Refusal::Busy => b"Busy",
+        Refusal::Canceled => b"Canceled",
+        Refusal::ClockSpent => b"ClockSpent",
+        Refusal::Duplicate => b"Duplicate",
+        Refusal::EventIdsSpent => b"EventIdsSpent",
+        Refusal::IdsSpent => b"IdsSpent",
+        Refusal::InTransaction => b"InTransaction",
+        Refusal::NoBatch => b"NoBatch",
+        Refusal::NoEvent => b"NoEvent",
+        Refusal::NodeConsumer => b"NodeConsumer",
+        Refusal::NoKey => b"NoKey",
+        Refusal::NotOpen => b"NotOpen",
+        Refusal::TxidsSpent => b"TxidsSpent",
+        _ => unreachable!(),
     }
 }
 
@@ -87,7 +102,7 @@ fn append_deadlock(
     Ok(())
 }
 
-// A name, behind a space.
+// A name, after a space.
 fn append_name_word(name: &[u8], into: &mut Vec<u8>) -> Result<(), NoMemory>
     ensures ok { OnOk result (into.new.items ≡ into.old.items ++ 32 ∷ name.now) }
     ensures kept { OnErr result (Keeps into.old.items into.new.items) }
@@ -96,8 +111,8 @@ fn append_name_word(name: &[u8], into: &mut Vec<u8>) -> Result<(), NoMemory>
     into.extend_from_slice(name)
 }
 
-// A refusal's name, which ends in a space, and its field.
-fn append_named(name: &[u8], field: &[u8], into: &mut Vec<u8>) -> Result<(), NoMemory>
+/// Appends a name, which ends in a space, and the text after it.
+pub(crate) fn append_named(name: &[u8], field: &[u8], into: &mut Vec<u8>) -> Result<(), NoMemory>
     ensures ok { OnOk result (into.new.items ≡ into.old.items ++ (name.now ++ field.now)) }
     ensures kept { OnErr result (Keeps into.old.items into.new.items) }
 {
@@ -114,7 +129,17 @@ fn append_numbered(name: &[u8], number: u64, into: &mut Vec<u8>) -> Result<(), N
     append_number(number, into)
 }
 
-// The refusal that there are as many as there can be.
+// A refusal's name, which ends in a space, and two numbers.
+fn append_numbers(name: &[u8], number: u64, other: u64, into: &mut Vec<u8>) -> Result<(), NoMemory>
+    ensures ok { OnOk result (into.new.items
+        ≡ into.old.items ++ (name.now ++ decimal number ++ 32 ∷ decimal other)) }
+    ensures kept { OnErr result (Keeps into.old.items into.new.items) }
+{
+    append_numbered(name, number, into)?;
+    append_number_word(other, into)
+}
+
+// The refusal that a limit is reached.
 fn append_limit(limit: Limit, into: &mut Vec<u8>) -> Result<(), NoMemory>
     ensures ok { OnOk result (into.new.items ≡ into.old.items ++ (codes "TooMany " ++ limit_text limit)) }
     ensures kept { OnErr result (Keeps into.old.items into.new.items) }

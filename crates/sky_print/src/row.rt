@@ -7,8 +7,7 @@ use crate::event::append_quoted_word;
 use itoa::Buffer;
 use sky_val::{NoMemory, Val};
 
-// Each of these may leave a part of its text where memory is refused, behind all that stood there
-// before.
+// If memory runs out, each of these may leave a part of its text, after all that was there before.
 
 /// Appends a row of these values, without its session's name and the end of its line.
 pub(crate) fn append_row(values: &[Val], into: &mut Vec<u8>) -> Result<(), NoMemory>
@@ -22,7 +21,7 @@ pub(crate) fn append_row(values: &[Val], into: &mut Vec<u8>) -> Result<(), NoMem
     Ok(())
 }
 
-// A value, behind a space.
+// A value, after a space.
 fn append_value_word(value: &Val, into: &mut Vec<u8>) -> Result<(), NoMemory>
     ensures ok { OnOk result (into.new.items ≡ into.old.items ++ 32 ∷ value_text value.now) }
     ensures kept { OnErr result (Keeps into.old.items into.new.items) }
@@ -34,7 +33,7 @@ fn append_value_word(value: &Val, into: &mut Vec<u8>) -> Result<(), NoMemory>
     }
 }
 
-// A number with its sign, behind a space.
+// A number with its sign, after a space.
 fn append_signed_word(number: i64, into: &mut Vec<u8>) -> Result<(), NoMemory>
     ensures ok { OnOk result (into.new.items ≡ into.old.items ++ 32 ∷ signed_decimal number) }
     ensures kept { OnErr result (Keeps into.old.items into.new.items) }

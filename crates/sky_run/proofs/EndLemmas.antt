@@ -20,7 +20,7 @@ use Rattle.sky_run.specs.Running.{GoesOn, said_in}
 use Rattle.sky_run.proofs.RunningLemmas.{GoesOn-read, GoesOn-taken}
 use Rattle.sky_run.specs.Ends.{Why, Ends, IsBadLine, IsCut, end_of}
 
--- what was written and gathered, and what the rest of the script prints, is what the script prints
+-- what was written and gathered, with what the rest of the script prints, is what the script prints
 prints_all : {world : World} {n taken : ℕ} {pending gathered : List ℕ} {source first held : Option (List ℕ)} {bytes : List ℕ} (left : List ℕ)
     → (g : GoesOn world n taken pending gathered source first held bytes) → g.left ≡ left
     → (g.written ++ gathered) ++ transcript_from (past_of g.calls) taken (pending ++ left) ≡ transcript bytes
@@ -88,7 +88,7 @@ Ends-read {n = n} {taken = taken} {unread = unread} {gathered = gathered} g unbr
   };
 }
 
--- memory is refused
+-- memory runs out
 pub Ends-no_memory : {world : World} {n taken : ℕ} {pending gathered : List ℕ} {source first held : Option (List ℕ)} {bytes : List ℕ} (after : Option (List ℕ))
     → GoesOn world n taken pending gathered source first held bytes → Ends NoMemory after first held gathered bytes
 Ends-no_memory {n = n} {taken = taken} {pending = pending} after g = record {
@@ -134,12 +134,12 @@ Ends-cut Read new_after new_held e prefix is_cut = absurd is_cut
 Ends-cut Write new_after new_held e prefix is_cut = part Write new_after new_held e prefix (λ text. tt)
 Ends-cut NoMemory new_after new_held e prefix is_cut = part NoMemory new_after new_held e prefix (λ text. tt)
 
--- the same where the run would have gone on
+-- the same if the run would have continued
 pub GoesOn-cut : {world : World} {n taken : ℕ} {pending gathered : List ℕ} {source first held : Option (List ℕ)} {bytes : List ℕ} (cut : End) (after new_held : Option (List ℕ))
     → AppendsPrefix held new_held gathered → IsCut cut → GoesOn world n taken pending gathered source first held bytes → Ends cut after first new_held [] bytes
 GoesOn-cut cut after new_held prefix is_cut g = Ends-cut cut after new_held (Ends-no_memory after g) prefix is_cut
 
--- the reader met the end
+-- the reader reached the end
 pub GoesOn-end : {world : World} {n : ℕ} {gathered : List ℕ} {source first held : Option (List ℕ)} {bytes : List ℕ} (old new : Reader) (after : Option (List ℕ))
     → ((left : List ℕ) → source ≡ Some left → EndsLines old new left after) → GoesOn world n old.taken old.pending gathered source first held bytes → Ends Whole after first held gathered bytes
 GoesOn-end old new after ended g = let ends = ended g.left g.told in Ends-whole after g.left g g.told ends.nothing_left ends.after_is

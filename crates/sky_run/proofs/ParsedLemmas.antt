@@ -1,4 +1,4 @@
--- What a line says, by what came of parsing it.
+-- What a line says, by the result of parsing it.
 use Rattle.std.proofs.Common.{◌≡◌, ℕ, List, Bool, true, false, Result, Ok, Err, refl, sym, ap, subst, ◌∙◌, if◌then◌else◌}
 use Rattle.std.specs.Prelude.{◌↔◌, OnOk, OnErr, IfErr}
 use Rattle.std.specs.Str.{IsUtf8, is_utf8}
@@ -13,7 +13,7 @@ use Rattle.sky_script.specs.Reading.{IsAnswer}
 use Rattle.sky_run.specs.Running.{said_in}
 use Rattle.sky_run.specs.Ends.{IsBadLine, end_by}
 
--- the result tells what the nth line says, or memory was wanting
+-- the result is what the nth line says, or out of memory
 abbrev pub Tells : ℕ → Result Line LineCause → Said → Type 0
 Tells n (Ok line) says = says ≡ said_by (Ok line)
 Tells n (Err cause) says = IsBadLine (end_by cause n) n says
@@ -33,7 +33,7 @@ by_utf8 n line r false is not_utf8 is_answer =
     let r_is : r ≡ Err NotUtf8 = not_utf8.1 (λ well. let contrary = sym is ∙ is_utf8-from_IsUtf8 line well in cc) in
     subst (λ (result : Result Line LineCause). Tells n result (said_in line)) (sym r_is) (refl, said_in-by line false is)
 
--- what came of parsing a line tells what it says
+-- the result of parsing a line is what it says
 pub Tells-parsed : (n : ℕ) (line : List ℕ) (r : Result Line LineCause) → (r ≡ Err NotUtf8) ↔ ¬ (IsUtf8 line) → (IsUtf8 line → IsAnswer r (line_of line)) → Tells n r (said_in line)
 Tells-parsed n line r not_utf8 is_answer = by_utf8 n line r (is_utf8 line) refl not_utf8 is_answer
 

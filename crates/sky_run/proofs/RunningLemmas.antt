@@ -1,4 +1,4 @@
--- How a run goes on.
+-- How a run proceeds.
 use Rattle.std.proofs.Common.{◌≡◌, ℕ, ◌+◌, List, [], ◌∷◌, ◌++◌, length, refl, sym, ap, ◌∙◌, append_assoc, append-nil}
 use Rattle.std.specs.Prelude.{Option, Some, All}
 use Rattle.std.specs.Io.KnownBytes.{Appends}
@@ -109,7 +109,7 @@ GoesOn-asks {n = n} {gathered = gathered} taken line pending call g says called 
           ∙ bad_line_from-asks n taken line (pending ++ more) call unbroken says;
     }
 
--- a line that says nothing is passed by
+-- a line that says nothing is skipped
 GoesOn-idle : {old new : World} {n : ℕ} {gathered more_gathered : List ℕ} {source first held : Option (List ℕ)} {bytes : List ℕ} (taken : ℕ) (line pending : List ℕ)
     → GoesOn old n taken (line ++ 10 ∷ pending) gathered source first held bytes → said taken line ≡ idle → new ≡ old → more_gathered ≡ gathered → IsUnbroken line
     → GoesOn new (n + 1) (taken + length line + 1) pending more_gathered source first held bytes
@@ -163,6 +163,6 @@ GoesOn-line old new after line line_taken answers g =
     let says : said old.taken line ≡ said_in line = said-fits old.taken line takes.line_fits (rw (← takes.taken_is) takes.script_fits) in
     rw takes.taken_is (GoesOn-answered old.taken line new.pending (said_in line) (GoesOn-taken old new g.left after line g g.told takes) says answers takes.unbroken)
 
--- a fresh run has come nowhere yet
+-- a fresh run has read and written nothing
 pub Goes-start : (run : Run) (source held : Option (List ℕ)) (bytes : List ℕ) → IsFresh run → source ≡ Some bytes → Goes run source held held bytes
 Goes-start run source held bytes fresh told = rw (fresh.reader_is, fresh.gathered_is, fresh.number_is) (GoesOn-start (seen_world run.world) source held bytes fresh.world_is told)

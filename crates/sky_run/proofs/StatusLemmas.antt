@@ -41,7 +41,7 @@ PrintsGiven-ends {held = held} {new_held = new_held} e = record {
   printed = subst (Appends held new_held) (sym (append-nil e.written) ∙ e.why.printed) e.appends;
 }
 
--- without a fault the script decides, unless memory is wanting
+-- without a fault the script decides, unless memory runs out
 pub due_status-whole : {after held new_held : Option (List ℕ)} {bytes : List ℕ} (words : Bool) → words ≡ true → Ends Whole after held new_held [] bytes → (◌≡◌ {A = ℕ} 0 5) ⊎ (◌≡◌ {A = ℕ} 0 (due_status words bytes))
 due_status-whole words known e = inr (rw (known, e.why.none_bad) refl)
 
@@ -51,6 +51,6 @@ due_status-bad words line cause status known e (inl bad) not_write = inr (rw (kn
 due_status-bad words line cause status known e (inr (inl write)) not_write = absurd (not_write write)
 due_status-bad words line cause status known e (inr (inr memory)) not_write = inl memory
 
--- the parts of what is said of a bad line
+-- the parts of the message about a bad line
 pub bad_text-parts : (line : ℕ) (cause : Cause) → bad_text (line, cause) ≡ codes "line " ++ (decimal line ++ (codes ": " ++ (cause_text cause ++ 10 ∷ [])))
 bad_text-parts line cause = simp append_assoc

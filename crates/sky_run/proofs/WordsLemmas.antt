@@ -1,4 +1,4 @@
--- What the command makes of the words that it is given.
+-- How the command reads the words that it is given.
 use Rattle.std.proofs.Common.{◌≡◌, ◌||◌, ℕ, List, [], ◌∷◌, Bool, Option, Some, None, true, false, refl, sym, ap, ap₂, subst, String, string_bytes, ◌≤◌, arith, length, nat_lt, ltb-false, ◌∙◌, codes, true≢false}
 use Rattle.std.specs.List.{AllByRecursion, list_any}
 use Rattle.std.specs.Option.{option_map}
@@ -46,7 +46,7 @@ abbrev rest : List (List ℕ) → Option (List (List ℕ))
 rest [] = None
 rest (x ∷ xs) = Some (x ∷ xs)
 
--- the mode and the values that are read of words
+-- the mode and the values that words are read as
 abbrev read : List (List ℕ) → Option (List ℕ) × Option (List (List ℕ))
 read words = (mode_in (matches_of app words), values_in (matches_of app words))
 
@@ -65,7 +65,7 @@ says_run_words [] few p = refl
 says_run_words (x ∷ []) few p = ap (λ q. says_run q.0 q.1) (read_words x [] few p)
 says_run_words (x ∷ y ∷ xs) few p = ap (λ q. says_run q.0 q.1) (read_words x (y ∷ xs) few p)
 
--- words that aren't refused say `run` just where they are that word
+-- words that aren't refused say `run` if and only if they are that word
 pub says_run_texts : {A : Type 0} (words : List (String A)) → is_refused words ≡ false
     → says_run (mode_in (matches_of app (texts words))) (values_in (matches_of app (texts words))) ≡ is_run (texts words)
 says_run_texts words h =
@@ -83,7 +83,7 @@ refused_texts (x ∷ []) h = sym (false_from_ne_true _ (λ is.
     true≢false (sym dash)))
 refused_texts (x ∷ y ∷ xs) h = refl
 
--- the one word `run` is taken
+-- the one word `run` is accepted
 takes_if_run : (words : List (List ℕ)) → is_run words ≡ true → takes app words ≡ true
 takes_if_run [] h = absurd (true≢false (sym h))
 takes_if_run (x ∷ []) h = rw ((bytes_eq-Decides x (codes "run")).0 h) takes_run

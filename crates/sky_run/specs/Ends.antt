@@ -22,11 +22,11 @@ pub record StopsAt (n : ℕ) (cause : Cause) (text bytes : List ℕ) : Type 0 wh
   pub is_bad : bad_line bytes ≡ Some (n, cause)
   pub printed : text ≡ transcript bytes
 
--- bytes are good so far: no line of theirs is bad but a last one that its line feed doesn't end yet
+-- bytes are good so far: no line of theirs is bad, except perhaps a last one without a line feed
 abbrev pub IsGoodSoFar : List ℕ → Type 0
 IsGoodSoFar bytes = (n : ℕ) (cause : Cause) → bad_line bytes ≡ Some (n, cause) → cause ≡ causes.Truncated
 
--- the source gave some bytes, which are good so far, and has the others left, and the text is what those that it gave print
+-- the source gave some bytes, which are good so far, and has the others left, and the text is what the given ones print
 pub record IsOfGiven (after : Option (List ℕ)) (text bytes : List ℕ) : Type 0 where
   pub given : List ℕ
   pub left : List ℕ
@@ -35,7 +35,7 @@ pub record IsOfGiven (after : Option (List ℕ)) (text bytes : List ℕ) : Type 
   pub good : IsGoodSoFar given
   pub printed : text ≡ transcript given
 
--- why a run ends there: how the text stands to the script, and what the source has left
+-- why a run ends: how the text relates to the script, and what the source has left
 abbrev pub Why : End → Option (List ℕ) → List ℕ → List ℕ → Type 0
 Why Whole after text bytes = IsWhole after text bytes
 Why (Bad n cause) after text bytes = StopsAt n cause text bytes
@@ -51,13 +51,13 @@ pub record Ends (end : End) (after first held : Option (List ℕ)) (gathered byt
   pub begins : (written ++ gathered) ++ rest ≡ transcript bytes
   pub why : Why end after (written ++ gathered) bytes
 
--- the nth line is bad by what it says, or memory was wanting
+-- the nth line is bad by what it says, or memory ran out
 abbrev pub IsBadLine : End → ℕ → Said → Type 0
 IsBadLine (Bad k cause) n says = (k ≡ n) × (says ≡ bad cause)
 IsBadLine NoMemory n says = ⊤
 IsBadLine _ n says = ⊥
 
--- a sink took no more
+-- a sink accepted no more
 abbrev pub IsCut : End → Type 0
 IsCut Write = ⊤
 IsCut NoMemory = ⊤
@@ -71,7 +71,7 @@ end_of faults.Truncated n = Bad n causes.Truncated
 end_of faults.ScriptTooLong n = Bad n causes.ScriptTooLong
 end_of faults.NoMemory n = NoMemory
 
--- the end that the nth line makes, which was not parsed
+-- the end that the nth line makes if it wasn't parsed
 abbrev pub end_by : LineCause → ℕ → End
 end_by line_causes.NotUtf8 n = Bad n causes.NotUtf8
 end_by (line_causes.BadWord k) n = Bad n (causes.BadWord k)

@@ -1,11 +1,11 @@
--- How far a run has come, as the program keeps it.
+-- How far a run has got, as the program keeps it.
 use Rattle.std.specs.Prelude.{◌≡◌, ℕ, ◌+◌, ◌≤◌, List, [], Option, None}
 use Rattle.sky_model.specs.World.{world_of}
 use Rattle.sky_world.specs.Seen.{seen_world}
 use Rattle.sky_run.specs.declared.run.Run.{Run}
 use Rattle.sky_run.specs.Running.{GoesOn}
 
--- the run has come so far
+-- the run has got so far
 abbrev pub Goes : Run → (source first held : Option (List ℕ)) → List ℕ → Type 0
 Goes run source first held bytes = GoesOn (seen_world run.world) run.number run.reader.taken run.reader.pending run.gathered.items source first held bytes
 
@@ -16,12 +16,12 @@ pub record IsFresh (run : Run) : Type 0 where
   pub gathered_is : run.gathered.items ≡ []
   pub number_is : run.number ≡ 1
 
--- each line that was taken has a byte at least, and the reader gave no fault
+-- each line that was taken has one byte or more, and the reader gave no fault
 pub record Counts (run : Run) : Type 0 where
   pub number_fits : run.number ≤ run.reader.taken + 1
   pub sound : run.reader.fault ≡ None
 
--- all but what is gathered is as it was
+-- all but what is gathered is unchanged
 pub record SameButGathered (old new : Run) : Type 0 where
   pub world_is : new.world ≡ old.world
   pub reader_is : new.reader ≡ old.reader

@@ -1,4 +1,4 @@
--- How far a run has come.
+-- How far a run has got.
 use Rattle.std.specs.Prelude.{◌≡◌, ℕ, List, [], ◌∷◌, ◌++◌, Option, Some, All, if◌then◌else◌}
 use Rattle.std.specs.Str.{is_utf8}
 use Rattle.std.specs.Io.KnownBytes.{Appends}
@@ -11,10 +11,9 @@ use Rattle.sky_model.specs.Transcript.{Said, asks, idle, bad, said_by, transcrip
 use Rattle.sky_model.specs.World.{World, world_of}
 use Rattle.sky_model.specs.Calls.{Call, past_of}
 
--- The source told these bytes when the run began, and the sink held `first`. So many bytes were taken as
--- lines and the next line is the nth; the pending bytes were read and stand in no line yet, and the
--- gathered ones are still to be written. However the script goes on behind what was read, what it prints is
--- what was written and gathered, and what it prints from the nth line on; and its first bad line stands there.
+-- The source had these bytes when the run began, and the sink held `first`. `taken` bytes were taken as lines and the next line is the nth; the
+-- pending bytes were read and are in no line yet, and the gathered ones are still to be written. However the script continues after what was read, it
+-- prints what was written and gathered, and then what it prints from the nth line on; and its first bad line is from there on.
 pub record GoesOn (world : World) (n taken : ℕ) (pending gathered : List ℕ) (source first held : Option (List ℕ)) (bytes : List ℕ) : Type 0 where
   pub calls : List Call
   pub read : List ℕ
@@ -32,14 +31,14 @@ pub record GoesOn (world : World) (n taken : ℕ) (pending gathered : List ℕ) 
 abbrev pub said_in : List ℕ → Said
 said_in line = if is_utf8 line then said_by (line_of line) else bad NotUtf8
 
--- a call in form was answered in a world, and its answers were put behind what was gathered
+-- a call in form was answered in a world, and its answers were appended to what was gathered
 pub record Called (old new : World) (call : Call) (gathered more : List ℕ) : Type 0 where
   pub replies : List (ℕ × Reply)
   pub in_form : IsCallInForm call
   pub steps : Steps old new call replies
   pub prints : more ≡ gathered ++ printed (new.sessions ++ call.who ∷ []) replies
 
--- what a line says was answered in a world: its call, or nothing, and then all stays
+-- what a line says was answered in a world: its call; or nothing, and then all stays
 abbrev pub Answers : Said → (old new : World) → (gathered more : List ℕ) → Type 0
 Answers (asks call) old new gathered more = Called old new call gathered more
 Answers idle old new gathered more = (new ≡ old) × (more ≡ gathered)

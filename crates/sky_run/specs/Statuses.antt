@@ -11,7 +11,7 @@ use Rattle.sky_run.specs.Ends.{IsGoodSoFar}
 abbrev pub texts : {A : Type 0} → List (String A) → List (List ℕ)
 texts words = map string_bytes words
 
--- the statuses there are, where the words are known and where they aren't
+-- the possible statuses, if the words are known and if they aren't
 abbrev pub Known : Bool → ℕ → Type 0
 Known true status = (status ≡ 0) ⊎ (status ≡ 2) ⊎ (status ≡ 3) ⊎ (status ≡ 4) ⊎ (status ≡ 5)
 Known false status = (status ≡ 64) ⊎ (status ≡ 4) ⊎ (status ≡ 5)
@@ -22,7 +22,7 @@ pub record PrintsWhole (after held new_held : Option (List ℕ)) (bytes : List �
   pub none_bad : bad_line bytes ≡ None
   pub printed : Appends held new_held (transcript bytes)
 
--- a line is bad, the sink got what the lines before the first such print, and the other sink was told its number and cause
+-- a line is bad, the sink got what the lines before the first such print, and the other sink got its number and cause
 pub record TellsBadLine (held new_held err new_err : Option (List ℕ)) (bytes : List ℕ) : Type 0 where
   pub line : ℕ
   pub cause : Cause
@@ -30,7 +30,7 @@ pub record TellsBadLine (held new_held err new_err : Option (List ℕ)) (bytes :
   pub printed : Appends held new_held (transcript bytes)
   pub told : Appends err new_err (bad_text (line, cause))
 
--- the source gave some bytes, which are good so far, and has the others left, and the sink got what the lines print that it gave whole
+-- the source gave some bytes, which are good so far, and has the others left, and the sink got what the complete lines among them print
 pub record PrintsGiven (after held new_held : Option (List ℕ)) (bytes : List ℕ) : Type 0 where
   pub given : List ℕ
   pub left : List ℕ
@@ -39,22 +39,22 @@ pub record PrintsGiven (after held new_held : Option (List ℕ)) (bytes : List �
   pub good : IsGoodSoFar given
   pub printed : Appends held new_held (transcript given)
 
--- what is said of a script's first bad line, if there is one
+-- the message about a script's first bad line, if there is one
 abbrev pub bad_line_text : Option (ℕ × Cause) → List ℕ
 bad_line_text None = []
 bad_line_text (Some line) = bad_text line
 
--- what is to be said, where the words are known and where they aren't
+-- the complaint, if the words are known and if they aren't
 abbrev pub complaint : Bool → List ℕ → List ℕ
 complaint true bytes = bad_line_text (bad_line bytes)
 complaint false bytes = usage
 
--- the status that a script deserves
+-- the status of a script
 abbrev pub script_status : Option (ℕ × Cause) → ℕ
 script_status None = 0
 script_status (Some line) = 2
 
--- the status that is due where nothing fails
+-- the status if nothing fails
 abbrev pub due_status : Bool → List ℕ → ℕ
 due_status true bytes = script_status (bad_line bytes)
 due_status false bytes = 64

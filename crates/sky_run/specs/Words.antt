@@ -1,4 +1,4 @@
--- The command that reads the program's words, and what is read of them.
+-- The command that reads the program's words, and what they are read as.
 use Rattle.std.specs.Prelude.{ℕ, ◌==◌, ◌||◌, nat_lt, Bool, true, false, List, length, slice_index, Option, Some, None, String, string_bytes, codes, bytes_eq}
 use Rattle.std.specs.List.{list_any}
 use Rattle.clap.specs.Words.{App, Row, Rule, all_of, first_of, new_app, new_rule, with_rule}

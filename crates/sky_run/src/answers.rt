@@ -6,8 +6,8 @@ use sky_print::print_replies;
 use sky_val::{NoMemory, SessionId, Text};
 use std::alloc::Global;
 
-/// Appends what a call's answers print. A session that is one too many has no number of its own, and
-/// its name stands behind the others.
+/// Appends what a call's answers print. A session that exceeds the limit has no number of its own,
+/// and its name comes after the others.
 pub fn print_answers(
     alloc: Global,
     names: &[Text],
@@ -36,7 +36,7 @@ fn have_names(names: &[Text], replies: &Replies) -> bool
         .all(|(session, reply)| is_named(names, *session, reply))
 }
 
-// Whether the session has a name, and each session that its answer speaks of.
+// Whether the session has a name, and each session that its answer names.
 fn is_named(names: &[Text], session: SessionId, reply: &Reply) -> bool
     ensures { IsTrue result
         ↔ ((session < length names.now) × All (λ who. who < length names.now) (sessions_in reply.now)) }

@@ -11,6 +11,6 @@ pub enum End {
     Read,
     /// A sink failed.
     Write,
-    /// Memory was refused.
+    /// Memory ran out.
     NoMemory,
 }

@@ -22,16 +22,15 @@ const BAD_LINE: u8 = 2;
 const READ_FAULT: u8 = 3;
 /// A sink failed.
 const WRITE_FAULT: u8 = 4;
-/// Memory was refused.
+/// Memory ran out.
 const NO_MEMORY: u8 = 5;
 /// The words are none that the program knows.
 const BAD_WORDS: u8 = 64;
 
 const USAGE: &str = "usage: pgqrun run\n";
 
-/// Runs the program: `words` are those after its name, the script comes from `src`, what it prints goes
-/// to `out` and a complaint to `err`. Answers the exit status. The memory of the script's world is kept to
-/// the process's end.
+/// Runs the program: `words` are those after its name, the script comes from `src`, what it prints goes to `out` and a
+/// complaint to `err`. Answers the exit status. The memory of the script's world is kept until the process ends.
 pub fn run_main<S: Source, O: Sink, E: Sink>(
     alloc: Global,
     words: &Vec<String>,
@@ -57,7 +56,7 @@ pub fn run_main<S: Source, O: Sink, E: Sink>(
     ensures quiet { (result ≡ 0) ⊎ (result ≡ 3) → err.new ≡ err.old }
     ensures unread { spec.is_run (texts words.now.items) ≡ false → (src.new ≡ src.old) × (out.new ≡ out.old) × AppendsPrefix (E.held err.old) (E.held err.new) spec.usage }
 
-    // Without a fault the words and the script decide, unless memory is wanting.
+    // Without a fault the words and the script decide, unless memory runs out.
     ensures due { (bytes : List ℕ) → S.left src.old ≡ Some bytes → ¬ (Rose (S.faults src.old) (S.faults src.new))
         → ¬ (Rose (O.faults out.old) (O.faults out.new)) → ¬ (Rose (E.faults err.old) (E.faults err.new))
         → (result ≡ 5) ⊎ (result ≡ due_status (spec.is_run (texts words.now.items)) bytes) }
@@ -92,7 +91,7 @@ fn report_bad_line<E: Sink>(alloc: Global, line: u64, cause: Cause, err: &mut E)
     }
 }
 
-// What is said of a bad line.
+// The message about a bad line.
 fn bad_text(alloc: Global, line: u64, cause: Cause) -> Result<String, AllocError>
     ensures { IfOk result (λ text. string_bytes text ≡ bad_text (line, cause)) }
 {

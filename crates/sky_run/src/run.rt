@@ -22,10 +22,10 @@ use sky_world::World;
 use std::alloc::{AllocError, Global};
 use std::mem;
 
-/// Where more bytes than these are gathered behind a line, they are written.
+/// If more bytes than these are gathered after a line, they are written.
 const MOST_GATHERED: usize = 65_536;
 
-/// Runs the script that the source gives to where it ends, and writes what it answers.
+/// Runs the script that the source gives to its end or its first bad line, and writes what it answers.
 pub fn run_lines<S: Source, O: Sink>(alloc: Global, src: &mut S, out: &mut O) -> End
     ensures ends { (bytes : List ℕ) → S.left src.old ≡ Some bytes → Ends result (S.left src.new) (O.held out.old) (O.held out.new) [] bytes }
     ensures read { result ≡ End.Read → Rose (S.faults src.old) (S.faults src.new) }
@@ -34,7 +34,7 @@ pub fn run_lines<S: Source, O: Sink>(alloc: Global, src: &mut S, out: &mut O) ->
     match Run::new(alloc) {
         Ok(mut fresh) => {
             let end = fresh.finish(src, out);
-            // The program ends behind this, and then all memory goes at once.
+            // The program ends after this, and then all memory is freed at once.
             mem::forget(fresh);
             end
         }
@@ -42,13 +42,13 @@ pub fn run_lines<S: Source, O: Sink>(alloc: Global, src: &mut S, out: &mut O) ->
     }
 }
 
-// A script that is run.
+// A script that is running.
 #[derive(Drop)]
 struct Run {
     alloc: Global,
     world: World,
     reader: LineReader,
-    // The answers of the last statement, whose memory the next ones use.
+    // The answers of the last statement, whose memory the next ones reuse.
     replies: Replies,
     // What was answered and is still to be written.
     gathered: Vec<u8>,
@@ -110,12 +110,12 @@ impl Run {
         }
     }
 
-    // Whether the next line asks for more of the source.
+    // Whether the next line needs more of the source.
     fn reads(&self) -> bool {
         !self.reader.is_at_hand()
     }
 
-    // Whether so much is gathered that it is written now.
+    // Whether enough is gathered to be written now.
     fn has_many(&self) -> bool {
         self.gathered.len() > MOST_GATHERED
     }
@@ -140,7 +140,7 @@ impl Run {
         }
     }
 
-    // Answers the line that was taken, where it stands, and counts it.
+    // Answers the line that was taken, in place, and counts it.
     fn answer(&mut self) -> Result<(), End>
         requires { self.old.number ≤ most_in_script }
         ensures answers { OnOk result (Answers (said_in self.old.reader.line) (seen_world self.old.world) (seen_world self.new.world) self.old.gathered.items self.new.gathered.items) }
@@ -223,7 +223,7 @@ impl Run {
         }
     }
 
-    // The end that a line makes that was not parsed.
+    // The end that a line makes if it wasn't parsed.
     fn end_by(&self, cause: LineCause) -> End
         ensures { result ≡ end_by cause self.now.number }
     {
@@ -234,7 +234,7 @@ impl Run {
         }
     }
 
-    // Writes what was answered, where it is wanted.
+    // Writes what was answered, if that is wanted.
     fn write_where<O: Sink>(&mut self, wanted: bool, out: &mut O) -> Result<(), End>
         ensures goes { OnOk result ((source first : Option (List ℕ)) (bytes : List ℕ) → Goes self.old source first (O.held out.old) bytes
             → Goes self.new source first (O.held out.new) bytes) }

@@ -12,8 +12,8 @@ use std::alloc::{AllocError, Global};
 /// A call has no more words than these.
 const MOST_WORDS: usize = 4;
 
-/// Whether the words are the one word `run`. Too many words, and a word that begins with `-`, are
-/// refused before the parse.
+/// Whether the words are the one word `run`. More words than a call has, and a word that begins
+/// with `-`, are refused before the parse.
 pub fn is_run(alloc: Global, words: &Vec<String>) -> Result<bool, AllocError>
     ensures { IfOk result (λ known. known ≡ is_run (texts words.now.items)) }
 {
@@ -28,7 +28,7 @@ pub fn is_run(alloc: Global, words: &Vec<String>) -> Result<bool, AllocError>
     }
 }
 
-// Whether the words are too many, or one begins with `-`.
+// Whether there are too many words, or one begins with `-`.
 fn is_refused(words: &[String]) -> bool
     ensures { result ≡ is_refused words.now }
 {

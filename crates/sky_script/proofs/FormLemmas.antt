@@ -1,12 +1,12 @@
 -- A form is looked for among those whose first word has a length that passes a test which the length of the line's word passes.
-use Rattle.std.proofs.Common.{◌≡◌, ℕ, Bool, true, false, not, ◌==◌, ◌&&◌, nat_lt, ◌<◌, length, bytes_eq, cond, subst, List, [], ◌∷◌, filter, Result, refl}
+use Rattle.std.proofs.Common.{◌≡◌, ℕ, Bool, true, false, ◌==◌, ◌&&◌, nat_lt, ◌<◌, length, bytes_eq, cond, subst, List, [], ◌∷◌, filter, Result, refl}
 use Rattle.std.proofs.lemmas.Bool.{lt-ltb}
 use Rattle.std.proofs.lemmas.Slice.Eq.{bytes_eq-Decides}
 use Rattle.sky_model.specs.declared.stmt.Stmt.{Stmt}
 use Rattle.sky_model.specs.Grammar.{Row, all_forms, named_form}
 use Rattle.sky_script.specs.declared.cause.LineCause.{LineCause}
 use Rattle.sky_script.specs.Unread.{Unread}
-use Rattle.sky_script.specs.Reading.{AnswersAmong, of_six, of_twelve, of_short, of_other}
+use Rattle.sky_script.specs.Reading.{AnswersAmong, of_six, of_twelve, of_short, of_middle, of_long}
 
 named_form-filter : (p : ℕ → Bool) (w : List ℕ) (forms : List (List ℕ × Row)) → p (length w) ≡ true
     → named_form w (filter (λ form. p (length form.0)) forms) ≡ named_form w forms
@@ -34,5 +34,8 @@ among_twelve r w at is = among (λ n. n == 12) r w at (rw is refl)
 pub among_short : (r : Result Stmt LineCause) (w : List ℕ) (at : Unread) → length w < 6 → AnswersAmong r w of_short at → AnswersAmong r w all_forms at
 among_short r w at is = among (λ n. nat_lt n 6) r w at (lt-ltb (length w) 6 is)
 
-pub among_other : (r : Result Stmt LineCause) (w : List ℕ) (at : Unread) → (length w == 12) ≡ false → 6 < length w → AnswersAmong r w of_other at → AnswersAmong r w all_forms at
-among_other r w at twelve more = among (λ n. nat_lt 6 n && not (n == 12)) r w at (rw (twelve, lt-ltb 6 (length w) more) refl)
+pub among_middle : (r : Result Stmt LineCause) (w : List ℕ) (at : Unread) → 6 < length w → length w < 12 → AnswersAmong r w of_middle at → AnswersAmong r w all_forms at
+among_middle r w at more less = among (λ n. nat_lt 6 n && nat_lt n 12) r w at (rw (lt-ltb 6 (length w) more, lt-ltb (length w) 12 less) refl)
+
+pub among_long : (r : Result Stmt LineCause) (w : List ℕ) (at : Unread) → 12 < length w → AnswersAmong r w of_long at → AnswersAmong r w all_forms at
+among_long r w at more = among (λ n. nat_lt 12 n) r w at (lt-ltb 12 (length w) more)

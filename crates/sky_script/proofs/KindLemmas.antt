@@ -23,7 +23,7 @@ quoted_text_of word rest inside text b begins opens behind is utf8 =
 slice_same : (xs : List ℕ) (i : ℕ) → slice_range xs i i ≡ []
 slice_same xs i = let none : i - i ≡ 0 = omega arith in rw none refl
 
--- a part that ends behind a byte is the part up to it, and that byte
+-- a part that ends after a byte is the part up to it, and that byte
 slice_more : (xs : List ℕ) (from i : ℕ) → from ≤ i → i < length xs → slice_range xs from (i + 1) ≡ slice_range xs from i ++ get_or xs i 0 ∷ []
 slice_more xs from i order within =
     let count : (i + 1) - from ≡ (i - from) + 1 = omega arith in
@@ -43,7 +43,7 @@ before-first : (text : List ℕ) (b : ℕ) (rest : Option (List ℕ)) → before
 before-first text b None = refl
 before-first text b (Some more) = ap (λ t. Some t) (sym (append_assoc text (b ∷ []) more))
 
--- a quote is the second of two, and stands in the text, or else the first or the closing one
+-- a quote is the second of two, and is in the text, or else the first or the closing one
 unquotes_quote : (inside text : List ℕ) (quote : Bool) (i : ℕ) → i < length inside → get_or inside i 0 ≡ 39 → Unquotes inside text quote i → Unquotes inside (cond quote (text ++ 39 ∷ []) text) (not quote) (i + 1)
 unquotes_quote inside text true i within here so =
     let rest : List ℕ = drop (i + 1) inside in
@@ -75,7 +75,7 @@ before-nil (Some more) = refl
 pub unquotes_none : (inside text : List ℕ) → text ≡ [] → Unquotes inside (text_so_far inside text false 0 0) false 0
 unquotes_none inside text none = rw none record { so_far = sym (before-nil (text_from false inside)) }
 
--- behind the second of two quotes, that quote is still to be added
+-- after the second of two quotes, that quote is still to be added
 pub unquotes_second : (inside text : List ℕ) (quote : Bool) (from i : ℕ) → quote ≡ true → i < length inside → get_or inside i 0 ≡ 39
     → Unquotes inside (text_so_far inside text quote from i) quote i → Unquotes inside (text_so_far inside text false i (i + 1)) false (i + 1)
 unquotes_second inside text true from i is within here so =
@@ -83,7 +83,7 @@ unquotes_second inside text true from i is within here so =
     rw piece (unquotes_quote inside text true i within here so)
 unquotes_second inside text false from i is within here so = absurd (cc)
 
--- at the first of two quotes, or the closing one, what stood before it is added
+-- at the first of two quotes, or the closing one, what was before it is added
 pub unquotes_first : (inside text : List ℕ) (quote : Bool) (from i : ℕ) → quote ≡ false → i < length inside → get_or inside i 0 ≡ 39
     → Unquotes inside (text_so_far inside text quote from i) quote i → Unquotes inside (text ++ slice_range inside from i) true (i + 1)
 unquotes_first inside text true from i is within here so = absurd (cc)

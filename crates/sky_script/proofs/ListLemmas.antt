@@ -10,14 +10,14 @@ use Rattle.sky_script.specs.Unread.{Unread}
 use Rattle.sky_script.specs.Reading.{Answers, Goes, Stops, GoesLast, StopsLast, GoesUntil, StopsUntil}
 use Rattle.sky_script.proofs.ReadingLemmas.{many_ends, many_goes_on}
 
--- these values were read, and more are to come: what answers those answers the list; `tail` is what follows a list
+-- these values were read, and more follow: what answers those answers the list; `tail` is what follows a list
 pub record SoFar {X : Type 0} (tail : X → Row) (k : Kind) (vs : List (Of k)) (old now : Unread) : Type 0 where
   pub behind : (r : Result Stmt LineCause) (make : List (Of k) → X) → Answers r (some k (λ more. tail (make (vs ++ more)))) now → Answers r (some k (λ all. tail (make all))) old
 
 pub so_far_none : {X : Type 0} (tail : X → Row) (k : Kind) (at : Unread) → SoFar tail k [] at at
 so_far_none tail k at = record { behind = λ r make rest. rest }
 
--- more are to come behind one
+-- more follow after one
 so_far_one : {X : Type 0} (tail : X → Row) (k : Kind) (vs : List (Of k)) (v : Of k) (old now new : Unread) → SoFar tail k vs old now → Goes k v now new
     → ((r : Result Stmt LineCause) (make : List (Of k) → X) → Answers r (some k (λ ws. tail (make ws))) new → Answers r (many k (λ ws. tail (make ws))) new)
     → SoFar tail k (vs ++ v ∷ []) old new

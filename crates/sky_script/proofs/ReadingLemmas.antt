@@ -29,12 +29,12 @@ pub stops_end : (k : Kind) (old : Unread) → old.left ≡ [] → Stops k (BadWo
 unfolding Answers
 stops_end k old none = record { bad = λ f. rw none refl }
 
--- memory was wanting
+-- memory ran out
 pub stops_memory : (k : Kind) (old : Unread) → Stops k NoMemory old
 unfolding Answers
 stops_memory k old = record { bad = λ f. tt }
 
--- where memory was wanting, that answers any row
+-- if memory ran out, that answers any row
 pub answers_memory : (cause : LineCause) (row : Row) (at : Unread) → cause ≡ NoMemory → Answers (Err cause) row at
 unfolding Answers
 answers_memory cause row at is = rw is tt
@@ -48,17 +48,17 @@ has_first_of : (ws : List (List ℕ)) → ws ≢ [] → HasFirst ws
 has_first_of [] some = absurd (some refl)
 has_first_of (w ∷ ws) some = record { first = w; others = ws; is = refl }
 
--- where a word is left, a row that may end there goes on as its other side
+-- if a word is left, a row that may end there continues as its other side
 pub either_goes_on : (r : Result Stmt LineCause) (stmt : Stmt) (row : Row) (at : Unread) → HasFirst at.left → Answers r row at → Answers r (either (stop stmt) row) at
 unfolding Answers
 either_goes_on r stmt row at some rest = rw some.is (rw some.is at rest)
 
--- where a word is left, the line does not end
+-- if a word is left, the line does not end
 pub stop_goes_on : (stmt : Stmt) (at : Unread) → HasFirst at.left → Answers (Err (BadWord at.number)) (stop stmt) at
 unfolding Answers
 stop_goes_on stmt at some = rw some.is refl
 
--- behind every word but the last, some word is left
+-- after every word but the last, some word is left
 pub has_first_in : (rest : Option (Bor (List ℕ))) → is_some rest ≡ true → HasFirst (words_in (option_copied rest))
 has_first_in None more = absurd (cc)
 has_first_in (Some bytes) more = has_first bytes.now
@@ -79,12 +79,12 @@ pub stops_fixed_end : (fixed : Fixed) (old : Unread) (row : Row) → old.left �
 unfolding Answers
 stops_fixed_end fixed old row none = rw none refl
 
--- where no word is left, any words may end
+-- if no word is left, any words may end
 pub many_ends : (k : Kind) (make : List (Of k) → Stmt) (at : Unread) → at.left ≡ [] → Answers (Ok (make [])) (many k (λ vs. stop (make vs))) at
 unfolding Answers
 many_ends k make at none = rw none refl
 
--- where a word is left, any words go on
+-- if a word is left, any words continue
 pub many_goes_on : (k : Kind) (r : Result Stmt LineCause) (make : List (Of k) → Stmt) (at : Unread) → at.left ≢ [] → Answers r (some_last k make) at → Answers r (many k (λ vs. stop (make vs))) at
 unfolding Answers
 many_goes_on k r make at some rest =
@@ -99,13 +99,13 @@ many_ends_at fixed k w ws r f at first same none rest =
     let worthless : value k w ≡ None = ap (value k) ((bytes_eq-Decides w (text_of fixed)).0 same) ∙ none in
     rw (first, same, worthless) (rw (first, same) at rest)
 
--- any words go on before another word
+-- any words continue before another word
 pub many_goes_on_at : (fixed : Fixed) (k : Kind) (w : List ℕ) (ws : List (List ℕ)) (r : Result Stmt LineCause) (f : List (Of k) → Row) (at : Unread)
     → at.left ≡ w ∷ ws → bytes_eq w (text_of fixed) ≡ false → Answers r (some_until fixed k f) at → Answers r (many k (λ vs. literal fixed (f vs))) at
 unfolding Answers
 many_goes_on_at fixed k w ws r f at first other rest = rw (first, other) (rw first at rest)
 
--- and where no word is left
+-- and if no word is left
 pub many_goes_on_end : (fixed : Fixed) (k : Kind) (r : Result Stmt LineCause) (f : List (Of k) → Row) (at : Unread)
     → at.left ≡ [] → Answers r (some_until fixed k f) at → Answers r (many k (λ vs. literal fixed (f vs))) at
 unfolding Answers

@@ -1,4 +1,4 @@
--- Where a word may be cut: at an ASCII byte, and behind it.
+-- Where a word may be cut: at an ASCII byte, and after it.
 use Rattle.std.proofs.Common.{◌≡◌, ◌==◌, ℕ, ◌+◌, ◌<◌, List, ◌∷◌, get_or, Some, IsUtf8, arith}
 use Rattle.std.proofs.lemmas.Bool.{eqb-true}
 use Rattle.std.proofs.lemmas.List.Quantifiers.{position-Some}

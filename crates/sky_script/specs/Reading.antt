@@ -1,5 +1,5 @@
 -- How the readers of single words, of lists of words and of forms answer a row of the grammar.
-use Rattle.std.specs.Prelude.{◌≡◌, ℕ, ◌-◌, ◌<◌, nat_lt, ◌==◌, ◌&&◌, not, List, [], ◌∷◌, length, filter, Result, Ok, Err}
+use Rattle.std.specs.Prelude.{◌≡◌, ℕ, ◌-◌, ◌<◌, nat_lt, ◌==◌, ◌&&◌, List, [], ◌∷◌, length, filter, Result, Ok, Err}
 use Rattle.sky_model.specs.declared.stmt.Stmt.{Stmt}
 use Rattle.sky_model.specs.declared.line.Fixed.{Fixed}
 use Rattle.sky_model.specs.Kinds.{Kind, Of}
@@ -8,7 +8,7 @@ use Rattle.sky_script.specs.declared.cause.LineCause.{LineCause}
 use Rattle.sky_script.specs.declared.cause.LineCause.TheVariants.{NotUtf8, BadWord, NoMemory}
 use Rattle.sky_script.specs.Unread.{Unread}
 
--- a result is the one that a definition gives, or memory was wanting
+-- a result is the one that a definition gives, or memory ran out
 abbrev pub IsAnswer : {A : Type 0} → Result A LineCause → Result A ℕ → Type 0
 IsAnswer (Ok v) r = r ≡ Ok v
 IsAnswer (Err NotUtf8) r = ⊥
@@ -41,7 +41,7 @@ GoesLast k vs old = (make : List (Of k) → Stmt) → Answers (Ok (make vs)) (so
 abbrev pub StopsLast : Kind → LineCause → Unread → Type 0
 StopsLast k cause old = (make : List (Of k) → Stmt) → Answers (Err cause) (some_last k make) old
 
--- these values were read, and a fixed word behind them
+-- these values were read, and a fixed word after them
 abbrev pub GoesUntil : (end : Fixed) (k : Kind) → List (Of k) → Unread → Unread → Type 0
 GoesUntil end k vs old new = (r : Result Stmt LineCause) (f : List (Of k) → Row) → Answers r (f vs) new → Answers r (some_until end k f) old
 
@@ -53,18 +53,22 @@ StopsUntil end k cause old = (f : List (Of k) → Row) → Answers (Err cause) (
 abbrev pub of_six : List (List ℕ × Row)
 of_six = filter (λ form. length form.0 == 6) all_forms
 
--- those where it has twelve
+-- those whose first word has twelve
 abbrev pub of_twelve : List (List ℕ × Row)
 of_twelve = filter (λ form. length form.0 == 12) all_forms
 
--- those where it has fewer than six
+-- those whose first word has fewer than six
 abbrev pub of_short : List (List ℕ × Row)
 of_short = filter (λ form. nat_lt (length form.0) 6) all_forms
 
--- the others
-abbrev pub of_other : List (List ℕ × Row)
-of_other = filter (λ form. nat_lt 6 (length form.0) && not (length form.0 == 12)) all_forms
+-- those whose first word has more than six and fewer than twelve
+abbrev pub of_middle : List (List ℕ × Row)
+of_middle = filter (λ form. nat_lt 6 (length form.0) && nat_lt (length form.0) 12) all_forms
 
--- a result is what these forms say of the words that are left, behind this first word
+-- those whose first word has more than twelve
+abbrev pub of_long : List (List ℕ × Row)
+of_long = filter (λ form. nat_lt 12 (length form.0)) all_forms
+
+-- a result is what these forms say of the words that are left, after this first word
 unfoldable pub AnswersAmong : Result Stmt LineCause → (first : List ℕ) → List (List ℕ × Row) → Unread → Type 0
 AnswersAmong r first forms at = IsAnswer r (goes_on (named_form first forms) (at.number - 1) (λ rows. reads rows at.number at.left))

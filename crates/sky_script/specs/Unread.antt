@@ -7,7 +7,7 @@ pub record Unread : Type 0 where
   pub number : ℕ
   pub left : List (List ℕ)
 
--- the words of the bytes that are left; none behind the last word
+-- the words of the bytes that are left; none after the last word
 abbrev pub words_in : Option (List ℕ) → List (List ℕ)
 words_in None = []
 words_in (Some bytes) = words bytes
@@ -17,7 +17,7 @@ abbrev pub most_in : Option (List ℕ) → ℕ
 most_in None = 0
 most_in (Some bytes) = length bytes + 1
 
--- a space at this place ends the first word of the bytes, or else the word goes on to their end
+-- a space at this place ends the first word of the bytes, or else the word extends to their end
 pub record EndsWord (place : ℕ) (bytes : List ℕ) : Type 0 where
   pub within : place ≤ length bytes
   pub space : place < length bytes → slice_index bytes place ≡ 32

@@ -1,13 +1,14 @@
 //! The statement forms: of each, its first word and the function that reads what follows it.
 
 ghost use Rattle.sky_model.specs.Grammar.{all_forms};
-ghost use Rattle.sky_script.specs.Reading.{AnswersAmong, of_six, of_twelve, of_short, of_other};
+ghost use Rattle.sky_script.specs.Reading.{AnswersAmong, of_six, of_twelve, of_short, of_middle, of_long};
 
 use crate::cause::LineCause;
 use crate::clock_forms::{clock, pgqd};
 use crate::queue_forms::{
-    create_queue, drop_queue, finish_batch, force_tick, get_batch_events, insert_event, next_batch,
-    queue_info, register_consumer, set_queue_config, ticker,
+    consumer_info, create_queue, drop_queue, event_retry, finish_batch, force_tick,
+    get_batch_events, get_batch_info, insert_event, maint_retry_events, next_batch, queue_info,
+    register_consumer, register_consumer_at, set_queue_config, ticker, unregister_consumer,
 };
 use crate::row_forms::{create_table, delete, get, insert, scan, update};
 use crate::session_forms::{alone, begin, open_db, txid_visible_in_snapshot};
@@ -16,9 +17,9 @@ use crate::words::Words;
 use sky_model::{RowStmt, Stmt};
 use std::alloc::Global;
 
-/// The statement with this first word, of the words behind it. Only forms whose first word has six bytes, twelve, fewer than
-/// six, or another number are compared, by how many it has.
-#[tactic(auto, using(crate::proofs::FormLemmas::among_six, crate::proofs::FormLemmas::among_twelve, crate::proofs::FormLemmas::among_short, crate::proofs::FormLemmas::among_other))]
+/// The statement with this first word, of the words after it. Only forms whose first word has six bytes, twelve, fewer
+/// than six, between six and twelve, or more than twelve are compared, by how many it has.
+#[tactic(auto, using(crate::proofs::FormLemmas::among_six, crate::proofs::FormLemmas::among_twelve, crate::proofs::FormLemmas::among_short, crate::proofs::FormLemmas::among_middle, crate::proofs::FormLemmas::among_long))]
 pub(crate) fn read_form(alloc: Global, first: &[u8], words: &mut Words) -> Result<Stmt, LineCause>
     ensures { AnswersAmong result first.now all_forms words.old }
 {
@@ -26,7 +27,8 @@ pub(crate) fn read_form(alloc: Global, first: &[u8], words: &mut Words) -> Resul
         6 => read_six(alloc, first, words),
         12 => read_twelve(alloc, first, words),
         length if length < 6 => read_short(alloc, first, words),
-        _ => read_other(alloc, first, words),
+        length if length < 12 => read_middle(alloc, first, words),
+        _ => read_long(alloc, first, words),
     }
 }
 
@@ -108,10 +110,10 @@ fn read_short(alloc: Global, first: &[u8], words: &mut Words) -> Result<Stmt, Li
     Err(words.refused())
 }
 
-/// The same among the others.
+/// The same among those whose first word has more than six and fewer than twelve.
 #[tactic(auto, unfolding(crate::specs::Reading::Answers, crate::specs::Reading::AnswersAmong))]
-fn read_other(alloc: Global, first: &[u8], words: &mut Words) -> Result<Stmt, LineCause>
-    ensures { AnswersAmong result first.now of_other words.old }
+fn read_middle(alloc: Global, first: &[u8], words: &mut Words) -> Result<Stmt, LineCause>
+    ensures { AnswersAmong result first.now of_middle words.old }
 {
     if first == b"rollback".as_slice() {
         return alone(RowStmt::Rollback, words);
@@ -119,17 +121,34 @@ fn read_other(alloc: Global, first: &[u8], words: &mut Words) -> Result<Stmt, Li
     if first == b"next_batch".as_slice() {
         return next_batch(alloc, words);
     }
-    if first == b"get_batch_events".as_slice() {
-        return get_batch_events(words);
-    }
     if first == b"force_tick".as_slice() {
         return force_tick(alloc, words);
     }
-    if first == b"register_consumer".as_slice() {
-        return register_consumer(alloc, words);
-    }
     if first == b"add_trigger".as_slice() {
         return add_trigger(alloc, words);
+    }
+    if first == b"queue_info".as_slice() {
+        return queue_info(alloc, words);
+    }
+    if first == b"drop_queue".as_slice() {
+        return drop_queue(alloc, words);
+    }
+    if first == b"event_retry".as_slice() {
+        return event_retry(words);
+    }
+    Err(words.refused())
+}
+
+/// The same among those whose first word has more than twelve.
+#[tactic(auto, unfolding(crate::specs::Reading::Answers, crate::specs::Reading::AnswersAmong))]
+fn read_long(alloc: Global, first: &[u8], words: &mut Words) -> Result<Stmt, LineCause>
+    ensures { AnswersAmong result first.now of_long words.old }
+{
+    if first == b"get_batch_events".as_slice() {
+        return get_batch_events(words);
+    }
+    if first == b"register_consumer".as_slice() {
+        return register_consumer(alloc, words);
     }
     if first == b"txid_current_snapshot".as_slice() {
         return alone(RowStmt::TxidCurrentSnapshot, words);
@@ -137,14 +156,23 @@ fn read_other(alloc: Global, first: &[u8], words: &mut Words) -> Result<Stmt, Li
     if first == b"txid_visible_in_snapshot".as_slice() {
         return txid_visible_in_snapshot(alloc, words);
     }
-    if first == b"queue_info".as_slice() {
-        return queue_info(alloc, words);
-    }
     if first == b"set_queue_config".as_slice() {
         return set_queue_config(alloc, words);
     }
-    if first == b"drop_queue".as_slice() {
-        return drop_queue(alloc, words);
+    if first == b"get_batch_info".as_slice() {
+        return get_batch_info(words);
+    }
+    if first == b"consumer_info".as_slice() {
+        return consumer_info(alloc, words);
+    }
+    if first == b"register_consumer_at".as_slice() {
+        return register_consumer_at(alloc, words);
+    }
+    if first == b"unregister_consumer".as_slice() {
+        return unregister_consumer(alloc, words);
+    }
+    if first == b"maint_retry_events".as_slice() {
+        return maint_retry_events(words);
     }
     Err(words.refused())
 }

@@ -19,7 +19,7 @@ fn begins_name(byte: u8) -> bool
     byte.is_ascii_lowercase() || byte == b'_'
 }
 
-/// Of each byte whether it may stand in a name behind the first. Looking it up takes fewer steps than comparing.
+/// Of each byte whether it may be in a name after the first. Looking it up takes fewer steps than comparing.
 const CONTINUES_NAME: [bool; 256] = [
     false, false, false, false, false, false, false, false, false, false, false, false, false,
     false, false, false, false, false, false, false, false, false, false, false, false, false,
@@ -109,8 +109,7 @@ fn all_stand_for_themselves(bytes: &[u8]) -> bool
     bytes.iter().all(|byte| stands_for_itself(*byte))
 }
 
-/// What stands before the closing quote, where no byte of it stands for another. Most texts are so, and
-/// are taken as they stand.
+/// What is before the closing quote, if no byte of it stands for another. Most texts are so, and are taken as they are.
 #[tactic(auto, using(crate::proofs::KindLemmas::text_from_as_written))]
 fn as_written(inside: &str) -> Option<&str>
     ensures { IfSome result (λ text. kind.text_from false inside.now ≡ Some text.now) }
@@ -121,7 +120,7 @@ fn as_written(inside: &str) -> Option<&str>
     }
 }
 
-/// The text from behind its opening quote on, if the word ends with its closing quote.
+/// The text from after its opening quote on, if the word ends with its closing quote.
 fn unquoted(alloc: Global, inside: &str) -> Result<Option<String>, NoMemory>
     ensures { IfOk result (λ text. option_map (λ string. string_bytes string) text ≡ kind.text_from false inside.now) }
 {
@@ -165,7 +164,7 @@ pub(crate) fn quoted_text(alloc: Global, word: &str) -> Result<Option<Text>, NoM
     }
 }
 
-/// Whether a byte may stand outside quotes.
+/// Whether a byte may be outside quotes.
 fn is_bare(byte: u8) -> bool
     ensures { result ≡ kind.is_bare byte }
 {

@@ -40,7 +40,7 @@ pub(crate) fn key(alloc: Global, words: &mut Words) -> Result<Key, LineCause>
     Ok(Key::new(values))
 }
 
-/// A key's values, and the word `set` behind them.
+/// A key's values, and the word `set` after them.
 pub(crate) fn key_until_set(alloc: Global, words: &mut Words) -> Result<Key, LineCause>
     ensures { MatchResult result (λ key. GoesUntil fixed.Set kind.Value key words.old words.new)
         (λ cause. StopsUntil fixed.Set kind.Value cause words.old) }

@@ -2,7 +2,7 @@
 
 ghost use Rattle.std.specs.Prelude.{◌-◌, ◌^◌};
 ghost use Rattle.sky_model.specs.Kinds.{Name, Dotted, Number, Raw};
-ghost use Rattle.sky_model.specs.Grammar.{one, last};
+ghost use Rattle.sky_model.specs.Grammar.{stop, one, last};
 ghost use Rattle.sky_model.specs.Grammar as grammar;
 ghost use Rattle.sky_script.specs.Reading.{Answers};
 
@@ -112,6 +112,32 @@ pub(crate) fn register_consumer(alloc: Global, words: &mut Words) -> Result<Stmt
     Ok(Stmt::RegisterConsumer { queue, consumer })
 }
 
+pub(crate) fn register_consumer_at(alloc: Global, words: &mut Words) -> Result<Stmt, LineCause>
+    ensures { let row = one Name (λ queue. one Dotted (λ consumer.
+        last (Number (2 ^ 64 - 1)) (λ tick. Stmt.RegisterConsumerAt queue consumer tick))) in
+        Answers result row words.old }
+{
+    let queue = words.name(alloc)?;
+    let consumer = words.dotted(alloc)?;
+    let tick = words.number(u64::MAX)?;
+    words.end()?;
+    Ok(Stmt::RegisterConsumerAt {
+        queue,
+        consumer,
+        tick,
+    })
+}
+
+pub(crate) fn unregister_consumer(alloc: Global, words: &mut Words) -> Result<Stmt, LineCause>
+    ensures { let row = one Name (λ queue. last Dotted (λ consumer. Stmt.UnregisterConsumer queue consumer)) in
+        Answers result row words.old }
+{
+    let queue = words.name(alloc)?;
+    let consumer = words.dotted(alloc)?;
+    words.end()?;
+    Ok(Stmt::UnregisterConsumer { queue, consumer })
+}
+
 pub(crate) fn next_batch(alloc: Global, words: &mut Words) -> Result<Stmt, LineCause>
     ensures { let row = one Name (λ queue. last Dotted (λ consumer. Stmt.NextBatch queue consumer)) in
         Answers result row words.old }
@@ -130,10 +156,51 @@ pub(crate) fn get_batch_events(words: &mut Words) -> Result<Stmt, LineCause>
     Ok(Stmt::GetBatchEvents { batch })
 }
 
+pub(crate) fn get_batch_info(words: &mut Words) -> Result<Stmt, LineCause>
+    ensures { Answers result (last (Number (2 ^ 64 - 1)) (λ batch. Stmt.GetBatchInfo batch)) words.old }
+{
+    let batch = words.number(u64::MAX)?;
+    words.end()?;
+    Ok(Stmt::GetBatchInfo { batch })
+}
+
+pub(crate) fn event_retry(words: &mut Words) -> Result<Stmt, LineCause>
+    ensures { let row = one (Number (2 ^ 64 - 1)) (λ batch. one (Number (2 ^ 64 - 1)) (λ event.
+        last (Number 1_000_000_000) (λ seconds. Stmt.EventRetry batch event seconds))) in
+        Answers result row words.old }
+{
+    let batch = words.number(u64::MAX)?;
+    let event = words.number(u64::MAX)?;
+    let seconds = words.number(1_000_000_000)?;
+    words.end()?;
+    Ok(Stmt::EventRetry {
+        batch,
+        event,
+        seconds,
+    })
+}
+
 pub(crate) fn finish_batch(words: &mut Words) -> Result<Stmt, LineCause>
     ensures { Answers result (last (Number (2 ^ 64 - 1)) (λ batch. Stmt.FinishBatch batch)) words.old }
 {
     let batch = words.number(u64::MAX)?;
     words.end()?;
     Ok(Stmt::FinishBatch { batch })
+}
+
+pub(crate) fn maint_retry_events(words: &mut Words) -> Result<Stmt, LineCause>
+    ensures { Answers result (stop Stmt.MaintRetryEvents) words.old }
+{
+    words.end()?;
+    Ok(Stmt::MaintRetryEvents)
+}
+
+pub(crate) fn consumer_info(alloc: Global, words: &mut Words) -> Result<Stmt, LineCause>
+    ensures { let row = one Name (λ queue. last Dotted (λ consumer. Stmt.ConsumerInfo queue consumer)) in
+        Answers result row words.old }
+{
+    let queue = words.name(alloc)?;
+    let consumer = words.dotted(alloc)?;
+    words.end()?;
+    Ok(Stmt::ConsumerInfo { queue, consumer })
 }

@@ -25,7 +25,7 @@ pub(crate) fn value_of(alloc: Global, word: &str) -> Result<Option<Val>, LineCau
     }
 }
 
-/// A column's kind and whether it is part of the key, by what stands behind its name's colon.
+/// A column's kind and whether it is part of the key, by what follows its name's colon.
 fn column_kind(word: &str) -> Option<(ColKind, bool)>
     ensures { result ≡ kinds.column_kind word.now }
 {
@@ -81,7 +81,7 @@ pub(crate) fn set_of(alloc: Global, word: &str) -> Result<Option<Set>, LineCause
     }
 }
 
-/// The change by what stands before the first `=` and behind it.
+/// The change by what is before the first `=` and after it.
 fn set_by(alloc: Global, front: &str, back: &str) -> Result<Option<Set>, LineCause>
     ensures { MatchResult result (λ set. set ≡ kinds.set_by front.now back.now) (λ cause. cause ≡ LineCause.NoMemory) }
 {
@@ -108,7 +108,7 @@ fn set_as(alloc: Global, name: &str, change: Option<Change>) -> Result<Option<Se
     }
 }
 
-/// The columns that a word names behind `ignore=`.
+/// The columns that a word names after `ignore=`.
 pub(crate) fn ignore_of(alloc: Global, word: &str) -> Result<Option<ColumnNames>, LineCause>
     ensures { MatchResult result (λ names. names ≡ kinds.ignore_of word.now) (λ cause. cause ≡ LineCause.NoMemory) }
 {

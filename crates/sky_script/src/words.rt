@@ -20,7 +20,7 @@ use std::marker::Model;
 /// A line's words from some place on.
 #[derive(Drop)]
 pub(crate) struct Words<'a> {
-    // None behind the last word; an empty rest still has an empty word.
+    // None after the last word; an empty rest still has an empty word.
     rest: Option<&'a str>,
     taken: usize,
 }
@@ -58,7 +58,7 @@ fn word_end(bytes: &[u8]) -> usize
     bytes.len()
 }
 
-/// The same, where quotes may stand in the word.
+/// The same, if quotes may be in the word.
 #[inline(never)]
 fn quoted_end(bytes: &[u8]) -> usize
     ensures { EndsWord result bytes.now }
@@ -78,7 +78,7 @@ fn quoted_end(bytes: &[u8]) -> usize
     bytes.len()
 }
 
-/// The word that a text begins with, and what stands behind the space that ends it.
+/// The word that a text begins with, and what follows the space that ends it.
 fn split_word(text: &str) -> (&str, Option<&str>)
     ensures split { words text.now ≡ result.0.now ∷ words_in (option_copied result.1) }
     ensures shorter { IfSome result.1 (λ rest. length rest.now < length text.now) }
@@ -126,7 +126,7 @@ impl<'a> Words<'a> {
         Some(word)
     }
 
-    /// Takes the next word, or gives the cause where there is none.
+    /// Takes the next word, or gives the cause if there is none.
     pub(crate) fn word(&mut self) -> Result<&'a str, LineCause>
         ensures word { IfOk result (λ word. (self.old.left ≡ word.now ∷ self.new.left) × (self.new.number ≡ self.old.number + 1)) }
         ensures none { IfErr result (λ cause. (self.old.left ≡ []) × (cause ≡ LineCause.BadWord self.old.number)) }
@@ -134,14 +134,14 @@ impl<'a> Words<'a> {
         self.next().ok_or(self.missing())
     }
 
-    /// The cause where the line ends too early.
+    /// The cause if the line ends too early.
     fn missing(&self) -> LineCause
         ensures { result ≡ LineCause.BadWord self.now.number }
     {
         LineCause::BadWord(self.taken + 1)
     }
 
-    /// The cause where the word that was taken last is bad.
+    /// The cause if the word that was taken last is bad.
     pub(crate) fn refused(&self) -> LineCause
         ensures { result ≡ LineCause.BadWord (self.now.number - 1) }
     {
@@ -149,8 +149,8 @@ impl<'a> Words<'a> {
     }
 }
 
-// A reader of a kind says what it read by the rows that may go on so, and a statement form's function
-// then says what its row says.
+// A reader of a kind says what it read by the rows that may continue so, and a statement form's function then says what
+// its row says.
 #[tactic(auto, using(crate::proofs::ReadingLemmas::one_word), unfolding(crate::specs::Reading::Answers))]
 impl<'a> Words<'a> {
     /// Whether no word is left.
@@ -189,7 +189,7 @@ impl<'a> Words<'a> {
         Ok(())
     }
 
-    /// Takes a fixed word if it comes next, behind words of a kind that it isn't of.
+    /// Takes a fixed word if it comes next, after words of a kind that it isn't of.
     pub(crate) fn take_fixed(&mut self, fixed: Fixed) -> bool
         ensures ends { result ≡ true →
             (k : Kind) (r : Result Stmt LineCause) (f : List (Of k) → Row) → value k (text_of fixed) ≡ None →
@@ -211,7 +211,7 @@ impl<'a> Words<'a> {
         true
     }
 
-    /// Takes a fixed word, if it comes next: where a row goes on without it, it goes on with another word.
+    /// Takes a fixed word, if it comes next: when a row continues without it, it continues with another word.
     pub(crate) fn skip(&mut self, fixed: Fixed) -> bool
         ensures { (f : Bool → Row) → next (f false) (text_of fixed) ≡ [] →
             (r : Result Stmt LineCause) → Answers r (f result) self.new → Answers r (optional fixed f) self.old }

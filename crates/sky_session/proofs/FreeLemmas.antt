@@ -35,7 +35,7 @@ change-free gate g d shown who table key attempt new_of row old new is free sees
     ∙ ap (λ c. gated gate g (c >> (new_of old >>= (λ w. writes_key d who table key (Some old) w)))) sees
     ∙ ap (λ c. gated gate g (c >>= (λ w. writes_key d who table key (Some old) w))) made
 
--- it adds its answer, and its gate has been told of it
+-- it adds its answer, and its gate has recorded it
 pub writes-told : {G : Type 0} (gate : Gate G) (g g' : G) (old new : RowStateView) (before after : RowStep) (who : ℕ) (checked write : Checked Outcome) (reply : Reply) (marks : List Mark)
     → gated gate g checked ≡ gated gate g write → gated gate g write ≡ does_marks reply marks → g' ≡ passed_all gate g (marks_of (gated gate g write))
     → after.replies ≡ before.replies ++ (who, reply) ∷ [] → after.effects ≡ with_effects before.effects marks → seen new ≡ after_part_marks (seen old) marks → Writes gate (old, g) (new, g') before after who (Ok tt) checked

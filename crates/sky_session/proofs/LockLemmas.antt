@@ -1,4 +1,4 @@
--- Writes that wait, and those that go on.
+-- Writes that wait, and those that resume.
 use Rattle.std.proofs.Common.{◌≡◌, ℕ, ◌<◌, [], ◌∷◌, ◌++◌, true, Option, Some, None, length, option_map, Err, List, refl, sym, ◌∙◌, ap, subst, append-nil}
 use Rattle.sky_keys.specs.Waits.{Waiting, is_waiting}
 use Rattle.sky_model.specs.declared.reply.Reply.TheVariants.{Refused, Waits}
@@ -21,13 +21,13 @@ use Rattle.sky_session.specs.Effects.{with_effects}
 use Rattle.sky_session.specs.Gives.{Adds, Does}
 use Rattle.sky_session.proofs.Steps.{place-behind, adds-settled}
 
--- a cancelled statement is refused
+-- a canceled statement is refused
 pub failure-abort : (who : ℕ) (txid : Option ℕ) (b : Block) → failure who txid b ≡ abort who b txid Canceled
 failure-abort who txid outside = refl
 failure-abort who txid inside = refl
 failure-abort who txid failed = refl
 
--- one that goes on adds its answer
+-- a statement that resumes adds its answer
 pub adds-resumed : {G : Type 0} (gate : Gate G) (g : G) (d mid : RowPart) (new : RowPart × G) (before after : RowStep) (w : Waiting) → mid ≡ after_part d (tabled (waited w.who))
     → Adds gate (mid, g) new before after (turn_of w.who (attempted (by_gate gate part_by_itself) w (d.attempt w.who) (mid, g))) → Adds gate (d, g) new before after (resumed (by_gate gate part_by_itself) (d, g) w)
 adds-resumed gate g d mid new before after w left adds =
@@ -35,7 +35,7 @@ adds-resumed gate g d mid new before after w left adds =
     = subst (λ p. Adds gate (p, g) new before after (turn_of w.who (attempted (by_gate gate part_by_itself) w (d.attempt w.who) (p, g)))) left adds in
     record { replied = here.replied; told = here.told; changed = here.changed; passed = here.passed }
 
--- what is left to do, behind what was given, is the whole
+-- what is left to do, after what was given, is the whole
 abbrev pub Remains : {G : Type 0} → Gate G → (begun here : RowPart × G) → (start step : RowStep) → Type 0
 Remains {G} gate begun here start step = (new : RowPart × G) (after : RowStep) → Adds gate here new step after (settling (by_gate gate part_by_itself) here) → Adds gate begun new start after (settling (by_gate gate part_by_itself) begun)
 
@@ -65,7 +65,7 @@ fewer-left {G} gate here mid before after w is adds =
     subst (λ (p : RowPart × G). length p.0.waiting < length here.0.waiting) (sym (place-behind gate here mid before after (resumed (by_gate gate part_by_itself) here w) adds))
     (fewer-wait (by_gate gate part_by_itself) (gated-keeps gate) here w is)
 
--- a session that waits is cancelled
+-- a session that waits is canceled
 pub does-cancel : (d mid new : RowPart) (before after : RowStep) (who : ℕ) → is_waiting who d.waiting ≡ true → mid ≡ after_part d (tabled (waited who))
     → new ≡ after_part_marks mid (failure who (mid.session who).txid (mid.session who).block) → after.replies ≡ before.replies ++ (who, Refused Canceled) ∷ []
     → after.effects ≡ with_effects before.effects (failure who (mid.session who).txid (mid.session who).block)
@@ -89,6 +89,6 @@ does-wait d new before after who table key attempt holder none replied told chan
     subst (λ r. Does d new before after who (refused_by (option_map Deadlock r) >> does_marks (Waits holder) (tabled (waits who table key attempt) ∷ []))) (sym none)
     (record { accepted = refl; replied = replied; told = told; changed = changed })
 
--- where it would wait for itself it is refused
+-- if it would wait for itself it is refused
 pub ring-refused : (d : RowPart) (who table : ℕ) (key : List Val) (attempt : Attempt) (holder : ℕ) (closed : List ℕ) → ring d who holder ≡ Some closed → blocked d who table key attempt holder ≡ Err (Deadlock closed)
 ring-refused d who table key attempt holder closed is = ap (λ r. refused_by (option_map Deadlock r) >> does_marks (Waits holder) (tabled (waits who table key attempt) ∷ [])) is

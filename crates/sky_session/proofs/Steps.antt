@@ -59,7 +59,7 @@ abbrev found_id : Checked ℕ → ℕ
 found_id (Ok t) = t
 found_id (Err refusal) = 0
 
--- a session has its id from its beginning on
+-- a session has its id as soon as its transaction begins
 pub begun-txid : (d new : RowPart) (who t : ℕ) → txid_for d who ≡ Ok t → new ≡ after_part_marks d (begin_of who t (d.session who).txid) → (new.session who).txid ≡ Some t
 begun-txid d new who t is begun = ap (λ (p : RowPart). (p.session who).txid) begun ∙ by (d.session who).txid refl
   where
@@ -67,12 +67,12 @@ begun-txid d new who t is begun = ap (λ (p : RowPart). (p.session who).txid) be
     by None e = ap (λ b. (if b then with_txid (Some t) (d.session who) else d.session who).txid) (eq-eqb who who refl)
     by (Some u) e = e ∙ ap (λ r. Some (found_id r)) (sym (ap (own_or_next d) e) ∙ is)
 
--- and stands in its block as before
+-- and is in its block as before
 pub begun-block : (d : RowPart) (who t : ℕ) (o : Option ℕ) → ((after_part_marks d (begin_of who t o)).session who).block ≡ (d.session who).block
 begun-block d who t None = ap (λ b. (if b then with_txid (Some t) (d.session who) else d.session who).block) (eq-eqb who who refl)
 begun-block d who t (Some own) = refl
 
--- what is done in it, and its end where it is of one statement
+-- what is done in the transaction, and its end if it is of one statement
 pub part-written : (d one two three : RowPart) (who t : ℕ) (marks : List Mark) → one ≡ after_part_marks d (begin_of who t (d.session who).txid) → two ≡ after_part_marks one marks
     → (two.session who).block ≡ (d.session who).block → three ≡ after_part_marks two (commit_of who t (two.session who).block) → three ≡ after_part_marks d (written who t (d.session who) marks)
 part-written d one two three who t marks first second same third =
@@ -90,7 +90,7 @@ pub begun-told : (e : EffectsView) (who t : ℕ) (own : Option ℕ) (marks ends 
 begun-told e who t None marks ends = refl
 begun-told e who t (Some own) marks ends = refl
 
--- a transaction gets its id, and commits where it is of one statement
+-- a transaction gets its id, and commits if it is of one statement
 pub does-take : (d begun new : RowPart) (before after : RowStep) (who t : ℕ) → txid_for d who ≡ Ok t → begun ≡ after_part_marks d (begin_of who t (d.session who).txid)
     → new ≡ after_part_marks begun (commit_of who t (begun.session who).block) → after.replies ≡ before.replies ++ (who, Number t) ∷ []
     → after.effects ≡ with_effects before.effects (commit_of who t (begun.session who).block) → Does d new before after who (txid_current d who)
@@ -105,7 +105,7 @@ does-take d begun new before after who t is begin end replied told =
     blocks : (begun.session who).block ≡ (d.session who).block
     blocks = ap (λ (p : RowPart). (p.session who).block) begin ∙ begun-block d who t (d.session who).txid
 
--- the same by an id that is taken, and a transaction that ends where it is of one statement
+-- the same, by an id that is taken and a transaction that ends if it is of one statement
 pub taken-ended : (d begun new : RowPart) (who t : ℕ) → txid_for d who ≡ Ok t → begun ≡ after_part_marks d (begin_of who t (d.session who).txid)
     → new ≡ after_part_marks begun (ending begun who).marks → new ≡ after_part_marks d (written who t (d.session who) [])
 taken-ended d begun new who t is begin end =
@@ -116,7 +116,7 @@ taken-ended d begun new who t is begin end =
     single outside = refl
     single _ = refl
 
--- so it is what both calls make
+-- so both calls make the same
 pub elsewhere-steps : (d new : RowPart) (who t : ℕ) → txid_for d who ≡ Ok t → new ≡ after_part_marks d (written who t (d.session who) [])
     → RowSteps d (after_part_marks d (taking d who).marks) (txid_taken who) (taking d who)
     × RowSteps (after_part_marks d (taking d who).marks) new (single_ended who) (ending (after_part_marks d (taking d who).marks) who)
@@ -131,7 +131,7 @@ elsewhere-steps d new who t is changed = (
     begin : begun ≡ after_part_marks d (begin_of who t (d.session who).txid)
     begin = ap (λ o. after_part_marks d (takes_id who (d.session who).txid o).marks) is
 
--- a turn is added behind another
+-- a turn is added after another
 pub adds-behind : {G : Type 0} (gate : Gate G) (old mid new : RowPart × G) (before middle after : RowStep) (turn rest : Turn) → Adds gate old mid before middle turn → Adds gate mid new middle after rest
     → Adds gate old new before after (joined turn rest)
 adds-behind gate old mid new before middle after turn rest first second = record {
@@ -141,11 +141,11 @@ adds-behind gate old mid new before middle after turn rest first second = record
   passed = second.passed ∙ ap (λ g. passed_all gate g rest.marks) first.passed ∙ sym (passed-append gate old.1 turn.marks rest.marks);
 }
 
--- the place behind a turn that was added
+-- the place after a turn that was added
 pub place-behind : {G : Type 0} (gate : Gate G) (old mid : RowPart × G) (before middle : RowStep) (turn : Turn) → Adds gate old mid before middle turn → mid ≡ behind_marks (by_gate gate part_by_itself) old turn.marks
 place-behind gate old mid before middle turn adds = (λ i. (adds.changed i, adds.passed i)) ∙ sym (gated-behind gate old.0 old.1 turn.marks)
 
--- and so are those that it lets go on
+-- and so are the statements that it unblocks
 pub adds-settled : {G : Type 0} (gate : Gate G) (old mid new : RowPart × G) (before middle after : RowStep) (turn : Turn) → Adds gate old mid before middle turn
     → Adds gate mid new middle after (settling (by_gate gate part_by_itself) mid) → Adds gate old new before after (with_settling (by_gate gate part_by_itself) old turn)
 adds-settled gate old mid new before middle after turn first rest =
@@ -157,11 +157,11 @@ pub gives-all : (old new : RowPart) (before after : RowStep) (call : RowCall) (t
     → Gives old new after call told
 gives-all old new before after call turn told first same settles = subst (Gives old new after call) same (subst (λ b. Settles open_gate (old, tt) (new, tt) b after call turn) first settles)
 
--- a statement may be made as far as its place in a block says, or not
+-- a statement is allowed by its session's block, or isn't
 pub entered : (d mid : RowPart) (who : ℕ) (place there : Where) (found r : Option Refusal) → place ≡ there → found ≡ r → Enters d mid who place found → Enters d mid who there r
 entered d mid who place there found r same is enters = subst (λ p. Enters d mid who p r) same (subst (λ o. Enters d mid who place o) is enters)
 
--- a statement that its session may not make is refused, of which no gate is told
+-- a statement that its session may not make is refused, and no gate is notified
 pub adds-barred : {G : Type 0} (gate : Gate G) (g : G) (d mid new : RowPart) (before after : RowStep) (who : ℕ) (stmt : RowStmt) (refusal : Refusal) → allowed (is_waiting who d.waiting) (d.session who).is_open (d.session who).block (where_of_row stmt) ≡ Err refusal
     → mid ≡ d → Does mid new before after who (Ok (settled who (mid.session who) (Err refusal))) → Adds gate (d, g) (new, g) before after (turn_of who (row_statement (by_gate gate part_by_itself) (d, g) who stmt))
 adds-barred gate g d mid new before after who stmt refusal is same does =
@@ -169,7 +169,7 @@ adds-barred gate g d mid new before after who stmt refusal is same does =
     (let here : Does d new before after who (Ok (settled who (d.session who) (Err refusal))) = subst (λ (p : RowPart). Does p new before after who (Ok (settled who (p.session who) (Err refusal)))) same does in
     record { replied = here.replied; told = here.told; changed = here.changed; passed = sym (passed-abort gate g who (d.session who).block (d.session who).txid refusal) })
 
--- one that is refused where it is run aborts its session's block
+-- a statement that is refused when it is run aborts its session's block
 pub does-refused : (d mid new : RowPart) (before middle after : RowStep) (who : ℕ) (refusal : Refusal) (checked : Checked Outcome) → Refuses d mid refusal checked × (middle ≡ before)
     → Does mid new middle after who (Ok (settled who (mid.session who) (Err refusal))) → Does d new before after who (Ok (settled who (d.session who) checked))
 does-refused d mid new before middle after who refusal checked stops does =
@@ -181,7 +181,7 @@ pub does-done : (d new : RowPart) (before after : RowStep) (who : ℕ) (checked 
 does-done d new before after who (Ok outcome) does = does
 does-done d new before after who (Err refusal) does = absurd (cc)
 
--- its gate has been told of what it did, and of nothing where it was refused
+-- its gate has recorded what it did, and nothing if it was refused
 passed-run : {G : Type 0} (gate : Gate G) (g g' : G) (old new : RowStateView) (before after : RowStep) (who : ℕ) (s : Session) (ran : Result (Unit {0}) Stop) (checked : Checked Outcome)
     → ran ≢ Err stop.NoMemory → Ran old new before after who ran checked → Passes gate g g' ran checked → g' ≡ passed_all gate g (settled who s checked).marks
 passed-run gate g g' old new before after who s (Ok _) (Ok outcome) memory does told = told
@@ -190,7 +190,7 @@ passed-run gate g g' old new before after who s (Err (stop.Refused refusal)) che
     same ∙ sym (ap (λ o. passed_all gate g (settled who s o).marks) stops.0.refused ∙ passed-abort gate g who s.block s.txid refusal)
 passed-run gate g g' old new before after who s (Err stop.NoMemory) checked memory does told = absurd (memory refl)
 
--- a statement that was run adds its answer, be it a refusal
+-- a statement that was run adds its answer, even if that is a refusal
 pub adds-run : {G : Type 0} (gate : Gate G) (g g' : G) (old mid : RowStateView) (new : RowPart) (before middle after : RowStep) (who : ℕ) (ran : Result (Unit {0}) Stop) (checked : Checked Outcome)
     → Writes gate (old, g) (mid, g') before middle who ran checked → ran ≢ Err stop.NoMemory
     → Does (seen old) new before after who (Ok (settled who ((seen old).session who) (gated gate g checked)))
@@ -202,7 +202,7 @@ adds-run gate g g' old mid new before middle after who ran checked writes memory
   passed = passed-run gate g g' old mid before middle who ((seen old).session who) ran (gated gate g checked) memory writes.ran writes.passes;
 }
 
--- a statement that is made where its sight was taken in front
+-- a statement whose block's snapshot was taken before it
 pub adds-made : {G : Type 0} (gate : Gate G) (g : G) (d mid : RowPart) (new : RowPart × G) (before after : RowStep) (who : ℕ) (stmt : RowStmt) → allowed (is_waiting who d.waiting) (d.session who).is_open (d.session who).block (where_of_row stmt) ≡ Ok tt
     → mid ≡ after_part_marks d (sight_marks d who (where_of_row stmt)) → Adds gate (mid, g) new before after (turn_of who (settled who (mid.session who) (gated gate g (row_form mid (rows_by mid) who stmt))))
     → Adds gate (d, g) new before after (turn_of who (row_statement (by_gate gate part_by_itself) (d, g) who stmt))
@@ -221,7 +221,7 @@ adds-made {G} gate g d mid new before after who stmt is look adds =
     by true e = let behind : there (after_part d (looked who)) = subst there e adds in record { replied = behind.replied; told = behind.told; changed = behind.changed; passed = behind.passed }
     by false e = subst there e adds
 
--- what writes nothing is done as without the gate, which is told of nothing
+-- a statement that writes nothing is done as without the gate, which isn't notified
 pub writes-plain : {G : Type 0} (gate : Gate G) (g : G) (old new : RowStateView) (before after : RowStep) (who : ℕ) (result : Result (Unit {0}) Stop) (checked : Checked Outcome) → PlainOutcome checked
     → Ran old new before after who result checked → Writes gate (old, g) (new, g) before after who result checked
 writes-plain gate g old new before after who result checked plain ran = record {
@@ -254,7 +254,7 @@ pub entered-steps : {E : Type 0} (old new : RowPart) (who : ℕ) (alone : Bool) 
 entered-steps old new who alone (Ok refusal) enters = row_enter_from_exact old new who alone refusal enters
 entered-steps old new who alone (Err e) enters = tt
 
--- a rollback is added, of which no gate is told
+-- a rollback is added, and no gate is notified
 pub adds-failing : {G : Type 0} (gate : Gate G) (g : G) (d new : RowPart) (before after : RowStep) (who : ℕ) → after.replies ≡ before.replies → after.effects ≡ with_effects before.effects (failing d who).marks
     → new ≡ after_part_marks d (failing d who).marks → Adds gate (d, g) (new, g) before after (failing d who)
 adds-failing gate g d new before after who replied told changed =

@@ -18,19 +18,19 @@ pub holder-begun : (d : RowPart) (who t : ℕ) (own : Option ℕ) → (after_par
 holder-begun d who t None = refl
 holder-begun d who t (Some u) = refl
 
--- a session has its transaction's id behind the write
+-- a session has its transaction's id after the write
 pub owns-written : (d one two : RowPart) (who t table : ℕ) (key : List Val) (old new : Option (List Val)) → txid_for d who ≡ Ok t → one ≡ after_part_marks d (begin_of who t (d.session who).txid)
     → two ≡ after_part one (tabled (wrote (of_session who) t table key old new)) → (two.session who).txid ≡ Some t
 owns-written d one two who t table key old new e first second =
     ap (λ (p : RowPart). (p.session who).txid) second ∙ begun-txid d one who t e first
 
--- and stands in its block as before
+-- and is in its block as before
 pub in_block : (d one two : RowPart) (who t table : ℕ) (key : List Val) (old new : Option (List Val)) → one ≡ after_part_marks d (begin_of who t (d.session who).txid)
     → two ≡ after_part one (tabled (wrote (of_session who) t table key old new)) → (two.session who).block ≡ (d.session who).block
 in_block d one two who t table key old new first second =
     ap (λ (p : RowPart). (p.session who).block) second ∙ ap (λ (p : RowPart). (p.session who).block) first ∙ begun-block d who t (d.session who).txid
 
--- the row that was there is no part of what is kept
+-- the old row isn't part of what is kept
 pub same-parts : (d : RowPart) (who t table : ℕ) (key : List Val) (old new : Option (List Val)) (own : Option ℕ) (ends : List Mark)
     → after_part_marks d (begin_of who t own ++ (tabled (wrote (of_session who) t table key None new) ∷ []) ++ ends) ≡ after_part_marks d (begin_of who t own ++ (tabled (wrote (of_session who) t table key old new) ∷ []) ++ ends)
 same-parts d who t table key old new None ends = refl
@@ -54,7 +54,7 @@ written-takes gate g who t s table key old new = of s.txid s.block
     of (Some own) inside = and-true _
     of (Some own) failed = and-true _
 
--- what a write does for which the gate has room
+-- what a write does if the gate has room for it
 pub gated-has_room : {G : Type 0} (gate : Gate G) (g : G) (d : RowPart) (who t table : ℕ) (key : List Val) (old new : Option (List Val)) → txid_for d who ≡ Ok t
     → gate.has_room g (record { table = table; old = old; new = new }) ≡ true
     → gated gate g (writes_key d who table key old new) ≡ does_marks (Number 1) (written who t (d.session who) (tabled (wrote (of_session who) t table key old new) ∷ []))

@@ -17,21 +17,20 @@ use Rattle.sky_state.specs.Seen.{seen}
 abbrev pub nothing : Bool → RowStep
 nothing whole = record { replies = []; effects = record { whole = whole; items = [] } }
 
--- a turn is added to what was given: its replies and effects stand at the end, the part is then as after its marks, and the
--- gate in front of its writes has been told of them
+-- a turn is added to what was given: its replies and effects are appended, the part is then as after its marks, and the gate has recorded its writes
 pub record Adds {G : Type 0} (gate : Gate G) (old new : RowPart × G) (before after : RowStep) (turn : Turn) : Type 0 where
   pub replied : after.replies ≡ before.replies ++ turn.answers
   pub told : after.effects ≡ with_effects before.effects turn.marks
   pub changed : new.0 ≡ after_part_marks old.0 turn.marks
   pub passed : new.1 ≡ passed_all gate old.1 turn.marks
 
--- a call adds its turn, leaves nobody who may go on, and keeps its promise
+-- a call adds its turn, leaves no session that is ready to resume, and keeps its promise
 pub record Settles {G : Type 0} (gate : Gate G) (old new : RowPart × G) (before after : RowStep) (call : RowCall) (turn : Turn) : Type 0 where
   pub exact : Adds gate old new before after turn
   pub rests : ready new.0 ≡ None
   pub steps : RowSteps old.0 new.0 call turn
 
--- the same with no gate, to nothing that was given before, with all effects
+-- the same without a gate, added to nothing, with all effects
 abbrev pub Gives : RowPart → RowPart → RowStep → RowCall → Turn → Type 0
 Gives old new step call turn = Settles open_gate (old, tt) (new, tt) (nothing true) step call turn
 
@@ -47,12 +46,12 @@ abbrev pub Ran : RowStateView → RowStateView → RowStep → RowStep → ℕ �
 Ran old new before after who (Ok _) checked = Does (seen old) (seen new) before after who checked
 Ran old new before after who (Err stop) checked = Stops stop (seen old) (seen new) checked × Keeps stop before after
 
--- a gate has passed what a statement did, and nothing where that was refused; after want of memory nothing is said of it
+-- a gate has recorded what a statement did, and nothing if that was refused; out of memory, nothing is said of it
 abbrev pub Passes : {G : Type 0} → Gate G → G → G → Result (Unit {0}) Stop → Checked Outcome → Type 0
 Passes gate old new (Ok _) checked = new ≡ passed_all gate old (marks_of checked)
 Passes gate old new (Err stop) checked = Keeps stop old new
 
--- a statement was run behind a gate, which refuses what it has no room for, and has passed what was done
+-- a statement was run with a gate, which refuses what it has no room for, and has recorded what was done
 pub record Writes {G : Type 0} (gate : Gate G) (old new : RowStateView × G) (before after : RowStep) (who : ℕ) (result : Result (Unit {0}) Stop) (checked : Checked Outcome) : Type 0 where
   pub ran : Ran old.0 new.0 before after who result (gated gate old.1 checked)
   pub passes : Passes gate old.1 new.1 result (gated gate old.1 checked)

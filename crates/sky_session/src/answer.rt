@@ -10,13 +10,13 @@ use std::alloc::Global;
 /// What statements answer, and what they did.
 #[derive(Debug, Drop)]
 pub struct RowStep {
-    /// A statement's own answer first, then those of the statements that it let go on.
+    /// A statement's own answer first, then those of the statements that it unblocked.
     pub replies: Replies,
     pub effects: Effects,
 }
 
 impl RowStep {
-    /// Nothing yet; all effects will stand in it. No memory is taken.
+    /// Nothing yet, for all effects. It takes no memory.
     pub fn whole(alloc: Global) -> RowStep
         ensures { result ≡ nothing true }
     {
@@ -26,7 +26,7 @@ impl RowStep {
         }
     }
 
-    /// Nothing yet; of the effects the ends of transactions alone will stand in it. No memory is taken.
+    /// Nothing yet, for those effects alone that are ends of transactions. It takes no memory.
     pub fn ends(alloc: Global) -> RowStep
         ensures { result ≡ nothing false }
     {
@@ -36,7 +36,7 @@ impl RowStep {
         }
     }
 
-    /// One more answer, at the end; no effect comes with it.
+    /// Appends an answer; no effect comes with it.
     pub(crate) fn answer(&mut self, who: SessionId, reply: Reply) -> Result<(), NoMemory>
         ensures replied { OnOk result (self.new.replies ≡ self.old.replies ++ (who, reply) ∷ []) }
         ensures same { OnOk result (self.new.effects ≡ self.old.effects) }

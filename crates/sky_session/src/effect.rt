@@ -12,9 +12,9 @@ pub enum Effect {
         txid: u64,
         table: u32,
         op: Op,
-        /// The row that stood there; none at an insert.
+        /// The row that was there; none for an insert.
         old: Option<Row>,
-        /// The row that stands there; none at a deletion.
+        /// The row that is there now; none for a deletion.
         new: Option<Row>,
     },
     /// The transaction of this id committed.
@@ -39,8 +39,7 @@ impl Drop for Effect {
     }
 }
 
-/// Effects in order, the first one first. A list that is whole has all; one that isn't leaves out the writes, of which a
-/// gate is told.
+/// Effects in order. A list that is whole has all; one that isn't leaves out the writes, which a gate records.
 #[derive(Debug, Drop)]
 pub struct Effects {
     items: Vec<Effect>,
@@ -56,7 +55,7 @@ impl Model for Effects {
 }
 
 impl Effects {
-    /// No effect, in a list that is whole. No memory is taken.
+    /// No effect, in a list that is whole. It takes no memory.
     pub fn whole(alloc: Global) -> Effects
         ensures { result ≡ record { whole = true; items = [] } }
     {
@@ -66,7 +65,7 @@ impl Effects {
         }
     }
 
-    /// No effect, in a list of the ends of transactions alone. No memory is taken.
+    /// No effect, in a list of the ends of transactions alone. It takes no memory.
     pub fn ends(alloc: Global) -> Effects
         ensures { result ≡ record { whole = false; items = [] } }
     {
@@ -83,7 +82,7 @@ impl Effects {
         self.is_whole
     }
 
-    /// One more effect, at the end.
+    /// Appends an effect.
     pub(crate) fn push(&mut self, effect: Effect) -> Result<(), NoMemory>
         ensures { OnOk result (self.new ≡ record self.old { items = self.old.items ++ effect ∷ [] }) }
     {
@@ -91,14 +90,14 @@ impl Effects {
         Ok(())
     }
 
-    /// No effect any more. The memory is kept for the next ones.
+    /// Removes all effects. The memory is kept for the next ones.
     pub fn clear(&mut self)
         ensures { self.new ≡ record self.old { items = [] } }
     {
         self.items.clear();
     }
 
-    /// The effects, the first one first.
+    /// The effects, in order.
     pub fn as_slice(&self) -> &[Effect]
         ensures { result.now ≡ self.now.items }
     {

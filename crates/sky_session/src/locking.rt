@@ -1,4 +1,10 @@
-//! Writes of keys, at once or after a wait: a key that another session holds is waited for.
+//! Writes of keys, at once or after a wait.
+//!
+//! An update or a delete makes its tests in one order. If the session sees no row at the key, 0 rows are changed,
+//! without a wait. If another session holds the key, it waits, or is refused if that wait would close a deadlock cycle.
+//! If the key has a newer committed version that a repeatable read block can't see, it is refused. An insert waits
+//! first: whether the key has a row is known only when its holder's transaction has ended. A statement that resumes
+//! makes all its tests again, so a read committed session then changes the newest committed row.
 
 ghost use Rattle.std.specs.Prelude.{◌≡◌, ◌<◌, false, None, Some, length};
 ghost use Rattle.sky_keys.specs.Waits.{other_holder, is_waiting};
@@ -17,7 +23,7 @@ use sky_model::{Attempt, Refusal, Reply, Sets, Stop, WriteGate};
 use sky_state::RowState;
 use sky_val::{Row, SessionId};
 
-/// The session waits for the holder of the key, or is refused where it would wait for itself.
+/// The session waits for the lock holder, or is refused if it would wait for itself.
 fn wait(
     state: &mut RowState,
     who: SessionId,
@@ -37,7 +43,7 @@ fn wait(
     }
 }
 
-/// Puts the row at the key.
+/// Inserts the row at the key.
 pub(crate) fn insert_key<G: WriteGate>(
     state: &mut RowState,
     who: SessionId,
@@ -63,7 +69,7 @@ pub(crate) fn insert_key<G: WriteGate>(
     Ok(write_key(state, who, txid, key, Some(row), step)?)
 }
 
-/// Makes the changes in the row that the session is shown at the key; where there is none, it changes none.
+/// Changes the row that the session sees at the key; if there is none, it changes 0 rows.
 pub(crate) fn change_key<G: WriteGate>(
     state: &mut RowState,
     who: SessionId,
@@ -99,7 +105,7 @@ pub(crate) fn change_key<G: WriteGate>(
     Ok(write_key(state, who, txid, key, Some(new), step)?)
 }
 
-/// Deletes the row that the session is shown at the key; where there is none, it deletes none.
+/// Deletes the row that the session sees at the key; if there is none, it deletes 0 rows.
 pub(crate) fn delete_key<G: WriteGate>(
     state: &mut RowState,
     who: SessionId,
@@ -123,7 +129,7 @@ pub(crate) fn delete_key<G: WriteGate>(
     Ok(write_key(state, who, txid, key, None, step)?)
 }
 
-/// What the session attempts with the key.
+/// Makes the session's attempt with the key. A statement that resumes comes in here.
 pub(crate) fn attempt_key<G: WriteGate>(
     state: &mut RowState,
     who: SessionId,

@@ -33,7 +33,7 @@ pub(crate) fn next_txid(state: &RowState, who: SessionId) -> Option<u64>
     Some(state.next_id())
 }
 
-/// The same for a statement, which is refused where there is none.
+/// The same for a statement, which is refused if there is none.
 pub(crate) fn txid_for(state: &RowState, who: SessionId) -> Result<u64, Refusal>
     ensures ok { IfOk result (λ txid. txid_for (seen state.now) who ≡ Ok txid) }
     ensures err { IfErr result (λ refusal. txid_for (seen state.now) who ≡ Err refusal) }
@@ -44,8 +44,8 @@ pub(crate) fn txid_for(state: &RowState, who: SessionId) -> Result<u64, Refusal>
     }
 }
 
-/// Lets the session make a statement that may stand at this place, or refuses it. A repeatable read block takes its
-/// sight in front of the first one that reads, whether that is refused later or not.
+/// Admits a statement that is allowed at this place, or refuses it. A repeatable read block takes its snapshot before
+/// its first statement that reads or writes, even if that is refused later.
 pub(crate) fn admit(
     state: &mut RowState,
     who: SessionId,
@@ -63,7 +63,7 @@ pub(crate) fn admit(
     Ok(None)
 }
 
-/// Whether the session is in no block, and its transaction has no id: so a write is one of its own.
+/// Whether the session is in no block, and its transaction has no id: a write is then a transaction of its own.
 fn is_alone(state: &RowState, who: SessionId) -> bool
     ensures alone { result ≡ true → ((seen state.now).session who).block ≡ outside }
     ensures single { result ≡ true → ((seen state.now).session who).txid ≡ None }
@@ -71,7 +71,7 @@ fn is_alone(state: &RowState, who: SessionId) -> bool
     state.block(who) == Block::Outside && state.own_txid(who).is_none()
 }
 
-/// Gives the session's transaction its id, where it has none.
+/// Gives the session's transaction its id, if it has none.
 pub(crate) fn begin_own(state: &mut RowState, who: SessionId, txid: u64) -> Result<(), NoMemory>
     requires { txid_for (seen state.old) who ≡ Ok txid }
     ensures ok { OnOk result (seen state.new ≡ after_part_marks (seen state.old) (begin_of who txid ((seen state.old).session who).txid)) }
@@ -83,8 +83,8 @@ pub(crate) fn begin_own(state: &mut RowState, who: SessionId, txid: u64) -> Resu
     Ok(())
 }
 
-/// Gives the session's transaction this id, where it has none. Where the session is in no block, it then commits, and
-/// has written no row.
+/// Gives the session's transaction this id, if it has none. If the session is in no block, the transaction then
+/// commits, and has written no row.
 pub(crate) fn take_own(state: &mut RowState, who: SessionId, txid: u64) -> Result<(), NoMemory>
     requires { txid_for (seen state.old) who ≡ Ok txid }
     ensures ok { OnOk result (seen state.new ≡ after_part_marks (seen state.old) (written who txid ((seen state.old).session who) [])) }
@@ -102,7 +102,7 @@ pub(crate) fn take_own(state: &mut RowState, who: SessionId, txid: u64) -> Resul
     Ok(())
 }
 
-/// Commits the session's transaction, which has this id, where it is in no block.
+/// Commits the session's transaction, which has this id, if the session is in no block.
 pub(crate) fn commit_own(
     state: &mut RowState,
     who: SessionId,
@@ -120,8 +120,8 @@ pub(crate) fn commit_own(
     Ok(())
 }
 
-/// Writes the key in the session's transaction, which has this id or gets it. Where the session is in no block, that
-/// then commits.
+/// Writes the key in the session's transaction, which has this id or gets it. If the session is in no block, the
+/// transaction then commits. A transaction that is this write alone takes no lock: nobody could wait for it.
 pub(crate) fn write_own(
     state: &mut RowState,
     who: SessionId,
@@ -169,7 +169,7 @@ pub(crate) fn abort_block(
     Ok(())
 }
 
-/// Commits the session's transaction, where it is in no block.
+/// Commits the session's transaction, if the session is in no block.
 pub(crate) fn commit_alone(state: &mut RowState, who: SessionId)
     ensures { seen state.new ≡ after_part_marks (seen state.old) (ending (seen state.old) who).marks }
 {

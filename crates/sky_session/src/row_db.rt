@@ -1,20 +1,23 @@
-ghost use Rattle.std.specs.Prelude.{◌≡◌, ◌↔◌, ◌≢◌, [], false, None, Some, Ok, Err, IfOk, OnOk, OnErr, MatchOption, IsTrue, is_ok};
+ghost use Rattle.std.specs.Prelude.{◌≡◌, ◌↔◌, ◌≢◌, [], true, false, None, Some, Ok, Err, IfOk, OnOk, OnErr, MatchOption, IsTrue, is_ok};
 ghost use Rattle.sky_keys.specs.Waits.{is_waiting};
+ghost use Rattle.sky_txid.specs.Ids.{contains};
 ghost use Rattle.sky_names.specs.Places.{place_of};
 ghost use Rattle.sky_model.specs.declared.reply.Refusal.TheVariants.{TxidsSpent};
 ghost use Rattle.sky_model.specs.InForm.{IsRowInForm};
+ghost use Rattle.sky_model.specs.History.{of_worker, began, ended};
 ghost use Rattle.sky_model.specs.Sessions.{outside};
-ghost use Rattle.sky_model.specs.State.{part_of, after_part_marks};
+ghost use Rattle.sky_model.specs.State.{part_of, after_part, after_part_marks};
 ghost use Rattle.sky_model.specs.ShownRows.{snapshot_now, snapshot_for, least_writer};
-ghost use Rattle.sky_model.specs.OwnTransaction.{txid_for, begin_of, written};
+ghost use Rattle.sky_model.specs.OwnTransaction.{next_id, txid_for, begin_of, written};
 ghost use Rattle.sky_model.specs.SessionMarks.{Enters, entry, entry_place, failing, taking, ending};
+ghost use Rattle.sky_model.specs.WorkerMarks.{beginning, ending_work};
 ghost use Rattle.sky_model.specs.Reader.{part_by_itself};
 ghost use Rattle.sky_model.specs.Gates.{by_gate};
 ghost use Rattle.sky_model.specs.Rooms.{any_room, room_of};
 ghost use Rattle.sky_model.specs.Calls.{row_turn};
-ghost use Rattle.sky_model.specs.RowCalls.{row_stepped, row_entered, row_failed, row_settled, rolled_back, txid_taken, single_ended};
+ghost use Rattle.sky_model.specs.RowCalls.{row_stepped, row_entered, row_failed, row_settled, rolled_back, txid_taken, single_ended, worker_begun, worker_ended};
 ghost use Rattle.sky_model.specs.RowSteps.{RowSteps};
-ghost use Rattle.sky_model.specs.Settling.{settling, with_settling};
+ghost use Rattle.sky_model.specs.Settling.{ready, settling, with_settling};
 ghost use Rattle.sky_session.specs.Effects.{with_effects};
 ghost use Rattle.sky_session.specs.Gives.{Settles, Gives, nothing};
 ghost use Rattle.sky_state.specs.Seen.{seen};
@@ -66,14 +69,14 @@ impl RowDb {
         Some((number, self.state.schema(number)))
     }
 
-    /// Which transactions have ended where the session's statements read.
+    /// The snapshot that the session's statements read by.
     pub fn snapshot(&self, who: SessionId) -> Result<Snapshot, NoMemory>
         ensures { IfOk result (λ snapshot. snapshot ≡ snapshot_for (seen self.now) ((seen self.now).session who)) }
     {
         self.state.snapshot(who)
     }
 
-    /// Which transactions have ended.
+    /// The present snapshot: which transactions have ended.
     pub fn snapshot_now(&self) -> Result<Snapshot, NoMemory>
         ensures { IfOk result (λ snapshot. snapshot ≡ snapshot_now (seen self.now)) }
     {
@@ -101,8 +104,8 @@ impl RowDb {
         self.state.block(who) != Block::Outside
     }
 
-    /// Lets the session make a statement that isn't on rows, or refuses it. One that may stand `outside` of blocks alone
-    /// reads nothing; any other takes the sight of a repeatable read block, if that is still to come.
+    /// Admits a statement that isn't on rows, or refuses it. One that is allowed only `outside` of blocks reads
+    /// nothing; any other takes the snapshot of a repeatable read block, if it is the first there.
     pub fn enter(&mut self, who: SessionId, outside: bool) -> Result<Option<Refusal>, NoMemory>
         ensures ok { IfOk result (λ refusal. Enters (seen self.old) (seen self.new) who (entry_place outside) refusal) }
         ensures err { OnErr result (seen self.new ≡ seen self.old) }
@@ -115,7 +118,7 @@ impl RowDb {
         }
     }
 
-    /// Runs a statement of a session, and those that it lets go on.
+    /// Runs a statement of a session, and those that it unblocks.
     pub fn step(&mut self, who: SessionId, stmt: &RowStmt) -> Result<RowStep, NoMemory>
         requires { IsRowInForm stmt.now }
         ensures { IfOk result (λ step. Gives (seen self.old) (seen self.new) step (row_stepped any_room who stmt.now) (row_turn part_by_itself (seen self.old) who stmt.now)) }
@@ -126,9 +129,9 @@ impl RowDb {
         Ok(step)
     }
 
-    /// The same with a gate in front of the writes: of the statement's own, and of those of statements that it lets go on.
-    /// The gate is told of them in their order, so that the effects are the ends of transactions alone. Where it has no room
-    /// for a statement's write, that is refused, if nothing else refuses it.
+    /// The same with a gate for the writes: the statement's own, and those of the statements that it unblocks. The gate
+    /// is notified of them in their order, so that the effects are the ends of transactions alone. A write that it has
+    /// no room for is refused, if nothing else refuses it.
     pub fn step_with<G: WriteGate>(
         &mut self,
         who: SessionId,
@@ -161,8 +164,8 @@ impl RowDb {
         Ok(())
     }
 
-    /// Rolls back the session's block, which stays aborted, and runs what this lets go on. Where it is in none, or that
-    /// is aborted, nothing is rolled back.
+    /// Rolls back the session's block, which stays aborted, and runs what this unblocks. If it is in none, or in an
+    /// aborted one, nothing is rolled back.
     pub fn fail(&mut self, who: SessionId) -> Result<RowStep, NoMemory>
         ensures { IfOk result (λ step. Gives (seen self.old) (seen self.new) step (row_failed any_room who) (with_settling part_by_itself (seen self.old) (failing (seen self.old) who))) }
     {
@@ -172,7 +175,7 @@ impl RowDb {
         Ok(step)
     }
 
-    /// The same with a gate in front of the writes of the statements that go on.
+    /// The same with a gate for the writes of the statements that resume.
     pub fn fail_with<G: WriteGate>(
         &mut self,
         who: SessionId,
@@ -200,9 +203,9 @@ impl RowDb {
         Ok(())
     }
 
-    /// Runs the statements that may go on; their answers and effects are added to what was given before. Behind `step` and
-    /// `fail` there is none; behind `roll_back` and `end_single`, by which a statement on queues ends a transaction, there may
-    /// be some. A gate stands in front of their writes.
+    /// Runs the statements that are ready to resume; their answers and effects are added to what was given before.
+    /// After `step` and `fail` there is none; after `roll_back` and `end_single`, by which a statement on queues ends a
+    /// transaction, there may be some. Their writes go through the gate.
     pub fn settle_into<G: WriteGate>(
         &mut self,
         gate: &mut G,
@@ -215,7 +218,7 @@ impl RowDb {
         Ok(())
     }
 
-    /// Whether nobody waits. So nobody may go on either.
+    /// Whether nobody waits. So nobody is ready to resume either.
     pub fn is_at_rest(&self) -> bool
         ensures { IsTrue result ↔ ((seen self.now).waiting ≡ []) }
     {
@@ -236,7 +239,7 @@ impl RowDb {
         self.next_txid(who).is_some()
     }
 
-    /// The id of the session's transaction, which gets one where it has none.
+    /// The id of the session's transaction, which gets one if it has none.
     pub fn take_txid(&mut self, who: SessionId) -> Result<u64, TransFault>
         ensures id { IfOk result (λ txid. txid_for (seen self.old) who ≡ Ok txid) }
         ensures marks { IfOk result (λ txid. seen self.new ≡ after_part_marks (seen self.old) (begin_of who txid ((seen self.old).session who).txid)) }
@@ -252,8 +255,8 @@ impl RowDb {
         Ok(txid)
     }
 
-    /// What a session writes elsewhere, in its transaction, which has this id or gets it: outside a block that then
-    /// commits. It is the same as `take_txid`, and then `end_single`.
+    /// Records what a session writes elsewhere, in its transaction, which has this id or gets it: outside a block the
+    /// transaction then commits. It is the same as `take_txid`, and then `end_single`.
     pub fn write_elsewhere(&mut self, who: SessionId, txid: u64) -> Result<(), NoMemory>
         requires { txid_for (seen self.old) who ≡ Ok txid }
         ensures marks { OnOk result (seen self.new ≡ after_part_marks (seen self.old) (written who txid ((seen self.old).session who) [])) }
@@ -265,7 +268,8 @@ impl RowDb {
         Ok(())
     }
 
-    /// Commits the session's transaction, where it is in no block. Nothing happens in a block, or where no id was taken.
+    /// Commits the session's transaction, if the session is in no block. Nothing happens in a block, or if no id was
+    /// taken.
     pub fn end_single(&mut self, who: SessionId)
         ensures marks { seen self.new ≡ after_part_marks (seen self.old) (ending (seen self.old) who).marks }
         ensures steps { RowSteps (seen self.old) (seen self.new) (single_ended who) (ending (seen self.old) who) }
@@ -282,5 +286,34 @@ impl RowDb {
     {
         abort_block(&mut self.state, who, effects)?;
         Ok(())
+    }
+
+    /// The id of a transaction of a worker, which begins and is no session's.
+    pub fn begin_worker(&mut self) -> Result<u64, TransFault>
+        ensures id { IfOk result (λ txid. next_id (seen self.old) ≡ Ok txid) }
+        ensures mark { IfOk result (λ txid. seen self.new ≡ after_part (seen self.old) (began of_worker txid)) }
+        ensures spent { (result ≡ Err TransFault.TxidsSpent) ↔ (next_id (seen self.old) ≡ Err TxidsSpent) }
+        ensures same { OnErr result (seen self.new ≡ seen self.old) }
+        ensures steps { OnOk result (RowSteps (seen self.old) (seen self.new) worker_begun (beginning (seen self.old))) }
+        ensures steps_spent { result ≡ Err TransFault.TxidsSpent → RowSteps (seen self.old) (seen self.new) worker_begun (beginning (seen self.old)) }
+    {
+        if !self.state.id_left() {
+            return Err(TransFault::TxidsSpent);
+        }
+        Ok(self.state.began_work()?)
+    }
+
+    /// Commits the transaction of a worker, or rolls it back. It held no key, so nobody who waits may go on by it.
+    pub fn end_worker(&mut self, txid: u64, commit: bool)
+        requires { contains txid (seen self.old).workers ≡ true }
+        ensures mark { seen self.new ≡ after_part (seen self.old) (ended of_worker txid commit) }
+        ensures rests { ready (seen self.new) ≡ ready (seen self.old) }
+        ensures steps { RowSteps (seen self.old) (seen self.new) (worker_ended txid commit) (ending_work (seen self.old) txid commit) }
+    {
+        if commit {
+            self.state.committed_work(txid);
+        } else {
+            self.state.aborted_work(txid);
+        }
     }
 }

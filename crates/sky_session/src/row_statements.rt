@@ -1,4 +1,8 @@
-//! The statements on tables and rows. A refusal changes nothing here, so all tests stand in front of the first change.
+//! The statements on tables and rows. A refusal changes nothing here, so all tests come before the first change.
+//!
+//! The tests come in one order, which decides what is refused. The table has to exist; the values, the key and the
+//! changes have to fit its columns. Then `locking` looks at the key's row and its holder. Last there has to be an id
+//! for the transaction, and room in the gate.
 
 ghost use Rattle.std.specs.Prelude.{◌≡◌, ◌<◌, ℕ, List, [], ◌∷◌, ◌++◌, Option, false, None, Some, Ok, Err, IfOk, IfErr, OnOk, length};
 ghost use Rattle.sky_val.specs.Schemas.{AreNamed};
@@ -64,8 +68,9 @@ fn table_called(state: &RowState, name: &Text) -> Result<u32, Stop>
     }
 }
 
-/// Refuses a change of a row of whose key a write was committed since the session's sight, unless its own
-/// transaction has written the key.
+/// Refuses a change of a row if a write of its key was committed that the session's snapshot doesn't see, unless its
+/// own transaction has written the key. Only a repeatable read block has such a snapshot: its change would overwrite a
+/// version that it has never seen.
 pub(crate) fn check_seen(
     state: &RowState,
     who: SessionId,
@@ -84,7 +89,7 @@ pub(crate) fn check_seen(
     }
 }
 
-/// The effect of a write, where such effects are asked for. Its rows are copied for that alone.
+/// The effect of a write, if the list has writes. Its rows are copied for that alone.
 fn add_write(
     effects: &mut Effects,
     alloc: Global,
@@ -112,8 +117,9 @@ fn add_write(
     Ok(())
 }
 
-/// Tells the gate and the effects of the write that the session is to make in its transaction, where the gate has room
-/// for it. The answer is the id of the transaction.
+/// The last tests of a write, and its record: the transaction has an id or can get one, the gate has room, and then the
+/// gate and the effects record the write. The answer is the id. This comes before the write itself, while the old row
+/// can be read in place.
 pub(crate) fn tell_write<G: WriteGate>(
     state: &RowState,
     who: SessionId,
@@ -141,7 +147,7 @@ pub(crate) fn tell_write<G: WriteGate>(
     Ok(txid)
 }
 
-/// Makes the write of which the gate and the effects were told, of a key that no other session holds.
+/// Makes the write that the gate and the effects have recorded, of a key that no other session holds.
 pub(crate) fn write_key(
     state: &mut RowState,
     who: SessionId,

@@ -1,4 +1,8 @@
-//! The statements that may go on when keys are free: each is run at the place behind the one before.
+//! The statements that resume when keys are freed, in the order of the wait queue, each at the
+//! place after the one before.
+//!
+//! A statement that resumes runs to its end, since nobody holds its key. That may free further
+//! keys, so the first one that is ready is looked for again each time.
 
 ghost use Rattle.std.specs.Prelude.{◌≡◌, ◌<◌, None, Some, IfOk, IfSome, OnOk, option_map, length};
 ghost use Rattle.sky_locks.specs.Locks.{entry};
@@ -16,7 +20,7 @@ use sky_model::WriteGate;
 use sky_state::RowState;
 use sky_val::{NoMemory, SessionId};
 
-/// Runs the statement of a session that may go on.
+/// Runs the statement of a session that is ready to resume.
 fn resume<G: WriteGate>(
     state: &mut RowState,
     who: SessionId,
@@ -34,7 +38,7 @@ fn resume<G: WriteGate>(
     Ok(())
 }
 
-/// Runs the statements that may go on.
+/// Runs the statements that are ready to resume, until there is none.
 pub(crate) fn settle_behind<G: WriteGate>(
     state: &mut RowState,
     gate: &mut G,

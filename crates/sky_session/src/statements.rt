@@ -33,7 +33,7 @@ use sky_txid::{Snapshot, SnapshotFault};
 use sky_val::{NoMemory, SessionId, Text};
 use std::alloc::AllocError;
 
-/// The answer of the statement itself, be it a refusal.
+/// The answer of the statement itself, even if that is a refusal.
 pub(crate) fn own_answer<G: WriteGate>(
     state: &mut RowState,
     who: SessionId,
@@ -53,7 +53,7 @@ pub(crate) fn own_answer<G: WriteGate>(
     Ok(())
 }
 
-/// Answers with the refusal, where a statement that was run is refused.
+/// Answers with the refusal, if a statement that was run is refused.
 pub(crate) fn or_refuse(
     state: &mut RowState,
     who: SessionId,
@@ -74,7 +74,7 @@ pub(crate) fn or_refuse(
     }
 }
 
-/// Answers with a refusal, which aborts the block that its session is in.
+/// Answers with a refusal. It aborts the block that its session is in, unless it is one of the few that abort nothing.
 fn refuse(
     state: &mut RowState,
     who: SessionId,
@@ -147,7 +147,7 @@ fn close(state: &mut RowState, who: SessionId, step: &mut RowStep) -> Result<(),
     Ok(step.answer(who, Reply::Done)?)
 }
 
-/// `cancel`: the session waits no longer, and its block is rolled back.
+/// `cancel`: the session no longer waits, and its block is rolled back.
 fn cancel(state: &mut RowState, who: SessionId, step: &mut RowStep) -> Result<(), Stop>
     ensures { let s = (seen state.old).session who in
         Ran state.old state.new step.old step.new who result (cancel who s.txid s.block (is_waiting who (seen state.old).waiting)) }
@@ -171,7 +171,7 @@ fn begin(state: &mut RowState, who: SessionId, step: &mut RowStep) -> Result<(),
     Ok(step.answer(who, Reply::Begin)?)
 }
 
-/// `begin repeatable read`: the sight is taken later, by the first statement that reads.
+/// `begin repeatable read`: the snapshot is taken later, by the first statement that reads or writes.
 fn begin_repeatable_read(
     state: &mut RowState,
     who: SessionId,
@@ -215,7 +215,7 @@ fn rollback(state: &mut RowState, who: SessionId, step: &mut RowStep) -> Result<
     Ok(step.answer(who, Reply::Rollback)?)
 }
 
-/// The session's block ends, and its transaction commits, if it has got an id.
+/// The session's block ends, and its transaction commits, if it has an id.
 fn commit_block(state: &mut RowState, who: SessionId, effects: &mut Effects) -> Result<(), NoMemory>
     ensures marks { OnOk result (seen state.new ≡ after_part_marks (seen state.old) (leaves true who ((seen state.old).session who).txid)) }
     ensures told { OnOk result (effects.new ≡ with_effects effects.old (leaves true who ((seen state.old).session who).txid)) }
@@ -228,7 +228,7 @@ fn commit_block(state: &mut RowState, who: SessionId, effects: &mut Effects) -> 
     Ok(())
 }
 
-/// The session's block ends, and its transaction is rolled back, if it has got an id.
+/// The session's block ends, and its transaction is rolled back, if it has an id.
 fn roll_back_block(
     state: &mut RowState,
     who: SessionId,
@@ -245,7 +245,7 @@ fn roll_back_block(
     Ok(())
 }
 
-/// `txid_current`: the transaction gets its id, where it has none.
+/// `txid_current`: the transaction gets its id, if it has none.
 fn txid_current(state: &mut RowState, who: SessionId, step: &mut RowStep) -> Result<(), Stop>
     ensures { Ran state.old state.new step.old step.new who result (txid_current (seen state.old) who) }
 {
@@ -255,7 +255,7 @@ fn txid_current(state: &mut RowState, who: SessionId, step: &mut RowStep) -> Res
     Ok(step.answer(who, Reply::Number(txid))?)
 }
 
-/// `txid_current_snapshot`: the snapshot of the statement's sight.
+/// `txid_current_snapshot`: the snapshot that the statement reads by.
 fn txid_current_snapshot(state: &RowState, who: SessionId, step: &mut RowStep) -> Result<(), Stop>
     ensures { Ran state.now state.now step.old step.new who result (txid_current_snapshot (seen state.now) who) }
 {

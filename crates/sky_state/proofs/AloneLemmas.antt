@@ -1,4 +1,4 @@
--- A transaction of one write: it leaves nobody's id, and no lock.
+-- A transaction of one write: afterwards it is no session's, and holds no lock.
 use Rattle.std.proofs.Common.{◌≡◌, ℕ, ◌+◌, ◌<◌, List, [], ◌∷◌, ◌++◌, Bool, true, false, not, ◌==◌, ◌&&◌, ◌||◌, filter, Option, Some, None, length, get_or, slice_set, refl, sym, ◌∙◌, ap, arith, if◌then◌else◌}
 use Rattle.std.proofs.lemmas.Bool.{and_parts}
 use Rattle.std.proofs.lemmas.Bool.Decides.{nat_tests}
@@ -20,7 +20,7 @@ use Rattle.sky_state.specs.Views.{RowStateView}
 use Rattle.sky_state.specs.Seen.{no_table, table_of, columns_of, versions_of, session_of, wrote_in, seen}
 use Rattle.sky_state.proofs.SessionLists.{set-at, read-at}
 
--- an id that began last and has ended has left the others
+-- an id that was given last and has ended leaves the others
 pub others-run : (t : ℕ) (ids : List ℕ) → contains t ids ≡ false → filter (λ u. not (u == t)) (ids ++ t ∷ []) ≡ ids
 others-run t [] fresh = let same : (t == t) ≡ true = grind (arith, nat_tests) in ap (λ b. if not b then t ∷ [] else []) same
 others-run t (u ∷ ids) fresh = by (u == t) (t == u) refl refl fresh (λ late. others-run t ids late)
@@ -41,7 +41,7 @@ no-id-again old who t none = λ i n. by n (who == n) refl i
         λ i. record (old n) { txid = sym (ap (λ m. (old m).txid) (sym one) ∙ none) i }
     by n false e = refl
 
--- a key that nobody else holds, taken and given back with all others
+-- a key that nobody else holds, taken and then freed with all others
 pub taken-released : (keys : Holders) (who table : ℕ) (key : List Val) → other_holder keys who table key ≡ None → released who (taken who table key keys) ≡ released who keys
 taken-released keys who table key free = λ i t k. by t k (is_same_key table key t k) refl i
   where
@@ -56,7 +56,7 @@ taken-released keys who table key free = λ i t k. by t k (is_same_key table key
         mine ∙ sym (ap (λ m. other_than who (keys m k)) (sym one) ∙ ap (λ q. other_than who (keys table q)) (sym alike) ∙ free)
     by t k false e = refl
 
--- a version that is written changes one table's versions, and no columns
+-- writing a version changes one table's versions, and no columns
 pub version-written : (tables : List TableView) (n t : ℕ) (key : List Val) (row : Option (List Val)) (old new : TableView) → n < length tables → old ≡ get_or tables n old → new ≡ record old { versions = written t key row old.versions }
     → (columns_of (slice_set tables n new) ≡ columns_of tables) × (versions_of (slice_set tables n new) ≡ changed_at n (written t key row) (versions_of tables))
 version-written tables n t key row old new lt at is = (
@@ -79,7 +79,7 @@ version-written tables n t key row old new lt at is = (
         ap (λ (v : TableView). v.versions) is ∙ ap (λ (v : TableView). written t key row v.versions) (sym there) ∙ ap (λ k. written t key row (table_of tables k).versions) one
     versions m false e = refl
 
--- one that has ended counts no more as one that has written
+-- a transaction that has ended no longer counts as a writer
 gone-again : (old : (table t : ℕ) → Bool) (table t n u : ℕ) → (not (t == u) && old n u) ≡ (not (t == u) && ((table == n && t == u) || old n u))
 gone-again old table t n u = by (t == u) (table == n)
   where

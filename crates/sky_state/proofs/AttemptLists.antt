@@ -11,12 +11,12 @@ use Rattle.sky_state.proofs.SessionLists.{set-at, read-padded}
 pub padded : (attempts : List Attempt) → attempt_of (attempts ++ Deletion ∷ []) ≡ attempt_of attempts
 padded attempts = λ i n. read-padded attempts n Deletion i
 
--- an attempt in the place of another is a change at its number
+-- an attempt in place of another is a change at its number
 pub attempt-set : (attempts : List Attempt) (was : ℕ → Attempt) (who : ℕ) (attempt : Attempt) → attempt_of attempts ≡ was → who < length attempts
     → attempt_of (slice_set attempts who attempt) ≡ changed_at who (λ _. attempt) was
 attempt-set attempts was who attempt same lt = (λ i n. set-at attempts who n attempt Deletion lt i) ∙ ap (changed_at who (λ _. attempt)) same
 
--- one that has no place has a deletion already
+-- a session beyond the list has a deletion already
 pub attempt-none : (attempts : List Attempt) (was : ℕ → Attempt) (who : ℕ) → attempt_of attempts ≡ was → length attempts ≤ who → attempt_of attempts ≡ changed_at who (λ _. Deletion) was
 attempt-none attempts was who same past = (λ i n. of n (who == n) refl i) ∙ ap (changed_at who (λ _. Deletion)) same
   where

@@ -1,4 +1,4 @@
--- What a database shows in which nothing has happened.
+-- What a database in which nothing has happened shows.
 use Rattle.std.proofs.Common.{◌≡◌, ℕ, [], get_or, arith}
 use Rattle.std.proofs.lemmas.List.{get_or_past}
 use Rattle.sky_model.specs.declared.stmt.Attempt.TheVariants.{Deletion}

@@ -4,5 +4,6 @@ pub mod WriterBits
 pub mod Owning
 pub mod WaitLemmas
 pub mod AloneLemmas
+pub mod WorkLemmas
 pub mod ScanLemmas
 pub mod Empty

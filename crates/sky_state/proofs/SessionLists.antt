@@ -18,7 +18,7 @@ use Rattle.sky_state.specs.Views.{RowStateView}
 use Rattle.sky_state.specs.declared.session.Session.{Session}
 use Rattle.sky_state.specs.Seen.{seen_session, rest, session_of, no_table, table_of, columns_of, versions_of, wrote_in, seen}
 
--- an item in the place of another
+-- an item in place of another
 pub set-at : {A : Type 0} → (xs : List A) (i n : ℕ) (x d : A) → i < length xs → get_or (slice_set xs i x) n d ≡ (if i == n then x else get_or xs n d)
 set-at {A} xs i n x d lt = by (i == n) refl
   where
@@ -30,7 +30,7 @@ set-at {A} xs i n x d lt = by (i == n) refl
 pub read-at : {A : Type 0} → (xs : List A) (i : ℕ) (x d : A) → i < length xs → x ≡ get_or xs i x → get_or xs i d ≡ x
 read-at xs i x d lt at = get_or_from_slice_get xs i x d (slice_get_read xs (length xs) i x refl lt at)
 
--- the default behind the end of a list changes no reading of it
+-- the default, appended to a list, changes no read of it
 pub read-padded : {A : Type 0} → (xs : List A) (n : ℕ) (d : A) → get_or (xs ++ d ∷ []) n d ≡ get_or xs n d
 read-padded [] zero d = refl
 read-padded [] (suc n) d = refl
@@ -40,7 +40,7 @@ read-padded (x ∷ xs) (suc n) d = read-padded xs n d
 pub padded : (sessions : List Session) → session_of (sessions ++ rest ∷ []) ≡ session_of sessions
 padded sessions = λ i n. seen_session (read-padded sessions n rest i)
 
--- a session in the place of another is a change at its number
+-- a session in place of another is a change at its number
 pub session-set : (sessions : List Session) (was : ℕ → model.Session) (who : ℕ) (old new : Session) (f : model.Session → model.Session)
     → session_of sessions ≡ was → who < length sessions → old ≡ get_or sessions who old → seen_session new ≡ f (seen_session old)
     → session_of (slice_set sessions who new) ≡ changed_at who f was
@@ -55,7 +55,7 @@ session-set sessions was who old new f same lt at is = (λ i n. pointwise n i) �
     pointwise : (n : ℕ) → seen_session (get_or (slice_set sessions who new) n rest) ≡ (if who == n then f (seen_session (get_or sessions n rest)) else seen_session (get_or sessions n rest))
     pointwise n = ap seen_session (set-at sessions who n new rest lt) ∙ by n (who == n) refl
 
--- a table without the versions of a transaction, where that is forgotten
+-- a table without the versions of a transaction, if that is forgotten
 abbrev pub forgetting : ℕ → Bool → TableView → TableView
 forgetting t true table = record table { versions = forgotten t table.versions }
 forgetting t false table = table
@@ -64,7 +64,7 @@ pub forgot-columns : (t : ℕ) (b : Bool) (table : TableView) → (forgetting t 
 forgot-columns t true table = refl
 forgot-columns t false table = refl
 
--- where there is no table there is nothing to forget
+-- if there is no table there is nothing to forget
 pub forgot-versions : (t n count : ℕ) (tables : List TableView) → length tables ≤ count → (forgetting t (nat_lt n count) (table_of tables n)).versions ≡ forgotten t (table_of tables n).versions
 forgot-versions t n count tables le = by (nat_lt n count) refl
   where
@@ -75,7 +75,7 @@ forgot-versions t n count tables le = by (nat_lt n count) refl
         let none : table_of tables n ≡ no_table = get_or_past tables n no_table past in
         ap (λ (v : TableView). v.versions) none ∙ ap (λ (v : TableView). forgotten t v.versions) (sym none)
 
--- one more has forgotten
+-- one more table has forgotten
 pub forgets-next : (t i : ℕ) (now was : List TableView) (old new : TableView) → i < length now → old ≡ get_or now i old → new ≡ forgetting t true old
     → ((n : ℕ) → table_of now n ≡ forgetting t (nat_lt n i) (table_of was n)) → (n : ℕ) → table_of (slice_set now i new) n ≡ forgetting t (nat_lt n (i + 1)) (table_of was n)
 forgets-next t i now was old new lt at is all n = set-at now i n new no_table lt ∙ by (i == n) refl
@@ -136,7 +136,7 @@ made-as v now tables table name columns same more new count =
     })
     ∙ ap (λ (w : RowStateView). after_part (seen w) (tabled (table_made name columns))) same
 
--- a write takes its key, and its transaction counts as one that has written in the table
+-- a write takes its key, and its transaction counts as a writer of the table
 pub wrote-as : (v now : RowStateView) (tables : List TableView) (writers : List (ℕ × ℕ)) (locks : LocksView) (who t table : ℕ) (key : List Val) (row : Option (List Val)) → v ≡ now
     → columns_of tables ≡ columns_of v.tables.values → versions_of tables ≡ changed_at table (written t key row) (versions_of v.tables.values)
     → wrote_in writers ≡ (λ n u. (table == n && t == u) || wrote_in v.writers n u) → holder locks ≡ taken who table key (holder v.locks) → locks.waiting ≡ v.locks.waiting
@@ -145,7 +145,7 @@ wrote-as v now tables writers locks who t table key row same columns versions wr
     (λ i. record (seen v) { columns = columns i; versions = versions i; wrote_in = writes i; holder = keys i; waiting = waits i })
     ∙ ap (λ (w : RowStateView). after_part (seen w) (tabled (wrote (of_session who) t table key None row))) same
 
--- a transaction that has committed doesn't run, is no session's, and its keys are free
+-- a transaction that has committed isn't running, is no session's, and its keys are free
 pub committed-as : (v now : RowStateView) (trans : TransView) (sessions : List Session) (writers : List (ℕ × ℕ)) (locks : LocksView) (who t : ℕ) → v ≡ now
     → trans ≡ record { next = v.trans.next; running = filter (λ u. not (u == t)) v.trans.running } → session_of sessions ≡ changed_at who (with_txid None) (session_of v.sessions)
     → wrote_in writers ≡ (λ n u. not (t == u) && wrote_in v.writers n u) → holder locks ≡ released who (holder v.locks) → locks.waiting ≡ v.locks.waiting
@@ -154,7 +154,7 @@ committed-as v now trans sessions writers locks who t same less free gone keys w
     (λ i. record (seen v) { next = (less i).next; running_ids = (less i).running; session = free i; wrote_in = gone i; holder = keys i; waiting = waits i })
     ∙ ap (λ (w : RowStateView). after_part (seen w) (ended (of_session who) t true)) same
 
--- so it is with one that was rolled back, which has no version either
+-- so does one that was rolled back, which has no version either
 pub aborted-as : (v now : RowStateView) (trans : TransView) (sessions : List Session) (tables : NamedView TableView) (writers : List (ℕ × ℕ)) (locks : LocksView) (who t : ℕ) → v ≡ now
     → trans ≡ record { next = v.trans.next; running = filter (λ u. not (u == t)) v.trans.running } → session_of sessions ≡ changed_at who (with_txid None) (session_of v.sessions)
     → tables.names ≡ v.tables.names → columns_of tables.values ≡ columns_of v.tables.values → versions_of tables.values ≡ (λ n. forgotten t (versions_of v.tables.values n))

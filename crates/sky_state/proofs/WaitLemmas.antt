@@ -1,4 +1,4 @@
--- Who waits, as entries and as answers of the code tell.
+-- Who waits, as entries and as the code answers it.
 use Rattle.std.proofs.Common.{◌≡◌, ℕ, List, [], ◌∷◌, ◌++◌, Option, Some, None, is_some, length, option_map, refl, sym, ◌∙◌, ap}
 use Rattle.sky_val.specs.declared.val.Val.{Val}
 use Rattle.sky_keys.specs.Waits.{Waiting, is_waiting, entry_of, waits_for, LeadsBack, way_back}
@@ -15,11 +15,11 @@ some-mapped : {A B : Type 0} (f : A → B) (o : Option A) → is_some o ≡ is_s
 some-mapped f None = refl
 some-mapped f (Some a) = refl
 
--- a session waits where an entry is told
+-- a session waits if an entry is found
 pub waiting-told : {A : Type 0} (f : A → Waiting) (o : Option A) (who : ℕ) (ws : List Waiting) → option_map f o ≡ entry_of who ws → is_some o ≡ is_waiting who ws
 waiting-told f o who ws is = some-mapped f o ∙ ap is_some is ∙ sym (is_waiting-entry who ws)
 
--- where no way leads back there is no ring
+-- if no path leads back there is no cycle
 pub ring-none : (d : RowPart) (who holder : ℕ) → ((way : List ℕ) → LeadsBack (waits_for d.holder d.waiting) who holder way → ⊥) → ring d who holder ≡ None
 ring-none d who holder apart = of (way_back (waits_for d.holder d.waiting) who (length d.waiting) holder) refl
   where
@@ -27,11 +27,11 @@ ring-none d who holder apart = of (way_back (waits_for d.holder d.waiting) who (
     of None e = refl
     of (Some way) e = absurd (apart way (leads_back (waits_for d.holder d.waiting) who (length d.waiting) holder way e))
 
--- where one does, the ring is the session and that way
+-- if one does, the cycle is the session and that path
 pub ring-found : (d : RowPart) (who holder : ℕ) (way : List ℕ) → LeadsBack (waits_for d.holder d.waiting) who holder way → ring d who holder ≡ Some (who ∷ way)
 ring-found d who holder way leads = ap (option_map (λ rest. who ∷ rest)) (way_found d.holder d.waiting who holder way leads)
 
--- a session that waits is one more in the list
+-- a session that waits is appended to the queue
 pub wait-as : (v now : RowStateView) (locks : LocksView) (attempts : List Attempt) (who table : ℕ) (key : List Val) (attempt : Attempt) → v ≡ now → holder locks ≡ holder v.locks
     → locks.waiting ≡ v.locks.waiting ++ record { who = who; table = table; key = key } ∷ [] → attempt_of attempts ≡ changed_at who (λ _. attempt) (attempt_of v.attempts)
     → seen (record v { locks = locks; attempts = attempts }) ≡ after_part (seen now) (tabled (waits who table key attempt))

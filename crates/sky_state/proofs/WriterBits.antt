@@ -1,4 +1,4 @@
--- The bits by which it is kept which transactions have written in a table.
+-- The bits that record which transactions have written in a table.
 use Rattle.std.proofs.Common.{◌≡◌, ℕ, zero, suc, ◌<◌, ◌≤◌, ◌^◌, List, Bool, true, false, cond, bit_or, unwrap_or, Option, Some, None, refl, sym, ◌∙◌, ap, arith}
 use Rattle.std.specs.Prelude.{◌||◌, ◌&&◌, ◌==◌}
 use Prim.Native.Nat.{max}
@@ -12,7 +12,7 @@ use Rattle.std.proofs.lemmas.Bool.Decides.{nat_tests}
 use Rattle.std.proofs.lemmas.Nat.Bits.{bit_at_or, bit_at-pow_same, bit_at-pow_other, bit_at-zero, bit_at-lt, bit_at_above}
 use Rattle.sky_state.specs.Seen.{wrote_in}
 
--- a bit behind the last one isn't set
+-- a bit after the last one isn't set
 pub behind : (tables table : ℕ) → tables < 2 ^ 64 → 64 ≤ table → false ≡ (bit_at tables table == 1)
 behind tables table fits past = ap (λ b. b == 1) (sym (bit_at_above tables 64 table fits past))
 
@@ -49,7 +49,7 @@ here old txid bits n t is e =
     let same : txid ≡ t = grind (arith, nat_tests) in
     ap (wrote_in old n) (sym same) ∙ bits-kept n (lookup (is_at (nat_cmp txid)) old) ∙ ap (λ m. bit_at m n == 1) (sym is)
 
--- a transaction has written in one table more
+-- a transaction has written in one more table
 pub added : (old new : List (ℕ × ℕ)) (table txid bits bit : ℕ) → bits ≡ unwrap_or (lookup (is_at (nat_cmp txid)) old) 0 → bit ≡ 2 ^ table
     → ((t : ℕ) → lookup (is_at (nat_cmp t)) new ≡ cond (is_at (nat_cmp txid) t) (Some (bit_or bits bit)) (lookup (is_at (nat_cmp t)) old))
     → (n t : ℕ) → wrote_in new n t ≡ ((table == n && txid == t) || wrote_in old n t)

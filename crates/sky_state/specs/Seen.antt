@@ -1,4 +1,4 @@
--- The readings of the definitions, in what the code keeps.
+-- What the code keeps, read as the definitions' state.
 use Rattle.std.specs.Prelude.{ℕ, Bool, false, ◌==◌, List, [], None, slice_index_or}
 use Rattle.std.specs.Int.{bit_at}
 use Rattle.std.specs.Option.{option_map_or}
@@ -30,7 +30,7 @@ seen_sight (AtPlace snapshot) = model.at_place snapshot
 abbrev pub seen_session : Session → model.Session
 seen_session s = record { is_open = s.is_open; block = seen_block s.block; txid = s.txid; sight = seen_sight s.sight }
 
--- a session that has the database not open, and so is in no transaction
+-- a session that doesn't have the database open, and so is in no transaction
 abbrev pub rest : Session
 rest = record { is_open = false; block = Outside; txid = None; sight = AtEach }
 
@@ -38,7 +38,7 @@ rest = record { is_open = false; block = Outside; txid = None; sight = AtEach }
 abbrev pub session_of : List Session → ℕ → model.Session
 session_of sessions who = seen_session (slice_index_or sessions who rest)
 
--- a table that isn't made
+-- a table that doesn't exist
 abbrev pub no_table : TableView
 no_table = record { columns = []; versions = [] }
 
@@ -56,7 +56,7 @@ versions_of tables n = (table_of tables n).versions
 abbrev pub wrote_in : List (ℕ × ℕ) → (table t : ℕ) → Bool
 wrote_in writers table t = option_map_or (λ tables. bit_at tables table == 1) (lookup (is_at (nat_cmp t)) writers) false
 
--- what a session that waits is to do
+-- what a session that waits attempts
 abbrev pub attempt_of : List Attempt → ℕ → Attempt
 attempt_of attempts who = slice_index_or attempts who Deletion
 
@@ -64,6 +64,7 @@ abbrev pub seen : RowStateView → RowPart
 seen d = record {
   next = d.trans.next;
   running_ids = d.trans.running;
+  workers = d.workers;
   session = session_of d.sessions;
   tables = d.tables.names;
   columns = columns_of d.tables.values;

@@ -9,15 +9,17 @@ use Rattle.sky_state.specs.declared.session.Session.{Session}
 
 pub record RowStateView : Type 0 where
   pub trans : TransView
+  -- the transactions that run and are workers'
+  pub workers : List ℕ
   -- each session at its number; further ones are at rest
   pub sessions : List Session
   pub tables : NamedView TableView
-  -- the transactions that have written, each with a number that has a bit for each table, at its number
+  -- the transactions that have written, each with a number whose bit at a table's number says whether it wrote there
   pub writers : List (ℕ × ℕ)
   pub locks : LocksView
-  -- what each session that waits is to do, at its number; further ones don't wait
+  -- what each session that waits attempts, at its number; further ones don't wait
   pub attempts : List Attempt
 
 -- those of a database in which nothing has happened
 abbrev pub no_rows : RowStateView
-no_rows = record { trans = record { next = 3; running = [] }; sessions = []; tables = record { names = []; values = [] }; writers = []; locks = record { held = []; waiting = [] }; attempts = [] }
+no_rows = record { trans = record { next = 3; running = [] }; workers = []; sessions = []; tables = record { names = []; values = [] }; writers = []; locks = record { held = []; waiting = [] }; attempts = [] }

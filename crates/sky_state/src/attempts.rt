@@ -9,8 +9,8 @@ use std::alloc::Global;
 use std::marker::Model;
 use std::mem;
 
-/// What each session that waits is to do with its key, at its number. Those that don't wait, and those
-/// that it has no place for, have a deletion here.
+/// What each session that waits attempts with its key, at its number. Those that don't wait, and those beyond the list,
+/// have a deletion here.
 #[derive(Debug, Drop)]
 pub struct Attempts {
     items: Vec<Attempt>,
@@ -46,7 +46,7 @@ impl Attempts {
         Ok(())
     }
 
-    /// The session is to do this.
+    /// The session attempts this.
     pub(crate) fn set(&mut self, who: SessionId, attempt: Attempt) -> Result<(), NoMemory>
         ensures ok { OnOk result (attempt_of self.new ≡ changed_at who (λ _. attempt) (attempt_of self.old)) }
         ensures err { OnErr result (attempt_of self.new ≡ attempt_of self.old) }
@@ -56,7 +56,7 @@ impl Attempts {
         Ok(())
     }
 
-    /// What the session was to do; it waits no longer.
+    /// What the session attempted; it no longer waits.
     pub(crate) fn take(&mut self, who: SessionId) -> Attempt
         ensures taken { result ≡ attempt_of self.old who }
         ensures left { attempt_of self.new ≡ changed_at who (λ _. Deletion) (attempt_of self.old) }

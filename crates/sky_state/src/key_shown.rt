@@ -1,5 +1,8 @@
-//! What a table shows a session, and each key of it. Each part is read by itself, so that a statement reads no more than it
-//! needs.
+//! What a session sees of a table, and of each key. The rule is PostgreSQL's: a session sees its own transaction's
+//! writes, and of the others those that had committed when its snapshot was taken. A read committed session reads by
+//! the present snapshot, a repeatable read block by the snapshot of its first statement that reads or writes.
+//!
+//! Each part is read by a method of its own, so that a statement reads no more than it needs.
 
 ghost use Rattle.std.specs.Prelude.{◌≡◌, ◌<◌, IfOk, is_some, length, map};
 ghost use Rattle.std.specs.Option.{option_copied};
@@ -12,7 +15,7 @@ use sky_txid::Snapshot;
 use sky_val::{Key, NoMemory, Row, SessionId};
 
 impl RowState {
-    /// The snapshot by which the session reads; `now` is that of now.
+    /// The snapshot that the session reads by; `now` is the present one.
     pub(crate) fn sight<'a>(&'a self, who: SessionId, now: &'a Snapshot) -> &'a Snapshot
         requires { now.now ≡ snapshot_now (seen self.now) }
         ensures { result.now ≡ snapshot_for (seen self.now) ((seen self.now).session who) }
@@ -23,7 +26,7 @@ impl RowState {
         }
     }
 
-    /// The key's row at the session's sight, or as its transaction left it.
+    /// The key's row in the session's snapshot, or as its own transaction left it.
     pub fn row_shown(&self, who: SessionId, table: u32, key: &Key, now: &Snapshot) -> Option<&Row>
         requires within { table < length (seen self.now).tables }
         requires now { now.now ≡ snapshot_now (seen self.now) }
@@ -33,7 +36,7 @@ impl RowState {
         self.table_at(table).read(key, sight, self.own_txid(who))
     }
 
-    /// The table's rows at the session's sight, or as its transaction left them, by key.
+    /// The table's rows in the session's snapshot, or as its own transaction left them, by key.
     pub fn rows_shown(
         &self,
         who: SessionId,
@@ -52,7 +55,8 @@ impl RowState {
         Ok(rows)
     }
 
-    /// Whether the key has a row now, or as the session's transaction left it.
+    /// Whether the key has a row now, or as the session's own transaction left it. An insert asks this, at both
+    /// isolation levels: a key is a duplicate whether the session's snapshot sees it or not.
     pub fn has_standing(&self, who: SessionId, table: u32, key: &Key, now: &Snapshot) -> bool
         requires within { table < length (seen self.now).tables }
         requires now { now.now ≡ snapshot_now (seen self.now) }
@@ -73,15 +77,16 @@ impl RowState {
         }
     }
 
-    /// The transaction of the key's newest committed write, where the session doesn't see that and its own transaction
-    /// hasn't written the key.
+    /// The transaction of the key's newest committed write, if the session's snapshot doesn't see it and its own
+    /// transaction hasn't written the key. A change of the key's row would then overwrite a version that the session
+    /// has never seen, so repeatable read refuses it.
     pub fn unseen(&self, who: SessionId, table: u32, key: &Key, now: &Snapshot) -> Option<u64>
         requires within { table < length (seen self.now).tables }
         requires now { now.now ≡ snapshot_now (seen self.now) }
         ensures { result ≡ ((rows_by (seen self.now)).key who table key.now).unseen }
     {
         let Some(sight) = self.place(who) else {
-            // It reads by the snapshot of now, which sees all that is committed.
+            // The present snapshot sees all that is committed.
             return None;
         };
         if self.has_written(who, table, key) {

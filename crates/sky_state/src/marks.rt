@@ -1,5 +1,5 @@
 //! What can happen in a database, each mark by a method of its own; the one by which a session begins to wait is in
-//! `waiting`. When memory runs out nothing is said of the state.
+//! `waiting`, those of workers are in `work`. Out of memory, nothing is said of the state.
 
 ghost use Rattle.std.specs.Prelude.{◌≡◌, ◌+◌, ◌-◌, ◌<◌, ◌^◌, [], ◌∷◌, true, false, None, Some, IfOk, OnOk, OnErr, length};
 ghost use Rattle.sky_keys.specs.Waits.{other_holder, is_waiting};
@@ -34,7 +34,7 @@ impl RowState {
         self.sessions.disconnect(who);
     }
 
-    /// The session's transaction gets the next id.
+    /// The session's transaction gets the next id, which is the answer.
     pub fn began(&mut self, who: SessionId) -> Result<u64, NoMemory>
         requires { (seen self.old).next < 2 ^ 62 }
         ensures id { IfOk result (λ txid. txid ≡ (seen self.old).next) }
@@ -78,7 +78,7 @@ impl RowState {
         Ok(())
     }
 
-    /// Its block is to read at one place.
+    /// Its block is repeatable read.
     pub fn repeats(&mut self, who: SessionId) -> Result<(), NoMemory>
         ensures { OnOk result (seen self.new ≡ after_part (seen self.old) (repeats who)) }
     {
@@ -86,7 +86,7 @@ impl RowState {
         Ok(())
     }
 
-    /// The place at which it reads is here.
+    /// Its block takes its snapshot now.
     pub fn looked(&mut self, who: SessionId) -> Result<(), NoMemory>
         ensures ok { OnOk result (seen self.new ≡ after_part (seen self.old) (looked who)) }
         ensures err { OnErr result (seen self.new ≡ seen self.old) }
@@ -122,9 +122,9 @@ impl RowState {
         Ok(())
     }
 
-    /// The session's transaction wrote a key of a table, which the session holds from then on. The row that the key had
-    /// is no part of what is kept, so here it is none. Of those that have ended nobody asks any more which keys of the
-    /// table they wrote, so that is forgotten.
+    /// The session's transaction wrote a key of a table, and the session holds the key from then on. The row that the
+    /// key had isn't kept, so in the mark it is none. A table forgets which keys the transactions below the least
+    /// running one wrote: they have ended, and nobody asks for that any more.
     pub fn wrote(
         &mut self,
         who: SessionId,
@@ -149,8 +149,8 @@ impl RowState {
         Ok(())
     }
 
-    /// The same in a transaction of its own, which gets the next id and commits with this write. So no lock is taken, and
-    /// nothing is kept of where it wrote: between the write and its end nobody asks for either.
+    /// The same in a transaction of its own, which gets the next id and commits with this write. So it takes no lock,
+    /// and doesn't record where it wrote: nobody asks for either between the write and the commit.
     pub fn wrote_alone(
         &mut self,
         who: SessionId,
@@ -178,7 +178,7 @@ impl RowState {
         Ok(())
     }
 
-    /// A transaction of its own, which gets the next id and commits with no write of a row.
+    /// A transaction of its own, which gets the next id and commits without writing a row.
     pub fn committed_alone(&mut self, who: SessionId)
         requires single { ((seen self.old).session who).txid ≡ None }
         requires room { (seen self.old).next < 2 ^ 62 }
@@ -190,7 +190,7 @@ impl RowState {
         self.locks.release(who);
     }
 
-    /// The session waits no longer. The answer is what it was to do.
+    /// The session no longer waits. The answer is what it attempted.
     pub fn waited(&mut self, who: SessionId) -> Attempt
         ensures taken { result ≡ (seen self.old).attempt who }
         ensures mark { seen self.new ≡ after_part (seen self.old) (tabled (waited who)) }
@@ -200,7 +200,7 @@ impl RowState {
     }
 }
 
-/// Writes the row at the key, in a transaction that ends with it; `least` is the least of the others that run.
+/// Writes the row at the key, in a transaction that ends with it; `least` is the least of the other running ones.
 fn put_row(
     table: &mut Table,
     least: Option<u64>,
@@ -219,8 +219,8 @@ fn put_row(
     }
 }
 
-/// Takes what the transaction wrote out of all tables.
-fn forget_all(tables: &mut Named<Table>, txid: u64)
+/// Removes what the transaction wrote from all tables.
+pub(crate) fn forget_all(tables: &mut Named<Table>, txid: u64)
     ensures names { tables.new.names ≡ tables.old.names }
     ensures columns { columns_of tables.new.values ≡ columns_of tables.old.values }
     ensures versions { versions_of tables.new.values ≡ (λ n. forgotten txid (versions_of tables.old.values n)) }

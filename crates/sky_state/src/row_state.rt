@@ -28,6 +28,7 @@ use std::marker::Model;
 pub struct RowState {
     pub(crate) alloc: Global,
     pub(crate) trans: Trans,
+    pub(crate) workers: Vec<u64>,
     pub(crate) sessions: Sessions,
     pub(crate) tables: Named<Table>,
     pub(crate) writers: Writers,
@@ -43,9 +44,9 @@ impl Model for RowState {
 
     ghost Value = { RowStateView };
 
-    ghost view = { λ d. record { trans = d.trans; sessions = d.sessions; tables = d.tables; writers = d.writers; locks = d.locks; attempts = d.attempts } };
+    ghost view = { λ d. record { trans = d.trans; workers = d.workers.items; sessions = d.sessions; tables = d.tables; writers = d.writers; locks = d.locks; attempts = d.attempts } };
 
-    ghost invariant = { λ d. (length d.tables.names ≤ 64) × (AreOwned (session_of d.sessions) d.trans.running × AreWithin (length d.tables.names) d.locks.waiting) };
+    ghost invariant = { λ d. (length d.tables.names ≤ 64) × (AreOwned (session_of d.sessions) d.trans.running d.workers.items × AreWithin (length d.tables.names) d.locks.waiting) };
 }
 
 impl RowState {
@@ -56,6 +57,7 @@ impl RowState {
         RowState {
             alloc,
             trans: Trans::new(alloc),
+            workers: Vec::new(alloc),
             sessions: Sessions::new(alloc),
             tables: Named::new(alloc),
             writers: Writers::new(alloc),
@@ -64,12 +66,12 @@ impl RowState {
         }
     }
 
-    /// The allocator that it was made with.
+    /// The allocator that all its memory comes from.
     pub fn alloc(&self) -> Global {
         self.alloc
     }
 
-    /// Whether the session has the database open, and where it stands in it.
+    /// Whether the session has the database open, and its transaction block.
     pub fn standing(&self, who: SessionId) -> Standing
         ensures opened { result.is_open ≡ ((seen self.now).session who).is_open }
         ensures block { seen_block result.block ≡ ((seen self.now).session who).block }
@@ -84,21 +86,21 @@ impl RowState {
         self.sessions.block(who)
     }
 
-    /// The id of the session's running transaction, if that has got one.
+    /// The id of the session's running transaction, if it has one.
     pub fn own_txid(&self, who: SessionId) -> Option<u64>
         ensures { result ≡ ((seen self.now).session who).txid }
     {
         self.sessions.txid(who)
     }
 
-    /// Whether a statement that reads is to take the session's sight.
+    /// Whether the session's next statement that reads is to take its block's snapshot.
     pub fn is_first(&self, who: SessionId) -> bool
         ensures { result ≡ takes_sight WhenReading ((seen self.now).session who).sight }
     {
         self.sessions.is_first(who)
     }
 
-    /// The snapshot by which the session reads, if it doesn't read by that of now.
+    /// The snapshot that the session reads by, if that isn't the present one.
     pub(crate) fn place(&self, who: SessionId) -> Option<&Snapshot>
         ensures { (own : SnapshotView) → place_of_sight own ((seen self.now).session who).sight ≡ unwrap_or (option_copied result) own }
     {
@@ -112,14 +114,14 @@ impl RowState {
         self.trans.id_left()
     }
 
-    /// The id that the next transaction gets, or the number at which the ids are spent.
+    /// The id that the next transaction gets, or the first number after the last id.
     pub fn next_id(&self) -> u64
         ensures { result ≡ (seen self.now).next }
     {
         self.trans.next_id()
     }
 
-    /// Which transactions have ended where the session's statements read.
+    /// The snapshot that the session's statements read by.
     pub fn snapshot(&self, who: SessionId) -> Result<Snapshot, NoMemory>
         ensures { IfOk result (λ snapshot. snapshot ≡ snapshot_for (seen self.now) ((seen self.now).session who)) }
     {
@@ -129,7 +131,7 @@ impl RowState {
         }
     }
 
-    /// Which transactions have ended.
+    /// The present snapshot: which transactions have ended.
     pub fn snapshot_now(&self) -> Result<Snapshot, NoMemory>
         ensures { IfOk result (λ snapshot. snapshot ≡ snapshot_now (seen self.now)) }
     {

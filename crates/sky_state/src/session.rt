@@ -1,14 +1,14 @@
 use sky_fits::Block;
 use sky_txid::Snapshot;
 
-/// Where a session's statements read.
+/// Which snapshot a session's statements read by.
 #[derive(Debug)]
 pub enum Sight {
-    /// Each at its own place.
+    /// Each by the one at its start.
     AtEach,
-    /// All at that of the first one, which is still to come.
+    /// All by the one at the start of the first, which is still to come.
     AtFirst,
-    /// At the place of this snapshot.
+    /// By this one.
     AtPlace(Snapshot),
 }
 
@@ -28,7 +28,7 @@ pub struct Session {
     /// Whether it has the database open.
     pub is_open: bool,
     pub block: Block,
-    /// The id of its running transaction, if that has got one.
+    /// The id of its running transaction, if it has one.
     pub txid: Option<u64>,
     pub sight: Sight,
 }

@@ -15,7 +15,7 @@ use sky_val::{NoMemory, SessionId};
 use std::alloc::Global;
 use std::marker::Model;
 
-/// The sessions of a database, each at its number. Those that it has no place for are at rest.
+/// The sessions of a database, each at its number. Those beyond the list are at rest.
 #[derive(Debug, Drop)]
 pub struct Sessions {
     items: Vec<Session>,
@@ -40,7 +40,7 @@ impl Sessions {
         }
     }
 
-    /// Whether the session has the database open, and where it stands in it.
+    /// Whether the session has the database open, and its transaction block.
     pub(crate) fn standing(&self, who: SessionId) -> Standing
         ensures opened { result.is_open ≡ (session_of self.now who).is_open }
         ensures block { seen_block result.block ≡ (session_of self.now who).block }
@@ -67,7 +67,7 @@ impl Sessions {
         }
     }
 
-    /// The id of the session's running transaction, if that has got one.
+    /// The id of the session's running transaction, if it has one.
     pub(crate) fn txid(&self, who: SessionId) -> Option<u64>
         ensures { result ≡ (session_of self.now who).txid }
     {
@@ -77,7 +77,7 @@ impl Sessions {
         }
     }
 
-    /// Whether the session's next statement that reads is to take its sight.
+    /// Whether the session's next statement that reads is to take its block's snapshot.
     pub(crate) fn is_first(&self, who: SessionId) -> bool
         ensures { result ≡ takes_sight WhenReading (session_of self.now who).sight }
     {
@@ -87,7 +87,7 @@ impl Sessions {
         }
     }
 
-    /// The snapshot by which the session reads, if it doesn't read each time where it is.
+    /// The snapshot that the session reads by, if not each statement takes its own.
     pub(crate) fn place(&self, who: SessionId) -> Option<&Snapshot>
         ensures { (own : SnapshotView) → place_of_sight own (session_of self.now who).sight ≡ unwrap_or (option_copied result) own }
     {
@@ -97,7 +97,7 @@ impl Sessions {
         }
     }
 
-    /// Makes a place for the session, so that nothing after this wants memory for it.
+    /// Makes a place for the session, so that nothing after this takes memory for it.
     pub(crate) fn make_room(&mut self, who: SessionId) -> Result<(), NoMemory>
         ensures room { OnOk result (who < length self.new) }
         ensures same { session_of self.new ≡ session_of self.old }
@@ -133,7 +133,7 @@ impl Sessions {
         }
     }
 
-    /// The session's transaction has got this id.
+    /// The session's transaction gets this id.
     pub(crate) fn begin_txid(&mut self, who: SessionId, txid: u64)
         requires { who < length self.old }
         ensures { session_of self.new ≡ changed_at who (with_txid (Some txid)) (session_of self.old) }
@@ -141,7 +141,7 @@ impl Sessions {
         self.items[who as usize].txid = Some(txid);
     }
 
-    /// Where the session reads stays as it is.
+    /// Sets the session's block; the snapshot that it reads by stays as it is.
     pub(crate) fn set_block(&mut self, who: SessionId, block: Block) -> Result<(), NoMemory>
         ensures ok { OnOk result (session_of self.new ≡ changed_at who (with_block (seen_block block)) (session_of self.old)) }
         ensures err { OnErr result (session_of self.new ≡ session_of self.old) }
@@ -151,7 +151,7 @@ impl Sessions {
         Ok(())
     }
 
-    /// The session's statements read there from now on.
+    /// Sets the snapshot that the session's statements read by from now on.
     pub(crate) fn set_sight(&mut self, who: SessionId, sight: Sight) -> Result<(), NoMemory>
         ensures ok { OnOk result (session_of self.new ≡ changed_at who (with_sight (seen_sight sight)) (session_of self.old)) }
         ensures err { OnErr result (session_of self.new ≡ session_of self.old) }

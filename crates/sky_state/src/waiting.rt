@@ -15,7 +15,7 @@ use sky_model::{Attempt, Waiters};
 use sky_val::{NoMemory, SessionId};
 
 impl RowState {
-    /// The session that holds the key, where it is another.
+    /// The session that holds the key, if it is another one.
     pub fn other_holder(&self, who: SessionId, key: &LockKey) -> Option<SessionId>
         ensures { result ≡ other_holder (seen self.now).holder who key.now.table key.now.key }
     {
@@ -40,7 +40,7 @@ impl RowState {
         self.locks.is_at_rest()
     }
 
-    /// The first session whose statement may go on, with the key for which it waits.
+    /// The first session in the wait queue whose statement can resume, with the key that it waits for.
     pub fn next_ready(&self) -> Result<Option<(SessionId, LockKey)>, NoMemory>
         ensures found { IfOk result (λ found. option_map (λ f. entry f.0 f.1) found ≡ ready (seen self.now)) }
         ensures within { IfOk result (λ found. IfSome found (λ f. f.1.table < length (seen self.now).tables)) }
@@ -51,8 +51,8 @@ impl RowState {
         }
     }
 
-    /// The session waits for the holder of the key, and is to do this when it gets it. Where it would wait for itself,
-    /// nothing happens, and the answer is the ring.
+    /// The session waits for the holder of the key, and makes its attempt when it gets the key. If it would wait for
+    /// itself, nothing happens, and the answer is the deadlock cycle.
     pub fn waits(
         &mut self,
         who: SessionId,

@@ -7,8 +7,8 @@ use std::alloc::Global;
 use std::collections::BTreeMap;
 use std::marker::Model;
 
-/// In which tables the transactions that run have written. Each has a bit for every table, at its number, so there are at
-/// most 64.
+/// Which tables the running transactions have written in. Each transaction has one bit for each table, at its number,
+/// so there are at most 64 tables.
 #[derive(Debug, Drop)]
 pub struct Writers {
     tables: BTreeMap<u64, u64>,
@@ -23,7 +23,7 @@ impl Model for Writers {
 }
 
 impl Writers {
-    /// None has written in any.
+    /// No transaction has written.
     pub(crate) fn new(alloc: Global) -> Writers
         ensures { result ≡ [] }
     {

@@ -29,7 +29,7 @@ is_trans_from next running first last rises =
     and_from (nat_le 3 next) (nat_le next (2 ^ 62) && rises_within 3 next running) (le-leb 3 next first)
     (and_from (nat_le next (2 ^ 62)) (rises_within 3 next running) (le-leb next (2 ^ 62) last) rises)
 
--- what rises below a number doesn't contain it
+-- a list that rises below a number doesn't contain it
 contains-above : (low high : ℕ) (ids : List ℕ) → rises_within low high ids ≡ true → contains high ids ≡ false
 contains-above low high [] h = refl
 contains-above low high (t ∷ ts) h =
@@ -39,7 +39,7 @@ contains-above low high (t ∷ ts) h =
     let other : (high == t) ≡ false = grind (arith, nat_tests) in
     ap (λ b. b || contains high ts) other ∙ contains-above (t + 1) high ts inner.1
 
--- the next id doesn't run
+-- the next id isn't running
 pub next_is_fresh : (trans : TransView) → is_trans trans ≡ true → contains trans.next trans.running ≡ false
 next_is_fresh trans h = contains-above 3 trans.next trans.running (sound trans h).rises
 
@@ -49,19 +49,19 @@ sound_assigned trans running h room is =
     let s = sound trans h in
     is_trans_from (trans.next + 1) running (omega arith) (omega arith) (rw is (rising-push 3 trans.next (trans.next + 1) trans.running s.first (omega arith) s.rises))
 
--- after the next id was given to one that has ended
+-- after the next id was given to a transaction that has ended
 pub sound_spent : (trans : TransView) → is_trans trans ≡ true → trans.next < 2 ^ 62 → is_trans (record trans { next = trans.next + 1 }) ≡ true
 sound_spent trans h room =
     let s = sound trans h in
     is_trans_from (trans.next + 1) trans.running (omega arith) (omega arith) (rising-wider 3 trans.next 3 (trans.next + 1) trans.running (omega arith) (omega arith) s.rises)
 
--- after an id was taken out
+-- after an id was removed
 pub sound_ended : (trans : TransView) (t : ℕ) (running : List ℕ) → is_trans trans ≡ true → running ≡ filter (λ u. not (u == t)) trans.running → is_trans (record { next = trans.next; running = running }) ≡ true
 sound_ended trans t running h is =
     let s = sound trans h in
     is_trans_from trans.next running s.first s.last (rw is (rising-filter (λ u. not (u == t)) 3 trans.next trans.running s.rises))
 
--- the first id that runs is the least
+-- the first running id is the least
 pub least_first : (trans : TransView) → is_trans trans ≡ true → IfSome (slice_get trans.running 0) (λ t. All (λ u. t ≤ u) trans.running)
 least_first trans h = first (trans.running) (sound trans h).rises
   where
@@ -69,22 +69,22 @@ least_first trans h = first (trans.running) (sound trans h).rises
     first [] h = tt
     first (t ∷ ts) h = All-from_get_or (λ u. t ≤ u) (t ∷ ts) 0 (λ k within. rising-ordered 3 trans.next (t ∷ ts) h 0 k (omega arith) within)
 
--- no id that runs is 0
+-- no running id is 0
 pub running_above_0 : (trans : TransView) → is_trans trans ≡ true → rises_within 1 trans.next trans.running ≡ true
 running_above_0 trans h = rising-wider 3 trans.next 1 trans.next trans.running (omega arith) (omega arith) (sound trans h).rises
 
--- a search finds exactly what runs
+-- a search finds exactly what is running
 pub runs_by_search : (trans : TransView) (t : ℕ) (r : Result ℕ ℕ) → is_trans trans ≡ true → IsBinarySearchResult (λ y. nat_cmp y t) trans.running r → is_ok r ≡ contains t trans.running
 runs_by_search trans t r h position = is_ok-found trans.running t r (found 3 trans.next trans.running t r (sound trans h).rises position)
 
--- the item that a search found is the id that is taken out
+-- the item that a search found is the id that is removed
 pub found_is_ended : (trans : TransView) (t place : ℕ) (r : Result ℕ ℕ) → is_trans trans ≡ true → IsBinarySearchResult (λ y. nat_cmp y t) trans.running r → r ≡ Ok place → remove trans.running place ≡ filter (λ u. not (u == t)) trans.running
 found_is_ended trans t place r h position is =
     let rises = (sound trans h).rises in
     let at = MatchResult-at_ok _ _ place is (found 3 trans.next trans.running t r rises position) in
     remove-filter 3 trans.next t trans.running place rises at.0 at.1
 
--- where a search finds nothing, nothing is taken out
+-- if a search finds nothing, nothing is removed
 pub not_found_stays : (trans : TransView) (t place : ℕ) (r : Result ℕ ℕ) → is_trans trans ≡ true → IsBinarySearchResult (λ y. nat_cmp y t) trans.running r → r ≡ Err place → trans ≡ record trans { running = filter (λ u. not (u == t)) trans.running }
 not_found_stays trans t place r h position is =
     let absent : contains t trans.running ≡ false = sym (runs_by_search trans t r h position) ∙ ap is_ok is in

@@ -13,7 +13,7 @@ use thiserror::Error;
 /// The first id of a database.
 const FIRST_TXID: u64 = 3;
 
-/// The number at which the ids are spent.
+/// The number after the last id.
 const TXID_END: u64 = 1 << 62;
 
 /// Why no id was given.
@@ -22,7 +22,7 @@ pub enum TransFault {
     /// The last id, 2^62 - 1, was given.
     #[error("all transaction ids were given")]
     TxidsSpent,
-    /// Memory was refused.
+    /// Out of memory.
     #[error("out of memory")]
     NoMemory,
 }
@@ -84,7 +84,7 @@ impl Trans {
         Ok(self.begin()?)
     }
 
-    /// The same where an id is left.
+    /// The same, if an id is left.
     pub fn begin(&mut self) -> Result<u64, NoMemory>
         requires { self.old.next < 2 ^ 62 }
         ensures id { IfOk result (λ t. t ≡ self.old.next) }
@@ -99,7 +99,7 @@ impl Trans {
         Ok(t)
     }
 
-    /// Gives the next id to a transaction that ends at once, so it is never among those that run.
+    /// Gives the next id to a transaction that ends at once, so it is never among the running ones.
     pub fn spend(&mut self) -> u64
         requires { self.old.next < 2 ^ 62 }
         ensures id { result ≡ self.old.next }
@@ -127,7 +127,7 @@ impl Trans {
         self.end(t);
     }
 
-    /// Takes the id out of those that run.
+    /// Removes the id from the running ones.
     fn end(&mut self, t: u64)
         requires { IsTrue (contains t self.old.running) }
         ensures { self.new ≡ record self.old { running = filter (λ u. not (u == t)) self.old.running } }
@@ -137,7 +137,7 @@ impl Trans {
         }
     }
 
-    /// Whether the transaction runs.
+    /// Whether the transaction is running.
     pub fn running(&self, t: u64) -> bool
         ensures { result ≡ contains t self.now.running }
     {
@@ -151,7 +151,7 @@ impl Trans {
         self.next < TXID_END
     }
 
-    /// The id that the next transaction gets, or the number at which the ids are spent.
+    /// The id that the next transaction gets, or the number after the last id.
     pub fn next_id(&self) -> u64
         ensures value { result ≡ self.now.next }
         ensures sound { IsTrue (is_trans self.now) }
@@ -159,14 +159,14 @@ impl Trans {
         self.next
     }
 
-    /// The ids that run, in rising order.
+    /// The running ids, in rising order.
     pub fn ids(&self) -> &[u64]
         ensures { result.now ≡ self.now.running }
     {
         self.running.as_slice()
     }
 
-    /// The least id that runs.
+    /// The least running id.
     pub fn least(&self) -> Option<u64>
         ensures value { result ≡ slice_get self.now.running 0 }
         ensures least { IfSome result (λ t. All (λ u. t ≤ u) self.now.running) }
@@ -174,7 +174,7 @@ impl Trans {
         self.running.first().copied()
     }
 
-    /// Which transactions have ended.
+    /// The present snapshot: which transactions have ended.
     pub fn snapshot(&self) -> Result<Snapshot, NoMemory>
         ensures { IfOk result (λ snapshot. snapshot ≡ snapshot_of self.now.next self.now.running) }
     {

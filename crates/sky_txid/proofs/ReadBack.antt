@@ -1,4 +1,4 @@
--- What is written for a snapshot is read as that snapshot.
+-- A snapshot's text is read as that snapshot.
 use Rattle.std.proofs.Common.{◌≡◌, ℕ, ◌+◌, ◌^◌, ◌<◌, true, false, List, [], ◌∷◌, ◌++◌, length, get_or, map, Some, refl, ◌∙◌, ap, arith, length-append}
 use Rattle.std.specs.Prelude.{◌==◌, nat_eq, option_and_then}
 use Rattle.std.specs.Fmt.{decimal}
@@ -67,7 +67,7 @@ list_back low high (t ∷ ts) h fits =
     list_read (join_with_byte comma (map decimal (t ∷ ts))) (list_nonempty t ts (omega arith))
     ∙ ap parse_numbers (list_pieces low high t ts h fits) ∙ numbers_back low high (t ∷ ts) h fits
 
--- in a list that rises nothing is skipped
+-- in a rising list nothing is skipped
 dedup-rising : (low high : ℕ) (ids : List ℕ) → rises_within low high ids ≡ true → dedup nat_eq ids ≡ ids
 dedup-rising low high [] h = refl
 dedup-rising low high (t ∷ []) h = refl

@@ -13,7 +13,7 @@ use Rattle.std.proofs.lemmas.List.{take_all}
 use Rattle.std.proofs.lemmas.List.Splits.{slice_split-cons_yes, slice_split-cons_no}
 use Rattle.sky_txid.specs.SnapshotText.{colon, comma, parse_number, parse_numbers, parse_list, parse_parts, parse_snapshot, checked}
 
--- the parts of a text before and behind the first such byte
+-- the parts of a text before and after the first such byte
 pub split_found : (byte : ℕ) (text : List ℕ) (place : ℕ) → place < length text → ((k : ℕ) → k < place → (get_or text k 0 == byte) ≡ false) → get_or text place 0 ≡ byte
     → slice_split (λ b. b == byte) text ≡ take place text ∷ slice_split (λ b. b == byte) (drop (suc place) text)
 split_found byte [] place lt others here = absurd (omega arith)
@@ -28,7 +28,7 @@ split_none byte (b ∷ text) others =
     slice_split-cons_no (λ b. b == byte) b text (others 0 (omega arith))
     ∙ ap (onto_first b) (split_none byte text (λ k below. others (suc k) (omega arith)))
 
--- the range behind a place
+-- the range after a place
 pub range_behind : (text : List ℕ) (place : ℕ) → take (length text - (place + 1)) (drop (place + 1) text) ≡ drop (suc place) text
 range_behind text place = rw add-one (take_all (length text - suc place) (drop (suc place) text) (omega (arith, length-drop (suc place) text)))
 
@@ -51,11 +51,11 @@ four_parts p a b c text = let parts = split_parts p text in rw parts.2 refl
 pub own : IsNumeralModel (λ ds. all_ascii_digits ds ≡ true) (digits_value 10)
 own = numerals_by_value (λ ds. all_ascii_digits ds ≡ true) tells_all_ascii_digits
 
--- a number is read where each byte is a digit and the value fits
+-- a number is read if each byte is a digit and the value fits
 pub number_read : (ds : List ℕ) → 0 < length ds → all_ascii_digits ds ≡ true → digits_value 10 ds < 2 ^ 64 → parse_number ds ≡ Some (digits_value 10 ds)
 number_read ds nonempty digits fits = grind (arith, nat_tests)
 
--- and else it is refused
+-- otherwise it is refused
 number_refused : (ds : List ℕ) → (all_ascii_digits ds && nat_lt (digits_value 10 ds) (2 ^ 64)) ≡ false → parse_number ds ≡ None
 number_refused ds h = grind (arith, h)
 
@@ -97,7 +97,7 @@ number_all ds k value nonempty le digits is fits =
     let all_value = rw whole at is in
     number_read ds nonempty (rw whole at digits) (omega arith) ∙ ap Some all_value
 
--- what each digit of a number says
+-- what each digit of a number adds
 pub ruleset digit_steps = (number_no_digit, number_too_large, number_all, value_more, digits_more)
 
 -- a list's text that isn't empty

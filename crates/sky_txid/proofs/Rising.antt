@@ -7,7 +7,7 @@ use Rattle.std.specs.List.{filter, remove}
 use Rattle.std.specs.Prelude.{◌&&◌, ◌||◌, ◌==◌}
 use Rattle.sky_txid.specs.Ids.{contains, rises_within}
 
--- what a list that rises says of its first item and the rest
+-- what a rising list says of its first item and the rest
 pub record Rises (low high t : ℕ) (ts : List ℕ) : Type 0 where
   pub above : low ≤ t
   pub below : t < high
@@ -64,7 +64,7 @@ contains-below low high t ids h lt = contains_none t ids (λ k within e. grind (
 pub contains-above : (low high t : ℕ) (ids : List ℕ) → rises_within low high ids ≡ true → high ≤ t → contains t ids ≡ false
 contains-above low high t ids h le = contains_none t ids (λ k within e. grind (arith, rising-below low high ids k h))
 
--- the next id at the end of the list
+-- the next id, appended
 pub rising-push : (low next high : ℕ) (ids : List ℕ) → low ≤ next → next < high → rises_within low next ids ≡ true → rises_within low high (ids ++ next ∷ []) ≡ true
 rising-push low next high [] from below h = rising_from low high next [] from below refl
 rising-push low next high (t ∷ ts) from below h =
@@ -79,12 +79,12 @@ rising-filter p low high (t ∷ ts) h =
     let rest = rising-filter p (t + 1) high ts parts.rest in
     grind (arith, rising_from low high t (filter p ts) parts.above parts.below rest, rising-wider (t + 1) high low high (filter p ts))
 
--- nothing is left out for an id that isn't contained
+-- removing an id that isn't contained leaves the list as it is
 pub filter_absent : (t : ℕ) (ids : List ℕ) → contains t ids ≡ false → filter (λ u. not (u == t)) ids ≡ ids
 filter_absent t [] h = refl
 filter_absent t (u ∷ us) h = grind (arith, nat_tests, filter_absent t us, or_parts (t == u) (contains t us) h)
 
--- an id that was found is taken out
+-- an id that was found is removed
 pub remove-filter : (low high t : ℕ) (ids : List ℕ) (place : ℕ) → rises_within low high ids ≡ true → place < length ids → get_or ids place 0 ≡ t → remove ids place ≡ filter (λ u. not (u == t)) ids
 remove-filter low high t [] place h lt is = absurd (omega arith)
 remove-filter low high t (u ∷ us) zero h lt is = grind (arith, nat_tests, filter_absent t us, contains-below (u + 1) high t us (rising_parts low high u us h).rest)
@@ -92,7 +92,7 @@ remove-filter low high t (u ∷ us) (suc place) h lt is =
     let parts = rising_parts low high u us h in
     grind (arith, nat_tests, rising-above (u + 1) high us place parts.rest, remove-filter (u + 1) high t us place parts.rest)
 
--- what a longer list contains, and what one contains without an id
+-- what a longer list contains, and what a list without an id contains
 pub contains-push : (t u : ℕ) (ids : List ℕ) → contains t (ids ++ u ∷ []) ≡ (contains t ids || (t == u))
 contains-push t u [] = or-false (t == u)
 contains-push t u (v ∷ ids) = ap (λ rest. (t == v) || rest) (contains-push t u ids) ∙ sym (or_assoc (t == v) (contains t ids) (t == u))

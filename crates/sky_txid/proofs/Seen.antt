@@ -14,7 +14,7 @@ pub record Sound (s : SnapshotView) : Type 0 where
 pub sound : (s : SnapshotView) → is_snapshot s ≡ true → Sound s
 sound s h = record { nonzero = grind (arith, nat_tests, h); ordered = grind (arith, nat_tests, h); rises = grind (arith, nat_tests, h) }
 
--- what a snapshot sees is what lies below its next id and not in its list
+-- a snapshot sees what is below its next id and not in its list
 pub record Seen (s : SnapshotView) (t : ℕ) : Type 0 where
   pub below : t < s.xmax
   pub absent : contains t s.xip ≡ false

@@ -15,7 +15,7 @@ kept_before (x ∷ old) more (y ∷ new) h = grind (arith, h, kept_before old mo
 pub kept_by : (old more mid new : List ℕ) → mid ≡ old ++ more → take (length mid) new ≡ mid → take (length old) new ≡ old
 kept_by old more mid new is h = kept_before old more new (rw is at h)
 
--- one more piece at the end
+-- one more piece, appended
 pub join-push : (c : ℕ) (first : List ℕ) (pieces : List (List ℕ)) (piece : List ℕ) → join_with_byte c ((first ∷ pieces) ++ piece ∷ []) ≡ join_with_byte c (first ∷ pieces) ++ (c ∷ piece)
 join-push c first [] piece = refl
 join-push c first (second ∷ pieces) piece =
@@ -34,7 +34,7 @@ list_text_more (t ∷ ts) (suc i) pos lt =
     ∙ ap (λ pieces. join_with_byte comma (decimal t ∷ pieces)) (map-append decimal (take i ts) (get_or ts i 0 ∷ []))
     ∙ join-push comma (decimal t) (map decimal (take i ts)) (decimal (get_or ts i 0))
 
--- the next id of a list's text: behind a comma, or as the first
+-- the next id of a list's text: after a comma, or as the first
 pub next_behind_comma : (old mid grown new ids : List ℕ) (i : ℕ) → mid ≡ old ++ join_with_byte comma (map decimal (take i ids)) → grown ≡ mid ++ comma ∷ [] → new ≡ grown ++ decimal (get_or ids i 0) → 0 < i → i < length ids
     → new ≡ old ++ join_with_byte comma (map decimal (take (i + 1) ids))
 next_behind_comma old mid grown new ids i is pushed added pos lt =
@@ -49,7 +49,7 @@ next_as_first old mid new ids zero is added le lt =
     added ∙ ap (λ text. text ++ decimal (get_or ids 0 0)) (is ∙ append-nil old) ∙ ap (λ text. old ++ text) (sym (list_text_first ids lt))
 next_as_first old mid new ids (suc i) is added le lt = absurd (omega arith)
 
--- two numbers, each with a byte behind it
+-- two numbers, each with a byte after it
 pub head_text : (old one two three four : List ℕ) (first second : List ℕ) (c d : ℕ) → one ≡ old ++ first → two ≡ one ++ c ∷ [] → three ≡ two ++ second → four ≡ three ++ d ∷ []
     → four ≡ old ++ (first ++ (c ∷ (second ++ d ∷ [])))
 head_text old one two three four first second c d e f g h =

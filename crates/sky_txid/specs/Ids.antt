@@ -1,7 +1,7 @@
 -- Lists of transaction ids.
 use Rattle.std.specs.Prelude.{ℕ, ◌+◌, Bool, true, false, ◌&&◌, ◌||◌, ◌==◌, nat_lt, nat_le, List, [], ◌∷◌}
 
--- whether an id stands in a list
+-- whether an id is in a list
 abbrev pub contains : ℕ → List ℕ → Bool
 contains t [] = false
 contains t (u ∷ us) = (t == u) || contains t us
@@ -11,7 +11,7 @@ abbrev pub rises_within : ℕ → ℕ → List ℕ → Bool
 rises_within low high [] = true
 rises_within low high (t ∷ ts) = nat_le low t && (nat_lt t high && rises_within (t + 1) high ts)
 
--- the first of a list, or `n` where it is empty
+-- the first of a list, or `n` if it is empty
 abbrev pub first_or : ℕ → List ℕ → ℕ
 first_or n [] = n
 first_or n (t ∷ ts) = t

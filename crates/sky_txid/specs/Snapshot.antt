@@ -2,7 +2,7 @@
 use Rattle.std.specs.Prelude.{◌≡◌, ℕ, Bool, true, not, ◌&&◌, ◌||◌, nat_lt, nat_le, List}
 use Rattle.sky_txid.specs.Ids.{contains, rises_within, first_or}
 
--- the next id that isn't assigned, the rising list of the ids below it that run, and a bound below which none runs
+-- the next id to be assigned, the rising list of the ids below it that are running, and a bound below which none is running
 pub record SnapshotView : Type 0 where
   pub xmin : ℕ
   pub xmax : ℕ
@@ -16,10 +16,10 @@ is_snapshot s = nat_lt 0 s.xmin && (nat_le s.xmin s.xmax && rises_within s.xmin 
 abbrev pub snapshot_of : ℕ → List ℕ → SnapshotView
 snapshot_of next running = record { xmin = first_or next running; xmax = next; xip = running }
 
--- whether a snapshot sees a transaction, which had ended where it does
+-- whether a snapshot sees a transaction: if so, that transaction had ended
 abbrev pub sees : SnapshotView → ℕ → Bool
 sees s t = nat_lt t s.xmin || (nat_lt t s.xmax && not (contains t s.xip))
 
--- `a` sees each transaction that `b` sees
+-- whether `a` sees each transaction that `b` sees
 abbrev pub Covers : SnapshotView → SnapshotView → Type 0
 Covers a b = (t : ℕ) → sees b t ≡ true → sees a t ≡ true

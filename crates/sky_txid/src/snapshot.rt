@@ -15,7 +15,7 @@ pub enum SnapshotFault {
     /// The text isn't `xmin:xmax:xip`, or its numbers are out of order.
     #[error("not a snapshot")]
     BadSnapshot,
-    /// Memory was refused.
+    /// Out of memory.
     #[error("out of memory")]
     NoMemory,
 }
@@ -66,7 +66,7 @@ impl Snapshot {
     pub fn parse(alloc: Global, text: &[u8]) -> Result<Snapshot, SnapshotFault>
         ensures ok { IfOk result (λ snapshot. parse_snapshot text.now ≡ Some snapshot) }
 
-        // Where the text is none, memory may still be refused first.
+        // A text that is no snapshot may be answered with out of memory first.
         ensures bad { result ≡ Err SnapshotFault.BadSnapshot → parse_snapshot text.now ≡ None }
     {
         let (xmin, xmax, list) = three_parts(text).ok_or(SnapshotFault::BadSnapshot)?;
@@ -80,7 +80,7 @@ impl Snapshot {
         Ok(Snapshot { xmin, xmax, xip })
     }
 
-    /// The snapshot where `next` is the next id and these ids run.
+    /// The snapshot whose next id is `next` and whose running ids are these.
     pub fn of(alloc: Global, next: u64, running: &[u64]) -> Result<Snapshot, NoMemory>
         requires next { 0 < next }
         requires rising { IsTrue (rises_within 1 next running.now) }
@@ -123,7 +123,7 @@ impl Snapshot {
         self.xmax
     }
 
-    /// The ids that run, in rising order.
+    /// The running ids, in rising order.
     pub fn xip(&self) -> &[u64]
         ensures value { result.now ≡ self.now.xip }
         ensures sound { IsTrue (is_snapshot self.now) }
@@ -131,7 +131,7 @@ impl Snapshot {
         &self.xip
     }
 
-    /// Appends `xmin:xmax:xip` in decimal, the ids of `xip` parted by commas.
+    /// Appends `xmin:xmax:xip` in decimal, the ids of `xip` separated by commas.
     #[tactic(auto, using(crate::proofs::ReadBack::read_back))]
     pub fn print(&self, into: &mut Vec<u8>) -> Result<(), NoMemory>
         ensures ok { OnOk result (into.new.items ≡ into.old.items ++ snapshot_text self.now) }
@@ -157,8 +157,8 @@ impl Snapshot {
     pub fn covers(&self, other: &Snapshot) -> bool
         ensures { IsTrue result ↔ Covers self.now other.now }
     {
-        // Not seen here are the ids that run, and those from the next id on. The second loop ends at the
-        // first that isn't in the other list, so it has no more turns than that list has ids.
+        // Not seen here are the running ids, and those from the next id on. The second loop ends at the first id that
+        // isn't in the other list, so it runs at most once for each id of that list.
         for id in &self.xip {
             if other.sees(*id) {
                 return false;
@@ -173,7 +173,7 @@ impl Snapshot {
     }
 }
 
-/// The first of the ids, or `next` where there is none.
+/// The first of the ids, or `next` if there is none.
 fn first_or(ids: &[u64], next: u64) -> u64
     ensures { result ≡ first_or next ids.now }
 {

@@ -9,7 +9,7 @@ use itoa::Buffer;
 use sky_val::NoMemory;
 use std::alloc::Global;
 
-/// Appends the number in decimal. At `Err` it appends nothing.
+/// Appends the number in decimal; at `Err`, nothing.
 fn append_number(number: u64, into: &mut Vec<u8>) -> Result<(), NoMemory>
     ensures ok { OnOk result (into.new.items ≡ into.old.items ++ decimal number) }
     ensures err { OnErr result (into.new.items ≡ into.old.items) }
@@ -17,8 +17,8 @@ fn append_number(number: u64, into: &mut Vec<u8>) -> Result<(), NoMemory>
     into.extend_from_slice(Buffer::new().format(number).as_bytes())
 }
 
-// Each of the next two may leave a part of its text where memory is refused, behind all that stood
-// there before.
+// Out of memory, each of the next two may leave a part of its text, after all that was there
+// before.
 
 /// Appends the ids in decimal, with commas between them.
 fn append_list(ids: &[u64], into: &mut Vec<u8>) -> Result<(), NoMemory>
@@ -52,7 +52,7 @@ pub(crate) fn append_parts(
     append_list(xip, into)
 }
 
-/// The bytes before the first such byte, and those behind it.
+/// The bytes before the first such byte, and those after it.
 #[tactic(auto, using(crate::proofs::Reading::cuts))]
 fn cut(text: &[u8], byte: u8) -> Option<(&[u8], &[u8])>
     ensures parts { MatchOption result (parts_at byte text.now ≡ text.now ∷ [])
@@ -67,7 +67,7 @@ fn cut(text: &[u8], byte: u8) -> Option<(&[u8], &[u8])>
     None
 }
 
-/// The three parts round two colons, where there are no more.
+/// The three parts around two colons, if there are no more.
 #[tactic(auto, using(crate::proofs::Reading::four_parts))]
 pub(crate) fn three_parts(text: &[u8]) -> Option<(&[u8], &[u8], &[u8])>
     ensures { MatchOption result (parse_snapshot text.now ≡ None)
@@ -81,7 +81,7 @@ pub(crate) fn three_parts(text: &[u8]) -> Option<(&[u8], &[u8], &[u8])>
     }
 }
 
-/// The number that one digit or more write, where it is below `2^64`.
+/// The number that one or more digits write, if it is below `2^64`.
 #[tactic(auto, using(crate::proofs::Reading::digit_steps))]
 pub(crate) fn number(digits: &[u8]) -> Option<u64>
     ensures { result ≡ parse_number digits.now }
@@ -101,7 +101,7 @@ pub(crate) fn number(digits: &[u8]) -> Option<u64>
     Some(value)
 }
 
-/// The numbers between commas, or none of an empty text.
+/// The numbers between commas; none in an empty text.
 pub(crate) fn numbers(alloc: Global, text: &[u8]) -> Result<Vec<u64>, SnapshotFault>
     ensures ok { IfOk result (λ ids. parse_list text.now ≡ Some ids.items) }
     ensures bad { result ≡ Err SnapshotFault.BadSnapshot → parse_list text.now ≡ None }

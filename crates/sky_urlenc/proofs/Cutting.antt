@@ -1,4 +1,4 @@
--- The first piece of a text, and those behind it.
+-- The first piece of a text, and those after it.
 use Rattle.std.proofs.Common.{◌≡◌, inl, inr, ℕ, ◌+◌, ◌-◌, ◌<◌, cond, List, [], ◌∷◌, length, take, drop, Some, None, sym, subst, ◌∙◌, ap, arith, length-drop}
 use Rattle.std.specs.Prelude.{◌==◌, filter}
 use Rattle.std.specs.List.{slice_split, position_or_len}
@@ -10,7 +10,7 @@ use Rattle.form_urlencoded.specs.Form.{ampersand, is_nonempty}
 use Rattle.sky_urlenc.specs.Cuts.{first_piece, first_piece_at}
 use Rattle.sky_urlenc.specs.ReadRow.{placed, pieces_from}
 
--- the pieces of a text are its first one, if that isn't empty, and those behind it
+-- the pieces of a text are its first one, if that isn't empty, and those after it
 abbrev StartsWith : ℕ → List ℕ → List ℕ × List ℕ → Type 0
 StartsWith start text cut =
     let behind = pieces_from (start + (length text - length cut.1)) cut.1 in
@@ -46,7 +46,7 @@ pieces_first start text before behind cut some =
 shorter_at : (text : List ℕ) (found : ℕ) → 0 < length text → length (drop (found + 1) text) < length text
 shorter_at text found some = omega (arith, length-drop (found + 1) text)
 
--- what stands behind the first piece is shorter
+-- what comes after the first piece is shorter
 pub behind_shorter : (text before behind : List ℕ) → (before, behind) ≡ first_piece text → 0 < length text → length behind < length text
 behind_shorter text before behind cut some =
     grind (arith, cut, shorter_at text)

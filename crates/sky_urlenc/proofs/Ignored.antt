@@ -11,11 +11,11 @@ use Rattle.sky_val.specs.OrderLaws.{val_eq-ties}
 use Rattle.sky_urlenc.specs.RowEvents.{Trigger, changed_columns, are_ignored}
 use Rattle.std.proofs.lemmas.List.{nil_from_length}
 
--- whether columns were changed so far, or these are, and all of these are such as it ignores
+-- whether columns were changed so far, or these are, and the trigger ignores all of these
 abbrev pub ignored_more : Trigger → Bool → List (List ℕ) → Bool
 ignored_more trigger changed names = (changed || nat_lt 0 (length names)) && list_all (λ name. list_any (bytes_eq name) trigger.ignored) names
 
--- where one of the lists has ended, no column is left
+-- if one of the lists has ended, no column is left
 pub none_left : (trigger : Trigger) (changed : Bool) (columns : List Column) (old new : List Val) → (length columns ≡ 0) ⊎ ((length old ≡ 0) ⊎ (length new ≡ 0))
     → ignored_more trigger changed (changed_columns columns old new) ≡ changed
 none_left trigger changed [] old new ends = grind arith
@@ -23,25 +23,25 @@ none_left trigger changed (c ∷ cs) [] new ends = grind arith
 none_left trigger changed (c ∷ cs) (o ∷ os) [] ends = grind arith
 none_left trigger changed (c ∷ cs) (o ∷ os) (n ∷ ns) ends = absurd (elim ends [ inl none ↦ omega arith | inr ended ↦ elim ended [ inl none ↦ omega arith | inr none ↦ omega arith ] ])
 
--- one whose value is the same
+-- a column whose value is the same
 pub same_left : (trigger : Trigger) (changed : Bool) (c : Column) (cs : List Column) (o n : Val) (os ns : List Val) → eq_by_cmp val_cmp o n ≡ true
     → ignored_more trigger changed (changed_columns (c ∷ cs) (o ∷ os) (n ∷ ns)) ≡ ignored_more trigger changed (changed_columns cs os ns)
 same_left trigger changed c cs o n os ns e = grind (arith, e)
 
--- one that was changed, and is ignored
+-- a column that was changed and is ignored
 pub ignored_left : (trigger : Trigger) (changed : Bool) (c : Column) (cs : List Column) (o n : Val) (os ns : List Val) → eq_by_cmp val_cmp o n ≡ false → list_any (bytes_eq c.name) trigger.ignored ≡ true
     → ignored_more trigger changed (changed_columns (c ∷ cs) (o ∷ os) (n ∷ ns)) ≡ ignored_more trigger true (changed_columns cs os ns)
 ignored_left trigger changed c cs o n os ns e ignored = grind (arith, nat_tests, e, ignored)
 
--- and one that isn't
+-- and one that was changed and isn't
 pub told_left : (trigger : Trigger) (changed : Bool) (c : Column) (cs : List Column) (o n : Val) (os ns : List Val) → eq_by_cmp val_cmp o n ≡ false → list_any (bytes_eq c.name) trigger.ignored ≡ false
     → ignored_more trigger changed (changed_columns (c ∷ cs) (o ∷ os) (n ∷ ns)) ≡ false
 told_left trigger changed c cs o n os ns e told = grind (arith, e, told)
 
--- a trigger that ignores no column leaves no change out
+-- a trigger that ignores no column ignores no change
 pub none_ignored : (trigger : Trigger) (changed : List (List ℕ)) → length trigger.ignored ≡ 0 → false ≡ are_ignored trigger changed
 none_ignored trigger [] none = refl
 none_ignored trigger (name ∷ names) none = grind (arith, nil_from_length trigger.ignored none)
 
--- what a column that is passed does to what is left, and where none is
+-- what passing a column does to what is left, and what follows if none is left
 pub ruleset passed = (none_left, same_left, ignored_left, told_left, none_ignored, val_eq-ties)

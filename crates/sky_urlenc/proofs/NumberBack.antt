@@ -26,7 +26,7 @@ tells = record {
 own : IsNumeralModel (λ ds. list_all is_ascii_digit ds ≡ true) (number_from 0)
 own = numerals_by_fold (λ ds. list_all is_ascii_digit ds ≡ true) tells number_from (record { empty = λ n. refl; more = λ n c cs k. refl })
 
--- digits are a number where a zero in front stands alone
+-- digits are a number if a zero is their first only when alone
 number_from_digits : (ds : List ℕ) → 0 < length ds → list_all is_ascii_digit ds ≡ true → (48 < get_or ds 0 0) ⊎ (length ds ≡ 1) → is_number ds ≡ true
 number_from_digits [] some digits first = absurd (omega arith)
 number_from_digits (b ∷ bs) some digits (inl more) = grind (arith, nat_tests, digits, more)
@@ -42,7 +42,7 @@ number_back most n le small =
     let number = number_from_digits (decimal n) (decimal_nonempty n small) (digits_decimal own n small) (first_or_one n small) in
     grind (arith, nat_tests, value, number)
 
--- what begins with a digit has no sign
+-- a text that begins with a digit has no sign
 int_from_digits : (ds : List ℕ) → 0 < length ds → list_all is_ascii_digit ds ≡ true → int_of ds ≡ option_map (λ n. pos n) (number_of (2 ^ 63 - 1) ds)
 int_from_digits [] some digits = absurd (omega arith)
 int_from_digits (b ∷ bs) some digits =

@@ -100,7 +100,7 @@ sides_back name (Some text) =
 
 -- ---- what it gives
 
--- a text that is a word, if there is one
+-- a text that is UTF-8, if there is one
 abbrev IsWordOrNone : Option (List ℕ) → Type 0
 IsWordOrNone None = ⊤
 IsWordOrNone (Some text) = IsWord text

@@ -1,4 +1,4 @@
--- What is written for a row is read as that row.
+-- A row's text is read as that row.
 use Rattle.std.proofs.Common.{◌≡◌, ◌≢◌, ℕ, ◌+◌, ◌<◌, true, false, List, [], ◌∷◌, ◌++◌, length, get_or, set, map, Option, Some, None, Ok, refl, sym, ◌∙◌, ap, subst, arith, append_assoc, append-nil, length-append}
 use Rattle.std.specs.Prelude.{◌==◌, find, filter, bytes_eq, All, AllPairs}
 use Rattle.std.specs.List.{enumerate_from, slice_split, join_with_byte}
@@ -88,7 +88,7 @@ values_back : (place : ℕ) (row : List Val) → values_from place (map (λ v. S
 values_back place [] = refl
 values_back place (v ∷ row) = ap (λ checked. checked >>= (λ values. Ok (v ∷ values))) (values_back (place + 1) row)
 
--- ---- the pieces of what is written
+-- ---- the pieces of a row's text
 
 split_back : (text : List ℕ) (texts : List (List ℕ)) → All (λ t. All (λ b. (b == ampersand) ≡ false) t) (text ∷ texts) → slice_split (λ b. b == ampersand) (join_with_byte ampersand (text ∷ texts)) ≡ text ∷ texts
 split_back text [] none = slice_split_none (λ b. b == ampersand) text (All-head (λ t. All (λ b. (b == ampersand) ≡ false) t) text [] none)

@@ -14,12 +14,12 @@ abbrev pub behind_byte : ℕ → List (List ℕ) → List ℕ
 behind_byte byte [] = []
 behind_byte byte (piece ∷ pieces) = byte ∷ piece ++ behind_byte byte pieces
 
--- what is left to write of pieces behind so many others
+-- what is left to write of pieces after so many others
 abbrev pub left_text : ℕ → List (List ℕ) → List ℕ
 left_text zero pieces = join_with_byte ampersand pieces
 left_text (suc place) pieces = behind_byte ampersand pieces
 
--- what is left to write of pieces, the first of all among them or not
+-- what is left to write of pieces, with the first of all among them or not
 abbrev pub left_from : ℕ → Bool → List (List ℕ) → List ℕ
 left_from byte true pieces = join_with_byte byte pieces
 left_from byte false pieces = behind_byte byte pieces
@@ -32,7 +32,7 @@ left-later : (place : ℕ) (pieces : List (List ℕ)) → 0 < place → left_tex
 left-later zero pieces pos = absurd (omega arith)
 left-later (suc place) pieces pos = refl
 
--- one more piece is written: behind the byte, or as the first
+-- one more piece is written: after the byte, or as the first
 pub next_behind : (place : ℕ) (old mid new piece : List ℕ) (pieces : List (List ℕ)) → 0 < place → mid ≡ old ++ ampersand ∷ [] → new ≡ mid ++ piece
     → new ++ left_text (place + 1) pieces ≡ old ++ left_text place (piece ∷ pieces)
 next_behind place old mid new piece pieces pos pushed added =
@@ -44,7 +44,7 @@ next_first zero old new piece pieces none added =
     ap (λ text. text ++ behind_byte ampersand pieces) added ∙ append_assoc old piece (behind_byte ampersand pieces) ∙ ap (λ text. old ++ text) (sym (join-behind ampersand piece pieces))
 next_first (suc place) old new piece pieces none added = absurd (omega arith)
 
--- where nothing is left of one of them
+-- nothing is left to write if one of the lists has ended
 left_none : (place : ℕ) → left_text place [] ≡ []
 left_none zero = refl
 left_none (suc place) = refl
@@ -59,7 +59,7 @@ none_held [] row ended = tt
 none_held (column ∷ columns) [] ended = tt
 none_held (column ∷ columns) (v ∷ row) ended = absurd (elim ended [ inl none ↦ omega arith | inr none ↦ omega arith ])
 
--- one more name is written: as the first, or behind the byte
+-- one more name is written: as the first, or after the byte
 pub next_as_first : (byte : ℕ) (old new piece : List ℕ) (pieces : List (List ℕ)) → new ≡ old ++ piece → new ++ left_from byte false pieces ≡ old ++ left_from byte true (piece ∷ pieces)
 next_as_first byte old new piece pieces added =
     ap (λ text. text ++ behind_byte byte pieces) added ∙ append_assoc old piece (behind_byte byte pieces) ∙ ap (λ text. old ++ text) (sym (join-behind byte piece pieces))

@@ -36,7 +36,7 @@ row id n = (Int (pos id) ∷ [], Int (pos id) ∷ Text n ∷ [])
 before : Entries (List Val)
 before = row 1 (codes "a") ∷ row 3 (codes "c") ∷ []
 
--- a row comes, one changes, and one goes
+-- a row is inserted, one is updated, and one is deleted
 events : List Event
 events = event (codes "I:id") (codes "id=2&n=b") ∷ event (codes "U:id") (codes "id=1&n=x") ∷ event (codes "D:id") (codes "id=3&n=c") ∷ []
 
@@ -56,7 +56,7 @@ absent : applies columns before (event (codes "D:id") (codes "id=2&n=b") ∷ [])
 unfolding columns event row before percent_decode is_utf8 chars encode
 absent = refl
 
--- once it is deleted, it may come again
+-- once it is deleted, it may be inserted again
 again : applies columns before (event (codes "D:id") (codes "id=1&n=a") ∷ event (codes "I:id") (codes "n=x&id=1") ∷ []) ≡ true
 unfolding columns event row before percent_decode is_utf8 chars encode
 again = refl

@@ -21,11 +21,11 @@ row n note = Int (pos 1) ∷ Int (pos n) ∷ Text note ∷ []
 write : (old new : Option (List Val)) → Write
 write old new = record { table = codes "u"; columns = columns; old = old; new = new }
 
--- with no options
+-- without options
 plain : Trigger
 plain = record { queue = 1; backup = false; ignored = [] }
 
--- with `backup`, and it ignores `note`
+-- with `backup`, and ignoring `note`
 tg : Trigger
 tg = record { queue = 0; backup = true; ignored = codes "note" ∷ [] }
 
@@ -36,7 +36,7 @@ inserted : events_of (write None (Some (row 5 (codes "x")))) (tg ∷ []) ≡ eve
 unfolding columns row write tg event byte_serialize digits
 inserted = refl
 
--- `tg` ignores the change, `plain` tells of it
+-- `tg` ignores the change, `plain` records it
 ignored : events_of (write (Some (row 5 (codes "x"))) (Some (row 5 (codes "y")))) (tg ∷ plain ∷ []) ≡ event 1 (codes "U:id") (codes "id=1&n=5&note=y") None ∷ []
 unfolding columns row write tg plain event byte_serialize digits
 ignored = refl
@@ -45,7 +45,7 @@ updated : events_of (write (Some (row 5 (codes "y"))) (Some (row 6 (codes "y")))
 unfolding columns row write tg plain event byte_serialize digits
 updated = refl
 
--- null again is no change, null for a text is one
+-- Null instead of Null is no change, Null instead of a text is one
 nulls : events_of (write (Some (Int (pos 1) ∷ Null ∷ Text (codes "x") ∷ [])) (Some (Int (pos 1) ∷ Null ∷ Null ∷ []))) (tg ∷ plain ∷ []) ≡ event 1 (codes "U:id") (codes "id=1&n&note") None ∷ []
 unfolding columns write tg plain event byte_serialize digits
 nulls = refl

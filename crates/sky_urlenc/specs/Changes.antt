@@ -32,7 +32,7 @@ op_of name =
     else if starts_with nat_eq name (codes "D:") then Some Delete
     else None
 
--- the change that an event tells of, if it has such a type and its data are a row
+-- the change that an event records, if it has such a type and its data are a row
 abbrev pub change_of : List Column → Event → Option Change
 change_of columns event = do
   name ← event.ev_type
@@ -41,11 +41,11 @@ change_of columns event = do
   row ← result_ok (read_row columns text)
   Some (record { op = op; row = row })
 
--- the rows without the one of a key
+-- the rows without the row of a key
 abbrev pub removed : List Val → Entries (List Val) → Entries (List Val)
 removed key rows = filter (λ entry. not (eq_by_cmp key_cmp key entry.0)) rows
 
--- the rows once a row was written under its key, or taken out
+-- the rows after a row was written under its key, or deleted
 abbrev pub after_op : Op → List Val → List Val → Entries (List Val) → Entries (List Val)
 after_op Insert key row rows = entries.put key row rows
 after_op Update key row rows = entries.put key row rows
@@ -61,7 +61,7 @@ abbrev pub put : List Column → Entries (List Val) → List Event → Entries (
 put columns rows [] = rows
 put columns rows (event ∷ events) = put columns (changed columns (change_of columns event) rows) events
 
--- whether a key may be written so: an inserted one is absent, any other is present
+-- whether an operation is allowed at a key: an insert if it is absent, any other if it is present
 abbrev pub may_do : Op → List Val → Entries (List Val) → Bool
 may_do Insert key rows = is_none (entries.at key rows)
 may_do Update key rows = is_some (entries.at key rows)
@@ -72,7 +72,7 @@ abbrev pub allows : List Column → Option Change → Entries (List Val) → Boo
 allows columns None rows = false
 allows columns (Some change) rows = may_do change.op (key_of columns change.row) rows
 
--- whether each event tells of a change that the rows allow after those before it
+-- whether each event records a change that the rows allow after those before it
 abbrev pub applies : List Column → Entries (List Val) → List Event → Bool
 applies columns rows [] = true
 applies columns rows (event ∷ events) =

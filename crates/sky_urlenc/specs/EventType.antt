@@ -1,4 +1,4 @@
--- The type of the event that tells of a written row.
+-- The type of the event that records the write of a row.
 use Rattle.std.specs.Prelude.{ℕ, List, ◌∷◌, map}
 use Rattle.std.specs.List.{join_with_byte}
 use Rattle.sky_val.specs.declared.column.Column.{Column}
@@ -20,6 +20,6 @@ op_letter Insert = 73
 op_letter Update = 85
 op_letter Delete = 68
 
--- the letter, a colon, and the names of the key columns, in their order, with commas between
+-- the letter, a colon, and the names of the key columns, in order, separated by commas
 abbrev pub event_type : Op → List Column → List ℕ
 event_type op columns = op_letter op ∷ colon ∷ join_with_byte comma (map (λ column. column.name) (key_columns columns))

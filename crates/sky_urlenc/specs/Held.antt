@@ -5,12 +5,12 @@ use Rattle.sky_val.specs.declared.val.Val.{Val}
 use Rattle.sky_val.specs.declared.val.Val.TheVariants.{Null, Int, Text}
 use Rattle.sky_val.specs.declared.column.Column.{Column}
 
--- bytes that are characters
+-- bytes that are UTF-8
 pub record IsWord (bytes : List ℕ) : Type 0 where
   pub small : All (λ b. b < 256) bytes
   pub characters : IsUtf8 bytes
 
--- a number has 64 bits with its sign
+-- a number fits 64 bits with its sign; a text is UTF-8
 abbrev pub IsHeld : Val → Type 0
 IsHeld Null = ⊤
 IsHeld (Int n) = FitsSigned w64 n

@@ -4,7 +4,7 @@ use Rattle.sky_urlenc.specs.declared.pieces.Piece as held
 use Rattle.sky_urlenc.specs.declared.pieces.Pieces.{Pieces}
 use Rattle.sky_urlenc.specs.ReadRow.{Piece, pieces_from}
 
--- the piece that is held so
+-- a piece of the code, as the definitions have it
 abbrev pub piece_view : held.Piece → Piece
 piece_view piece = record { start = piece.start; bytes = piece.bytes.now }
 

@@ -27,23 +27,23 @@ abbrev pub ◌>>◌ : {A B : Type 0} → Checked A → Checked B → Checked B
 Err fault >> next = Err fault
 Ok a >> next = next
 
--- no fault where the test holds, or this one
+-- no fault if the test holds, else this one
 abbrev pub holds_or : Bool → DecodeFault → Checked (Unit {0})
 holds_or holds fault = if holds then Ok tt else Err fault
 
--- what is there, or this fault
+-- the value, if there is one, else this fault
 abbrev pub found_or : {A : Type 0} → Option A → DecodeFault → Checked A
 found_or None fault = Err fault
 found_or (Some a) fault = Ok a
 
 -- ---- the pieces
 
--- what stands between two `&`, and the byte place where it starts
+-- what is between two `&`, and the byte place where it starts
 pub record Piece : Type 0 where
   pub start : ℕ
   pub bytes : List ℕ
 
--- parts with a byte between each two, where the first one starts at a place
+-- parts with a byte between each two, the first of them at a place
 abbrev pub placed : ℕ → List (List ℕ) → List Piece
 placed start [] = []
 placed start (part ∷ parts) = record { start = start; bytes = part } ∷ placed (start + length part + 1) parts
@@ -52,7 +52,7 @@ placed start (part ∷ parts) = record { start = start; bytes = part } ∷ place
 abbrev pub pieces_from : ℕ → List ℕ → List Piece
 pieces_from start text = filter (λ piece. is_nonempty piece.bytes) (placed start (slice_split (λ b. b == ampersand) text))
 
--- what stands before the first `=` of a piece, which is here, and what stands behind it; where there is none, only the piece
+-- what comes before the first `=` of a piece, which is at this place, and what comes after it; if there is none, only the piece
 abbrev pub sides_at : Option ℕ → List ℕ → List ℕ × Option (List ℕ)
 sides_at None bytes = (bytes, None)
 sides_at (Some place) bytes = (take place bytes, Some (drop (place + 1) bytes))
@@ -69,34 +69,34 @@ name_in piece = decode (sides_of piece).0
 abbrev pub text_in : Piece → Option (List ℕ)
 text_in piece = option_map decode (sides_of piece).1
 
--- whether the bytes of a text are characters, where there is a text
+-- whether the bytes of a text are UTF-8, if there is a text
 abbrev pub is_utf8_or_none : Option (List ℕ) → Bool
 is_utf8_or_none None = true
 is_utf8_or_none (Some text) = is_utf8 text
 
--- whether what a piece gives is text
+-- whether the texts of a piece are UTF-8
 abbrev pub is_text : Piece → Bool
 is_text piece = is_utf8 (name_in piece) && is_utf8_or_none (text_in piece)
 
 -- ---- what they give
 
--- the column of a name, behind its place
+-- the column of a name, with its place
 abbrev pub column_named : List ℕ → List Column → Option (ℕ × Column)
 column_named name columns = find (λ c. bytes_eq c.1.name name) (enumerate_from 0 columns)
 
--- the value that a text writes for a column of a kind, if it writes one; no text stands for Null
+-- the value that a text writes for a column of a kind, if it writes one; no text means Null
 abbrev pub value_of : ColKind → Option (List ℕ) → Option Val
 value_of k None = Some Null
 value_of kind.Int (Some text) = option_map (λ n. Int n) (int_of text)
 value_of kind.Text (Some text) = Some (Text text)
 
--- the value that a column takes of a piece that starts at a place and gives this text
+-- the value that a column takes from a piece that starts at a place and gives this text
 abbrev pub value_for : ℕ → Column → Option (List ℕ) → Checked Val
 value_for start column text = do
   holds_or (not (column.key && is_none text)) (NullKey start)
   found_or (value_of column.kind text) (BadInt start)
 
--- what the columns have, each a value or nothing yet, once a piece gave one of them its value
+-- what the columns have, each a value or nothing yet, after a piece gave one of them its value
 abbrev pub given_by : List Column → List (Option Val) → Piece → Checked (List (Option Val))
 given_by columns given piece = do
   holds_or (is_text piece) (BadText piece.start)
@@ -105,12 +105,12 @@ given_by columns given piece = do
   value ← value_for piece.start column (text_in piece)
   Ok (slice_set given place (Some value))
 
--- the same once each piece did, in turn
+-- the same after each piece did, one after another
 abbrev pub all_given : List Column → List (Option Val) → List Piece → Checked (List (Option Val))
 all_given columns given [] = Ok given
 all_given columns given (piece ∷ pieces) = given_by columns given piece >>= λ more. all_given columns more pieces
 
--- the values that columns have, the first of which stands at a place
+-- the values that columns have, the first of which is at a place
 abbrev pub values_from : ℕ → List (Option Val) → Checked (List Val)
 values_from place [] = Ok []
 values_from place (None ∷ given) = Err (MissingColumn place)

@@ -1,5 +1,4 @@
--- The events that tell of a write in a table: one of each of the table's triggers, in their order, but for those that
--- leave the write out.
+-- The events that record a write to a table: one for each of the table's triggers, in their order, but for triggers that ignore the write.
 use Rattle.std.specs.Prelude.{ℕ, Bool, false, not, ◌&&◌, if◌then◌else◌, List, Option, None, Some, option_map, map, filter, zip, length, nat_lt, bytes_eq}
 use Rattle.std.specs.List.{list_any, list_all}
 use Rattle.std.specs.Option.{option_or}
@@ -12,14 +11,14 @@ use Rattle.sky_val.specs.Order.{val_cmp}
 use Rattle.sky_urlenc.specs.EventType.{event_type}
 use Rattle.sky_urlenc.specs.RowText.{row_text}
 
--- a trigger of a table: the queue that its events go to, by its number; whether the event of an update has the row as
--- it was, too; and the columns that an update may change without an event
+-- a trigger of a table: the number of the queue that its events go to; whether the event of an update also has the old row; and the columns that an
+-- update may change without an event
 pub record Trigger : Type 0 where
   pub queue : ℕ
   pub backup : Bool
   pub ignored : List (List ℕ)
 
--- a write in a table of this name: the row that the key had, and the row that it has
+-- a write to a table of this name: the row that the key had, and the row that it has
 pub record Write : Type 0 where
   pub table : List ℕ
   pub columns : List Column
@@ -37,21 +36,21 @@ abbrev pub changed_columns : List Column → (old new : List Val) → List (List
 changed_columns columns old new =
     map (λ c. c.0.name) (filter (λ c. not (eq_by_cmp val_cmp c.1.0 c.1.1)) (zip columns (zip old new)))
 
--- whether columns were changed, all of them such as a trigger ignores
+-- whether columns were changed, all of them ignored by a trigger
 abbrev pub are_ignored : Trigger → List (List ℕ) → Bool
 are_ignored trigger changed = nat_lt 0 (length changed) && list_all (λ name. list_any (bytes_eq name) trigger.ignored) changed
 
--- whether a trigger leaves a write out: an update that changed columns that it ignores, and no others
+-- whether a trigger ignores a write: an update that changed columns that it ignores, and no others
 abbrev pub leaves_out : Trigger → List Column → (old new : Option (List Val)) → Bool
 leaves_out trigger columns (Some old) (Some new) = are_ignored trigger (changed_columns columns old new)
 leaves_out trigger columns old new = false
 
--- the row as it was, where it was updated
+-- the old row of an update
 abbrev pub updated : (old new : Option (List Val)) → Option (List Val)
 updated old None = None
 updated old (Some new) = old
 
--- an event of a queue, but for its id, time and transaction; its owner, its retry and the last two texts are null
+-- an event of a queue, but for its id, time and transaction; its owner, its retry count and the last two texts are null
 pub record RowEvent : Type 0 where
   pub queue : ℕ
   pub ev_type : List ℕ
@@ -59,7 +58,7 @@ pub record RowEvent : Type 0 where
   pub ev_extra1 : List ℕ
   pub ev_extra2 : Option (List ℕ)
 
--- the event of a trigger: its data are the new row, or the one that was deleted
+-- the event of a trigger: its data are the new row, or the deleted one
 abbrev pub event_of : Write → Trigger → RowEvent
 event_of write trigger = record {
   queue = trigger.queue;

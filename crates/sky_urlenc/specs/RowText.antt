@@ -17,6 +17,6 @@ column_text column (Text text) = byte_serialize column.name ++ equals_sign ∷ b
 abbrev pub column_texts : List Column → List Val → List (List ℕ)
 column_texts columns row = map (λ pair. column_text pair.0 pair.1) (zip columns row)
 
--- what is written for a row
+-- the text of a row
 abbrev pub row_text : List Column → List Val → List ℕ
 row_text columns row = join_with_byte ampersand (column_texts columns row)

@@ -4,14 +4,14 @@ ghost use Rattle.std.specs.Prelude.{◌≡◌, ◌==◌};
 ghost use Rattle.std.specs.List.{position};
 ghost use Rattle.sky_urlenc.specs.Cuts.{first_piece};
 
-/// The place of the first byte that is this one.
+/// The place of the first such byte.
 pub(crate) fn first_place(byte: u8, text: &[u8]) -> Option<usize>
     ensures { result ≡ position (λ b. b == byte) text.now }
 {
     text.iter().position(|other| *other == byte)
 }
 
-/// What stands before the first `&`, and what stands behind it.
+/// What comes before the first `&`, and what comes after it.
 pub(crate) fn first_piece(text: &[u8]) -> (&[u8], &[u8])
     ensures { (result.0.now, result.1.now) ≡ first_piece text.now }
 {

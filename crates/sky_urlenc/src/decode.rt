@@ -16,7 +16,7 @@ pub fn decode_row(alloc: Global, schema: &Schema, text: &[u8]) -> Result<Row, De
     ensures row { IfOk result (λ row. read_row schema.now text.now ≡ Ok row) }
     ensures fits { IfOk result (λ row. row_fault schema.now row ≡ None) }
 
-    // Where the text is no row, memory may still be refused first.
+    // A text that is no row may be answered with out of memory first.
     ensures refused { IfErr result (λ fault.
         fault ≢ DecodeFault.NoMemory → read_row schema.now text.now ≡ Err fault) }
 {
@@ -80,7 +80,7 @@ fn texts_in(alloc: Global, piece: &Piece<'_>) -> Result<(Text, Option<Text>), De
     }
 }
 
-/// The column of a name, behind its place.
+/// The column of a name, with its place.
 fn column_named<'a>(name: &Text, columns: &'a [Column]) -> Option<(usize, &'a Column)>
     ensures found { MatchOption result (column_named name.now columns.now ≡ None)
         (λ found. column_named name.now columns.now ≡ Some (found.0, found.1.now)) }
@@ -94,7 +94,7 @@ fn column_named<'a>(name: &Text, columns: &'a [Column]) -> Option<(usize, &'a Co
     None
 }
 
-/// The value that a column takes of a piece that starts at a place and gives this text.
+/// The value that a column takes from a piece that starts at a place and gives this text.
 fn value_for(
     alloc: Global,
     start: usize,

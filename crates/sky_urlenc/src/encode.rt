@@ -14,14 +14,14 @@ use itoa::Buffer;
 use sky_val::{Column, NoMemory, Row, Schema, Text, Val};
 use std::alloc::Global;
 
-/// How many bytes a column takes in most rows, its name among them.
+/// How many bytes a column takes in most rows, its name included.
 const USUAL_BYTES: usize = 16;
 
 /// The text of a row of the table.
 pub fn encode_row(alloc: Global, schema: &Schema, row: &Row) -> Result<Text, NoMemory>
     ensures text { IfOk result (λ text. text ≡ row_text schema.now row.now) }
 
-    // What is written of a row that the table may have is read back.
+    // The text of a row that the table may have is read back.
     ensures back { IfOk result (λ text. row_fault schema.now row.now ≡ None → read_row schema.now text ≡ Ok row.now) }
 {
     let columns = schema.columns();

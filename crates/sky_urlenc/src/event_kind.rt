@@ -1,4 +1,4 @@
-//! The types of the events that tell of written rows.
+//! The types of the events that record writes of rows.
 
 ghost use Rattle.std.specs.Prelude.{◌≡◌, [], ◌∷◌, ◌++◌, map, IfOk, OnOk, string_bytes};
 ghost use Rattle.std.specs.List.{join_with_byte};
@@ -8,8 +8,8 @@ ghost use Rattle.sky_urlenc.specs.EventType.{colon, comma, op_letter, event_type
 use sky_val::{Column, NoMemory, Op, Schema, Text};
 use std::alloc::Global;
 
-/// The type of the event that tells what was done to a row of the table: `I`, `U` or `D`, a colon, and the
-/// names of the key columns with commas between.
+/// The type of the event that records an operation on a row of the table: `I`, `U` or `D`, a colon, and the names of
+/// the key columns, separated by commas.
 pub fn event_type(alloc: Global, op: Op, schema: &Schema) -> Result<Text, NoMemory>
     ensures { IfOk result (λ text. text ≡ event_type op schema.now) }
 {
@@ -19,7 +19,7 @@ pub fn event_type(alloc: Global, op: Op, schema: &Schema) -> Result<Text, NoMemo
     Ok(Text::from_string(text))
 }
 
-/// The letter of what was done, and a colon.
+/// The letter of the operation, and a colon.
 fn op_mark(op: Op) -> &'static str
     ensures { result.now ≡ op_letter op ∷ colon ∷ [] }
 {

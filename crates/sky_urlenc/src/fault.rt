@@ -9,7 +9,7 @@ use thiserror::Error;
 /// Why a text is no row of the table: the first fault, and the byte place where its piece starts.
 #[derive(Clone, Copy, Debug, PartialEq, Eq, Error)]
 pub enum DecodeFault {
-    /// The name or the value isn't UTF-8 once it is decoded.
+    /// The name or the value, decoded, isn't UTF-8.
     #[error("the piece at byte {0} is no text")]
     BadText(usize),
     /// No column has the name.
@@ -21,14 +21,14 @@ pub enum DecodeFault {
     /// The piece gives Null to a column of the key.
     #[error("the piece at byte {0} gives Null to a column of the key")]
     NullKey(usize),
-    /// The column takes numbers, and the value is none of 64 bits with their sign, written as `0`, or as a
-    /// digit from 1 to 9 and digits, with `-` in front or not.
+    /// The column takes numbers, and the value is no number that fits 64 bits with its sign, written as `0`, or as a
+    /// digit from 1 to 9 and digits, with `-` before it or not.
     #[error("the piece at byte {0} gives no number to a column of numbers")]
     BadInt(usize),
     /// The first column that no piece is for, by its place.
     #[error("no piece is for the column at {0}")]
     MissingColumn(usize),
-    /// Memory was refused.
+    /// Out of memory.
     #[error("out of memory")]
     NoMemory,
 }

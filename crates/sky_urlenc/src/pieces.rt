@@ -5,7 +5,7 @@ ghost use Rattle.sky_urlenc.specs.ReadRow.{sides_of, pieces_from};
 
 use crate::cut::{first_piece, first_place};
 
-/// What stands between two `&`, and the byte place where it starts.
+/// What is between two `&`, and the byte place where it starts.
 #[derive(Clone, Copy, Debug)]
 pub(crate) struct Piece<'a> {
     pub(crate) start: usize,
@@ -15,7 +15,7 @@ pub(crate) struct Piece<'a> {
 impl<'a> Piece<'a> {
     ghost use Rattle.sky_urlenc.specs.Pieces.{piece_view};
 
-    /// What stands before its first `=`, and what stands behind it; where there is none, only the piece.
+    /// What comes before its first `=`, and what comes after it; if there is none, only the piece.
     pub(crate) fn sides(&self) -> (&'a [u8], Option<&'a [u8]>)
         ensures name { result.0.now ≡ (sides_of (piece_view self.now)).0 }
         ensures text { option_map (λ text. text.now) result.1 ≡ (sides_of (piece_view self.now)).1 }
@@ -27,7 +27,7 @@ impl<'a> Piece<'a> {
     }
 }
 
-/// The pieces of a text that are not empty.
+/// The pieces of a text that aren't empty.
 #[derive(Clone, Copy, Debug)]
 pub(crate) struct Pieces<'a> {
     start: usize,

@@ -1,7 +1,7 @@
 use sky_val::Text;
 use std::marker::Model;
 
-/// An event that tells of a write, but for its id, its time and its transaction.
+/// An event that records a write, but for its id, its time and its transaction.
 #[derive(Debug, Drop)]
 pub struct RowEvent {
     /// The number of its queue.

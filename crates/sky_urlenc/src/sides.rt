@@ -11,7 +11,7 @@ use sky_val::{NoMemory, Text, TextFault};
 use std::alloc::Global;
 use std::borrow::CowSlice;
 
-/// The text that a side stands for, of a piece that starts at a place.
+/// The text of a side, decoded, of a piece that starts at a place.
 pub(crate) fn side_text(alloc: Global, side: &[u8], start: usize) -> Result<Text, DecodeFault>
     ensures text { IfOk result (λ text. text ≡ decode side.now) }
     ensures characters { OnOk result (is_utf8 (decode side.now) ≡ true) }
@@ -26,7 +26,7 @@ pub(crate) fn side_text(alloc: Global, side: &[u8], start: usize) -> Result<Text
     }
 }
 
-/// The bytes that a side stands for. Memory is taken only where they differ from it.
+/// The bytes of a side, decoded. It takes memory only if they differ from the side.
 fn decoded(alloc: Global, side: &[u8]) -> Result<CowSlice<'_, u8>, NoMemory>
     ensures { IfOk result (λ bytes. cow_slice_items bytes ≡ decode side.now) }
 {

@@ -1,4 +1,4 @@
-//! Triggers of tables: which writes each tells of, and by which events.
+//! Triggers of tables: which writes each records, and by which events.
 
 ghost use Rattle.std.specs.Prelude.{◌≡◌, None, IfOk, option_copied, option_map, bytes_eq, if◌then◌else◌};
 ghost use Rattle.std.specs.List.{list_any};
@@ -12,8 +12,8 @@ use sky_val::{Column, NoMemory, Op, Row, Schema, Text, Val};
 use std::alloc::Global;
 use std::marker::Model;
 
-/// A trigger of a table: each write there is told of by an event of its queue, but for updates that change only columns
-/// that it ignores.
+/// A trigger of a table: each write there is recorded by an event of its queue, but for updates that change only
+/// columns that it ignores.
 #[derive(Debug, Drop)]
 pub struct Trigger {
     queue: usize,
@@ -30,8 +30,8 @@ impl Model for Trigger {
 }
 
 impl Trigger {
-    /// A trigger whose events go to the queue of this number. With `backup` the event of an update has the row as it was,
-    /// too.
+    /// A trigger whose events go to the queue of this number. With `backup` the event of an update also has the old
+    /// row.
     pub fn new(queue: usize, backup: bool, ignored: Vec<Text>) -> Trigger
         ensures { result ≡ record { queue = queue; backup = backup; ignored = ignored.items } }
     {
@@ -49,7 +49,7 @@ impl Trigger {
         self.queue
     }
 
-    /// Whether it leaves a write out: `old` is the row that the key had, `new` the one that it has.
+    /// Whether it ignores a write: `old` is the row that the key had, `new` the one that it has.
     pub fn leaves_out(&self, schema: &Schema, old: Option<&Row>, new: Option<&Row>) -> bool
         ensures { result ≡ leaves_out self.now schema.now (option_copied old.entry) (option_copied new.entry) }
     {
@@ -61,7 +61,7 @@ impl Trigger {
         }
     }
 
-    /// Whether columns were changed, all of them such as it ignores.
+    /// Whether columns were changed, all of them ignored by this trigger.
     #[tactic(auto, using(crate::proofs::Ignored::passed))]
     fn ignores_change(&self, columns: &[Column], old: &[Val], new: &[Val]) -> bool
         ensures { result ≡ are_ignored self.now (changed_columns columns.now old.now new.now) }
@@ -115,7 +115,7 @@ impl Trigger {
         })
     }
 
-    /// The row as it was, where it was updated and the trigger tells of it.
+    /// The old row of an update, if the trigger records it.
     fn backup_of(
         &self,
         alloc: Global,

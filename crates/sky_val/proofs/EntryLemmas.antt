@@ -1,4 +1,4 @@
--- What stands at a key once something was put at a key, and that entries in order are told apart by what stands where.
+-- What is at a key after something was put at a key, and that entries in order differ if what is at their keys does.
 use Rattle.std.proofs.Common.{◌≡◌, Bool, true, false, cond, T, List, Some, refl, sym, subst}
 use Rattle.std.specs.Ordering.{eq_by_cmp}
 use Rattle.std.specs.FinMap.Entries as entry

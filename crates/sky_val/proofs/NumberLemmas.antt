@@ -1,4 +1,4 @@
--- Going over the digits of a number.
+-- The digits of a number, one by one.
 use Rattle.std.proofs.Common.{◌≡◌, ℕ, ◌+◌, ◌-◌, ◌*◌, ◌<◌, ◌≤◌, true, List, [], ◌∷◌, length, drop, get_or, arith}
 use Rattle.std.proofs.lemmas.List.{drop_more}
 use Rattle.std.specs.Char.{is_ascii_digit}
@@ -10,7 +10,7 @@ pub number_from-le : (n : ℕ) (bs : List ℕ) → n ≤ number_from n bs
 number_from-le n [] = omega arith
 number_from-le n (b ∷ bs) = omega (arith, number_from-le (n * 10 + (b - 48)) bs)
 
--- the digits before this place write n, and digits alone follow
+-- the digits before this place write n, and only digits follow
 pub record Counts (word : List ℕ) (n i : ℕ) : Type 0 where
   pub so_far : number_from 0 word ≡ number_from n (drop i word)
   pub digits : list_all is_ascii_digit (drop i word) ≡ true

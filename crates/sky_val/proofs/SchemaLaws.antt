@@ -1,4 +1,4 @@
--- Columns without a fault are a schema's, said in plain facts.
+-- Columns without a fault are a schema's, in plain facts.
 use Rattle.std.proofs.Common.{◌≡◌, ◌≢◌, ℕ, ◌+◌, arith, Bool, false, List, [], ◌∷◌, ◌++◌, get_or, None, sym, ◌∙◌}
 use Rattle.std.specs.Prelude.{bytes_eq}
 use Rattle.std.specs.List.{position_from, All, AllPairs}

@@ -1,4 +1,4 @@
--- Steps through the columns of a schema and the values of a row.
+-- The columns of a schema and the values of a row, one by one.
 use Rattle.std.specs.Prelude.{◌⊎◌}
 use Rattle.std.proofs.Common.{arith, inl, inr, ◌≡◌, ℕ, ◌+◌, ◌<◌, false, List, [], ◌∷◌, length, take, drop, get_or, None, refl}
 use Rattle.std.proofs.lemmas.List.{take_more, drop_more}
@@ -11,7 +11,7 @@ pub twice_named-pass : (columns : List Column) (place : ℕ) (column : Column) �
     → twice_named (take (place + 1) columns) (drop (place + 1) columns) ≡ twice_named (take place columns) (drop place columns)
 twice_named-pass columns place column within is fresh = grind (arith, is, fresh, take_more columns place column within, drop_more columns place column within)
 
--- where nothing is left of one of them
+-- no fault if no column or no value is left
 pub values_fault-end : (place : ℕ) (columns : List Column) (values : List Val) → (length columns ≡ 0) ⊎ (length values ≡ 0) → values_fault place columns values ≡ None
 values_fault-end place [] values ends = refl
 values_fault-end place (column ∷ columns) [] ends = refl

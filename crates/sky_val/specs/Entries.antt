@@ -1,18 +1,18 @@
--- What stands at each key, as a plain list in the order of the keys.
+-- What is at each key, as a plain list in the order of the keys.
 use Rattle.std.specs.Prelude.{Bool, List, Option}
 use Rattle.std.specs.FinMap as maps
 use Rattle.sky_val.specs.declared.val.Val.{Val}
 use Rattle.sky_val.specs.Order.{key_cmp}
 
--- keys, and what stands at each
+-- keys, and what is at each
 abbrev pub Entries : Type 0 → Type 0
 Entries X = List (List Val × X)
 
--- what stands at a key
+-- what is at a key
 abbrev pub at : {X : Type 0} → List Val → Entries X → Option X
 at key entries = maps.find key_cmp key entries
 
--- the entries with this at the key, and all else as it was
+-- the entries with this at the key, and all else unchanged
 abbrev pub put : {X : Type 0} → List Val → X → Entries X → Entries X
 put key item entries = maps.put key_cmp key item entries
 

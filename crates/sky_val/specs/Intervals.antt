@@ -22,12 +22,12 @@ units =
 abbrev pub unit_of : List ℕ → Option ℕ
 unit_of name = option_map (λ unit. unit.1) (find (λ unit. bytes_eq name unit.0) units)
 
--- what stands after the number, without a space in front
+-- the rest after the number, without one space before it
 abbrev pub after_space : List ℕ → List ℕ
 after_space [] = []
 after_space (b ∷ bs) = if b == 32 then bs else b ∷ bs
 
--- so many of a unit, in microseconds, if that isn't too long
+-- so many of a unit, in microseconds, if that is at most the longest interval
 abbrev pub interval_with : Option ℕ → Option ℕ → Option ℕ
 interval_with (Some count) (Some unit) = if nat_le (count * unit) longest_interval then Some (count * unit) else None
 interval_with _ _ = None

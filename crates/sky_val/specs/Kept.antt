@@ -8,17 +8,17 @@ use Rattle.sky_val.specs.declared.key.KeyValues.TheVariants.{One, Listed}
 use Rattle.sky_val.specs.declared.row.RowValues.{RowValues}
 use Rattle.sky_val.specs.declared.row.RowValues.TheVariants as row
 
--- the bytes of a text that is kept so
+-- the bytes of a text, in either form
 abbrev pub kept_bytes : Kept → List ℕ
 kept_bytes (InPlace short) = short
 kept_bytes (Apart long) = string_bytes long
 
--- the values of a key that is kept so
+-- the values of a key, in either form
 abbrev pub key_values : KeyValues → List Val
 key_values (One value) = value ∷ []
 key_values (Listed values) = values.items
 
--- the values of a row that is kept so
+-- the values of a row, in either form
 abbrev pub row_values : RowValues → List Val
 row_values (row.Pair pair) = pair
 row_values (row.Listed values) = values.items

@@ -7,7 +7,7 @@ use Rattle.std.specs.Cmp.Lexicographic.{slice_cmp}
 use Rattle.sky_val.specs.declared.val.Val.{Val}
 use Rattle.sky_val.specs.declared.val.Val.TheVariants.{Null, Int, Text}
 
--- Null stands first, then the numbers by their values, then the texts by their bytes
+-- Null comes first, then the numbers by value, then the texts by bytes
 abbrev pub val_cmp : Val → Val → Ordering
 val_cmp Null Null = Equal
 val_cmp Null (Int n) = Less
@@ -19,6 +19,6 @@ val_cmp (Text s) Null = Greater
 val_cmp (Text s) (Int n) = Greater
 val_cmp (Text s) (Text t) = slice_cmp nat_cmp s t
 
--- value by value, and a key stands before the longer ones that begin with it
+-- value by value, and a key comes before the longer ones that begin with it
 abbrev pub key_cmp : List Val → List Val → Ordering
 key_cmp = slice_cmp val_cmp

@@ -1,4 +1,4 @@
--- That the order of values, and of keys, is total, and ties exactly what `==` holds of: the laws of their impls.
+-- The order of values, and of keys, is total, and ties exactly those that `==` holds of: the laws of their impls.
 use Rattle.std.specs.Prelude.{◌≡◌, ℕ, ℤ, pos, List, [], refl}
 use Rattle.std.proofs.Common.{subst}
 use Rattle.std.specs.declared.cmp.Ordering.{Ordering}
@@ -11,7 +11,7 @@ use Rattle.sky_val.specs.declared.val.Val.TheVariants.{Null, Int, Text}
 use Rattle.sky_val.specs.contracts.val.ValPartialEq.TheImpl as equality
 use Rattle.sky_val.specs.Order.{val_cmp, key_cmp}
 
--- which kind of value stands first
+-- which kind of value comes first
 abbrev kind_place : Val → ℕ
 kind_place Null = 0
 kind_place (Int n) = 1
@@ -55,7 +55,7 @@ val_cmp-IsTotalOrder =
 pub key_cmp-IsTotalOrder : IsTotalOrder key_cmp
 key_cmp-IsTotalOrder = lists_total val_cmp-IsTotalOrder
 
--- values are equal where the order doesn't tell them apart
+-- values are equal if the order ties them
 pub val_eq-ties : (x y : Val) → equality.ghosts.eq x y ≡ eq_by_cmp val_cmp x y
 val_eq-ties Null Null = refl
 val_eq-ties Null (Int n) = refl

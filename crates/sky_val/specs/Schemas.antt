@@ -1,4 +1,4 @@
--- Which columns make a schema, which rows it takes, and what their keys are.
+-- Which columns make a schema, which rows a schema takes, and what their keys are.
 use Rattle.std.specs.Prelude.{◌≡◌, ◌≢◌, ◌≤◌, ℕ, ◌+◌, ◌==◌, Bool, true, false, not, ◌&&◌, if◌then◌else◌, List, [], ◌∷◌, ◌++◌, length, Option, None, Some, nat_lt, nat_eq, bytes_eq, codes, position, filter, option_map}
 use Rattle.std.specs.List.{list_any, starts_with, All, AllPairs, Any}
 use Rattle.std.specs.Option.{option_or}
@@ -14,17 +14,17 @@ use Rattle.sky_val.specs.declared.schema.RowFault.TheVariants.{Count, Kind, Null
 
 -- ---- the columns
 
--- whether a column is called so
+-- whether a column has this name
 abbrev pub has_name : List ℕ → List Column → Bool
 has_name name columns = list_any (λ column. bytes_eq column.name name) columns
 
--- the place of the first column that has the name of an earlier one, where some stand before
+-- the place of the first column that has the name of an earlier one, after these earlier ones
 abbrev pub twice_named : List Column → List Column → Option ℕ
 twice_named before [] = None
 twice_named before (column ∷ columns) =
     if has_name column.name before then Some (length before) else twice_named (before ++ column ∷ []) columns
 
--- whether a name begins as those of an event's fields do, which no column may have
+-- whether a name begins as those of an event's fields do, which no column's may
 abbrev pub is_reserved : List ℕ → Bool
 is_reserved name = starts_with nat_eq name (codes "_pgq_ev_")
 
@@ -36,7 +36,7 @@ reserved_column columns = position (λ column. is_reserved column.name) columns
 abbrev pub key_columns : List Column → List Column
 key_columns columns = filter (λ column. column.key) columns
 
--- whether there are such columns
+-- whether there is such a column
 abbrev pub has_key : List Column → Bool
 has_key columns = list_any (λ column. column.key) columns
 
@@ -52,7 +52,7 @@ schema_fault columns =
 abbrev pub AreNamed : List Column → Type 0
 AreNamed columns = All (λ column. column.name ≢ []) columns
 
--- what the columns of a schema are: few, with names that are not empty, apart from each other and not reserved, and one at least is a key
+-- the columns of a schema: few, with names that aren't empty, differ from each other and aren't reserved, and with one key column or more
 pub record IsSchema (columns : List Column) : Type 0 where
   pub named : AreNamed columns
   pub few : length columns ≤ 32
@@ -75,13 +75,13 @@ is_of_kind kind.Int (value.Text t) = false
 is_of_kind kind.Text (value.Int n) = false
 is_of_kind kind.Text (value.Text t) = true
 
--- why a column doesn't take a value, which stands at a place
+-- why a column doesn't take the value at a place
 abbrev pub value_fault : ℕ → Column → Val → Option RowFault
 value_fault place column value =
     if not (is_of_kind column.kind value) then Some (Kind place) else
     if column.key && is_null value then Some (NullKey place) else None
 
--- the first fault of values, the first of which stands at a place
+-- the first fault of values, the first of which is at a place
 abbrev pub values_fault : ℕ → List Column → List Val → Option RowFault
 values_fault place [] values = None
 values_fault place (column ∷ columns) [] = None

@@ -8,7 +8,7 @@ use std::alloc::Global;
 use std::fmt;
 use std::marker::Model;
 
-/// A text in one word, so that a value which may be a text is small where it is a number.
+/// A text in one word, so that a value that may be a text is small if it is a number.
 #[derive(Drop)]
 pub struct BoxedText {
     text: Box<Text>,
@@ -39,7 +39,7 @@ impl BoxedText {
     }
 
     /// An equal text.
-    // Never inlined, so that the copy of a value is short where it is a number.
+    // Never inlined, so that the copy of a value is short code if it is a number.
     #[inline(never)]
     pub fn copy(&self, alloc: Global) -> Result<BoxedText, NoMemory>
         ensures { IfOk result (λ copy. copy ≡ self.now) }

@@ -4,7 +4,7 @@ use crate::NoMemory;
 use crate::text::Text;
 use std::alloc::Global;
 
-/// What values a column takes. Every column but those of the key takes Null too.
+/// Which values a column takes. Every column but those of the key takes Null too.
 #[derive(Clone, Copy, Debug, PartialEq, Eq)]
 pub enum ColKind {
     Int,

@@ -4,8 +4,8 @@ use crate::text::{Text, copy_option};
 use std::alloc::{AllocError, Global};
 
 /// An event of a queue, with PgQ's fields. `ev_time` is in microseconds since 2012-01-01 00:00:00,
-/// `ev_txid` the transaction that put it, `ev_owner` the one subscription that it is for, and
-/// `ev_retry` how often it came back.
+/// `ev_txid` is the transaction that inserted it, `ev_owner` the one subscription that it is for,
+/// and `ev_retry` how often it was retried.
 #[derive(Debug, Drop)]
 pub struct Event {
     pub ev_id: u64,

@@ -49,7 +49,7 @@ fn after_space(text: &[u8]) -> &[u8]
     }
 }
 
-/// So many of a unit, in microseconds, if that isn't too long.
+/// So many of a unit, in microseconds, if that is at most the longest interval.
 fn interval_with(count: u64, unit: u64) -> Option<u64>
     ensures { result ≡ spec.interval_with (Some count) (Some unit) }
 {
@@ -59,7 +59,7 @@ fn interval_with(count: u64, unit: u64) -> Option<u64>
     }
 }
 
-/// Where the digits at the start end, if something follows them.
+/// The place at which the digits at the start end, if something follows them.
 fn digits_end(text: &[u8]) -> Option<usize>
     ensures { result ≡ position (λ b. not (is_ascii_digit b)) text.now }
 {

@@ -9,8 +9,7 @@ use std::cmp::Ordering;
 use std::marker::Model;
 use std::slice;
 
-/// Where the values of a key are: most keys have one, which is kept in place and takes no memory of
-/// its own.
+/// The values of a key: most keys have one, which is kept in place and takes no memory of its own.
 #[derive(Debug, Drop)]
 enum KeyValues {
     One(Val),
@@ -27,7 +26,7 @@ impl KeyValues {
         }
     }
 
-    /// Their order. It stands apart from `cmp` of keys, which is to be short.
+    /// Their order. It is apart from `cmp` of keys, which has to be short.
     #[inline(never)]
     fn order(&self, others: &KeyValues) -> Ordering
         ensures { result ≡ key_cmp (key_values self.now) (key_values others.now) }
@@ -81,7 +80,7 @@ impl Key {
         }
     }
 
-    /// The key of one value. No memory is taken.
+    /// The key of one value. It takes no memory.
     pub fn one(value: Val) -> Key
         ensures { result ≡ value ∷ [] }
     {
@@ -156,7 +155,7 @@ impl Ord for Key {
 
     ghost matches_eq = { key_eq-ties };
 
-    // Always inlined, and with a number first, so that a search of a map among keys of one number is a short loop.
+    // Always inlined, and with a number first, so that a map's search among keys of one number is a short loop.
     #[inline(always)]
     fn cmp(&self, other: &Key) -> Ordering {
         match (&self.values, &other.values) {

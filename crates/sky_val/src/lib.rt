@@ -1,10 +1,9 @@
-//! Values that every other crate speaks of: texts, numbers and intervals as they are written, rows and
-//! keys, the schema of a table, events and session numbers.
+//! Values that every other crate uses: texts, numbers and intervals as they are written, rows and keys, the schema of a
+//! table, events and session numbers.
 //!
-//! A `Text` is seen as the list of its bytes, which are UTF-8, a `Row` and a `Key` as the lists of
-//! their values, a `Schema` as the list of its columns, and an `Event` as its fields. Who waits for
-//! whom is defined here too, in `specs/`, of any holders and any waiting list; the code for it is
-//! sky_locks. Nothing here knows a queue, a transaction or a database, nor which rows a table has.
+//! A `Text` is seen as the list of its bytes, which are UTF-8, a `Row` and a `Key` as the lists of their values, a
+//! `Schema` as the list of its columns, and an `Event` as its fields. Nothing here knows a queue, a transaction or a
+//! database, nor which rows a table has.
 #![tactic(auto)]
 
 mod boxed_text;
@@ -33,7 +32,7 @@ use std::alloc::AllocError;
 pub use text::{Text, TextFault, copy_option};
 pub use val::Val;
 
-/// Want of memory, the one answer that no clause ties to a cause.
+/// Out of memory: the one answer that no clause ties to a cause.
 pub type NoMemory = AllocError;
 
 /// The number of a session: its place in the order in which sessions appeared.

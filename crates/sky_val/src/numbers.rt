@@ -1,4 +1,4 @@
-//! Numbers as they are written: digits, with a zero in front only where it is alone.
+//! Numbers as they are written: digits, the first of them a zero only if it is alone.
 
 ghost use Rattle.std.specs.Prelude.{◌≡◌, ◌+◌, ◌-◌, ◌*◌, ◌^◌, ◌≤◌, IsTrue, MatchOption};
 ghost use Rattle.std.specs.Char.{is_ascii_digit};
@@ -23,7 +23,7 @@ fn is_number(text: &[u8]) -> bool
     }
 }
 
-/// The number that a digit writes behind one, if it has 64 bits.
+/// The number that a digit writes after one, if it fits 64 bits.
 fn with_digit(number: u64, digit: u8) -> Option<u64>
     requires { IsTrue (is_ascii_digit digit) }
     ensures { let with = number * 10 + (digit - 48) in MatchOption result (2 ^ 64 ≤ with) (λ more. more ≡ with) }
@@ -32,7 +32,7 @@ fn with_digit(number: u64, digit: u8) -> Option<u64>
     tens.checked_add(u64::from(digit - b'0'))
 }
 
-/// The number that digits write, if it has 64 bits.
+/// The number that digits write, if it fits 64 bits.
 fn number_from(digits: &[u8]) -> Option<u64>
     requires { IsTrue (list_all is_ascii_digit digits.now) }
     ensures { let whole = spec.number_from 0 digits.now in
@@ -45,7 +45,7 @@ fn number_from(digits: &[u8]) -> Option<u64>
     Some(number)
 }
 
-/// The number that digits write, if they write one and it is at most that.
+/// The number that digits write, if they write one and it is at most `most`.
 pub fn number_of(text: &[u8], most: u64) -> Option<u64>
     ensures { result ≡ spec.number_of most text.now }
 {
@@ -58,7 +58,7 @@ pub fn number_of(text: &[u8], most: u64) -> Option<u64>
     }
 }
 
-/// The number that is so far below zero, if there is one.
+/// The number so far below zero, if there is one: not for 0, nor below the least number of 64 bits.
 fn below_zero(distance: u64) -> Option<i64>
     requires { distance ≤ 2 ^ 63 }
     ensures { result ≡ spec.below_zero distance }
@@ -69,7 +69,7 @@ fn below_zero(distance: u64) -> Option<i64>
     Some(-((distance - 1) as i64) - 1)
 }
 
-/// The number that a text writes, with `-` in front of one below zero.
+/// The number that a text writes, with `-` before one below zero.
 pub fn int_of(text: &[u8]) -> Option<i64>
     ensures { result ≡ spec.int_of text.now }
 {

@@ -6,8 +6,7 @@ use crate::val::{Val, copy_values};
 use std::alloc::Global;
 use std::marker::Model;
 
-/// Where the values of a row are: two, such as a key and what it stands for, are kept in place and take no memory of
-/// their own.
+/// The values of a row: two, such as a key and its value, are kept in place and take no memory of their own.
 #[derive(Debug, Drop)]
 enum RowValues {
     Pair([Val; 2]),
@@ -71,7 +70,7 @@ impl Row {
         self.values.as_slice()
     }
 
-    /// Puts a value at a place, for the one that stands there.
+    /// Puts a value at a place, in place of the one there.
     pub fn set(&mut self, place: usize, value: Val)
         requires { place < length self.old }
         ensures { self.new ≡ slice_set self.old place value }

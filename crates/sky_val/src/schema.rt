@@ -36,15 +36,15 @@ pub enum SchemaFault {
 pub enum RowFault {
     #[error("not as many values as columns")]
     Count,
-    /// The first value that its column doesn't take, as it is of another kind.
+    /// The first value of another kind than its column's.
     #[error("the value at {0} is of another kind than its column")]
     Kind(usize),
-    /// The first value that its column doesn't take, as it is Null and the column is a key.
+    /// The first value that is Null in a key column.
     #[error("the value at {0} is Null, and its column is a key")]
     NullKey(usize),
 }
 
-/// The columns of a table: at most 32, each with a name of its own that isn't empty, and one at least is a key.
+/// The columns of a table: at most 32, each with a name of its own that isn't empty, and one or more in the key.
 #[derive(Debug, Drop)]
 pub struct Schema {
     columns: Vec<Column>,
@@ -87,7 +87,7 @@ impl Schema {
         self.columns.as_slice()
     }
 
-    /// Whether the table may have the row.
+    /// Whether the table may have the row; if not, its first fault.
     pub fn check(&self, row: &Row) -> Result<(), RowFault>
         ensures ok { OnOk result (row_fault self.now row.now ≡ None) }
         ensures fault { IfErr result (λ fault. row_fault self.now row.now ≡ Some fault) }
@@ -183,7 +183,7 @@ fn twice_named(columns: &[Column]) -> Option<usize>
     None
 }
 
-/// Whether a column is called so.
+/// Whether a column has this name.
 fn has_name(columns: &[Column], name: &Text) -> bool
     ensures { result ≡ has_name name.now columns.now }
 {
@@ -199,7 +199,7 @@ fn reserved_column(columns: &[Column]) -> Option<usize>
         .position(|column| column.name.bytes().starts_with(RESERVED))
 }
 
-/// Whether a column is a key.
+/// Whether some column is part of the key.
 fn has_key(columns: &[Column]) -> bool
     ensures { result ≡ has_key columns.now }
 {

@@ -5,7 +5,7 @@ ghost use Rattle.std.specs.Prelude.{◌≡◌, ◌≤◌, ◌↔◌, length, IsS
 use std::marker::Model;
 use std::str;
 
-/// How many bytes a text may have that is kept in place.
+/// How many bytes a text that is kept in place may have.
 const MOST_IN_PLACE: usize = 22;
 
 /// A text of at most 22 bytes, in place.
@@ -13,7 +13,7 @@ const MOST_IN_PLACE: usize = 22;
 pub(crate) struct ShortText {
     bytes: [u8; MOST_IN_PLACE],
     len: u8,
-    // So that it is moved by words.
+    // This aligns it, so that it is moved by words.
     words: [u64; 0],
 }
 

@@ -22,7 +22,7 @@ pub enum TextFault {
     NoMemory,
 }
 
-/// Where the bytes of a text are: most texts are short, and then take no memory of their own.
+/// The bytes of a text: most texts are short, and take no memory of their own.
 #[derive(Drop)]
 enum Kept {
     InPlace(ShortText),
@@ -100,7 +100,7 @@ impl Text {
         }
     }
 
-    /// The text that a string holds. No memory is taken.
+    /// The text that a string holds. It takes no memory.
     pub fn from_string(string: String) -> Text
         ensures { result ≡ string_bytes string }
     {

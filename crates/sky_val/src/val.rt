@@ -9,9 +9,9 @@ use std::cmp::Ordering;
 /// A value in a column of a row.
 #[derive(Debug, PartialEq, Eq, Drop)]
 pub enum Val {
-    /// No value. It stands before every other.
+    /// No value. It comes before every other.
     Null,
-    /// A number. It stands before every text.
+    /// A number. It comes before every text.
     Int(i64),
     /// A text.
     Text(BoxedText),
@@ -40,7 +40,7 @@ impl Val {
     }
 
     /// An equal value.
-    // Always inlined, so that the values of a row are copied without a call where they are numbers.
+    // Always inlined, so that the values of a row are copied without a call if they are numbers.
     #[inline(always)]
     pub fn copy(&self, alloc: Global) -> Result<Val, NoMemory>
         ensures { IfOk result (λ val. val ≡ self.now) }

@@ -1,4 +1,4 @@
--- What the world shows as the clock goes on, and the daemons do their work at each moment at which one is due.
+-- What the world shows as the clock moves, and the daemons work at each moment at which one is due.
 use Rattle.std.proofs.Common.{◌≡◌, ℕ, zero, suc, ◌+◌, ◌-◌, ◌<◌, ◌≤◌, List, [], ◌∷◌, ◌++◌, Bool, true, false, Option, Some, None, map, length, refl, sym, ◌∙◌, ap, subst, arith, All, if◌then◌else◌, IfSome, option_map, ℤ, pos, ◌+ℤ◌, ◌-ℤ◌, ◌≤ℤ◌, ◌<ℤ◌, int_lt, unsigned_abs}
 use Rattle.std.proofs.lemmas.Int.{ints}
 use Rattle.std.proofs.lemmas.List.Elements.{All-from_recursion}
@@ -30,7 +30,7 @@ due-next now daemons d due other new is is_other both =
     let next : suc d ≡ d + 1 = omega arith in
     both ∙ (λ i. earlier (is i) (is_other i)) ∙ ap (next_due now daemons) next
 
--- what both are, the earlier one is
+-- what holds of both, holds of the earlier one
 pub earlier-is : (P : ℤ → Type 0) (due other new : Option ℤ) → new ≡ earlier due other → IfSome due P → IfSome other P → IfSome new P
 earlier-is P due other new both is_due is_other = subst (λ o. IfSome o P) (sym both) (of due other is_due is_other)
   where
@@ -116,7 +116,7 @@ working-last start cur moment d le working =
 
 -- ---- from moment to moment
 
--- what is left to be done up to a moment ends where all does, however many moments more than there are it may have
+-- what is left to be done up to a moment ends where all does, however many more moments than there are it may take
 pub record IsGoing (start cur : WorldView) (last : ℤ) : Type 0 where
   pub left : ℕ
   pub enough : unsigned_abs (last -ℤ cur.now) ≤ left
@@ -164,7 +164,7 @@ going-next start cur new last moment passed going due later same_moment le chang
         facts_of : Deed → List Fact
         facts_of deed = deed.facts
 
--- there is no moment more
+-- there is no further moment
 idle-none : (last : ℤ) (n : ℕ) (w : World) → None ≡ next_due w.now w.daemons (length w.databases) → through by_world last n w ≡ idles
 idle-none last zero w none = refl
 idle-none last (suc n) w none = ap (goes_to by_world last (through by_world last n) w) (sym none)
@@ -208,7 +208,7 @@ part-silent d part w = by (is_due_at w.now part (w.daemons d))
     by true = does-silent (within_database by_world d) w part w.now
     by false = refl
 
--- two that answer nothing
+-- two deeds that answer nothing
 followed-silent : (w : World) (rest : World → Deed) (deed : Deed) → [] ≡ deed.answers → ((v : World) → [] ≡ (rest v).answers) → [] ≡ (followed by_world w rest deed).answers
 followed-silent w rest deed one also = λ i. one i ++ also (after_facts w deed.facts) i
 
@@ -255,7 +255,7 @@ adds-refusal v who reply before after lt moments is = record {
 abbrev going_if : World → ℕ → ℤ → Bool → Deed
 going_if w who to late = if late then refuses who ClockSpent else followed by_world w (λ q. answers_with who (Moment to) (clock_at to ∷ [])) (through by_world to (unsigned_abs (to -ℤ w.now)) w)
 
--- it would pass its last moment
+-- the clock would pass its last moment
 pub clock-spent : (v : WorldView) (who : ℕ) (time to : ℤ) (waits : Bool) (before after : List (ℕ × Reply)) → who < length v.sessions.names → false ≡ waits → to ≡ v.now +ℤ time → last_moment <ℤ to
     → after ≡ before ++ (who, Refused ClockSpent) ∷ [] → AddsDeed v v before after (clock by_world (seen_world v) who time waits)
 clock-spent v who time to waits before after lt free at late is =
@@ -263,7 +263,7 @@ clock-spent v who time to waits before after lt free at late is =
     (subst (λ t. AddsDeed v v before after (clock_goes by_world (seen_world v) who t)) at
     (subst (λ b. AddsDeed v v before after (going_if (seen_world v) who to b)) (sym (is_late last_moment to late)) (adds-refusal v who (Refused ClockSpent) before after lt tt is)))
 
--- it goes on
+-- the clock moves
 pub clock-moved : (v worked new : WorldView) (who : ℕ) (time to : ℤ) (waits : Bool) (before after : List (ℕ × Reply)) → who < length v.sessions.names → false ≡ waits → to ≡ v.now +ℤ time → to ≤ℤ last_moment → HasMoment to
     → seen_world worked ≡ after_facts (seen_world v) (through by_world to (unsigned_abs (to -ℤ v.now)) (seen_world v)).facts → worked.sessions.names ≡ v.sessions.names → new ≡ record worked { now = to }
     → after ≡ before ++ (who, Moment to) ∷ [] → AddsDeed v new before after (clock by_world (seen_world v) who time waits)

@@ -1,4 +1,4 @@
--- What the world shows, after the code put a daemon on or off, or did a part of its work.
+-- What the world shows after the code switched a daemon on or off, or did a part of its work.
 use Rattle.std.proofs.Common.{◌≡◌, ℕ, ◌<◌, List, [], ◌∷◌, ◌++◌, Bool, true, false, ◌==◌, Option, Some, None, map, length, append-nil, get_or, refl, sym, ◌∙◌, ap, subst, arith, cond, nat_cmp, if◌then◌else◌, IfSome, is_ok, Err, Ok, slice_get, ℤ, pos, ◌≤ℤ◌}
 use Rattle.std.proofs.lemmas.Bool.Decides.{nat_tests}
 use Rattle.std.proofs.lemmas.Int.{ints}
@@ -40,7 +40,7 @@ use Rattle.sky_world.proofs.Worlds.{after_facts-within, after_facts-append, stor
 is_at-nat : (k n : ℕ) → is_at (nat_cmp k) n ≡ (k == n)
 is_at-nat k n = grind (arith, nat_tests)
 
--- each is on since a moment that isn't after a later one either
+-- a daemon that was started by a moment was started by a later one
 pub started-later : (now later : ℤ) (daemons : List (ℕ × ℤ)) → now ≤ℤ later → StartedBy now daemons → StartedBy later daemons
 started-later now later daemons le all d = by (lookup (is_at (nat_cmp d)) daemons) (all d)
   where
@@ -48,7 +48,7 @@ started-later now later daemons le all d = by (lookup (is_at (nat_cmp d)) daemon
     by None known = tt
     by (Some start) known = (known.0, omega (arith, ints, known.1, le))
 
--- with one that is on since a moment, or off
+-- with one that was started at a moment, or is off
 pub started-updated : (now : ℤ) (old new : List (ℕ × ℤ)) (d : ℕ) (o : Option ℤ) → ((q : ℕ) → lookup (is_at (nat_cmp q)) new ≡ cond (is_at (nat_cmp d) q) o (lookup (is_at (nat_cmp q)) old))
     → IfSome o (λ start. (pos 0 ≤ℤ start) × (start ≤ℤ now)) → StartedBy now old → StartedBy now new
 started-updated now old new d o updates here all q = subst (λ x. IfSome x (λ start. (pos 0 ≤ℤ start) × (start ≤ℤ now))) (sym (updates q)) (by (is_at (nat_cmp d) q))
@@ -68,7 +68,7 @@ daemons-updated old new d o updates = λ i n. pointwise n i
     pointwise : (n : ℕ) → lookup (is_at (nat_cmp n)) new ≡ (if d == n then o else lookup (is_at (nat_cmp n)) old)
     pointwise n = updates n ∙ ap (λ b. cond b o (lookup (is_at (nat_cmp n)) old)) (is_at-nat d n) ∙ by n (d == n)
 
--- one is on from now on
+-- one is on, from now on
 pub daemon-on-as : (v now : WorldView) (entries : List (ℕ × ℤ)) (d : ℕ) (t : ℤ) (start : Option ℤ) → v ≡ now
     → ((q : ℕ) → lookup (is_at (nat_cmp q)) entries ≡ cond (is_at (nat_cmp d) q) (Some t) (lookup (is_at (nat_cmp q)) v.daemons)) → t ≡ v.now
     → start ≡ (seen_world now).daemons d → None ≡ start
@@ -98,7 +98,7 @@ daemon-off-as v now entries d same updates =
 
 -- ---- `pgqd`
 
--- it is answered by `ok` where it may be made
+-- it is answered by `ok` if it is allowed
 done-if : (m : Making World) (who : ℕ) (w : World) (c : Checked (Unit {0})) → m.outcome w ≡ answers Done → is_done (Some (who, (runs_if m WhenOutside who w c).reply)) ≡ is_ok c
 done-if m who w (Err refusal) is = refl
 done-if m who w (Ok _) is = ap (λ o. is_done (Some (who, (settled who (m.session w) o).reply))) is
@@ -119,7 +119,7 @@ stays-by w d who PgqdOn switches = refl
 stays-by w d who PgqdOff switches = refl
 stays-by w d who _ other = absurd (cc)
 
--- and the daemon is on or off then
+-- and the daemon is then on or off
 pub adds-pgqd : (old s new : WorldView) (d who own : ℕ) (stmt : Stmt) (done : Bool) (before after : List (ℕ × Reply)) → is_pgqd stmt ≡ true → own ≡ length before → done ≡ is_done_at after own
     → AddsDeed old s before after (deed_in d [] (database_turn (within_database by_world d) (seen_world old) (seen_world old).now who stmt))
     → seen_world new ≡ after_facts (seen_world s) (of_daemon_if done d ((seen_world s).daemons d) stmt) → new.sessions.names ≡ s.sessions.names
@@ -198,7 +198,7 @@ works-part v now d part old new t same lt at is due works =
         ∙ ap (λ (w : WorldView). daemon_does database_by_itself ((seen_world w).database d) part w.now) same
         ∙ sym (daemon-within (seen_world now) d part now.now)
 
--- one after the other
+-- one after another
 pub works-then : (old s new : WorldView) (first : Deed) (rest : World → Deed) → Works old s first → Works s new (rest (seen_world s)) → Works old new (followed by_world (seen_world old) rest first)
 works-then old s new first rest one two = record {
   changed = two.changed

@@ -1,4 +1,4 @@
--- What the world shows, after what the code changed in it.
+-- What the world shows after what the code changed in it.
 use Rattle.std.proofs.Common.{◌≡◌, ℕ, suc, zero, ◌<◌, ◌≤◌, List, [], ◌∷◌, ◌++◌, Bool, true, false, ◌==◌, nat_le, Option, Some, None, map, length, append-nil, get_or, slice_set, get_or-set_same, get_or-set_other, ◌≢◌, refl, sym, ◌∙◌, ap, subst, arith, All, if◌then◌else◌, IfSome, ℤ, pos}
 use Rattle.std.proofs.lemmas.List.Elements.{All-append, All-set, All-get_or, All-from_recursion, All-weaker}
 use Rattle.std.proofs.lemmas.Bool.Decides.{nat_tests}
@@ -91,7 +91,7 @@ world-new sessions databases daemons nobody nothing none =
     (λ i. seen_world (record { now = pos 0; sessions = nobody i; databases = nothing i; daemons = none i; has_failed = false }))
     ∙ (λ i. record (world_of []) { homes = λ who. none-there who None i; database = λ d. (ap seen_database (none-there d no_database) ∙ no_database-is) i })
 
--- an entry that is read as those past the end changes nothing that is shown
+-- appending an entry that is read as those past the end changes nothing that is shown
 seen-push : {A B : Type 0} (f : A → B) (xs : List A) (x d : A) (n : ℕ) → f x ≡ f d → f (get_or (xs ++ x ∷ []) n d) ≡ f (get_or xs n d)
 seen-push f [] x d zero same = same
 seen-push f [] x d (suc n) same = refl
@@ -136,7 +136,7 @@ pub after_facts-append : (w : World) (xs ys : List Fact) → after_facts w (xs +
 after_facts-append w [] ys = refl
 after_facts-append w (x ∷ xs) ys = after_facts-append (after_fact w x) xs ys
 
--- answers of sessions that are there
+-- answers of sessions that exist
 abbrev IsKnown : ℕ → ℕ × Reply → Type 0
 IsKnown count answer = answer.0 < count
 
@@ -235,7 +235,7 @@ beside-leaving w who stmt d leaving other is =
     ∙ sym (append-nil (left_if who (is_leaving (is_waiting who (w.database d).part.waiting) stmt)))
     ∙ ap (λ facts. left_if who (is_leaving (is_waiting who (w.database d).part.waiting) stmt) ++ facts) (sym (of_daemon-none (may_make (w.database d) who stmt) d (w.daemons d) stmt other))
 
--- a statement with which its session leaves
+-- a statement by which its session leaves
 pub adds-left : (old s new : WorldView) (d who : ℕ) (stmt : Stmt) (leaving : Bool) (before after : List (ℕ × Reply)) → is_pgqd stmt ≡ false
     → leaving ≡ is_leaving (is_waiting who ((seen_world old).database d).part.waiting) stmt → leaving ≡ true
     → AddsDeed old s before after (deed_in d [] (database_turn (within_database by_world d) (seen_world old) (seen_world old).now who stmt))
@@ -257,7 +257,7 @@ adds-stayed old new d who stmt leaving before after other is stays adds =
     subst (λ facts. AddsDeed old new before after (deed_in d facts (database_turn (within_database by_world d) (seen_world old) (seen_world old).now who stmt)))
     (ap (left_if who) (sym stays) ∙ beside-leaving (seen_world old) who stmt d leaving other is) adds
 
--- `open` in a database that is made by it
+-- `open` of a database that it creates
 pub opens-new : (old s new : WorldView) (who number : ℕ) (stmt : Stmt) (name : List ℕ) (before after : List (ℕ × Reply)) → length old.databases.names < 16 → number ≡ length old.databases.names
     → seen_world s ≡ after_fact (seen_world old) (founded name) → s.sessions.names ≡ old.sessions.names
     → AddsDeed s new before after (opens_in by_world who stmt number (seen_world s)) → AddsDeed old new before after (opens by_world (seen_world old) who stmt name None)
@@ -281,7 +281,7 @@ opens-new old s new who number stmt name before after room numbered is same adds
     whole : opens by_world (seen_world old) who stmt name None ≡ followed by_world (seen_world old) (opens_in by_world who stmt (length old.databases.names)) (founds name)
     whole = ap (λ b. if b then refuses who (TooMany Databases) else followed by_world (seen_world old) (opens_in by_world who stmt (length old.databases.names)) (founds name)) left_over
 
--- a call of a session that is known
+-- a call of a known session
 pub answers-known : (old new : WorldView) (call : Call) (who : ℕ) (before after : List (ℕ × Reply)) → Some who ≡ place_of call.who old.sessions.names
     → AddsDeed old new before after (turn by_world who call.stmt (seen_world old)) → AddsCall (seen_world old) (seen_world new) call before after
 answers-known old new call who before after place adds = record {
@@ -295,7 +295,7 @@ answers-known old new call who before after place adds = record {
     whole : turn by_world who call.stmt (seen_world old) ≡ deed_at (seen_world old) call
     whole = ap (called by_world (seen_world old) call) place
 
--- what a session does that isn't known: it is refused, or appears and has its turn
+-- what a session does that isn't known: it is refused, or appears and makes its turn
 abbrev unknown : World → Call → Bool → Deed
 unknown w call full = if full then refuses (length w.sessions) (TooMany Sessions) else followed by_world w (turn by_world (length w.sessions) call.stmt) (appears call.who)
 
@@ -327,7 +327,7 @@ added-alone old new call before after none adds =
     let same : adds.replies ≡ after = sym (adds.answered ∙ ap (λ xs. xs ++ adds.replies) none) in
     (subst (Steps old new call) same adds.steps, subst (All (IsWithin (length new.sessions))) same adds.numbered, subst HaveMoments same adds.moments)
 
--- ---- those that wait
+-- ---- the sessions that wait
 
 abbrev HasWaitersWithin : ℕ → DbView → Type 0
 HasWaitersWithin count d = WaitersWithin count (seen_database d).part.waiting
@@ -349,7 +349,7 @@ waiters-founded count old longer new is empty all =
     (All-append (HasWaitersWithin count) old (new ∷ []) all
     (All-from_recursion (HasWaitersWithin count) (new ∷ []) (subst (λ (d : Database). WaitersWithin count d.part.waiting) (sym empty) (λ k w at. absurd (omega arith)), tt)))
 
--- a statement of a database is answered to sessions that are there, and leaves none waiting that isn't
+-- a statement of a database is answered to sessions that exist, and leaves none waiting that doesn't
 pub known-within : (v now : WorldView) (d who : ℕ) (old new : DbView) (replies : List (ℕ × Reply)) → v ≡ now → d < length v.databases.values
     → old ≡ get_or v.databases.values d old → who < length now.sessions.names → AllWaitersWithin (length v.sessions.names) v.databases.values → StaysWithin (seen_database old) (seen_database new) who replies
     → All (λ (answer : ℕ × Reply). answer.0 < length now.sessions.names) replies × AllWaitersWithin (length v.sessions.names) (slice_set v.databases.values d new)

@@ -9,8 +9,8 @@ use Rattle.sky_model.specs.Steps.{Steps}
 use Rattle.sky_world.specs.Views.{WorldView}
 use Rattle.sky_world.specs.Seen.{seen_world}
 
--- the deed's answers stand behind those that were given before, each of a session that there is, with times that are
--- printed; and the world is then as after the deed's facts, with the same sessions
+-- the deed's answers come after those that were given before, each of a session that exists, with times that are printed; and the world is then as
+-- after the deed's facts, with the same sessions
 pub record AddsDeed (old new : WorldView) (before after : List (ℕ × Reply)) (deed : Deed) : Type 0 where
   pub answered : after ≡ before ++ deed.answers
   pub known : All (λ answer. answer.0 < length old.sessions.names) deed.answers
@@ -18,8 +18,8 @@ pub record AddsDeed (old new : WorldView) (before after : List (ℕ × Reply)) (
   pub changed : seen_world new ≡ after_facts (seen_world old) deed.facts
   pub sessions : new.sessions.names ≡ old.sessions.names
 
--- a call's replies stand behind those that were given before, each of a session that there is, or of one too many, with
--- times that are printed
+-- a call's replies come after those that were given before, each of a session that exists or of one that exceeds the limit, with times that are
+-- printed
 pub record AddsCall (old new : World) (call : Call) (before after : List (ℕ × Reply)) : Type 0 where
   pub replies : List (ℕ × Reply)
   pub answered : after ≡ before ++ replies

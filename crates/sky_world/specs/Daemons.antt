@@ -4,6 +4,6 @@ use Rattle.std.specs.Ordering.{nat_cmp}
 use Rattle.std.specs.BTreeMap.{is_at}
 use Rattle.std.specs.Map.{lookup}
 
--- each is on since a moment that isn't after this one
+-- each was started at a moment that isn't after this one
 abbrev pub StartedBy : ℤ → List (ℕ × ℤ) → Type 0
 StartedBy now daemons = (d : ℕ) → IfSome (lookup (is_at (nat_cmp d)) daemons) (λ start. (pos 0 ≤ℤ start) × (start ≤ℤ now))

@@ -1,4 +1,4 @@
--- The readings of the definitions, in what the code keeps of the world.
+-- What the code keeps of the world, read as the definitions' world.
 use Rattle.std.specs.Prelude.{None, slice_index_or}
 use Rattle.std.specs.Ordering.{nat_cmp}
 use Rattle.std.specs.BTreeMap.{is_at}

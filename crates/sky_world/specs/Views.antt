@@ -8,7 +8,7 @@ pub record WorldView : Type 0 where
   -- the database that each session has open
   pub sessions : NamedView (Option ℕ)
   pub databases : NamedView DbView
-  -- the databases whose daemon is on, each with the moment from which on it is
+  -- the databases whose daemon is on, each with the moment at which it was started
   pub daemons : List (ℕ × ℤ)
-  -- whether memory was wanting once
+  -- whether memory ran out once
   pub has_failed : Bool

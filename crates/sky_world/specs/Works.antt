@@ -9,7 +9,7 @@ use Rattle.sky_model.specs.Reader.{Deed}
 use Rattle.sky_world.specs.Views.{WorldView}
 use Rattle.sky_world.specs.Seen.{seen_world}
 
--- whether a statement puts the daemon on or off
+-- whether a statement switches the daemon on or off
 abbrev pub is_pgqd : Stmt → Bool
 is_pgqd PgqdOn = true
 is_pgqd PgqdOff = true
@@ -20,7 +20,7 @@ abbrev pub is_done : Option (ℕ × Reply) → Bool
 is_done (Some (who, Done)) = true
 is_done _ = false
 
--- whether the one at a place is
+-- whether the answer at a place is `ok`
 abbrev pub is_done_at : List (ℕ × Reply) → ℕ → Bool
 is_done_at replies place = is_done (slice_get replies place)
 

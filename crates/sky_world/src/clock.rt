@@ -1,4 +1,4 @@
-//! The clock, and the daemons that are due as it goes on.
+//! The clock, and the daemons that are due as it moves.
 
 ghost use Rattle.std.specs.Prelude.{◌≡◌, ◌<◌, ◌-ℤ◌, ◌≤ℤ◌, ◌<ℤ◌, true, Some, OnOk, IfSome, length, option_map, unsigned_abs};
 ghost use Rattle.sky_model.specs.Moment.{HasMoment, IsTime};
@@ -19,12 +19,12 @@ use sky_val::{NoMemory, SessionId};
 /// The last moment of the clock, in the year 2043.
 const LAST_MOMENT: i64 = 1_000_000_000_000_000;
 
-/// The microseconds from one turn of a daemon to the next.
+/// A second, in microseconds: a daemon is due once in each.
 const SECOND: u64 = 1_000_000;
 
 impl World {
-    /// Runs `clock`: it is refused where its session waits, or the clock would pass its last moment. Else the daemons do
-    /// their work at each moment at which one is due.
+    /// Runs `clock`. It is refused if its session waits, or if the clock would pass its last moment. Otherwise the
+    /// daemons work at each moment, up to the new one, at which one is due.
     pub(crate) fn move_clock(
         &mut self,
         who: SessionId,
@@ -52,7 +52,7 @@ impl World {
         Ok(())
     }
 
-    /// The clock stands at a moment, which isn't earlier.
+    /// Sets the clock to a moment, which isn't earlier.
     fn stand_at(&mut self, moment: i64)
         requires time { IsTime moment }
         requires later { self.old.now ≤ℤ moment }
@@ -61,7 +61,7 @@ impl World {
         self.clock = moment;
     }
 
-    /// The daemons do their work at each moment up to this one at which one is due, in their order.
+    /// The daemons work at each moment, up to this one, at which one is due, moment after moment.
     fn work_until(&mut self, last: i64) -> Result<(), NoMemory>
         requires last { IsTime last }
         requires later { self.old.now ≤ℤ last }
@@ -92,7 +92,7 @@ impl World {
         due
     }
 
-    /// The same of the daemon of a database alone.
+    /// The same for the daemon of a database alone.
     fn first_due(&self, database: usize) -> Option<i64>
         ensures first { result ≡ option_map (first_after self.now.now) ((seen_world self.now).daemons database) }
         ensures later { IfSome result (λ moment. self.now.now <ℤ moment) }
@@ -102,7 +102,7 @@ impl World {
         Some(first_after(self.clock, *start))
     }
 
-    /// The clock stands at a moment, and the daemons that are due do their work.
+    /// Sets the clock to a moment, and the daemons that are due work, in the order of their databases.
     fn work_at(&mut self, moment: i64) -> Result<(), NoMemory>
         requires time { IsTime moment }
         requires later { self.old.now ≤ℤ moment }
@@ -118,7 +118,7 @@ impl World {
         Ok(())
     }
 
-    /// The daemon of a database does those parts of its work that are due.
+    /// The daemon of a database does those parts of its work that are due, in their order.
     fn work_in(&mut self, database: usize) -> Result<(), NoMemory>
         requires { database < length self.old.databases.names }
         ensures works { OnOk result (Works self.old self.new (daemon_works by_world database (seen_world self.old))) }
@@ -181,7 +181,7 @@ fn period(part: DaemonPart) -> u64
     }
 }
 
-/// Whether a part is due at a moment, of a daemon that is on since another.
+/// Whether a part is due at a moment, for a daemon that was started at another.
 fn is_due(now: i64, part: DaemonPart, start: i64) -> bool
     requires now { IsTime now }
     requires start { IsTime start }
@@ -190,7 +190,7 @@ fn is_due(now: i64, part: DaemonPart, start: i64) -> bool
     start < now && (now - start).unsigned_abs() % period(part) == 0
 }
 
-/// The first moment after one at which a daemon is due that is on since an earlier one.
+/// The first moment after `now` at which a daemon is due that was started at `start`.
 fn first_after(now: i64, start: i64) -> i64
     requires now { IsTime now }
     requires start { IsTime start }

@@ -30,7 +30,7 @@ use thiserror::Error;
 pub enum WorldFault {
     #[error("out of memory")]
     NoMemory,
-    /// Memory was wanting at an earlier call.
+    /// Memory ran out at an earlier call.
     #[error("memory was wanting before")]
     Failed,
 }
@@ -43,9 +43,9 @@ pub struct World {
     // The database that each session has open.
     sessions: Named<Option<usize>>,
     pub(crate) databases: Named<Db>,
-    // The databases whose daemon is on, each with the moment from which on it is.
+    // The databases whose daemon is on, each with the moment at which it was started.
     pub(crate) daemons: BTreeMap<usize, i64>,
-    // Whether memory was wanting once. Who waits in a database isn't known then, so no statement is run from then on.
+    // Whether memory ran out once. Then it isn't known who waits in a database, so no further statement is run.
     pub(crate) has_failed: bool,
 }
 
@@ -88,15 +88,15 @@ impl World {
         self.sessions.names()
     }
 
-    /// The moment at which the clock stands, in microseconds since its start.
+    /// The present moment of the clock, in microseconds since its start.
     pub fn now(&self) -> i64
         ensures { result ≡ (seen_world self.now).now }
     {
         self.clock
     }
 
-    /// Runs a statement of the session of this name, and answers it and those that it lets go on. After want of
-    /// memory nothing is said of the world but that it has failed, and each later call answers `Failed`.
+    /// Runs a statement of the session of this name, and answers it and those that it unblocks. Once memory has run out
+    /// nothing is said of the world but that it has failed, and each later call answers `Failed`.
     pub fn step(&mut self, name: &Text, stmt: &Stmt) -> Result<Replies, WorldFault>
         requires name { is_name name.now ≡ true }
         requires form { IsInForm stmt.now }
@@ -298,8 +298,8 @@ impl World {
         Ok(())
     }
 
-    /// Runs `pgqd on` or `pgqd off`, which is answered in the database. Unless it is refused there, the daemon is on or off
-    /// then.
+    /// Runs `pgqd on` or `pgqd off`, which is answered in the database. Unless it is refused there, the daemon is then
+    /// on or off.
     fn run_pgqd(
         &mut self,
         database: usize,
@@ -321,7 +321,7 @@ impl World {
         Ok(())
     }
 
-    /// The daemon of a database is on from now on, unless it is, or is off.
+    /// Switches the daemon of a database on, unless it is on, or off.
     fn set_daemon(&mut self, database: usize, stmt: &Stmt) -> Result<(), NoMemory>
         ensures facts { OnOk result (seen_world self.new ≡ after_facts (seen_world self.old) (of_daemon_if true database ((seen_world self.old).daemons database) stmt.now)) }
         ensures sessions { OnOk result (self.new.sessions.names ≡ self.old.sessions.names) }
@@ -389,7 +389,7 @@ impl World {
         }
     }
 
-    /// A session has no database open from now on.
+    /// The session no longer has a database open.
     fn leave(&mut self, who: SessionId)
         requires { who < length self.old.sessions.names }
         ensures fact { seen_world self.new ≡ after_fact (seen_world self.old) (left who) }
@@ -421,7 +421,7 @@ impl World {
         }
     }
 
-    /// Runs `open` of a session that has no database open, in the one of this name, which is made where it is new.
+    /// Runs `open` of a session that has no database open, in the database of this name, which is created if it is new.
     fn open_database(
         &mut self,
         who: SessionId,
@@ -441,7 +441,7 @@ impl World {
         }
     }
 
-    /// The same where the database is new.
+    /// The same if the database is new.
     fn open_new(
         &mut self,
         who: SessionId,
@@ -534,7 +534,7 @@ fn opening(stmt: &Stmt) -> Option<&Text>
     }
 }
 
-/// What is answered to a statement that opens no database, of a session that has none open.
+/// The answer to a statement that opens no database, of a session that has none open.
 fn unopened(stmt: &Stmt) -> Reply
     ensures reply { result ≡ unopened stmt.now }
     ensures moments { ReplyHasMoments result }

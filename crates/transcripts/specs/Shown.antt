@@ -9,15 +9,15 @@ pub record IsBeginning (printed text : List ℕ) : Type 0 where
   pub rest : List ℕ
   pub whole : printed ++ rest ≡ text
 
--- the script has a bad line, and the number and the cause of the first were told
+-- the script has a bad line, and the number and the cause of the first were reported
 pub record TellsBadLine (script err : List ℕ) : Type 0 where
   pub line : ℕ
   pub cause : Cause
   pub is_bad : bad_line script ≡ Some (line, cause)
   pub told : err ≡ bad_text (line, cause)
 
--- where nothing failed, out got the script's transcript, and err what is said of its first bad line, if there is one;
--- at every status that there is, out got a beginning of the transcript, and err one of what is to be said
+-- if nothing failed, out got the script's transcript, and err what is said of its first bad line, if there is one; at every status that there is, out
+-- got a beginning of the transcript, and err one of what is to be said
 pub record Shown (script : List ℕ) (status : ℕ) (out err : List ℕ) : Type 0 where
   pub known : Known true status
   pub whole : status ≡ 0 → (bad_line script ≡ None) × (out ≡ transcript script) × (err ≡ [])

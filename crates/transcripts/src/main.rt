@@ -1,5 +1,5 @@
-//! Runs each script that its words name, and prints what came: the script's name, what it printed, what
-//! was complained of, and the status.
+//! Runs each script that its arguments name, and prints the results: the script's name, its output, its error output,
+//! and the status.
 #![tactic(auto)]
 
 mod ran;

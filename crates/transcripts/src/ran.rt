@@ -8,7 +8,7 @@ use std::alloc::{AllocError, Global};
 /// The most bytes that a read gives.
 const MOST: usize = 65_536;
 
-/// What came of a script.
+/// The result of running a script.
 #[derive(Drop)]
 pub struct Ran {
     pub status: u8,
@@ -16,7 +16,7 @@ pub struct Ran {
     pub err: MemSink,
 }
 
-/// Runs a script that stands in memory, as `pgqrun run` runs one on standard input.
+/// Runs a script that is in memory, as `pgqrun run` runs one on standard input.
 pub fn run_script(alloc: Global, script: Vec<u8>) -> Result<Ran, AllocError>
     ensures { IfOk result (λ ran. Shown script.items ran.status ran.out.held ran.err.held) }
 {

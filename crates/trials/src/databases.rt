@@ -26,7 +26,7 @@ impl Database {
         }
     }
 
-    // What the database tells of the session.
+    // What the database answers of the session.
     fn answer_of_session(
         &self,
         alloc: Global,

@@ -1,4 +1,4 @@
-//! Runs the tables that its words name, and prints each row with what comes of it.
+//! Runs the tables that its words name, and prints each row with its answer.
 //!
 //! A table in `data/` holds cases of one subject, a row each: a command, and what it is asked of. The rows
 //! of a table are run in order, on one state, by the module of the table's name. What each row must answer
@@ -27,7 +27,7 @@ use std::{env, fs, mem};
 fn main(rt: HostRuntime) -> anyhow::Result<()> {
     let mut trials = Trials::new(rt.alloc());
     let ran = run_tables(&rt, &mut trials);
-    // The program ends after this, and then all memory goes at once.
+    // The program ends after this, and then all memory is freed at once.
     mem::forget(trials);
     ran
 }

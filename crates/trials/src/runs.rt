@@ -8,11 +8,11 @@ use std::alloc::{AllocError, Global};
 #[derive(Drop)]
 pub struct Runs {
     script: Vec<u8>,
-    // What each `@` of the script stands for.
+    // What each `@` of the script is replaced by.
     repeated: String,
 }
 
-// What came of a run.
+// The result of a run.
 #[derive(Drop)]
 struct Ran {
     status: u8,
@@ -37,7 +37,7 @@ impl Runs {
         }
     }
 
-    // The script of the rows below, in which an `@` stands for so many letters or lines.
+    // The script of the rows below, in which an `@` is replaced by so many letters or lines.
     fn take_script(&mut self, alloc: Global, one: &str, words: &str) -> anyhow::Result<String> {
         let (count, script) = first_number(words)?;
         self.repeated = one.repeat(alloc, count.max(1) as usize)?;
@@ -47,7 +47,7 @@ impl Runs {
         ok(alloc)
     }
 
-    // The status, the output and the complaint of a run with these words. The last words say how it is made.
+    // The status, the output and the complaint of a run with these words. The last words say how it is set up.
     fn run(&self, alloc: Global, words: &str) -> anyhow::Result<String> {
         let ran = self.ran(alloc, words)?;
         let out = str::from_utf8(ran.out.bytes())?.replace(alloc, self.repeated.as_str(), "@")?;

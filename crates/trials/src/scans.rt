@@ -7,7 +7,7 @@ use sky_txid::Snapshot;
 use sky_val::{Key, Row, Schema};
 use std::alloc::Global;
 
-/// A table that transactions write, and of whose rows a few are read at a time.
+/// A table that transactions write, and whose rows are read a few at a time.
 #[derive(Drop)]
 pub struct Scans {
     table: Option<Table>,
@@ -32,7 +32,7 @@ impl Scans {
         ok(alloc)
     }
 
-    // The transaction of the first word's id writes what the statement does.
+    // The transaction of the first word's id makes the statement's write.
     fn write(&mut self, alloc: Global, words: &str) -> anyhow::Result<String> {
         let (txid, statement) = first_number(words)?;
         let line = line(alloc, statement)?;
@@ -42,8 +42,8 @@ impl Scans {
         ok(alloc)
     }
 
-    // At most so many rows, as the transaction of the second word's id reads them, or another one where that is 0; those
-    // behind the key that the statement gets, or all. Transaction 4 runs, and those before it have ended.
+    // At most so many rows, as the transaction of the second word's id reads them, or as another one does if that is 0:
+    // those after the key that the statement gets, or all. Transaction 4 is running, and those before it have ended.
     fn scan(&self, alloc: Global, words: &str) -> anyhow::Result<String> {
         let (most, words) = first_number(words)?;
         let (txid, statement) = first_number(words)?;

@@ -7,7 +7,7 @@ use sky_val::{NoMemory, Op, Row, SessionId};
 use std::alloc::Global;
 use std::mem;
 
-/// Sessions of one database, and the gate in front of their writes.
+/// Sessions of one database, and the gate for their writes.
 #[derive(Drop)]
 pub struct Sessions {
     db: RowDb,
@@ -32,7 +32,7 @@ impl Sessions {
         }
     }
 
-    // What a call answers that is made for a statement of another kind.
+    // The answer to a call that is made for a statement of another kind.
     fn answer_from_outside(
         &mut self,
         alloc: Global,

@@ -2,7 +2,7 @@ use crate::words::{first_word, no_command};
 use pgq_tick::{ConfigFault, QueueConfig};
 use std::alloc::Global;
 
-/// How a queue is set.
+/// The settings of a queue.
 #[derive(Drop)]
 pub struct Settings {
     config: QueueConfig,
@@ -23,7 +23,7 @@ impl Settings {
         }
     }
 
-    // What comes of setting the parameter of the first word, and how the queue is set then.
+    // The result of setting the parameter of the first word, and the settings then.
     fn set(&mut self, alloc: Global, words: &str) -> anyhow::Result<String> {
         let (param, value) = first_word(words);
         let came = self.config.set(param.as_bytes(), value.as_bytes());

@@ -29,7 +29,7 @@ pub fn statement(line: &Line) -> anyhow::Result<&Stmt>
     }
 }
 
-/// The same, where it is one on rows.
+/// The same, if it is one on rows.
 pub fn row_statement(line: &Line) -> anyhow::Result<&RowStmt>
     requires { IsLineInForm line.now }
     ensures { IfOk result (λ stmt. IsRowInForm stmt.now) }

@@ -51,8 +51,8 @@ fn write_list(alloc: Global, words: &str) -> anyhow::Result<String> {
     told(alloc, &answers, &bytes)
 }
 
-// A sink over a writer that takes as many bytes a write as the first word has, and whose second flush fails. How often
-// it was flushed is told too.
+// A sink over a writer that takes as many bytes a write as the first word has, and whose second flush fails. It also
+// answers how often it was flushed.
 fn write_narrowly(alloc: Global, words: &str) -> anyhow::Result<String> {
     let room = first_word(words).0.len();
     let mut narrow = Narrow { room, flushes: 0 };
@@ -91,7 +91,7 @@ fn writes<S: Sink>(alloc: Global, sink: &mut S, words: &str) -> Result<Answers, 
     Ok(answers)
 }
 
-// Its first read is cut off by a signal, its second gives a byte, and then it fails.
+// Its first read is interrupted by a signal, its second gives a byte, and then it fails.
 #[derive(Drop)]
 struct Frail {
     reads: u8,

@@ -56,7 +56,7 @@ impl Kept {
         ok(alloc)
     }
 
-    // What the ticks tell of a number.
+    // What the ticks answer for a number.
     fn tell(&self, alloc: Global, command: &str, number: u64) -> anyhow::Result<String> {
         let ticks = self.ticks.as_ref().context("no ticks")?;
         match command {

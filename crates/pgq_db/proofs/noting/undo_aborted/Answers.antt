@@ -8,7 +8,7 @@ use Rattle.pgq_db.proofs.Databases.{undone-at}
 use Rattle.pgq_db.proofs.noting.undo_aborted.Goals as goal
 
 rest-then : {before old new : QueuesView} → KeepsRest old new → KeepsRest before old → KeepsRest before new
-rest-then last first = record { time = last.time ∙ first.time; triggers = last.triggers ∙ first.triggers; traced = last.traced ∙ first.traced }
+rest-then last first = record { time = last.time ∙ first.time; triggers = last.triggers ∙ first.triggers; traced = last.traced ∙ first.traced; rounds = last.rounds ∙ first.rounds }
 
 pub loop-effect-preserved : goal.loop-effect-preserved
 loop-effect-preserved c = record {

@@ -9,7 +9,7 @@ use Rattle.sky_model.specs.Outcome.{found_or}
 use Rattle.sky_fits.proofs.SetLemmas.{with_set-nowhere, with_set-place, changed_in}
 use Rattle.sky_fits.proofs.values.change_row.Goals as goal
 
--- what was read at a place stands there
+-- what was read at a place is there
 there : (items row : List Val) (place : ℕ) (v : Val) → items ≡ row → true ≡ nat_lt place (length items) → v ≡ get_or items place v → slice_get row place ≡ Some v
 there items row place v same within is =
     ap (λ r. slice_get r place) (sym same) ∙ slice_get-get_or items place v (ltb-true place (length items) (sym within)) ∙ ap Some (sym is)

@@ -1,4 +1,4 @@
--- A value that its column takes is passed, and where no column or no value is left, the row fits.
+-- A value that its column takes is passed, and if no column or no value is left, the row fits.
 use Rattle.std.proofs.Common.{◌∙◌, sym, ap, ◌∷◌, inl, inr}
 use Rattle.sky_fits.proofs.ValueLemmas.{takes, takes-pass, takes-end}
 use Rattle.sky_fits.proofs.values.row_fits.Goals as goal

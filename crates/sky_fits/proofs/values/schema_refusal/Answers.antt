@@ -1,4 +1,4 @@
--- The column of a fault stands among the columns.
+-- The column of a fault is one of the columns.
 use Rattle.std.proofs.Common.{◌∙◌, ap}
 use Rattle.std.specs.Prelude.{Some}
 use Rattle.sky_fits.proofs.FaultLemmas.{twice_named-place}

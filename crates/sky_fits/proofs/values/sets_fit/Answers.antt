@@ -1,4 +1,4 @@
--- The first change that is bad is the one at which the loop stops.
+-- The loop stops at the first bad change.
 use Rattle.std.proofs.Common.{◌≡◌, ◌∙◌, sym, ap, subst, List, [], take, Some}
 use Rattle.std.specs.Prelude.{option_map}
 use Rattle.sky_val.specs.declared.column.Column.{Column}

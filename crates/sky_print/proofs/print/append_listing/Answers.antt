@@ -1,4 +1,4 @@
--- The rows' lines are printed, and behind them how many they are.
+-- The rows' lines are printed, and after them how many they are.
 use Rattle.std.proofs.Common.{arith}
 use Rattle.std.proofs.lemmas.Grind.{common_steps}
 use Rattle.sky_model.specs.Printed.{row_text}

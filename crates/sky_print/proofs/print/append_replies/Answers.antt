@@ -1,4 +1,4 @@
--- One more answer is printed behind those before it.
+-- One more answer is printed after those before it.
 use Rattle.std.proofs.Common.{arith}
 use Rattle.sky_print.proofs.Printing.{printed-more}
 use Rattle.sky_print.proofs.print.append_replies.Goals as goal

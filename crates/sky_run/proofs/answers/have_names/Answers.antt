@@ -13,7 +13,7 @@ use Rattle.sky_run.proofs.answers.have_names.Goals as goal
 abbrev IsNamed : List (List ℕ) → ℕ × Reply → Type 0
 IsNamed names answer = (answer.0 < length names) × All (λ who. who < length names) (sessions_in answer.1)
 
--- a test of each element, where it ends at one that fails, tells of all
+-- a test of each element that stops at the first that fails decides of all
 tells-all : {X : Type 0} (P : X → Type 0) (r : Bool) (xs : List X)
     → MatchBool r (AllWithin P xs 0 (length xs)) ((k : ℕ) × (k < length xs) × HoldsAt (λ x. P x → ⊥) xs k) → IsTrue r ↔ All P xs
 tells-all P true xs by_call = (λ _. All-from_all_within P xs by_call, λ _. refl)

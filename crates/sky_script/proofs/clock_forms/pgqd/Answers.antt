@@ -1,4 +1,4 @@
--- Either of the two words may come next: by whether it is `off`, the line ends, or goes on with `on`.
+-- Either of the two words may come next: by whether it is `off`, the line ends, or continues with `on`.
 use Rattle.std.proofs.Common.{rules, Bool, true, false, refl}
 use Rattle.sky_model.specs.declared.line.Fixed.TheVariants as fixed
 use Rattle.sky_model.specs.declared.stmt.Stmt.TheVariants.{PgqdOn, PgqdOff}

@@ -1,4 +1,4 @@
--- The rows are those that the session is shown.
+-- The rows are those that the session sees.
 use Rattle.std.proofs.Common.{◌≡◌, ℕ, [], ◌∷◌, ◌++◌, Ok, refl, sym, ◌∙◌, ap, map, subst}
 use Rattle.sky_model.specs.declared.reply.Reply.{Reply}
 use Rattle.sky_model.specs.declared.reply.Reply.TheVariants.{Rows}

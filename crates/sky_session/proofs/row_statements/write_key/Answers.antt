@@ -1,4 +1,4 @@
--- The row that was there is no part of what is kept.
+-- The old row isn't part of what is kept.
 use Rattle.std.proofs.Common.{[], ◌∷◌, sym, ◌∙◌, ap}
 use Rattle.sky_model.specs.History.{of_session, tabled, wrote}
 use Rattle.sky_model.specs.OwnTransaction.{commit_of}

@@ -1,4 +1,4 @@
--- Each turn runs the one that is ready, after which fewer wait.
+-- Each turn runs the first statement that is ready, after which fewer wait.
 use Rattle.std.proofs.Common.{option_map, sym, ap, ◌∙◌}
 use Rattle.sky_locks.specs.Locks.{entry}
 use Rattle.sky_state.specs.Seen.{seen}

@@ -1,4 +1,4 @@
--- A session that waits no longer rolls its block back.
+-- The block of a session that no longer waits is rolled back.
 use Rattle.std.proofs.Common.{◌∙◌, sym}
 use Rattle.sky_state.specs.Seen.{seen}
 use Rattle.sky_session.proofs.LockLemmas.{does-cancel}

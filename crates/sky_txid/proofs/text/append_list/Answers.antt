@@ -1,4 +1,4 @@
--- One more id is written behind those before it, with a comma in front of all but the first.
+-- One more id is appended, after a comma unless it is the first.
 use Rattle.std.proofs.Common.{arith}
 use Rattle.sky_txid.proofs.Texts.{next_behind_comma, next_as_first}
 use Rattle.sky_txid.proofs.text.append_list.Goals as goal

@@ -1,4 +1,4 @@
--- Where memory is refused in the list, the text before it is still that of the old one and more.
+-- If the list runs out of memory, the text still begins with the old one.
 use Rattle.std.specs.Fmt.{decimal}
 use Rattle.std.proofs.lemmas.Result.{on_err_weaker}
 use Rattle.sky_txid.specs.SnapshotText.{colon}

@@ -3,7 +3,7 @@ use Rattle.sky_urlenc.specs.ReadRow.{all_given, pieces_from}
 use Rattle.sky_urlenc.specs.Pieces.{pieces_left}
 use Rattle.sky_urlenc.proofs.decode.decode_row.Given as goal
 
--- what the pieces give that are left is what all give
+-- the pieces that are left give what all the pieces give
 abbrev pub invariant-loop-piece : goal.invariant-loop-piece
 invariant-loop-piece l = record {
   same : all_given l.schema l.given.items (pieces_left l.piece-iterator) ≡ all_given l.schema (map (λ _. None) l.schema) (pieces_from 0 l.text);

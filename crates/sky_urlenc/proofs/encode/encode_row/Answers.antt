@@ -1,4 +1,4 @@
--- One more column is written behind those before it; where none is left, the text is whole.
+-- One more column is written after those before it; if none is left, the text is whole.
 use Rattle.std.proofs.Common.{rules, ◌≡◌, ◌⊎◌, length, subst, List, [], ◌∷◌, ◌++◌, ◌+◌, ◌∙◌, sym, ap, inl, inr, append-nil, string_bytes}
 use Rattle.sky_urlenc.proofs.ReadBack.{read_back}
 use Rattle.sky_val.specs.declared.val.Val.{Val}

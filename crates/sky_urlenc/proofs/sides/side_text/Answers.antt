@@ -1,4 +1,4 @@
--- The test of the text is that of the definition.
+-- The code's test of the text is the definition's.
 use Rattle.std.proofs.Common.{arith, ◌≡◌, false, IsUtf8, refl, subst, ◌∙◌}
 use Rattle.std.specs.Str.{is_utf8}
 use Rattle.std.proofs.lemmas.Str.{is_utf8-from_IsUtf8, IsUtf8-from_is_utf8}

@@ -1,4 +1,5 @@
-use Rattle.std.proofs.Common.{◌≡◌, None, length, find, option_map, refl, sym, ◌∙◌, ap, arith, ◌==◌}
+use Rattle.std.proofs.Common.{rules, ◌≡◌, length, find, option_map, refl, sym, ◌∙◌, ap, arith, ◌==◌}
+use Rattle.sky_model.specs.History.{dropped}
 use Rattle.sky_model.specs.Triggers.{TableTrigger}
 use Rattle.sky_model.specs.State.{Queue}
 use Rattle.sky_model.specs.StepQueue.{shown_name}
@@ -7,7 +8,7 @@ use Rattle.sky_model.proofs.Unneeded.{none-into}
 use Rattle.pgq_queues.specs.Seen.{queue_at}
 use Rattle.pgq_db.specs.Views.{DbView}
 use Rattle.pgq_db.specs.Seen.{seen_database}
-use Rattle.pgq_db.proofs.Databases.{drop-triggers}
+use Rattle.pgq_db.proofs.Databases.{marked-as, drop-triggers}
 use Rattle.pgq_db.proofs.db.Db.drop_queue.Goals as goal
 
 pub returns-in-Some : goal.returns-in-Some
@@ -24,8 +25,10 @@ returns-in-Some c =
       refl,
     )
 
-pub remove-requires-clause-triggers : goal.remove-requires-clause-triggers
-remove-requires-clause-triggers c =
-    let none : find (λ (t : TableTrigger). t.trigger.queue == c.in_ok-queue.queue) c.args.self.now.queues.triggers ≡ None =
-    ap (λ (v : DbView). find (λ (t : TableTrigger). t.trigger.queue == c.in_ok-queue.queue) v.queues.triggers) (sym c.self.view_is) ∙ sym c.in_default.ensures in
-    none-into c.in_ok-queue.queue c.args.self.now.queues.triggers (ap (option_map (λ t. HasTriggers (shown_name t))) none)
+pub drop_queue-requires-clause-triggers : goal.drop_queue-requires-clause-triggers
+drop_queue-requires-clause-triggers c = none-into c.in_ok-queue.queue c.self.inside.queues.triggers (ap (option_map (λ t. HasTriggers (shown_name t))) (sym c.in_default.ensures))
+
+pub returns : goal.returns
+returns c =
+    let mark = marked-as _ _ c.drop_queue.new.self (λ _. dropped c.in_ok-queue.queue) c.self.view_is c.drop_queue.ensures.mark in
+    search (rules, mark)

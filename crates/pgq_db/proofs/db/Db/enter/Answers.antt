@@ -4,13 +4,13 @@ use Rattle.pgq_db.specs.Views.{DbView}
 use Rattle.sky_model.specs.declared.stmt.Where.TheVariants.{WhenReading, WhenOutside}
 use Rattle.sky_state.specs.Seen.{seen}
 use Rattle.pgq_db.specs.Seen.{seen_database}
-use Rattle.pgq_db.proofs.Tables.{tables-entered}
+use Rattle.pgq_db.proofs.Agreeing.{agree-entered}
 use Rattle.pgq_db.proofs.Databases.{entered-steps}
 use Rattle.pgq_db.proofs.db.Db.enter.Goals as goal
 
 pub invariant_of-self : goal.invariant_of-self
 invariant_of-self c = λ e.
-    tables-entered (seen c.self.inside.rows) (seen c.enter.new.self) c.args.who (if c.args.outside then WhenOutside else WhenReading) c.enter.result c.self.inside.queues
+    agree-entered (seen c.self.inside.rows) (seen c.enter.new.self) c.args.who (if c.args.outside then WhenOutside else WhenReading) c.enter.result c.self.inside.queues
     c.enter.ensures.ok c.enter.ensures.err (c.self.invariant e)
 
 pub returns-clause-steps : goal.returns-clause-steps

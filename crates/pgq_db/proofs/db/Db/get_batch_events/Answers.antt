@@ -5,11 +5,11 @@ use Rattle.sky_state.specs.Seen.{seen}
 use Rattle.pgq_queues.specs.Seen.{seen_batch, batch_at}
 use Rattle.pgq_db.specs.Views.{DbView}
 use Rattle.pgq_db.specs.Seen.{seen_database}
-use Rattle.pgq_db.proofs.Databases.{gives-events}
+use Rattle.pgq_db.proofs.ConsumerSteps.{gives-events}
 use Rattle.pgq_db.proofs.db.Db.get_batch_events.Goals as goal
 
 pub returns : goal.returns
 returns c =
-    gives-events (seen_database c.args.self.now) c.args.who c.args.id c.in-Some.batch.now c.new-events.result _ _ (c.in-Some.ensures.batch ∙ ap (λ (v : DbView). batch_at v.queues c.args.id) c.self.view_is)
-    (c.new-events.ensures ∙ c.in_ok-batch_events.ensures.events (seen c.self.inside.rows) c.args.id ∙ ap (λ (v : DbView). selected (seen_database v) (seen_batch c.args.id c.in-Some.batch.now)) c.self.view_is)
+    gives-events (seen_database c.args.self.now) c.args.who c.args.id c.in-Some.batch c.new-events.result _ _ (c.in-Some.ensures.batch ∙ ap (λ (v : DbView). batch_at v.queues c.args.id) c.self.view_is)
+    (c.new-events.ensures ∙ c.in_ok-batch_events.ensures.events (seen c.self.inside.rows) ∙ ap (λ (v : DbView). selected (seen_database v) (seen_batch c.in-Some.batch)) c.self.view_is)
     (subst EventsHaveMoments (sym c.new-events.ensures) c.in_ok-batch_events.ensures.moments) c.in_ok-push.ensures.ok

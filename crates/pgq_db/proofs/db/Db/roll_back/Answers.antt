@@ -7,22 +7,22 @@ use Rattle.pgq_db.specs.Views.{DbView}
 use Rattle.pgq_db.specs.Seen.{seen_database}
 use Rattle.pgq_db.proofs.Databases.{noted-as}
 use Rattle.sky_model.proofs.RowOutcomes.{failure-rows}
-use Rattle.pgq_db.proofs.Tables.{tables-stay, tables-then}
+use Rattle.pgq_db.proofs.Agreeing.{agree-stay, agree-then}
 use Rattle.pgq_db.proofs.db.Db.roll_back.Goals as goal
 
 pub invariant_of-self : goal.invariant_of-self
 invariant_of-self c =
     let old = seen c.self.inside.rows in
     λ e.
-    tables-stay (seen c.roll_back.new.self) c.self.inside.queues c.undo_aborted.new.queues c.undo_aborted.ensures.rest
-    (tables-then old (seen c.roll_back.new.self) (failure c.args.who (old.session c.args.who).txid (old.session c.args.who).block) c.self.inside.queues c.in-Ok.ensures.marks (c.self.invariant e))
+    agree-stay (seen c.roll_back.new.self) c.self.inside.queues c.undo_aborted.new.queues c.undo_aborted.ensures.rest
+    (agree-then old (seen c.roll_back.new.self) (failure c.args.who (old.session c.args.who).txid (old.session c.args.who).block) c.self.inside.queues c.in-Ok.ensures.marks (c.self.invariant e))
 
 pub invariant_of-self-in-Ok : goal.invariant_of-self-in-Ok
 invariant_of-self-in-Ok c =
     let old = seen c.self.inside.rows in
     λ e.
-    tables-stay (seen c.roll_back.new.self) c.self.inside.queues c.undo_aborted.new.queues c.undo_aborted.ensures.rest
-    (tables-then old (seen c.roll_back.new.self) (failure c.args.who (old.session c.args.who).txid (old.session c.args.who).block) c.self.inside.queues c.in-Ok.ensures.marks (c.self.invariant e))
+    agree-stay (seen c.roll_back.new.self) c.self.inside.queues c.undo_aborted.new.queues c.undo_aborted.ensures.rest
+    (agree-then old (seen c.roll_back.new.self) (failure c.args.who (old.session c.args.who).txid (old.session c.args.who).block) c.self.inside.queues c.in-Ok.ensures.marks (c.self.invariant e))
 
 pub returns-in_ok-undo_aborted-in-Ok : goal.returns-in_ok-undo_aborted-in-Ok
 returns-in_ok-undo_aborted-in-Ok c =

@@ -5,7 +5,7 @@ use Rattle.sky_state.specs.Seen.{seen}
 use Rattle.pgq_db.specs.Views.{DbView}
 use Rattle.pgq_db.specs.Seen.{seen_database}
 use Rattle.pgq_db.proofs.Databases.{took}
-use Rattle.pgq_db.proofs.Tables.{tables-then, tables-same}
+use Rattle.pgq_db.proofs.Agreeing.{agree-then, agree-same}
 use Rattle.pgq_db.proofs.db.Db.take_txid.Goals as goal
 
 pub returns-clause-marks : goal.returns-clause-marks
@@ -17,9 +17,9 @@ returns-clause-marks c =
     (took (seen_database begun) (seen c.write_elsewhere.new.self) c.args.who c.args.txid c.in_ok-write_elsewhere.ensures.marks)
 
 pub invariant_of-self : goal.invariant_of-self
-invariant_of-self c = λ e. tables-same (seen c.self.inside.rows) (seen c.write_elsewhere.new.self) c.self.inside.queues c.in_err-write_elsewhere.ensures.same (c.self.invariant e)
+invariant_of-self c = λ e. agree-same (seen c.self.inside.rows) (seen c.write_elsewhere.new.self) c.self.inside.queues c.in_err-write_elsewhere.ensures.same (c.self.invariant e)
 
 pub invariant_of-self-2 : goal.invariant_of-self-2
 invariant_of-self-2 c =
     let old = seen c.self.inside.rows in
-    λ e. tables-then old (seen c.write_elsewhere.new.self) (written c.args.who c.args.txid (old.session c.args.who) []) c.self.inside.queues c.in_ok-write_elsewhere.ensures.marks (c.self.invariant e)
+    λ e. agree-then old (seen c.write_elsewhere.new.self) (written c.args.who c.args.txid (old.session c.args.who) []) c.self.inside.queues c.in_ok-write_elsewhere.ensures.marks (c.self.invariant e)

@@ -4,9 +4,10 @@ use Rattle.std.proofs.lemmas.Int.{to_z-of_z}
 use Rattle.sky_model.specs.Triggers.{TableTrigger}
 use Rattle.pgq_queues.specs.Seen.{Stands}
 use Rattle.pgq_queues.specs.Views.{QueuesView}
-use Rattle.pgq_queues.specs.EventRule.{events_at, sequences, ids_left}
+use Rattle.pgq_queues.specs.EventRule.{table_events, events_at, sequences, ids_left}
 use Rattle.pgq_queues.proofs.TracedLists.{placed-at, traced-found, found-within, within-still}
 use Rattle.pgq_queues.proofs.Telling.{wrote-as}
+use Rattle.pgq_queues.proofs.Waiting.{retried-told}
 use Rattle.pgq_queues.proofs.gate.QueuesWriteGate.wrote.Goals as goal
 
 pub new-traced-requires : goal.new-traced-requires
@@ -29,7 +30,7 @@ tell-requires-clause-room c =
 
 pub invariant_of-self : goal.invariant_of-self
 invariant_of-self c =
-    (c.self.invariant.0, within-still c.self.inside.names c.self.inside.slots c.tell.new.queues c.self.inside.batches.entries c.self.inside.triggers.items c.self.inside.traced.entries c.tell.ensures.stand c.self.invariant.1)
+    ((c.self.invariant.0.0, retried-told c.tell.result (to_z w64 (of_z w64 c.self.inside.time)) c.args.txid (table_events c.new-traced.result (option_copied c.args.old) (option_copied c.args.new)) c.self.inside.slots c.tell.new.queues c.self.inside.retries c.tell.ensures.stand c.tell.ensures.ok c.tell.ensures.err c.self.invariant.0.1), within-still c.self.inside.names c.self.inside.slots c.tell.new.queues c.self.inside.batches.entries c.self.inside.triggers.items c.self.inside.traced.entries c.tell.ensures.stand c.self.invariant.1)
 
 pub returns-clause-ok : goal.returns-clause-ok
 returns-clause-ok c =

@@ -1,9 +1,8 @@
-use Rattle.std.proofs.Common.{IfSome, subst}
-use Rattle.pgq_queues.specs.Views.{QueuesView}
-use Rattle.pgq_queues.specs.Seen.{Stands}
-use Rattle.pgq_queues.proofs.TracedLists.{batch-within}
+use Rattle.std.proofs.Common.{sym}
+use Rattle.pgq_queues.proofs.Waiting.{has-here}
 use Rattle.pgq_queues.proofs.queues.Queues.batch.Goals as goal
 
-pub returns-clause-stands : goal.returns-clause-stands
-returns-clause-stands c =
-    subst (λ (v : QueuesView). IfSome c.get.result (λ b. Stands v.queues b.now.queue)) c.self.view_is (batch-within c.self.inside.slots c.get.result _ c.get.ensures.value (c.self.invariant.1.1.0 c.args.id))
+pub returns-clause-owner : goal.returns-clause-owner
+returns-clause-owner c =
+    has-here _ _ c.in_ok-place.place.now.queue c.id.result c.get-2.result.now c.in_ok-place.place.now.consumer c.in_ok-sub.sub.now c.self.view_is c.get-2.ensures.within c.get-2.ensures.value
+    (c.self.invariant.1.1.0.stand c.args.id c.in_ok-place.place.now (sym c.in_ok-place.ensures.value)) c.in_ok-sub.ensures c.id.ensures

@@ -6,6 +6,7 @@ use Rattle.pgq_queues.specs.Seen.{no_queue, seen_queue, queue_at}
 use Rattle.pgq_queues.proofs.Marked.{dropped-as}
 use Rattle.pgq_queues.proofs.NumberedQueues.{number-none, number-there, stands-there}
 use Rattle.pgq_queues.proofs.TracedLists.{there, within-dropped}
+use Rattle.pgq_queues.proofs.Waiting.{retried-dropped}
 use Rattle.pgq_queues.proofs.queues.Queues.drop_queue.Goals as goal
 
 pub unreachable-requires : goal.unreachable-requires
@@ -22,7 +23,10 @@ invariant_of-self c =
     let none : (seen_queue (get_or c.self.inside.slots c.args.number no_queue)).members ≡ [] = ap (λ (w : QueuesView). (queue_at w c.args.number).members) c.self.view_is ∙ c.requires.consumers in
     let untold : All (λ (t : TableTrigger). (t.trigger.queue == c.args.number) ≡ false) c.self.inside.triggers.items =
     subst (λ (w : QueuesView). All (λ (t : TableTrigger). (t.trigger.queue == c.args.number) ≡ false) w.triggers) (sym c.self.view_is) c.requires.triggers in (
-      c.self.invariant.0,
+      (
+        c.self.invariant.0.0,
+        retried-dropped _ _ c.args.number c.self.inside.retries c.remove-2.ensures (there c.self.inside.slots c.args.number (stands-there c.self.inside.names c.self.inside.slots c.in-Some.place c.args.number c.self.invariant.1.0 at)) none c.self.invariant.0.1,
+      ),
       within-dropped c.self.inside.names c.args.number c.in-Some.place c.self.inside.slots c.remove-2.new.self c.remove.new.self c.self.inside.batches.entries c.self.inside.triggers.items c.self.inside.traced.entries
           c.remove.ensures c.remove-2.ensures c.in-Some.ensures.within at none untold c.self.invariant.1,
     )

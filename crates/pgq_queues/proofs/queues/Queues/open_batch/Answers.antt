@@ -1,33 +1,38 @@
-use Rattle.std.proofs.Common.{Some, slice_set, sym, subst}
-use Rattle.sky_model.specs.State.{with_batch}
-use Rattle.pgq_queues.specs.Batches.{StillStand, BatchesWithin}
-use Rattle.pgq_queues.proofs.Marked.{subs-changed, opened-as}
-use Rattle.pgq_queues.proofs.TracedLists.{stays-sub, stand-set, within-still, stands-kept, registered-kept, batches-updated}
+use Rattle.std.proofs.Common.{ℕ, List, Some, ◌+◌, refl, ◌∙◌, ap, option_map}
+use Rattle.pgq_sub.specs.Views.{with_open}
+use Rattle.pgq_queues.specs.declared.batch.Place.{Place}
+use Rattle.pgq_queues.specs.Seen.{kept}
+use Rattle.pgq_queues.proofs.Marked.{kept-updated}
+use Rattle.pgq_queues.proofs.TracedLists.{stands-kept}
+use Rattle.pgq_queues.proofs.Indexed.{and_at}
+use Rattle.pgq_queues.proofs.Consumed.{becomes, is-free, within-more, opened-as}
+use Rattle.pgq_queues.proofs.Waiting.{open-keeps, retried-becomes}
 use Rattle.pgq_queues.proofs.queues.Queues.open_batch.Goals as goal
-
-pub returns-clause-mark : goal.returns-clause-mark
-returns-clause-mark c =
-    opened-as _ _ c.insert.new.self.entries c.args.id c.args.batch _ c.open_batch.new.self c.self.view_is c.get_mut.ensures.within c.get_mut.ensures.value (subs-changed c.get_mut.result.now _ _ c.open_batch.ensures.but c.open_batch.ensures.subs) c.in_ok-insert.ensures.updates.0
-
-pub invariant_of-self : goal.invariant_of-self
-invariant_of-self c =
-    let still : StillStand c.self.inside.slots (slice_set c.self.inside.slots c.args.batch.queue c.open_batch.new.self) = stand-set c.self.inside.slots c.args.batch.queue c.get_mut.result.now c.open_batch.new.self (stands-kept _ _ c.args.batch.queue c.self.view_is c.requires.queue) c.get_mut.ensures.within c.get_mut.ensures.value (stays-sub _ _ c.args.batch.consumer (with_batch c.args.id) c.open_batch.ensures.subs c.open_batch.ensures.but) in
-    let within = within-still c.self.inside.names c.self.inside.slots (slice_set c.self.inside.slots c.args.batch.queue c.open_batch.new.self) c.self.inside.batches.entries c.self.inside.triggers.items c.self.inside.traced.entries still c.self.invariant.1 in
-    (c.self.invariant.0, (within.0, (subst (BatchesWithin (slice_set c.self.inside.slots c.args.batch.queue c.open_batch.new.self)) (sym c.in_err-insert.ensures.err) within.1.0, within.1.1)))
 
 pub invariant_of-self-2 : goal.invariant_of-self-2
 invariant_of-self-2 c =
-    let stands = stands-kept _ _ c.args.batch.queue c.self.view_is c.requires.queue in
-    let registered = registered-kept _ _ c.args.batch.queue c.args.batch.consumer c.self.view_is c.requires.registered in
-    let still : StillStand c.self.inside.slots (slice_set c.self.inside.slots c.args.batch.queue c.open_batch.new.self) = stand-set c.self.inside.slots c.args.batch.queue c.get_mut.result.now c.open_batch.new.self (stands-kept _ _ c.args.batch.queue c.self.view_is c.requires.queue) c.get_mut.ensures.within c.get_mut.ensures.value (stays-sub _ _ c.args.batch.consumer (with_batch c.args.id) c.open_batch.ensures.subs c.open_batch.ensures.but) in
-    let within = within-still c.self.inside.names c.self.inside.slots (slice_set c.self.inside.slots c.args.batch.queue c.open_batch.new.self) c.self.inside.batches.entries c.self.inside.triggers.items c.self.inside.traced.entries still c.self.invariant.1 in (
-      c.self.invariant.0,
+    let id = c.self.inside.last_batch_id + 1 in
+    let old = c.self.inside.batches.entries in
+    let p : Place = record { queue = c.args.queue; consumer = c.args.consumer.now } in (
       (
-        within.0,
-        (
-          batches-updated (slice_set c.self.inside.slots c.args.batch.queue c.open_batch.new.self) c.self.inside.batches.entries c.insert.new.self.entries c.args.id (Some c.args.batch) c.in_ok-insert.ensures.updates.0
-              (still.stands c.args.batch.queue stands, still.registered c.args.batch.queue c.args.batch.consumer registered) within.1.0,
-          within.1.1,
-        ),
+        c.self.invariant.0.0,
+        retried-becomes c.self.inside.slots c.args.queue c.get_mut.result.now c.open_batch.new.self c.args.consumer.now (option_map (with_open (record { id = id; cur = c.args.cur }))) c.self.inside.retries (stands-kept _ _ c.args.queue c.self.view_is c.requires.queue) c.get_mut.ensures.within c.get_mut.ensures.value
+            c.open_batch.ensures.but (becomes c.args.consumer.now (option_map (with_open (record { id = id; cur = c.args.cur }))) c.get_mut.result.now c.open_batch.new.self _ c.open_batch.ensures.subs) (open-keeps (record { id = id; cur = c.args.cur })) c.self.invariant.0.1,
       ),
+      within-more c.self.inside.names c.self.inside.slots c.args.cur id p c.get_mut.result.now c.open_batch.new.self old c.insert.new.self.entries c.self.inside.triggers.items c.self.inside.traced.entries
+          c.get_mut.ensures.within c.get_mut.ensures.value (stands-kept _ _ c.args.queue c.self.view_is c.requires.queue) c.open_batch.ensures.but c.open_batch.ensures.subs refl
+          (is-free _ _ c.args.queue c.args.consumer.now c.self.view_is c.requires.free)
+          (λ n. kept-updated old c.insert.new.self.entries id (Some (record { queue = c.args.queue; consumer = c.in_ok-copy.field-0 })) c.in_ok-insert.ensures.updates.0 n
+          ∙ ap (λ (name : List ℕ). and_at id (record { queue = c.args.queue; consumer = name }) n (kept old n)) c.in_ok-copy.ensures)
+          c.self.invariant.1,
     )
+
+pub returns-clause-mark : goal.returns-clause-mark
+returns-clause-mark c =
+    let id = c.self.inside.last_batch_id + 1 in
+    let old = c.self.inside.batches.entries in
+    let p : Place = record { queue = c.args.queue; consumer = c.args.consumer.now } in
+    opened-as _ _ c.args.cur id p c.get_mut.result.now c.open_batch.new.self c.insert.new.self.entries c.self.view_is c.get_mut.ensures.within c.get_mut.ensures.value c.open_batch.ensures.but c.open_batch.ensures.subs refl c.requires.free
+    (λ n. kept-updated old c.insert.new.self.entries id (Some (record { queue = c.args.queue; consumer = c.in_ok-copy.field-0 })) c.in_ok-insert.ensures.updates.0 n
+    ∙ ap (λ (name : List ℕ). and_at id (record { queue = c.args.queue; consumer = name }) n (kept old n)) c.in_ok-copy.ensures)
+    c.self.invariant.1.1.0.indexed

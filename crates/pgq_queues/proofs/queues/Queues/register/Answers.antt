@@ -1,10 +1,25 @@
-use Rattle.std.proofs.Common.{ap, slice_set}
-use Rattle.pgq_queues.specs.Views.{QueueView}
-use Rattle.pgq_queues.proofs.TracedLists.{stays-alike, stays-member, stand-set, within-still, stands-kept}
+use Rattle.std.proofs.Common.{◌+◌, Some, None, ap}
+use Rattle.pgq_sub.specs.Views.{SubView}
+use Rattle.pgq_queues.specs.Views.{QueuesView}
+use Rattle.pgq_queues.proofs.TracedLists.{stands-kept}
+use Rattle.pgq_queues.proofs.Consumed.{becomes, not-kept, within-come, registered-as}
+use Rattle.pgq_queues.proofs.Waiting.{retried-come}
 use Rattle.pgq_queues.proofs.queues.Queues.register.Goals as goal
 
-pub invariant_of-self : goal.invariant_of-self
-invariant_of-self c = (c.self.invariant.0, within-still c.self.inside.names c.self.inside.slots (slice_set c.self.inside.slots c.args.queue c.register.new.self) c.self.inside.batches.entries c.self.inside.triggers.items c.self.inside.traced.entries (stand-set c.self.inside.slots c.args.queue c.get_mut.result.now c.register.new.self (stands-kept _ _ c.args.queue c.self.view_is c.requires.queue) c.get_mut.ensures.within c.get_mut.ensures.value (stays-alike _ _ (ap QueueView.ticks c.in_err-register.ensures.err) (ap QueueView.subs c.in_err-register.ensures.err))) c.self.invariant.1)
-
 pub invariant_of-self-2 : goal.invariant_of-self-2
-invariant_of-self-2 c = (c.self.invariant.0, within-still c.self.inside.names c.self.inside.slots (slice_set c.self.inside.slots c.args.queue c.register.new.self) c.self.inside.batches.entries c.self.inside.triggers.items c.self.inside.traced.entries (stand-set c.self.inside.slots c.args.queue c.get_mut.result.now c.register.new.self (stands-kept _ _ c.args.queue c.self.view_is c.requires.queue) c.get_mut.ensures.within c.get_mut.ensures.value (stays-member _ _ _ _ _ c.in_ok-register.ensures.subs c.in_ok-register.ensures.but)) c.self.invariant.1)
+invariant_of-self-2 c = let x : SubView = record { id = c.self.inside.last_sub_id + 1; position = c.args.tick; active = None } in (
+  (
+    c.self.invariant.0.0,
+    retried-come c.self.inside.slots c.args.queue c.get_mut.result.now c.register.new.self c.args.consumer.now x c.self.inside.retries (stands-kept _ _ c.args.queue c.self.view_is c.requires.queue)
+        c.get_mut.ensures.within c.get_mut.ensures.value c.in_ok-register.ensures.but (becomes c.args.consumer.now (λ _. Some x) c.get_mut.result.now c.register.new.self _ c.in_ok-register.ensures.subs)
+        (not-kept _ _ c.args.queue c.args.consumer.now c.self.view_is c.requires.new) c.self.invariant.0.1,
+  ),
+  within-come c.self.inside.names c.self.inside.slots c.args.queue _ c.args.tick c.args.consumer.now c.get_mut.result.now c.register.new.self c.self.inside.batches.entries c.self.inside.triggers.items c.self.inside.traced.entries
+      c.get_mut.ensures.within c.get_mut.ensures.value (stands-kept _ _ c.args.queue c.self.view_is c.requires.queue) c.in_ok-register.ensures.but c.in_ok-register.ensures.subs
+      (not-kept _ _ c.args.queue c.args.consumer.now c.self.view_is c.requires.new) c.self.invariant.1,
+)
+
+pub returns-clause-mark : goal.returns-clause-mark
+returns-clause-mark c =
+    registered-as _ _ c.args.queue _ c.args.tick c.args.consumer.now c.get_mut.result.now c.register.new.self c.self.view_is c.get_mut.ensures.within c.get_mut.ensures.value c.in_ok-register.ensures.but c.in_ok-register.ensures.subs
+    (ap (λ (w : QueuesView). w.last_sub_id + 1) c.self.view_is) c.requires.new

@@ -11,7 +11,7 @@ front_is all buf piece given count is fits =
     let size : length piece ≡ count = ap length is ∙ grind (arith, common_steps) in
     rw (take_at piece (drop count buf) count size, is, ← drop-drop count given all) (sym (take-append-drop count (drop given all)))
 
--- nothing is given only where nothing is left
+-- nothing is given only if nothing is left
 end_is : (all : List ℕ) (given count most room : ℕ) → count ≡ min (min most room) (length (drop given all)) → 1 ≤ most → 0 < room → count ≡ 0 → drop (given + count) all ≡ []
 end_is all given count most room is some there none = drop_of_length-le all (omega (arith, length-drop given all))
 

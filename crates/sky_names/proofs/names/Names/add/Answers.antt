@@ -1,4 +1,4 @@
--- A name that has no place is no key of the set, so it goes last.
+-- A name that has no place is no key of the set, so it is appended.
 use Rattle.std.proofs.Common.{[], ◌∷◌, ◌++◌, if◌then◌else◌, is_some, bytes_eq, ap, ◌∙◌}
 use Rattle.indexmap.specs.IndexSet.{insert_key}
 use Rattle.sky_names.proofs.PlaceLemmas.{list_any-place_of}

@@ -1,4 +1,4 @@
--- A name that stands at a place has that place, since no other one has its bytes.
+-- A name found at a place has that place, since no other one has its bytes.
 use Rattle.std.proofs.Common.{◌≡◌, ◌<◌, Some, length, slice_get, refl, sym, ap, ◌∙◌, arith}
 use Rattle.std.proofs.lemmas.Bool.Decides.{nat_tests}
 use Rattle.std.proofs.lemmas.Option.{slice_get_read}

@@ -1,4 +1,4 @@
--- A rollback, of which no gate is told, and then those that it lets go on.
+-- A rollback, of which no gate is notified, and then the statements that it unblocks.
 use Rattle.std.proofs.Common.{refl, subst}
 use Rattle.sky_model.specs.SessionMarks.{failing}
 use Rattle.sky_model.specs.Settling.{with_settling}

@@ -1,4 +1,4 @@
--- The statement's own turn, and then those that it lets go on.
+-- The statement's own turn, and then the statements that it unblocks.
 use Rattle.std.proofs.Common.{subst}
 use Rattle.sky_model.specs.Settling.{turn_of}
 use Rattle.sky_model.specs.Reader.{part_by_itself}

@@ -1,4 +1,4 @@
--- A transaction without a write of a row, of which no session has the id in the end.
+-- A transaction without a write of a row, whose id no session has afterwards.
 use Rattle.std.proofs.Common.{◌≡◌, ◌∙◌, ◌&&◌, ◌==◌, false, not, ap, subst}
 use Rattle.sky_txid.specs.Ids.{contains}
 use Rattle.sky_state.specs.Seen.{wrote_in}

@@ -1,4 +1,4 @@
--- One that may go on waits for a key of a table that is made.
+-- A session that is ready waits for a key of a table that exists.
 use Rattle.std.proofs.Common.{◌≡◌, ◌<◌, length, Some, option_map, ap, sym, ◌∙◌, subst}
 use Rattle.sky_keys.specs.Waits.{ready}
 use Rattle.sky_locks.specs.declared.lock_key.LockKey.{LockKey}

@@ -1,4 +1,4 @@
--- There are fewer rows than `usize` can say, so all were asked for.
+-- There are fewer rows than the largest `usize`, so all were asked for.
 use Rattle.std.proofs.Common.{◌<◌, ◌∙◌, ap, map, length, arith}
 use Rattle.sky_keys.specs.Versions.{rows_read}
 use Rattle.sky_model.specs.ShownRows.{snapshot_for}

@@ -19,7 +19,7 @@ newest-passes p newest (v ∷ vs) passes = newest-passes p (cond (p v.txid) (Som
       | false ↦ λ _. passes
     ] refl)
 
--- a session that reads by the snapshot of now sees all that this sees
+-- a session that reads by the present snapshot sees all that this one sees
 none_unseen : (d : RowPart) (s : Session) (vs : List Version) → ((own : SnapshotView) → place_of_sight own s.sight ≡ own) → unseen_in d s vs ≡ None
 none_unseen d s vs now =
     let newest = option_map Version.txid (newest_by (sees (snapshot_now d)) vs) in

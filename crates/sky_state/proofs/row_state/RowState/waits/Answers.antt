@@ -1,4 +1,4 @@
--- A session that waits is the last of the list, or would wait for itself.
+-- A session that waits is the last of the queue, or would wait for itself.
 use Rattle.std.proofs.Common.{◌≡◌, ◌<◌, ℕ, Some, length, unwrap_or, refl, ap, sym, ◌∙◌, subst}
 use Rattle.sky_keys.specs.Waits.{other_holder, LeadsBack}
 use Rattle.sky_locks.specs.Locks.{holder, waits_for_in, Takes, WaitsForKey, ClosesRing}
@@ -8,7 +8,7 @@ use Rattle.sky_state.proofs.Owning.{within-kept, within-push}
 use Rattle.sky_state.proofs.WaitLemmas.{ring-none, ring-found, wait-as}
 use Rattle.sky_state.proofs.row_state.RowState.waits.Goals as goal
 
--- two that hold it are one
+-- two holders of a key are one
 one_holder : (m n : ℕ) → Some m ≡ Some n → m ≡ n
 one_holder m n e = ap (λ o. unwrap_or o 0) e
 

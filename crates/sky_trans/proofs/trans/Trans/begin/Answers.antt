@@ -1,4 +1,4 @@
--- The next id is above those that run.
+-- The next id is above the running ones.
 use Rattle.std.proofs.Common.{◌≡◌, ◌<◌, ◌^◌, false, subst, sym}
 use Rattle.sky_txid.specs.Ids.{contains}
 use Rattle.sky_trans.specs.Trans.{TransView}

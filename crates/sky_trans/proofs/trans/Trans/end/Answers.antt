@@ -1,4 +1,4 @@
--- The place that the search found is that of the id, which stands in the list once.
+-- The place that the search found is that of the id, which is in the list once.
 use Rattle.std.proofs.Common.{ap, ◌∙◌, List, ℕ}
 use Rattle.sky_trans.specs.Trans.{TransView}
 use Rattle.sky_trans.proofs.TransLemmas.{sound_ended, found_is_ended, not_found_stays}

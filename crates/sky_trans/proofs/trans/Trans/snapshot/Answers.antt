@@ -1,4 +1,4 @@
--- The ids that run begin at 3, so none is 0.
+-- The running ids are 3 or more, so none is 0.
 use Rattle.sky_trans.proofs.TransLemmas.{running_above_0}
 use Rattle.sky_trans.proofs.trans.Trans.snapshot.Goals as goal
 

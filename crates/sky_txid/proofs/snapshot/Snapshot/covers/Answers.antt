@@ -1,4 +1,4 @@
--- One that is seen there and not here decides, and so does that there is none.
+-- One id that is seen there and not here decides, and so does that there is none.
 use Rattle.std.proofs.Common.{◌≡◌, true, length, refl, sym, ◌∙◌, ap, subst, arith}
 use Rattle.std.proofs.lemmas.Bool.{false≢true}
 use Rattle.sky_txid.specs.Snapshot.{SnapshotView, is_snapshot}

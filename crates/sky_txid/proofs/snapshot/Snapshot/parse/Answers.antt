@@ -1,4 +1,4 @@
--- The parts that were read are a snapshot exactly where their bounds and the list are sound.
+-- The parts that were read are a snapshot if and only if their bounds and the list are sound.
 use Rattle.std.proofs.Common.{sym, ◌∙◌, nat_eq, arith}
 use Rattle.std.proofs.lemmas.Option.{MatchOption-at_some}
 use Rattle.std.proofs.lemmas.List.Filters.{dedup_is}

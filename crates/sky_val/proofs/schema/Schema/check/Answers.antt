@@ -1,4 +1,4 @@
--- Where no column or no value is left, there is no fault.
+-- If no column or no value is left, there is no fault.
 use Rattle.std.proofs.Common.{rules, ◌∙◌, ◌≡◌, length, cond, Some, eq-eqb, sym, ap, inl, inr}
 use Rattle.sky_val.specs.declared.schema.RowFault.TheVariants.{Count}
 use Rattle.sky_val.specs.Schemas.{values_fault}

@@ -1,4 +1,4 @@
--- The tests that the columns passed make them a schema's.
+-- Columns that passed the tests are a schema's.
 use Rattle.std.proofs.Common.{subst}
 use Rattle.sky_val.specs.Schemas.{IsSchema}
 use Rattle.sky_val.proofs.SchemaLaws.{is_schema}

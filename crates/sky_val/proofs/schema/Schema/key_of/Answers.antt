@@ -1,4 +1,4 @@
--- Where no column or no value is left, nothing is left of the key.
+-- If no column or no value is left, nothing of the key is left.
 use Rattle.std.proofs.Common.{◌++◌, ◌∙◌, sym, ap, inl, inr}
 use Rattle.std.proofs.lemmas.List.{append-nil}
 use Rattle.sky_val.proofs.SchemaLemmas.{key_of-end}

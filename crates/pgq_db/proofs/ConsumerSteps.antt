@@ -1,0 +1,199 @@
+-- What the statements on consumers and batches give.
+use Rattle.std.proofs.Common.{◌≡◌, ℕ, ◌+◌, ◌<◌, ◌≤◌, ◌^◌, List, [], ◌∷◌, ◌++◌, Bool, true, false, nat_le, nat_lt, Option, Some, None, Ok, IfSome, IfNone, is_some, length, option_map, refl, sym, ◌∙◌, ap, subst, arith, if◌then◌else◌, ◌==◌, ◌||◌}
+use Rattle.std.proofs.lemmas.Bool.Decides.{nat_tests}
+use mir.Val.{bool_byte}
+use Rattle.sky_val.specs.declared.event.Event.{Event}
+use Rattle.sky_model.specs.declared.reply.BatchInfo as shown_batch
+use Rattle.sky_model.specs.declared.reply.Reply.{Reply}
+use Rattle.sky_model.specs.declared.reply.Reply.TheVariants.{Number, Events, BatchInfo}
+use Rattle.sky_model.specs.declared.reply.Limit.TheVariants.{Consumers}
+use Rattle.sky_model.specs.declared.reply.Refusal.TheVariants.{NoBatch, NodeConsumer, NoTick, TooMany, IdsSpent}
+use Rattle.sky_model.specs.History.{Batch, QueueMark, queued, registered, moved, unregistered, opened, closed}
+use Rattle.sky_model.specs.Queues.{Tick, tick, newest_tick}
+use Rattle.sky_model.specs.Consumers.{Subscription}
+use Rattle.sky_model.specs.Selection.{selected}
+use Rattle.sky_model.specs.Printed.{EventsHaveMoments}
+use Rattle.sky_model.specs.State.{RowPart, Queue, Database, after_mark}
+use Rattle.sky_model.specs.Outcome.{Outcome, Checked, ◌>>=◌, ◌>>◌, refused_if, found_or, answers, does_marks}
+use Rattle.sky_model.specs.Reader.{shown_by}
+use Rattle.sky_model.specs.StepQueue.{queue_called, id_of, newest_id}
+use Rattle.sky_model.specs.StepConsumer.{has_dot, registers, register_consumer, register_consumer_at, leaves, unregister_consumer, opens_batch, get_batch_events, batch_info_of, get_batch_info, finishes, finish_batch}
+use Rattle.sky_state.specs.Seen.{seen}
+use Rattle.pgq_queues.specs.declared.batch.Batch as read
+use Rattle.pgq_queues.specs.Views.{QueuesView}
+use Rattle.pgq_queues.specs.Seen.{seen_batch, queue_at, batch_at, seen_with}
+use Rattle.pgq_db.specs.Views.{DbView}
+use Rattle.pgq_db.specs.Seen.{seen_database}
+use Rattle.pgq_db.proofs.Databases.{Runs, marked-as, unmarked-as}
+
+-- ---- consumers
+
+-- whether a consumer is registered, as its queue says
+pub known-as : (v now : DbView) (q : ℕ) (queue : Queue) (consumer : List ℕ) (has b : Bool) → v ≡ now → queue ≡ queue_at v.queues q → has ≡ is_some (queue.sub consumer) → has ≡ b
+    → is_some (((seen_database now).queue q).sub consumer) ≡ b
+known-as v now q queue consumer has b same there is e =
+    sym (is ∙ ap (λ (x : Queue). is_some (x.sub consumer)) there ∙ ap (λ (w : DbView). is_some ((queue_at w.queues q).sub consumer)) same) ∙ e
+
+-- the id of the newest tick, as its queue says
+pub newest-as : (v now : DbView) (q : ℕ) (queue : Queue) (ticks : List Tick) (newest : Tick) (id : ℕ) → v ≡ now → queue ≡ queue_at v.queues q → ticks ≡ queue.tick_list
+    → newest_tick ticks ≡ Some newest → id ≡ newest.id → id ≡ newest_id ((seen_database now).queue q)
+newest-as v now q queue ticks newest id same there are is named =
+    named ∙ ap id_of (sym is ∙ ap newest_tick (are ∙ ap Queue.tick_list there)) ∙ ap (λ (w : DbView). newest_id (queue_at w.queues q)) same
+
+pub tick-within : (id newest n : ℕ) → (id ≡ 0 → ⊥) → id ≤ newest → newest ≡ n → (id == 0 || nat_lt n id) ≡ false
+tick-within id newest n some le is = grind (arith, nat_tests)
+
+pub none-if : (o : Option Subscription) → is_some o ≡ false → o ≡ None
+none-if None is = refl
+none-if (Some sub) is = absurd (cc)
+
+-- 1 for what is found
+pub counted : (count : ℕ) (b found : Bool) → count ≡ bool_byte b → b ≡ found → count ≡ (if found then 1 else 0)
+counted count b found is e = is ∙ of b ∙ ap (λ x. if x then 1 else 0) e
+  where
+    of : (x : Bool) → bool_byte x ≡ (if x then 1 else 0)
+    of true = refl
+    of false = refl
+
+-- once the queue is found and the name is one of a consumer
+module _ (d : Database) (name consumer : List ℕ) (q : ℕ) (found : queue_called name d ≡ Ok q) (undotted : has_dot consumer ≡ false) where
+  behind : (rest : ℕ → Checked Outcome) → (queue_called name d >>= (λ n. refused_if (has_dot consumer) NodeConsumer >> rest n)) ≡ rest q
+  behind rest = ap (λ c. c >>= (λ n. refused_if (has_dot consumer) NodeConsumer >> rest n)) found ∙ ap (λ b. refused_if b NodeConsumer >> rest q) undotted
+
+  anew : (b : Bool) → is_some ((d.queue q).sub consumer) ≡ b → register_consumer d name consumer ≡ (if b then answers (Number 0) else registers d q consumer (newest_id (d.queue q)))
+  anew b is =
+      behind (λ n. if is_some ((d.queue n).sub consumer) then answers (Number 0) else registers d n consumer (newest_id (d.queue n)))
+      ∙ ap (λ x. if x then answers (Number 0) else registers d q consumer (newest_id (d.queue q))) is
+
+  -- a consumer that isn't registered yet, and one that is
+  pub register-new : (newest : ℕ) → newest ≡ newest_id (d.queue q) → is_some ((d.queue q).sub consumer) ≡ false → registers d q consumer newest ≡ register_consumer d name consumer
+  register-new newest is new = sym (anew false new ∙ ap (registers d q consumer) (sym is))
+
+  pub gives-known : (who : ℕ) (before after : List (ℕ × Reply)) → is_some ((d.queue q).sub consumer) ≡ true → after ≡ before ++ (who, Number 0) ∷ []
+      → Runs d d before after who (register_consumer d name consumer)
+  gives-known who before after known pushed = subst (Runs d d before after who) (sym (anew true known)) (record { accepted = refl; replied = pushed; changed = refl }, tt)
+
+  -- at a tick that the queue has
+  at-tick : (id : ℕ) (b : Bool) → (id == 0 || nat_lt (newest_id (d.queue q)) id) ≡ false → is_some ((d.queue q).sub consumer) ≡ b
+      → register_consumer_at d name consumer id ≡ (if b then does_marks (Number 0) (queued (moved q consumer id) ∷ []) else registers d q consumer id)
+  at-tick id b within is =
+      behind (λ n. refused_if (id == 0 || nat_lt (newest_id (d.queue n)) id) (NoTick id (newest_id (d.queue n)))
+      >> (if is_some ((d.queue n).sub consumer) then does_marks (Number 0) (queued (moved n consumer id) ∷ []) else registers d n consumer id))
+      ∙ ap (λ x. refused_if x (NoTick id (newest_id (d.queue q))) >> (if is_some ((d.queue q).sub consumer) then does_marks (Number 0) (queued (moved q consumer id) ∷ []) else registers d q consumer id)) within
+      ∙ ap (λ x. if x then does_marks (Number 0) (queued (moved q consumer id) ∷ []) else registers d q consumer id) is
+
+  pub register_at-new : (id : ℕ) → (id == 0 || nat_lt (newest_id (d.queue q)) id) ≡ false → is_some ((d.queue q).sub consumer) ≡ false → registers d q consumer id ≡ register_consumer_at d name consumer id
+  register_at-new id within new = sym (at-tick id false within new)
+
+  pub gives-moved : (s : Database) (who id : ℕ) (before after : List (ℕ × Reply)) → (id == 0 || nat_lt (newest_id (d.queue q)) id) ≡ false → is_some ((d.queue q).sub consumer) ≡ true
+      → s ≡ after_mark d (queued (moved q consumer id)) → after ≡ before ++ (who, Number 0) ∷ [] → Runs d s before after who (register_consumer_at d name consumer id)
+  gives-moved s who id before after within known changed pushed =
+      subst (Runs d s before after who) (sym (at-tick id true within known)) (record { accepted = refl; replied = pushed; changed = changed }, tt)
+
+  -- one that leaves, if it is registered
+  pub gives-leave : (s : Database) (who count : ℕ) (o : Option ℕ) (before after : List (ℕ × Reply)) → o ≡ option_map Subscription.id ((d.queue q).sub consumer)
+      → IfSome o (λ sub. s ≡ after_mark d (queued (unregistered q consumer sub))) → IfNone o (s ≡ d) → count ≡ (if is_some o then 1 else 0)
+      → after ≡ before ++ (who, Number count) ∷ [] → Runs d s before after who (unregister_consumer d name consumer)
+  gives-leave s who count o before after was over nothing is pushed =
+      subst (Runs d s before after who) (sym (behind (λ n. leaves n consumer ((d.queue n).sub consumer)))) (of ((d.queue q).sub consumer) o was over nothing is)
+    where
+      of : (sub : Option Subscription) (p : Option ℕ) → p ≡ option_map Subscription.id sub → IfSome p (λ id. s ≡ after_mark d (queued (unregistered q consumer id))) → IfNone p (s ≡ d)
+          → count ≡ (if is_some p then 1 else 0) → Runs d s before after who (leaves q consumer sub)
+      of None None e over nothing n = (record { accepted = refl; replied = pushed ∙ ap (λ k. before ++ (who, Number k) ∷ []) n; changed = nothing }, tt)
+      of (Some sub) (Some id) e over nothing n =
+          let same : id ≡ sub.id = cc in (
+            record {
+              accepted = refl;
+              replied = pushed ∙ ap (λ k. before ++ (who, Number k) ∷ []) n;
+              changed = over ∙ ap (λ k. after_mark d (queued (unregistered q consumer k))) same;
+            },
+            tt,
+          )
+      of None (Some id) e over nothing n = absurd (cc)
+      of (Some sub) None e over nothing n = absurd (cc)
+
+-- what holds of all row parts, of what is there
+pub marked-if : (v now : DbView) (queues : QueuesView) (o : Option ℕ) (mark : ℕ → QueueMark) → v ≡ now
+    → IfSome o (λ n. (part : RowPart) → seen_with part queues ≡ after_mark (seen_with part v.queues) (queued (mark n)))
+    → IfSome o (λ n. seen_database (record v { queues = queues }) ≡ after_mark (seen_database now) (queued (mark n)))
+marked-if v now queues None mark same is = tt
+marked-if v now queues (Some n) mark same is = marked-as v now queues (λ _. mark n) same is
+
+pub unmarked-if : (v now : DbView) (queues : QueuesView) (o : Option ℕ) → v ≡ now → IfNone o ((part : RowPart) → seen_with part queues ≡ seen_with part v.queues)
+    → IfNone o (seen_database (record v { queues = queues }) ≡ seen_database now)
+unmarked-if v now queues None same is = unmarked-as v now queues same is
+unmarked-if v now queues (Some n) same is = tt
+
+-- a new one
+pub gives-new : (d s : Database) (who q at : ℕ) (consumer : List ℕ) (before after : List (ℕ × Reply)) → length (d.queue q).members < 256 → d.last_sub_id + 1 < 2 ^ 64
+    → s ≡ after_mark d (queued (registered q consumer (d.last_sub_id + 1) at)) → after ≡ before ++ (who, Number 1) ∷ [] → Runs d s before after who (registers d q consumer at)
+gives-new d s who q at consumer before after few left changed pushed = subst (Runs d s before after who) (sym whole) (record { accepted = refl; replied = pushed; changed = changed }, tt)
+  where
+    room : nat_le 256 (length (d.queue q).members) ≡ false
+    room = grind (arith, nat_tests)
+
+    unspent : nat_le (2 ^ 64) (d.last_sub_id + 1) ≡ false
+    unspent = grind (arith, nat_tests)
+
+    result : Checked Outcome
+    result = does_marks (Number 1) (queued (registered q consumer (d.last_sub_id + 1) at) ∷ [])
+
+    whole : registers d q consumer at ≡ result
+    whole = ap (λ b. refused_if b (TooMany Consumers) >> (refused_if (nat_le (2 ^ 64) (d.last_sub_id + 1)) IdsSpent >> result)) room ∙ ap (λ b. refused_if b IdsSpent >> result) unspent
+
+-- ---- batches
+
+-- one that is made
+pub gives-batch : (d s : Database) (who q n : ℕ) (consumer : List ℕ) (sub : Subscription) (next : Tick) (before after : List (ℕ × Reply)) → Some next ≡ tick (sub.position + 1) (d.queue q).tick_list
+    → d.last_batch_id + 1 < 2 ^ 64
+    → s ≡ after_mark d (queued (opened (record { id = d.last_batch_id + 1; queue = q; consumer = consumer; sub = sub.id; prev = sub.position; cur = next.id })))
+    → n ≡ s.last_batch_id → after ≡ before ++ (who, Number n) ∷ [] → Runs d s before after who (opens_batch d q consumer sub (tick (sub.position + 1) (d.queue q).tick_list))
+gives-batch d s who q n consumer sub next before after there left changed is pushed =
+    subst (λ o. Runs d s before after who (opens_batch d q consumer sub o)) there
+    (subst (Runs d s before after who) (sym (ap (λ b. refused_if b IdsSpent >> result) unspent))
+    (record { accepted = refl; replied = pushed ∙ ap (λ k. before ++ (who, Number k) ∷ []) (is ∙ ap Database.last_batch_id changed); changed = changed }, tt))
+  where
+    unspent : nat_le (2 ^ 64) (d.last_batch_id + 1) ≡ false
+    unspent = grind (arith, nat_tests)
+
+    result : Checked Outcome
+    result = does_marks (Number (d.last_batch_id + 1))
+        (queued (opened (record { id = d.last_batch_id + 1; queue = q; consumer = consumer; sub = sub.id; prev = sub.position; cur = next.id })) ∷ [])
+
+-- the tick behind a position, as the queue says
+pub next-as : (v now : DbView) (q at position : ℕ) (queue : Queue) (ticks : List Tick) (next : Tick) → v ≡ now → queue ≡ queue_at v.queues q → ticks ≡ queue.tick_list
+    → Some next ≡ tick (at + 1) ticks → at ≡ position → Some next ≡ tick (position + 1) ((seen_database now).queue q).tick_list
+next-as v now q at position queue ticks next same there are is stands =
+    is ∙ ap (λ n. tick (n + 1) ticks) stands ∙ ap (tick (position + 1)) (are ∙ ap Queue.tick_list there) ∙ ap (λ (w : DbView). tick (position + 1) (queue_at w.queues q).tick_list) same
+
+-- one that is finished, and one that there isn't
+pub gives-finish : (v now : DbView) (queues : QueuesView) (who id count : ℕ) (before after : List (ℕ × Reply)) → v ≡ now
+    → IfSome (batch_at v.queues id) (λ batch. (part : RowPart) → seen_with part queues ≡ after_mark (seen_with part v.queues) (queued (closed batch)))
+    → IfNone (batch_at v.queues id) ((part : RowPart) → seen_with part queues ≡ seen_with part v.queues)
+    → after ≡ before ++ (who, Number count) ∷ [] → count ≡ (if is_some (batch_at v.queues id) then 1 else 0)
+    → Runs (seen_database now) (seen_database (record v { queues = queues })) before after who (finish_batch (seen_database now) id)
+gives-finish v now queues who id count before after same over nothing pushed is =
+    subst (λ (w : DbView). Runs (seen_database w) left before after who (finish_batch (seen_database w) id)) same (of (batch_at v.queues id) over nothing is)
+  where
+    left : Database
+    left = seen_database (record v { queues = queues })
+
+    of : (o : Option Batch) → IfSome o (λ batch. (part : RowPart) → seen_with part queues ≡ after_mark (seen_with part v.queues) (queued (closed batch)))
+        → IfNone o ((part : RowPart) → seen_with part queues ≡ seen_with part v.queues) → count ≡ (if is_some o then 1 else 0)
+        → Runs (seen_database v) left before after who (finishes o)
+    of None over nothing is = (record { accepted = refl; replied = pushed ∙ ap (λ n. before ++ (who, Number n) ∷ []) is; changed = nothing (seen v.rows) }, tt)
+    of (Some batch) over nothing is = (record { accepted = refl; replied = pushed ∙ ap (λ n. before ++ (who, Number n) ∷ []) is; changed = over (seen v.rows) }, tt)
+
+-- its events
+pub gives-events : (d : Database) (who id : ℕ) (batch : read.Batch) (events : List Event) (before after : List (ℕ × Reply)) → Some (seen_batch batch) ≡ d.batch id
+    → events ≡ selected d (seen_batch batch) → EventsHaveMoments events → after ≡ before ++ (who, Events events) ∷ [] → Runs d d before after who (get_batch_events (shown_by d).events id)
+gives-events d who id batch events before after there is have pushed =
+    subst (λ found. Runs d d before after who (found_or (option_map (selected d) found) NoBatch >>= (λ es. answers (Events es)))) there
+    (record { accepted = refl; replied = pushed ∙ ap (λ es. before ++ (who, Events es) ∷ []) is; changed = refl }, subst EventsHaveMoments is have)
+
+-- what is shown of it
+pub gives-info : (d : Database) (who id : ℕ) (batch : read.Batch) (info : shown_batch.BatchInfo) (before after : List (ℕ × Reply)) → Some (seen_batch batch) ≡ d.batch id
+    → info ≡ batch_info_of d (seen_batch batch) → after ≡ before ++ (who, BatchInfo info) ∷ [] → Runs d d before after who (get_batch_info d id)
+gives-info d who id batch info before after there is pushed =
+    subst (λ found. Runs d d before after who (found_or found NoBatch >>= (λ b. answers (BatchInfo (batch_info_of d b))))) there
+    (record { accepted = refl; replied = pushed ∙ ap (λ x. before ++ (who, BatchInfo x) ∷ []) is; changed = refl }, tt)

@@ -1,0 +1,35 @@
+use Rattle.std.proofs.Common.{ℤ, subst, w64, to_z, of_z}
+use Rattle.std.proofs.lemmas.Int.{to_z-of_z}
+use Rattle.sky_model.specs.StepRetry.{maint_retry_events}
+use Rattle.sky_model.specs.State.{Database}
+use Rattle.sky_state.specs.Seen.{seen}
+use Rattle.pgq_queues.specs.Seen.{seen_with}
+use Rattle.pgq_db.specs.Views.{DbView}
+use Rattle.pgq_db.specs.Seen.{seen_database}
+use Rattle.pgq_db.proofs.Databases.{Runs}
+use Rattle.pgq_db.proofs.Agreeing.{agree-back}
+use Rattle.pgq_db.proofs.RetrySteps.{gives-back}
+use Rattle.pgq_db.proofs.db.Db.maint_retry_events.Goals as goal
+
+pub invariant_of-self-in_err-count : goal.invariant_of-self-in_err-count
+invariant_of-self-in_err-count c = λ e.
+    agree-back (seen c.self.inside.rows) (seen c.work_alone.new.rows) c.in_ok-txid.txid c.self.inside.queues c.bring_back.new.self c.in_ok-txid.ensures.id c.in_ok-txid.ensures.marks c.bring_back.ensures.rest
+    (c.self.invariant c.if-self.false)
+
+pub invariant_of-self-in_err-push-2 : goal.invariant_of-self-in_err-push-2
+invariant_of-self-in_err-push-2 c = λ e.
+    agree-back (seen c.self.inside.rows) (seen c.work_alone.new.rows) c.in_ok-txid.txid c.self.inside.queues c.bring_back.new.self c.in_ok-txid.ensures.id c.in_ok-txid.ensures.marks c.bring_back.ensures.rest
+    (c.self.invariant c.if-self.false)
+
+pub invariant_of-self-2 : goal.invariant_of-self-2
+invariant_of-self-2 c = λ e.
+    agree-back (seen c.self.inside.rows) (seen c.work_alone.new.rows) c.in_ok-txid.txid c.self.inside.queues c.bring_back.new.self c.in_ok-txid.ensures.id c.in_ok-txid.ensures.marks c.bring_back.ensures.rest
+    (c.self.invariant c.if-self.false)
+
+pub returns : goal.returns
+returns c =
+    let left : Database = seen_with (seen c.work_alone.new.rows) c.bring_back.new.self in
+    subst (λ (now : ℤ). Runs (seen_database c.args.self.now) left c.args.replies.now c.push-2.new.self c.args.who (maint_retry_events (seen_database c.args.self.now) now)) (to_z-of_z w64 c.args.now c.ranges.now)
+    (subst (λ (v : DbView). Runs (seen_database v) left c.args.replies.now c.push-2.new.self c.args.who (maint_retry_events (seen_database v) (to_z w64 (of_z w64 c.args.now)))) c.self.view_is
+    (gives-back (seen_with (seen c.self.inside.rows) c.self.inside.queues) left (seen c.work_alone.new.rows) (to_z w64 (of_z w64 c.args.now)) c.args.who c.in_ok-txid.txid c.due_count.result c.in_ok-count.count _ _
+    c.in_ok-txid.ensures.id c.due_count.ensures c.if-due_count-eq0.false c.in_ok-txid.ensures.marks (c.in_ok-count.ensures.marks (seen c.work_alone.new.rows)) c.in_ok-count.ensures.count c.in_ok-push-2.ensures.ok))

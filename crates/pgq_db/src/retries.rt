@@ -1,0 +1,111 @@
+//! The statements on retries: a subscription asks for an event once more, and those that are due come back.
+
+ghost use Rattle.std.specs.Prelude.{◌≡◌, ◌+◌, ◌<◌, ◌≤◌, ◌^◌, [], ◌∷◌, true, Ok, IfOk, IfErr, OnErr, unwrap_or};
+ghost use Rattle.sky_model.specs.History.{of_worker, began, ended};
+ghost use Rattle.sky_model.specs.Moment.{IsTime};
+ghost use Rattle.sky_model.specs.OwnTransaction.{next_id};
+ghost use Rattle.sky_model.specs.Reader.{shown_by};
+ghost use Rattle.sky_model.specs.Retries.{retried};
+ghost use Rattle.sky_model.specs.State.{after_part_marks};
+ghost use Rattle.sky_model.specs.StepRetry.{event_retry, maint_retry_events};
+ghost use Rattle.sky_model.specs.Stops.{Stops};
+ghost use Rattle.sky_state.specs.Seen.{seen};
+ghost use Rattle.pgq_db.specs.Seen.{seen_database};
+ghost use Rattle.pgq_db.specs.Gives.{Ran};
+
+use crate::db::Db;
+use pgq_retry::Retry;
+use sky_model::{Refusal, Replies, Reply, Stop};
+use sky_session::RowDb;
+use sky_trans::TransFault;
+use sky_val::{Event, SessionId};
+
+/// A second, in the unit of time.
+const SECOND: u64 = 1_000_000;
+
+impl Db {
+    /// `event_retry N N N`: the subscription of an active batch asks for one of its events, so many seconds from now.
+    pub(crate) fn event_retry(
+        &mut self,
+        now: i64,
+        who: SessionId,
+        id: u64,
+        event: u64,
+        seconds: u64,
+        replies: &mut Replies,
+    ) -> Result<(), Stop>
+        requires time { IsTime now }
+        requires seconds { seconds ≤ 1_000_000_000 }
+        ensures { Ran self.old self.new replies.old replies.new who result (event_retry (seen_database self.old) (shown_by (seen_database self.old)).events now id event seconds) }
+    {
+        if self.is_cut {
+            return Err(Stop::NoMemory);
+        }
+        let Some(batch) = self.queues.batch(id) else {
+            return Err(Stop::Refused(Refusal::NoBatch));
+        };
+        let Some(found) = self.queues.event_in(&batch, event)? else {
+            return Err(Stop::Refused(Refusal::NoEvent));
+        };
+        let retry = Retry {
+            queue: batch.queue,
+            sub: batch.sub,
+            due: now + (SECOND * seconds) as i64,
+            event: retried(batch.sub, found),
+        };
+        let count = u64::from(self.queues.retry(retry)?);
+        replies.push(who, Reply::Number(count))?;
+        Ok(())
+    }
+
+    /// `maint_retry_events`: those that are due come back, in a transaction that is no session's. Where none is due no id
+    /// is taken.
+    pub(crate) fn maint_retry_events(
+        &mut self,
+        now: i64,
+        who: SessionId,
+        replies: &mut Replies,
+    ) -> Result<(), Stop>
+        ensures { Ran self.old self.new replies.old replies.new who result (maint_retry_events (seen_database self.old) now) }
+    {
+        if self.is_cut {
+            return Err(Stop::NoMemory);
+        }
+        if self.queues.due_count(now) == 0 {
+            replies.push(who, Reply::Number(0))?;
+            return Ok(());
+        }
+        let txid = work_alone(&mut self.rows)?;
+        let count = self.queues.bring_back(now, txid)?;
+        replies.push(who, Reply::Number(count as u64))?;
+        Ok(())
+    }
+}
+
+/// An event as a subscription is to get it once more.
+fn retried(sub: u64, mut event: Event) -> Event
+    requires { unwrap_or event.ev_retry 0 + 1 < 2 ^ 64 }
+    ensures { result ≡ retried sub event }
+{
+    let times = event.ev_retry.unwrap_or(0);
+    event.ev_owner = Some(sub);
+    event.ev_retry = Some(times + 1);
+    event
+}
+
+/// A transaction of a worker, which commits at once, or a refusal where no id is left for it.
+fn work_alone(rows: &mut RowDb) -> Result<u64, Stop>
+    ensures id { IfOk result (λ txid. next_id (seen rows.old) ≡ Ok txid) }
+    ensures marks { IfOk result (λ txid. seen rows.new ≡ after_part_marks (seen rows.old) (began of_worker txid ∷ ended of_worker txid true ∷ [])) }
+    ensures stops { IfErr result (λ stop. Stops stop (seen rows.old) (seen rows.new) (next_id (seen rows.old))) }
+    ensures err { OnErr result (seen rows.new ≡ seen rows.old) }
+{
+    match rows.begin_worker() {
+        Ok(txid) => {
+            rows.end_worker(txid, true);
+            Ok(txid)
+        }
+        Err(TransFault::TxidsSpent) => Err(Stop::Refused(Refusal::TxidsSpent)),
+        Err(TransFault::NoMemory) => Err(Stop::NoMemory),
+    }
+}

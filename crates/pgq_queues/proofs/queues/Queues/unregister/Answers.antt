@@ -1,0 +1,42 @@
+use Rattle.std.proofs.Common.{None, Some, sym, option_map, ◌∙◌, ap, slice_set, refl}
+use Rattle.pgq_sub.specs.declared.sub.OpenBatch.{OpenBatch}
+use Rattle.pgq_sub.specs.Views.{SubView}
+use Rattle.pgq_queues.specs.Views.{QueueView}
+use Rattle.pgq_queues.specs.Batches.{open_id}
+use Rattle.pgq_queues.proofs.Marked.{queue-kept}
+use Rattle.pgq_queues.proofs.TracedLists.{stays-alike, stand-set, within-still, stands-kept}
+use Rattle.pgq_queues.proofs.Consumed.{becomes, within-less, unregistered-as, if-not}
+use Rattle.pgq_queues.proofs.Waiting.{same-events, retried-stays, retried-leave}
+use Rattle.pgq_queues.proofs.queues.Queues.unregister.Goals as goal
+
+pub invariant_of-self : goal.invariant_of-self
+invariant_of-self c = (
+  (c.self.invariant.0.0, retried-stays c.self.inside.slots c.args.queue c.get_mut.result.now c.unregister.new.self c.self.inside.retries (stands-kept _ _ c.args.queue c.self.view_is c.requires) c.get_mut.ensures.within c.get_mut.ensures.value (stays-alike _ _ (ap QueueView.ticks c.in_err-sub.ensures.none) (ap QueueView.subs c.in_err-sub.ensures.none)) (same-events _ _ (ap QueueView.events c.in_err-sub.ensures.none)) c.self.invariant.0.1),
+  within-still c.self.inside.names c.self.inside.slots (slice_set c.self.inside.slots c.args.queue c.unregister.new.self) c.self.inside.batches.entries c.self.inside.triggers.items c.self.inside.traced.entries
+      (stand-set c.self.inside.slots c.args.queue c.get_mut.result.now c.unregister.new.self (stands-kept _ _ c.args.queue c.self.view_is c.requires) c.get_mut.ensures.within c.get_mut.ensures.value
+      (stays-alike _ _ (ap QueueView.ticks c.in_err-sub.ensures.none) (ap QueueView.subs c.in_err-sub.ensures.none))) c.self.invariant.1,
+)
+
+pub returns-in_err-sub-clause-none : goal.returns-in_err-sub-clause-none
+returns-in_err-sub-clause-none c = if-not c.from_residual.result _ (queue-kept _ _ c.args.queue c.get_mut.result.now c.unregister.new.self c.self.view_is c.get_mut.ensures.value c.in_err-sub.ensures.none)
+
+pub invariant_of-self-2 : goal.invariant_of-self-2
+invariant_of-self-2 c =
+    let name = c.args.consumer.now in
+    let old = c.get_mut.result.now in
+    let new = c.unregister.new.self in (
+      (
+        c.self.invariant.0.0,
+        retried-leave c.self.inside.slots c.args.queue c.id-id.result old new name c.self.inside.retries c.drop_sub.new.self (stands-kept _ _ c.args.queue c.self.view_is c.requires) c.get_mut.ensures.within c.get_mut.ensures.value
+            c.unregister.ensures.but (becomes name (λ _. None) old new _ c.unregister.ensures.subs) (ap (option_map SubView.id) (sym c.in_ok-sub.ensures.was) ∙ ap Some (sym c.id-id.ensures)) c.drop_sub.ensures c.self.invariant.0.1,
+      ),
+      within-less c.self.inside.names c.self.inside.slots c.args.queue name (λ _. None) (option_map OpenBatch.id c.active.result) old new c.self.inside.batches.entries c.forget.new.places.entries
+          c.self.inside.triggers.items c.self.inside.traced.entries c.get_mut.ensures.within c.get_mut.ensures.value (stands-kept _ _ c.args.queue c.self.view_is c.requires) (ap QueueView.ticks c.unregister.ensures.but)
+          (becomes name (λ _. None) old new _ c.unregister.ensures.subs) (ap (option_map OpenBatch.id) c.active.ensures ∙ ap open_id c.in_ok-sub.ensures.was) refl
+          c.forget.ensures c.self.invariant.1,
+    )
+
+pub returns-clause-mark : goal.returns-clause-mark
+returns-clause-mark c =
+    unregistered-as _ _ c.self.inside.last_batch_id c.args.queue c.id-id.result c.args.consumer.now (option_map OpenBatch.id c.active.result) c.get_mut.result.now c.unregister.new.self c.forget.new.places.entries c.drop_sub.new.self
+    c.self.view_is c.get_mut.ensures.within c.get_mut.ensures.value c.unregister.ensures.but c.unregister.ensures.subs (ap (option_map OpenBatch.id) c.active.ensures ∙ ap open_id c.in_ok-sub.ensures.was) c.forget.ensures c.self.invariant.1.1.0.indexed c.drop_sub.ensures

@@ -1,0 +1,14 @@
+use Rattle.sky_model.proofs.RetryLaws as law
+use Rattle.sky_model.proofs.laws.retries_come_back_once.Goals as goal
+
+pub returns-clause-copies : goal.returns-clause-copies
+returns-clause-copies c = law.retries_are_copies
+
+pub returns-clause-once : goal.returns-clause-once
+returns-clause-once c = law.retries_wait_once
+
+pub returns-clause-due : goal.returns-clause-due
+returns-clause-due c = law.retries_come_back_due
+
+pub returns-clause-owned : goal.returns-clause-owned
+returns-clause-owned c = law.retries_are_for_their_subscription

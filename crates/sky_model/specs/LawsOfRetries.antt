@@ -1,0 +1,64 @@
+-- The laws on events that are retried, at each place of each history that calls make.
+use Rattle.std.specs.Prelude.{◌≡◌, ℕ, ◌+◌, ◌≤◌, ℤ, ◌≤ℤ◌, List, ◌∷◌, true, false, Some, unwrap_or, All, Contains, length, filter}
+use Rattle.sky_val.specs.declared.event.Event.{Event}
+use Rattle.pgq_retry.specs.declared.retry.Retry.{Retry}
+use Rattle.pgq_retry.specs.Retries.{is_event, is_asked}
+use Rattle.sky_model.specs.History.{Batch, queued, put, returned, History}
+use Rattle.sky_model.specs.Transactions.{has_ended}
+use Rattle.sky_model.specs.Queues.{events}
+use Rattle.sky_model.specs.Consumers.{subscription_id}
+use Rattle.sky_model.specs.Retries.{retries}
+use Rattle.sky_model.specs.LawsOfBatches.{stands_in}
+use Rattle.sky_model.specs.HistoryPlaces.{IsPlace}
+
+-- an event is a copy of another one: all fields are the same except transaction, owner and number of retries
+pub record IsCopyOf (copy source : Event) : Type 0 where
+  pub same_id : copy.ev_id ≡ source.ev_id
+  pub same_time : copy.ev_time ≡ source.ev_time
+  pub same_type : copy.ev_type ≡ source.ev_type
+  pub same_data : copy.ev_data ≡ source.ev_data
+  pub same_extra1 : copy.ev_extra1 ≡ source.ev_extra1
+  pub same_extra2 : copy.ev_extra2 ≡ source.ev_extra2
+  pub same_extra3 : copy.ev_extra3 ≡ source.ev_extra3
+  pub same_extra4 : copy.ev_extra4 ≡ source.ev_extra4
+
+-- a retry is of a subscription of its queue, which is its event's owner; and its event is a copy of one that was put there,
+-- with one retry more
+pub record IsRetry (p : History) (retry : Retry) : Type 0 where
+  pub consumer : List ℕ
+  pub subscribed : subscription_id retry.queue consumer p ≡ Some retry.sub
+  pub source : Event
+  pub stored : Contains (events retry.queue p) source
+  pub copied : IsCopyOf retry.event source
+  pub owned : retry.event.ev_owner ≡ Some retry.sub
+  pub counted : retry.event.ev_retry ≡ Some (unwrap_or source.ev_retry 0 + 1)
+
+-- so is each that waits
+abbrev pub RetriesAreCopies : Type 0
+RetriesAreCopies = (p : History) → IsPlace p → All (IsRetry p) (retries p)
+
+-- for each event id of a subscription at most one waits
+abbrev pub RetriesWaitOnce : Type 0
+RetriesWaitOnce = (p : History) → IsPlace p → (sub id : ℕ) → length (filter (is_event sub id) (retries p)) ≤ 1
+
+-- a retry that comes back waited, and is due; its event was put just before, the same except that it is of another transaction, which hadn't ended;
+-- and it waits no more
+pub record ComesBack (p : History) (retry : Retry) (moment : ℤ) : Type 0 where
+  pub below : History
+  pub event : Event
+  pub after_put : p ≡ queued (put retry.queue event) ∷ below
+  pub copied : IsCopyOf event retry.event
+  pub same_owner : event.ev_owner ≡ retry.event.ev_owner
+  pub same_count : event.ev_retry ≡ retry.event.ev_retry
+  pub waited : Contains (retries below) retry
+  pub due : retry.due ≤ℤ moment
+  pub runs : has_ended below event.ev_txid ≡ false
+  pub gone : is_asked retry.sub retry.event.ev_id (retries (queued (returned retry moment) ∷ p)) ≡ false
+
+-- so it is with each that comes back
+abbrev pub RetriesComeBackDue : Type 0
+RetriesComeBackDue = (p : History) (retry : Retry) (moment : ℤ) → IsPlace (queued (returned retry moment) ∷ p) → ComesBack p retry moment
+
+-- an event that is a subscription's own is in no batch of another one
+abbrev pub RetriesAreForTheirSubscription : Type 0
+RetriesAreForTheirSubscription = (h : History) (b : Batch) (e : Event) (sub : ℕ) → e.ev_owner ≡ Some sub → stands_in h b e ≡ true → b.sub ≡ sub

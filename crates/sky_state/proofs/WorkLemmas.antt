@@ -1,0 +1,37 @@
+-- The marks of workers' transactions, in what the code keeps.
+use Rattle.std.proofs.Common.{◌≡◌, ℕ, ◌+◌, List, [], ◌∷◌, ◌++◌, true, false, not, ◌&&◌, ◌==◌, filter, ap, ◌∙◌}
+use Rattle.sky_names.specs.Named.{NamedView}
+use Rattle.sky_keys.specs.Versions.{forgotten}
+use Rattle.sky_trans.specs.Trans.{TransView}
+use Rattle.sky_rows.specs.Table.{TableView}
+use Rattle.sky_model.specs.History.{of_worker, began, ended}
+use Rattle.sky_model.specs.State.{after_part}
+use Rattle.sky_state.specs.Views.{RowStateView}
+use Rattle.sky_state.specs.Seen.{columns_of, versions_of, wrote_in, seen}
+
+-- a worker's transaction that begins runs
+pub work_begun-as : (v now : RowStateView) (trans : TransView) (workers : List ℕ) (t : ℕ) → v ≡ now
+    → trans ≡ record { next = v.trans.next + 1; running = v.trans.running ++ t ∷ [] } → workers ≡ v.workers ++ t ∷ []
+    → seen (record v { trans = trans; workers = workers }) ≡ after_part (seen now) (began of_worker t)
+work_begun-as v now trans workers t same more one =
+    (λ i. record (seen v) { next = (more i).next; running_ids = (more i).running; workers = one i })
+    ∙ ap (λ (w : RowStateView). after_part (seen w) (began of_worker t)) same
+
+-- one that has committed doesn't
+pub work_committed-as : (v now : RowStateView) (trans : TransView) (workers : List ℕ) (writers : List (ℕ × ℕ)) (t : ℕ) → v ≡ now
+    → trans ≡ record v.trans { running = filter (λ u. not (u == t)) v.trans.running } → workers ≡ filter (λ u. not (u == t)) v.workers
+    → wrote_in writers ≡ (λ n u. not (t == u) && wrote_in v.writers n u)
+    → seen (record v { trans = trans; workers = workers; writers = writers }) ≡ after_part (seen now) (ended of_worker t true)
+work_committed-as v now trans workers writers t same less none gone =
+    (λ i. record (seen v) { next = (less i).next; running_ids = (less i).running; workers = none i; wrote_in = gone i })
+    ∙ ap (λ (w : RowStateView). after_part (seen w) (ended of_worker t true)) same
+
+-- and one that was rolled back has no version either
+pub work_aborted-as : (v now : RowStateView) (trans : TransView) (workers : List ℕ) (tables : NamedView TableView) (writers : List (ℕ × ℕ)) (t : ℕ) → v ≡ now
+    → trans ≡ record v.trans { running = filter (λ u. not (u == t)) v.trans.running } → workers ≡ filter (λ u. not (u == t)) v.workers
+    → tables.names ≡ v.tables.names → columns_of tables.values ≡ columns_of v.tables.values → versions_of tables.values ≡ (λ n. forgotten t (versions_of v.tables.values n))
+    → wrote_in writers ≡ (λ n u. not (t == u) && wrote_in v.writers n u)
+    → seen (record v { trans = trans; workers = workers; tables = tables; writers = writers }) ≡ after_part (seen now) (ended of_worker t false)
+work_aborted-as v now trans workers tables writers t same less none names columns versions gone =
+    (λ i. record (seen v) { next = (less i).next; running_ids = (less i).running; workers = none i; tables = names i; columns = columns i; versions = versions i; wrote_in = gone i })
+    ∙ ap (λ (w : RowStateView). after_part (seen w) (ended of_worker t false)) same

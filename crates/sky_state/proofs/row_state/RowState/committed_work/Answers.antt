@@ -1,0 +1,22 @@
+use Rattle.std.proofs.Common.{◌≡◌, true, not, ◌==◌, rules, ap, sym, subst}
+use Rattle.std.proofs.lemmas.Fn.{filter_same}
+use Rattle.sky_txid.specs.Ids.{contains}
+use Rattle.sky_trans.specs.Trans.{TransView}
+use Rattle.sky_state.specs.Views.{RowStateView}
+use Rattle.sky_state.proofs.Owning.{owned-work_end}
+use Rattle.sky_state.proofs.WorkLemmas.{work_committed-as}
+use Rattle.sky_state.proofs.row_state.RowState.committed_work.Goals as goal
+
+pub commit-requires : goal.commit-requires
+commit-requires c = c.self.invariant.1.0.works c.args.txid (subst (λ (v : RowStateView). contains c.args.txid v.workers ≡ true) (sym c.self.view_is) c.requires)
+
+pub invariant_of-self : goal.invariant_of-self
+invariant_of-self c =
+    let kept = filter_same _ (λ u. not (u == c.args.txid)) _ (λ t b f' called. search rules) _ _ c.retain.ensures.filtered in
+    let listed = subst (λ (v : RowStateView). contains c.args.txid v.workers ≡ true) (sym c.self.view_is) c.requires in
+    (c.self.invariant.0, (owned-work_end _ _ _ _ _ c.args.txid (ap (λ (v : TransView). v.running) c.commit.ensures) kept listed c.self.invariant.1.0, c.self.invariant.1.1))
+
+pub returns : goal.returns
+returns c =
+    let kept = filter_same _ (λ u. not (u == c.args.txid)) _ (λ t b f' called. search rules) _ _ c.retain.ensures.filtered in
+    work_committed-as _ _ c.commit.new.self _ c.end.new.self c.args.txid c.self.view_is c.commit.ensures kept c.end.ensures
