@@ -1,6 +1,6 @@
 //! What the updates of `bench/run` cost in plain Rust: a program that prints the same for those scripts, and does of
 //! each line no more than it must. It reads the line, looks the row up in a `BTreeMap` by its key, puts a new version
-//! behind the others, and copies the row before and after for whoever would follow the table. It knows one session,
+//! after the others, and copies the row before and after for whoever would follow the table. It knows one session,
 //! no transaction block, no lock, no wait, no snapshot but that all before has committed, and no refusal: a line that
 //! it doesn't know ends it.
 //!
@@ -135,7 +135,7 @@ fn main() -> io::Result<()> {
         line.clear();
     }
     output.flush()?;
-    // As in pgqrun, the end of the program takes all of it.
+    // As in pgqrun, all memory is freed when the program ends.
     mem::forget(tables);
     Ok(())
 }

@@ -43,7 +43,7 @@ def read_cases(path):
 
 
 def time_range(times):
-    """The range in words, in milliseconds where nanoseconds would be many."""
+    """The range in words, in milliseconds if there would be many nanoseconds."""
     scale, unit, form = (1e6, 'ms', '{:.1f}') if min(times) >= 1e5 else (1, 'ns', '{:,.0f}')
     return '%s %s' % (number_range([time / scale for time in times], form), unit)
 
@@ -63,7 +63,7 @@ def step_of(most):
 
 class Speed:
     """The picture: a row a case, with bars for its times and a stroke for its growths. A bar that is far longer than the
-    others ends with the axis, and its number tells."""
+    others ends with the axis, and its number says how long it is."""
 
     def __init__(self, cases):
         self.cases = cases

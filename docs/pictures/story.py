@@ -9,7 +9,7 @@ WRITES = ('insert', 'update', 'delete')
 @dataclass
 class Block:
     """A block of a session. `ended` is the row at which its transaction ended, and `last` that at which the block did,
-    which is later if a refusal has aborted it; None where the script ends first."""
+    which is later if a refusal has aborted it; None if the script ends first."""
     session: str
     first: int
     ended: int = None
@@ -86,7 +86,7 @@ class Teller:
             self.home[row.session] = words[1]
 
     def waits(self, place, row):
-        """Begins a wait, or ends one: where its statement resumes, or is cancelled."""
+        """Begins a wait, or ends one, when its statement resumes or is canceled."""
         if row.reply.startswith('waits for '):
             wait = Wait(row.session, row.reply.removeprefix('waits for '), place)
             self.wait[row.session] = wait
@@ -123,7 +123,7 @@ class Teller:
 
     @staticmethod
     def is_single(form, row):
-        """Whether the row is the answer of a statement that took a transaction id, where it is outside blocks."""
+        """Whether the row is the answer of a statement that took a transaction id outside blocks."""
         if form in WRITES or form == 'create_queue':
             return row.reply == '1'
         return form in ('insert_event', 'txid_current') and row.reply.isdecimal()

@@ -73,7 +73,7 @@ def number(value):
 
 
 def attributes(pairs):
-    """The attributes with these names and values, of which None is left out. A name that Python has taken, such as
+    """The attributes with these names and values, without those that are None. A name that Python has taken, such as
     `class`, comes with an underscore after it."""
     written = {name.rstrip('_').replace('_', '-'): number(value) if isinstance(value, (int, float)) else escaped(value)
                for name, value in pairs.items() if value is not None}
@@ -119,7 +119,7 @@ class Picture:
         self.shape('path', d=points, class_=classes, stroke_width=width, **more)
 
     def text(self, x, y, text, classes='fill-ink', room=None, turned=False):
-        """A text whose line is centred at y; cut where it has less room than it takes, with the whole as its title."""
+        """A text whose line is centred at y; cut if it has less room than it takes, with the whole as its title."""
         shown = text if room is None else cut(text, room)
         self.texts.append(extent(x, y, shown, classes, turned))
         turn = 'rotate(-90 %s %s)' % (number(x), number(y)) if turned else None
@@ -128,7 +128,7 @@ class Picture:
             attributes({'x': x, 'y': y + BASELINE, 'class_': classes, 'transform': turn}), title, escaped(shown)))
 
     def check(self, width, height):
-        """Fails where a text has another over it, or is cut by an edge of the picture."""
+        """Fails if a text has another over it, or is cut by an edge of the picture."""
         near = []
         for text in sorted(self.texts, key=lambda extent: extent[1]):
             near = [other for other in near if other[3] > text[1]]

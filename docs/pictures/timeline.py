@@ -101,7 +101,7 @@ class Timeline:
         return []
 
     def tick_name(self, tick):
-        """A tick with its queue and its database, where there are several."""
+        """A tick with its queue and its database, if there are several."""
         name = 'tick %s' % tick.id
         if self.several_queues or self.several_homes:
             name += ' of %s' % tick.queue
@@ -161,7 +161,7 @@ class Timeline:
         self.pointer(x, y, holder + (width if x > holder else -width) / 2, y, 'dashed')
 
     def ring(self, place, row):
-        """The wait that a deadlock has refused: an arrow to the holder, the second of the ring."""
+        """The wait that a deadlock has refused: an arrow to the holder, the second of the cycle."""
         x, y = self.places.middle[row.session], self.places.y(place)
         holder = self.places.middle[row.reply.split(' ')[3]]
         self.pointer(x, y, holder + (self.places.bar if x > holder else -self.places.bar) / 2, y, 'dashed')
