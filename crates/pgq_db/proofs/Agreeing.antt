@@ -98,7 +98,7 @@ rounds-behind : (q : QueuesView) (marks : List Mark) → (passed_all event_rule 
 rounds-behind q [] = refl
 rounds-behind q (mark ∷ marks) = rounds-behind (passed event_rule q mark) marks ∙ rounds-passed q mark
 
--- behind a turn, from where the queues got a time
+-- after a turn, from where the queues got a time
 pub agree-behind_turn : (now at : ℤ) (p after : RowPart) (was q left : QueuesView) (gated told : Turn) → (Alike now was.undone (seen_with p was) p q → SameTold event_rule (Alike now was.undone) (seen_with p was) p q gated told)
     → q ≡ record was { time = at } → at ≡ now → Agree p was → All (λ t. t.trigger.queue < length q.queues) q.triggers → after ≡ after_part_marks p gated.marks → left ≡ passed_all event_rule q gated.marks → Agree after left
 agree-behind_turn now at p after was q left gated told tells is time are within part_is left_is =

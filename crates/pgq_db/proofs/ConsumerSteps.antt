@@ -160,7 +160,7 @@ gives-batch d s who q n consumer sub next before after there left changed is pus
     result = does_marks (Number (d.last_batch_id + 1))
         (queued (opened (record { id = d.last_batch_id + 1; queue = q; consumer = consumer; sub = sub.id; prev = sub.position; cur = next.id })) ∷ [])
 
--- the tick behind a position, as the queue says
+-- the tick after a position, as the queue says
 pub next-as : (v now : DbView) (q at position : ℕ) (queue : Queue) (ticks : List Tick) (next : Tick) → v ≡ now → queue ≡ queue_at v.queues q → ticks ≡ queue.tick_list
     → Some next ≡ tick (at + 1) ticks → at ≡ position → Some next ≡ tick (position + 1) ((seen_database now).queue q).tick_list
 next-as v now q at position queue ticks next same there are is stands =

@@ -60,7 +60,7 @@ pub marked-as : (v now : DbView) (queues : QueuesView) (mark : QueuesView → Qu
     → seen_database (record v { queues = queues }) ≡ after_mark (seen_database now) (queued (mark now.queues))
 marked-as v now queues mark same is = is (seen v.rows) ∙ ap (λ (w : DbView). after_mark (seen_database w) (queued (mark w.queues))) same
 
--- of those with a snapshot where it is that of the row part
+-- of those with a snapshot if it is that of the row part
 pub ticked-as : (v now : DbView) (queues : QueuesView) (snapshot : SnapshotView) (marks : QueuesView → List Mark) → v ≡ now → snapshot ≡ snapshot_now (seen now.rows)
     → ((part : RowPart) → snapshot ≡ snapshot_now part → seen_with part queues ≡ after_marks (seen_with part v.queues) (marks v.queues))
     → seen_database (record v { queues = queues }) ≡ after_marks (seen_database now) (marks now.queues)
@@ -89,7 +89,7 @@ pub none-from : (found : Option ℕ) (place : Option ℕ) → found ≡ place �
 none-from None place is e = sym is
 none-from (Some n) place is e = cc
 
--- what a session writes may come behind the marks of its transaction
+-- what a session writes may come after the marks of its transaction
 event-written : (d : Database) (who t : ℕ) (o : Option ℕ) (b : Block) (q id : ℕ) (event : Event)
     → after_mark (after_mark (after_marks d (begin_of who t o ++ commit_of who t b)) (queued (raised q id))) (queued (put q event))
     ≡ after_marks d (begin_of who t o ++ (queued (raised q id) ∷ queued (put q event) ∷ []) ++ commit_of who t b)
@@ -335,7 +335,7 @@ answers-refused d s1 s2 before between after who refusal checked refuses kept an
     (subst (λ (x : Database). Answers x s2 before after who (settled who (x.part.session who) (Err refusal))) refuses.same
     (subst (λ xs. Answers s1 s2 xs after who (settled who (s1.part.session who) (Err refusal))) kept answers))
 
--- what was done, and then what is done by the statements that go on
+-- what was done, and then what is done by the statements that resume
 pub adds-then : (now : ℤ) (d s1 s2 : Database) (turn : Turn) (before between after : List (ℕ × Reply)) → Adds d s1 before between turn
     → Adds s1 s2 between after (settling (within_part database_by_itself now) s1) → Adds d s2 before after (with_settling (within_part database_by_itself now) d turn)
 adds-then now d s1 s2 turn before between after first later = record {
@@ -376,7 +376,7 @@ spent-events d now who name ev_type ev_data extra q seq place left is over =
         does_marks (Number id) (written who x (d.part.session who) (queued (raised q id) ∷ queued (put q (made_event id now x ev_type ev_data extra)) ∷ [])))) spent
     of (Err refusal) e = absurd (cc)
 
--- a transaction that got its id, and ended where it stands in no block
+-- a transaction that got its id, and ended if it is in no block
 pub took : (d : Database) (left : RowPart) (who t : ℕ) → left ≡ after_part_marks d.part (written who t (d.part.session who) [])
     → record d { part = left } ≡ after_marks d (begin_of who t (d.part.session who).txid ++ commit_of who t (d.part.session who).block)
 took d left who t is = ap (λ part. record d { part = part }) is ∙ joined (d.part.session who).txid (d.part.session who).block

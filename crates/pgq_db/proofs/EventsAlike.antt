@@ -1,4 +1,4 @@
--- The queues keep what tells a database of writes: so a statement behind them does what it does in the database.
+-- The queues keep what a database's triggers need: so a statement that has them as its gate does what it does in the database.
 use Rattle.std.proofs.Common.{◌≡◌, ℕ, suc, ℤ, ◌+◌, ◌<◌, ◌^◌, Bool, true, false, nat_le, ◌==◌, List, [], ◌∷◌, ◌++◌, Option, Some, None, Ok, Err, is_ok, map, length, get_or, slice_set, refl, sym, ◌∙◌, ap, subst, arith, if◌then◌else◌}
 use Rattle.std.specs.Prelude.{not, ◌&&◌, option_map, slice_get, unwrap_or}
 use Rattle.std.specs.List.{All}
@@ -34,7 +34,7 @@ use Rattle.pgq_queues.proofs.Telling.{telling-length}
 use Rattle.pgq_db.specs.Undone.{undone_by}
 use Rattle.pgq_db.proofs.Tables.{tables-kept}
 
--- ---- events that are told of, and those that queues store
+-- ---- events that record writes, and those that queues store
 
 -- what queues show
 abbrev shown : List QueueView → ℕ → Queue
@@ -81,7 +81,7 @@ is_ok-then : {A B : Type 0} (c : Checked A) (f : A → B) → is_ok (c >>= (λ a
 is_ok-then (Ok a) f = refl
 is_ok-then (Err refusal) f = refl
 
--- there are ids for events where the sequences have them
+-- there are ids for events if the sequences have them
 told-ids : (es : List RowEvent) (d : Database) (now : ℤ) (t : ℕ) → is_ok (told_by d now t es) ≡ ids_left (λ n. (d.queue n).seq) es
 told-ids [] d now t = refl
 told-ids (e ∷ es) d now t = by (nat_le (2 ^ 62) ((d.queue e.queue).seq + 1)) (told-ids es behind now t)
@@ -101,7 +101,7 @@ told-ids (e ∷ es) d now t = by (nat_le (2 ^ 62) ((d.queue e.queue).seq + 1)) (
 ok-is : {A : Type 0} (x y : A) (c : Checked A) → c ≡ Ok x → c ≡ Ok y → x ≡ y
 ok-is x y c e also = cc
 
--- what events leave that are told of
+-- what events leave that record writes
 told-behind : (es : List RowEvent) (queues : List QueueView) (d : Database) (now : ℤ) (t : ℕ) (told : List Mark) → All (λ e. e.queue < length queues) es → d.queue ≡ shown queues
     → told_by d now t es ≡ Ok told → after_marks d told ≡ record d { queue = shown (telling_all now t es queues) }
 told-behind [] queues d now t told within is ok = ap (after_marks d) (sym (ok-is [] told (Ok []) refl ok)) ∙ (λ i. record d { queue = is i })
@@ -160,7 +160,7 @@ subs-told (e ∷ es) queues now t within = subs-told es (slice_set queues e.queu
 
 -- ---- a database, its row part, and its queues
 
--- a database, its row part and its queues at a time, where some transactions had been noted as rolled back
+-- a database, its row part and its queues at a time, when some transactions had been noted as rolled back
 pub record Alike (now : ℤ) (undone : List ℕ) (d : Database) (p : RowPart) (q : QueuesView) : Type 0 where
   pub whole : d ≡ record (seen_with p q) { undone = d.undone }
   pub time : q.time ≡ now
@@ -251,7 +251,7 @@ module _ (now : ℤ) (undone : List ℕ) where
 
   -- ---- what a database gives
 
-  -- a statement on rows does the same behind the queues and in the database, and so do those that may go on
+  -- a statement on rows does the same with the queues as its gate and in the database, and so do those that may resume
   pub step-told : (d : Database) (p : RowPart) (q : QueuesView) (who : ℕ) (stmt : RowStmt) → Here d p q
       → SameTold event_rule Here d p q (row_turn (by_gate event_rule part_by_itself) (p, q) who stmt) (database_turn database_by_itself d now who (Row stmt))
   step-told d p q who stmt is = row_turn-told event_rule now Here events-alike d p q who stmt is
@@ -260,7 +260,7 @@ module _ (now : ℤ) (undone : List ℕ) where
       → SameTold event_rule Here d p q (settling (by_gate event_rule part_by_itself) (p, q)) (settling (within_part database_by_itself now) d)
   settle-told d p q is = settling-told event_rule now Here events-alike d p q is
 
-  -- behind a turn the row part and the queues show the database, once it is noted what was rolled back
+  -- after a turn the row part and the queues show the database, once it is noted what was rolled back
   pub told-changed : (d : Database) (p after : RowPart) (q left noted : QueuesView) (gated told : Turn) (effects : List Effect) → SameTold event_rule Here d p q gated told
       → after ≡ after_part_marks p gated.marks → left ≡ passed_all event_rule q gated.marks → undone_by effects (keeps undone) ≡ (after_marks d gated.marks).undone
       → seen_with after noted ≡ record (seen_with after left) { undone = undone_by effects (keeps left.undone) } → seen_with after noted ≡ after_marks d told.marks
@@ -289,7 +289,7 @@ alike-at now at p was q is time tables within = record {
   within = within;
 }
 
--- behind a turn from there what is kept of tables is true
+-- after a turn from there what is kept of tables is true
 pub tables-behind_turn : (now at : ℤ) (p after : RowPart) (was q left : QueuesView) (gated told : Turn) → (Alike now was.undone (seen_with p was) p q → SameTold event_rule (Alike now was.undone) (seen_with p was) p q gated told)
     → q ≡ record was { time = at } → at ≡ now → AreTables p was → All (λ t. t.trigger.queue < length q.queues) q.triggers → after ≡ after_part_marks p gated.marks → left ≡ passed_all event_rule q gated.marks → AreTables after left
 tables-behind_turn now at p after was q left gated told tells is time tables within =

@@ -17,7 +17,7 @@ same-moments replies answers is have = subst (All HasMoments) (sym is) have
 pub one-moments : (who : ℕ) (reply : Reply) → ReplyHasMoments reply → HaveMoments ((who, reply) ∷ [])
 one-moments who reply has = All-from_recursion HasMoments ((who, reply) ∷ []) (has, tt)
 
--- those of a turn, and of the statements that go on behind it
+-- those of a turn, and of the statements that resume after it
 pub then-moments : (now : ℤ) (d s : Database) (turn : Turn) → HaveMoments turn.answers → s ≡ after_marks d turn.marks → HaveMoments (settling (within_part database_by_itself now) s).answers
     → HaveMoments (with_settling (within_part database_by_itself now) d turn).answers
 then-moments now d s turn own is later =

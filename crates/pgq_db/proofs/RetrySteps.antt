@@ -14,7 +14,7 @@ use Rattle.sky_model.specs.History as model
 use Rattle.sky_model.specs.History.{Mark, of_worker, began, ended, queued, put, asked, returned}
 use Rattle.sky_model.specs.Selection.{selected}
 use Rattle.sky_model.specs.State.{RowPart, after_part_marks, Database, after_mark, after_marks}
-use Rattle.sky_model.specs.Outcome.{Outcome, Checked, ◌>>=◌, found_or, answers, does_marks}
+use Rattle.sky_model.specs.Outcome.{Outcome, Checked, marks_of, ◌>>=◌, found_or, answers, does_marks}
 use Rattle.sky_model.specs.OwnTransaction.{next_id}
 use Rattle.sky_model.specs.Reader.{shown_by}
 use Rattle.sky_model.specs.Retries.{brought_by}
@@ -49,37 +49,25 @@ module _ (d : Database) (now : ℤ) (id event seconds : ℕ) (b : model.Batch) (
 
 -- ---- those that are due come back
 
--- marks of queues may come behind the end of a transaction that commits
+-- marks of queues may come after the end of a transaction that commits
 behind-end : (d : Database) (now : ℤ) (t : ℕ) (rs : List Retry) → after_marks (after_mark d (ended of_worker t true)) (back now t rs) ≡ after_marks d (back now t rs ++ ended of_worker t true ∷ [])
 behind-end d now t [] = refl
 behind-end d now t (r ∷ rs) = behind-end (after_mark (after_mark d (queued (put r.queue (brought_by t r.event)))) (queued (returned r now))) now t rs
 
-pub none-back : (d : Database) (now : ℤ) (who n : ℕ) (before after : List (ℕ × Reply)) → n ≡ length (due_now now most_back d.retries) → n ≡ 0 → after ≡ before ++ (who, Number 0) ∷ []
-    → Runs d d before after who (maint_retry_events d now)
-none-back d now who n before after is none pushed = of (due_now now most_back d.retries) is
-  where
-    of : (rs : List Retry) → n ≡ length rs → Runs d d before after who (brings d now rs)
-    of [] is = (record { accepted = refl; replied = pushed; changed = refl }, tt)
-    of (r ∷ rs) is = absurd (omega (arith, is, none))
-
-some-back : (d : Database) (now : ℤ) (t : ℕ) (rs : List Retry) → next_id d.part ≡ Ok t → 0 < length rs
+pub some-back : (d : Database) (now : ℤ) (t : ℕ) (rs : List Retry) → next_id d.part ≡ Ok t → 0 < length rs
     → brings d now rs ≡ does_marks (Number (length rs)) (began of_worker t ∷ back now t rs ++ ended of_worker t true ∷ [])
 some-back d now t [] left some = absurd (omega (arith, some))
 some-back d now t (r ∷ rs) left some = ap (λ c. c >>= (λ x. does_marks (Number (length (r ∷ rs))) (began of_worker x ∷ back now x (r ∷ rs) ++ ended of_worker x true ∷ []))) left
 
-pub gives-back : (d s : Database) (part : RowPart) (now : ℤ) (who t due n : ℕ) (before after : List (ℕ × Reply)) → next_id d.part ≡ Ok t
-    → due ≡ length (due_now now most_back d.retries) → (due ≡ 0 → ⊥) → part ≡ after_part_marks d.part (began of_worker t ∷ ended of_worker t true ∷ [])
-    → s ≡ after_marks (record d { part = part }) (back now t (due_now now most_back d.retries)) → n ≡ length (due_now now most_back d.retries) → after ≡ before ++ (who, Number n) ∷ []
-    → Runs d s before after who (maint_retry_events d now)
-gives-back d s part now who t due n before after left count some changed came is pushed =
-    subst (Runs d s before after who) (sym (some-back d now t rs left (many (length rs) count))) (
-      record {
-        accepted = refl;
-        replied = pushed ∙ ap (λ k. before ++ (who, Number k) ∷ []) is;
-        changed = came ∙ ap (λ p. after_marks (record d { part = p }) (back now t rs)) changed ∙ behind-end (after_mark d (began of_worker t)) now t rs;
-      },
-      tt,
-    )
+-- the database is then as the definition says
+pub brought-back : (d s : Database) (part : RowPart) (now : ℤ) (t due : ℕ) → next_id d.part ≡ Ok t → due ≡ length (due_now now most_back d.retries) → (due ≡ 0 → ⊥)
+    → part ≡ after_part_marks d.part (began of_worker t ∷ ended of_worker t true ∷ []) → s ≡ after_marks (record d { part = part }) (back now t (due_now now most_back d.retries))
+    → s ≡ after_marks d (marks_of (maint_retry_events d now))
+brought-back d s part now t due left count some changed came =
+    came
+    ∙ ap (λ p. after_marks (record d { part = p }) (back now t rs)) changed
+    ∙ behind-end (after_mark d (began of_worker t)) now t rs
+    ∙ ap (λ c. after_marks d (marks_of c)) (sym (some-back d now t rs left (many (length rs) count)))
   where
     rs : List Retry
     rs = due_now now most_back d.retries

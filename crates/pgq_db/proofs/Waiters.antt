@@ -83,7 +83,7 @@ waiting-within count who (w ∷ ws) within is = of (w.who == who) refl is (waiti
     of true e also ih = let same : w.who ≡ who = grind (arith, nat_tests) in subst (λ n. n < count) same (within zero w (omega arith))
     of false e also ih = ih also
 
--- those who go on waited
+-- those who resume waited
 record GoOnWithin {P : Type 0} (r : PartReader P) (count : ℕ) (p : P) (turn : Turn) : Type 0 where
   answers : AnswersWithin count turn.answers
   waiting : WaitersWithin count (r.part (behind_marks r p turn.marks)).waiting
@@ -105,7 +105,7 @@ settles-within {P = P} r keeps count (suc n) p within = of (ready (r.part p)) re
               (sym (behind-append r p (resumed r p w).marks (settles r n (behind_marks r p (resumed r p w).marks)).marks)) rest.waiting;
         }
 
--- the sessions of a turn's answers are known, and so are those that wait behind it
+-- the sessions of a turn's answers are known, and so are those that wait after it
 record TurnWithin (count : ℕ) (d : Database) (turn : Turn) : Type 0 where
   answers : AnswersWithin count turn.answers
   waiting : WaitersWithin count (after_marks d turn.marks).part.waiting
@@ -119,7 +119,7 @@ settling-within count now d within = record {
     gone : GoOnWithin (within_part database_by_itself now) count d (settling (within_part database_by_itself now) d)
     gone = settles-within (within_part database_by_itself now) (database-keeps now) count (length d.part.waiting) d within
 
--- what a session does itself, and then those that go on
+-- what a session does itself, and then those that resume
 then-within : (count : ℕ) (now : ℤ) (d : Database) (who : ℕ) (turn : Turn) → who < count → AnswersWithin count turn.answers → OwnWaits who turn.marks → WaitersWithin count d.part.waiting
     → TurnWithin count d (with_settling (within_part database_by_itself now) d turn)
 then-within count now d who turn lt known own within = record {

@@ -28,7 +28,7 @@ pub record Gives (old new : Database) (replies : List (ℕ × Reply)) (turn : Tu
   pub replied : replies ≡ turn.answers
   pub changed : new ≡ after_marks old turn.marks
 
--- the turn's answers stand behind those that were given before, and the database is then as after its marks
+-- the turn's answers come after those that were given before, and the database is then as after its marks
 pub record Adds (old new : Database) (before after : List (ℕ × Reply)) (turn : Turn) : Type 0 where
   pub replied : after ≡ before ++ turn.answers
   pub changed : new ≡ after_marks old turn.marks
@@ -37,7 +37,7 @@ pub record Adds (old new : Database) (before after : List (ℕ × Reply)) (turn 
 abbrev pub Answers : (old new : Database) (before after : List (ℕ × Reply)) → ℕ → Outcome → Type 0
 Answers old new before after who outcome = Adds old new before after (turn_of who outcome) × ReplyHasMoments outcome.reply
 
--- a statement isn't refused: its answer stands behind those before, and the database is then as after its marks
+-- a statement isn't refused: its answer comes after those before, and the database is then as after its marks
 pub record Does (old new : Database) (before after : List (ℕ × Reply)) (who : ℕ) (checked : Checked Outcome) : Type 0 where
   pub accepted : is_ok checked ≡ true
   pub replied : after ≡ before ++ (who, reply_of checked) ∷ []

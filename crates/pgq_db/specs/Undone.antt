@@ -1,4 +1,4 @@
--- Which transactions were rolled back, by what a database's row part tells.
+-- Which transactions were rolled back, by what a database's row part reports.
 use Rattle.std.specs.Prelude.{ℕ, List, [], ◌∷◌, Bool, ◌||◌, ◌==◌}
 use Rattle.sky_session.specs.declared.effect.Effect.{Effect}
 use Rattle.sky_session.specs.declared.effect.Effect.TheVariants.{Aborted}

@@ -15,7 +15,7 @@ use sky_model::{BoxedBatchInfo, ConsumerInfo, Events, Limit, Refusal, Replies, R
 use sky_val::{SessionId, Text};
 
 impl Db {
-    /// `register_consumer NAME CONSUMER`: a subscription that stands at the newest tick.
+    /// `register_consumer NAME CONSUMER`: a subscription at the newest tick.
     pub(crate) fn register_consumer(
         &mut self,
         who: SessionId,
@@ -64,7 +64,7 @@ impl Db {
         self.new_consumer(who, queue, consumer, tick, replies)
     }
 
-    /// A new consumer, which stands at a tick.
+    /// A new consumer, at a tick.
     fn new_consumer(
         &mut self,
         who: SessionId,
@@ -107,7 +107,7 @@ impl Db {
         Ok(())
     }
 
-    /// `next_batch NAME CONSUMER`: the active batch, else a new one to the next tick, where that is made.
+    /// `next_batch NAME CONSUMER`: the active batch, else a new one to the next tick, if that is made.
     pub(crate) fn next_batch(
         &mut self,
         who: SessionId,
@@ -196,7 +196,7 @@ impl Db {
         Ok(())
     }
 
-    /// `finish_batch N`: the consumer stands at the batch's closing tick.
+    /// `finish_batch N`: the consumer moves on to the batch's closing tick.
     pub(crate) fn finish_batch(
         &mut self,
         who: SessionId,
@@ -210,7 +210,7 @@ impl Db {
         Ok(())
     }
 
-    /// `consumer_info NAME CONSUMER`: where a consumer stands, and its active batch.
+    /// `consumer_info NAME CONSUMER`: where a consumer is, and its active batch.
     pub(crate) fn consumer_info(
         &self,
         who: SessionId,

@@ -1,34 +1,37 @@
 //! What the daemon of a database does, part by part. It answers nothing, and what would be refused isn't done.
 
-ghost use Rattle.std.specs.Prelude.{◌≡◌, OnOk};
+ghost use Rattle.std.specs.Prelude.{◌≡◌, nat_le, length, IfOk, OnOk};
 ghost use Rattle.sky_model.specs.Moment.{IsTime};
 ghost use Rattle.sky_model.specs.State.{after_marks};
 ghost use Rattle.sky_model.specs.Reader.{database_by_itself};
 ghost use Rattle.sky_model.specs.StepQueue.{next_tick};
-ghost use Rattle.sky_model.specs.Daemon.{quietly, ticks_of, daemon_does};
+ghost use Rattle.sky_model.specs.Outcome.{reply_of};
+ghost use Rattle.sky_model.specs.StepRetry.{most_back, maint_retry_events};
+ghost use Rattle.sky_model.specs.Daemon.{quietly, ticks_of, moved_by, retries_of, daemon_does};
 ghost use Rattle.sky_model.specs.DatabaseCalls.{worked};
 ghost use Rattle.sky_model.specs.DatabaseSteps.{DatabaseSteps};
 ghost use Rattle.pgq_queues.specs.Seen.{Stands};
 ghost use Rattle.pgq_db.specs.Seen.{seen_database};
 
 use crate::db::Db;
+use pgq_queues::MOST_BACK;
 use sky_model::{DaemonPart, Stop};
 use sky_val::NoMemory;
 use std::alloc::AllocError;
 
 impl Db {
-    /// Does a part of the daemon's work at a moment, in all queues in the order of making. After want of memory nothing is
-    /// said of the database.
+    /// Does a part of the daemon's work at a moment. Once memory has run out nothing is said of the database.
     pub fn daemon(&mut self, part: DaemonPart, now: i64) -> Result<(), NoMemory>
         requires { IsTime now }
         ensures exact { OnOk result (seen_database self.new ≡ after_marks (seen_database self.old) (daemon_does database_by_itself (seen_database self.old) part now).marks) }
-        ensures rows { OnOk result ((seen_database self.new).part ≡ (seen_database self.old).part) }
+        ensures waiting { OnOk result ((seen_database self.new).part.waiting ≡ (seen_database self.old).part.waiting) }
         ensures steps { OnOk result (DatabaseSteps (seen_database self.old) (seen_database self.new) (worked part now)
             (daemon_does database_by_itself (seen_database self.old) part now)) }
     {
         match part {
             DaemonPart::Tick => self.make_ticks(now)?,
-            DaemonPart::Retry | DaemonPart::Maintain => {}
+            DaemonPart::Retry => self.retry_events(now)?,
+            DaemonPart::Maintain => {}
         }
         Ok(())
     }
@@ -59,6 +62,27 @@ impl Db {
         match self.tick(queue, now) {
             Ok(_) => Ok(()),
             Err(Stop::Refused(_)) => Ok(()),
+            Err(Stop::NoMemory) => Err(AllocError),
+        }
+    }
+
+    /// Events that are due to be retried come back, again until fewer do than may at a time.
+    fn retry_events(&mut self, now: i64) -> Result<(), NoMemory>
+        ensures { OnOk result (seen_database self.new
+            ≡ after_marks (seen_database self.old) (retries_of database_by_itself now (length (seen_database self.old).retries) (seen_database self.old)).marks) }
+    {
+        while self.retry_most(now)? {}
+        Ok(())
+    }
+
+    /// Events that are due come back, if there is an id for it. The answer is whether as many do as may at a time.
+    fn retry_most(&mut self, now: i64) -> Result<bool, NoMemory>
+        ensures most { IfOk result (λ most. most ≡ nat_le most_back (moved_by (reply_of (maint_retry_events (seen_database self.old) now)))) }
+        ensures moved { OnOk result (seen_database self.new ≡ after_marks (seen_database self.old) (quietly (maint_retry_events (seen_database self.old) now)).marks) }
+    {
+        match self.bring_back(now) {
+            Ok(count) => Ok(count >= MOST_BACK),
+            Err(Stop::Refused(_)) => Ok(false),
             Err(Stop::NoMemory) => Err(AllocError),
         }
     }

@@ -37,8 +37,8 @@ use std::alloc::{AllocError, Global};
 use std::marker::Model;
 use std::mem;
 
-/// One database: its transactions, sessions, tables and rows; and its queues. After want of memory in `step` or `fail`
-/// nothing is said of it.
+/// One database: its transactions, sessions, tables and rows; and its queues. Once memory has run out in `step` or
+/// `fail` nothing is said of it.
 #[derive(Drop)]
 pub struct Db {
     pub(crate) alloc: Global,
@@ -46,7 +46,7 @@ pub struct Db {
     pub(crate) queues: Queues,
     // What the row part does in one call.
     step: RowStep,
-    // Whether memory was wanting in the midst of a statement on rows. What its tables are, and how often its events were
+    // Whether memory ran out during a statement on rows. What its tables are, and how often its events were
     // retried, isn't known then, so no statement on rows or retries is run from then on.
     pub(crate) is_cut: bool,
 }
@@ -87,7 +87,7 @@ impl Db {
         self.queues.queue(queue).subscription(consumer)
     }
 
-    /// The id of the session's transaction: its own, or the next one. Refused where there is none.
+    /// The id of the session's transaction: its own, or the next one. Refused if there is none.
     pub(crate) fn next_txid(&self, who: SessionId) -> Result<u64, Refusal>
         ensures ok { IfOk result (λ txid. txid_for (seen_database self.now).part who ≡ Ok txid) }
         ensures err { IfErr result (λ refusal. txid_for (seen_database self.now).part who ≡ Err refusal) }
@@ -98,7 +98,7 @@ impl Db {
         }
     }
 
-    /// The session's transaction takes this id, where it has none. Outside a block it commits at once.
+    /// The session's transaction takes this id, if it has none. Outside a block it commits at once.
     pub(crate) fn take_txid(&mut self, who: SessionId, txid: u64) -> Result<(), NoMemory>
         requires { txid_for (seen_database self.old).part who ≡ Ok txid }
         ensures marks { OnOk result (seen_database self.new ≡ after_marks (seen_database self.old)
@@ -135,8 +135,8 @@ impl Db {
         self.rows.in_transaction(who)
     }
 
-    /// Rolls back the session's block, which stays aborted, and runs what this lets go on. Where it is in none, or that
-    /// is aborted, nothing is rolled back. The moment is for the events that tell of what goes on.
+    /// Rolls back the session's block, which stays aborted, and runs the statements that this unblocks. If it is in none,
+    /// or that is aborted, nothing is rolled back. The moment is for the events that record what resumes.
     pub fn fail(&mut self, who: SessionId, now: i64) -> Result<Replies, NoMemory>
         requires { IsTime now }
         ensures exact { let d = seen_database self.old in
@@ -153,7 +153,7 @@ impl Db {
         Ok(replies)
     }
 
-    /// Runs a statement on rows, and those that it lets go on. Events tell of their writes.
+    /// Runs a statement on rows, and those that it unblocks. Events record their writes.
     pub(crate) fn step_rows(
         &mut self,
         now: i64,
@@ -191,7 +191,7 @@ impl Db {
         }
     }
 
-    /// Runs the statements that may go on. Events tell of their writes.
+    /// Runs the statements that may resume. Events record their writes.
     pub(crate) fn settle(&mut self, now: i64, replies: &mut Replies) -> Result<(), NoMemory>
         requires { IsTime now }
         ensures adds { OnOk result (Adds (seen_database self.old) (seen_database self.new) replies.old replies.new (settling (within_part database_by_itself now) (seen_database self.old))) }
@@ -222,7 +222,7 @@ impl Db {
         }
     }
 
-    /// Rolls back the block that the session is in, which stays aborted. What this lets go on isn't run yet.
+    /// Rolls back the block that the session is in, which stays aborted. What this unblocks isn't run yet.
     pub(crate) fn roll_back(&mut self, who: SessionId) -> Result<(), NoMemory>
         ensures { OnOk result (seen_database self.new ≡ after_marks (seen_database self.old) (failing (seen_database self.old).part who).marks) }
     {
@@ -252,7 +252,7 @@ impl Db {
         Ok(())
     }
 
-    /// One more tick of a queue, with the next id, which it gives, or a refusal where there is none.
+    /// One more tick of a queue, with the next id, which it gives, or a refusal if there is none.
     pub(crate) fn tick(&mut self, queue: usize, now: i64) -> Result<u64, Stop>
         requires queue { Stands self.old.queues.queues queue }
         requires time { IsTime now }

@@ -1,9 +1,9 @@
 //! One database: its transactions, sessions, tables and rows, and its queues.
 //!
-//! `Db::step` runs one statement of one session, and those of other sessions that it lets go on. What a contract sees of
+//! `Db::step` runs one statement of one session, and those of other sessions that it unblocks. What a contract sees of
 //! a `Db` is read by `seen_database` as the definitions' database. For every place of every history that calls make where
 //! the database was as it was, the answers are those of the definitions, and the database is then that of the history
-//! with the turn's marks on top. A statement that is run elsewhere comes in by `enter`, and where it is refused there,
+//! with the turn's marks on top. A statement that is run elsewhere comes in by `enter`, and if it is refused there,
 //! `fail` aborts the block that its session is in. Nothing here knows a session's name, another database, or a byte of a
 //! script.
 #![tactic(auto)]

@@ -22,7 +22,7 @@ pub(crate) fn undo_aborted(queues: &mut Queues, effects: &Effects) -> Result<(),
     Ok(())
 }
 
-/// Notes the effect where it is that a transaction was rolled back.
+/// Notes the effect if it is that a transaction was rolled back.
 fn note(queues: &mut Queues, effect: &Effect) -> Result<(), NoMemory>
     ensures noted { OnOk result ((part : RowPart) → seen_with part queues.new
         ≡ record (seen_with part queues.old) { undone = undone_by (effect.now ∷ []) (seen_with part queues.old).undone }) }

@@ -1,12 +1,14 @@
 //! The statements on retries: a subscription asks for an event once more, and those that are due come back.
 
-ghost use Rattle.std.specs.Prelude.{◌≡◌, ◌+◌, ◌<◌, ◌≤◌, ◌^◌, [], ◌∷◌, true, Ok, IfOk, IfErr, OnErr, unwrap_or};
+ghost use Rattle.std.specs.Prelude.{◌≡◌, ◌+◌, ◌<◌, ◌≤◌, ◌^◌, [], ◌∷◌, true, Ok, IfOk, IfErr, OnOk, OnErr, unwrap_or};
 ghost use Rattle.sky_model.specs.History.{of_worker, began, ended};
 ghost use Rattle.sky_model.specs.Moment.{IsTime};
 ghost use Rattle.sky_model.specs.OwnTransaction.{next_id};
 ghost use Rattle.sky_model.specs.Reader.{shown_by};
 ghost use Rattle.sky_model.specs.Retries.{retried};
-ghost use Rattle.sky_model.specs.State.{after_part_marks};
+ghost use Rattle.sky_model.specs.Outcome.{reply_of, marks_of};
+ghost use Rattle.sky_model.specs.State.{after_part_marks, after_marks};
+ghost use Rattle.sky_model.specs.declared.reply.Reply.TheVariants.{Number};
 ghost use Rattle.sky_model.specs.StepRetry.{event_retry, maint_retry_events};
 ghost use Rattle.sky_model.specs.Stops.{Stops};
 ghost use Rattle.sky_state.specs.Seen.{seen};
@@ -58,8 +60,7 @@ impl Db {
         Ok(())
     }
 
-    /// `maint_retry_events`: those that are due come back, in a transaction that is no session's. Where none is due no id
-    /// is taken.
+    /// `maint_retry_events`: those that are due come back.
     pub(crate) fn maint_retry_events(
         &mut self,
         now: i64,
@@ -68,17 +69,27 @@ impl Db {
     ) -> Result<(), Stop>
         ensures { Ran self.old self.new replies.old replies.new who result (maint_retry_events (seen_database self.old) now) }
     {
+        let count = self.bring_back(now)?;
+        replies.push(who, Reply::Number(count as u64))?;
+        Ok(())
+    }
+
+    /// Those that are due come back, in a transaction that is no session's. If none is due no id is taken. The answer
+    /// is how many.
+    pub(crate) fn bring_back(&mut self, now: i64) -> Result<usize, Stop>
+        ensures count { IfOk result (λ n. reply_of (maint_retry_events (seen_database self.old) now) ≡ Number n) }
+        ensures changed { OnOk result (seen_database self.new ≡ after_marks (seen_database self.old) (marks_of (maint_retry_events (seen_database self.old) now))) }
+        ensures stops { IfErr result (λ stop. Stops stop (seen_database self.old) (seen_database self.new) (maint_retry_events (seen_database self.old) now)) }
+    {
         if self.is_cut {
             return Err(Stop::NoMemory);
         }
         if self.queues.due_count(now) == 0 {
-            replies.push(who, Reply::Number(0))?;
-            return Ok(());
+            return Ok(0);
         }
         let txid = work_alone(&mut self.rows)?;
         let count = self.queues.bring_back(now, txid)?;
-        replies.push(who, Reply::Number(count as u64))?;
-        Ok(())
+        Ok(count)
     }
 }
 
@@ -93,7 +104,7 @@ fn retried(sub: u64, mut event: Event) -> Event
     event
 }
 
-/// A transaction of a worker, which commits at once, or a refusal where no id is left for it.
+/// A transaction of a worker, which commits at once, or a refusal if no id is left for it.
 fn work_alone(rows: &mut RowDb) -> Result<u64, Stop>
     ensures id { IfOk result (λ txid. next_id (seen rows.old) ≡ Ok txid) }
     ensures marks { IfOk result (λ txid. seen rows.new ≡ after_part_marks (seen rows.old) (began of_worker txid ∷ ended of_worker txid true ∷ [])) }

@@ -33,7 +33,7 @@ use sky_val::{Event, NoMemory, Schema, SessionId, Text, copy_option};
 use std::alloc::{AllocError, Global};
 
 impl Db {
-    /// Runs a statement of a session, and those that it lets go on. After want of memory
+    /// Runs a statement of a session, and those that it unblocks. Once memory has run out
     /// nothing is said of the database.
     pub fn step(&mut self, who: SessionId, stmt: &Stmt, now: i64) -> Result<Replies, NoMemory>
         requires time { IsTime now }
@@ -73,7 +73,7 @@ impl Db {
         Ok(())
     }
 
-    /// Runs a statement, be it on rows or on queues, and those that it lets go on.
+    /// Runs a statement, be it on rows or on queues, and those that it unblocks.
     fn run(
         &mut self,
         now: i64,
@@ -101,7 +101,7 @@ impl Db {
         }
     }
 
-    /// Runs a statement on queues, which answers once, and those that it lets go on.
+    /// Runs a statement on queues, which answers once, and those that it unblocks.
     fn run_on_queues(
         &mut self,
         now: i64,
@@ -121,7 +121,7 @@ impl Db {
         Ok(())
     }
 
-    /// Runs a statement on queues, if its session may make it where it stands.
+    /// Runs a statement on queues, if its session may make it there.
     fn run_or_refuse(
         &mut self,
         now: i64,
@@ -386,7 +386,7 @@ impl Db {
         Ok(())
     }
 
-    /// `ticker NAME`: a tick where one is due.
+    /// `ticker NAME`: a tick, if one is due.
     fn ticker(
         &mut self,
         now: i64,
@@ -423,7 +423,7 @@ impl Db {
         Ok(())
     }
 
-    /// `add_trigger NAME TABLE NAME`: from now on events of the queue tell of the table's writes.
+    /// `add_trigger NAME TABLE NAME`: from now on events of the queue record the table's writes.
     fn add_trigger(
         &mut self,
         who: SessionId,
@@ -557,7 +557,7 @@ fn made_event(
     Ok(event)
 }
 
-/// Whether a statement on queues stands outside of blocks alone.
+/// Whether a statement on queues may be made outside of blocks alone.
 fn is_outside(stmt: &Stmt) -> bool
     requires { is_on_queues stmt.now ≡ true }
     ensures { (if result then WhenOutside else WhenReading) ≡ where_of stmt.now }

@@ -19,4 +19,5 @@ pub use batch::Batch;
 pub use gate::EVENT_ID_END;
 pub use queue::Queue;
 pub use queues::Queues;
+pub use retries::MOST_BACK;
 pub use traced::TableTrigger;

@@ -17,8 +17,8 @@ use crate::queues::Queues;
 use pgq_retry::Retry;
 use sky_val::{Event, NoMemory};
 
-/// How many retries come back at a time.
-const MOST_BACK: usize = 10;
+/// How many retries come back at a time, at most.
+pub const MOST_BACK: usize = 10;
 
 impl Queues {
     /// How many retries of a subscription wait.

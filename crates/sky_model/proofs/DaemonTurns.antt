@@ -1,15 +1,22 @@
 -- What a daemon does is the same at places that read alike.
-use Rattle.std.proofs.Common.{◌≡◌, ℤ, List, [], ◌∷◌, Bool, true, false, refl, ◌∙◌, ap}
+use Rattle.std.proofs.Common.{◌≡◌, ℤ, List, [], ◌∷◌, Bool, true, false, refl, ◌∙◌, ap, ℕ, zero, suc, length, nat_le, ◌++◌, Ok, Err}
+use Rattle.sky_model.specs.declared.reply.Reply.TheVariants.{Number}
+use Rattle.pgq_retry.specs.Retries.{due_now}
+use Rattle.pgq_retry.specs.declared.retry.Retry as retry
+use Rattle.sky_model.specs.OwnTransaction.{next_id}
+use Rattle.sky_model.specs.Retries.{brought_by}
+use Rattle.sky_model.specs.StepRetry.{back, brings, most_back, maint_retry_events}
+use Rattle.sky_model.specs.Outcome.{Outcome, Checked, reply_of, marks_of, ◌>>=◌, does_marks}
 use Rattle.sky_model.specs.declared.daemon.DaemonPart.{DaemonPart}
 use Rattle.sky_model.specs.declared.daemon.DaemonPart.TheVariants.{Tick, Retry, Maintain}
-use Rattle.sky_model.specs.History.{Mark, QueueMark, queued, History}
+use Rattle.sky_model.specs.History.{Mark, QueueMark, queued, History, of_worker, began, ended, put, returned}
 use Rattle.sky_model.specs.Queues.{NamedQueue}
 use Rattle.sky_model.specs.State.{Database, part_of}
 use Rattle.sky_model.specs.StepQueue.{next_tick}
 use Rattle.sky_model.specs.Reader.{DatabaseReader, database_by_history, within_part}
-use Rattle.sky_model.specs.Settling.{Turn, behind_marks, marked, joined}
-use Rattle.sky_model.specs.Daemon.{quietly, ticks_of, daemon_does}
-use Rattle.sky_model.proofs.StatementMarks.{EachMark, each-append, each-given, AnyReply, gives-tick}
+use Rattle.sky_model.specs.Settling.{Turn, behind_marks, marked, joined, ready}
+use Rattle.sky_model.specs.Daemon.{quietly, ticks_of, daemon_does, moved_by, again_if, retries_of}
+use Rattle.sky_model.proofs.StatementMarks.{EachMark, each-append, each-given, AnyReply, gives-tick, each-front}
 
 module _ {P Q : Type 0} (r : DatabaseReader P) (s : DatabaseReader Q) (at : P → Q) (same : (p : P) → r.database p ≡ s.database (at p)) (behind : (p : P) (mark : Mark) → at (r.behind p mark) ≡ s.behind (at p) mark) where
   -- a place after marks is read as the other one after them
@@ -24,33 +31,78 @@ module _ {P Q : Type 0} (r : DatabaseReader P) (s : DatabaseReader Q) (at : P �
       ap (joined (turn (r.database p))) (same-ticks now queues (behind_marks (within_part r now) p (turn (r.database p)).marks) ∙ ap (ticks_of s now queues) (at-behind now p (turn (r.database p)).marks))
       ∙ ap (λ d. joined (turn d) (ticks_of s now queues (behind_marks (within_part s now) (at p) (turn d).marks))) (same p)
 
+  same-again : (rest : P → Turn) (other : Q → Turn) → ((q : P) → rest q ≡ other (at q)) → (b : Bool) (q : P) → again_if b rest q ≡ again_if b other (at q)
+  same-again rest other same true q = same q
+  same-again rest other same false q = refl
+
+  same-retries : (now : ℤ) (n : ℕ) (p : P) → retries_of r now n p ≡ retries_of s now n (at p)
+  same-retries now zero p = refl
+  same-retries now (suc n) p =
+      let c : Database → Checked Outcome = λ d. maint_retry_events d now in
+      let full : Database → Bool = λ d. nat_le most_back (moved_by (reply_of (c d))) in
+      let marks : List Mark = (quietly (c (r.database p))).marks in
+      ap (joined (quietly (c (r.database p)))) (same-again (retries_of r now n) (retries_of s now n) (same-retries now n) (full (r.database p)) (behind_marks (within_part r now) p marks) ∙ ap (again_if (full (r.database p)) (retries_of s now n)) (at-behind now p marks))
+      ∙ ap (λ d. joined (quietly (c d)) (again_if (full d) (retries_of s now n) (behind_marks (within_part s now) (at p) (quietly (c d)).marks))) (same p)
+
   pub same-daemon_does : (p : P) (part : DaemonPart) (now : ℤ) → daemon_does r p part now ≡ daemon_does s (at p) part now
   same-daemon_does p Tick now = same-ticks now (r.database p).queues p ∙ ap (λ (d : Database). ticks_of s now d.queues (at p)) (same p)
-  same-daemon_does p Retry now = refl
+  same-daemon_does p Retry now = same-retries now (length (r.database p).retries) p ∙ ap (λ (d : Database). retries_of s now (length d.retries) (at p)) (same p)
   same-daemon_does p Maintain now = refl
 
--- each mark of it is one of queues
-module _ (p : Mark → Bool) (of_queues : (mark : QueueMark) → p (queued mark) ≡ true) where
+-- each mark of it is one of queues, or of a worker's transaction, which commits
+module _ (p : Mark → Bool) (of_queues : (mark : QueueMark) → p (queued mark) ≡ true) (begins : (t : ℕ) → p (began of_worker t) ≡ true) (ends : (t : ℕ) → p (ended of_worker t true) ≡ true) where
   each-ticks : {P : Type 0} (r : DatabaseReader P) (now : ℤ) (queues : List NamedQueue) (x : P) → EachMark p (ticks_of r now queues x).marks
   each-ticks r now [] x = tt
   each-ticks r now (q ∷ queues) x =
       let marks : List Mark = (quietly (next_tick (r.database x) now q.number)).marks in
       each-append p marks _ (each-given AnyReply p _ (gives-tick p of_queues (r.database x) now q.number)) (each-ticks r now queues (behind_marks (within_part r now) x marks))
 
+  each-back : (now : ℤ) (t : ℕ) (rs : List retry.Retry) → EachMark p (back now t rs)
+  each-back now t [] = tt
+  each-back now t (r ∷ rs) =
+      each-front p (queued (put r.queue (brought_by t r.event))) (queued (returned r now) ∷ back now t rs) (of_queues (put r.queue (brought_by t r.event)))
+      (each-front p (queued (returned r now)) (back now t rs) (of_queues (returned r now)) (each-back now t rs))
+
+  each-brings : (d : Database) (now : ℤ) (rs : List retry.Retry) → EachMark p (marks_of (brings d now rs))
+  each-brings d now [] = tt
+  each-brings d now (r ∷ rs) = of (next_id d.part)
+    where
+      of : (c : Checked ℕ) → EachMark p (marks_of (c >>= (λ t. does_marks (Number (length (r ∷ rs))) (began of_worker t ∷ back now t (r ∷ rs) ++ ended of_worker t true ∷ []))))
+      of (Ok t) =
+          each-front p (began of_worker t) (back now t (r ∷ rs) ++ ended of_worker t true ∷ []) (begins t)
+          (each-append p (back now t (r ∷ rs)) (ended of_worker t true ∷ []) (each-back now t (r ∷ rs)) (each-front p (ended of_worker t true) [] (ends t) tt))
+      of (Err refusal) = tt
+
+  each-again : {P : Type 0} (rest : P → Turn) → ((x : P) → EachMark p (rest x).marks) → (b : Bool) (x : P) → EachMark p (again_if b rest x).marks
+  each-again rest each true x = each x
+  each-again rest each false x = tt
+
+  each-retries : {P : Type 0} (r : DatabaseReader P) (now : ℤ) (n : ℕ) (x : P) → EachMark p (retries_of r now n x).marks
+  each-retries r now zero x = tt
+  each-retries r now (suc n) x =
+      let c : Checked Outcome = maint_retry_events (r.database x) now in
+      each-append p (marks_of c) _ (each-brings (r.database x) now (due_now now most_back (r.database x).retries))
+      (each-again (retries_of r now n) (each-retries r now n) (nat_le most_back (moved_by (reply_of c))) (behind_marks (within_part r now) x (marks_of c)))
+
   pub each-daemon_does : {P : Type 0} (r : DatabaseReader P) (x : P) (part : DaemonPart) (now : ℤ) → EachMark p (daemon_does r x part now).marks
   each-daemon_does r x Tick now = each-ticks r now (r.database x).queues x
-  each-daemon_does r x Retry now = tt
+  each-daemon_does r x Retry now = each-retries r now (length (r.database x).retries) x
   each-daemon_does r x Maintain now = tt
 
-abbrev is_queued : Mark → Bool
-is_queued (queued mark) = true
-is_queued _ = false
+abbrev is_without_session : Mark → Bool
+is_without_session (queued mark) = true
+is_without_session (began of_worker t) = true
+is_without_session (ended of_worker t true) = true
+is_without_session _ = false
 
-queued-part : (h : History) (marks : List Mark) → EachMark is_queued marks → part_of (marked h marks) ≡ part_of h
-queued-part h [] all = refl
-queued-part h (queued mark ∷ marks) all = queued-part (queued mark ∷ h) marks all
-queued-part h (_ ∷ marks) all = absurd all
+ready-still : (h : History) (marks : List Mark) → EachMark is_without_session marks → ready (part_of (marked h marks)) ≡ ready (part_of h)
+ready-still h [] all = refl
+ready-still h (queued mark ∷ marks) all = ready-still (queued mark ∷ h) marks all
+ready-still h (began of_worker t ∷ marks) all = ready-still (began of_worker t ∷ h) marks all
+ready-still h (ended of_worker t true ∷ marks) all = ready-still (ended of_worker t true ∷ h) marks all
+ready-still h (_ ∷ marks) all = absurd all
 
--- so rows and sessions stay
-pub daemon-part : (h : History) (part : DaemonPart) (now : ℤ) → part_of (marked h (daemon_does database_by_history h part now).marks) ≡ part_of h
-daemon-part h part now = queued-part h (daemon_does database_by_history h part now).marks (each-daemon_does is_queued (λ mark. refl) database_by_history h part now)
+-- so a statement that waits isn't ready by it
+pub daemon-ready : (h : History) (part : DaemonPart) (now : ℤ) → ready (part_of (marked h (daemon_does database_by_history h part now).marks)) ≡ ready (part_of h)
+daemon-ready h part now =
+    ready-still h (daemon_does database_by_history h part now).marks (each-daemon_does is_without_session (λ mark. refl) (λ t. refl) (λ t. refl) database_by_history h part now)

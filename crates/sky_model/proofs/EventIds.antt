@@ -1,5 +1,5 @@
 -- The ids of a queue's events rise in the order in which they are put, but for those that are retried.
-use Rattle.std.proofs.Common.{◌≡◌, ℕ, ◌<◌, All, ◌∷◌, None, Some, sym, ◌∙◌}
+use Rattle.std.proofs.Common.{◌≡◌, ℕ, ◌<◌, All, ◌∷◌, None, sym, ◌∙◌}
 use Rattle.sky_val.specs.declared.event.Event.{Event}
 use Rattle.sky_model.specs.History.{queued, put, History}
 use Rattle.sky_model.specs.Queues.{events}

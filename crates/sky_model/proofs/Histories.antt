@@ -1,5 +1,7 @@
 -- Whatever is called, the history of each database is one that its own calls make; and those are legal.
-use Rattle.std.proofs.Common.{◌≡◌, All, ℕ, ℤ, List, [], ◌∷◌, ◌++◌, Bool, true, false, nat_le, ◌+◌, ◌^◌, ◌||◌, ◌==◌, arith, Option, Some, None, Ok, Err, map, length, refl, sym, ◌∙◌, ap, subst, if◌then◌else◌}
+use Rattle.std.proofs.Common.{zero, suc, ◌≡◌, All, ℕ, ℤ, List, [], ◌∷◌, ◌++◌, Bool, true, false, nat_le, ◌+◌, ◌^◌, ◌||◌, ◌==◌, arith, Option, Some, None, Ok, Err, map, length, refl, sym, ◌∙◌, ap, subst, if◌then◌else◌}
+use Rattle.sky_model.specs.StepRetry.{most_back, maint_retry_events}
+use Rattle.sky_model.specs.Retries.{retries}
 use Rattle.std.specs.List.{list_any}
 use Rattle.std.proofs.lemmas.Bool.{eq-eqb, or_right}
 use Rattle.std.proofs.lemmas.List.Elements.{All-nil, All-cons, All-head, All-tail, All-weaker}
@@ -11,7 +13,7 @@ use Rattle.sky_model.specs.History.{Mark, History, Fact, appeared, founded, ente
 use Rattle.sky_model.specs.Sessions.{has_open, block, session}
 use Rattle.sky_model.specs.Locks.{waiting}
 use Rattle.sky_model.specs.State.{part_of, database_of}
-use Rattle.sky_model.specs.Outcome.{Checked, ◌>>◌, refused_if, answers, does_marks}
+use Rattle.sky_model.specs.Outcome.{Outcome, Checked, ◌>>◌, refused_if, answers, does_marks, reply_of}
 use Rattle.sky_model.specs.Allowed.{allowed}
 use Rattle.sky_model.specs.World.{world_of, history_in, on_top, session_names, database_names, home}
 use Rattle.sky_model.specs.Reader.{database_by_history, within_part, within_database, by_past, Deed, appears}
@@ -25,7 +27,7 @@ use Rattle.sky_model.specs.declared.reply.Reply.TheVariants.{Number, Null}
 use Rattle.sky_model.specs.declared.reply.Refusal.TheVariants.{IdsSpent}
 use Rattle.sky_model.specs.Queues.{NamedQueue, queues, ticks, newest_tick}
 use Rattle.sky_model.specs.StepQueue.{is_due, newest_id, id_of}
-use Rattle.sky_model.specs.Daemon.{quietly, ticks_of, daemon_does}
+use Rattle.sky_model.specs.Daemon.{quietly, ticks_of, daemon_does, retries_of, moved_by, again_if}
 use Rattle.sky_model.proofs.StandingQueues.{whole}
 use Rattle.sky_model.proofs.DaemonTurns.{same-daemon_does}
 use Rattle.sky_model.proofs.ClockSteps.{after-clock}
@@ -40,7 +42,7 @@ use Rattle.sky_model.proofs.Legal.{IsAmong, IsQueue, Fine, looks, ticks_next, Ch
 use Rattle.sky_model.proofs.Good.{same-session, good_failure}
 use Rattle.sky_model.proofs.LawfulTelling.{legal_behind}
 use Rattle.sky_model.proofs.Turns.{same-turn_read}
-use Rattle.sky_model.proofs.Lawful.{database-reads, good_with_settling-by, good_turn}
+use Rattle.sky_model.proofs.Lawful.{database-reads, good_with_settling-by, good_turn, good_then, maint_may}
 use Rattle.sky_model.proofs.PastHistories.{on_top-append, history-marks, AreOutside, history-outside, beside-outside}
 use Rattle.sky_model.proofs.Cases.{by_same}
 
@@ -93,10 +95,23 @@ good_ticks : (now : ℤ) (left : List NamedQueue) → MayTick now left
 good_ticks now [] h l are = done
 good_ticks now (q ∷ left) h l are = good_tick now q left (good_ticks now left) h l are
 
+-- and retries that come back
+good_again : (rest : History → Turn) → ((h : History) → Legal h → Chain h (rest h).marks) → (b : Bool) (h : History) → Legal h → Chain h (again_if b rest h).marks
+good_again rest good true h l = good h l
+good_again rest good false h l = done
+
+good_retries : (now : ℤ) (n : ℕ) (h : History) → Legal h → Chain h (retries_of database_by_history now n h).marks
+good_retries now zero h l = done
+good_retries now (suc n) h l =
+    let c : Checked Outcome = maint_retry_events (database_of h) now in
+    let full : Bool = nat_le most_back (moved_by (reply_of c)) in
+    good_then (within_part database_by_history now) (λ g. g) (database-reads now) h l (quietly c) (again_if full (retries_of database_by_history now n))
+    (maint_may h l now) (good_again (retries_of database_by_history now n) (good_retries now n) full)
+
 -- and what a daemon does
 good_daemon_does : (h : History) → Legal h → (part : DaemonPart) (now : ℤ) → Chain h (daemon_does database_by_history h part now).marks
 good_daemon_does h l Tick now = good_ticks now (queues h) h l (all-among (queues h))
-good_daemon_does h l Retry now = done
+good_daemon_does h l Retry now = good_retries now (length (retries h)) h l
 good_daemon_does h l Maintain now = done
 
 -- and so may what a call does

@@ -1,5 +1,5 @@
 -- Whatever is called of a database, its history is legal.
-use Rattle.std.proofs.Common.{◌≡◌, All, ℕ, suc, zero, ℤ, ◌+◌, ◌<◌, List, [], ◌∷◌, ◌++◌, true, false, ◌==◌, ◌||◌, ◌≤◌, nat_le, nat_lt, Option, Some, None, Ok, Err, is_ok, option_map, unwrap_or, find, not, length, is_some, refl, sym, ◌∙◌, ap, subst, arith, ◌^◌, if◌then◌else◌}
+use Rattle.std.proofs.Common.{Bool, ◌≡◌, All, ℕ, suc, zero, ℤ, ◌+◌, ◌<◌, List, [], ◌∷◌, ◌++◌, true, false, ◌==◌, ◌||◌, ◌≤◌, nat_le, nat_lt, Option, Some, None, Ok, Err, is_ok, option_map, unwrap_or, find, not, length, is_some, refl, sym, ◌∙◌, ap, subst, arith, ◌^◌, if◌then◌else◌}
 use Rattle.std.proofs.lemmas.Bool.{cond_both}
 use Rattle.std.proofs.lemmas.Bool.Decides.{nat_tests}
 use Rattle.sky_model.specs.declared.stmt.Stmt.{Stmt}
@@ -14,7 +14,7 @@ use Rattle.pgq_retry.specs.declared.retry.Retry.{Retry}
 use Rattle.pgq_retry.specs.Retries.{is_asked, due_now}
 use Rattle.sky_model.specs.Batches.{batch_events}
 use Rattle.sky_model.specs.Retries.{retries}
-use Rattle.sky_model.specs.StepRetry.{retry_of, brings, most_back}
+use Rattle.sky_model.specs.StepRetry.{retry_of, brings, most_back, maint_retry_events, back}
 use Rattle.sky_names.specs.Places.{place_of}
 use Rattle.sky_model.specs.History.{Batch, Mark, of_session, of_worker, began, ended, looked, tabled, waited, queued, made, raised, put, ticked, moved, unregistered, opened, closed, History}
 use Rattle.sky_model.specs.Transactions.{next_txid, running, workers}
@@ -29,7 +29,7 @@ use Rattle.sky_model.specs.Locks.{waiting}
 use Rattle.sky_model.specs.State.{RowPart, part_of, database_of}
 use Rattle.sky_model.specs.ShownRows.{RowsShown, rows_in, least_writer}
 use Rattle.sky_model.specs.OwnTransaction.{own_or_next, begin_of, commit_of, written}
-use Rattle.sky_model.specs.Outcome.{Outcome, Checked, ◌>>=◌, ◌>>◌, refused_if, answers, does_marks, abort, settled}
+use Rattle.sky_model.specs.Outcome.{Outcome, Checked, ◌>>=◌, ◌>>◌, refused_if, answers, does_marks, abort, settled, marks_of}
 use Rattle.sky_model.specs.Allowed.{where_of_row, where_of, allowed}
 use Rattle.sky_model.specs.StepRows.{attempts}
 use Rattle.sky_model.specs.StepQueue.{create_queue, first_trigger_into, shown_name, least_producer, insert_event, next_tick, is_due, forced, newest_id, id_of, next_event_id, made_event}
@@ -151,13 +151,29 @@ good_leaves h who q consumer None below stands = done
 good_leaves h who q consumer (Some sub) below stands = more (unregisters q consumer sub below stands) done
 
 -- retries that are due come back
-good_brings : (h : History) → Legal h → (now : ℤ) (who : ℕ) (rs : List Retry) → AreBack h now rs → Good h who (brings (database_of h) now rs)
-good_brings h l now who [] are = done
-good_brings h l now who (r ∷ rs) are =
-    good_test_then h who (nat_le (2 ^ 62) (next_txid h)) TxidsSpent (next_txid h) _
-    (more begins_work (good_back now (next_txid h) (r ∷ rs) (ended of_worker (next_txid h) true ∷ []) (λ g legal works. more (ends_work (next_txid h) true works) done)
-    (began of_worker (next_txid h) ∷ h) (next l begins_work) (grind (arith, nat_tests, contains-push (next_txid h) (next_txid h) (workers h)))
-    (record { wait = are.wait; once = are.once; due = are.due })))
+pub brings_may : (h : History) → Legal h → (now : ℤ) (rs : List Retry) → AreBack h now rs → Chain h (marks_of (brings (database_of h) now rs))
+brings_may h l now [] are = done
+brings_may h l now (r ∷ rs) are = of (nat_le (2 ^ 62) (next_txid h))
+  where
+    t : ℕ
+    t = next_txid h
+
+    of : (spent : Bool) → Chain h (marks_of ((refused_if spent TxidsSpent >> Ok t) >>= (λ id. does_marks (Number (length (r ∷ rs))) (began of_worker id ∷ back now id (r ∷ rs) ++ ended of_worker id true ∷ []))))
+    of true = done
+    of false =
+        more begins_work (good_back now t (r ∷ rs) (ended of_worker t true ∷ []) (λ g legal works. more (ends_work t true works) done)
+        (began of_worker t ∷ h) (next l begins_work) (grind (arith, nat_tests, contains-push t t (workers h)))
+        (record { wait = are.wait; once = are.once; due = are.due }))
+
+pub maint_may : (h : History) → Legal h → (now : ℤ) → Chain h (marks_of (maint_retry_events (database_of h) now))
+maint_may h l now = brings_may h l now (due_now now most_back (retries h)) (due-back h l now most_back)
+
+good_maint : (h : History) → Legal h → (now : ℤ) (who : ℕ) → Good h who (maint_retry_events (database_of h) now)
+good_maint h l now who = of (maint_retry_events (database_of h) now) (maint_may h l now)
+  where
+    of : (c : Checked Outcome) → Chain h (marks_of c) → Good h who c
+    of (Ok outcome) chain = chain
+    of (Err refusal) chain = good_refused h who refusal
 
 good_finishes : (h : History) (who id : ℕ) (batch : Option Batch) → active_batch id h ≡ batch → Good h who (finishes batch)
 good_finishes h who id None is = done
@@ -240,7 +256,7 @@ good_form h l now who (EventRetry id event seconds) may =
       copied = refl;
       fresh = fresh;
     })) done))))
-good_form h l now who MaintRetryEvents may = good_brings h l now who (due_now now most_back (retries h)) (due-back h l now most_back)
+good_form h l now who MaintRetryEvents may = good_maint h l now who
 good_form h l now who (FinishBatch batch) may = good_finishes h who batch (active_batch batch h) refl
 good_form h l now who (ConsumerInfo name consumer) may =
     good_found h who (queue_number name (queues h)) (NoQueue name) _ (λ q is.
@@ -307,7 +323,7 @@ module _ {P : Type 0} (r : PartReader P) (past : P → History) (reads : ReadsPa
   good_told p l who c rows good =
       subst (λ (d : RowPart). Chain (past p) (settled who (d.session who) (r.tells p c)).marks) (sym (reads.part p)) (reads.tells p l who c rows good)
 
-  good_then : (p : P) → Legal (past p) → (turn : Turn) (rest : P → Turn) → Chain (past p) turn.marks → ((q : P) → Legal (past q) → Chain (past q) (rest q).marks) → Chain (past p) (and_then r p turn rest).marks
+  pub good_then : (p : P) → Legal (past p) → (turn : Turn) (rest : P → Turn) → Chain (past p) turn.marks → ((q : P) → Legal (past q) → Chain (past q) (rest q).marks) → Chain (past p) (and_then r p turn rest).marks
   good_then p l turn rest chain also =
       good_append (past p) turn.marks _ chain
       (subst (λ h. Chain h (rest (behind_marks r p turn.marks)).marks) (past-behind p turn.marks)

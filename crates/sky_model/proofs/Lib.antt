@@ -80,6 +80,7 @@ pub mod WriteOrder
 pub mod Subscriptions
 pub mod RetryCopies
 pub mod RetryLaws
+pub mod RetryRounds
 pub mod RetriesBack
 pub mod EventIds
 pub mod WritesTold

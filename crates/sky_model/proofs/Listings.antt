@@ -1,12 +1,11 @@
 -- What a batch lists doesn't change once its closing tick is made: an event that is put later is of a running transaction, so it hadn't committed at
 -- that tick, and a tick that is made stays.
-use Rattle.std.proofs.Common.{◌≡◌, ℕ, ◌+◌, ◌<◌, ◌≤◌, List, [], ◌∷◌, ◌++◌, Bool, true, false, not, ◌&&◌, ◌==◌, Some, filter, refl, sym, ◌∙◌, ap, subst, arith, append-nil, if◌then◌else◌}
+use Rattle.std.proofs.Common.{◌≡◌, ℕ, ◌+◌, ◌<◌, ◌≤◌, List, [], ◌∷◌, ◌++◌, Bool, true, false, not, ◌&&◌, ◌==◌, filter, refl, sym, ◌∙◌, ap, subst, arith, append-nil, if◌then◌else◌}
 use Rattle.std.proofs.lemmas.Bool.{or_right, false_from_ne_true, eqb-true, cond_both}
 use Rattle.std.proofs.lemmas.List.Elements.{filter-append}
 use Rattle.sky_val.specs.declared.event.Event.{Event}
 use Rattle.sky_model.specs.History.{Batch, Mark, queued, put, ticked, History}
 use Rattle.sky_model.specs.Transactions.{has_ended, has_committed, has_rolled_back}
-use Rattle.sky_model.specs.Sessions.{own_txid}
 use Rattle.sky_model.specs.Queues.{events, ticks, newest_tick, at_tick}
 use Rattle.sky_model.specs.Batches.{by_id, is_for, batch_events}
 use Rattle.sky_model.specs.Retries.{brought_by}

@@ -26,7 +26,7 @@ use Rattle.sky_model.proofs.Holders.{holder-written, written-holder}
 use Rattle.sky_model.proofs.Lawful.{database-reads, past-behind}
 use Rattle.sky_model.proofs.Resting.{turn-rests}
 use Rattle.sky_model.proofs.DatabaseResting.{history-keeps}
-use Rattle.sky_model.proofs.DaemonTurns.{daemon-part}
+use Rattle.sky_model.proofs.DaemonTurns.{daemon-ready}
 
 pub holders_have_written : HoldersHaveWritten
 holders_have_written p is table key who = (holder-written p (legal_place p is) table key who, written-holder p (legal_place p is) table key who)
@@ -76,5 +76,5 @@ nothing_is_ready (entered who outside ∷ calls) =
     h : History
     h = after_all database_part calls
 nothing_is_ready (worked part now ∷ calls) =
-    ap (λ (d : RowPart). ready d) (daemon-part (after_all database_part calls) part now) ∙ nothing_is_ready calls
+    daemon-ready (after_all database_part calls) part now ∙ nothing_is_ready calls
 nothing_is_ready (failed who now ∷ calls) = history-rests (after_all database_part calls) now (failing (part_of (after_all database_part calls)) who)

@@ -13,7 +13,7 @@ use Rattle.sky_model.specs.Queues.{NamedQueue, queues_made, queues, others_than,
 use Rattle.sky_model.specs.Consumers.{all_but, consumers, subscription_id, position, active}
 use Rattle.sky_model.specs.Retries.{brought_by}
 use Rattle.sky_model.specs.LawsOfQueues.{QueuesOfConsumersStand, QueuesOfTriggersStand, BusyQueuesStand, StandingQueuesKeepAll, OtherQueuesKeepNothing, NewQueuesAreOthers}
-use Rattle.sky_model.proofs.Legal.{IsAmong, IsQueue, begins, ends, makes, raises, puts, puts_back, ticks_next, registers, unregisters, configures, drops, Legal, start, next}
+use Rattle.sky_model.proofs.Legal.{IsAmong, IsQueue, makes, raises, puts, puts_back, ticks_next, registers, unregisters, configures, drops, Legal, start, next}
 use Rattle.sky_model.proofs.QueueNumbers.{among-before, among-others}
 use Rattle.sky_model.proofs.Members.{among-consumers}
 use Rattle.sky_model.proofs.Snapshots.{sound, runs-below, begun-next, contains-push, contains-filter}

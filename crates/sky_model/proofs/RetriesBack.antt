@@ -1,24 +1,23 @@
 -- The marks by which retries come back may come when the retries are due.
-use Rattle.std.proofs.Common.{◌≡◌, ℕ, zero, suc, ◌+◌, ◌<◌, ◌≤◌, ℤ, ◌≤ℤ◌, int_le, List, [], ◌∷◌, ◌++◌, Bool, true, false, not, ◌&&◌, ◌||◌, ◌==◌, All, Contains, length, filter, find, take, nat_lt, Some, refl, sym, ◌∙◌, ap, subst, arith, if◌then◌else◌}
-use Rattle.std.specs.List.{list_any}
-use Rattle.std.proofs.lemmas.Bool.{cond_both, eqb-true, eq-eqb}
+use Rattle.std.proofs.Common.{◌≡◌, ℕ, zero, suc, ◌+◌, ◌<◌, ◌≤◌, ℤ, ◌≤ℤ◌, int_le, List, [], ◌∷◌, ◌++◌, Bool, true, not, ◌==◌, All, Contains, length, filter, find, take, nat_lt, Some, refl, sym, ◌∙◌, ap, subst, arith, if◌then◌else◌}
+use Rattle.std.proofs.lemmas.Bool.{cond_both}
 use Rattle.std.proofs.lemmas.Bool.Decides.{nat_tests}
 use Rattle.std.proofs.lemmas.Float.{T_from_true}
 use Rattle.std.specs.Int.Signed.{le_z_yes}
-use Rattle.std.proofs.lemmas.List.Elements.{All-nil, All-cons, All-head, All-tail, All-weaker, All-filter, All-take, All-contains, All-contains_itself}
+use Rattle.std.proofs.lemmas.List.Elements.{All-nil, All-cons, All-head, All-tail, All-filter, All-take, All-contains, All-contains_itself}
 use Rattle.sky_val.specs.declared.event.Event.{Event}
 use Rattle.sky_txid.specs.Ids.{contains}
 use Rattle.pgq_retry.specs.declared.retry.Retry.{Retry}
-use Rattle.pgq_retry.specs.Retries.{is_event, is_asked, is_due, put_by, sorted_by, by_due, due_now, without}
+use Rattle.pgq_retry.specs.Retries.{is_event, is_due, put_by, sorted_by, by_due, due_now}
 use Rattle.sky_model.specs.History.{Batch, Mark, queued, put, returned, History}
 use Rattle.sky_model.specs.Batches.{with_event, by_id_onto, batch_events}
 use Rattle.sky_model.specs.LawsOfBatches.{stands_in}
 use Rattle.sky_model.specs.Transactions.{workers}
 use Rattle.sky_model.specs.Queues.{sequence, events}
-use Rattle.sky_model.specs.Retries.{retries, retried, brought_by}
+use Rattle.sky_model.specs.Retries.{retries, brought_by}
 use Rattle.sky_model.specs.LawsOfRetries.{IsRetry}
 use Rattle.sky_model.specs.StepRetry.{back}
-use Rattle.sky_model.proofs.Legal.{IsQueue, Returns, Fine, puts_back, returns, Chain, done, more, Legal, next}
+use Rattle.sky_model.proofs.Legal.{IsQueue, Returns, Fine, puts_back, returns, Chain, more, Legal, next}
 use Rattle.sky_model.proofs.RetryCopies.{copies, once, filter-less}
 use Rattle.sky_model.proofs.StandingQueues.{registered-stands}
 use Rattle.sky_model.proofs.Selecting.{events_below-next}
@@ -36,7 +35,7 @@ all-sorted_by : {X : Type 0} (P : X → Type 0) (moment : X → ℤ) (xs : List 
 all-sorted_by P moment [] all = all
 all-sorted_by P moment (x ∷ xs) all = all-put_by P moment x (sorted_by moment xs) (All-head P x xs all) (all-sorted_by P moment xs (All-tail P x xs all))
 
-all-due : (P : Retry → Type 0) (now : ℤ) (most : ℕ) (all : List Retry) → All P all → All P (due_now now most all)
+pub all-due : (P : Retry → Type 0) (now : ℤ) (most : ℕ) (all : List Retry) → All P all → All P (due_now now most all)
 all-due P now most all each = All-take P most (filter (is_due now) (by_due all)) (All-filter (is_due now) P (by_due all) (all-sorted_by P Retry.due all each))
 
 all-passed : {X : Type 0} (p : X → Bool) (xs : List X) → All (λ x. p x ≡ true) (filter p xs)

@@ -1,20 +1,20 @@
 -- The events that wait to be retried are copies of stored ones, and wait once.
-use Rattle.std.proofs.Common.{◌≡◌, ℕ, zero, suc, ◌+◌, ◌<◌, ◌≤◌, ℤ, List, [], ◌∷◌, ◌++◌, Bool, true, false, not, ◌&&◌, ◌||◌, ◌==◌, bytes_eq, All, Contains, length, filter, Some, None, refl, sym, ◌∙◌, ap, subst, arith, if◌then◌else◌}
+use Rattle.std.proofs.Common.{◌≡◌, ℕ, ◌+◌, ◌≤◌, List, [], ◌∷◌, ◌++◌, Bool, true, false, not, ◌&&◌, ◌==◌, bytes_eq, All, Contains, length, filter, Some, None, refl, sym, ◌∙◌, ap, subst, arith, if◌then◌else◌}
 use Rattle.std.specs.List.{list_any}
-use Rattle.std.proofs.lemmas.Bool.{cond_both, eqb-true, and_parts}
+use Rattle.std.proofs.lemmas.Bool.{eqb-true, and_parts}
 use Rattle.std.proofs.lemmas.Bool.Decides.{nat_tests}
 use Rattle.std.proofs.lemmas.List.Elements.{All-nil, All-cons, All-head, All-tail, All-push, All-weaker, Contains-append_left, filter-append}
 use Rattle.std.proofs.lemmas.List.{length-append}
 use Rattle.sky_val.specs.declared.event.Event.{Event}
 use Rattle.pgq_retry.specs.declared.retry.Retry.{Retry}
-use Rattle.pgq_retry.specs.Retries.{is_of, is_event, is_asked, without, without_sub}
+use Rattle.pgq_retry.specs.Retries.{is_of, is_event, is_asked}
 use Rattle.sky_names.proofs.PlaceLemmas.{same_name}
-use Rattle.sky_model.specs.History.{Batch, queued, put, registered, unregistered, returned, History}
+use Rattle.sky_model.specs.History.{queued, put, History}
 use Rattle.sky_model.specs.Queues.{events}
 use Rattle.sky_model.specs.Consumers.{subscription_id}
 use Rattle.sky_model.specs.Retries.{retries, retried, brought_by}
 use Rattle.sky_model.specs.LawsOfRetries.{IsCopyOf, IsRetry}
-use Rattle.sky_model.proofs.Legal.{Fine, puts, puts_back, registers, unregisters, asks, returns, Legal, start, next}
+use Rattle.sky_model.proofs.Legal.{puts, puts_back, registers, unregisters, asks, returns, Legal, start, next}
 use Rattle.sky_model.proofs.Cases.{by_test}
 
 -- if each item of a list that passes a test has a property, each one that is left has it once the others are removed

@@ -1,5 +1,5 @@
 -- The events that wait to be retried are copies of stored ones, wait once, and come back when they are due.
-use Rattle.std.proofs.Common.{◌≡◌, ℤ, List, [], ◌∷◌, Bool, true, false, not, ◌&&◌, ◌==◌, filter, Some, refl, sym, ◌∙◌, subst, arith}
+use Rattle.std.proofs.Common.{◌≡◌, ℤ, List, [], ◌∷◌, Bool, false, not, filter, refl, sym, subst, arith}
 use Rattle.std.specs.List.{list_any}
 use Rattle.std.proofs.lemmas.Bool.{eqb-true}
 use Rattle.pgq_retry.specs.declared.retry.Retry.{Retry}

@@ -1,18 +1,18 @@
 -- The events of a batch are those that its two ticks' snapshots select.
-use Rattle.std.proofs.Common.{◌≡◌, ℕ, ◌+◌, ◌<◌, ◌≤◌, All, List, [], ◌∷◌, ◌++◌, Bool, true, false, not, ◌&&◌, ◌==◌, nat_lt, filter, refl, sym, ◌∙◌, ap, arith, subst, append-nil, append_assoc, if◌then◌else◌}
-use Rattle.std.proofs.lemmas.Bool.{or_right, cond_both}
+use Rattle.std.proofs.Common.{◌≡◌, ℕ, ◌+◌, ◌<◌, ◌≤◌, All, List, [], ◌∷◌, ◌++◌, Bool, true, false, not, ◌&&◌, ◌==◌, filter, sym, ◌∙◌, ap, arith, subst, if◌then◌else◌}
+use Rattle.std.proofs.lemmas.Bool.{or_right}
 use Rattle.std.proofs.lemmas.Bool.Decides.{nat_tests}
-use Rattle.std.proofs.lemmas.List.Elements.{All-nil, All-head, All-tail, All-push, All-weaker}
+use Rattle.std.proofs.lemmas.List.Elements.{All-nil, All-push, All-weaker}
 use Rattle.sky_val.specs.declared.event.Event.{Event}
 use Rattle.sky_txid.specs.Snapshot.{sees}
-use Rattle.sky_model.specs.History.{Batch, ended, queued, ticked, History, put}
+use Rattle.sky_model.specs.History.{Batch, ended, queued, ticked, History}
 use Rattle.sky_model.specs.Transactions.{has_ended, has_committed, has_rolled_back}
 use Rattle.sky_model.specs.Queues.{queues, sequence, events, ticks, tick, at_tick}
 use Rattle.sky_model.specs.Batches.{by_id, is_for, batch_events}
 use Rattle.sky_model.specs.Retries.{brought_by}
 use Rattle.sky_model.specs.Selection.{snapshot_at, selected_of, selected}
 use Rattle.sky_model.specs.State.{database_of}
-use Rattle.sky_model.proofs.Legal.{IsQueue, ends, makes, raises, puts, puts_back, ticks_next, drops, Legal, start, next}
+use Rattle.sky_model.proofs.Legal.{IsQueue, makes, raises, puts, puts_back, drops, Legal, start, next}
 use Rattle.sky_model.proofs.QueueNumbers.{others-among, others-apart}
 use Rattle.sky_model.proofs.StandingQueues.{beyond, stands-or-new, whole}
 use Rattle.sky_model.proofs.Snapshots.{sees-snapshot, ender-unended, has_committed-ended}

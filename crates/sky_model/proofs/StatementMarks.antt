@@ -68,7 +68,7 @@ each-append p [] ys all also = also
 each-append p (x ∷ xs) ys all also = when-map (p x) (p x) (λ e. e) (λ rest. each-append p xs ys rest also) all
 
 -- with a mark before them
-each-front : (p : Mark → Bool) (mark : Mark) (marks : List Mark) → p mark ≡ true → EachMark p marks → EachMark p (mark ∷ marks)
+pub each-front : (p : Mark → Bool) (mark : Mark) (marks : List Mark) → p mark ≡ true → EachMark p marks → EachMark p (mark ∷ marks)
 each-front p mark marks e all = subst (λ b. When b (EachMark p marks)) (sym e) all
 
 -- in particular the test holds

@@ -1,13 +1,12 @@
 -- Each subscription has an id of its own, which is given once.
-use Rattle.std.proofs.Common.{◌≡◌, ℕ, ◌<◌, ◌≤◌, List, [], ◌∷◌, Bool, true, false, ◌&&◌, ◌==◌, bytes_eq, Option, Some, None, refl, sym, ◌∙◌, ap, arith, if◌then◌else◌}
+use Rattle.std.proofs.Common.{◌≡◌, ℕ, ◌<◌, ◌≤◌, List, [], ◌∷◌, ◌&&◌, ◌==◌, bytes_eq, Some, None, refl, sym, ◌∙◌, arith, if◌then◌else◌}
 use Rattle.std.proofs.lemmas.Bool.{eqb-true, and_parts}
-use Rattle.std.proofs.lemmas.Bool.Decides.{nat_tests}
 use Rattle.sky_names.proofs.PlaceLemmas.{same_name}
-use Rattle.sky_model.specs.History.{queued, registered, unregistered, History}
+use Rattle.sky_model.specs.History.{queued, registered, History}
 use Rattle.sky_model.specs.Consumers.{subscription_id, last_subscription}
 use Rattle.sky_model.specs.LawsOfBatches.{SubscriptionsAreDistinct, SubscriptionsAreGiven, SubscriptionsAreNew}
 use Rattle.sky_model.proofs.Legal.{Fine, registers, unregisters, Legal, start, next}
-use Rattle.sky_model.proofs.SnapshotLaws.{legal-below_mark, fine_mark, legal_place}
+use Rattle.sky_model.proofs.SnapshotLaws.{fine_mark, legal_place}
 use Rattle.sky_model.proofs.Cases.{by_test}
 
 -- the ids in use were given

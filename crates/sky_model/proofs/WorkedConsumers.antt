@@ -1,5 +1,5 @@
 -- Consumers that register at a tick, are moved, and leave, in worked scripts from their bytes to their printed bytes, by computation.
-use Rattle.std.proofs.Common.{List, ℕ, [], ◌∷◌, ◌++◌, refl, codes}
+use Rattle.std.proofs.Common.{[], ◌∷◌, refl, codes}
 use Rattle.std.specs.Str.{is_utf8, chars}
 use lib.Utf8.{encode}
 use Rattle.std.specs.Fmt.{digits}

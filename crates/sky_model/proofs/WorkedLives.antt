@@ -1,11 +1,11 @@
 -- Consumers that are moved, and that leave, in worked histories, by computation: what is read of them, of their batches
 -- and of the others', and that such histories are legal.
-use Rattle.std.proofs.Common.{◌≡◌, ℕ, ℤ, pos, ◌<◌, ◌≤◌, List, [], ◌∷◌, ◌++◌, true, false, Option, Some, None, refl, codes, map, arith}
+use Rattle.std.proofs.Common.{◌≡◌, ℕ, pos, ◌<◌, List, [], ◌∷◌, true, false, Some, None, refl, codes, map, arith}
 use Rattle.std.proofs.lemmas.List.Elements.{All-nil}
 use Rattle.sky_val.specs.declared.event.Event.{Event}
-use Rattle.sky_model.specs.History.{Batch, Mark, of_session, began, ended, queued, made, raised, put, ticked, registered, moved, unregistered, opened, closed, History}
+use Rattle.sky_model.specs.History.{Batch, of_session, began, ended, queued, made, raised, put, ticked, registered, moved, unregistered, opened, closed, History}
 use Rattle.sky_model.specs.Queues.{events}
-use Rattle.sky_model.specs.Consumers.{consumers, position, Subscription, subscription, last_subscription, active_batch}
+use Rattle.sky_model.specs.Consumers.{consumers, position, subscription, last_subscription, active_batch}
 use Rattle.sky_model.specs.LawsOfBatches.{first_tick, finished, stands_between, stands_in}
 use Rattle.sky_model.proofs.Legal.{Opens, begins, ends, makes, raises, puts, ticks_next, registers, moves, unregisters, opens, closes, Legal, start, next}
 

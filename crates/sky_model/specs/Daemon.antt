@@ -1,9 +1,12 @@
 -- What the daemon of a database does, and at which moments.
-use Rattle.std.specs.Prelude.{ℕ, zero, suc, ◌+◌, ◌*◌, ◌/◌, ◌%◌, ◌==◌, ◌&&◌, ℤ, pos, ◌+ℤ◌, ◌-ℤ◌, int_lt, unsigned_abs, Bool, false, if◌then◌else◌, List, [], ◌∷◌, Option, Some, None, option_map}
+use Rattle.std.specs.Prelude.{ℕ, zero, suc, nat_le, length, true, ◌+◌, ◌*◌, ◌/◌, ◌%◌, ◌==◌, ◌&&◌, ℤ, pos, ◌+ℤ◌, ◌-ℤ◌, int_lt, unsigned_abs, Bool, false, if◌then◌else◌, List, [], ◌∷◌, Option, Some, None, option_map}
 use Rattle.sky_model.specs.declared.daemon.DaemonPart.{DaemonPart}
 use Rattle.sky_model.specs.declared.daemon.DaemonPart.TheVariants.{Tick, Retry, Maintain}
 use Rattle.sky_model.specs.Queues.{NamedQueue}
-use Rattle.sky_model.specs.Outcome.{Outcome, Checked, marks_of}
+use Rattle.sky_model.specs.declared.reply.Reply.{Reply}
+use Rattle.sky_model.specs.declared.reply.Reply.TheVariants.{Number}
+use Rattle.sky_model.specs.Outcome.{Outcome, Checked, reply_of, marks_of}
+use Rattle.sky_model.specs.StepRetry.{most_back, maint_retry_events}
 use Rattle.sky_model.specs.Reader.{DatabaseReader, within_part}
 use Rattle.sky_model.specs.Settling.{Turn, rests, and_then}
 use Rattle.sky_model.specs.StepQueue.{next_tick}
@@ -17,11 +20,28 @@ abbrev pub ticks_of : {P : Type 0} → DatabaseReader P → ℤ → List NamedQu
 ticks_of r now [] p = rests
 ticks_of r now (q ∷ queues) p = and_then (within_part r now) p (quietly (next_tick (r.database p) now q.number)) (ticks_of r now queues)
 
--- what a part of the daemon of a database does: it makes the ticks of its queues, in the order of making; it doesn't retry events or rotate event
--- tables yet
+-- how many events a call of `maint_retry_events` moves: the number that it answers, or none if it is refused
+abbrev pub moved_by : Reply → ℕ
+moved_by (Number n) = n
+moved_by _ = 0
+
+-- what follows is done if a test holds
+abbrev pub again_if : {P : Type 0} → Bool → (P → Turn) → P → Turn
+again_if true rest p = rest p
+again_if false rest p = rests
+
+-- `maint_retry_events`, again until it moves fewer events than it may, and at most so many times
+abbrev pub retries_of : {P : Type 0} → DatabaseReader P → ℤ → ℕ → P → Turn
+retries_of r now zero p = rests
+retries_of r now (suc n) p =
+    let c : Checked Outcome = maint_retry_events (r.database p) now in
+    and_then (within_part r now) p (quietly c) (again_if (nat_le most_back (moved_by (reply_of c))) (retries_of r now n))
+
+-- what a part of the daemon of a database does: it makes the ticks of its queues, in the order of making; it moves events that are due to be retried,
+-- not more often than there are such that wait; it doesn't rotate event tables yet
 abbrev pub daemon_does : {P : Type 0} → DatabaseReader P → P → DaemonPart → ℤ → Turn
 daemon_does r p Tick now = ticks_of r now (r.database p).queues p
-daemon_does r p Retry now = rests
+daemon_does r p Retry now = retries_of r now (length (r.database p).retries) p
 daemon_does r p Maintain now = rests
 
 -- the time from one turn of a part to the next: a second, half a minute, two minutes

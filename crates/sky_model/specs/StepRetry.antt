@@ -1,5 +1,5 @@
 -- What the statements on retries do: a subscription asks for an event once more, and those that are due come back.
-use Rattle.std.specs.Prelude.{ℕ, ◌+◌, ◌*◌, ℤ, pos, ◌+ℤ◌, List, [], ◌∷◌, ◌++◌, Option, true, ◌==◌, find, length, if◌then◌else◌}
+use Rattle.std.specs.Prelude.{ℕ, ◌*◌, ℤ, pos, ◌+ℤ◌, List, [], ◌∷◌, ◌++◌, Option, true, ◌==◌, find, length, if◌then◌else◌}
 use Rattle.sky_val.specs.declared.event.Event.{Event}
 use Rattle.pgq_retry.specs.declared.retry.Retry.{Retry}
 use Rattle.pgq_retry.specs.Retries.{is_asked, due_now}
@@ -9,7 +9,7 @@ use Rattle.sky_model.specs.History.{Batch, Mark, of_worker, began, ended, queued
 use Rattle.sky_model.specs.Retries.{retried, brought_by}
 use Rattle.sky_model.specs.State.{Database}
 use Rattle.sky_model.specs.OwnTransaction.{next_id}
-use Rattle.sky_model.specs.Outcome.{Outcome, Checked, ◌>>=◌, ◌>>◌, found_or, answers, does_marks}
+use Rattle.sky_model.specs.Outcome.{Outcome, Checked, ◌>>=◌, found_or, answers, does_marks}
 
 -- an event of a batch, as its subscription is to get it once more, so many seconds from now
 abbrev pub retry_of : ℤ → ℕ → Batch → Event → Retry

@@ -1,5 +1,5 @@
 -- What the world shows as the clock moves, and the daemons work at each moment at which one is due.
-use Rattle.std.proofs.Common.{◌≡◌, ℕ, zero, suc, ◌+◌, ◌-◌, ◌<◌, ◌≤◌, List, [], ◌∷◌, ◌++◌, Bool, true, false, Option, Some, None, map, length, refl, sym, ◌∙◌, ap, subst, arith, All, if◌then◌else◌, IfSome, option_map, ℤ, pos, ◌+ℤ◌, ◌-ℤ◌, ◌≤ℤ◌, ◌<ℤ◌, int_lt, unsigned_abs}
+use Rattle.std.proofs.Common.{◌≡◌, ℕ, zero, suc, nat_le, ◌+◌, ◌-◌, ◌<◌, ◌≤◌, List, [], ◌∷◌, ◌++◌, Bool, true, false, Option, Some, None, map, length, refl, sym, ◌∙◌, ap, subst, arith, All, if◌then◌else◌, IfSome, option_map, ℤ, pos, ◌+ℤ◌, ◌-ℤ◌, ◌≤ℤ◌, ◌<ℤ◌, int_lt, unsigned_abs}
 use Rattle.std.proofs.lemmas.Int.{ints}
 use Rattle.std.proofs.lemmas.List.Elements.{All-from_recursion}
 use Rattle.sky_model.specs.declared.daemon.DaemonPart.{DaemonPart}
@@ -14,8 +14,10 @@ use Rattle.sky_model.specs.Queues.{NamedQueue}
 use Rattle.sky_model.specs.World.{World, after_fact, after_facts}
 use Rattle.sky_model.specs.Reader.{DatabaseReader, within_part, within_database, by_world, Deed, answers_with, refuses, idles, followed}
 use Rattle.sky_model.specs.Settling.{Turn, behind_marks}
+use Rattle.sky_model.specs.Outcome.{Outcome, Checked, reply_of, marks_of}
+use Rattle.sky_model.specs.StepRetry.{most_back, maint_retry_events}
 use Rattle.sky_model.specs.StepQueue.{next_tick}
-use Rattle.sky_model.specs.Daemon.{quietly, ticks_of, daemon_does, is_due_at, first_after, earlier, next_due}
+use Rattle.sky_model.specs.Daemon.{quietly, ticks_of, moved_by, again_if, retries_of, daemon_does, is_due_at, first_after, earlier, next_due}
 use Rattle.sky_model.specs.Clock.{deed_in, part_works, daemon_works, daemons_work, at_moment, goes_to, through, last_moment, clock_goes, clock}
 use Rattle.sky_world.specs.Views.{WorldView}
 use Rattle.sky_world.specs.Seen.{seen_world}
@@ -193,9 +195,19 @@ ticks-silent : {P : Type 0} (r : DatabaseReader P) (now : ℤ) (queues : List Na
 ticks-silent r now [] p = refl
 ticks-silent r now (q ∷ queues) p = ticks-silent r now queues (behind_marks (within_part r now) p (quietly (next_tick (r.database p) now q.number)).marks)
 
+again-silent : {P : Type 0} (rest : P → Turn) → ((p : P) → [] ≡ (rest p).answers) → (b : Bool) (p : P) → [] ≡ (again_if b rest p).answers
+again-silent rest silent true p = silent p
+again-silent rest silent false p = refl
+
+retries-silent : {P : Type 0} (r : DatabaseReader P) (now : ℤ) (n : ℕ) (p : P) → [] ≡ (retries_of r now n p).answers
+retries-silent r now zero p = refl
+retries-silent r now (suc n) p =
+    let c : Checked Outcome = maint_retry_events (r.database p) now in
+    again-silent (retries_of r now n) (retries-silent r now n) (nat_le most_back (moved_by (reply_of c))) (behind_marks (within_part r now) p (marks_of c))
+
 does-silent : {P : Type 0} (r : DatabaseReader P) (p : P) (part : DaemonPart) (now : ℤ) → [] ≡ (daemon_does r p part now).answers
 does-silent r p Tick now = ticks-silent r now (r.database p).queues p
-does-silent r p Retry now = refl
+does-silent r p Retry now = retries-silent r now (length (r.database p).retries) p
 does-silent r p Maintain now = refl
 
 part-silent : (d : ℕ) (part : DaemonPart) (w : World) → [] ≡ (part_works by_world d part w).answers

@@ -349,6 +349,17 @@ waiters-founded count old longer new is empty all =
     (All-append (HasWaitersWithin count) old (new ∷ []) all
     (All-from_recursion (HasWaitersWithin count) (new ∷ []) (subst (λ (d : Database). WaitersWithin count d.part.waiting) (sym empty) (λ k w at. absurd (omega arith)), tt)))
 
+-- with a database in which the same wait as before
+pub waiters-same : (count d : ℕ) (stores : List DbView) (old new : DbView) → d < length stores → old ≡ get_or stores d old → (seen_database new).part.waiting ≡ (seen_database old).part.waiting
+    → AllWaitersWithin count stores → AllWaitersWithin count (slice_set stores d new)
+waiters-same count d stores old new lt at same all = All-set (HasWaitersWithin count) stores d new (subst (WaitersWithin count) (sym same) within) all
+  where
+    there : get_or stores d no_database ≡ old
+    there = get_or_from_slice_get stores d old no_database (slice_get_read stores (length stores) d old refl lt at)
+
+    within : WaitersWithin count (seen_database old).part.waiting
+    within = subst (HasWaitersWithin count) there (All-get_or (HasWaitersWithin count) stores d no_database lt all)
+
 -- a statement of a database is answered to sessions that exist, and leaves none waiting that doesn't
 pub known-within : (v now : WorldView) (d who : ℕ) (old new : DbView) (replies : List (ℕ × Reply)) → v ≡ now → d < length v.databases.values
     → old ≡ get_or v.databases.values d old → who < length now.sessions.names → AllWaitersWithin (length v.sessions.names) v.databases.values → StaysWithin (seen_database old) (seen_database new) who replies

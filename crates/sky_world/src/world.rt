@@ -31,7 +31,7 @@ pub enum WorldFault {
     #[error("out of memory")]
     NoMemory,
     /// Memory ran out at an earlier call.
-    #[error("memory was wanting before")]
+    #[error("memory ran out before")]
     Failed,
 }
 

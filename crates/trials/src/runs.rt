@@ -32,6 +32,8 @@ impl Runs {
         match command {
             "script" => self.take_script(alloc, "~", words),
             "days" => self.take_script(alloc, "a: clock +1day\n", words),
+            "updates" => self.take_script(alloc, "b: update t 1 set n=1\n", words),
+            "inserts" => self.take_inserts(alloc, words),
             "pgqrun" => self.run(alloc, words),
             _ => Err(no_command()),
         }
@@ -41,6 +43,21 @@ impl Runs {
     fn take_script(&mut self, alloc: Global, one: &str, words: &str) -> anyhow::Result<String> {
         let (count, script) = first_number(words)?;
         self.repeated = one.repeat(alloc, count.max(1) as usize)?;
+        self.take(alloc, script)
+    }
+
+    // The same, in which it is replaced by lines that insert so many rows.
+    fn take_inserts(&mut self, alloc: Global, words: &str) -> anyhow::Result<String> {
+        let (count, script) = first_number(words)?;
+        let mut lines = String::new(alloc);
+        for key in 0..count {
+            lines.push_str(format!(in alloc; "a: insert t {key} 0\n")?.as_str())?;
+        }
+        self.repeated = lines;
+        self.take(alloc, script)
+    }
+
+    fn take(&mut self, alloc: Global, script: &str) -> anyhow::Result<String> {
         let script = script.replace(alloc, "@", self.repeated.as_str())?;
         let script = script.replace(alloc, "\\n", "\n")?;
         self.script = bytes_of(alloc, script.as_str())?;

@@ -1,12 +1,13 @@
-use Rattle.std.proofs.Common.{◌∙◌, sym, ap, w64}
+use Rattle.std.proofs.Common.{to_z, of_z, length, ◌∙◌, sym, ap, w64}
 use Rattle.std.proofs.lemmas.Int.{to_z-of_z}
-use Rattle.sky_model.specs.State.{after_marks}
+use Rattle.sky_model.specs.State.{Database, after_marks}
+use Rattle.sky_model.specs.declared.daemon.DaemonPart.TheVariants.{Retry}
 use Rattle.sky_model.specs.Reader.{database_by_itself}
 use Rattle.sky_model.specs.Daemon.{daemon_does}
 use Rattle.sky_model.specs.DatabaseCalls.{worked}
 use Rattle.sky_model.proofs.DatabaseStanding.{database_steps_from_exact}
 use Rattle.pgq_db.specs.Seen.{seen_database}
-use Rattle.pgq_db.proofs.Daemons.{ticks_end}
+use Rattle.pgq_db.proofs.Daemons.{ticks_end, retries_end, daemon-waits}
 use Rattle.pgq_db.proofs.db.Db.daemon.Goals as goal
 
 pub returns-in_ok-make_ticks-in-Tick-clause-steps : goal.returns-in_ok-make_ticks-in-Tick-clause-steps
@@ -14,3 +15,13 @@ returns-in_ok-make_ticks-in-Tick-clause-steps c =
     let d = seen_database c.args.self.now in
     database_steps_from_exact _ _ (worked c.args.part c.args.now)
     (c.in_ok-make_ticks-in-Tick.ensures.ticked ∙ ap (λ now. ticks_end now d.queues d) (to_z-of_z w64 c.args.now c.ranges.now) ∙ ap (λ part. after_marks d (daemon_does database_by_itself d part c.args.now).marks) (sym c.in-Tick.is))
+
+pub returns-in_ok-retry_events-in-Retry-clause-steps : goal.returns-in_ok-retry_events-in-Retry-clause-steps
+returns-in_ok-retry_events-in-Retry-clause-steps c =
+    let d = seen_database c.args.self.now in
+    database_steps_from_exact _ _ (worked c.args.part c.args.now)
+    (c.in_ok-retry_events-in-Retry.ensures ∙ ap (λ now. retries_end now (length d.retries) d) (to_z-of_z w64 c.args.now c.ranges.now) ∙ ap (λ part. after_marks d (daemon_does database_by_itself d part c.args.now).marks) (sym c.in-Retry.is))
+
+pub returns-in_ok-retry_events-in-Retry-clause-waiting : goal.returns-in_ok-retry_events-in-Retry-clause-waiting
+returns-in_ok-retry_events-in-Retry-clause-waiting c =
+    ap (λ (d : Database). d.part.waiting) c.in_ok-retry_events-in-Retry.ensures ∙ daemon-waits (seen_database c.args.self.now) Retry (to_z w64 (of_z w64 c.args.now))

@@ -1,0 +1,41 @@
+//! The crates as a library: a world of one's own, which runs statements and gives their answers as values.
+//!
+//! Three letters are put into a queue, and a worker sends those of each batch. One can't be sent at first; the worker
+//! asks for it once more, half a minute later, and the daemon brings it back.
+#![tactic(auto)]
+
+mod post;
+
+use post::Post;
+
+/// What is done before the worker begins.
+const LINES: [&str; 10] = [
+    "a: open d",
+    "a: create_queue letters",
+    "a: register_consumer letters worker",
+    "a: begin",
+    "a: insert_event letters 'letter' 'to=ann'",
+    "a: insert_event letters 'letter' 'to=bob'",
+    "a: insert_event letters 'letter' 'to=cid'",
+    "a: commit",
+    "a: pgqd on",
+    "w: open d",
+];
+
+/// How often the worker looks for a batch, ten seconds after each other.
+const TURNS: u32 = 12;
+
+fn main(rt: HostRuntime) -> anyhow::Result<()> {
+    let mut post = Post::new(rt.alloc());
+    for line in LINES {
+        post.run(line)?;
+    }
+    for _turn in 0..TURNS {
+        post.run("w: clock +10s")?;
+        if let Some(batch) = post.next_batch()? {
+            println!(rt; "batch {batch}")?;
+            post.send(&rt, batch)?;
+        }
+    }
+    Ok(())
+}
