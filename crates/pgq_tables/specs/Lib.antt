@@ -1,0 +1,5 @@
+pub mod Tables
+pub mod ById
+pub mod Listed
+pub mod Order
+pub mod Views

@@ -1,0 +1,12 @@
+-- What contracts see of event tables.
+use Rattle.std.specs.Prelude.{ℕ, ◌+◌, ◌^◌, ◌-◌, nat_lt, if◌then◌else◌}
+use Rattle.pgq_tables.specs.Tables.{Tables}
+
+-- the tables, and how many stored events were ever looked at, as far as that can be counted
+pub record TablesView : Type 0 where
+  pub tables : Tables
+  pub reads : ℕ
+
+-- a count of looks after one more: it stays at its last value
+abbrev pub one_more : ℕ → ℕ
+one_more reads = if nat_lt reads (2 ^ 64 - 1) then reads + 1 else reads
