@@ -16,7 +16,8 @@ use Rattle.sky_model.specs.Printed.{EventsHaveMoments}
 use Rattle.sky_model.specs.State.{RowPart, Queue, Database, after_mark}
 use Rattle.sky_model.specs.Outcome.{Outcome, Checked, ◌>>=◌, ◌>>◌, refused_if, found_or, answers, does_marks}
 use Rattle.sky_model.specs.Reader.{shown_by}
-use Rattle.sky_model.specs.StepQueue.{queue_called, id_of, newest_id}
+use Rattle.sky_model.specs.StepQueue.{queue_called, newest_id}
+use Rattle.sky_model.specs.Queues.{id_of}
 use Rattle.sky_model.specs.StepConsumer.{has_dot, registers, register_consumer, register_consumer_at, leaves, unregister_consumer, opens_batch, get_batch_events, batch_info_of, get_batch_info, finishes, finish_batch}
 use Rattle.sky_state.specs.Seen.{seen}
 use Rattle.pgq_queues.specs.declared.batch.Batch as read

@@ -6,8 +6,8 @@ use Rattle.std.proofs.lemmas.List.Elements.{All-nil, All-cons, All-head, All-tai
 use Rattle.std.proofs.lemmas.List.{drop_more, drop_all}
 use Rattle.std.specs.List.Sorted.{ties, IsNonDecreasingBy, IsStableByKey}
 use Rattle.sky_val.specs.declared.event.Event.{Event}
-use Rattle.sky_model.specs.Batches.{with_event, by_id_onto, by_id}
-use Rattle.sky_model.specs.LawsOfBatches.{InOrder, with_id}
+use Rattle.pgq_tables.specs.ById.{with_event, by_id_onto, by_id}
+use Rattle.pgq_tables.specs.ById.{InOrder, with_id}
 use Rattle.sky_model.proofs.OrderById.{ids_dont_fall, equal_ids_stay}
 
 with_id-first : (id : ℕ) (e : Event) (es : List Event) → e.ev_id ≡ id → with_id id (e ∷ es) ≡ e ∷ with_id id es

@@ -6,7 +6,7 @@ use Rattle.std.proofs.lemmas.List.Elements.{All-head, All-tail}
 use Rattle.sky_val.specs.declared.event.Event.{Event}
 use Rattle.std.proofs.lemmas.Result.{IfOk-weaker}
 use Rattle.std.specs.declared.alloc.AllocError.{AllocError}
-use Rattle.sky_model.specs.Batches.{by_id}
+use Rattle.pgq_tables.specs.ById.{by_id}
 use Rattle.sky_model.specs.Queues.{Tick, tick}
 use Rattle.sky_model.specs.Selection.{snapshot_at, is_selected, selected_in, selected}
 use Rattle.sky_model.specs.State.{RowPart}

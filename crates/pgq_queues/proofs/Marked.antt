@@ -23,7 +23,7 @@ use Rattle.sky_model.specs.History as model
 use Rattle.sky_model.specs.History.{queued, made, ticked, dropped, traced}
 use Rattle.sky_model.specs.Queues.{Tick, tick}
 use Rattle.sky_model.specs.Triggers.{TableTrigger}
-use Rattle.sky_model.specs.Batches.{by_id}
+use Rattle.pgq_tables.specs.ById.{by_id}
 use Rattle.sky_model.specs.Selection.{snapshot_at, is_selected, selected_in, selected}
 use Rattle.sky_model.specs.State.{Queue, RowPart, changed_at, emptied, after_mark, after_marks}
 use Rattle.sky_model.specs.ShownRows.{snapshot_now}

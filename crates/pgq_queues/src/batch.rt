@@ -1,7 +1,8 @@
 ghost use Rattle.std.specs.Prelude.{◌≡◌, ◌==◌, ◌&&◌, IfOk, OnOk, find, option_copied};
 ghost use Rattle.std.specs.List.{filter};
 ghost use Rattle.sky_txid.specs.Snapshot.{sees};
-ghost use Rattle.sky_model.specs.Batches.{is_for, by_id};
+ghost use Rattle.pgq_tables.specs.Listed.{is_for};
+ghost use Rattle.pgq_tables.specs.ById.{by_id};
 ghost use Rattle.sky_model.specs.Queues.{seq_at};
 ghost use Rattle.sky_model.specs.Selection.{snapshot_at, is_selected};
 ghost use Rattle.pgq_queues.specs.Seen.{keeps};

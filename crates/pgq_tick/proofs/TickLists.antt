@@ -8,7 +8,8 @@ use Rattle.std.proofs.lemmas.Bool.Decides.{nat_tests}
 use Rattle.std.proofs.lemmas.Cmp.{ranked}
 use Rattle.std.proofs.lemmas.Option.{slice_get_read, IfSome_then}
 use Rattle.sky_model.specs.Queues.{Tick, tick, newest_tick}
-use Rattle.sky_model.specs.StepQueue.{id_of, last_two}
+use Rattle.sky_model.specs.StepQueue.{last_two}
+use Rattle.sky_model.specs.Queues.{id_of}
 use Rattle.sky_model.specs.Moment.{IsTime}
 use Rattle.pgq_tick.specs.Ticks.{AreTicks, is_above, ticks_above}
 

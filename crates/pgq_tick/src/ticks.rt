@@ -1,6 +1,7 @@
 ghost use Rattle.std.specs.Prelude.{◌≡◌, ◌↔◌, ◌+◌, ◌^◌, ◌<◌, ◌≤◌, ◌*ℤ◌, ◌-ℤ◌, ◌||◌, ◌&&◌, not, int_lt, pos, [], ◌∷◌, ◌++◌, Some, None, Err, IfOk, OnOk, OnErr, IfSome, option_map, option_copied, option_and_then, length, slice_get};
 ghost use Rattle.sky_model.specs.Queues.{tick, newest_tick};
-ghost use Rattle.sky_model.specs.StepQueue.{due_of, is_due_after, last_two, id_of};
+ghost use Rattle.sky_model.specs.StepQueue.{due_of, is_due_after, last_two};
+ghost use Rattle.sky_model.specs.Queues.{id_of};
 ghost use Rattle.sky_txid.specs.Snapshot.{sees};
 ghost use Rattle.sky_model.specs.Moment.{IsTime};
 ghost use Rattle.pgq_tick.specs.Ticks.{IsSpan, AreTicks, is_above, least_above, ticks_above};

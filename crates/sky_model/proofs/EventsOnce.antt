@@ -5,7 +5,7 @@ use Rattle.sky_model.specs.History.{Batch, History}
 use Rattle.sky_model.specs.Transactions.{has_committed}
 use Rattle.sky_model.specs.Queues.{at_tick}
 use Rattle.sky_model.specs.Consumers.{position}
-use Rattle.sky_model.specs.Batches.{is_for}
+use Rattle.pgq_tables.specs.Listed.{is_for}
 use Rattle.sky_model.specs.LawsOfBatches.{first_tick, finished, stands_between, stands_in, BatchesListWhatStands, EventsAreListedOnce}
 use Rattle.sky_model.proofs.Legal.{Legal}
 use Rattle.sky_model.proofs.SnapshotLaws.{legal_place}

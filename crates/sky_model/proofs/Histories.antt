@@ -26,7 +26,8 @@ use Rattle.sky_model.specs.declared.stmt.Stmt.TheVariants.{Clock}
 use Rattle.sky_model.specs.declared.reply.Reply.TheVariants.{Number, Null}
 use Rattle.sky_model.specs.declared.reply.Refusal.TheVariants.{IdsSpent}
 use Rattle.sky_model.specs.Queues.{NamedQueue, queues, ticks, newest_tick}
-use Rattle.sky_model.specs.StepQueue.{is_due, newest_id, id_of}
+use Rattle.sky_model.specs.StepQueue.{is_due, newest_id}
+use Rattle.sky_model.specs.Queues.{id_of}
 use Rattle.sky_model.specs.Daemon.{quietly, ticks_of, daemon_does, retries_of, moved_by, again_if}
 use Rattle.sky_model.proofs.StandingQueues.{whole}
 use Rattle.sky_model.proofs.DaemonTurns.{same-daemon_does}

@@ -3,7 +3,7 @@ use Rattle.std.proofs.Common.{◌≡◌, ℕ, ◌+◌, Bool, false, List, [], �
 use Rattle.sky_val.specs.declared.event.Event.{Event}
 use Rattle.pgq_retry.specs.declared.retry.Retry.{Retry}
 use Rattle.pgq_retry.specs.Retries.{without as without_retry, without_sub}
-use Rattle.sky_model.specs.History.{Batch, Mark, ended, queued, made, raised, put, ticked, registered, moved, unregistered, opened, closed, asked, returned, traced, configured, dropped}
+use Rattle.sky_model.specs.History.{Batch, Mark, ended, queued, made, raised, put, ticked, registered, moved, unregistered, opened, closed, asked, returned, switching, switched, second_step, traced, configured, dropped}
 use Rattle.sky_model.specs.Triggers.{TableTrigger}
 use Rattle.sky_model.specs.Queues.{NamedQueue, others_than}
 use Rattle.sky_model.specs.Consumers.{of_another}
@@ -30,7 +30,6 @@ inserted-append (with_put queue event more) also = with_put queue event (inserte
 -- what a database keeps besides its queues
 pub record BesideQueues : Type 0 where
   pub part : RowPart
-  pub undone : ℕ → Bool
   pub last_batch_id : ℕ
   pub last_sub_id : ℕ
   pub queues_made : ℕ
@@ -40,13 +39,13 @@ pub record BesideQueues : Type 0 where
   pub retries : List Retry
 
 abbrev pub beside : Database → BesideQueues
-beside d = record { part = d.part; undone = d.undone; last_batch_id = d.last_batch_id; last_sub_id = d.last_sub_id; queues_made = d.queues_made; queues = d.queues; batch = d.batch; triggers = d.triggers; retries = d.retries }
+beside d = record { part = d.part; last_batch_id = d.last_batch_id; last_sub_id = d.last_sub_id; queues_made = d.queues_made; queues = d.queues; batch = d.batch; triggers = d.triggers; retries = d.retries }
 
 -- a mark changes it alike
 beside-mark : (d e : Database) (mark : Mark) → beside d ≡ beside e → beside (after_mark d mark) ≡ beside (after_mark e mark)
-beside-mark d e (ended who t false) same = λ i. record (same i) { part = after_part (same i).part (ended who t false); undone = λ u. u == t || (same i).undone u }
+beside-mark d e (ended who t false) same = λ i. record (same i) { part = after_part (same i).part (ended who t false) }
 beside-mark d e (ended who t true) same = λ i. record (same i) { part = after_part (same i).part (ended who t true) }
-beside-mark d e (queued (made name)) same = λ i. record (same i) {
+beside-mark d e (queued (made name t time)) same = λ i. record (same i) {
   queues_made = (same i).queues_made + 1;
   queues = (same i).queues ++ record { number = (same i).queues_made; name = name } ∷ [];
 }
@@ -60,6 +59,9 @@ beside-mark d e (queued (opened b)) same = λ i. record (same i) { last_batch_id
 beside-mark d e (queued (closed b)) same = λ i. record (same i) { batch = changed_at b.id (λ _. None) (same i).batch }
 beside-mark d e (queued (asked retry)) same = λ i. record (same i) { retries = (same i).retries ++ retry ∷ [] }
 beside-mark d e (queued (returned retry moment)) same = λ i. record (same i) { retries = without_retry retry.sub retry.event.ev_id (same i).retries }
+beside-mark d e (queued (switching queue t)) same = same
+beside-mark d e (queued (switched queue time)) same = same
+beside-mark d e (queued (second_step queue t)) same = same
 beside-mark d e (queued (configured queue config)) same = same
 beside-mark d e (queued (dropped queue)) same = λ i. record (same i) { queues = others_than queue (same i).queues }
 beside-mark d e (queued (traced table name trigger)) same = λ i. record (same i) {

@@ -32,7 +32,8 @@ use Rattle.sky_model.specs.OwnTransaction.{own_or_next, begin_of, commit_of, wri
 use Rattle.sky_model.specs.Outcome.{Outcome, Checked, ◌>>=◌, ◌>>◌, refused_if, answers, does_marks, abort, settled, marks_of}
 use Rattle.sky_model.specs.Allowed.{where_of_row, where_of, allowed}
 use Rattle.sky_model.specs.StepRows.{attempts}
-use Rattle.sky_model.specs.StepQueue.{create_queue, first_trigger_into, shown_name, least_producer, insert_event, next_tick, is_due, forced, newest_id, id_of, next_event_id, made_event}
+use Rattle.sky_model.specs.StepQueue.{create_queue, first_trigger_into, shown_name, least_producer, insert_event, next_tick, is_due, forced, newest_id, next_event_id, made_event}
+use Rattle.sky_model.specs.Queues.{id_of}
 use Rattle.sky_model.specs.StepConsumer.{has_dot, registers as registers_at, leaves, opens_batch, takes_batch, finishes}
 use Rattle.sky_model.specs.Reader.{shown_in, PartReader, part_by_history, database_by_history, within_part}
 use Rattle.sky_model.specs.Gates.{Gate, takes_all, gated, by_gate}

@@ -57,7 +57,7 @@ EventsAmong queues es = All (λ e. IsAmong e.queue queues) es
 -- triggers are of queues that stand
 pub trigger-queues : (h : History) → Legal h → TriggersAmong (queues h) (triggers h)
 trigger-queues [] l = All-nil (λ t. IsAmong t.trigger.queue [])
-trigger-queues (queued (made name) ∷ h) l =
+trigger-queues (queued (made name t time) ∷ h) l =
     let last : NamedQueue = record { number = queues_made h; name = name } in
     All-weaker (λ t. IsAmong t.trigger.queue (queues h)) (λ t. IsAmong t.trigger.queue (queues h ++ last ∷ [])) (λ t among. among-before (queues h) last t.trigger.queue among) (triggers h) (trigger-queues h (below-mark l))
 trigger-queues (queued (traced table name trigger) ∷ h) l =

@@ -15,18 +15,22 @@ use Rattle.sky_names.specs.Places.{place_of}
 use Rattle.sky_model.specs.declared.stmt.Set.{Set}
 use Rattle.sky_model.specs.declared.stmt.Attempt.{Attempt}
 use Rattle.sky_model.specs.declared.stmt.Attempt.TheVariants.{Insertion, Changes, Deletion}
-use Rattle.sky_model.specs.History.{Batch, Mark, of_session, of_worker, began, ended, block_begun, repeats, looked, block_failed, block_ended, connected, disconnected, tabled, table_made, wrote, waits, waited, queued, made, raised, put, ticked, registered, moved, unregistered, opened, closed, asked, returned, configured, dropped, traced, History}
+use Rattle.sky_model.specs.History.{Batch, Mark, of_session, of_worker, began, ended, block_begun, repeats, looked, block_failed, block_ended, connected, disconnected, tabled, table_made, wrote, waits, waited, queued, made, raised, put, ticked, registered, moved, unregistered, opened, closed, asked, returned, switching, switched, second_step, configured, dropped, traced, History}
 use Rattle.sky_model.specs.Config.{Config}
 use Rattle.sky_model.specs.Transactions.{next_txid, running, workers}
 use Rattle.sky_model.specs.Sessions.{has_open, outside, inside, block, own_txid}
 use Rattle.sky_model.specs.Rows.{table_names}
 use Rattle.sky_model.specs.Locks.{holder, waiting}
 use Rattle.sky_model.specs.Triggers.{triggers, triggers_of}
-use Rattle.sky_model.specs.Queues.{NamedQueue, queues, queue_number, sequence, events, stored, Tick, ticks, tick, newest_tick}
+use Rattle.pgq_tables.specs.Tables.{Tables}
+use Rattle.sky_model.specs.Queues.{NamedQueue, queues, queue_number, sequence, events, tables, Tick, ticks, tick, newest_tick}
 use Rattle.sky_model.specs.Consumers.{subscription_id, subscription, last_subscription, last_batch, active_batch}
 use Rattle.sky_model.specs.Retries.{retries, retried, brought_by}
-use Rattle.sky_model.specs.StepQueue.{id_of}
-use Rattle.sky_model.specs.State.{RowPart, part_of}
+use Rattle.sky_model.specs.Queues.{id_of}
+use Rattle.sky_model.specs.State.{RowPart, part_of, queue_of}
+use Rattle.sky_model.specs.StepQueue.{has_part_in}
+use Rattle.sky_model.specs.StepConsumer.{floor}
+use Rattle.sky_model.specs.StepRotation.{held_by_second_step}
 use Rattle.sky_model.specs.ShownRows.{rows_by}
 use Rattle.sky_model.specs.StepRows.{column_called, bad_set, is_key_change}
 use Rattle.sky_model.specs.StepTrigger.{has_trigger}
@@ -90,6 +94,20 @@ pub record Returns (h : History) (retry : Retry) (t : ℕ) : Type 0 where
   pub stands : IsQueue h retry.queue
   pub given : retry.event.ev_id ≤ sequence retry.queue h
 
+-- the switch of a queue may be pending, and the commit of a running transaction is to make it: none is pending, and nothing holds one back
+pub record MaySwitch (h : History) (q t : ℕ) : Type 0 where
+  pub within : IsQueue h q
+  pub runs : contains t (running h) ≡ true
+  pub none : (tables q h).pending ≡ None
+  pub free : held_by_second_step (queue_of h q) (tables q h).second_step ≡ None
+
+-- the second step of a queue's last switch may be made by the newest transaction, which is a worker's
+pub record MayEnd (h : History) (q t : ℕ) : Type 0 where
+  pub within : IsQueue h q
+  pub missing : (tables q h).second_step ≡ None
+  pub works : contains t (workers h) ≡ true
+  pub newest : next_txid h ≡ t + 1
+
 -- the mark may come next
 pub data Fine (h : History) : Mark → Type 0 where
   begins : (who : ℕ) → own_txid who h ≡ None → Fine h (began (of_session who) (next_txid h))
@@ -109,15 +127,15 @@ pub data Fine (h : History) : Mark → Type 0 where
       → Fine h (tabled (wrote (of_session who) t table key old new))
   begins_waiting : (who table : ℕ) (key : List Val) (attempt : Attempt) → MayWait (part_of h) who table key attempt → Fine h (tabled (waits who table key attempt))
   ends_waiting : (who : ℕ) → Fine h (tabled (waited who))
-  makes : (name : List ℕ) → queue_number name (queues h) ≡ None → Fine h (queued (made name))
+  makes : (name : List ℕ) (t : ℕ) (time : ℤ) → queue_number name (queues h) ≡ None → Fine h (queued (made name t time))
   raises : (q value : ℕ) → IsQueue h q → sequence q h ≤ value → Fine h (queued (raised q value))
   puts : (who q : ℕ) (event : Event) → IsQueue h q → event.ev_id ≡ sequence q h → own_txid who h ≡ Some event.ev_txid
       → All (λ e. e.ev_id < event.ev_id) (events q h) → Fine h (queued (put q event))
-  ticks_next : (q id : ℕ) (time : ℤ) (seq : ℕ) → IsQueue h q → id_of (newest_tick (ticks q h)) < id → Fine h (queued (ticked q id time seq))
+  ticks_next : (q id : ℕ) (time : ℤ) (seq : ℕ) → IsQueue h q → id_of (newest_tick (ticks q h)) < id → id ≡ id_of (newest_tick (ticks q h)) + 1 → Fine h (queued (ticked q id time seq))
   registers : (q : ℕ) (name : List ℕ) (sub tick : ℕ) → IsQueue h q → subscription_id q name h ≡ None → last_subscription h < sub
-      → tick ≤ id_of (newest_tick (ticks q h)) → Fine h (queued (registered q name sub tick))
+      → tick ≤ id_of (newest_tick (ticks q h)) → floor (queue_of h q) ≤ tick → Fine h (queued (registered q name sub tick))
   moves : (q : ℕ) (name : List ℕ) (sub tick : ℕ) → IsQueue h q → subscription_id q name h ≡ Some sub → 1 ≤ tick
-      → tick ≤ id_of (newest_tick (ticks q h)) → Fine h (queued (moved q name tick))
+      → tick ≤ id_of (newest_tick (ticks q h)) → floor (queue_of h q) ≤ tick → Fine h (queued (moved q name tick))
   unregisters : (q : ℕ) (name : List ℕ) (sub : ℕ) → IsQueue h q → subscription_id q name h ≡ Some sub → Fine h (queued (unregistered q name sub))
   opens : (batch : Batch) → Opens h batch → Fine h (queued (opened batch))
   closes : (batch : Batch) → active_batch batch.id h ≡ Some batch → Fine h (queued (closed batch))
@@ -125,9 +143,12 @@ pub data Fine (h : History) : Mark → Type 0 where
   puts_back : (retry : Retry) (t : ℕ) → Returns h retry t → Fine h (queued (put retry.queue (brought_by t retry.event)))
   returns : (below : History) (retry : Retry) (t : ℕ) (moment : ℤ) → h ≡ queued (put retry.queue (brought_by t retry.event)) ∷ below → Returns below retry t
       → retry.due ≤ℤ moment → Fine h (queued (returned retry moment))
+  begins_switch : (q t : ℕ) → MaySwitch h q t → Fine h (queued (switching q t))
+  makes_switch : (q t : ℕ) (time : ℤ) → IsQueue h q → (tables q h).pending ≡ Some t → Fine h (queued (switched q time))
+  ends_switch : (q t : ℕ) → MayEnd h q t → Fine h (queued (second_step q t))
   configures : (q : ℕ) (config : Config) → IsQueue h q → Fine h (queued (configured q config))
   drops : (q : ℕ) → ((consumer : List ℕ) → subscription_id q consumer h ≡ None) → All (λ t. (t.trigger.queue == q) ≡ false) (triggers h)
-      → All (λ e. contains e.ev_txid (running h) ≡ false) (stored q h) → Fine h (queued (dropped q))
+      → All (λ t. has_part_in (tables q h) t ≡ false) (running h) → Fine h (queued (dropped q))
   traces : (table : ℕ) (name : Option (List ℕ)) (trigger : Trigger) → table < length (table_names h) → IsQueue h trigger.queue
       → IfSome name (λ n. has_trigger n (triggers_of table (triggers h)) ≡ false)
       → Fine h (queued (traced table name trigger))

@@ -48,7 +48,8 @@ pub mod Histories
 pub mod Promised
 pub mod Entering
 pub mod SnapshotLaws
-pub mod QueuesInUse
+pub mod EventsBegun
+mod QueuesInUse
 pub mod TickOrder
 pub mod ActiveBatches
 pub mod FinishedBatches

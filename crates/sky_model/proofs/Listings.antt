@@ -7,9 +7,11 @@ use Rattle.sky_val.specs.declared.event.Event.{Event}
 use Rattle.sky_model.specs.History.{Batch, Mark, queued, put, ticked, History}
 use Rattle.sky_model.specs.Transactions.{has_ended, has_committed, has_rolled_back}
 use Rattle.sky_model.specs.Queues.{events, ticks, newest_tick, at_tick}
-use Rattle.sky_model.specs.Batches.{by_id, is_for, batch_events}
+use Rattle.sky_model.specs.Batches.{batch_events}
+use Rattle.pgq_tables.specs.Listed.{is_for}
+use Rattle.pgq_tables.specs.ById.{by_id}
 use Rattle.sky_model.specs.Retries.{brought_by}
-use Rattle.sky_model.specs.StepQueue.{id_of}
+use Rattle.sky_model.specs.Queues.{id_of}
 use Rattle.sky_model.specs.LawsOfBatches.{stands_in, ListingsStay}
 use Rattle.sky_model.proofs.Legal.{Fine, puts, puts_back, ticks_next, Legal}
 use Rattle.sky_model.proofs.Snapshots.{sound, runs-unended, own-unended, has_committed-ended}
@@ -52,7 +54,7 @@ same_listing : (h : History) (mark : Mark) → Legal h → Fine h mark → (b : 
 same_listing h _ l (puts who q e i s mine newest) b le made = same_put h l q e (own-unended h l who e.ev_txid mine) b
 same_listing h _ l (puts_back retry t back) b le made =
     same_put h l retry.queue (brought_by t retry.event) (runs-unended h (sound h l) t ((sound h l).works t back.works)) b
-same_listing h _ l (ticks_next q m time seq i above) b le made = by_same (λ x. lists (x && m == b.cur) (x && m == b.prev) ≡ lists false false) q b.queue there (λ _. refl)
+same_listing h _ l (ticks_next q m time seq i above c) b le made = by_same (λ x. lists (x && m == b.cur) (x && m == b.prev) ≡ lists false false) q b.queue there (λ _. refl)
   where
     lists : (to from : Bool) → List Event
     lists to from =

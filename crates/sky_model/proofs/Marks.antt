@@ -3,9 +3,11 @@ use Rattle.std.proofs.Common.{◌≡◌, ℕ, ◌+◌, List, [], ◌∷◌, ◌+
 use Rattle.sky_keys.specs.Waits.{released}
 use Rattle.sky_keys.specs.Versions.{forgotten}
 use Rattle.pgq_retry.specs.Retries.{without_sub}
-use Rattle.sky_model.specs.History.{Mark, of_session, of_worker, began, ended, block_begun, repeats, looked, block_failed, block_ended, connected, disconnected, tabled, wrote, queued, QueueMark, made, raised, put, ticked, registered, moved, unregistered, opened, closed, asked, returned, configured, dropped, traced, History, Fact, appeared, founded, entered, left, within, clock_at, daemon_on, daemon_off, Past}
+use Rattle.sky_model.specs.History.{Mark, of_session, of_worker, began, ended, block_begun, repeats, looked, block_failed, block_ended, connected, disconnected, tabled, wrote, queued, QueueMark, made, raised, put, ticked, registered, moved, unregistered, opened, closed, asked, returned, switching, switched, second_step, configured, dropped, traced, History, Fact, appeared, founded, entered, left, within, clock_at, daemon_on, daemon_off, Past}
 use Rattle.sky_model.specs.Config.{default_config}
-use Rattle.sky_model.specs.Queues.{queues, others_than}
+use Rattle.pgq_tables.specs.Tables as tables_of
+use Rattle.pgq_tables.specs.Tables.{new_tables, with_stored, with_pending, with_second_step, no_tables}
+use Rattle.sky_model.specs.Queues.{queues_made, queues, others_than, without_transaction, ticks_above, second_step_of}
 use Rattle.sky_model.specs.Consumers.{all_but, Subscription, subscription_id, position, active, of_another}
 use Rattle.sky_model.specs.Transactions.{next_txid, running, has_rolled_back, snapshot}
 use Rattle.sky_model.specs.Sessions.{outside, inside, failed, at_each, at_first, at_place, sight, sight_by, session}
@@ -38,9 +40,13 @@ closes None position active tick = refl
 closes (Some id) position active tick = refl
 
 pub database_of-queue_mark : (h : History) (mark : QueueMark) → database_of (queued mark ∷ h) ≡ after_queue_mark (database_of h) mark
-database_of-queue_mark h (made name) = refl
+database_of-queue_mark h (made name t time) = λ i. record (database_of h) {
+  queues_made = queues_made h + 1;
+  queues = queues h ++ record { number = queues_made h; name = name } ∷ [];
+  queue = λ n. by_case (queues_made h == n) (λ b. record (queue_of h n) { tables = if b then new_tables t time else (queue_of h n).tables }) i;
+}
 database_of-queue_mark h (raised q value) = λ i. record (database_of h) { queue = λ n. by_case (q == n) (λ b. record (queue_of h n) { seq = if b then value else (queue_of h n).seq }) i }
-database_of-queue_mark h (put q event) = λ i. record (database_of h) { queue = λ n. by_case (q == n) (λ b. record (queue_of h n) { stored = if b then (queue_of h n).stored ++ event ∷ [] else (queue_of h n).stored }) i }
+database_of-queue_mark h (put q event) = λ i. record (database_of h) { queue = λ n. by_case (q == n) (λ b. record (queue_of h n) { tables = if b then with_stored event (queue_of h n).tables else (queue_of h n).tables }) i }
 database_of-queue_mark h (ticked q id time seq) = λ i. record (database_of h) {
   queue = λ n. by_case (q == n) (λ b. record (queue_of h n) {
     tick_list = if b then (queue_of h n).tick_list ++ record { id = id; time = time; snapshot = snapshot h; seq = seq } ∷ [] else (queue_of h n).tick_list;
@@ -92,13 +98,19 @@ database_of-queue_mark h (closed b) = λ i. record (database_of h) {
       (λ m. closes (subscription_id n m h) (position n m h) (active n m h) b.cur))
       ∙ by_case (b.queue == n) (λ c. record (queue_of h n) { sub = if c then changed_for b.consumer (option_map (at_position b.cur)) (queue_of h n).sub else (queue_of h n).sub })) i;
 }
+database_of-queue_mark h (switching q t) = λ i. record (database_of h) { queue = λ n. by_case (q == n) (λ b. record (queue_of h n) { tables = if b then with_pending t (queue_of h n).tables else (queue_of h n).tables }) i }
+database_of-queue_mark h (switched q time) = λ i. record (database_of h) { queue = λ n. by_case (q == n) (λ b. record (queue_of h n) {
+  tables = if b then tables_of.switched time (queue_of h n).tables else (queue_of h n).tables;
+  tick_list = if b then ticks_above (second_step_of (queue_of h n).tables) (queue_of h n).tick_list else (queue_of h n).tick_list;
+}) i }
+database_of-queue_mark h (second_step q t) = λ i. record (database_of h) { queue = λ n. by_case (q == n) (λ b. record (queue_of h n) { tables = if b then with_second_step t (queue_of h n).tables else (queue_of h n).tables }) i }
 database_of-queue_mark h (configured q c) = λ i. record (database_of h) { queue = λ n. by_case (q == n) (λ b. record (queue_of h n) { config = if b then c else (queue_of h n).config }) i }
 database_of-queue_mark h (dropped q) = λ i. record (database_of h) {
   queues = others_than q (queues h);
   queue = λ n. by_case (q == n) (λ b. record (queue_of h n) {
     config = if b then default_config else (queue_of h n).config;
     seq = if b then 0 else (queue_of h n).seq;
-    stored = if b then [] else (queue_of h n).stored;
+    tables = if b then no_tables else (queue_of h n).tables;
     tick_list = if b then [] else (queue_of h n).tick_list;
   }) i;
 }
@@ -137,7 +149,7 @@ part_of-mark h _ = refl
 
 -- and a database as `after_mark` says
 pub database_of-mark : (h : History) (mark : Mark) → database_of (mark ∷ h) ≡ after_mark (database_of h) mark
-database_of-mark h (ended who t false) = λ i. record (database_of h) { part = part_of-mark h (ended who t false) i; undone = λ u. u == t || has_rolled_back h u }
+database_of-mark h (ended who t false) = λ i. record (database_of h) { part = part_of-mark h (ended who t false) i; queue = λ n. record (queue_of h n) { tables = without_transaction t (queue_of h n).tables } }
 database_of-mark h (queued mark) = database_of-queue_mark h mark
 database_of-mark h mark = λ i. record (database_of h) { part = part_of-mark h mark i }
 

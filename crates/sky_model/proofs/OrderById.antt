@@ -2,8 +2,9 @@
 use Rattle.std.proofs.Common.{◌≡◌, ℕ, ◌<◌, ◌≤◌, List, [], ◌∷◌, ◌++◌, false, ◌==◌, nat_lt, refl, sym, ◌∙◌, ap, arith, append-nil, append_assoc, if◌then◌else◌}
 use Rattle.std.proofs.lemmas.Bool.Decides.{nat_tests}
 use Rattle.sky_val.specs.declared.event.Event.{Event}
-use Rattle.sky_model.specs.Batches.{with_event, by_id_onto, by_id}
-use Rattle.sky_model.specs.LawsOfBatches.{InOrder, with_id, IdsDontFall, EqualIdsStay}
+use Rattle.pgq_tables.specs.ById.{with_event, by_id_onto, by_id}
+use Rattle.sky_model.specs.LawsOfBatches.{IdsDontFall, EqualIdsStay}
+use Rattle.pgq_tables.specs.ById.{InOrder, with_id}
 use Rattle.std.proofs.lemmas.Bool.{cond_both}
 use Rattle.sky_model.proofs.Cases.{by_test}
 

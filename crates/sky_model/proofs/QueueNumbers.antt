@@ -44,7 +44,7 @@ among-others p (x ∷ xs) q is other = grind (arith, nat_tests, among-others p x
 -- a queue that stands was made: its number is below the next one's
 pub queue-below : (h : History) (q : ℕ) → IsQueue h q → q < queues_made h
 queue-below [] q is = absurd (cc)
-queue-below (queued (made name) ∷ h) q is =
+queue-below (queued (made name t time) ∷ h) q is =
     let either = sym (list_any-append (λ x. x.number == q) (queues h) (record { number = queues_made h; name = name } ∷ [])) ∙ is in
     by_test (λ _. q < queues_made h + 1) (list_any (λ x. x.number == q) (queues h)) (λ there. omega (arith, queue-below h q there)) (λ none. grind (arith, nat_tests, either))
 queue-below (queued (dropped p) ∷ h) q is = queue-below h q (others-among p (queues h) q is)

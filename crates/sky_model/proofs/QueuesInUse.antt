@@ -15,6 +15,7 @@ use Rattle.sky_model.specs.Retries.{brought_by}
 use Rattle.sky_model.specs.LawsOfQueues.{QueuesOfConsumersStand, QueuesOfTriggersStand, BusyQueuesStand, StandingQueuesKeepAll, OtherQueuesKeepNothing, NewQueuesAreOthers}
 use Rattle.sky_model.proofs.Legal.{IsAmong, IsQueue, makes, raises, puts, puts_back, ticks_next, registers, unregisters, configures, drops, Legal, start, next}
 use Rattle.sky_model.proofs.QueueNumbers.{among-before, among-others}
+use Rattle.sky_model.proofs.EventsBegun.{Begun, events-begun}
 use Rattle.sky_model.proofs.Members.{among-consumers}
 use Rattle.sky_model.proofs.Snapshots.{sound, runs-below, begun-next, contains-push, contains-filter}
 use Rattle.sky_model.proofs.StandingQueues.{whole, beyond, registered-stands}
@@ -24,21 +25,6 @@ use Rattle.sky_names.proofs.PlaceLemmas.{bytes_eq_refl}
 use Rattle.sky_model.proofs.Cases.{by_test, by_same}
 
 -- ---- running transactions
-
--- the transaction of an event has its id
-abbrev Begun : History → Event → Type 0
-Begun h e = e.ev_txid < next_txid h
-
-events-begun : (h : History) → Legal h → (q : ℕ) → All (Begun h) (events q h)
-events-begun [] start q = All-nil (Begun [])
-events-begun (began whose t ∷ h) (next l fine) q = All-weaker (Begun h) (Begun (began whose t ∷ h)) (λ e lt. omega arith) (events q h) (events-begun h l q)
-events-begun _ (next {h = h} l (puts who p event i at mine newest)) q =
-    by_test (λ b. All (Begun h) (if b then events q h ++ event ∷ [] else events q h)) (p == q)
-    (λ _. All-push (Begun h) (events q h) event (events-begun h l q) (runs-below h (sound h l) event.ev_txid ((sound h l).owns who event.ev_txid mine))) (λ _. events-begun h l q)
-events-begun _ (next {h = h} l (puts_back retry t back)) q =
-    by_test (λ b. All (Begun h) (if b then events q h ++ brought_by t retry.event ∷ [] else events q h)) (retry.queue == q)
-    (λ _. All-push (Begun h) (events q h) (brought_by t retry.event) (events-begun h l q) (runs-below h (sound h l) t ((sound h l).works t back.works))) (λ _. events-begun h l q)
-events-begun _ (next {h = h} l _) q = events-begun h l q
 
 -- the queue of an event stands while the event's transaction runs
 abbrev Needs : History → ℕ → Event → Type 0
@@ -52,7 +38,7 @@ running-stands (began whose t ∷ h) (next l fine) q =
     grind (arith, nat_tests, contains-push (get_or (events q h) k e).ev_txid t (running h), runs, begun, begun-next h whose t fine))
 running-stands (ended whose t committed ∷ h) (next l fine) q =
     λ k e less runs. running-stands h l q k e less (grind (arith, contains-filter (get_or (events q h) k e).ev_txid t (running h), runs))
-running-stands _ (next {h = h} l (makes name new)) q =
+running-stands _ (next {h = h} l (makes name t time new)) q =
     λ k e less runs. among-before (queues h) (record { number = queues_made h; name = name }) q (running-stands h l q k e less runs)
 running-stands _ (next {h = h} l (puts who p event i at mine newest)) q =
     by_same (λ b. All (Needs h q) (if b then events q h ++ event ∷ [] else events q h)) p q
@@ -105,7 +91,7 @@ record IsBare (h : History) (q : ℕ) : Type 0 where
 
 bare : (h : History) → Legal h → (q : ℕ) → list_any (λ x. x.number == q) (queues h) ≡ false → IsBare h q
 bare [] start q away = record { unset = refl; no_id = refl; no_event = refl; no_tick = refl; no_consumer = refl }
-bare _ (next {h = h} l (makes name new)) q away =
+bare _ (next {h = h} l (makes name t time new)) q away =
     let b : IsBare h q = bare h l q (away-before (queues h) (record { number = queues_made h; name = name }) q away) in
     record { unset = b.unset; no_id = b.no_id; no_event = b.no_event; no_tick = b.no_tick; no_consumer = b.no_consumer }
 bare _ (next {h = h} l (raises p value i le)) q away =
@@ -123,7 +109,7 @@ bare _ (next {h = h} l (puts_back retry t back)) q away =
       no_tick = b.no_tick;
       no_consumer = b.no_consumer;
     }
-bare _ (next {h = h} l (ticks_next p id time seq i e)) q away =
+bare _ (next {h = h} l (ticks_next p id time seq i e c)) q away =
     let b : IsBare h q = bare h l q away in
     record {
       unset = b.unset;
@@ -132,7 +118,7 @@ bare _ (next {h = h} l (ticks_next p id time seq i e)) q away =
       no_tick = ap (λ c. if c then kept_ticks q h ++ record { id = id; time = time; snapshot = snapshot h; seq = seq } ∷ [] else kept_ticks q h) (apart (queues h) p q i away) ∙ b.no_tick;
       no_consumer = b.no_consumer;
     }
-bare _ (next {h = h} l (registers p name sub tick i none f g)) q away =
+bare _ (next {h = h} l (registers p name sub tick i none f g low)) q away =
     let b : IsBare h q = bare h l q away in
     record { unset = b.unset; no_id = b.no_id; no_event = b.no_event; no_tick = b.no_tick; no_consumer = ap (λ c. if c then consumers q h ++ name ∷ [] else consumers q h) (apart (queues h) p q i away) ∙ b.no_consumer }
 bare _ (next {h = h} l (unregisters p name sub i has)) q away =

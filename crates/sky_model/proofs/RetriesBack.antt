@@ -10,7 +10,8 @@ use Rattle.sky_txid.specs.Ids.{contains}
 use Rattle.pgq_retry.specs.declared.retry.Retry.{Retry}
 use Rattle.pgq_retry.specs.Retries.{is_event, is_due, put_by, sorted_by, by_due, due_now}
 use Rattle.sky_model.specs.History.{Batch, Mark, queued, put, returned, History}
-use Rattle.sky_model.specs.Batches.{with_event, by_id_onto, batch_events}
+use Rattle.sky_model.specs.Batches.{batch_events}
+use Rattle.pgq_tables.specs.ById.{with_event, by_id_onto}
 use Rattle.sky_model.specs.LawsOfBatches.{stands_in}
 use Rattle.sky_model.specs.Transactions.{workers}
 use Rattle.sky_model.specs.Queues.{sequence, events}

@@ -34,7 +34,7 @@ part_of-marks h (mark ∷ marks) = part_of-marks (mark ∷ h) marks ∙ ap (λ d
 -- the row part of a database after a mark
 pub part-behind : (d : Database) (mark : Mark) → (after_mark d mark).part ≡ after_part d.part mark
 part-behind d (ended who t true) = refl
-part-behind d (queued (made name)) = refl
+part-behind d (queued (made name t time)) = refl
 part-behind d _ = refl
 
 -- within the world a statement, with what it unblocks, is one of the database

@@ -8,13 +8,15 @@ use Rattle.sky_txid.specs.Snapshot.{sees}
 use Rattle.sky_model.specs.History.{Batch, ended, queued, ticked, History}
 use Rattle.sky_model.specs.Transactions.{has_ended, has_committed, has_rolled_back}
 use Rattle.sky_model.specs.Queues.{queues, sequence, events, ticks, tick, at_tick}
-use Rattle.sky_model.specs.Batches.{by_id, is_for, batch_events}
+use Rattle.sky_model.specs.Batches.{batch_events}
+use Rattle.pgq_tables.specs.Listed.{is_for}
+use Rattle.pgq_tables.specs.ById.{by_id}
 use Rattle.sky_model.specs.Retries.{brought_by}
 use Rattle.sky_model.specs.Selection.{snapshot_at, selected_of, selected}
 use Rattle.sky_model.specs.State.{database_of}
 use Rattle.sky_model.proofs.Legal.{IsQueue, makes, raises, puts, puts_back, drops, Legal, start, next}
 use Rattle.sky_model.proofs.QueueNumbers.{others-among, others-apart}
-use Rattle.sky_model.proofs.StandingQueues.{beyond, stands-or-new, whole}
+use Rattle.sky_model.proofs.StandingQueues.{beyond, stands-or-new}
 use Rattle.sky_model.proofs.Snapshots.{sees-snapshot, ender-unended, has_committed-ended}
 use Rattle.sky_model.proofs.Ticks.{snapshot-at_tick, legal-at_tick}
 use Rattle.sky_model.proofs.Cases.{by_same}
@@ -47,8 +49,8 @@ UpTo n es = All (λ e. e.ev_id ≤ n) es
 -- the events of a queue that stands have ids up to the value of its sequence
 numbered : (h : History) → Legal h → (q : ℕ) → IsQueue h q → UpTo (sequence q h) (events q h)
 numbered [] start q is = All-nil (λ e. e.ev_id ≤ 0)
-numbered _ (next {h = h} l (makes name new)) q is =
-    stands-or-new (UpTo (sequence q h) (events q h)) h name q is (numbered h l q)
+numbered _ (next {h = h} l (makes name t time new)) q is =
+    stands-or-new (UpTo (sequence q h) (events q h)) h name t time q is (numbered h l q)
     (λ last. subst (UpTo (sequence q h)) (sym (beyond h l q (omega (arith, last))).events) (All-nil (λ e. e.ev_id ≤ sequence q h)))
 numbered _ (next {h = h} l (raises p v i le)) q is =
     by_same (λ b. UpTo (if b then v else sequence q h) (events q h)) p q
@@ -83,9 +85,3 @@ batch_events-by_id h l b =
     && is_for b.sub e.ev_owner)
     ∙ (λ i e. between (sees (snapshot_at (tick b.cur (ticks b.queue h))) e.ev_txid) (sees (snapshot_at (tick b.prev (ticks b.queue h))) e.ev_txid)
     (has_rolled_back h e.ev_txid) (is_for b.sub e.ev_owner) i))
-
--- and a queue that stands keeps what these select among
-pub batch_events-selected : (h : History) → Legal h → (b : Batch) → IsQueue h b.queue → batch_events h b ≡ selected (database_of h) b
-batch_events-selected h l b is =
-    let all = whole h l b.queue is in
-    batch_events-by_id h l b ∙ (λ i. by_id (selected_of (has_rolled_back h) (sym all.all_ticks i) (sym all.all_events i) b))

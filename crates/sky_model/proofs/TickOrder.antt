@@ -5,7 +5,7 @@ use Rattle.std.proofs.lemmas.Bool.Decides.{nat_tests}
 use Rattle.sky_model.specs.History.{ended, queued, ticked, History}
 use Rattle.sky_model.specs.Transactions.{has_committed, snapshot}
 use Rattle.sky_model.specs.Queues.{Tick, ticks, tick, newest_tick, at_tick}
-use Rattle.sky_model.specs.StepQueue.{id_of}
+use Rattle.sky_model.specs.Queues.{id_of}
 use Rattle.sky_model.proofs.Legal.{ticks_next, Legal, start, next}
 use Rattle.sky_model.proofs.Ticks.{none_above}
 use Rattle.sky_model.proofs.Cases.{by_test}
@@ -48,6 +48,6 @@ Grows h q from to t = has_committed (at_tick q from h) t ≡ true → has_commit
 -- what had committed at a tick had at each later one that is made
 pub committed_later : (h : History) → Legal h → (q from to t : ℕ) → from < to → is_made q to h ≡ true → Grows h q from to t
 committed_later [] start q from to t less there = absurd (cc)
-committed_later _ (next {h = h} l (ticks_next p m time seq i above)) q from to t less there =
+committed_later _ (next {h = h} l (ticks_next p m time seq i above c)) q from to t less there =
     λ e. grind (arith, nat_tests, committed_later h l q from to t less, committed_since h q from t, unmade_above h l q to, above, there, e)
 committed_later _ (next {h = h} l _) q from to t less there = committed_later h l q from to t less there

@@ -3,7 +3,7 @@ use Rattle.std.specs.Prelude.{ℕ, ℤ, Bool, true, false, List, [], ◌∷◌, 
 use Rattle.sky_model.specs.declared.stmt.Stmt.{Stmt}
 use Rattle.sky_model.specs.declared.stmt.RowStmt.{RowStmt}
 use Rattle.sky_model.specs.declared.stmt.RowStmt.TheVariants.{OpenDb, Close, Cancel, Begin, BeginRepeatableRead, Commit, Rollback, TxidCurrent, TxidCurrentSnapshot, TxidVisibleInSnapshot, CreateTable, Insert, Update, Delete, Get, Scan}
-use Rattle.sky_model.specs.declared.stmt.Stmt.TheVariants.{Row, CreateQueue, DropQueue, SetQueueConfig, QueueInfo, InsertEvent, Ticker, ForceTick, RegisterConsumer, RegisterConsumerAt, UnregisterConsumer, NextBatch, GetBatchEvents, GetBatchInfo, EventRetry, FinishBatch, MaintRetryEvents, ConsumerInfo, AddTrigger, Clock, PgqdOn, PgqdOff}
+use Rattle.sky_model.specs.declared.stmt.Stmt.TheVariants.{Row, CreateQueue, DropQueue, SetQueueConfig, QueueInfo, InsertEvent, Ticker, ForceTick, RegisterConsumer, RegisterConsumerAt, UnregisterConsumer, NextBatch, GetBatchEvents, GetBatchInfo, EventRetry, FinishBatch, MaintRetryEvents, MaintRotateStep1, MaintRotateStep2, ConsumerInfo, AddTrigger, Clock, PgqdOn, PgqdOff}
 use Rattle.sky_model.specs.declared.reply.Reply.{Reply}
 use Rattle.sky_model.specs.declared.reply.Reply.TheVariants.{Done, NotWaiting, Refused}
 use Rattle.sky_model.specs.declared.reply.Limit.TheVariants.{Sessions, Databases}
@@ -11,10 +11,12 @@ use Rattle.sky_model.specs.declared.reply.Refusal.TheVariants.{TooMany, NotOpen}
 use Rattle.sky_keys.specs.Waits.{is_waiting}
 use Rattle.sky_names.specs.Places.{place_of}
 use Rattle.sky_model.specs.Limits.{most_of}
-use Rattle.sky_model.specs.History.{Fact, entered, left, daemon_on, daemon_off, Past}
+use Rattle.sky_model.specs.History.{Mark, Fact, entered, left, daemon_on, daemon_off, Past}
 use Rattle.sky_model.specs.State.{RowPart, Database}
 use Rattle.sky_model.specs.ShownRows.{RowsShown}
 use Rattle.sky_model.specs.Outcome.{Outcome, Checked, answers}
+use Rattle.sky_model.specs.declared.stmt.Where.TheVariants.{WhenOpen}
+use Rattle.sky_model.specs.Sessions.{Block, inside}
 use Rattle.sky_model.specs.Allowed.{where_of_row, where_of, allowed}
 use Rattle.sky_model.specs.Clock.{deed_in, clock, waits_at}
 use Rattle.sky_model.specs.Made.{Making, made_by}
@@ -25,9 +27,10 @@ use Rattle.sky_model.specs.StepTrigger.{add_trigger}
 use Rattle.sky_model.specs.Telling.{tells}
 use Rattle.sky_model.specs.StepConsumer.{register_consumer, register_consumer_at, unregister_consumer, next_batch, get_batch_events, get_batch_info, finish_batch, consumer_info}
 use Rattle.sky_model.specs.StepRetry.{event_retry, maint_retry_events}
+use Rattle.sky_model.specs.StepRotation.{maint_rotate_step1, maint_rotate_step2, switches_of}
 use Rattle.sky_model.specs.World.{World, world_of, on_top}
 use Rattle.sky_model.specs.Reader.{Shown, PartReader, DatabaseReader, Reader, within_part, within_database, by_past, Deed, answers_with, refuses, appears, founds, followed}
-use Rattle.sky_model.specs.Settling.{Turn, turn_of, with_settling}
+use Rattle.sky_model.specs.Settling.{Turn, turn_of, marks_alone, and_then, with_settling}
 use Rattle.sky_model.specs.Promises.{Part, after_all}
 
 -- what a statement on sessions, transactions, tables and rows does, if its session may make it
@@ -68,6 +71,8 @@ form d shown now who (GetBatchInfo batch) = get_batch_info d batch
 form d shown now who (EventRetry batch event seconds) = event_retry d shown.events now batch event seconds
 form d shown now who (FinishBatch batch) = finish_batch d batch
 form d shown now who MaintRetryEvents = maint_retry_events d now
+form d shown now who (MaintRotateStep1 queue) = maint_rotate_step1 d now who queue
+form d shown now who MaintRotateStep2 = maint_rotate_step2 d
 form d shown now who (ConsumerInfo queue consumer) = consumer_info d queue consumer
 form d shown now who (AddTrigger name table queue backup ignored) = add_trigger d name table queue backup ignored
 form d shown now who (Clock time) = answers Done
@@ -103,8 +108,27 @@ abbrev pub statement : {P : Type 0} → DatabaseReader P → P → ℤ → ℕ �
 statement r p now who stmt = made_by (making r now who stmt) (where_of stmt) who p
 
 -- with those that it unblocks
+abbrev pub statement_turn : {P : Type 0} → DatabaseReader P → P → ℤ → ℕ → Stmt → Turn
+statement_turn r p now who stmt = with_settling (within_part r now) p (turn_of who (statement r p now who stmt))
+
+-- the transaction of a block that a session may commit
+abbrev pub commits_in : Bool → Block → Option ℕ → Option ℕ
+commits_in true inside txid = txid
+commits_in _ block txid = None
+
+-- the transaction that a session's `commit` makes permanent, if it has an id
+abbrev pub commits : RowPart → ℕ → Option ℕ
+commits d who = commits_in (is_ok (allowed (is_waiting who d.waiting) (d.session who).is_open (d.session who).block WhenOpen)) (d.session who).block (d.session who).txid
+
+-- what a statement makes happen before all else: `commit` makes the switches that its transaction has pending, so what it unblocks finds them made
+abbrev pub before_statement : Database → ℤ → ℕ → Stmt → List Mark
+before_statement d now who (Row Commit) = switches_of d now (commits d.part who)
+before_statement d now who stmt = []
+
+-- a statement of a session, with all that happens in its database
 abbrev pub database_turn : {P : Type 0} → DatabaseReader P → P → ℤ → ℕ → Stmt → Turn
-database_turn r p now who stmt = with_settling (within_part r now) p (turn_of who (statement r p now who stmt))
+database_turn r p now who stmt =
+    and_then (within_part r now) p (marks_alone (before_statement (r.database p) now who stmt)) (λ q. statement_turn r q now who stmt)
 
 -- the name of the database that a statement is to open
 abbrev pub opening : Stmt → Option (List ℕ)

@@ -10,6 +10,7 @@ use Rattle.sky_model.specs.StepRetry.{most_back, maint_retry_events}
 use Rattle.sky_model.specs.Reader.{DatabaseReader, within_part}
 use Rattle.sky_model.specs.Settling.{Turn, rests, and_then}
 use Rattle.sky_model.specs.StepQueue.{next_tick}
+use Rattle.sky_model.specs.StepRotation.{rotates_by_itself, maint_rotate_step2}
 
 -- what is done unless it is refused, without an answer
 abbrev pub quietly : Checked Outcome → Turn
@@ -37,12 +38,21 @@ retries_of r now (suc n) p =
     let c : Checked Outcome = maint_retry_events (r.database p) now in
     and_then (within_part r now) p (quietly c) (again_if (nat_le most_back (moved_by (reply_of c))) (retries_of r now n))
 
+-- the first step of the rotation of each of these queues, one after another
+abbrev pub first_steps_of : {P : Type 0} → DatabaseReader P → ℤ → List NamedQueue → P → Turn
+first_steps_of r now [] p = rests
+first_steps_of r now (q ∷ queues) p = and_then (within_part r now) p (quietly (rotates_by_itself (r.database p) now q.number)) (first_steps_of r now queues)
+
+-- the second step
+abbrev pub second_step_of_all : {P : Type 0} → DatabaseReader P → P → Turn
+second_step_of_all r p = quietly (maint_rotate_step2 (r.database p))
+
 -- what a part of the daemon of a database does: it makes the ticks of its queues, in the order of making; it moves events that are due to be retried,
--- not more often than there are such that wait; it doesn't rotate event tables yet
+-- not more often than there are such that wait; it makes the first step of the rotation of each queue, in the order of making, and then the second
 abbrev pub daemon_does : {P : Type 0} → DatabaseReader P → P → DaemonPart → ℤ → Turn
 daemon_does r p Tick now = ticks_of r now (r.database p).queues p
 daemon_does r p Retry now = retries_of r now (length (r.database p).retries) p
-daemon_does r p Maintain now = rests
+daemon_does r p Maintain now = and_then (within_part r now) p (first_steps_of r now (r.database p).queues p) (second_step_of_all r)
 
 -- the time from one turn of a part to the next: a second, half a minute, two minutes
 abbrev pub period : DaemonPart → ℕ

@@ -120,6 +120,8 @@ queue_forms =
     ∷ (codes "event_retry", one (Number (2 ^ 64 - 1)) (λ batch. one (Number (2 ^ 64 - 1)) (λ event. last (Number 1_000_000_000) (λ seconds. stmt.EventRetry batch event seconds))))
     ∷ (codes "finish_batch", last (Number (2 ^ 64 - 1)) (λ batch. stmt.FinishBatch batch))
     ∷ (codes "maint_retry_events", stop stmt.MaintRetryEvents)
+    ∷ (codes "maint_rotate_step1", last Name (λ queue. stmt.MaintRotateStep1 queue))
+    ∷ (codes "maint_rotate_step2", stop stmt.MaintRotateStep2)
     ∷ (codes "consumer_info", one Name (λ queue. last Dotted (λ consumer. stmt.ConsumerInfo queue consumer)))
     ∷ []
 

@@ -20,8 +20,8 @@ pub record Batch : Type 0 where
 
 -- what happened to the queues of a database; a queue is identified by its number in the order of making
 pub data QueueMark : Type 0 where
-  -- a queue was made
-  made : (name : List ℕ) → QueueMark
+  -- a queue was made, by a transaction, at a time
+  made : (name : List ℕ) (t : ℕ) (time : ℤ) → QueueMark
   -- its event sequence has this value from now on
   raised : (queue value : ℕ) → QueueMark
   -- an event was stored
@@ -42,6 +42,12 @@ pub data QueueMark : Type 0 where
   asked : (retry : Retry) → QueueMark
   -- one that waited to be retried came back at this moment: its event was put just before
   returned : (retry : Retry) (moment : ℤ) → QueueMark
+  -- a switch of a queue's event tables is pending: the commit of this transaction makes it
+  switching : (queue t : ℕ) → QueueMark
+  -- the pending switch was made, at a time
+  switched : (queue : ℕ) (time : ℤ) → QueueMark
+  -- the second step of the last switch was made by a transaction
+  second_step : (queue t : ℕ) → QueueMark
   -- a queue has these settings from now on
   configured : (queue : ℕ) (config : Config) → QueueMark
   -- a queue was dropped

@@ -2,11 +2,13 @@
 -- or its unregistering. They hold at each place of each history that calls make, or of any list of marks or of events, as each says.
 use Rattle.std.specs.Prelude.{◌≡◌, ℕ, ◌+◌, ◌<◌, ◌≤◌, List, [], ◌∷◌, ◌++◌, Bool, true, not, ◌&&◌, Some, is_some, ◌==◌, bytes_eq, length, filter, All, if◌then◌else◌}
 use Rattle.sky_val.specs.declared.event.Event.{Event}
+use Rattle.pgq_tables.specs.ById.{by_id, InOrder, with_id}
+use Rattle.pgq_tables.specs.Listed.{is_for}
 use Rattle.sky_model.specs.History.{Batch, Mark, queued, registered, moved, unregistered, closed, History}
 use Rattle.sky_model.specs.Transactions.{has_committed}
 use Rattle.sky_model.specs.Queues.{events, ticks, tick, at_tick}
 use Rattle.sky_model.specs.Consumers.{subscription_id, position, last_subscription, active_batch}
-use Rattle.sky_model.specs.Batches.{is_for, by_id, batch_events}
+use Rattle.sky_model.specs.Batches.{batch_events}
 use Rattle.sky_model.specs.HistoryPlaces.{IsPlace}
 
 -- the tick at which the life of a consumer of a queue began: where it registered, or was moved to since; 0 if it isn't registered
@@ -65,16 +67,6 @@ stands_in h b e = stands_between h b.queue b.sub b.prev b.cur e
 -- a batch lists the events of its queue that are in it
 abbrev pub BatchesListWhatStands : Type 0
 BatchesListWhatStands = (h : History) (b : Batch) → batch_events h b ≡ by_id (filter (stands_in h b) (events b.queue h))
-
--- events whose ids don't fall
-abbrev pub InOrder : List Event → Type 0
-InOrder [] = Unit {0}
-InOrder (e ∷ []) = Unit {0}
-InOrder (e ∷ f ∷ es) = (e.ev_id ≤ f.ev_id) × InOrder (f ∷ es)
-
--- the events with an id, in their order
-abbrev pub with_id : ℕ → List Event → List Event
-with_id id es = filter (λ e. e.ev_id == id) es
 
 -- by id, the ids of events don't fall
 abbrev pub IdsDontFall : Type 0

@@ -4,7 +4,8 @@ use Rattle.std.specs.List.{list_any}
 use Rattle.sky_model.specs.History.{History}
 use Rattle.sky_model.specs.Transactions.{has_ended}
 use Rattle.sky_model.specs.Config.{default_config}
-use Rattle.sky_model.specs.Queues.{queues_made, queues, config, sequence, events, stored, ticks, kept_ticks}
+use Rattle.pgq_tables.specs.Tables.{no_tables}
+use Rattle.sky_model.specs.Queues.{queues_made, queues, config, sequence, events, tables, ticks, kept_ticks}
 use Rattle.sky_model.specs.Consumers.{consumers, subscription_id, subscription}
 use Rattle.sky_model.specs.Triggers.{triggers}
 use Rattle.sky_model.specs.HistoryPlaces.{IsPlace}
@@ -25,19 +26,11 @@ QueuesOfTriggersStand = (p : History) → IsPlace p → All (λ t. Stands p t.tr
 abbrev pub BusyQueuesStand : Type 0
 BusyQueuesStand = (p : History) → IsPlace p → (queue : ℕ) → All (λ e. has_ended p e.ev_txid ≡ false → Stands p queue) (events queue p)
 
--- all events that were ever put into a queue, and all ticks ever made of it, are kept
-pub record KeepsAll (p : History) (queue : ℕ) : Type 0 where
-  pub all_events : stored queue p ≡ events queue p
-  pub all_ticks : kept_ticks queue p ≡ ticks queue p
-
-abbrev pub StandingQueuesKeepAll : Type 0
-StandingQueuesKeepAll = (p : History) → IsPlace p → (queue : ℕ) → Stands p queue → KeepsAll p queue
-
 -- nothing is kept of a queue
 pub record KeepsNothing (p : History) (queue : ℕ) : Type 0 where
   pub unset : config queue p ≡ default_config
   pub no_id : sequence queue p ≡ 0
-  pub no_event : stored queue p ≡ []
+  pub no_event : tables queue p ≡ no_tables
   pub no_tick : kept_ticks queue p ≡ []
   pub no_consumer : consumers queue p ≡ []
   pub unsubscribed : (consumer : List ℕ) → subscription queue consumer p ≡ None

@@ -4,7 +4,8 @@ use Rattle.sky_txid.specs.Snapshot.{sees}
 use Rattle.sky_model.specs.History.{Batch, History}
 use Rattle.sky_model.specs.Transactions.{has_ended, has_rolled_back, snapshot}
 use Rattle.sky_model.specs.Queues.{events, ticks}
-use Rattle.sky_model.specs.Batches.{by_id, batch_events}
+use Rattle.pgq_tables.specs.ById.{by_id}
+use Rattle.sky_model.specs.Batches.{batch_events}
 use Rattle.sky_model.specs.Selection.{selected_of}
 use Rattle.sky_model.specs.HistoryPlaces.{IsPlace}
 

@@ -29,6 +29,7 @@ pub mod StepQueue
 pub mod StepTrigger
 pub mod StepConsumer
 pub mod StepRetry
+pub mod StepRotation
 pub mod Telling
 pub mod StepSession
 pub mod Selection
@@ -51,6 +52,7 @@ pub mod LawsOfRows
 pub mod LawsOfBatches
 pub mod LawsOfQueues
 pub mod LawsOfRetries
+pub mod LawsOfRotation
 pub mod LawsOfLocks
 pub mod LawsOfWrites
 pub mod Steps

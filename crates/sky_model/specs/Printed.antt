@@ -7,15 +7,17 @@ use Rattle.sky_val.specs.declared.val.Val.TheVariants as value
 use Rattle.sky_model.specs.declared.reply.QueueInfo as info
 use Rattle.sky_model.specs.declared.reply.BatchInfo as batch
 use Rattle.sky_model.specs.declared.reply.ConsumerInfo as consumer
+use Rattle.sky_model.specs.declared.reply.HeldBack as held
+use Rattle.sky_model.specs.declared.reply.HeldBack.TheVariants.{Pending, Period, SecondStep, Consumer, Tick}
 use Rattle.sky_model.specs.declared.reply.Reply.{Reply}
-use Rattle.sky_model.specs.declared.reply.Reply.TheVariants.{Done, Number, Null, Bool, Begin, AlreadyInTransaction, Commit, Rollback, NoTransaction, NotWaiting, Waits, Snapshot, Events, Row, NoRow, Rows, Moment, QueueInfo, BatchInfo, ConsumerInfo, Refused}
+use Rattle.sky_model.specs.declared.reply.Reply.TheVariants.{Done, Number, Null, Bool, Begin, AlreadyInTransaction, Commit, Rollback, NoTransaction, NotWaiting, Waits, Snapshot, Events, Row, NoRow, Rows, Moment, QueueInfo, BatchInfo, ConsumerInfo, HeldBack, Refused}
 use Rattle.sky_model.specs.Limits.{most_of}
 use Rattle.sky_model.specs.declared.reply.Limit.{Limit}
 use Rattle.sky_model.specs.declared.reply.Limit.TheVariants.{Sessions, Databases, Queues, Consumers, Tables, Columns, Triggers}
 use Rattle.sky_model.specs.declared.reply.BadRow as bad_row
 use Rattle.sky_model.specs.declared.reply.BadRow.TheVariants.{Count, «Type», NullKey, NoColumn, Twice}
 use Rattle.sky_model.specs.declared.reply.Refusal.{Refusal}
-use Rattle.sky_model.specs.declared.reply.Refusal.TheVariants.{Aborted, AlreadyOpen, BadColumn, BadRow, BadSnapshot, BadValue, Busy, Canceled, ClockSpent, Deadlock, Duplicate, EventIdsSpent, HasConsumers, HasTriggers, IdsSpent, InTransaction, KeyChange, NoBatch, NoConsumer, NoEvent, NodeConsumer, NoKey, NoParam, NoQueue, NoTable, NoTick, NotOpen, OutOfRange, QueueBusy, ReservedColumn, Serialize, TableBusy, TableExists, TooMany, TriggerExists, TwiceNamed, TxidsSpent}
+use Rattle.sky_model.specs.declared.reply.Refusal.TheVariants.{Aborted, AlreadyOpen, BadColumn, BadRow, BadSnapshot, BadValue, Busy, Canceled, ClockSpent, Deadlock, Duplicate, EventIdsSpent, HasConsumers, HasTriggers, IdsSpent, InTransaction, KeyChange, NoBatch, NoConsumer, NoEvent, NodeConsumer, NoKey, NoParam, NoQueue, NoTable, NoTick, NotOpen, OutOfRange, QueueBusy, ReservedColumn, Serialize, TableBusy, TableExists, TickTooOld, TooMany, TriggerExists, TwiceNamed, TxidsSpent}
 use Rattle.sky_txid.specs.SnapshotText.{snapshot_text}
 use Rattle.sky_model.specs.Moment.{moment, HasMoment}
 
@@ -131,6 +133,7 @@ refusal_text names (ReservedColumn column) = codes "ReservedColumn " ++ column
 refusal_text names (Serialize txid) = codes "Serialize " ++ decimal txid
 refusal_text names (TableBusy txid) = codes "TableBusy " ++ decimal txid
 refusal_text names (TableExists name) = codes "TableExists " ++ name
+refusal_text names (TickTooOld tick least) = codes "TickTooOld " ++ decimal tick ++ 32 ∷ decimal least
 refusal_text names (TooMany limit) = codes "TooMany " ++ limit_text limit
 refusal_text names (TriggerExists name) = codes "TriggerExists " ++ name
 refusal_text names (TwiceNamed column) = codes "TwiceNamed " ++ column
@@ -153,6 +156,14 @@ abbrev pub consumer_text : consumer.ConsumerInfo → List ℕ
 consumer_text c =
     codes "sub " ++ decimal c.sub ++ codes " last_tick " ++ decimal c.last_tick ++ codes " batch " ++ number_or_null c.batch
     ++ codes " retries " ++ decimal c.retries
+
+-- what holds a switch of event tables back
+abbrev pub held_text : held.HeldBack → List ℕ
+held_text (Pending txid) = codes "0 pending " ++ decimal txid
+held_text (Period ends) = codes "0 period " ++ moment ends
+held_text (SecondStep txid) = codes "0 step2 " ++ decimal txid
+held_text (Consumer consumer tick xmin) = codes "0 consumer " ++ consumer ++ 32 ∷ decimal tick ++ 32 ∷ decimal xmin
+held_text (Tick tick xmin) = codes "0 tick " ++ decimal tick ++ 32 ∷ decimal xmin
 
 -- the lines of an answer, if the sessions have these names
 abbrev pub reply_lines : List (List ℕ) → Reply → List (List ℕ)
@@ -177,6 +188,7 @@ reply_lines names (Moment now) = moment now ∷ []
 reply_lines names (QueueInfo queue) = queue_text queue ∷ []
 reply_lines names (BatchInfo batch) = batch_text batch ∷ []
 reply_lines names (ConsumerInfo consumer) = consumer_text consumer ∷ []
+reply_lines names (HeldBack held) = held_text held ∷ []
 reply_lines names (Refused refusal) = (codes "error " ++ refusal_text names refusal) ∷ []
 
 -- a line of an answer, after its session's name
@@ -209,10 +221,11 @@ AllNamed names replies = All (λ answer. (answer.0 < length names) × All (λ wh
 abbrev pub EventsHaveMoments : List Event → Type 0
 EventsHaveMoments events = All (λ e. HasMoment e.ev_time) events
 
--- the same of an answer's events, and of a moment that it is
+-- the same of an answer's events, and of a moment that it is or names
 abbrev pub ReplyHasMoments : Reply → Type 0
 ReplyHasMoments (Events events) = EventsHaveMoments events
 ReplyHasMoments (Moment now) = HasMoment now
+ReplyHasMoments (HeldBack (Period ends)) = HasMoment ends
 ReplyHasMoments _ = Unit {0}
 
 -- and of every answer

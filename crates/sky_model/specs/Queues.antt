@@ -1,9 +1,11 @@
--- Queues: their names, settings, sequences, events and ticks.
-use Rattle.std.specs.Prelude.{ℕ, ◌+◌, ℤ, List, [], ◌∷◌, ◌++◌, not, Option, Some, None, ◌==◌, ◌&&◌, filter, find, option_map, unwrap_or, if◌then◌else◌}
+-- Queues: their names, settings, sequences, events, event tables and ticks.
+use Rattle.std.specs.Prelude.{ℕ, ◌+◌, ℤ, Bool, false, List, [], ◌∷◌, ◌++◌, not, Option, Some, None, ◌==◌, ◌&&◌, ◌||◌, nat_lt, filter, find, option_map, unwrap_or, if◌then◌else◌}
 use Rattle.sky_val.specs.declared.event.Event.{Event}
 use Rattle.sky_txid.specs.Snapshot.{SnapshotView}
 use Rattle.sky_names.specs.Places.{named}
-use Rattle.sky_model.specs.History.{queued, made, raised, put, ticked, configured, dropped, History}
+use Rattle.pgq_tables.specs.Tables as tables_of
+use Rattle.pgq_tables.specs.Tables.{Tables, no_tables, new_tables, with_stored, with_dead, with_pending, without_pending, with_second_step}
+use Rattle.sky_model.specs.History.{ended, queued, made, raised, put, ticked, switching, switched, second_step, configured, dropped, History}
 use Rattle.sky_model.specs.Config.{Config, default_config}
 use Rattle.sky_model.specs.Transactions.{snapshot}
 
@@ -15,7 +17,7 @@ pub record NamedQueue : Type 0 where
 -- how many queues were made: the number of the next one
 abbrev pub queues_made : History → ℕ
 queues_made [] = 0
-queues_made (queued (made name) ∷ h) = queues_made h + 1
+queues_made (queued (made name t time) ∷ h) = queues_made h + 1
 queues_made (_ ∷ h) = queues_made h
 
 -- the other queues among some
@@ -26,7 +28,7 @@ others_than queue queues = filter (λ q. not (q.number == queue)) queues
 abbrev pub queues : History → List NamedQueue
 queues [] = []
 queues (queued (dropped queue) ∷ h) = others_than queue (queues h)
-queues (queued (made name) ∷ h) = queues h ++ record { number = queues_made h; name = name } ∷ []
+queues (queued (made name t time) ∷ h) = queues h ++ record { number = queues_made h; name = name } ∷ []
 queues (_ ∷ h) = queues h
 
 -- the number of the queue of a name among some
@@ -57,12 +59,25 @@ events queue [] = []
 events queue (queued (put q event) ∷ h) = if q == queue then events queue h ++ event ∷ [] else events queue h
 events queue (_ ∷ h) = events queue h
 
--- those that it keeps: none once it is dropped
-abbrev pub stored : ℕ → History → List Event
-stored queue [] = []
-stored queue (queued (put q event) ∷ h) = if q == queue then stored queue h ++ event ∷ [] else stored queue h
-stored queue (queued (dropped q) ∷ h) = if q == queue then [] else stored queue h
-stored queue (_ ∷ h) = stored queue h
+-- whether the pending switch is one that the commit of this transaction makes
+abbrev pub is_pending : ℕ → Tables → Bool
+is_pending t ts = unwrap_or (option_map (λ u. u == t) ts.pending) false
+
+-- event tables once a transaction was rolled back: its events are dead, and its switch isn't pending any more
+abbrev pub without_transaction : ℕ → Tables → Tables
+without_transaction t ts = with_dead t (if is_pending t ts then without_pending ts else ts)
+
+-- the event tables of a queue
+abbrev pub tables : ℕ → History → Tables
+tables queue [] = no_tables
+tables queue (queued (made name t time) ∷ h) = if queues_made h == queue then new_tables t time else tables queue h
+tables queue (queued (put q event) ∷ h) = if q == queue then with_stored event (tables queue h) else tables queue h
+tables queue (queued (switching q t) ∷ h) = if q == queue then with_pending t (tables queue h) else tables queue h
+tables queue (queued (switched q time) ∷ h) = if q == queue then tables_of.switched time (tables queue h) else tables queue h
+tables queue (queued (second_step q t) ∷ h) = if q == queue then with_second_step t (tables queue h) else tables queue h
+tables queue (queued (dropped q) ∷ h) = if q == queue then no_tables else tables queue h
+tables queue (ended whose t false ∷ h) = without_transaction t (tables queue h)
+tables queue (_ ∷ h) = tables queue h
 
 -- a tick
 pub record Tick : Type 0 where
@@ -80,13 +95,37 @@ ticks queue (queued (ticked q id time seq) ∷ h) =
     else ticks queue h
 ticks queue (_ ∷ h) = ticks queue h
 
--- those that it keeps: none once it is dropped
+-- the newest tick
+abbrev pub newest_tick : List Tick → Option Tick
+newest_tick [] = None
+newest_tick (t ∷ []) = Some t
+newest_tick (t ∷ u ∷ ts) = newest_tick (u ∷ ts)
+
+-- the id of a tick, or 0
+abbrev pub id_of : Option Tick → ℕ
+id_of None = 0
+id_of (Some t) = t.id
+
+-- whether the lower bound of a tick's snapshot is above a transaction id: then that transaction had ended, and each below it
+abbrev pub is_above : ℕ → Tick → Bool
+is_above txid t = nat_lt txid t.snapshot.xmin
+
+-- the ticks above a transaction id, and the newest one
+abbrev pub ticks_above : ℕ → List Tick → List Tick
+ticks_above txid ts = filter (λ t. is_above txid t || t.id == id_of (newest_tick ts)) ts
+
+-- the transaction of the second step of a switch, 0 if that is missing
+abbrev pub second_step_of : Tables → ℕ
+second_step_of ts = unwrap_or ts.second_step 0
+
+-- those that it keeps: a switch drops the ticks that aren't above the second step of the one before; none is kept once the queue is dropped
 abbrev pub kept_ticks : ℕ → History → List Tick
 kept_ticks queue [] = []
 kept_ticks queue (queued (ticked q id time seq) ∷ h) =
     if q == queue
     then kept_ticks queue h ++ record { id = id; time = time; snapshot = snapshot h; seq = seq } ∷ []
     else kept_ticks queue h
+kept_ticks queue (queued (switched q time) ∷ h) = if q == queue then ticks_above (second_step_of (tables queue h)) (kept_ticks queue h) else kept_ticks queue h
 kept_ticks queue (queued (dropped q) ∷ h) = if q == queue then [] else kept_ticks queue h
 kept_ticks queue (_ ∷ h) = kept_ticks queue h
 
@@ -98,12 +137,6 @@ tick id ts = find (λ t. t.id == id) ts
 abbrev pub seq_at : Option Tick → ℕ
 seq_at None = 0
 seq_at (Some t) = t.seq
-
--- the newest tick
-abbrev pub newest_tick : List Tick → Option Tick
-newest_tick [] = None
-newest_tick (t ∷ []) = Some t
-newest_tick (t ∷ u ∷ ts) = newest_tick (u ∷ ts)
 
 -- the history as it was when a tick was made; the empty one if it isn't made
 abbrev pub at_tick : ℕ → ℕ → History → History

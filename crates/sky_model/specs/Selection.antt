@@ -2,9 +2,10 @@
 use Rattle.std.specs.Prelude.{ℕ, Bool, not, ◌&&◌, List, [], filter, Option, Some, None}
 use Rattle.sky_val.specs.declared.event.Event.{Event}
 use Rattle.sky_txid.specs.Snapshot.{SnapshotView, snapshot_of, sees}
+use Rattle.pgq_tables.specs.Tables.{Tables}
+use Rattle.pgq_tables.specs.Listed.{is_for, listed}
 use Rattle.sky_model.specs.History.{Batch}
 use Rattle.sky_model.specs.Queues.{Tick, tick}
-use Rattle.sky_model.specs.Batches.{is_for, by_id}
 use Rattle.sky_model.specs.State.{Queue, Database}
 
 -- the snapshot of a tick; without a tick, the one before anything happened
@@ -20,9 +21,14 @@ is_selected undone from to sub e = sees to e.ev_txid && not (sees from e.ev_txid
 abbrev pub selected_of : (ℕ → Bool) → List Tick → List Event → Batch → List Event
 selected_of undone ticks events b = filter (is_selected undone (snapshot_at (tick b.prev ticks)) (snapshot_at (tick b.cur ticks)) b.sub) events
 
--- of those that a queue keeps, by id
-abbrev pub selected_in : (ℕ → Bool) → Queue → Batch → List Event
-selected_in undone q b = by_id (selected_of undone q.tick_list q.stored b)
+-- of those that event tables have, by id, if both ticks are kept
+abbrev pub listed_between : (from to : Option Tick) → ℕ → Tables → List Event
+listed_between (Some from) (Some to) sub ts = listed from.snapshot to.snapshot sub ts
+listed_between _ _ sub ts = []
+
+-- of those that a queue keeps
+abbrev pub selected_in : Queue → Batch → List Event
+selected_in q b = listed_between (tick b.prev q.tick_list) (tick b.cur q.tick_list) b.sub q.tables
 
 abbrev pub selected : Database → Batch → List Event
-selected d b = selected_in d.undone (d.queue b.queue) b
+selected d b = selected_in (d.queue b.queue) b

@@ -1,5 +1,5 @@
 -- What a database shows at a place: all that a statement reads of it, each part by its definition. The code keeps these, and a mark changes them.
-use Rattle.std.specs.Prelude.{ℕ, ◌+◌, List, [], ◌∷◌, ◌++◌, Bool, true, false, not, ◌&&◌, ◌||◌, Option, Some, None, ◌==◌, bytes_eq, filter, length, option_map, if◌then◌else◌}
+use Rattle.std.specs.Prelude.{ℕ, ℤ, ◌+◌, List, [], ◌∷◌, ◌++◌, Bool, true, false, not, ◌&&◌, ◌||◌, Option, Some, None, ◌==◌, bytes_eq, filter, length, option_map, if◌then◌else◌}
 use Rattle.sky_val.specs.declared.event.Event.{Event}
 use Rattle.sky_val.specs.declared.column.Column.{Column}
 use Rattle.sky_val.specs.Entries.{Entries}
@@ -9,15 +9,17 @@ use Rattle.sky_txid.specs.Snapshot.{SnapshotView, snapshot_of}
 use Rattle.sky_keys.specs.Versions.{written, forgotten}
 use Rattle.sky_model.specs.declared.stmt.Attempt.{Attempt}
 use Rattle.sky_model.specs.declared.stmt.Attempt.TheVariants.{Deletion}
-use Rattle.sky_model.specs.History.{Batch, Mark, Whose, of_session, of_worker, began, ended, block_begun, repeats, looked, block_failed, block_ended, connected, disconnected, tabled, TableMark, table_made, wrote, waits, waited, queued, QueueMark, made, raised, put, ticked, registered, moved, unregistered, opened, closed, asked, returned, configured, dropped, traced, History}
-use Rattle.sky_model.specs.Transactions.{next_txid, running, workers, has_rolled_back}
+use Rattle.sky_model.specs.History.{Batch, Mark, Whose, of_session, of_worker, began, ended, block_begun, repeats, looked, block_failed, block_ended, connected, disconnected, tabled, TableMark, table_made, wrote, waits, waited, queued, QueueMark, made, raised, put, ticked, registered, moved, unregistered, opened, closed, asked, returned, switching, switched, second_step, configured, dropped, traced, History}
+use Rattle.sky_model.specs.Transactions.{next_txid, running, workers}
+use Rattle.pgq_tables.specs.Tables as tables_of
+use Rattle.pgq_tables.specs.Tables.{Tables, no_tables, new_tables, with_stored, with_pending, with_second_step}
 use Rattle.sky_model.specs.Sessions.{Block, inside, failed, outside, Sight, at_each, at_first, at_place, Session, session}
 use Rattle.sky_model.specs.Config.{Config, default_config}
 use Rattle.sky_model.specs.Rows.{table_names, columns_of, wrote_in}
 use Rattle.sky_model.specs.Versions.{versions}
 use Rattle.sky_model.specs.Locks.{holder, waiting, attempt}
 use Rattle.sky_model.specs.Triggers.{TableTrigger, triggers}
-use Rattle.sky_model.specs.Queues.{NamedQueue, queues_made, queues, others_than, config, sequence, stored, Tick, kept_ticks}
+use Rattle.sky_model.specs.Queues.{NamedQueue, queues_made, queues, others_than, config, sequence, tables, without_transaction, Tick, kept_ticks, ticks_above, second_step_of}
 use Rattle.pgq_retry.specs.declared.retry.Retry.{Retry}
 use Rattle.pgq_retry.specs.Retries.{without as without_retry, without_sub}
 use Rattle.sky_model.specs.Retries.{retries}
@@ -27,7 +29,7 @@ use Rattle.sky_model.specs.Consumers.{all_but, consumers, Subscription, subscrip
 pub record Queue : Type 0 where
   pub config : Config
   pub seq : ℕ
-  pub stored : List Event
+  pub tables : Tables
   pub tick_list : List Tick
   pub members : List (List ℕ)
   pub sub : List ℕ → Option Subscription
@@ -49,7 +51,6 @@ pub record RowPart : Type 0 where
 -- a database, as a statement reads it
 pub record Database : Type 0 where
   pub part : RowPart
-  pub undone : ℕ → Bool
   pub last_batch_id : ℕ
   pub last_sub_id : ℕ
   pub queues_made : ℕ
@@ -63,7 +64,7 @@ abbrev pub queue_of : History → ℕ → Queue
 queue_of h q = record {
   config = config q h;
   seq = sequence q h;
-  stored = stored q h;
+  tables = tables q h;
   tick_list = kept_ticks q h;
   members = consumers q h;
   sub = λ name. subscription q name h;
@@ -87,7 +88,6 @@ part_of h = record {
 abbrev pub database_of : History → Database
 database_of h = record {
   part = part_of h;
-  undone = has_rolled_back h;
   last_batch_id = last_batch h;
   last_sub_id = last_subscription h;
   queues_made = queues_made h;
@@ -116,16 +116,25 @@ at_position tick s = record s { position = tick; active = None }
 
 -- a queue of which nothing is kept but who has registered
 abbrev pub emptied : Queue → Queue
-emptied q = record q { config = default_config; seq = 0; stored = []; tick_list = [] }
+emptied q = record q { config = default_config; seq = 0; tables = no_tables; tick_list = [] }
+
+-- a queue with its event tables changed
+abbrev pub with_tables : (Tables → Tables) → Queue → Queue
+with_tables change q = record q { tables = change q.tables }
+
+-- a queue after the switch of its event tables
+abbrev pub after_switch : ℤ → Queue → Queue
+after_switch time q = record q { tables = tables_of.switched time q.tables; tick_list = ticks_above (second_step_of q.tables) q.tick_list }
 
 -- a database after something happened to its queues
 abbrev pub after_queue_mark : Database → QueueMark → Database
-after_queue_mark d (made name) = record d {
+after_queue_mark d (made name t time) = record d {
   queues_made = d.queues_made + 1;
   queues = d.queues ++ record { number = d.queues_made; name = name } ∷ [];
+  queue = changed_at d.queues_made (with_tables (λ _. new_tables t time)) d.queue;
 }
 after_queue_mark d (raised q value) = record d { queue = changed_at q (λ x. record x { seq = value }) d.queue }
-after_queue_mark d (put q event) = record d { queue = changed_at q (λ x. record x { stored = x.stored ++ event ∷ [] }) d.queue }
+after_queue_mark d (put q event) = record d { queue = changed_at q (with_tables (with_stored event)) d.queue }
 after_queue_mark d (ticked q id time seq) = record d {
   queue = changed_at q (λ x. record x {
     tick_list = x.tick_list ++ record { id = id; time = time; snapshot = snapshot_of d.part.next d.part.running_ids; seq = seq } ∷ [];
@@ -167,6 +176,9 @@ after_queue_mark d (closed b) = record d {
 }
 after_queue_mark d (asked retry) = record d { retries = d.retries ++ retry ∷ [] }
 after_queue_mark d (returned retry moment) = record d { retries = without_retry retry.sub retry.event.ev_id d.retries }
+after_queue_mark d (switching q t) = record d { queue = changed_at q (with_tables (with_pending t)) d.queue }
+after_queue_mark d (switched q time) = record d { queue = changed_at q (after_switch time) d.queue }
+after_queue_mark d (second_step q t) = record d { queue = changed_at q (with_tables (with_second_step t)) d.queue }
 after_queue_mark d (configured q config) = record d { queue = changed_at q (λ x. record x { config = config }) d.queue }
 after_queue_mark d (dropped q) = record d { queues = others_than q d.queues; queue = changed_at q emptied d.queue }
 after_queue_mark d (traced table name trigger) = record d {
@@ -258,7 +270,10 @@ after_part_marks d (mark ∷ marks) = after_part_marks (after_part d mark) marks
 -- a database after a mark
 abbrev pub after_mark : Database → Mark → Database
 after_mark d (queued mark) = after_queue_mark d mark
-after_mark d (ended whose t false) = record d { part = after_part d.part (ended whose t false); undone = λ u. u == t || d.undone u }
+after_mark d (ended whose t false) = record d {
+  part = after_part d.part (ended whose t false);
+  queue = λ n. with_tables (without_transaction t) (d.queue n);
+}
 after_mark d (ended whose t true) = record d { part = after_part d.part (ended whose t true) }
 after_mark d (began whose t) = record d { part = after_part d.part (began whose t) }
 after_mark d (block_begun who) = record d { part = after_part d.part (block_begun who) }

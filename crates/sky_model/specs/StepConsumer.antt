@@ -1,5 +1,5 @@
 -- What the statements on consumers and batches do. Each reads the database `d` as it is.
-use Rattle.std.specs.Prelude.{ℕ, ◌+◌, ◌^◌, List, [], ◌∷◌, Bool, ◌==◌, ◌||◌, Option, Some, None, nat_lt, nat_le, is_some, length, if◌then◌else◌}
+use Rattle.std.specs.Prelude.{ℕ, ◌+◌, ◌^◌, List, [], ◌∷◌, Bool, ◌==◌, ◌||◌, Option, Some, None, nat_lt, nat_le, is_some, length, find, if◌then◌else◌}
 use Rattle.std.specs.List.{list_any}
 use Rattle.sky_val.specs.declared.event.Event.{Event}
 use Rattle.pgq_retry.specs.Retries.{count_of}
@@ -7,12 +7,12 @@ use Rattle.sky_model.specs.declared.reply.BatchInfo as shown_batch
 use Rattle.sky_model.specs.declared.reply.ConsumerInfo as shown_consumer
 use Rattle.sky_model.specs.declared.reply.Reply.TheVariants.{Number, Null, Events, BatchInfo, ConsumerInfo}
 use Rattle.sky_model.specs.declared.reply.Limit.TheVariants.{Consumers}
-use Rattle.sky_model.specs.declared.reply.Refusal.TheVariants.{NoBatch, NoConsumer, NodeConsumer, NoTick, TooMany, IdsSpent}
+use Rattle.sky_model.specs.declared.reply.Refusal.TheVariants.{NoBatch, NoConsumer, NodeConsumer, NoTick, TickTooOld, TooMany, IdsSpent}
 use Rattle.sky_model.specs.Limits.{most_of}
 use Rattle.sky_model.specs.History.{Batch, queued, registered, moved, unregistered, opened, closed}
-use Rattle.sky_model.specs.Queues.{queue_name, Tick, tick, seq_at}
+use Rattle.sky_model.specs.Queues.{queue_name, Tick, tick, seq_at, id_of, is_above, second_step_of}
 use Rattle.sky_model.specs.Consumers.{Subscription}
-use Rattle.sky_model.specs.State.{Database}
+use Rattle.sky_model.specs.State.{Queue, Database}
 use Rattle.sky_model.specs.Outcome.{Outcome, Checked, ◌>>=◌, ◌>>◌, refused_if, found_or, answers, does_marks}
 use Rattle.sky_model.specs.StepQueue.{queue_called, newest_id}
 
@@ -34,12 +34,18 @@ register_consumer d name consumer = do
   refused_if (has_dot consumer) NodeConsumer
   if is_some ((d.queue queue).sub consumer) then answers (Number 0) else registers d queue consumer (newest_id (d.queue queue))
 
+-- the least tick at which a consumer may register: the oldest that is kept, and while a switch is pending, which drops older ones, the oldest that
+-- is above its second step
+abbrev pub floor : Queue → ℕ
+floor q = id_of (find (λ t. is_above (if is_some q.tables.pending then second_step_of q.tables else 0) t) q.tick_list)
+
 -- `register_consumer_at NAME CONSUMER N`: the same at the tick of this id; one that is registered is moved there
 abbrev pub register_consumer_at : Database → (name consumer : List ℕ) → ℕ → Checked Outcome
 register_consumer_at d name consumer id = do
   queue ← queue_called name d
   refused_if (has_dot consumer) NodeConsumer
   refused_if (id == 0 || nat_lt (newest_id (d.queue queue)) id) (NoTick id (newest_id (d.queue queue)))
+  refused_if (nat_lt id (floor (d.queue queue))) (TickTooOld id (floor (d.queue queue)))
   if is_some ((d.queue queue).sub consumer) then does_marks (Number 0) (queued (moved queue consumer id) ∷ []) else registers d queue consumer id
 
 -- a consumer leaves, if it is registered

@@ -1,5 +1,5 @@
 -- What the statements on queues do. Each reads the database `d` as it is.
-use Rattle.std.specs.Prelude.{ℕ, ◌+◌, ◌-◌, ◌*◌, ◌^◌, ℤ, pos, ◌-ℤ◌, ◌*ℤ◌, List, [], ◌∷◌, ◌++◌, Bool, true, false, not, ◌&&◌, ◌||◌, Option, Some, None, option_map, unwrap_or, nat_lt, nat_le, ◌==◌, is_some, length, find, int_lt, Ok, if◌then◌else◌}
+use Rattle.std.specs.Prelude.{ℕ, ◌+◌, ◌-◌, ◌*◌, ◌^◌, ℤ, pos, ◌-ℤ◌, ◌*ℤ◌, List, [], ◌∷◌, ◌++◌, Bool, true, false, not, ◌&&◌, ◌||◌, Option, Some, None, option_map, unwrap_or, nat_lt, nat_le, ◌==◌, is_some, length, map, find, int_lt, Ok, if◌then◌else◌}
 use Rattle.std.specs.List.{list_any}
 use Rattle.sky_val.specs.declared.event.Event.{Event}
 use Rattle.sky_model.specs.declared.stmt.Extra.{Extra}
@@ -9,7 +9,8 @@ use Rattle.sky_model.specs.declared.reply.Limit.TheVariants.{Queues}
 use Rattle.sky_model.specs.declared.reply.Refusal.TheVariants.{NoQueue, TooMany, HasConsumers, HasTriggers, QueueBusy, EventIdsSpent, IdsSpent, NoParam, BadValue}
 use Rattle.sky_model.specs.Limits.{most_of}
 use Rattle.sky_model.specs.History.{queued, made, raised, put, ticked, configured, dropped}
-use Rattle.sky_model.specs.Queues.{queue_number, Tick, newest_tick}
+use Rattle.pgq_tables.specs.Tables.{Tables, by_age}
+use Rattle.sky_model.specs.Queues.{queue_number, is_pending, Tick, newest_tick, id_of}
 use Rattle.sky_model.specs.Config.{Config, param_of, configured_by}
 use Rattle.sky_model.specs.Triggers.{TableTrigger}
 use Rattle.sky_model.specs.State.{Queue, Database}
@@ -27,11 +28,15 @@ create_queue d now who name =
       refused_if (nat_le (most_of Queues) (length d.queues)) (TooMany Queues)
       t ← txid_for d.part who
       does_marks (Number 1)
-          (written who t (d.part.session who) (queued (made name) ∷ []) ++ queued (ticked d.queues_made 1 now 0) ∷ [])
+          (written who t (d.part.session who) (queued (made name t now) ∷ []) ++ queued (ticked d.queues_made 1 now 0) ∷ [])
 
--- the least running transaction that has put an event into a queue
+-- whether a transaction has put an event into event tables, or makes their pending switch
+abbrev pub has_part_in : Tables → ℕ → Bool
+has_part_in ts t = list_any (λ s. s.event.ev_txid == t) (by_age ts) || is_pending t ts
+
+-- the least running transaction that has put an event into a queue, or makes its pending switch
 abbrev pub least_producer : Database → ℕ → Option ℕ
-least_producer d queue = find (λ t. list_any (λ e. e.ev_txid == t) (d.queue queue).stored) d.part.running_ids
+least_producer d queue = find (has_part_in (d.queue queue).tables) d.part.running_ids
 
 -- the first trigger that puts events into a queue
 abbrev pub first_trigger_into : ℕ → List TableTrigger → Option TableTrigger
@@ -116,11 +121,6 @@ due_of config now seq (Some (last, before)) = not config.paused && is_due_after 
 abbrev pub is_due : ℤ → Queue → Bool
 is_due now q = due_of q.config now q.seq (last_two None q.tick_list)
 
--- the id of a tick, or 0
-abbrev pub id_of : Option Tick → ℕ
-id_of None = 0
-id_of (Some t) = t.id
-
 -- the id of a queue's newest tick
 abbrev pub newest_id : Queue → ℕ
 newest_id q = id_of (newest_tick q.tick_list)
@@ -158,9 +158,9 @@ set_queue_config d name param value = do
   config ← found_or (configured_by (d.queue queue).config p value) (BadValue param)
   does_marks (Number 1) (queued (configured queue config) ∷ [])
 
--- what is shown of a queue: as event tables aren't rotated yet, the first of its three tables has all its events
+-- what is shown of a queue: of its event tables the number of the current one, and how many events each has, dead ones among them
 abbrev pub info_of : Queue → reply.QueueInfo
-info_of q = record { current = 0; last_tick = newest_id q; seq = q.seq; stored = length q.stored ∷ 0 ∷ 0 ∷ [] }
+info_of q = record { current = q.tables.current; last_tick = newest_id q; seq = q.seq; stored = map length q.tables.lists }
 
 -- `queue_info NAME`
 abbrev pub queue_info : Database → List ℕ → Checked Outcome

@@ -5,7 +5,7 @@ ghost use Rattle.sky_model.specs.LawsOfDaemons.{DaemonsHaveStarted, DaemonsWorkW
 ghost use Rattle.sky_model.specs.LawsOfHistories.{HistoriesAreMadeByOwnCalls, HomesAreOpen, WaitersHaveOpen, BlocksAreOpen};
 ghost use Rattle.sky_model.specs.LawsOfLines.{BadWordIsLeast, LinesAreInForm};
 ghost use Rattle.sky_model.specs.LawsOfLocks.{DeadlocksAreRings, HoldersHaveWritten, NothingIsReady, WritersHaveWritten};
-ghost use Rattle.sky_model.specs.LawsOfQueues.{BusyQueuesStand, NewQueuesAreOthers, OtherQueuesKeepNothing, QueuesOfConsumersStand, QueuesOfTriggersStand, StandingQueuesKeepAll};
+ghost use Rattle.sky_model.specs.LawsOfQueues.{BusyQueuesStand, NewQueuesAreOthers, OtherQueuesKeepNothing, QueuesOfConsumersStand, QueuesOfTriggersStand};
 ghost use Rattle.sky_model.specs.LawsOfRetries.{RetriesAreCopies, RetriesAreForTheirSubscription, RetriesComeBackDue, RetriesWaitOnce};
 ghost use Rattle.sky_model.specs.LawsOfRows.{RowsAreReadUnderSnapshots};
 ghost use Rattle.sky_model.specs.LawsOfSnapshots.{BatchesAreSelectedBySnapshots, SnapshotsSeeWhatHasEnded};
@@ -127,13 +127,12 @@ pub fn writes_name_what_stands()
 
 /// At each such place a queue stands, that is, it was made and not dropped, if a consumer is registered with it, if a
 /// trigger puts events into it, or if a transaction that hasn't ended has put one into it: none of these loses its
-/// queue. All events and ticks of a queue that stands are kept, and nothing of one that was dropped or isn't made yet.
+/// queue. Nothing is kept of one that was dropped or isn't made yet.
 /// And the next queue that is made is none that was dropped, even if it gets the name of one.
 pub fn queues_in_use_stand()
     ensures consumers { QueuesOfConsumersStand }
     ensures triggers { QueuesOfTriggersStand }
     ensures busy { BusyQueuesStand }
-    ensures kept { StandingQueuesKeepAll }
     ensures gone { OtherQueuesKeepNothing }
     ensures others { NewQueuesAreOthers }
 {}

@@ -21,8 +21,8 @@ pub use gate::{OpenGate, WriteGate};
 pub use items::Items;
 pub use line::{Cause, Fixed, Line};
 pub use reply::{
-    BadRow, BatchInfo, BoxedBatchInfo, ConsumerInfo, Counts, Events, Limit, QueueInfo, Refusal,
-    Replies, Reply, Rows, Waiters,
+    BadRow, BatchInfo, BoxedBatchInfo, ConsumerInfo, Counts, Events, HeldBack, Limit, QueueInfo,
+    Refusal, Replies, Reply, Rows, Waiters,
 };
 pub use stmt::{
     Attempt, BoxedExtra, Change, ColumnNames, Columns, Extra, RowStmt, Set, Sets, Stmt, Where,

@@ -144,6 +144,8 @@ pub enum Refusal {
     TableBusy(u64),
     /// The database has a table of this name.
     TableExists(Text),
+    /// The tick is below the least one at which a consumer may register; both ids.
+    TickTooOld(u64, u64),
     /// The limit is reached.
     TooMany(Limit),
     /// The table has a trigger of this name.
@@ -204,6 +206,7 @@ impl Drop for Refusal {
             Refusal::Serialize(_) => {}
             Refusal::TableBusy(_) => {}
             Refusal::TableExists(_) => {}
+            Refusal::TickTooOld(_, _) => {}
             Refusal::TooMany(_) => {}
             Refusal::TriggerExists(_) => {}
             Refusal::TwiceNamed(_) => {}
@@ -292,6 +295,26 @@ pub struct ConsumerInfo {
     pub retries: u64,
 }
 
+/// Why the event tables of a queue aren't switched yet.
+#[derive(Debug, Drop)]
+pub enum HeldBack {
+    /// A switch is pending: the commit of this transaction makes it.
+    Pending(u64),
+    /// The rotation period, which ends at this moment, isn't over.
+    Period(i64),
+    /// The second step of the last switch is missing, whose first step this transaction made.
+    SecondStep(u64),
+    /// A consumer's position is too old.
+    Consumer {
+        consumer: Text,
+        /// The id of the tick that is its position, and the lower bound of that tick's snapshot.
+        tick: u64,
+        xmin: u64,
+    },
+    /// The newest tick, of this id and with this lower bound of its snapshot, is too old.
+    Tick(u64, u64),
+}
+
 /// What a statement answers.
 #[derive(Debug)]
 pub enum Reply {
@@ -335,6 +358,8 @@ pub enum Reply {
     BatchInfo(BoxedBatchInfo),
     /// A consumer's position, and its batch.
     ConsumerInfo(ConsumerInfo),
+    /// `0` and what holds a switch of event tables back.
+    HeldBack(HeldBack),
     /// `error` and the refusal.
     Refused(Refusal),
 }
@@ -362,6 +387,7 @@ impl Drop for Reply {
             Reply::QueueInfo(_) => {}
             Reply::BatchInfo(_) => {}
             Reply::ConsumerInfo(_) => {}
+            Reply::HeldBack(_) => {}
             Reply::Refused(_) => {}
         }
     }

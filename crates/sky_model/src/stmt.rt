@@ -290,6 +290,12 @@ pub enum Stmt {
     },
     /// `maint_retry_events`
     MaintRetryEvents,
+    /// `maint_rotate_step1 NAME`
+    MaintRotateStep1 {
+        queue: Text,
+    },
+    /// `maint_rotate_step2`
+    MaintRotateStep2,
     /// `add_trigger NAME TABLE NAME`, then `backup` or not, then `ignore=` and names or not
     AddTrigger {
         name: Text,
@@ -359,6 +365,8 @@ impl Drop for Stmt {
                 consumer: _,
             } => {}
             Stmt::MaintRetryEvents => {}
+            Stmt::MaintRotateStep1 { queue: _ } => {}
+            Stmt::MaintRotateStep2 => {}
             Stmt::AddTrigger {
                 name: _,
                 table: _,

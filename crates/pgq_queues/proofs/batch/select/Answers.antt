@@ -1,6 +1,6 @@
 -- Events are collected as they are stored, and are by id as long as no id is below the one before it; else they are sorted.
 use Rattle.std.proofs.Common.{◌≡◌, ◌++◌, ◌∷◌, [], leb, rules, sym, ◌∙◌, ap}
-use Rattle.sky_model.specs.Batches.{by_id}
+use Rattle.pgq_tables.specs.ById.{by_id}
 use Rattle.pgq_queues.proofs.ById.{RisesTo-next, collected, left_out, all_collected, by_id-rising}
 use Rattle.pgq_queues.proofs.batch.select.Goals as goal
 use Rattle.pgq_queues.proofs.batch.select.Goals.{then-is_selected+in_ok-event+in_ok-push, then-are_by_id, else-are_by_id, else-is_selected, then-not-are_by_id+in_ok-sort_by_id, else-not-are_by_id}

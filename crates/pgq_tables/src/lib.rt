@@ -1,0 +1,2 @@
+//! The event tables of a queue.
+#![tactic(auto)]

@@ -1,0 +1,76 @@
+-- The laws on the rotation of event tables, at each place of each history that calls make.
+use Rattle.std.specs.Prelude.{◌≡◌, ℕ, ◌+◌, ◌%◌, ◌<◌, ◌≤◌, ℤ, List, [], ◌∷◌, ◌++◌, Bool, true, false, not, ◌&&◌, ◌||◌, ◌==◌, Some, map, filter, length, slice_get, slice_index_or, is_some, All, Contains, if◌then◌else◌}
+use Rattle.sky_val.specs.declared.event.Event.{Event}
+use Rattle.pgq_tables.specs.Tables.{Stored, Tables}
+use Rattle.sky_model.specs.History.{queued, put, switched, History}
+use Rattle.sky_model.specs.Transactions.{has_ended, has_committed, has_rolled_back}
+use Rattle.sky_model.specs.Queues.{events, tables, Tick, tick, kept_ticks, at_tick, is_above, second_step_of}
+use Rattle.sky_model.specs.Consumers.{subscription_id, position}
+use Rattle.sky_model.specs.State.{queue_of}
+use Rattle.sky_model.specs.StepConsumer.{floor}
+use Rattle.sky_model.specs.LawsOfQueues.{Stands}
+use Rattle.sky_model.specs.HistoryPlaces.{IsPlace}
+
+-- ---- what the tables have
+
+-- how often the event tables of a queue were switched
+abbrev pub switches : ℕ → History → ℕ
+switches queue [] = 0
+switches queue (queued (switched q time) ∷ h) = if q == queue then switches queue h + 1 else switches queue h
+switches queue (_ ∷ h) = switches queue h
+
+-- the events that were put into a queue while the table of a number was the current one, since that was last emptied
+abbrev pub put_while : (queue table : ℕ) → History → List Event
+put_while queue table [] = []
+put_while queue table (queued (put q event) ∷ h) =
+    if q == queue && switches queue h % 3 == table then put_while queue table h ++ event ∷ [] else put_while queue table h
+put_while queue table (queued (switched q time) ∷ h) =
+    if q == queue && (switches queue h + 1) % 3 == table then [] else put_while queue table h
+put_while queue table (_ ∷ h) = put_while queue table h
+
+-- an event is stored, dead if its transaction has rolled back
+abbrev pub as_stored : History → Event → Stored
+as_stored p e = record { event = e; dead = has_rolled_back p e.ev_txid }
+
+-- there are three tables, of which each switch makes the next one the current one; and each has the events that were put while it was current
+pub record HoldsWhatWasPut (p : History) (queue : ℕ) : Type 0 where
+  pub three : length (tables queue p).lists ≡ 3
+  pub current : (tables queue p).current ≡ switches queue p % 3
+  pub lists : (table : ℕ) → table < 3 → slice_get (tables queue p).lists table ≡ Some (map (as_stored p) (put_while queue table p))
+
+abbrev pub TablesHoldWhatWasPut : Type 0
+TablesHoldWhatWasPut = (p : History) → IsPlace p → (queue : ℕ) → Stands p queue → HoldsWhatWasPut p queue
+
+-- ---- what rotation leaves
+
+-- an event of a queue is needed: its transaction hasn't ended, or it has committed, and hadn't when the least tick was made at which a consumer may
+-- register
+abbrev pub is_needed : History → ℕ → Event → Bool
+is_needed p queue e =
+    not (has_ended p e.ev_txid)
+    || (has_committed p e.ev_txid && not (has_committed (at_tick queue (floor (queue_of p queue)) p) e.ev_txid))
+
+-- the events of the current table, and those of the one before it
+abbrev pub current_events : Tables → List Stored
+current_events ts = slice_index_or ts.lists ts.current []
+
+abbrev pub previous_events : Tables → List Stored
+previous_events ts = slice_index_or ts.lists ((ts.current + 2) % 3) []
+
+-- each event that is needed is in the current table or in the one before it, and isn't dead
+abbrev pub NeededEventsAreStored : Type 0
+NeededEventsAreStored = (p : History) → IsPlace p → (queue : ℕ) → Stands p queue
+    → All (λ e. is_needed p queue e ≡ true → Contains (previous_events (tables queue p) ++ current_events (tables queue p)) (record { event = e; dead = false })) (events queue p)
+
+-- the position of each consumer is a tick that is kept, and isn't below the least one at which a consumer may register
+pub record IsKept (p : History) (queue : ℕ) (consumer : List ℕ) : Type 0 where
+  pub kept : is_some (tick (position queue consumer p) (kept_ticks queue p)) ≡ true
+  pub above : floor (queue_of p queue) ≤ position queue consumer p
+
+abbrev pub PositionsAreKept : Type 0
+PositionsAreKept = (p : History) → IsPlace p → (queue : ℕ) (consumer : List ℕ) (sub : ℕ) → subscription_id queue consumer p ≡ Some sub → IsKept p queue consumer
+
+-- a switch drops the ticks that aren't above the second step of the one before, and no others
+abbrev pub SwitchesDropTicks : Type 0
+SwitchesDropTicks = (p : History) (queue : ℕ) (time : ℤ) → IsPlace (queued (switched queue time) ∷ p)
+    → kept_ticks queue (queued (switched queue time) ∷ p) ≡ filter (is_above (second_step_of (tables queue p))) (kept_ticks queue p)
