@@ -51,6 +51,7 @@ pub mod SnapshotLaws
 pub mod EventsBegun
 mod QueuesInUse
 pub mod TickOrder
+pub mod Climbing
 pub mod ActiveBatches
 pub mod FinishedBatches
 pub mod EventsOnce
