@@ -52,6 +52,7 @@ pub mod EventsBegun
 mod QueuesInUse
 pub mod TickOrder
 pub mod Climbing
+pub mod Rotation
 pub mod ActiveBatches
 pub mod FinishedBatches
 pub mod EventsOnce
