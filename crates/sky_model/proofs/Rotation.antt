@@ -23,7 +23,8 @@ use Rattle.sky_model.proofs.StandingQueues.{beyond, stands-or-new, registered-st
 use Rattle.sky_model.proofs.Climbing.{xmin-began, xmin-ended, xmin-least, xmin-most, xmin_of, Climbs, last_id, last_xmin, last_id-newest, last_xmin-newest, found_above, climbs, first_above, first-most, above-first, first-least, Climbing, climbing}
 use Rattle.sky_model.proofs.Ticks.{newest_tick-push}
 use Rattle.sky_model.proofs.TickOrder.{is_made, is_made-tick}
-use Rattle.sky_model.proofs.ActiveBatches.{IsActive, active_batches}
+use Rattle.sky_model.proofs.ActiveBatches.{same_consumer, IsActive, active_batches}
+use Rattle.sky_model.proofs.Members.{among-consumers}
 use Rattle.sky_model.proofs.Cases.{by_same, by_test}
 
 -- ---- ticks above a transaction
@@ -331,3 +332,165 @@ cut-base h l q is =
     let c : IsCut h q = cuts h l q is in
     by_test (λ b. cut q h ≤ (if b then unwrap_or (tables q h).second_step 0 else cut q h)) (is_some (tables q h).pending)
     (λ pending. c.after (second_step_of (tables q h)) (some-is (tables q h).second_step (c.awaits pending).0)) (λ _. omega arith)
+
+-- ---- positions
+
+tick-more : (b n : ℕ) (ts : List Tick) (t : Tick) → b < xmin_of (tick n ts) → b < xmin_of (tick n (ts ++ t ∷ []))
+tick-more b n [] t less = absurd (omega (arith, less))
+tick-more b n (u ∷ ts) t less = grind (arith, tick-more b n ts t, less)
+
+-- the newest tick is above what the ticks stay above
+base-newest : (h : History) → Legal h → (q : ℕ) → IsQueue h q → 0 < id_of (newest_tick (ticks q h)) → base q h < xmin_of (newest_tick (ticks q h))
+base-newest h l q is some =
+    let c : IsCut h q = cuts h l q is in
+    by_test (λ b. (if b then unwrap_or (tables q h).second_step 0 else cut q h) < xmin_of (newest_tick (ticks q h))) (is_some (tables q h).pending)
+    (λ pending. (c.awaits pending).1) (λ _. of (newest_tick (ticks q h)) some c.fresh)
+  where
+    of : (o : Option Tick) → 0 < id_of o → ((t : Tick) → o ≡ Some t → cut q h < t.snapshot.xmin) → cut q h < xmin_of o
+    of None some fresh = absurd (omega (arith, some))
+    of (Some t) some fresh = fresh t refl
+
+-- a tick at which a consumer may register is above that
+sits-at : (h : History) → Legal h → (q : ℕ) → IsQueue h q → (n : ℕ) → 1 ≤ n → n ≤ id_of (newest_tick (ticks q h)) → floor (queue_of h q) ≤ n
+    → base q h < xmin_of (tick n (ticks q h))
+sits-at h l q is n least most from =
+    let up = base-newest h l q is (omega (arith, least, most)) in
+    above-first 0 0 (base q h) (ticks q h) n (climbing h l q).run (omega arith) (subst (λ x. base q h < x) (sym (last_xmin-newest (ticks q h))) up) (omega (arith, least))
+    (omega (arith, most, last_id-newest (ticks q h))) (omega (arith, from, floor-first h l q is))
+
+-- a consumer's position is a tick above what the ticks stay above
+abbrev pub Sits : History → ℕ → List ℕ → Type 0
+Sits h q consumer = base q h < xmin_of (tick (position q consumer h) (ticks q h))
+
+-- a tick that is above a transaction is there
+above-is : (b : ℕ) (o : Option Tick) → b < xmin_of o → is_some o ≡ true
+above-is b None less = absurd (omega (arith, less))
+above-is b (Some t) less = refl
+
+some-tick : (o : Option Tick) → is_some o ≡ true → (P : Type 0) → ((t : Tick) → o ≡ Some t → P) → P
+some-tick None is P of = absurd (cc)
+some-tick (Some t) is P of = of t refl
+
+-- and it is kept
+kept-position : (h : History) → Legal h → (q n : ℕ) → IsQueue h q → base q h < xmin_of (tick n (ticks q h)) → tick n (kept_ticks q h) ≡ tick n (ticks q h)
+kept-position h l q n is less =
+    some-tick (tick n (ticks q h)) (above-is (base q h) (tick n (ticks q h)) less) (tick n (kept_ticks q h) ≡ tick n (ticks q h))
+    (λ t there. ap (tick n) (cuts h l q is).kept
+    ∙ tick-above (cut q h) n (ticks q h) t there (let up : base q h < t.snapshot.xmin = subst (λ o. base q h < xmin_of o) there less in omega (arith, cut-base h l q is, up)) ∙ sym there)
+
+pub sits : (h : History) → Legal h → (q : ℕ) (consumer : List ℕ) (sub : ℕ) → subscription_id q consumer h ≡ Some sub → Sits h q consumer
+sits [] start q consumer sub has = absurd (cc)
+sits (ended whose t false ∷ h) (next l fine) q consumer sub has =
+    let is = registered-stands h l q consumer sub has in
+    let ih : Sits h q consumer = sits h l q consumer sub has in
+    let ts : Tables = tables q h in
+    by_test (λ b. bound (cut q h) (if b then without_pending ts else ts).second_step (if b then without_pending ts else ts).pending < xmin_of (tick (position q consumer h) (ticks q h)))
+    (is_pending t ts) (λ _. omega (arith, cut-base h l q is, ih)) (λ _. ih)
+sits _ (next {h = h} l (makes name t time new)) q consumer sub has =
+    let other : (queues_made h == q) ≡ false = grind (arith, nat_tests, queue-below h q (registered-stands h l q consumer sub has)) in
+    subst (λ b. bound (if b then 0 else cut q h) (if b then new_tables t time else tables q h).second_step (if b then new_tables t time else tables q h).pending < xmin_of (tick (position q consumer h) (ticks q h)))
+    (sym other) (sits h l q consumer sub has)
+sits _ (next {h = h} l (puts who p event i at mine newest)) q consumer sub has =
+    let ih : Sits h q consumer = sits h l q consumer sub has in
+    by_test (λ b. bound (cut q h) (if b then with_stored event (tables q h) else tables q h).second_step (if b then with_stored event (tables q h) else tables q h).pending < xmin_of (tick (position q consumer h) (ticks q h)))
+    (p == q) (λ _. ih) (λ _. ih)
+sits _ (next {h = h} l (puts_back retry t back)) q consumer sub has =
+    let ih : Sits h q consumer = sits h l q consumer sub has in
+    let event = brought_by t retry.event in
+    by_test (λ b. bound (cut q h) (if b then with_stored event (tables q h) else tables q h).second_step (if b then with_stored event (tables q h) else tables q h).pending < xmin_of (tick (position q consumer h) (ticks q h)))
+    (retry.queue == q) (λ _. ih) (λ _. ih)
+sits _ (next {h = h} l (ticks_next p id time seq i e at)) q consumer sub has =
+    let ih : Sits h q consumer = sits h l q consumer sub has in
+    let new : Tick = record { id = id; time = time; snapshot = snapshot h; seq = seq } in
+    by_test (λ b. base q h < xmin_of (tick (position q consumer h) (if b then ticks q h ++ new ∷ [] else ticks q h))) (p == q)
+    (λ _. tick-more (base q h) (position q consumer h) (ticks q h) new ih) (λ _. ih)
+sits _ (next {h = h} l (registers p name new n i none f most low)) q consumer sub has =
+    by_test (λ b. (if b then Some new else subscription_id q consumer h) ≡ Some sub → base q h < xmin_of (tick (if b then n else position q consumer h) (ticks q h)))
+    (p == q && bytes_eq consumer name)
+    (λ both _. let same : p ≡ q = grind (arith, nat_tests, both) in subst (λ x. base x h < xmin_of (tick n (ticks x h))) same (sits-at h l p i n low.0 most low.1))
+    (λ _ has. sits h l q consumer sub has) has
+sits _ (next {h = h} l (moves p name mine n i its least most low)) q consumer sub has =
+    by_test (λ b. base q h < xmin_of (tick (if b then n else position q consumer h) (ticks q h))) (p == q && bytes_eq consumer name)
+    (λ both. let same : p ≡ q = grind (arith, nat_tests, both) in subst (λ x. base x h < xmin_of (tick n (ticks x h))) same (sits-at h l p i n least most low))
+    (λ _. sits h l q consumer sub has)
+sits _ (next {h = h} l (unregisters p name gone i its)) q consumer sub has =
+    by_test (λ b. (if b then None else subscription_id q consumer h) ≡ Some sub → base q h < xmin_of (tick (if b then 0 else position q consumer h) (ticks q h)))
+    (p == q && bytes_eq consumer name) (λ _ none. absurd (cc)) (λ _ has. sits h l q consumer sub has) has
+sits _ (next {h = h} l (closes b e)) q consumer sub has =
+    let ih : Sits h q consumer = sits h l q consumer sub has in
+    let a : IsActive h b.id b = active_batches h l b.id b e in
+    by_test (λ x. base q h < xmin_of (tick (if x then b.cur else position q consumer h) (ticks q h))) (b.queue == q && bytes_eq consumer b.consumer)
+    (λ both.
+    let same : b.queue ≡ q = grind (arith, nat_tests, both) in
+    let at : position q consumer h ≡ b.prev = same_consumer (λ q c. position q c h) b.queue q b.consumer consumer both ∙ a.begins in
+    let there : is_some (tick b.cur (ticks q h)) ≡ true = subst (λ x. is_some (tick b.cur (ticks x h)) ≡ true) same (is_made-tick h b.queue b.cur ∙ a.closing) in
+    let later = climbs 0 0 (ticks q h) (position q consumer h) b.cur (climbing h l q).run (omega (arith, at, a.ends)) there in
+    omega (arith, ih, later)) (λ _. ih)
+sits _ (next {h = h} l (begins_switch p t may)) q consumer sub has =
+    let ih : Sits h q consumer = sits h l q consumer sub has in
+    by_same (λ b. bound (cut q h) (if b then with_pending t (tables q h) else tables q h).second_step (if b then with_pending t (tables q h) else tables q h).pending < xmin_of (tick (position q consumer h) (ticks q h)))
+    p q
+    (λ same.
+    let mine : MaySwitch h q t = subst (λ n. MaySwitch h n t) same may in
+    let kept = kept-position h l q (position q consumer h) mine.within ih in
+    subst (λ o. second_step_of (tables q h) < xmin_of o) kept
+    (free-position (queue_of h q) (tables q h).second_step consumer (record { id = sub; position = position q consumer h; active = active q consumer h }) mine.free
+    (among-consumers h q consumer ∙ ap is_some has)
+    (ap (option_map (λ n. record { id = n; position = position q consumer h; active = active q consumer h })) has)
+    (ap is_some kept ∙ above-is (base q h) (tick (position q consumer h) (ticks q h)) ih))) (λ _. ih)
+sits _ (next {h = h} l (makes_switch p t time i pends)) q consumer sub has =
+    let ih : Sits h q consumer = sits h l q consumer sub has in
+    by_same (λ b. bound (if b then second_step_of (tables q h) else cut q h) (if b then tables_of.switched time (tables q h) else tables q h).second_step
+    (if b then tables_of.switched time (tables q h) else tables q h).pending < xmin_of (tick (position q consumer h) (ticks q h))) p q
+    (λ same.
+    let pending : is_some (tables q h).pending ≡ true = ap is_some (subst (λ n. (tables n h).pending ≡ Some t) same pends) in
+    subst (λ b. (if b then unwrap_or (tables q h).second_step 0 else cut q h) < xmin_of (tick (position q consumer h) (ticks q h))) pending ih) (λ _. ih)
+sits _ (next {h = h} l (ends_switch p t may)) q consumer sub has =
+    let ih : Sits h q consumer = sits h l q consumer sub has in
+    by_same (λ b. bound (cut q h) (if b then with_second_step t (tables q h) else tables q h).second_step (if b then with_second_step t (tables q h) else tables q h).pending < xmin_of (tick (position q consumer h) (ticks q h)))
+    p q
+    (λ same.
+    let mine : MayEnd h q t = subst (λ n. MayEnd h n t) same may in
+    let c : IsCut h q = cuts h l q mine.within in
+    by_test (λ b. (if b then unwrap_or (tables q h).second_step 0 else cut q h) < xmin_of (tick (position q consumer h) (ticks q h)) → (if b then t else cut q h) < xmin_of (tick (position q consumer h) (ticks q h)))
+    (is_some (tables q h).pending) (λ pending _. absurd (cc (sym (c.awaits pending).0 ∙ ap is_some mine.missing))) (λ _ up. up) ih) (λ _. ih)
+sits _ (next {h = h} l (drops p none untold idle)) q consumer sub has =
+    by_same (λ b. bound (cut q h) (if b then no_tables else tables q h).second_step (if b then no_tables else tables q h).pending < xmin_of (tick (position q consumer h) (ticks q h))) p q
+    (λ same. absurd (cc (sym has ∙ ap (λ n. subscription_id n consumer h) (sym same) ∙ none consumer))) (λ _. sits h l q consumer sub has)
+sits _ (next {h = h} l _) q consumer sub has = sits h l q consumer sub has
+
+-- so it is kept, and at or above the least one at which a consumer may register
+pub position-kept : (h : History) → Legal h → (q : ℕ) (consumer : List ℕ) (sub : ℕ) → subscription_id q consumer h ≡ Some sub
+    → is_some (tick (position q consumer h) (kept_ticks q h)) ≡ true
+position-kept h l q consumer sub has =
+    let up : Sits h q consumer = sits h l q consumer sub has in
+    ap is_some (kept-position h l q (position q consumer h) (registered-stands h l q consumer sub has) up) ∙ above-is (base q h) (tick (position q consumer h) (ticks q h)) up
+
+pub position-above : (h : History) → Legal h → (q : ℕ) (consumer : List ℕ) (sub : ℕ) → subscription_id q consumer h ≡ Some sub
+    → floor (queue_of h q) ≤ position q consumer h
+position-above h l q consumer sub has =
+    let least = first-least 0 0 (base q h) (ticks q h) (position q consumer h) (climbing h l q).run (sits h l q consumer sub has) in
+    omega (arith, least, floor-first h l q (registered-stands h l q consumer sub has))
+
+-- a tick that is made is kept if it isn't below a consumer's position
+pub made-kept : (h : History) → Legal h → (q : ℕ) (consumer : List ℕ) (sub : ℕ) → subscription_id q consumer h ≡ Some sub → (id : ℕ) (t : Tick)
+    → tick id (ticks q h) ≡ Some t → position q consumer h ≤ id → tick id (kept_ticks q h) ≡ Some t
+made-kept h l q consumer sub has id t there from =
+    let up : Sits h q consumer = sits h l q consumer sub has in
+    let later = climbs 0 0 (ticks q h) (position q consumer h) id (climbing h l q).run from (ap is_some there) in
+    kept-position h l q id (registered-stands h l q consumer sub has) (omega (arith, up, later)) ∙ there
+
+-- the tick after a consumer's position is made if it is kept
+pub next-kept : (h : History) → Legal h → (q : ℕ) (consumer : List ℕ) (sub : ℕ) → subscription_id q consumer h ≡ Some sub → (t : Tick)
+    → tick (position q consumer h + 1) (kept_ticks q h) ≡ Some t → tick (position q consumer h + 1) (ticks q h) ≡ Some t
+next-kept h l q consumer sub has t = kept-made h l q (registered-stands h l q consumer sub has) (position q consumer h + 1) t
+
+-- and each kept tick is above the second step before the last switch
+pub kept-above : (h : History) → Legal h → (q : ℕ) → IsQueue h q → All (λ t. cut q h < t.snapshot.xmin) (kept_ticks q h)
+kept-above h l q is = subst (All (λ t. cut q h < t.snapshot.xmin)) (sym (cuts h l q is).kept) (of (ticks q h))
+  where
+    of : (ts : List Tick) → All (λ t. cut q h < t.snapshot.xmin) (filter (is_above (cut q h)) ts)
+    of [] = All-nil (λ t. cut q h < t.snapshot.xmin)
+    of (t ∷ ts) =
+        by_test (λ b. All (λ t. cut q h < t.snapshot.xmin) (if b then t ∷ filter (is_above (cut q h)) ts else filter (is_above (cut q h)) ts)) (is_above (cut q h) t)
+        (λ up. All-cons (λ t. cut q h < t.snapshot.xmin) t (filter (is_above (cut q h)) ts) (grind (arith, nat_tests, up)) (of ts)) (λ _. of ts)
