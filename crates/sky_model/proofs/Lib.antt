@@ -53,6 +53,7 @@ mod QueuesInUse
 pub mod TickOrder
 pub mod Climbing
 pub mod Rotation
+pub mod Tripled
 pub mod ActiveBatches
 pub mod FinishedBatches
 pub mod EventsOnce

@@ -153,7 +153,7 @@ newest-same {cut = cut} (t ∷ ts) left c = of (newest_tick (t ∷ ts)) refl
     of None is = none t ts is
     of (Some u) is = ap newest_tick c.kept ∙ newest-filter (is_above cut) (t ∷ ts) u is (let up : cut < u.snapshot.xmin = c.fresh u is in grind (arith, nat_tests, up))
 
-some-is : (o : Option ℕ) → is_some o ≡ true → o ≡ Some (unwrap_or o 0)
+pub some-is : (o : Option ℕ) → is_some o ≡ true → o ≡ Some (unwrap_or o 0)
 some-is None is = absurd (cc)
 some-is (Some n) is = refl
 
@@ -363,11 +363,11 @@ abbrev pub Sits : History → ℕ → List ℕ → Type 0
 Sits h q consumer = base q h < xmin_of (tick (position q consumer h) (ticks q h))
 
 -- a tick that is above a transaction is there
-above-is : (b : ℕ) (o : Option Tick) → b < xmin_of o → is_some o ≡ true
+pub above-is : (b : ℕ) (o : Option Tick) → b < xmin_of o → is_some o ≡ true
 above-is b None less = absurd (omega (arith, less))
 above-is b (Some t) less = refl
 
-some-tick : (o : Option Tick) → is_some o ≡ true → (P : Type 0) → ((t : Tick) → o ≡ Some t → P) → P
+pub some-tick : (o : Option Tick) → is_some o ≡ true → (P : Type 0) → ((t : Tick) → o ≡ Some t → P) → P
 some-tick None is P of = absurd (cc)
 some-tick (Some t) is P of = of t refl
 
