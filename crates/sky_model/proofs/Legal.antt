@@ -1,6 +1,6 @@
 -- Legal histories: each mark has evidence of why it may be there, so that a law about histories has one line for each kind of mark, and none for each
 -- statement.
-use Rattle.std.proofs.Common.{◌≡◌, ℕ, ◌+◌, ◌<◌, ◌≤◌, ◌==◌, ℤ, ◌≤ℤ◌, Bool, true, false, IfSome, All, Contains, List, [], ◌∷◌, Option, Some, None, is_some, length}
+use Rattle.std.proofs.Common.{◌≡◌, ℕ, ◌+◌, ◌<◌, ◌≤◌, ◌==◌, ℤ, ◌≤ℤ◌, Bool, true, false, IfSome, All, Contains, List, [], ◌∷◌, Option, Some, None, length}
 use Rattle.std.specs.List.{list_any}
 use Rattle.sky_val.specs.declared.event.Event.{Event}
 use Rattle.sky_val.specs.declared.val.Val.{Val}
@@ -100,7 +100,6 @@ pub record MaySwitch (h : History) (q t : ℕ) : Type 0 where
   pub runs : contains t (running h) ≡ true
   pub none : (tables q h).pending ≡ None
   pub free : held_by_second_step (queue_of h q) (tables q h).second_step ≡ None
-  pub ticked : is_some (newest_tick (ticks q h)) ≡ true
 
 -- the second step of a queue's last switch may be made by the newest transaction, which is a worker's
 pub record MayEnd (h : History) (q t : ℕ) : Type 0 where
@@ -134,7 +133,7 @@ pub data Fine (h : History) : Mark → Type 0 where
       → All (λ e. e.ev_id < event.ev_id) (events q h) → Fine h (queued (put q event))
   ticks_next : (q id : ℕ) (time : ℤ) (seq : ℕ) → IsQueue h q → id_of (newest_tick (ticks q h)) < id → id ≡ id_of (newest_tick (ticks q h)) + 1 → Fine h (queued (ticked q id time seq))
   registers : (q : ℕ) (name : List ℕ) (sub tick : ℕ) → IsQueue h q → subscription_id q name h ≡ None → last_subscription h < sub
-      → tick ≤ id_of (newest_tick (ticks q h)) → (1 ≤ tick) × (floor (queue_of h q) ≤ tick) → Fine h (queued (registered q name sub tick))
+      → tick ≤ id_of (newest_tick (ticks q h)) → floor (queue_of h q) ≤ tick → Fine h (queued (registered q name sub tick))
   moves : (q : ℕ) (name : List ℕ) (sub tick : ℕ) → IsQueue h q → subscription_id q name h ≡ Some sub → 1 ≤ tick
       → tick ≤ id_of (newest_tick (ticks q h)) → floor (queue_of h q) ≤ tick → Fine h (queued (moved q name tick))
   unregisters : (q : ℕ) (name : List ℕ) (sub : ℕ) → IsQueue h q → subscription_id q name h ≡ Some sub → Fine h (queued (unregistered q name sub))
