@@ -49,6 +49,9 @@ pub mod Promised
 pub mod Entering
 pub mod SnapshotLaws
 pub mod EventsBegun
+pub mod Commits
+pub mod Rotating
+pub mod Rotation
 mod QueuesInUse
 pub mod TickOrder
 pub mod ActiveBatches
