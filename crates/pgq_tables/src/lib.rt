@@ -1,2 +1,0 @@
-//! The event tables of a queue.
-#![tactic(auto)]
