@@ -1,0 +1,2 @@
+pub mod Orders
+mod Places
