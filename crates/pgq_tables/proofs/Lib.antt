@@ -1,2 +1,3 @@
 pub mod Orders
 mod Places
+mod Marking

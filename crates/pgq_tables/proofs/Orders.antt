@@ -1,5 +1,5 @@
 -- The order by transaction: how long it is, what stands in it, and how it rises.
-use Rattle.std.proofs.Common.{◌≡◌, ℕ, suc, zero, ◌+◌, ◌<◌, ◌≤◌, ◌⊎◌, inl, inr, ⊎_elim, Bool, true, false, cond, List, [], ◌∷◌, ◌++◌, length, Option, Some, None, refl, sym, subst, ◌∙◌, ap, arith}
+use Rattle.std.proofs.Common.{◌≡◌, ℕ, suc, zero, ◌+◌, ◌<◌, ◌≤◌, ◌⊎◌, inl, inr, ⊎_elim, Bool, true, false, cond, List, [], ◌∷◌, ◌++◌, map, length, Option, Some, None, refl, sym, subst, ◌∙◌, ap, arith}
 use Rattle.std.specs.Prelude.{nat_lt, slice_get, filter}
 use Rattle.std.specs.List.{AllByRecursion, insert}
 use Rattle.std.specs.List.Sorted.{IsPermutation}
@@ -36,7 +36,7 @@ length-onto sorted n (s ∷ ss) =
 pub length-by_txid : (list : List Stored) → length (by_txid list) ≡ length list
 length-by_txid list = let whole = length-onto [] 0 list in omega arith
 
-length-numbered : (n : ℕ) (list : List Stored) → length (numbered n list) ≡ length list
+pub length-numbered : (n : ℕ) (list : List Stored) → length (numbered n list) ≡ length list
 length-numbered n [] = refl
 length-numbered n (s ∷ ss) = let rest = length-numbered (n + 1) ss in omega arith
 
@@ -86,7 +86,7 @@ get-all P (y ∷ ys) all zero x found = let same : y ≡ x = cc found in subst P
 get-all P (y ∷ ys) all (suc j) x found = get-all P ys all.1 j x found
 
 -- each with its place
-get-numbered : (n : ℕ) (list : List Stored) (k : ℕ) (s : Stored) → slice_get list k ≡ Some s → slice_get (numbered n list) k ≡ Some (n + k, s)
+pub get-numbered : (n : ℕ) (list : List Stored) (k : ℕ) (s : Stored) → slice_get list k ≡ Some s → slice_get (numbered n list) k ≡ Some (n + k, s)
 get-numbered n [] k s found = absurd (cc found)
 get-numbered n (r ∷ rs) zero s found =
     let same : r ≡ s = cc found in
@@ -236,3 +236,121 @@ once-by_txid list i j x y found_x found_y same =
 
     never : (a b m n : ℕ) → a ≡ b → m ≡ n → (a < b) ⊎ ((a ≡ b) × (m < n)) → ⊥
     never a b m n txids places before = grind arith
+
+-- ---- sorted by place it is the events with their places again
+
+-- a placed event, in front of the first one of a higher place
+abbrev pub put_by_place : ℕ × Stored → List (ℕ × Stored) → List (ℕ × Stored)
+put_by_place x [] = x ∷ []
+put_by_place x (y ∷ ys) = cond (nat_lt x.0 y.0) (x ∷ y ∷ ys) (y ∷ put_by_place x ys)
+
+abbrev pub by_place : List (ℕ × Stored) → List (ℕ × Stored)
+by_place [] = []
+by_place (x ∷ xs) = put_by_place x (by_place xs)
+
+lt-true : (a b : ℕ) → a < b → nat_lt a b ≡ true
+lt-true a b less = grind arith
+
+lt-false : (a b : ℕ) → b < a → nat_lt a b ≡ false
+lt-false a b less = grind arith
+
+all-put_by_place : (P : ℕ × Stored → Type 0) (x : ℕ × Stored) (xs : List (ℕ × Stored)) → P x → AllByRecursion P xs → AllByRecursion P (put_by_place x xs)
+all-put_by_place P x [] here all = (here, tt)
+all-put_by_place P x (y ∷ ys) here all = elim (nat_lt x.0 y.0) as (λ t. AllByRecursion P (cond t (x ∷ y ∷ ys) (y ∷ put_by_place x ys))) [
+  | true ↦ (here, all)
+  | false ↦ (all.0, all-put_by_place P x ys here all.1)
+]
+
+all-by_place : (P : ℕ × Stored → Type 0) (xs : List (ℕ × Stored)) → AllByRecursion P xs → AllByRecursion P (by_place xs)
+all-by_place P [] all = tt
+all-by_place P (x ∷ xs) all = all-put_by_place P x (by_place xs) all.0 (all-by_place P xs all.1)
+
+all-filter : {X : Type 0} (P : X → Type 0) (p : X → Bool) (xs : List X) → AllByRecursion P xs → AllByRecursion P (filter p xs)
+all-filter P p [] all = tt
+all-filter P p (x ∷ xs) all = elim (p x) as (λ t. AllByRecursion P (cond t (x ∷ filter p xs) (filter p xs))) [
+  | true ↦ (all.0, all-filter P p xs all.1)
+  | false ↦ all-filter P p xs all.1
+]
+
+-- above all it is put at the end
+put_last : (x : ℕ × Stored) (xs : List (ℕ × Stored)) → AllByRecursion (λ y. y.0 < x.0) xs → put_by_place x xs ≡ xs ++ x ∷ []
+put_last x [] below = refl
+put_last x (y ∷ ys) below =
+    ap (λ t. cond t (x ∷ y ∷ ys) (y ∷ put_by_place x ys)) (lt-false x.0 y.0 below.0) ∙ ap (λ zs. y ∷ zs) (put_last x ys below.1)
+
+-- two of different places are put in either order
+put_both : (x y : ℕ × Stored) (zs : List (ℕ × Stored)) → y.0 < x.0 → put_by_place y (put_by_place x zs) ≡ put_by_place x (put_by_place y zs)
+put_both x y [] less =
+    ap (λ t. cond t (y ∷ x ∷ []) (x ∷ y ∷ [])) (lt-true y.0 x.0 less)
+    ∙ ap (λ t. cond t (x ∷ y ∷ []) (y ∷ x ∷ [])) (sym (lt-false x.0 y.0 less))
+put_both x y (z ∷ zs) less = elim (nat_lt x.0 z.0) as (λ t. nat_lt x.0 z.0 ≡ t → put_by_place y (cond t (x ∷ z ∷ zs) (z ∷ put_by_place x zs)) ≡ put_by_place x (put_by_place y (z ∷ zs))) [
+  | true ↦ λ x_first.
+      ap (λ t. cond t (y ∷ x ∷ z ∷ zs) (x ∷ put_by_place y (z ∷ zs))) (lt-true y.0 x.0 less)
+      ∙ ap (λ t. y ∷ cond t (x ∷ z ∷ zs) (z ∷ put_by_place x zs)) (sym x_first)
+      ∙ ap (λ t. cond t (x ∷ y ∷ z ∷ zs) (y ∷ put_by_place x (z ∷ zs))) (sym (lt-false x.0 y.0 less))
+      ∙ ap (λ t. put_by_place x (cond t (y ∷ z ∷ zs) (z ∷ put_by_place y zs))) (sym (first_too x.0 y.0 z.0 less x_first))
+  | false ↦ λ x_later. elim (nat_lt y.0 z.0) as (λ t. cond t (y ∷ z ∷ put_by_place x zs) (z ∷ put_by_place y (put_by_place x zs)) ≡ put_by_place x (cond t (y ∷ z ∷ zs) (z ∷ put_by_place y zs))) [
+    | true ↦
+        ap (λ t. y ∷ cond t (x ∷ z ∷ zs) (z ∷ put_by_place x zs)) (sym x_later)
+        ∙ ap (λ t. cond t (x ∷ y ∷ z ∷ zs) (y ∷ put_by_place x (z ∷ zs))) (sym (lt-false x.0 y.0 less))
+    | false ↦
+        ap (λ xs. z ∷ xs) (put_both x y zs less)
+        ∙ ap (λ t. cond t (x ∷ z ∷ put_by_place y zs) (z ∷ put_by_place x (put_by_place y zs))) (sym x_later)
+  ]
+] refl
+  where
+    first_too : (x y z : ℕ) → y < x → nat_lt x z ≡ true → nat_lt y z ≡ true
+    first_too x y z less first = grind arith
+
+kept-put : (p : ℕ × Stored → Bool) (x : ℕ × Stored) (xs : List (ℕ × Stored)) → AllByRecursion (λ y. y.0 < x.0) xs
+    → by_place (filter p (put_by_txid x xs)) ≡ cond (p x) (put_by_place x (by_place (filter p xs))) (by_place (filter p xs))
+kept-put p x [] below = elim (p x) as (λ t. by_place (cond t (x ∷ []) []) ≡ cond t (x ∷ []) []) [ true ↦ refl | false ↦ refl ]
+kept-put p x (y ∷ ys) below = elim (nat_lt (txid_of x) (txid_of y)) as (λ t. by_place (filter p (cond t (x ∷ y ∷ ys) (y ∷ put_by_txid x ys))) ≡ cond (p x) (put_by_place x (by_place (filter p (y ∷ ys)))) (by_place (filter p (y ∷ ys)))) [
+  | true ↦ elim (p x) as (λ t. by_place (cond t (x ∷ filter p (y ∷ ys)) (filter p (y ∷ ys))) ≡ cond t (put_by_place x (by_place (filter p (y ∷ ys)))) (by_place (filter p (y ∷ ys)))) [ true ↦ refl | false ↦ refl ]
+  | false ↦
+      let rest = kept-put p x ys below.1 in
+      elim (p y) as (λ t. by_place (cond t (y ∷ filter p (put_by_txid x ys)) (filter p (put_by_txid x ys))) ≡ cond (p x) (put_by_place x (by_place (cond t (y ∷ filter p ys) (filter p ys)))) (by_place (cond t (y ∷ filter p ys) (filter p ys)))) [
+        | true ↦ ap (put_by_place y) rest ∙ elim (p x) as (λ t. put_by_place y (cond t (put_by_place x (by_place (filter p ys))) (by_place (filter p ys))) ≡ cond t (put_by_place x (put_by_place y (by_place (filter p ys)))) (put_by_place y (by_place (filter p ys)))) [
+          | true ↦ put_both x y (by_place (filter p ys)) below.0
+          | false ↦ refl
+        ]
+        | false ↦ rest
+      ]
+]
+
+kept-onto : (p : ℕ × Stored → Bool) (sorted : List (ℕ × Stored)) (n : ℕ) (list : List Stored) → AllByRecursion (λ y. y.0 < n) sorted
+    → by_place (filter p (by_txid_onto sorted n list)) ≡ by_place (filter p sorted) ++ filter p (numbered n list)
+kept-onto p sorted n [] below = sym (append-nil (by_place (filter p sorted)))
+kept-onto p sorted n (s ∷ ss) below =
+    let before : List (ℕ × Stored) = by_place (filter p sorted) in
+    kept-onto p (put_by_txid (n, s) sorted) (n + 1) ss (all-put (λ y. y.0 < n + 1) (n, s) sorted (next n) (all-weaker (λ y. y.0 < n) (λ y. y.0 < n + 1) (λ y less. more y.0 n less) sorted below))
+    ∙ ap (λ xs. xs ++ filter p (numbered (n + 1) ss)) (kept-put p (n, s) sorted below)
+    ∙ elim (p (n, s)) as (λ t. cond t (put_by_place (n, s) before) before ++ filter p (numbered (n + 1) ss) ≡ before ++ cond t ((n, s) ∷ filter p (numbered (n + 1) ss)) (filter p (numbered (n + 1) ss))) [
+      | true ↦
+          ap (λ xs. xs ++ filter p (numbered (n + 1) ss)) (put_last (n, s) before (all-by_place (λ y. y.0 < n) (filter p sorted) (all-filter (λ y. y.0 < n) p sorted below)))
+          ∙ append_assoc before ((n, s) ∷ []) (filter p (numbered (n + 1) ss))
+      | false ↦ refl
+    ]
+  where
+    next : (n : ℕ) → n < n + 1
+    next n = omega arith
+
+    more : (m n : ℕ) → m < n → m < n + 1
+    more m n less = omega arith
+
+-- those that pass, sorted by place, are those of the events with their places that pass
+pub kept-by_txid : (p : ℕ × Stored → Bool) (list : List Stored) → by_place (filter p (by_txid list)) ≡ filter p (numbered 0 list)
+kept-by_txid p list = kept-onto p [] 0 list tt
+
+-- and so are all
+pub back-by_txid : (list : List Stored) → by_place (by_txid list) ≡ numbered 0 list
+back-by_txid list = ap by_place (sym (whole (by_txid list))) ∙ kept-by_txid (λ _. true) list ∙ whole (numbered 0 list)
+  where
+    whole : (xs : List (ℕ × Stored)) → filter (λ _. true) xs ≡ xs
+    whole [] = refl
+    whole (x ∷ xs) = ap (λ ys. x ∷ ys) (whole xs)
+
+-- without their places they are the events
+pub stored-numbered : (n : ℕ) (list : List Stored) → map (λ x. x.1) (numbered n list) ≡ list
+stored-numbered n [] = refl
+stored-numbered n (s ∷ ss) = ap (λ rest. s ∷ rest) (stored-numbered (n + 1) ss)

@@ -164,6 +164,11 @@ taken_back whole events places s count is whole_is counts =
       left_is = ap (remove places) at_is ∙ ap (λ ps. remove ps one.at) last ∙ one.left_is;
     }
 
+-- the same, of the places as they are lent and the transaction as it is told
+pub taken_off : (whole events : List Stored) (places lent : List Placed) (s : Stored) (t count : ℕ) → places ≡ places_of whole → whole ≡ events ++ s ∷ [] → lent ≡ places → t ≡ s.event.ev_txid → Counts t lent count → IsTakenBack events places count
+taken_off whole events places lent s t count is whole_is lent_is txid_is counts =
+    taken_back whole events places s count is whole_is (subst (λ t. Counts t places count) txid_is (subst (λ ps. Counts t ps count) lent_is counts))
+
 -- ---- whether there is an event of a transaction
 
 pub any-found : {X : Type 0} (p : X → Bool) (xs : List X) (i : ℕ) (x : X) → slice_get xs i ≡ Some x → p x ≡ true → list_any p xs ≡ true
