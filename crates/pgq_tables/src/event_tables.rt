@@ -217,18 +217,23 @@ impl EventTables {
     pub fn first_writer(&self, txids: &[u64]) -> Option<u64>
         ensures { result ≡ find (λ t. list_any (λ s. s.event.ev_txid == t) (by_age self.now.tables)) txids.now }
     {
-        for txid in txids {
-            if self.has_writer(*txid) {
-                return Some(*txid);
-            }
-        }
-        None
+        txids
+            .iter()
+            .copied()
+            .find(|txid| self.has_writer(*txid))
     }
 
     /// Whether a transaction has an event in some table.
     fn has_writer(&self, txid: u64) -> bool
         ensures { result ≡ list_any (λ s. s.event.ev_txid == txid) (by_age self.now.tables) }
     {
-        self.tables.iter().any(|table| table.has(txid))
+        any_has(&self.tables, txid)
     }
+}
+
+/// Whether a transaction has an event in some of these tables.
+fn any_has(tables: &[Table], txid: u64) -> bool
+    ensures { result ≡ list_any (λ events. list_any (λ s. s.event.ev_txid == txid) events) tables.now }
+{
+    tables.iter().any(|table| table.has(txid))
 }
