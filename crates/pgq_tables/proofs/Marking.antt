@@ -1,5 +1,5 @@
 -- Marking the events of a transaction dead, one after another by their places.
-use Rattle.std.proofs.Common.{◌≡◌, ℕ, suc, zero, ◌+◌, ◌<◌, ◌≤◌, ◌⊎◌, inl, inr, ⊎_elim, Bool, true, false, cond, List, [], ◌∷◌, map, length, get_or, set, Option, Some, None, refl, sym, subst, ◌∙◌, ap, arith}
+use Rattle.std.proofs.Common.{◌≡◌, ℕ, suc, zero, ◌+◌, ◌<◌, ◌≤◌, ◌⊎◌, inl, inr, ⊎_elim, true, false, cond, List, [], ◌∷◌, map, length, get_or, set, Some, refl, sym, subst, ◌∙◌, ap, arith}
 use Rattle.std.specs.Prelude.{nat_lt, slice_get, option_map, ◌==◌, ◌||◌}
 use Rattle.std.proofs.lemmas.List.{length-map, map-set, set-get_or, get_or_read}
 use Rattle.std.proofs.lemmas.Bool.{eqb-true, eq-eqb}
@@ -21,9 +21,9 @@ module _ (t : ℕ) where
   map-put x [] = refl
   map-put x (y ∷ ys) = elim (nat_lt (txid_of x) (txid_of y)) as (λ b.
       map marked_at (cond b (x ∷ y ∷ ys) (y ∷ put_by_txid x ys)) ≡ cond b (marked_at x ∷ marked_at y ∷ map marked_at ys) (marked_at y ∷ put_by_txid (marked_at x) (map marked_at ys))) [
-    | true ↦ refl
-    | false ↦ ap (λ xs. marked_at y ∷ xs) (map-put x ys)
-  ]
+        | true ↦ refl
+        | false ↦ ap (λ xs. marked_at y ∷ xs) (map-put x ys)
+      ]
 
   map-onto : (sorted : List (ℕ × Stored)) (n : ℕ) (list : List Stored) → map marked_at (by_txid_onto sorted n list) ≡ by_txid_onto (map marked_at sorted) n (map (marked_dead t) list)
   map-onto sorted n [] = refl
@@ -81,15 +81,15 @@ module _ (t : ℕ) where
   marking_begun old places first is below = record {
     alike = refl;
     done = λ j x s less found here.
-      let inside = slice_get_within (by_txid old) j x found in
-      let long = length-by_txid old in
-      let same = same_length old places is in
-      let one = entry_at old places j is (omega arith) in
-      let entry_is : one.entry ≡ x = cc (sym one.found ∙ found) in
-      let own : s ≡ x.1 = cc (sym here ∙ there-by_txid old j x found) in
-      let low = below j less in
-      let txid : txid_at places j ≡ s.event.ev_txid = txid_entry old places j one ∙ ap txid_of entry_is ∙ ap (λ (s : Stored). s.event.ev_txid) (sym own) in
-      other_stays s (is_other s.event.ev_txid (λ same. omega arith));
+        let inside = slice_get_within (by_txid old) j x found in
+        let long = length-by_txid old in
+        let same = same_length old places is in
+        let one = entry_at old places j is (omega arith) in
+        let entry_is : one.entry ≡ x = cc (sym one.found ∙ found) in
+        let own : s ≡ x.1 = cc (sym here ∙ there-by_txid old j x found) in
+        let low = below j less in
+        let txid : txid_at places j ≡ s.event.ev_txid = txid_entry old places j one ∙ ap txid_of entry_is ∙ ap (λ (s : Stored). s.event.ev_txid) (sym own) in
+        other_stays s (is_other s.event.ev_txid (λ same. omega arith));
   }
 
 -- ---- an element that is set
@@ -140,21 +140,21 @@ module _ (t : ℕ) (old now : List Stored) (places : List Placed) (index : ℕ) 
       let marked_here : slice_get (map (marked_dead t) now) place ≡ Some (marked_dead t s) = slice_get-map (marked_dead t) now place ∙ ap (option_map (marked_dead t)) here in
       record {
         alike =
-          map-set (marked_dead t) now place dead
+            map-set (marked_dead t) now place dead
             ∙ ap (set (map (marked_dead t) now) place) (stays ∙ sym (own_dies t s own) ∙ sym (get_or_from_slice_get (map (marked_dead t) now) place (marked_dead t s) s marked_here))
             ∙ set-get_or (map (marked_dead t) now) place s
             ∙ marking.alike;
         done = λ j x r less found found_now. ⊎_elim
-          (λ same.
+            (λ same.
             let is_dead : r ≡ dead = set-same now place dead r (subst (λ k. slice_get (set now place dead) k ≡ Some r) same found_now) in
             subst (λ s. marked_dead t s ≡ s) (sym is_dead) stays)
-          (λ other.
+            (λ other.
             let before : slice_get now x.0 ≡ Some r = sym (set-other now place x.0 dead other) ∙ found_now in
             let not_last : j ≡ index → ⊥ = λ same.
-              let entry_is : x ≡ entry.entry = cc (sym found ∙ ap (slice_get (by_txid old)) same ∙ entry.found) in
-              other (ap (λ (x : ℕ × Stored). x.0) entry_is ∙ sym place_is) in
+            let entry_is : x ≡ entry.entry = cc (sym found ∙ ap (slice_get (by_txid old)) same ∙ entry.found) in
+            other (ap (λ (x : ℕ × Stored). x.0) entry_is ∙ sym place_is) in
             marking.done j x r (earlier j index less not_last) found before)
-          (same_place x.0 place);
+            (same_place x.0 place);
       }
     where
       earlier : (j index : ℕ) → j < index + 1 → (j ≡ index → ⊥) → j < index

@@ -1,10 +1,10 @@
 -- Places in order of transactions: that they are, and what they are with one event more or less.
-use Rattle.std.proofs.Common.{◌≡◌, ℕ, suc, zero, ◌+◌, ◌-◌, ◌<◌, ◌≤◌, Bool, true, false, cond, List, [], ◌∷◌, ◌++◌, map, length, get_or, eqb, Option, Some, None, refl, sym, subst, ◌∙◌, ap, arith}
+use Rattle.std.proofs.Common.{◌≡◌, ℕ, suc, zero, ◌+◌, ◌-◌, ◌<◌, ◌≤◌, Bool, true, false, cond, List, [], ◌∷◌, ◌++◌, map, length, get_or, Some, refl, sym, subst, ◌∙◌, ap, arith}
 use Rattle.std.specs.Prelude.{nat_lt, slice_get, ◌==◌, ◌||◌}
 use Rattle.std.specs.List.{insert, remove, list_any}
 use Rattle.std.proofs.lemmas.List.{length-map}
 use Rattle.std.proofs.lemmas.Bool.{eqb-true, eq-eqb}
-use Rattle.std.proofs.lemmas.Option.{slice_get-get_or, slice_get_within, slice_get-map, get_or_from_slice_get}
+use Rattle.std.proofs.lemmas.Option.{slice_get_within}
 use Rattle.pgq_tables.specs.declared.index.Placed.{Placed}
 use Rattle.pgq_tables.specs.Tables.{Stored}
 use Rattle.pgq_tables.specs.Order.{put_by_txid, by_txid_onto, by_txid}
@@ -145,9 +145,9 @@ taken-put x [] (suc zero) counts = record { at = 0; count_is = refl; left_is = r
 taken-put x [] (suc (suc count)) counts = let within = counts.0 in absurd (omega arith)
 taken-put x (y ∷ ys) count counts = elim (nat_lt (txid_of x) (txid_of y)) as (λ t.
     nat_lt (txid_of x) (txid_of y) ≡ t → Counts (txid_of x) (map placed (cond t (x ∷ y ∷ ys) (y ∷ put_by_txid x ys))) count → IsTaken x (y ∷ ys) count) [
-  | true ↦ λ less. taken_first x y ys less count
-  | false ↦ λ other. taken_later x y ys other (λ count. taken-put x ys count) count
-] refl counts
+      | true ↦ λ less. taken_first x y ys less count
+      | false ↦ λ other. taken_later x y ys other (λ count. taken-put x ys count) count
+    ] refl counts
 
 -- of the events the last one is taken back, with its place
 pub record IsTakenBack (events : List Stored) (places : List Placed) (count : ℕ) : Type 0 where

@@ -1,7 +1,7 @@
 -- What a table keeps beside its events, so that those of a transaction are found.
 use Rattle.std.specs.Prelude.{◌≡◌, ℕ, ◌<◌, ◌≤◌, List, map, length, slice_index_or}
 use Rattle.pgq_tables.specs.declared.index.Placed.{Placed}
-use Rattle.pgq_tables.specs.Tables.{Stored, Tables}
+use Rattle.pgq_tables.specs.Tables.{Stored}
 use Rattle.pgq_tables.specs.Order.{by_txid}
 
 -- the place of an event, with its transaction

@@ -56,9 +56,9 @@ impl EventTables {
         ensures { IfOk result (λ t. t ≡ record { tables = new_tables made now; reads = 0 }) }
     {
         let mut empty = Vec::with_capacity(alloc, tables)?;
-        empty.push(Table::new(alloc))?;
-        empty.push(Table::new(alloc))?;
-        empty.push(Table::new(alloc))?;
+        for _ in 0..tables {
+            empty.push(Table::new(alloc))?;
+        }
         Ok(EventTables {
             alloc,
             tables: empty,
@@ -217,10 +217,7 @@ impl EventTables {
     pub fn first_writer(&self, txids: &[u64]) -> Option<u64>
         ensures { result ≡ find (λ t. list_any (λ s. s.event.ev_txid == t) (by_age self.now.tables)) txids.now }
     {
-        txids
-            .iter()
-            .copied()
-            .find(|txid| self.has_writer(*txid))
+        txids.iter().copied().find(|txid| self.has_writer(*txid))
     }
 
     /// Whether a transaction has an event in some table.

@@ -35,19 +35,22 @@ impl Model for Stored {
 
     ghost use Rattle.std.specs.Prelude.{option_and_then};
 
-    ghost view = { λ s. record { event = record {
-      ev_id = s.ev_id;
-      ev_time = s.ev_time;
-      ev_txid = s.ev_txid;
-      ev_owner = option_and_then (λ rest. rest.value.ev_owner) s.rest;
-      ev_retry = option_and_then (λ rest. rest.value.ev_retry) s.rest;
-      ev_type = s.ev_type;
-      ev_data = s.ev_data;
-      ev_extra1 = option_and_then (λ rest. rest.value.ev_extra1) s.rest;
-      ev_extra2 = option_and_then (λ rest. rest.value.ev_extra2) s.rest;
-      ev_extra3 = option_and_then (λ rest. rest.value.ev_extra3) s.rest;
-      ev_extra4 = option_and_then (λ rest. rest.value.ev_extra4) s.rest;
-    }; dead = s.dead } };
+    ghost view = { λ s. record {
+      event = record {
+        ev_id = s.ev_id;
+        ev_time = s.ev_time;
+        ev_txid = s.ev_txid;
+        ev_owner = option_and_then (λ rest. rest.value.ev_owner) s.rest;
+        ev_retry = option_and_then (λ rest. rest.value.ev_retry) s.rest;
+        ev_type = s.ev_type;
+        ev_data = s.ev_data;
+        ev_extra1 = option_and_then (λ rest. rest.value.ev_extra1) s.rest;
+        ev_extra2 = option_and_then (λ rest. rest.value.ev_extra2) s.rest;
+        ev_extra3 = option_and_then (λ rest. rest.value.ev_extra3) s.rest;
+        ev_extra4 = option_and_then (λ rest. rest.value.ev_extra4) s.rest;
+      };
+      dead = s.dead;
+    } };
 }
 
 impl Rest {

@@ -1,9 +1,8 @@
-use Rattle.std.proofs.Common.{◌≡◌, ◌<◌, ◌∙◌, Some, ap, sym, subst, length, get_or, arith}
+use Rattle.std.proofs.Common.{◌≡◌, ◌∙◌, Some, ap, sym, length, get_or, arith}
 use Rattle.std.specs.Prelude.{slice_get}
 use Rattle.std.proofs.lemmas.List.{get_or_read}
 use Rattle.std.proofs.lemmas.Option.{slice_get_within, get_or_from_slice_get}
 use Rattle.pgq_tables.specs.Kept.{no_place}
-use Rattle.pgq_tables.specs.Tables.{Stored}
 use Rattle.pgq_tables.specs.Order.{by_txid}
 use Rattle.pgq_tables.specs.declared.index.Placed.{Placed}
 use Rattle.pgq_tables.proofs.Places.{entry_at, same_length}

@@ -1,8 +1,6 @@
-use Rattle.std.proofs.Common.{◌≡◌, ℕ, ◌<◌, ◌≤◌, ◌∙◌, List, map, length, get_or, ap, sym, subst, refl, arith}
-use Rattle.std.proofs.lemmas.List.{get_or_read}
-use Rattle.pgq_tables.specs.declared.index.Placed.{Placed}
-use Rattle.pgq_tables.specs.Tables.{Stored, marked_dead}
-use Rattle.pgq_tables.specs.Kept.{AreInOrder, txid_at, no_place, places_of}
+use Rattle.std.proofs.Common.{ℕ, ◌<◌, ◌≤◌, ◌∙◌, map, length, ap, sym, subst, refl, arith}
+use Rattle.pgq_tables.specs.Tables.{marked_dead}
+use Rattle.pgq_tables.specs.Kept.{AreInOrder, txid_at, places_of}
 use Rattle.pgq_tables.proofs.Places.{in_order}
 use Rattle.pgq_tables.proofs.Marking.{marking_begun, marked_all, read_within, marked_read, marked_to, places-marked}
 use Rattle.pgq_tables.proofs.table.Table.mark_dead.Goals as goal
@@ -37,8 +35,8 @@ index_mut-requires c =
 pub loop-index-preserved : goal.loop-index-preserved
 loop-index-preserved c = (
   marked_read c.args.txid c.self.inside.events.items c.loop-index.self-inside.events.items c.self.inside.places.items c.loop-index.self-inside.places.items c.loop-index.index c.index-placed.result.now
-    c.self.invariant c.loop-index.invariant.0 (omega (arith, c.loop-index-test.true, c.len-index-end.ensures)) (ap (λ v. v.items) c.loop-index.invariant.1) c.index-placed.ensures
-    c.index_mut.result.now c.mark_dead.new.self c.index_mut.ensures.value c.mark_dead.ensures c.if-placed-txid.false,
+      c.self.invariant c.loop-index.invariant.0 (omega (arith, c.loop-index-test.true, c.len-index-end.ensures)) (ap (λ v. v.items) c.loop-index.invariant.1) c.index-placed.ensures
+      c.index_mut.result.now c.mark_dead.new.self c.index_mut.ensures.value c.mark_dead.ensures c.if-placed-txid.false,
   c.loop-index.invariant.1,
 )
 

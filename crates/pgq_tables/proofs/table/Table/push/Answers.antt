@@ -1,8 +1,7 @@
-use Rattle.std.proofs.Common.{◌≡◌, ◌<◌, ◌-◌, ◌==◌, ◌∙◌, ap, sym, subst, length, get_or, arith, ◌++◌, ◌∷◌, []}
+use Rattle.std.proofs.Common.{◌≡◌, ◌∙◌, ap, sym, subst, length, arith, ◌++◌, ◌∷◌, []}
 use Rattle.std.specs.List.{insert}
 use Rattle.pgq_tables.specs.Tables.{Stored}
-use Rattle.pgq_tables.specs.Kept.{placed, places_of, AreInOrder}
-use Rattle.pgq_tables.specs.declared.index.Placed.{Placed}
+use Rattle.pgq_tables.specs.Kept.{places_of, AreInOrder}
 use Rattle.pgq_tables.proofs.Places.{in_order, Counts, pushed}
 use Rattle.pgq_tables.proofs.table.Table.push.Goals as goal
 

@@ -1,4 +1,4 @@
-use Rattle.std.proofs.Common.{◌-◌, ◌∙◌, ap, sym, subst, arith}
+use Rattle.std.proofs.Common.{◌∙◌, sym, subst, arith}
 use Rattle.pgq_tables.specs.Kept.{AreInOrder}
 use Rattle.pgq_tables.proofs.Places.{in_order, taken_off}
 use Rattle.pgq_tables.proofs.table.Table.take_back.Goals as goal
