@@ -76,33 +76,20 @@ good_create_queue : (h : History) → Legal h → (now : ℤ) (who : ℕ) (name 
 good_create_queue h l now who name =
     by_place (queue_number name (queues h)) refl
   where
-    count : ℕ
-    count = queues_made h
-
-    ticks_first : (g : History) → queues g ≡ queues h ++ record { number = count; name = name } ∷ [] → ticks count g ≡ [] → Chain g (queued (ticked count 1 now 0) ∷ [])
-    ticks_first g names none =
-        more (ticks_next count 1 now 0
-        (subst (IsAmong count) (sym names) (among-last (queues h) (record { number = count; name = name })))
-        (subst (λ ts. id_of (newest_tick ts) < 1) (sym none) (omega arith)) (subst (λ ts. 1 ≡ id_of (newest_tick ts) + 1) (sym none) refl)) done
-
-    body : (g : History) (t : ℕ) (b : Block) → queue_number name (queues h) ≡ None → own_txid who g ≡ Some t → queues g ≡ queues h → queues_made g ≡ count → ticks count g ≡ []
-        → Chain g (queued (made name t now) ∷ commit_of who t b ++ queued (ticked count 1 now 0) ∷ [])
-    body g t outside new mine names many none = more (makes name t now (ap (queue_number name) names ∙ new)) (more (ends who t true mine) (ticks_first (ended (of_session who) t true ∷ queued (made name t now) ∷ g) (λ i. names i ++ record { number = many i; name = name } ∷ []) none))
-    body g t _ new mine names many none = more (makes name t now (ap (queue_number name) names ∙ new)) (ticks_first (queued (made name t now) ∷ g) (λ i. names i ++ record { number = many i; name = name } ∷ []) none)
-
-    none_yet : ticks count h ≡ []
-    none_yet = ticks_beyond h l count (omega arith)
+    body : (g : History) (t : ℕ) (b : Block) → own_txid who g ≡ Some t → queue_number name (queues g) ≡ None → Chain g (commit_of who t b ++ queued (made name t now) ∷ [])
+    body g t outside mine new = more (ends who t true mine) (more (makes name t now new) done)
+    body g t _ mine new = more (makes name t now new) done
 
     by_own : (o : Option ℕ) → own_txid who h ≡ o → queue_number name (queues h) ≡ None → Good h who (own_or_next (part_of h) o >>= (λ t.
-        does_marks (Number 1) ((begin_of who t o ++ (queued (made name t now) ∷ []) ++ commit_of who t (block who h)) ++ queued (ticked count 1 now 0) ∷ [])))
+        does_marks (Number 1) ((begin_of who t o ++ [] ++ commit_of who t (block who h)) ++ queued (made name t now) ∷ [])))
     by_own None none new =
         good_test_then h who (nat_le (2 ^ 62) (next_txid h)) TxidsSpent (next_txid h) _
-        (more (begins who none) (body (began (of_session who) (next_txid h) ∷ h) (next_txid h) (block who h) new (ap (λ b. if b then Some (next_txid h) else own_txid who h) (same-session who)) refl refl none_yet))
-    by_own (Some t) mine new = body h t (block who h) new mine refl refl none_yet
+        (more (begins who none) (body (began (of_session who) (next_txid h) ∷ h) (next_txid h) (block who h) (ap (λ b. if b then Some (next_txid h) else own_txid who h) (same-session who)) new))
+    by_own (Some t) mine new = body h t (block who h) mine new
 
     by_place : (o : Option ℕ) → queue_number name (queues h) ≡ o → Good h who (if is_some o then answers (Number 0) else (
         refused_if (nat_le 64 (length (queues h))) (TooMany Queues) >> (own_or_next (part_of h) (own_txid who h) >>= (λ t.
-        does_marks (Number 1) (written who t (session h who) (queued (made name t now) ∷ []) ++ queued (ticked count 1 now 0) ∷ [])))))
+        does_marks (Number 1) (written who t (session h who) [] ++ queued (made name t now) ∷ [])))))
     by_place (Some n) is = done
     by_place None is = good_test h who (nat_le 64 (length (queues h))) (TooMany Queues) _ (λ _. by_own (own_txid who h) refl is)
 

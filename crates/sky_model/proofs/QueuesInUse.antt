@@ -9,7 +9,7 @@ use Rattle.sky_txid.specs.Ids.{contains}
 use Rattle.sky_model.specs.History.{began, ended, queued, dropped, History}
 use Rattle.sky_model.specs.Transactions.{next_txid, running, snapshot}
 use Rattle.sky_model.specs.Config.{default_config}
-use Rattle.sky_model.specs.Queues.{NamedQueue, queues_made, queues, others_than, config, sequence, events, tables, without_transaction, kept_ticks, ticks_above, second_step_of}
+use Rattle.sky_model.specs.Queues.{new_tick, NamedQueue, queues_made, queues, others_than, config, sequence, events, tables, without_transaction, kept_ticks, ticks_above, second_step_of}
 use Rattle.sky_model.specs.Consumers.{all_but, consumers, subscription_id, position, active}
 use Rattle.sky_model.specs.Retries.{brought_by}
 use Rattle.sky_model.specs.LawsOfQueues.{QueuesOfConsumersStand, QueuesOfTriggersStand, BusyQueuesStand, OtherQueuesKeepNothing, NewQueuesAreOthers}
@@ -117,7 +117,7 @@ bare (ended whose t false ∷ h) (next l fine) q away =
 bare _ (next {h = h} l (makes name t time new)) q away =
     let b : IsBare h q = bare h l q (away-before (queues h) (record { number = queues_made h; name = name }) q away) in
     let other : (queues_made h == q) ≡ false = away-last (queues h) (record { number = queues_made h; name = name }) q away in
-    record { unset = b.unset; no_id = b.no_id; no_event = ap (λ c. if c then new_tables t time else tables q h) other ∙ b.no_event; no_tick = b.no_tick; no_consumer = b.no_consumer }
+    record { unset = b.unset; no_id = b.no_id; no_event = ap (λ c. if c then new_tables t time else tables q h) other ∙ b.no_event; no_tick = ap (λ c. if c then kept_ticks q h ++ new_tick time h ∷ [] else kept_ticks q h) other ∙ b.no_tick; no_consumer = b.no_consumer }
 bare _ (next {h = h} l (begins_switch p t may)) q away =
     let b : IsBare h q = bare h l q away in
     record { unset = b.unset; no_id = b.no_id; no_event = ap (λ c. if c then with_pending t (tables q h) else tables q h) (apart (queues h) p q may.within away) ∙ b.no_event; no_tick = b.no_tick; no_consumer = b.no_consumer }

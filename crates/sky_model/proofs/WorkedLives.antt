@@ -42,7 +42,7 @@ of_w id prev cur = record { id = id; queue = 0; consumer = w; sub = 2; prev = pr
 abbrev ticks_made : History
 ticks_made =
     queued (ticked 0 4 (pos 0) 1) ∷ queued (ticked 0 3 (pos 0) 1) ∷ ended (of_session 0) 3 true ∷ queued (put 0 event) ∷ queued (raised 0 1) ∷ began (of_session 0) 3
-    ∷ queued (ticked 0 2 (pos 0) 0) ∷ queued (ticked 0 1 (pos 0) 0) ∷ queued (made (codes "q") 2 (pos 0)) ∷ []
+    ∷ queued (ticked 0 2 (pos 0) 0) ∷ queued (made (codes "q") 2 (pos 0)) ∷ []
 
 -- the first consumer has a batch, and so has the second, which has finished one before
 abbrev both_have : History
@@ -138,7 +138,7 @@ elsewhere = (refl, refl)
 
 ticks_legal : Legal ticks_made
 ticks_legal =
-    next (next (next (next (next (next (next (next (next start (makes (codes "q") 2 (pos 0) refl)) (ticks_next 0 1 (pos 0) 0 refl (omega arith) refl)) (ticks_next 0 2 (pos 0) 0 refl (omega arith) refl))
+    next (next (next (next (next (next (next (next start (makes (codes "q") 2 (pos 0) refl)) (ticks_next 0 2 (pos 0) 0 refl (omega arith) refl))
     (begins 0 refl)) (raises 0 1 refl (omega arith))) (puts 0 0 event refl refl refl (All-nil (λ (e : Event). e.ev_id < 1)))) (ends 0 3 true refl)) (ticks_next 0 3 (pos 0) 1 refl (omega arith) refl)) (ticks_next 0 4 (pos 0) 1 refl (omega arith) refl)
 
 -- a batch of the second consumer is made, and finished
