@@ -3,3 +3,4 @@ pub mod ById
 pub mod Listed
 pub mod Order
 pub mod Views
+pub mod Kept

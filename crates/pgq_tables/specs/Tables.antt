@@ -1,5 +1,5 @@
 -- The event tables of a queue: which events are stored, in which table, and how far their rotation is.
-use Rattle.std.specs.Prelude.{ℕ, ◌+◌, ◌%◌, ◌==◌, ◌||◌, ℤ, pos, Bool, true, false, List, [], ◌∷◌, ◌++◌, map, flat_map, length, drop, take, slice_index_or, slice_set, Option, Some, None, unwrap_or, if◌then◌else◌}
+use Rattle.std.specs.Prelude.{ℕ, ◌+◌, ◌%◌, ◌==◌, ◌||◌, ℤ, pos, Bool, false, List, [], ◌∷◌, ◌++◌, map, flat_map, length, drop, take, slice_index_or, slice_set, Option, Some, None, unwrap_or}
 use Rattle.sky_val.specs.declared.event.Event.{Event}
 
 -- an event as it is stored: it is dead once its transaction was rolled back

@@ -4,9 +4,9 @@ use Rattle.std.proofs.lemmas.Bool.{and_parts, or_right}
 use Rattle.std.proofs.lemmas.Bool.Decides.{nat_tests}
 use Rattle.sky_names.proofs.PlaceLemmas.{bytes_eq_refl, same_name}
 use Rattle.sky_model.specs.History.{Batch, History}
-use Rattle.sky_model.specs.Queues.{Tick, tick, ticks}
+use Rattle.sky_model.specs.Queues.{queues_made, Tick, tick, ticks}
 use Rattle.sky_model.specs.Consumers.{subscription_id, position, active, Subscription, of_another, active_batch}
-use Rattle.sky_model.proofs.Legal.{Opens, ticks_next, registers, moves, unregisters, opens, closes, Legal, start, next}
+use Rattle.sky_model.proofs.Legal.{Opens, makes, ticks_next, registers, moves, unregisters, opens, closes, Legal, start, next}
 use Rattle.sky_model.proofs.TickOrder.{is_made, is_made-tick}
 use Rattle.sky_model.proofs.Cases.{by_test, by_same}
 
@@ -76,6 +76,9 @@ new_batch h b o =
 
 pub active_batches : (h : History) → Legal h → (id : ℕ) (b : Batch) → active_batch id h ≡ Some b → IsActive h id b
 active_batches [] start id b is = absurd (cc)
+active_batches _ (next {h = h} l (makes name t time new)) id b is =
+    let a : IsActive h id b = active_batches h l id b is in
+    record { named = a.named; owned = a.owned; alone = a.alone; begins = a.begins; ends = a.ends; closing = or_right (queues_made h == b.queue && 1 == b.cur) (is_made b.queue b.cur h) a.closing }
 active_batches _ (next {h = h} l (ticks_next p m time seq i e c)) id b is =
     let a : IsActive h id b = active_batches h l id b is in
     record { named = a.named; owned = a.owned; alone = a.alone; begins = a.begins; ends = a.ends; closing = or_right (p == b.queue && m == b.cur) (is_made b.queue b.cur h) a.closing }

@@ -5,9 +5,10 @@ use Rattle.std.proofs.lemmas.List.Elements.{All-nil, All-cons, All-head, All-tai
 use Rattle.sky_txid.specs.Ids.{contains, first_or}
 use Rattle.sky_model.specs.History.{Whose, began, ended, queued, ticked, History}
 use Rattle.sky_model.specs.Transactions.{next_txid, running, snapshot}
-use Rattle.sky_model.specs.Queues.{Tick, ticks, tick, newest_tick, id_of, is_above}
-use Rattle.sky_model.proofs.Legal.{Fine, ticks_next, Legal, start, next}
+use Rattle.sky_model.specs.Queues.{new_tick, queues_made, Tick, ticks, tick, newest_tick, id_of, is_above}
+use Rattle.sky_model.proofs.Legal.{Fine, makes, ticks_next, Legal, start, next}
 use Rattle.sky_model.proofs.Snapshots.{Sound, sound, begun-next}
+use Rattle.sky_model.proofs.Ticks.{ticks_beyond}
 use Rattle.sky_model.proofs.Cases.{by_same, by_test}
 
 -- ---- the lower bound of the snapshot never falls
@@ -119,7 +120,7 @@ abbrev pub first_above : ℕ → List Tick → Option Tick
 first_above b ts = find (λ t. is_above b t) ts
 
 -- comes after those that aren't
-first-after : (last low b : ℕ) (ts : List Tick) → Climbs last low ts → low ≤ b → b < last_xmin low ts → last < id_of (first_above b ts)
+pub first-after : (last low b : ℕ) (ts : List Tick) → Climbs last low ts → low ≤ b → b < last_xmin low ts → last < id_of (first_above b ts)
 first-after last low b [] c le less = absurd (omega (arith, le, less))
 first-after last low b (t ∷ ts) c le less =
     by_test (λ x. last < id_of (if x then Some t else first_above b ts)) (is_above b t)
@@ -168,6 +169,14 @@ pub climbing : (h : History) → Legal h → (q : ℕ) → Climbing h q
 climbing [] start q = record { run = tt; most = omega arith }
 climbing (began whose t ∷ h) (next l fine) q = let c : Climbing h q = climbing h l q in record { run = c.run; most = omega (arith, c.most, xmin-began h l whose t fine) }
 climbing (ended whose t committed ∷ h) (next l fine) q = let c : Climbing h q = climbing h l q in record { run = c.run; most = omega (arith, c.most, xmin-ended h l whose t committed) }
+climbing _ (next {h = h} l (makes name t time new)) q =
+    let c : Climbing h q = climbing h l q in
+    record {
+      run = by_same (λ b. Climbs 0 0 (if b then ticks q h ++ new_tick time h ∷ [] else ticks q h)) (queues_made h) q
+          (λ same. subst (λ ts. Climbs 0 0 (ts ++ new_tick time h ∷ [])) (sym (ticks_beyond h l q (omega (arith, same)))) (refl, omega arith, tt)) (λ _. c.run);
+      most = by_test (λ b. last_xmin 0 (if b then ticks q h ++ new_tick time h ∷ [] else ticks q h) ≤ (snapshot h).xmin) (queues_made h == q)
+          (λ _. let last : last_xmin 0 (ticks q h ++ new_tick time h ∷ []) ≡ (snapshot h).xmin = last_xmin-push 0 (ticks q h) (new_tick time h) in omega (arith, last)) (λ _. c.most);
+    }
 climbing _ (next {h = h} l (ticks_next p id time seq i e at)) q =
     let new : Tick = record { id = id; time = time; snapshot = snapshot h; seq = seq } in
     let c : Climbing h q = climbing h l q in

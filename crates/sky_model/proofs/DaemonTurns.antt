@@ -1,5 +1,5 @@
 -- What a daemon does is the same at places that read alike.
-use Rattle.std.proofs.Common.{◌≡◌, ℤ, List, [], ◌∷◌, Bool, true, false, refl, ◌∙◌, ap, ℕ, zero, suc, length, nat_le, ◌++◌, Ok, Err}
+use Rattle.std.proofs.Common.{◌≡◌, ℤ, List, [], ◌∷◌, Bool, true, false, refl, ◌∙◌, ap, ℕ, zero, suc, length, nat_le, ◌++◌, Option, Some, None, Ok, Err}
 use Rattle.sky_model.specs.declared.reply.Reply.TheVariants.{Number}
 use Rattle.pgq_retry.specs.Retries.{due_now}
 use Rattle.pgq_retry.specs.declared.retry.Retry as retry
@@ -9,14 +9,16 @@ use Rattle.sky_model.specs.StepRetry.{back, brings, most_back, maint_retry_event
 use Rattle.sky_model.specs.Outcome.{Outcome, Checked, reply_of, marks_of, ◌>>=◌, does_marks}
 use Rattle.sky_model.specs.declared.daemon.DaemonPart.{DaemonPart}
 use Rattle.sky_model.specs.declared.daemon.DaemonPart.TheVariants.{Tick, Retry, Maintain}
-use Rattle.sky_model.specs.History.{Mark, QueueMark, queued, History, of_worker, began, ended, put, returned}
+use Rattle.sky_model.specs.History.{Mark, QueueMark, queued, History, of_worker, began, ended, put, returned, switching, switched}
 use Rattle.sky_model.specs.Queues.{NamedQueue}
 use Rattle.sky_model.specs.State.{Database, part_of}
 use Rattle.sky_model.specs.StepQueue.{next_tick}
+use Rattle.sky_model.specs.declared.reply.HeldBack.{HeldBack}
+use Rattle.sky_model.specs.StepRotation.{held_back, rotates_alone, rotates_by_itself, second_steps, lack_second_step, ends_switches, maint_rotate_step2}
 use Rattle.sky_model.specs.Reader.{DatabaseReader, database_by_history, within_part}
-use Rattle.sky_model.specs.Settling.{Turn, behind_marks, marked, joined, ready}
-use Rattle.sky_model.specs.Daemon.{quietly, ticks_of, daemon_does, moved_by, again_if, retries_of}
-use Rattle.sky_model.proofs.StatementMarks.{EachMark, each-append, each-given, AnyReply, gives-tick, each-front}
+use Rattle.sky_model.specs.Settling.{Turn, behind_marks, marked, joined, and_then, ready}
+use Rattle.sky_model.specs.Daemon.{quietly, ticks_of, daemon_does, moved_by, again_if, retries_of, first_steps_of, second_step_of_all}
+use Rattle.sky_model.proofs.StatementMarks.{EachMark, each-append, each-given, AnyReply, gives-tick, each-front, each-second_steps}
 
 module _ {P Q : Type 0} (r : DatabaseReader P) (s : DatabaseReader Q) (at : P → Q) (same : (p : P) → r.database p ≡ s.database (at p)) (behind : (p : P) (mark : Mark) → at (r.behind p mark) ≡ s.behind (at p) mark) where
   -- a place after marks is read as the other one after them
@@ -44,10 +46,29 @@ module _ {P Q : Type 0} (r : DatabaseReader P) (s : DatabaseReader Q) (at : P �
       ap (joined (quietly (c (r.database p)))) (same-again (retries_of r now n) (retries_of s now n) (same-retries now n) (full (r.database p)) (behind_marks (within_part r now) p marks) ∙ ap (again_if (full (r.database p)) (retries_of s now n)) (at-behind now p marks))
       ∙ ap (λ d. joined (quietly (c d)) (again_if (full d) (retries_of s now n) (behind_marks (within_part s now) (at p) (quietly (c d)).marks))) (same p)
 
+  same-first_steps : (now : ℤ) (queues : List NamedQueue) (p : P) → first_steps_of r now queues p ≡ first_steps_of s now queues (at p)
+  same-first_steps now [] p = refl
+  same-first_steps now (q ∷ queues) p =
+      let turn : Database → Turn = λ d. quietly (rotates_by_itself d now q.number) in
+      ap (joined (turn (r.database p))) (same-first_steps now queues (behind_marks (within_part r now) p (turn (r.database p)).marks) ∙ ap (first_steps_of s now queues) (at-behind now p (turn (r.database p)).marks))
+      ∙ ap (λ d. joined (turn d) (first_steps_of s now queues (behind_marks (within_part s now) (at p) (turn d).marks))) (same p)
+
+  same-second_step : (p : P) → second_step_of_all r p ≡ second_step_of_all s (at p)
+  same-second_step p = ap (λ d. quietly (maint_rotate_step2 d)) (same p)
+
+  same-maintains : (now : ℤ) (queues : List NamedQueue) (p : P)
+      → and_then (within_part r now) p (first_steps_of r now queues p) (second_step_of_all r) ≡ and_then (within_part s now) (at p) (first_steps_of s now queues (at p)) (second_step_of_all s)
+  same-maintains now queues p =
+      let first : Turn = first_steps_of r now queues p in
+      ap (joined first) (same-second_step (behind_marks (within_part r now) p first.marks) ∙ ap (second_step_of_all s) (at-behind now p first.marks))
+      ∙ ap (λ (t : Turn). joined t (second_step_of_all s (behind_marks (within_part s now) (at p) t.marks))) (same-first_steps now queues p)
+
   pub same-daemon_does : (p : P) (part : DaemonPart) (now : ℤ) → daemon_does r p part now ≡ daemon_does s (at p) part now
   same-daemon_does p Tick now = same-ticks now (r.database p).queues p ∙ ap (λ (d : Database). ticks_of s now d.queues (at p)) (same p)
   same-daemon_does p Retry now = same-retries now (length (r.database p).retries) p ∙ ap (λ (d : Database). retries_of s now (length d.retries) (at p)) (same p)
-  same-daemon_does p Maintain now = refl
+  same-daemon_does p Maintain now =
+      same-maintains now (r.database p).queues p
+      ∙ ap (λ (d : Database). and_then (within_part s now) (at p) (first_steps_of s now d.queues (at p)) (second_step_of_all s)) (same p)
 
 -- each mark of it is one of queues, or of a worker's transaction, which commits
 module _ (p : Mark → Bool) (of_queues : (mark : QueueMark) → p (queued mark) ≡ true) (begins : (t : ℕ) → p (began of_worker t) ≡ true) (ends : (t : ℕ) → p (ended of_worker t true) ≡ true) where
@@ -84,10 +105,41 @@ module _ (p : Mark → Bool) (of_queues : (mark : QueueMark) → p (queued mark)
       each-append p (marks_of c) _ (each-brings (r.database x) now (due_now now most_back (r.database x).retries))
       (each-again (retries_of r now n) (each-retries r now n) (nat_le most_back (moved_by (reply_of c))) (behind_marks (within_part r now) x (marks_of c)))
 
+  each-rotates : (d : Database) (now : ℤ) (q : ℕ) (why : Option HeldBack) → EachMark p (marks_of (rotates_alone d now q why))
+  each-rotates d now q (Some why) = tt
+  each-rotates d now q None = of (next_id d.part)
+    where
+      of : (c : Checked ℕ)
+          → EachMark p (marks_of (c >>= (λ t. does_marks (Number 1) (began of_worker t ∷ queued (switching q t) ∷ queued (switched q now) ∷ ended of_worker t true ∷ []))))
+      of (Ok t) =
+          each-front p (began of_worker t) (queued (switching q t) ∷ queued (switched q now) ∷ ended of_worker t true ∷ []) (begins t)
+          (each-front p (queued (switching q t)) (queued (switched q now) ∷ ended of_worker t true ∷ []) (of_queues (switching q t))
+          (each-front p (queued (switched q now)) (ended of_worker t true ∷ []) (of_queues (switched q now)) (each-front p (ended of_worker t true) [] (ends t) tt)))
+      of (Err refusal) = tt
+
+  each-first_steps : {P : Type 0} (r : DatabaseReader P) (now : ℤ) (queues : List NamedQueue) (x : P) → EachMark p (first_steps_of r now queues x).marks
+  each-first_steps r now [] x = tt
+  each-first_steps r now (q ∷ queues) x =
+      let marks : List Mark = (quietly (rotates_by_itself (r.database x) now q.number)).marks in
+      each-append p marks _ (each-rotates (r.database x) now q.number (held_back now ((r.database x).queue q.number))) (each-first_steps r now queues (behind_marks (within_part r now) x marks))
+
+  each-ends_switches : (d : Database) (queues : List NamedQueue) → EachMark p (marks_of (ends_switches d queues))
+  each-ends_switches d [] = tt
+  each-ends_switches d (q ∷ queues) = of (next_id d.part)
+    where
+      of : (c : Checked ℕ) → EachMark p (marks_of (c >>= (λ t. does_marks (Number (length (q ∷ queues))) (began of_worker t ∷ second_steps t (q ∷ queues) ++ ended of_worker t true ∷ []))))
+      of (Ok t) =
+          each-front p (began of_worker t) (second_steps t (q ∷ queues) ++ ended of_worker t true ∷ []) (begins t)
+          (each-append p (second_steps t (q ∷ queues)) (ended of_worker t true ∷ []) (each-second_steps p of_queues t (q ∷ queues)) (each-front p (ended of_worker t true) [] (ends t) tt))
+      of (Err refusal) = tt
+
   pub each-daemon_does : {P : Type 0} (r : DatabaseReader P) (x : P) (part : DaemonPart) (now : ℤ) → EachMark p (daemon_does r x part now).marks
   each-daemon_does r x Tick now = each-ticks r now (r.database x).queues x
   each-daemon_does r x Retry now = each-retries r now (length (r.database x).retries) x
-  each-daemon_does r x Maintain now = tt
+  each-daemon_does r x Maintain now =
+      let first : List Mark = (first_steps_of r now (r.database x).queues x).marks in
+      let d : Database = r.database (behind_marks (within_part r now) x first) in
+      each-append p first _ (each-first_steps r now (r.database x).queues x) (each-ends_switches d (lack_second_step d))
 
 abbrev is_without_session : Mark → Bool
 is_without_session (queued mark) = true

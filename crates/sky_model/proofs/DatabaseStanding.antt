@@ -24,9 +24,7 @@ use Rattle.sky_model.specs.DatabaseSteps.{DatabaseSteps}
 use Rattle.sky_model.proofs.Legal.{Fine, looks, Chain, Legal, next}
 use Rattle.sky_model.proofs.Marks.{database_of-mark}
 pub use Rattle.sky_model.proofs.Marks.{database_of-marks}
-use Rattle.sky_model.proofs.Selecting.{batch_events-selected}
-use Rattle.sky_model.proofs.StandingQueues.{registered-stands}
-use Rattle.sky_model.proofs.ActiveBatches.{IsActive, active_batches}
+use Rattle.sky_model.proofs.Rotation.{batch_events-selected}
 use Rattle.sky_model.proofs.RowSights.{same-rows}
 use Rattle.sky_model.proofs.MadeAt.{same-made_by}
 use Rattle.sky_model.proofs.Turns.{ReadAlike, same-with_settling}
@@ -45,12 +43,10 @@ pub behind-all : (now : ℤ) (d : Database) (marks : List Mark) → behind_marks
 behind-all now d [] = refl
 behind-all now d (mark ∷ marks) = behind-all now (after_mark d mark) marks
 
--- the queue of an active batch stands, and keeps what the batch lists
+-- the queue of an active batch keeps what the batch lists
 same-events : (h : History) → Legal h → (id : ℕ) (o : Option Batch) → active_batch id h ≡ o → option_map (batch_events h) o ≡ option_map (selected (database_of h)) o
 same-events h l id None is = refl
-same-events h l id (Some b) is =
-    let a : IsActive h id b = active_batches h l id b is in
-    ap (λ events. Some events) (batch_events-selected h l b (registered-stands h l b.queue b.consumer b.sub a.owned))
+same-events h l id (Some b) is = ap (λ events. Some events) (batch_events-selected h l id b is)
 
 -- a legal history shows a statement what its database keeps
 same-shown : (h : History) → Legal h → shown_in h ≡ shown_by (database_of h)

@@ -1,10 +1,11 @@
 -- The batches that a consumer has finished since its life began lead from the tick where it began to its position.
+use Rattle.sky_model.specs.Queues.{queues_made}
 use Rattle.std.proofs.Common.{◌≡◌, ℕ, ◌+◌, List, [], ◌∷◌, ◌++◌, Bool, true, ◌&&◌, ◌||◌, ◌==◌, Option, Some, None, bytes_eq, refl, sym, ◌∙◌, subst, if◌then◌else◌}
 use Rattle.std.proofs.lemmas.Bool.{or_right}
 use Rattle.sky_model.specs.History.{Batch, History}
 use Rattle.sky_model.specs.Consumers.{subscription_id, position}
 use Rattle.sky_model.specs.LawsOfBatches.{first_tick, finished, Lead, BatchesAreConsecutive}
-use Rattle.sky_model.proofs.Legal.{ticks_next, registers, moves, unregisters, closes, Legal, start, next}
+use Rattle.sky_model.proofs.Legal.{makes, ticks_next, registers, moves, unregisters, closes, Legal, start, next}
 use Rattle.sky_model.proofs.SnapshotLaws.{legal_place}
 use Rattle.sky_model.proofs.TickOrder.{is_made, is_made-tick}
 use Rattle.sky_model.proofs.ActiveBatches.{same_consumer, IsActive, active_batches}
@@ -45,6 +46,10 @@ FinishedLead h queue consumer =
 
 pub finished_lead : (h : History) → Legal h → (queue : ℕ) (consumer : List ℕ) → FinishedLead h queue consumer
 finished_lead [] start queue consumer = refl
+finished_lead _ (next {h = h} l (makes name u time new)) queue consumer =
+    LeadFor-more queue consumer (subscription_id queue consumer h) (λ t. is_made queue t h) (λ t. (queues_made h == queue && 1 == t) || is_made queue t h)
+    (λ t. or_right (queues_made h == queue && 1 == t) (is_made queue t h)) (first_tick queue consumer h) (finished queue consumer h) (position queue consumer h)
+    (finished_lead h l queue consumer)
 finished_lead _ (next {h = h} l (ticks_next p m time seq i e c)) queue consumer =
     LeadFor-more queue consumer (subscription_id queue consumer h) (λ t. is_made queue t h) (λ t. (p == queue && m == t) || is_made queue t h)
     (λ t. or_right (p == queue && m == t) (is_made queue t h)) (first_tick queue consumer h) (finished queue consumer h) (position queue consumer h)

@@ -12,7 +12,7 @@ use Rattle.sky_names.specs.Places.{place_of}
 use Rattle.sky_model.specs.History.{Mark, History, Fact, appeared, founded, entered as came, within, queued, ticked, Past}
 use Rattle.sky_model.specs.Sessions.{has_open, block, session}
 use Rattle.sky_model.specs.Locks.{waiting}
-use Rattle.sky_model.specs.State.{part_of, database_of}
+use Rattle.sky_model.specs.State.{part_of, queue_of, database_of}
 use Rattle.sky_model.specs.Outcome.{Outcome, Checked, ◌>>◌, refused_if, answers, does_marks, reply_of}
 use Rattle.sky_model.specs.Allowed.{allowed}
 use Rattle.sky_model.specs.World.{world_of, history_in, on_top, session_names, database_names, home}
@@ -28,8 +28,11 @@ use Rattle.sky_model.specs.declared.reply.Refusal.TheVariants.{IdsSpent}
 use Rattle.sky_model.specs.Queues.{NamedQueue, queues, ticks, newest_tick}
 use Rattle.sky_model.specs.StepQueue.{is_due, newest_id}
 use Rattle.sky_model.specs.Queues.{id_of}
-use Rattle.sky_model.specs.Daemon.{quietly, ticks_of, daemon_does, retries_of, moved_by, again_if}
-use Rattle.sky_model.proofs.StandingQueues.{whole}
+use Rattle.sky_model.specs.Daemon.{quietly, ticks_of, daemon_does, retries_of, moved_by, again_if, first_steps_of, second_step_of_all}
+use Rattle.sky_model.proofs.Rotation.{newest-kept}
+use Rattle.sky_model.proofs.Commits.{all-among}
+use Rattle.sky_model.proofs.Rotating.{may_rotate, rotates-stay, may_end_switches}
+use Rattle.sky_model.specs.StepRotation.{held_back, rotates_by_itself, maint_rotate_step2}
 use Rattle.sky_model.proofs.DaemonTurns.{same-daemon_does}
 use Rattle.sky_model.proofs.ClockSteps.{after-clock}
 use Rattle.sky_model.specs.Calls.{database_turn, opening, opens, outside_does, beside, session_does, turn, Call, called, past_of}
@@ -41,9 +44,9 @@ use Rattle.sky_model.specs.Steps.{IsCallInForm}
 use Rattle.sky_model.specs.LawsOfHistories.{HistoriesAreMadeByOwnCalls}
 use Rattle.sky_model.proofs.Legal.{IsAmong, IsQueue, Fine, looks, ticks_next, Chain, done, more, Legal, start, next}
 use Rattle.sky_model.proofs.Good.{same-session, good_failure}
-use Rattle.sky_model.proofs.LawfulTelling.{legal_behind}
+use Rattle.sky_model.proofs.LawfulTelling.{good_append, legal_behind}
 use Rattle.sky_model.proofs.Turns.{same-turn_read}
-use Rattle.sky_model.proofs.Lawful.{database-reads, good_with_settling-by, good_turn, good_then, maint_may}
+use Rattle.sky_model.proofs.Lawful.{past-behind, database-reads, good_with_settling-by, good_turn, good_then, maint_may}
 use Rattle.sky_model.proofs.PastHistories.{on_top-append, history-marks, AreOutside, history-outside, beside-outside}
 use Rattle.sky_model.proofs.Cases.{by_same}
 
@@ -54,13 +57,6 @@ pub good_enters : (h : History) (who : ℕ) (sight : Bool) (may : Checked (Unit 
 good_enters h who true (Ok _) = more (looks who) done
 good_enters h who false (Ok _) = done
 good_enters h who sight (Err refusal) = done
-
--- queues are among themselves
-all-among : (queues : List NamedQueue) → All (λ q. IsAmong q.number queues) queues
-all-among [] = All-nil (λ q. IsAmong q.number [])
-all-among (x ∷ xs) =
-    All-cons (λ q. IsAmong q.number (x ∷ xs)) x xs (ap (λ b. b || list_any (λ y. y.number == x.number) xs) (eq-eqb x.number x.number refl))
-    (All-weaker (λ q. IsAmong q.number xs) (λ q. IsAmong q.number (x ∷ xs)) (λ q is. or_right (x.number == q.number) (list_any (λ y. y.number == q.number) xs) is) xs (all-among xs))
 
 -- and so may the ticks of queues that stand
 abbrev MayTick : ℤ → List NamedQueue → Type 0
@@ -83,8 +79,8 @@ good_tick now q left may h l are = by (is_due now ((database_of h).queue q.numbe
 
     fine : Fine h mark
     fine =
-        let all : newest_id ((database_of h).queue q.number) ≡ id_of (newest_tick (ticks q.number h)) = ap (λ ts. id_of (newest_tick ts)) (whole h l q.number is).all_ticks in
-        ticks_next q.number id now _ is (omega arith)
+        let all : newest_id ((database_of h).queue q.number) ≡ id_of (newest_tick (ticks q.number h)) = ap id_of (newest-kept h l q.number is) in
+        ticks_next q.number id now _ is (omega arith) (omega (arith, all))
 
     by : (due spent : Bool) → Chain h (and_then (within_part database_by_history now) h (quietly (if due then (refused_if spent IdsSpent >> does_marks (Number id) (mark ∷ [])) else answers Null))
         (ticks_of database_by_history now left)).marks
@@ -109,11 +105,27 @@ good_retries now (suc n) h l =
     good_then (within_part database_by_history now) (λ g. g) (database-reads now) h l (quietly c) (again_if full (retries_of database_by_history now n))
     (maint_may h l now) (good_again (retries_of database_by_history now n) (good_retries now n) full)
 
+-- and the first steps of rotations
+good_first_steps : (now : ℤ) (left : List NamedQueue) (h : History) → Legal h → All (λ q. IsQueue h q.number) left → Chain h (first_steps_of database_by_history now left h).marks
+good_first_steps now [] h l are = done
+good_first_steps now (q ∷ left) h l are =
+    let turn : Turn = quietly (rotates_by_itself (database_of h) now q.number) in
+    good_append h turn.marks _ chain
+    (subst (λ g. Chain g (first_steps_of database_by_history now left g).marks) (sym (past-behind (within_part database_by_history now) (λ g. g) (database-reads now) h turn.marks))
+    (good_first_steps now left (marked h turn.marks) (legal_behind h turn.marks l chain)
+    (All-weaker (λ q. IsQueue h q.number) (λ q. IsQueue (marked h turn.marks) q.number) (λ x is. subst (IsAmong x.number) (sym (rotates-stay h now q.number (held_back now (queue_of h q.number)))) is)
+    left (All-tail (λ q. IsQueue h q.number) q left are))))
+  where
+    chain : Chain h (quietly (rotates_by_itself (database_of h) now q.number)).marks
+    chain = may_rotate h l now q.number (All-head (λ q. IsQueue h q.number) q left are) (held_back now (queue_of h q.number)) refl
+
 -- and what a daemon does
 good_daemon_does : (h : History) → Legal h → (part : DaemonPart) (now : ℤ) → Chain h (daemon_does database_by_history h part now).marks
 good_daemon_does h l Tick now = good_ticks now (queues h) h l (all-among (queues h))
 good_daemon_does h l Retry now = good_retries now (length (retries h)) h l
-good_daemon_does h l Maintain now = done
+good_daemon_does h l Maintain now =
+    good_then (within_part database_by_history now) (λ g. g) (database-reads now) h l (first_steps_of database_by_history now (queues h) h) (second_step_of_all database_by_history)
+    (good_first_steps now (queues h) h l (all-among (queues h))) (λ g legal. may_end_switches g legal)
 
 -- and so may what a call does
 pub good_does : (h : History) → Legal h → (call : DatabaseCall) → Chain h (database_does database_by_history h call).marks

@@ -80,10 +80,12 @@ forms_end =
     (ends (λ batch number event also seconds few. (number, also, few))
     (ends (λ batch number. number)
     (ends tt
+    (ends (λ queue is. is)
+    (ends tt
     (ends (λ queue is consumer dotted. (is, dotted))
     (ends (λ time is. is)
     (ends (tt, tt)
-    tt))))))))))))))))))))))))))))))))))
+    tt))))))))))))))))))))))))))))))))))))
 
 -- ---- after a word
 

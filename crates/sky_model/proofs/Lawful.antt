@@ -5,7 +5,7 @@ use Rattle.std.proofs.lemmas.Bool.Decides.{nat_tests}
 use Rattle.sky_model.specs.declared.stmt.Stmt.{Stmt}
 use Rattle.sky_model.specs.declared.stmt.Extra.{Extra}
 use Rattle.sky_model.specs.declared.stmt.RowStmt.{RowStmt}
-use Rattle.sky_model.specs.declared.stmt.Stmt.TheVariants.{Row, CreateQueue, DropQueue, SetQueueConfig, QueueInfo, InsertEvent, Ticker, ForceTick, RegisterConsumer, RegisterConsumerAt, UnregisterConsumer, NextBatch, GetBatchEvents, GetBatchInfo, EventRetry, FinishBatch, MaintRetryEvents, ConsumerInfo, AddTrigger, Clock, PgqdOn, PgqdOff}
+use Rattle.sky_model.specs.declared.stmt.Stmt.TheVariants.{Row, CreateQueue, DropQueue, SetQueueConfig, QueueInfo, InsertEvent, Ticker, ForceTick, RegisterConsumer, RegisterConsumerAt, UnregisterConsumer, NextBatch, GetBatchEvents, GetBatchInfo, EventRetry, FinishBatch, MaintRetryEvents, MaintRotateStep1, MaintRotateStep2, ConsumerInfo, AddTrigger, Clock, PgqdOn, PgqdOff}
 use Rattle.sky_model.specs.declared.reply.Reply.TheVariants.{Number}
 use Rattle.sky_model.specs.declared.reply.Limit.TheVariants.{Queues, Triggers}
 use Rattle.sky_model.specs.declared.reply.Refusal.TheVariants.{BadColumn, BadValue, HasConsumers, HasTriggers, NoParam, NoQueue, NoTable, QueueBusy, TableBusy, TooMany, TriggerExists, TxidsSpent, EventIdsSpent, NoBatch, NoConsumer, NoEvent}
@@ -18,23 +18,24 @@ use Rattle.sky_model.specs.StepRetry.{retry_of, brings, most_back, maint_retry_e
 use Rattle.sky_names.specs.Places.{place_of}
 use Rattle.sky_model.specs.History.{Batch, Mark, of_session, of_worker, began, ended, looked, tabled, waited, queued, made, raised, put, ticked, moved, unregistered, opened, closed, History}
 use Rattle.sky_model.specs.Transactions.{next_txid, running, workers}
-use Rattle.sky_model.specs.Sessions.{Block, outside, has_open, block, own_txid, session}
+use Rattle.sky_model.specs.Sessions.{Block, outside, inside, failed, has_open, block, own_txid, session}
 use Rattle.sky_model.specs.Rows.{table_names, columns_of}
 use Rattle.sky_model.specs.Triggers.{triggers, triggers_of}
 use Rattle.sky_model.specs.StepTrigger.{has_trigger, may_ignore}
 use Rattle.sky_model.specs.Config.{param_of, configured_by}
-use Rattle.sky_model.specs.Queues.{queues_made, queues, queue_number, config, Tick, ticks, kept_ticks, tick, newest_tick, sequence, events, stored}
+use Rattle.sky_model.specs.Queues.{queues_made, queues, queue_number, config, Tick, ticks, kept_ticks, tick, newest_tick, sequence, events, tables}
 use Rattle.sky_model.specs.Consumers.{consumers, subscription_id, position, active, Subscription, subscription, active_batch}
 use Rattle.sky_model.specs.Locks.{waiting}
-use Rattle.sky_model.specs.State.{RowPart, part_of, database_of}
+use Rattle.sky_model.specs.State.{RowPart, part_of, queue_of, database_of}
 use Rattle.sky_model.specs.ShownRows.{RowsShown, rows_in, least_writer}
 use Rattle.sky_model.specs.OwnTransaction.{own_or_next, begin_of, commit_of, written}
-use Rattle.sky_model.specs.Outcome.{Outcome, Checked, ◌>>=◌, ◌>>◌, refused_if, answers, does_marks, abort, settled, marks_of}
+use Rattle.sky_model.specs.Outcome.{Outcome, Checked, ◌>>=◌, ◌>>◌, refused_if, answers, does_marks, after_marks_of, abort, settled, marks_of}
 use Rattle.sky_model.specs.Allowed.{where_of_row, where_of, allowed}
 use Rattle.sky_model.specs.StepRows.{attempts}
-use Rattle.sky_model.specs.StepQueue.{create_queue, first_trigger_into, shown_name, least_producer, insert_event, next_tick, is_due, forced, newest_id, next_event_id, made_event}
+use Rattle.sky_model.specs.StepQueue.{create_queue, first_trigger_into, shown_name, has_part_in, least_producer, insert_event, next_tick, is_due, forced, newest_id, next_event_id, made_event}
 use Rattle.sky_model.specs.Queues.{id_of}
-use Rattle.sky_model.specs.StepConsumer.{has_dot, registers as registers_at, leaves, opens_batch, takes_batch, finishes}
+use Rattle.sky_model.specs.declared.stmt.RowStmt.TheVariants.{Commit}
+use Rattle.sky_model.specs.StepConsumer.{floor, has_dot, registers as registers_at, leaves, opens_batch, takes_batch, finishes}
 use Rattle.sky_model.specs.Reader.{shown_in, PartReader, part_by_history, database_by_history, within_part}
 use Rattle.sky_model.specs.Gates.{Gate, takes_all, gated, by_gate}
 use Rattle.sky_model.specs.Made.{takes_sight, looking, runs_if}
@@ -45,10 +46,16 @@ use Rattle.sky_model.proofs.Good.{MayStand, Good, same-session, good_test, good_
 use Rattle.sky_model.proofs.RowOutcomes.{OfRows, attempts-rows, form-rows}
 use Rattle.sky_model.proofs.LawfulTelling.{good_append, legal_behind, good_tells}
 use Rattle.sky_model.proofs.WaitersFit.{may_go_on}
-use Rattle.sky_model.proofs.LawfulRows.{no-one, nothing, good_attempts, good_row_form}
+use Rattle.sky_model.proofs.LawfulRows.{no-one, nothing, good_leaves, good_attempts, good_row_form}
 use Rattle.sky_model.proofs.QueueNumbers.{among-number, among-last}
 use Rattle.sky_model.proofs.Ticks.{ticks_beyond}
-use Rattle.sky_model.proofs.StandingQueues.{whole}
+use Rattle.sky_model.proofs.Rotation.{newest-kept, kept-made, floor-newest}
+use Rattle.sky_model.proofs.Commits.{good_switches}
+use Rattle.sky_model.proofs.Rotating.{good_rotates, may_end_switches}
+use Rattle.sky_model.specs.StepRotation.{held_back, maint_rotate_step2, switches_of, committed_by}
+use Rattle.sky_model.specs.StepSession.{commit, leaves as leaves_block}
+use Rattle.sky_model.specs.Telling.{tells}
+use Rattle.sky_model.proofs.StatementMarks.{by_commit, none-first}
 use Rattle.sky_model.proofs.ActiveBatches.{of_another-is, active_batches}
 use Rattle.sky_model.proofs.RetriesBack.{AreBack, due-back, good_back, listed_is_stored}
 use Rattle.sky_model.proofs.Snapshots.{contains-push}
@@ -69,33 +76,20 @@ good_create_queue : (h : History) → Legal h → (now : ℤ) (who : ℕ) (name 
 good_create_queue h l now who name =
     by_place (queue_number name (queues h)) refl
   where
-    count : ℕ
-    count = queues_made h
-
-    ticks_first : (g : History) → queues g ≡ queues h ++ record { number = count; name = name } ∷ [] → ticks count g ≡ [] → Chain g (queued (ticked count 1 now 0) ∷ [])
-    ticks_first g names none =
-        more (ticks_next count 1 now 0
-        (subst (IsAmong count) (sym names) (among-last (queues h) (record { number = count; name = name })))
-        (subst (λ ts. id_of (newest_tick ts) < 1) (sym none) (omega arith))) done
-
-    body : (g : History) (t : ℕ) (b : Block) → queue_number name (queues h) ≡ None → own_txid who g ≡ Some t → queues g ≡ queues h → queues_made g ≡ count → ticks count g ≡ []
-        → Chain g (queued (made name) ∷ commit_of who t b ++ queued (ticked count 1 now 0) ∷ [])
-    body g t outside new mine names many none = more (makes name (ap (queue_number name) names ∙ new)) (more (ends who t true mine) (ticks_first (ended (of_session who) t true ∷ queued (made name) ∷ g) (λ i. names i ++ record { number = many i; name = name } ∷ []) none))
-    body g t _ new mine names many none = more (makes name (ap (queue_number name) names ∙ new)) (ticks_first (queued (made name) ∷ g) (λ i. names i ++ record { number = many i; name = name } ∷ []) none)
-
-    none_yet : ticks count h ≡ []
-    none_yet = ticks_beyond h l count (omega arith)
+    body : (g : History) (t : ℕ) (b : Block) → own_txid who g ≡ Some t → queue_number name (queues g) ≡ None → Chain g (commit_of who t b ++ queued (made name t now) ∷ [])
+    body g t outside mine new = more (ends who t true mine) (more (makes name t now new) done)
+    body g t _ mine new = more (makes name t now new) done
 
     by_own : (o : Option ℕ) → own_txid who h ≡ o → queue_number name (queues h) ≡ None → Good h who (own_or_next (part_of h) o >>= (λ t.
-        does_marks (Number 1) ((begin_of who t o ++ (queued (made name) ∷ []) ++ commit_of who t (block who h)) ++ queued (ticked count 1 now 0) ∷ [])))
+        does_marks (Number 1) ((begin_of who t o ++ [] ++ commit_of who t (block who h)) ++ queued (made name t now) ∷ [])))
     by_own None none new =
         good_test_then h who (nat_le (2 ^ 62) (next_txid h)) TxidsSpent (next_txid h) _
-        (more (begins who none) (body (began (of_session who) (next_txid h) ∷ h) (next_txid h) (block who h) new (ap (λ b. if b then Some (next_txid h) else own_txid who h) (same-session who)) refl refl none_yet))
-    by_own (Some t) mine new = body h t (block who h) new mine refl refl none_yet
+        (more (begins who none) (body (began (of_session who) (next_txid h) ∷ h) (next_txid h) (block who h) (ap (λ b. if b then Some (next_txid h) else own_txid who h) (same-session who)) new))
+    by_own (Some t) mine new = body h t (block who h) mine new
 
     by_place : (o : Option ℕ) → queue_number name (queues h) ≡ o → Good h who (if is_some o then answers (Number 0) else (
         refused_if (nat_le 64 (length (queues h))) (TooMany Queues) >> (own_or_next (part_of h) (own_txid who h) >>= (λ t.
-        does_marks (Number 1) (written who t (session h who) (queued (made name) ∷ []) ++ queued (ticked count 1 now 0) ∷ [])))))
+        does_marks (Number 1) (written who t (session h who) [] ++ queued (made name t now) ∷ [])))))
     by_place (Some n) is = done
     by_place None is = good_test h who (nat_le 64 (length (queues h))) (TooMany Queues) _ (λ _. by_own (own_txid who h) refl is)
 
@@ -123,33 +117,33 @@ good_insert_event h l now who name ev_type ev_data extra =
         (body h l q (sequence q h) t (block who h) mine below refl)
 
 good_opens_batch : (h : History) (who q : ℕ) (consumer : List ℕ) (sub : Subscription) (found : Option Tick)
-    → IsQueue h q → subscription q consumer h ≡ Some (record { id = sub.id; position = sub.position; active = None }) → tick (sub.position + 1) (ticks q h) ≡ found
+    → IsQueue h q → subscription q consumer h ≡ Some (record { id = sub.id; position = sub.position; active = None }) → ((t : Tick) → found ≡ Some t → tick (sub.position + 1) (ticks q h) ≡ Some t)
     → Good h who (opens_batch (database_of h) q consumer sub found)
 good_opens_batch h who q consumer sub None below stands is = done
 good_opens_batch h who q consumer sub (Some t) below stands is =
     good_test h who (nat_le (2 ^ 64) ((database_of h).last_batch_id + 1)) _ _ (λ _.
-    more (opens_fine _ (record { within = below; stands = stands; fresh = omega arith; closing = t; made = is; to = refl })) done)
+    more (opens_fine _ (record { within = below; stands = stands; fresh = omega arith; closing = t; made = is t refl; to = refl })) done)
 
 good_takes_batch : (h : History) → Legal h → (who q : ℕ) (consumer : List ℕ) (sub : Subscription) (batch : Option ℕ)
     → IsQueue h q → subscription q consumer h ≡ Some (record { id = sub.id; position = sub.position; active = batch })
     → Good h who (takes_batch (database_of h) q consumer sub batch)
 good_takes_batch h l who q consumer sub (Some batch) below stands = done
 good_takes_batch h l who q consumer sub None below stands =
-    good_opens_batch h who q consumer sub (tick (sub.position + 1) (kept_ticks q h)) below stands (ap (tick (sub.position + 1)) (sym (whole h l q below).all_ticks))
+    good_opens_batch h who q consumer sub (tick (sub.position + 1) (kept_ticks q h)) below stands (λ t found. kept-made h l q below (sub.position + 1) t found)
 
 -- a new consumer, whose position is a tick that is made
-good_registers : (h : History) (who q : ℕ) (consumer : List ℕ) (at : ℕ) → IsQueue h q → subscription_id q consumer h ≡ None → at ≤ id_of (newest_tick (ticks q h))
+good_registers : (h : History) (who q : ℕ) (consumer : List ℕ) (at : ℕ) → IsQueue h q → subscription_id q consumer h ≡ None → at ≤ id_of (newest_tick (ticks q h)) → floor (queue_of h q) ≤ at
     → Good h who (registers_at (database_of h) q consumer at)
-good_registers h who q consumer at below new within =
+good_registers h who q consumer at below new within low =
     good_test h who (nat_le 256 (length ((database_of h).queue q).members)) _ _ (λ _.
     good_test h who (nat_le (2 ^ 64) ((database_of h).last_sub_id + 1)) _ _ (λ _.
-    more (registers q consumer _ at below new (omega arith) within) done))
+    more (registers q consumer _ at below new (omega arith) within low) done))
 
 -- one that leaves
-good_leaves : (h : History) (who q : ℕ) (consumer : List ℕ) (o : Option ℕ) → IsQueue h q → subscription_id q consumer h ≡ o
+good_leaves_queue : (h : History) (who q : ℕ) (consumer : List ℕ) (o : Option ℕ) → IsQueue h q → subscription_id q consumer h ≡ o
     → Good h who (leaves q consumer (option_map (λ id. record { id = id; position = position q consumer h; active = active q consumer h }) o))
-good_leaves h who q consumer None below stands = done
-good_leaves h who q consumer (Some sub) below stands = more (unregisters q consumer sub below stands) done
+good_leaves_queue h who q consumer None below stands = done
+good_leaves_queue h who q consumer (Some sub) below stands = more (unregisters q consumer sub below stands) done
 
 -- retries that are due come back
 pub brings_may : (h : History) → Legal h → (now : ℤ) (rs : List Retry) → AreBack h now rs → Chain h (marks_of (brings (database_of h) now rs))
@@ -169,12 +163,26 @@ brings_may h l now (r ∷ rs) are = of (nat_le (2 ^ 62) (next_txid h))
 pub maint_may : (h : History) → Legal h → (now : ℤ) → Chain h (marks_of (maint_retry_events (database_of h) now))
 maint_may h l now = brings_may h l now (due_now now most_back (retries h)) (due-back h l now most_back)
 
+-- what a worker does may come in a session's statement too
+good_by_worker : (h : History) (who : ℕ) (c : Checked Outcome) → Chain h (marks_of c) → Good h who c
+good_by_worker h who (Ok outcome) chain = chain
+good_by_worker h who (Err refusal) chain = good_refused h who refusal
+
 good_maint : (h : History) → Legal h → (now : ℤ) (who : ℕ) → Good h who (maint_retry_events (database_of h) now)
-good_maint h l now who = of (maint_retry_events (database_of h) now) (maint_may h l now)
+good_maint h l now who = good_by_worker h who (maint_retry_events (database_of h) now) (maint_may h l now)
+
+-- `commit`, which makes the switches that its transaction has pending
+good_commit : (h : History) → Legal h → (now : ℤ) (who : ℕ) → Good h who (form (database_of h) (shown_in h) now who (Row Commit))
+good_commit h l now who = of (block who h) (own_txid who h) refl
   where
-    of : (c : Checked Outcome) → Chain h (marks_of c) → Good h who c
-    of (Ok outcome) chain = chain
-    of (Err refusal) chain = good_refused h who refusal
+    of : (b : Block) (o : Option ℕ) → own_txid who h ≡ o
+        → Good h who (after_marks_of (switches_of (database_of h) now (committed_by b o)) (tells (database_of h) now (commit who o b)))
+    of outside o mine = done
+    of inside None mine = good_leaves h who true None mine
+    of inside (Some t) mine =
+        good_switches h l now (Some t) (leaves_block true who (Some t)) (λ f. own_txid who f ≡ Some t) mine (λ f q is. is) (λ f _ is. good_leaves f who true (Some t) is)
+    of failed None mine = good_leaves h who false None mine
+    of failed (Some t) mine = good_leaves h who false (Some t) mine
 
 good_finishes : (h : History) (who id : ℕ) (batch : Option Batch) → active_batch id h ≡ batch → Good h who (finishes batch)
 good_finishes h who id None is = done
@@ -183,20 +191,22 @@ good_finishes h who id (Some batch) is = more (closes batch (ap (λ n. active_ba
 -- a tick that is due
 pub good_next_tick : (h : History) → Legal h → (now : ℤ) (who q : ℕ) → IsQueue h q → Good h who (next_tick (database_of h) now q)
 good_next_tick h l now who q is =
-    let all : newest_id ((database_of h).queue q) ≡ id_of (newest_tick (ticks q h)) = ap (λ ts. id_of (newest_tick ts)) (whole h l q is).all_ticks in
+    let all : newest_id ((database_of h).queue q) ≡ id_of (newest_tick (ticks q h)) = ap id_of (newest-kept h l q is) in
     good_if h who (is_due now ((database_of h).queue q)) _ _
     (good_test h who (nat_le (2 ^ 64) (newest_id ((database_of h).queue q) + 1)) _ _ (λ _.
-    more (ticks_next q _ now _ is (omega arith)) done)) (λ _. done)
+    more (ticks_next q _ now _ is (omega arith) (omega (arith, all))) done)) (λ _. done)
 
 good_form : (h : History) → Legal h → (now : ℤ) (who : ℕ) (stmt : Stmt) → MayStand h who (where_of stmt) → Good h who (form (database_of h) (shown_in h) now who stmt)
-good_form h l now who (Row stmt) may = good_tells h l now who _ (form-rows (part_of h) (rows_in h) who stmt) (good_row_form h l who stmt may)
+good_form h l now who (Row stmt) may =
+    by_commit (λ s. MayStand h who (where_of_row s) → Good h who (form (database_of h) (shown_in h) now who (Row s))) (λ _. good_commit h l now who)
+    (λ s none may. subst (Good h who) (sym (none-first (database_of h) now who s _ none)) (good_tells h l now who _ (form-rows (part_of h) (rows_in h) who s) (good_row_form h l who s may))) stmt may
 good_form h l now who (CreateQueue queue) may = good_create_queue h l now who queue
 good_form h l now who (DropQueue name) may =
     good_found h who (queue_number name (queues h)) (NoQueue name) _ (λ q is.
     good_test h who (not (length (consumers q h) == 0)) (HasConsumers (length (consumers q h))) _ (λ none.
     good_refused_by h who (option_map (λ t. HasTriggers (shown_name t)) (first_trigger_into q (triggers h))) _ (λ untold.
     good_refused_by h who (option_map QueueBusy (least_producer (database_of h) q)) _ (λ idle.
-    more (drops q (no-member h q none) (none-into q (triggers h) untold) (none-put (stored q h) (running h) idle)) done))))
+    more (drops q (no-member h q none) (none-into q (triggers h) untold) (none-put (has_part_in (tables q h)) (running h) idle)) done))))
 good_form h l now who (InsertEvent queue ev_type ev_data extra) may = good_insert_event h l now who queue ev_type ev_data extra
 good_form h l now who (SetQueueConfig name param value) may =
     good_found h who (queue_number name (queues h)) (NoQueue name) _ (λ q is.
@@ -214,31 +224,32 @@ good_form h l now who (RegisterConsumer name consumer) may =
     good_found h who (queue_number name (queues h)) (NoQueue name) _ (λ q is.
     good_test h who (has_dot consumer) _ _ (λ _.
     good_if h who (is_some (((database_of h).queue q).sub consumer)) _ _ done (λ new.
-    let all : newest_id ((database_of h).queue q) ≡ id_of (newest_tick (ticks q h)) = ap (λ ts. id_of (newest_tick ts)) (whole h l q (among-number name (queues h) q is)).all_ticks in
-    good_registers h who q consumer _ (among-number name (queues h) q is) (no-one _ (subscription_id q consumer h) (nothing _ new)) (omega arith))))
+    let all : newest_id ((database_of h).queue q) ≡ id_of (newest_tick (ticks q h)) = ap id_of (newest-kept h l q (among-number name (queues h) q is)) in
+    good_registers h who q consumer _ (among-number name (queues h) q is) (no-one _ (subscription_id q consumer h) (nothing _ new)) (omega arith) (omega (arith, all, floor-newest h l q (among-number name (queues h) q is))))))
 good_form h l now who (RegisterConsumerAt name consumer at) may =
     good_found h who (queue_number name (queues h)) (NoQueue name) _ (λ q is.
     good_test h who (has_dot consumer) _ _ (λ _.
-    good_test h who (at == 0 || nat_lt (newest_id ((database_of h).queue q)) at) _ _ (λ within. good_at q is within (subscription_id q consumer h) refl)))
+    good_test h who (at == 0 || nat_lt (newest_id ((database_of h).queue q)) at) _ _ (λ within.
+    good_test h who (nat_lt at (floor (queue_of h q))) _ _ (λ low. good_at q is within low (subscription_id q consumer h) refl))))
   where
     stands_as : ℕ → Option ℕ → Option Subscription
     stands_as q o = option_map (λ id. record { id = id; position = position q consumer h; active = active q consumer h }) o
 
-    good_at : (q : ℕ) → queue_number name (queues h) ≡ Some q → (at == 0 || nat_lt (newest_id ((database_of h).queue q)) at) ≡ false
+    good_at : (q : ℕ) → queue_number name (queues h) ≡ Some q → (at == 0 || nat_lt (newest_id ((database_of h).queue q)) at) ≡ false → nat_lt at (floor (queue_of h q)) ≡ false
         → (o : Option ℕ) → subscription_id q consumer h ≡ o
         → Good h who (if is_some (((database_of h).queue q).sub consumer) then does_marks (Number 0) (queued (moved q consumer at) ∷ []) else registers_at (database_of h) q consumer at)
-    good_at q is within (Some sub) stands =
-        let all : newest_id ((database_of h).queue q) ≡ id_of (newest_tick (ticks q h)) = ap (λ ts. id_of (newest_tick ts)) (whole h l q (among-number name (queues h) q is)).all_ticks in
+    good_at q is within low (Some sub) stands =
+        let all : newest_id ((database_of h).queue q) ≡ id_of (newest_tick (ticks q h)) = ap id_of (newest-kept h l q (among-number name (queues h) q is)) in
         good_if h who (is_some (((database_of h).queue q).sub consumer)) _ _
-        (more (moves q consumer sub at (among-number name (queues h) q is) stands (grind (arith, nat_tests, within)) (grind (arith, nat_tests, within, all))) done)
-        (λ new. good_registers h who q consumer at (among-number name (queues h) q is) (no-one _ (subscription_id q consumer h) (nothing _ new)) (grind (arith, nat_tests, within, all)))
-    good_at q is within None stands =
-        let all : newest_id ((database_of h).queue q) ≡ id_of (newest_tick (ticks q h)) = ap (λ ts. id_of (newest_tick ts)) (whole h l q (among-number name (queues h) q is)).all_ticks in
+        (more (moves q consumer sub at (among-number name (queues h) q is) stands (grind (arith, nat_tests, within)) (grind (arith, nat_tests, within, all)) (grind (arith, nat_tests, low))) done)
+        (λ new. good_registers h who q consumer at (among-number name (queues h) q is) (no-one _ (subscription_id q consumer h) (nothing _ new)) (grind (arith, nat_tests, within, all)) (grind (arith, nat_tests, low)))
+    good_at q is within low None stands =
+        let all : newest_id ((database_of h).queue q) ≡ id_of (newest_tick (ticks q h)) = ap id_of (newest-kept h l q (among-number name (queues h) q is)) in
         subst (λ o. Good h who (if is_some (stands_as q o) then does_marks (Number 0) (queued (moved q consumer at) ∷ []) else registers_at (database_of h) q consumer at))
-        (sym stands) (good_registers h who q consumer at (among-number name (queues h) q is) stands (grind (arith, nat_tests, within, all)))
+        (sym stands) (good_registers h who q consumer at (among-number name (queues h) q is) stands (grind (arith, nat_tests, within, all)) (grind (arith, nat_tests, low)))
 good_form h l now who (UnregisterConsumer name consumer) may =
     good_found h who (queue_number name (queues h)) (NoQueue name) _ (λ q is.
-    good_test h who (has_dot consumer) _ _ (λ _. good_leaves h who q consumer (subscription_id q consumer h) (among-number name (queues h) q is) refl))
+    good_test h who (has_dot consumer) _ _ (λ _. good_leaves_queue h who q consumer (subscription_id q consumer h) (among-number name (queues h) q is) refl))
 good_form h l now who (NextBatch name consumer) may =
     good_found h who (queue_number name (queues h)) (NoQueue name) _ (λ q is.
     good_test h who (has_dot consumer) _ _ (λ _.
@@ -258,6 +269,9 @@ good_form h l now who (EventRetry id event seconds) may =
       fresh = fresh;
     })) done))))
 good_form h l now who MaintRetryEvents may = good_maint h l now who
+good_form h l now who (MaintRotateStep1 name) may =
+    good_found h who (queue_number name (queues h)) (NoQueue name) _ (λ q is. good_rotates h l now who q (among-number name (queues h) q is) (held_back now (queue_of h q)) refl)
+good_form h l now who MaintRotateStep2 may = good_by_worker h who (maint_rotate_step2 (database_of h)) (may_end_switches h l)
 good_form h l now who (FinishBatch batch) may = good_finishes h who batch (active_batch batch h) refl
 good_form h l now who (ConsumerInfo name consumer) may =
     good_found h who (queue_number name (queues h)) (NoQueue name) _ (λ q is.

@@ -36,7 +36,7 @@ use Rattle.sky_model.proofs.SeenRows.{seen-stands, stands-by, stands-begun}
 use Rattle.sky_model.proofs.Good.{MayStand, Good, same-session, good_refused, good_test, good_test_then, good_found, good_refused_by, good_checked, good_commits}
 use Rattle.sky_model.proofs.Cases.{by_test, by_block}
 
-good_leaves : (h : History) (who : ℕ) (committed : Bool) (o : Option ℕ) → own_txid who h ≡ o → Chain h (leaves committed who o)
+pub good_leaves : (h : History) (who : ℕ) (committed : Bool) (o : Option ℕ) → own_txid who h ≡ o → Chain h (leaves committed who o)
 good_leaves h who committed None none = more (ends_block who none) done
 good_leaves h who committed (Some t) mine = more (ends who t committed mine) (more (ends_block who (ap (λ b. if b then None else own_txid who h) (same-session who))) done)
 

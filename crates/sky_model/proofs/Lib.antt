@@ -49,10 +49,13 @@ pub mod Promised
 pub mod Entering
 pub mod SnapshotLaws
 pub mod EventsBegun
+pub mod Commits
+pub mod Rotating
+pub mod Rotation
 mod QueuesInUse
 pub mod TickOrder
 pub mod Climbing
-pub mod Rotation
+pub mod KeptTicks
 pub mod Tripled
 pub mod ActiveBatches
 pub mod FinishedBatches

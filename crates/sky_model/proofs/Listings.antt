@@ -4,25 +4,27 @@ use Rattle.std.proofs.Common.{◌≡◌, ℕ, ◌+◌, ◌<◌, ◌≤◌, List,
 use Rattle.std.proofs.lemmas.Bool.{or_right, false_from_ne_true, eqb-true, cond_both}
 use Rattle.std.proofs.lemmas.List.Elements.{filter-append}
 use Rattle.sky_val.specs.declared.event.Event.{Event}
+use Rattle.sky_model.specs.History as of_queue
 use Rattle.sky_model.specs.History.{Batch, Mark, queued, put, ticked, History}
 use Rattle.sky_model.specs.Transactions.{has_ended, has_committed, has_rolled_back}
-use Rattle.sky_model.specs.Queues.{events, ticks, newest_tick, at_tick}
+use Rattle.sky_model.specs.Queues.{queues_made, events, ticks, newest_tick, at_tick}
 use Rattle.sky_model.specs.Batches.{batch_events}
 use Rattle.pgq_tables.specs.Listed.{is_for}
 use Rattle.pgq_tables.specs.ById.{by_id}
 use Rattle.sky_model.specs.Retries.{brought_by}
 use Rattle.sky_model.specs.Queues.{id_of}
 use Rattle.sky_model.specs.LawsOfBatches.{stands_in, ListingsStay}
-use Rattle.sky_model.proofs.Legal.{Fine, puts, puts_back, ticks_next, Legal}
+use Rattle.sky_model.proofs.Legal.{Fine, makes, puts, puts_back, ticks_next, Legal}
 use Rattle.sky_model.proofs.Snapshots.{sound, runs-unended, own-unended, has_committed-ended}
 use Rattle.sky_model.proofs.SnapshotLaws.{legal-below_mark, fine_mark, legal-below, legal_place}
-use Rattle.sky_model.proofs.TickOrder.{is_made, unmade_above, committed_since}
+use Rattle.sky_model.proofs.TickOrder.{is_made, unmade_above, committed_since, unmade_beyond}
 use Rattle.sky_model.proofs.ActiveBatches.{IsActive, active_batches}
 use Rattle.sky_model.proofs.Cases.{by_same}
 
 -- a tick that is made stays
 made_since : (q id : ℕ) (later : List Mark) (p : History) → is_made q id p ≡ true → is_made q id (later ++ p) ≡ true
 made_since q id [] p made = made
+made_since q id (queued (of_queue.made name t time) ∷ later) p made = or_right (queues_made (later ++ p) == q && 1 == id) (is_made q id (later ++ p)) (made_since q id later p made)
 made_since q id (queued (ticked r m time seq) ∷ later) p made = or_right (r == q && m == id) (is_made q id (later ++ p)) (made_since q id later p made)
 made_since q id (_ ∷ later) p made = made_since q id later p made
 
@@ -67,6 +69,10 @@ same_listing h _ l (ticks_next q m time seq i above c) b le made = by_same (λ x
     there same =
         let newer : id_of (newest_tick (ticks b.queue h)) < m = subst (λ n. id_of (newest_tick (ticks n h)) < m) same above in
         λ i. lists (new_tick h l b.queue b.cur b.cur m made (omega arith) newer i) (new_tick h l b.queue b.cur b.prev m made le newer i)
+same_listing h _ l (makes name t time new) b le made =
+    by_same (λ x. by_id (filter (λ e. has_committed (if x && 1 == b.cur then h else at_tick b.queue b.cur h) e.ev_txid
+    && not (has_committed (if x && 1 == b.prev then h else at_tick b.queue b.prev h) e.ev_txid) && is_for b.sub e.ev_owner) (events b.queue h)) ≡ batch_events h b) (queues_made h) b.queue
+    (λ same. absurd (cc (sym made ∙ unmade_beyond h l b.queue b.cur (omega (arith, same))))) (λ _. refl)
 same_listing h _ l _ b le made = refl
 
 same_listings : (later : List Mark) (p : History) → Legal (later ++ p) → (b : Batch) → b.prev ≤ b.cur → is_made b.queue b.cur p ≡ true

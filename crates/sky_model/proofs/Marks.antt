@@ -7,7 +7,7 @@ use Rattle.sky_model.specs.History.{Mark, of_session, of_worker, began, ended, b
 use Rattle.sky_model.specs.Config.{default_config}
 use Rattle.pgq_tables.specs.Tables as tables_of
 use Rattle.pgq_tables.specs.Tables.{new_tables, with_stored, with_pending, with_second_step, no_tables}
-use Rattle.sky_model.specs.Queues.{queues_made, queues, others_than, without_transaction, ticks_above, second_step_of}
+use Rattle.sky_model.specs.Queues.{new_tick, queues_made, queues, others_than, without_transaction, ticks_above, second_step_of}
 use Rattle.sky_model.specs.Consumers.{all_but, Subscription, subscription_id, position, active, of_another}
 use Rattle.sky_model.specs.Transactions.{next_txid, running, has_rolled_back, snapshot}
 use Rattle.sky_model.specs.Sessions.{outside, inside, failed, at_each, at_first, at_place, sight, sight_by, session}
@@ -43,7 +43,10 @@ pub database_of-queue_mark : (h : History) (mark : QueueMark) → database_of (q
 database_of-queue_mark h (made name t time) = λ i. record (database_of h) {
   queues_made = queues_made h + 1;
   queues = queues h ++ record { number = queues_made h; name = name } ∷ [];
-  queue = λ n. by_case (queues_made h == n) (λ b. record (queue_of h n) { tables = if b then new_tables t time else (queue_of h n).tables }) i;
+  queue = λ n. by_case (queues_made h == n) (λ b. record (queue_of h n) {
+    tables = if b then new_tables t time else (queue_of h n).tables;
+    tick_list = if b then (queue_of h n).tick_list ++ new_tick time h ∷ [] else (queue_of h n).tick_list;
+  }) i;
 }
 database_of-queue_mark h (raised q value) = λ i. record (database_of h) { queue = λ n. by_case (q == n) (λ b. record (queue_of h n) { seq = if b then value else (queue_of h n).seq }) i }
 database_of-queue_mark h (put q event) = λ i. record (database_of h) { queue = λ n. by_case (q == n) (λ b. record (queue_of h n) { tables = if b then with_stored event (queue_of h n).tables else (queue_of h n).tables }) i }

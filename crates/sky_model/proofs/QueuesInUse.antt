@@ -3,28 +3,38 @@ use Rattle.std.proofs.Common.{◌≡◌, ℕ, ◌<◌, List, [], ◌∷◌, ◌+
 use Rattle.std.specs.List.{list_any}
 use Rattle.std.proofs.lemmas.Bool.Decides.{nat_tests}
 use Rattle.std.proofs.lemmas.Bool.{eqb-true}
-use Rattle.std.proofs.lemmas.List.Elements.{All-nil, All-push, All-weaker}
+use Rattle.std.proofs.lemmas.List.Elements.{All-nil, All-head, All-tail, All-push, All-weaker}
 use Rattle.sky_val.specs.declared.event.Event.{Event}
 use Rattle.sky_txid.specs.Ids.{contains}
 use Rattle.sky_model.specs.History.{began, ended, queued, dropped, History}
 use Rattle.sky_model.specs.Transactions.{next_txid, running, snapshot}
 use Rattle.sky_model.specs.Config.{default_config}
-use Rattle.sky_model.specs.Queues.{NamedQueue, queues_made, queues, others_than, config, sequence, events, stored, kept_ticks}
+use Rattle.sky_model.specs.Queues.{new_tick, NamedQueue, queues_made, queues, others_than, config, sequence, events, tables, without_transaction, kept_ticks, ticks_above, second_step_of}
 use Rattle.sky_model.specs.Consumers.{all_but, consumers, subscription_id, position, active}
 use Rattle.sky_model.specs.Retries.{brought_by}
-use Rattle.sky_model.specs.LawsOfQueues.{QueuesOfConsumersStand, QueuesOfTriggersStand, BusyQueuesStand, StandingQueuesKeepAll, OtherQueuesKeepNothing, NewQueuesAreOthers}
-use Rattle.sky_model.proofs.Legal.{IsAmong, IsQueue, makes, raises, puts, puts_back, ticks_next, registers, unregisters, configures, drops, Legal, start, next}
-use Rattle.sky_model.proofs.QueueNumbers.{among-before, among-others}
+use Rattle.sky_model.specs.LawsOfQueues.{QueuesOfConsumersStand, QueuesOfTriggersStand, BusyQueuesStand, OtherQueuesKeepNothing, NewQueuesAreOthers}
+use Rattle.sky_model.proofs.Legal.{IsAmong, IsQueue, makes, raises, puts, puts_back, ticks_next, registers, unregisters, begins_switch, makes_switch, ends_switch, configures, drops, Legal, start, next}
+use Rattle.pgq_tables.specs.Tables as tables_of
+use Rattle.pgq_tables.specs.Tables.{no_tables, new_tables, with_stored, with_pending, with_second_step}
+use Rattle.sky_model.specs.StepQueue.{has_part_in}
+use Rattle.sky_model.proofs.QueueNumbers.{among-before, among-last, among-others}
 use Rattle.sky_model.proofs.EventsBegun.{Begun, events-begun}
 use Rattle.sky_model.proofs.Members.{among-consumers}
 use Rattle.sky_model.proofs.Snapshots.{sound, runs-below, begun-next, contains-push, contains-filter}
-use Rattle.sky_model.proofs.StandingQueues.{whole, beyond, registered-stands}
+use Rattle.sky_model.proofs.StandingQueues.{beyond, registered-stands}
+use Rattle.sky_model.proofs.Rotation.{running-stored}
 use Rattle.sky_model.proofs.LawfulTelling.{trigger-queues}
 use Rattle.sky_model.proofs.SnapshotLaws.{legal_place}
 use Rattle.sky_names.proofs.PlaceLemmas.{bytes_eq_refl}
 use Rattle.sky_model.proofs.Cases.{by_test, by_same}
 
 -- ---- running transactions
+
+-- what holds of each of some ids holds of one that is among them
+contained : (P : ℕ → Type 0) (t : ℕ) (ts : List ℕ) → All P ts → contains t ts ≡ true → P t
+contained P t [] all is = absurd (cc)
+contained P t (u ∷ ts) all is =
+    by_same (λ b. (b || contains t ts) ≡ true → P t) t u (λ same _. subst P (sym same) (All-head P u ts all)) (λ _ is. contained P t ts (All-tail P u ts all) is) is
 
 -- the queue of an event stands while the event's transaction runs
 abbrev Needs : History → ℕ → Event → Type 0
@@ -51,8 +61,13 @@ running-stands _ (next {h = h} l (drops p none untold idle)) q =
     let stands : IsQueue h q = running-stands h l q k e less runs in
     among-others p (queues h) q stands
     (by_same (λ b. b ≡ false) q p
-    (λ same. absurd (cc (sym runs ∙ (subst (All (λ x. contains x.ev_txid (running h) ≡ false)) ((whole h l q stands).all_events) (subst (λ n. All (λ x. contains x.ev_txid (running h) ≡ false) (stored n h)) (sym same) idle)) k e less)))
+    (λ same. absurd (clash (get_or (events q h) k e).ev_txid runs
+    (running-stored h l q stands k e less runs) (subst (λ n. All (λ t. has_part_in (tables n h) t ≡ false) (running h)) (sym same) idle)))
     (λ _. refl))
+  where
+    -- a running transaction that has put an event isn't one that hasn't
+    clash : (t : ℕ) → contains t (running h) ≡ true → has_part_in (tables q h) t ≡ true → All (λ t. has_part_in (tables q h) t ≡ false) (running h) → ⊥
+    clash t runs has idle = cc (sym has ∙ contained (λ t. has_part_in (tables q h) t ≡ false) t (running h) idle runs)
 running-stands _ (next {h = h} l _) q = running-stands h l q
 
 -- ---- what is kept of other queues
@@ -65,6 +80,11 @@ apart all p q is away = by_same (λ b. b ≡ false) p q (λ same. absurd (cc (sy
 away-before : (queues : List NamedQueue) (last : NamedQueue) (q : ℕ) → list_any (λ x. x.number == q) (queues ++ last ∷ []) ≡ false → list_any (λ x. x.number == q) queues ≡ false
 away-before queues last q away =
     by_test (λ b. b ≡ false) (list_any (λ x. x.number == q) queues) (λ is. absurd (cc (sym away ∙ among-before queues last q is))) (λ _. refl)
+
+-- and isn't that one
+away-last : (queues : List NamedQueue) (last : NamedQueue) (q : ℕ) → list_any (λ x. x.number == q) (queues ++ last ∷ []) ≡ false → (last.number == q) ≡ false
+away-last queues last q away =
+    by_same (λ b. b ≡ false) last.number q (λ same. absurd (cc (sym away ∙ subst (λ n. IsAmong n (queues ++ last ∷ [])) same (among-last queues last)))) (λ _. refl)
 
 -- nor did one that isn't among the others than another
 away-others : (p : ℕ) (queues : List NamedQueue) (q : ℕ) → (p == q) ≡ false → list_any (λ x. x.number == q) (others_than p queues) ≡ false → list_any (λ x. x.number == q) queues ≡ false
@@ -85,27 +105,46 @@ unsubscribed-empty h q none = of (consumers q h) refl
 record IsBare (h : History) (q : ℕ) : Type 0 where
   unset : config q h ≡ default_config
   no_id : sequence q h ≡ 0
-  no_event : stored q h ≡ []
+  no_event : tables q h ≡ no_tables
   no_tick : kept_ticks q h ≡ []
   no_consumer : consumers q h ≡ []
 
 bare : (h : History) → Legal h → (q : ℕ) → list_any (λ x. x.number == q) (queues h) ≡ false → IsBare h q
 bare [] start q away = record { unset = refl; no_id = refl; no_event = refl; no_tick = refl; no_consumer = refl }
+bare (ended whose t false ∷ h) (next l fine) q away =
+    let b : IsBare h q = bare h l q away in
+    record { unset = b.unset; no_id = b.no_id; no_event = ap (without_transaction t) b.no_event; no_tick = b.no_tick; no_consumer = b.no_consumer }
 bare _ (next {h = h} l (makes name t time new)) q away =
     let b : IsBare h q = bare h l q (away-before (queues h) (record { number = queues_made h; name = name }) q away) in
-    record { unset = b.unset; no_id = b.no_id; no_event = b.no_event; no_tick = b.no_tick; no_consumer = b.no_consumer }
+    let other : (queues_made h == q) ≡ false = away-last (queues h) (record { number = queues_made h; name = name }) q away in
+    record { unset = b.unset; no_id = b.no_id; no_event = ap (λ c. if c then new_tables t time else tables q h) other ∙ b.no_event; no_tick = ap (λ c. if c then kept_ticks q h ++ new_tick time h ∷ [] else kept_ticks q h) other ∙ b.no_tick; no_consumer = b.no_consumer }
+bare _ (next {h = h} l (begins_switch p t may)) q away =
+    let b : IsBare h q = bare h l q away in
+    record { unset = b.unset; no_id = b.no_id; no_event = ap (λ c. if c then with_pending t (tables q h) else tables q h) (apart (queues h) p q may.within away) ∙ b.no_event; no_tick = b.no_tick; no_consumer = b.no_consumer }
+bare _ (next {h = h} l (makes_switch p t time i is)) q away =
+    let b : IsBare h q = bare h l q away in
+    record {
+      unset = b.unset;
+      no_id = b.no_id;
+      no_event = ap (λ c. if c then tables_of.switched time (tables q h) else tables q h) (apart (queues h) p q i away) ∙ b.no_event;
+      no_tick = ap (λ c. if c then ticks_above (second_step_of (tables q h)) (kept_ticks q h) else kept_ticks q h) (apart (queues h) p q i away) ∙ b.no_tick;
+      no_consumer = b.no_consumer;
+    }
+bare _ (next {h = h} l (ends_switch p t may)) q away =
+    let b : IsBare h q = bare h l q away in
+    record { unset = b.unset; no_id = b.no_id; no_event = ap (λ c. if c then with_second_step t (tables q h) else tables q h) (apart (queues h) p q may.within away) ∙ b.no_event; no_tick = b.no_tick; no_consumer = b.no_consumer }
 bare _ (next {h = h} l (raises p value i le)) q away =
     let b : IsBare h q = bare h l q away in
     record { unset = b.unset; no_id = ap (λ c. if c then value else sequence q h) (apart (queues h) p q i away) ∙ b.no_id; no_event = b.no_event; no_tick = b.no_tick; no_consumer = b.no_consumer }
 bare _ (next {h = h} l (puts who p event i at mine newest)) q away =
     let b : IsBare h q = bare h l q away in
-    record { unset = b.unset; no_id = b.no_id; no_event = ap (λ c. if c then stored q h ++ event ∷ [] else stored q h) (apart (queues h) p q i away) ∙ b.no_event; no_tick = b.no_tick; no_consumer = b.no_consumer }
+    record { unset = b.unset; no_id = b.no_id; no_event = ap (λ c. if c then with_stored event (tables q h) else tables q h) (apart (queues h) p q i away) ∙ b.no_event; no_tick = b.no_tick; no_consumer = b.no_consumer }
 bare _ (next {h = h} l (puts_back retry t back)) q away =
     let b : IsBare h q = bare h l q away in
     record {
       unset = b.unset;
       no_id = b.no_id;
-      no_event = ap (λ c. if c then stored q h ++ brought_by t retry.event ∷ [] else stored q h) (apart (queues h) retry.queue q back.stands away) ∙ b.no_event;
+      no_event = ap (λ c. if c then with_stored (brought_by t retry.event) (tables q h) else tables q h) (apart (queues h) retry.queue q back.stands away) ∙ b.no_event;
       no_tick = b.no_tick;
       no_consumer = b.no_consumer;
     }
@@ -132,7 +171,7 @@ bare _ (next {h = h} l (drops p none untold idle)) q away =
     (λ _ is. record {
       unset = ap (λ c. if c then default_config else config q h) is;
       no_id = ap (λ c. if c then 0 else sequence q h) is;
-      no_event = ap (λ c. if c then [] else stored q h) is;
+      no_event = ap (λ c. if c then no_tables else tables q h) is;
       no_tick = ap (λ c. if c then [] else kept_ticks q h) is;
       no_consumer = unsubscribed-empty h q (λ c. ap (λ n. subscription_id n c h) (sym (eqb-true p q is)) ∙ none c);
     })
@@ -141,7 +180,7 @@ bare _ (next {h = h} l (drops p none untold idle)) q away =
     record {
       unset = ap (λ c. if c then default_config else config q h) other ∙ b.unset;
       no_id = ap (λ c. if c then 0 else sequence q h) other ∙ b.no_id;
-      no_event = ap (λ c. if c then [] else stored q h) other ∙ b.no_event;
+      no_event = ap (λ c. if c then no_tables else tables q h) other ∙ b.no_event;
       no_tick = ap (λ c. if c then [] else kept_ticks q h) other ∙ b.no_tick;
       no_consumer = b.no_consumer;
     }) refl
@@ -170,9 +209,6 @@ busy_queues_stand p is queue = λ k e less unended.
     let l : Legal p = legal_place p is in
     let begun : Begun p (get_or (events queue p) k e) = events-begun p l queue k e less in
     running-stands p l queue k e less (grind (arith, nat_tests, (sound p l).runs (get_or (events queue p) k e).ev_txid, begun, unended))
-
-pub standing_queues_keep_all : StandingQueuesKeepAll
-standing_queues_keep_all p is queue stands = let w = whole p (legal_place p is) queue stands in record { all_events = w.all_events; all_ticks = w.all_ticks }
 
 pub other_queues_keep_nothing : OtherQueuesKeepNothing
 other_queues_keep_nothing p is queue away =

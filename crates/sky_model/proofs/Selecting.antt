@@ -5,7 +5,7 @@ use Rattle.std.proofs.lemmas.Bool.Decides.{nat_tests}
 use Rattle.std.proofs.lemmas.List.Elements.{All-nil, All-push, All-weaker}
 use Rattle.sky_val.specs.declared.event.Event.{Event}
 use Rattle.sky_txid.specs.Snapshot.{sees}
-use Rattle.sky_model.specs.History.{Batch, ended, queued, ticked, History}
+use Rattle.sky_model.specs.History.{Batch, ended, queued, made, ticked, History}
 use Rattle.sky_model.specs.Transactions.{has_ended, has_committed, has_rolled_back}
 use Rattle.sky_model.specs.Queues.{queues, sequence, events, ticks, tick, at_tick}
 use Rattle.sky_model.specs.Batches.{batch_events}
@@ -25,6 +25,7 @@ use Rattle.sky_model.proofs.Cases.{by_same}
 ended-at_tick : (h : History) (q id t : ℕ) → has_ended (at_tick q id h) t ≡ true → has_ended h t ≡ true
 ended-at_tick [] q id t e = e
 ended-at_tick (ended who u committed ∷ h) q id t e = or_right (t == u) (has_ended h t) (ended-at_tick h q id t e)
+ended-at_tick (queued (made name u time) ∷ h) q id t e = grind (arith, ended-at_tick h q id t)
 ended-at_tick (queued (ticked p m time seq) ∷ h) q id t e = grind (arith, ended-at_tick h q id t)
 ended-at_tick (_ ∷ h) q id t e = ended-at_tick h q id t e
 
@@ -32,6 +33,7 @@ ended-at_tick (_ ∷ h) q id t e = ended-at_tick h q id t e
 committed-at_tick : (h : History) → Legal h → (q id t : ℕ) → has_committed (at_tick q id h) t ≡ (has_ended (at_tick q id h) t && not (has_rolled_back h t))
 committed-at_tick [] start q id t = has_committed-ended [] start t
 committed-at_tick (ended whose u false ∷ h) (next l fine) q id t = grind (arith, nat_tests, committed-at_tick h l q id t, ended-at_tick h q id t, ender-unended h l whose u false fine)
+committed-at_tick (queued (made name u time) ∷ h) (next l fine) q id t = grind (arith, committed-at_tick h l q id t, has_committed-ended h l t)
 committed-at_tick (queued (ticked p m time seq) ∷ h) (next l fine) q id t = grind (arith, committed-at_tick h l q id t, has_committed-ended h l t)
 committed-at_tick (_ ∷ h) (next l fine) q id t = committed-at_tick h l q id t
 

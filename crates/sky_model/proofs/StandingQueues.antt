@@ -8,7 +8,7 @@ use Rattle.sky_model.specs.History.{ended, queued, made, History}
 use Rattle.sky_model.specs.Transactions.{snapshot}
 use Rattle.pgq_tables.specs.Tables as tables_of
 use Rattle.pgq_tables.specs.Tables.{no_tables, new_tables, with_stored, with_pending, with_second_step}
-use Rattle.sky_model.specs.Queues.{queues_made, queues, events, tables, without_transaction, Tick, ticks, kept_ticks, ticks_above, second_step_of}
+use Rattle.sky_model.specs.Queues.{new_tick, queues_made, queues, events, tables, without_transaction, Tick, ticks, kept_ticks, ticks_above, second_step_of}
 use Rattle.sky_model.specs.Consumers.{subscription_id}
 use Rattle.sky_model.specs.Retries.{brought_by}
 use Rattle.sky_model.proofs.Legal.{IsQueue, makes, puts, puts_back, ticks_next, registers, unregisters, begins_switch, makes_switch, ends_switch, drops, Legal, start, next}
@@ -29,7 +29,12 @@ beyond (ended whose t false ∷ h) (next l fine) q le =
 beyond _ (next {h = h} l (makes name t time new)) q le =
     let b : IsBeyond h q = beyond h l q (omega (arith, le)) in
     let other : (queues_made h == q) ≡ false = grind (arith, nat_tests, le) in
-    record { tables = ap (λ c. if c then new_tables t time else tables q h) other ∙ b.tables; events = b.events; kept = b.kept; ticks = b.ticks }
+    record {
+      tables = ap (λ c. if c then new_tables t time else tables q h) other ∙ b.tables;
+      events = b.events;
+      kept = ap (λ c. if c then kept_ticks q h ++ new_tick time h ∷ [] else kept_ticks q h) other ∙ b.kept;
+      ticks = ap (λ c. if c then ticks q h ++ new_tick time h ∷ [] else ticks q h) other ∙ b.ticks;
+    }
 beyond _ (next {h = h} l (puts who p event i is o newest)) q le =
     let b : IsBeyond h q = beyond h l q le in
     let other : (p == q) ≡ false = grind (arith, nat_tests, queue-below h p i) in

@@ -1,5 +1,5 @@
 -- Which marks statements leave, once for every test of marks and every property of answers.
-use Rattle.std.proofs.Common.{◌≡◌, ℕ, zero, suc, ℤ, ◌+◌, ◌^◌, nat_le, List, [], ◌∷◌, ◌++◌, Bool, true, false, ◌==◌, Option, Some, None, Ok, Err, IfOk, is_some, length, refl, sym, subst, arith, if◌then◌else◌, not, ◌&&◌}
+use Rattle.std.proofs.Common.{◌≡◌, ℕ, zero, suc, ℤ, ◌+◌, ◌^◌, nat_le, List, [], ◌∷◌, ◌++◌, Bool, true, false, ◌==◌, Option, Some, None, Ok, Err, IfOk, is_some, length, refl, sym, ◌∙◌, ap, subst, arith, if◌then◌else◌, not, ◌&&◌}
 use Rattle.std.proofs.lemmas.List.Elements.{All-cons, All-append}
 use Rattle.sky_val.specs.declared.val.Val.{Val}
 use Rattle.sky_keys.specs.Waits.{Waiting, other_holder, is_waiting}
@@ -9,19 +9,21 @@ use Rattle.sky_model.specs.declared.stmt.Attempt.TheVariants.{Insertion, Changes
 use Rattle.sky_model.specs.declared.stmt.RowStmt.{RowStmt}
 use Rattle.sky_model.specs.declared.stmt.RowStmt.TheVariants.{OpenDb, Close, Cancel, Begin, BeginRepeatableRead, Commit, Rollback, TxidCurrent, TxidCurrentSnapshot, TxidVisibleInSnapshot, CreateTable, Insert, Update, Delete, Get, Scan}
 use Rattle.sky_model.specs.declared.stmt.Stmt.{Stmt}
-use Rattle.sky_model.specs.declared.stmt.Stmt.TheVariants.{Row, CreateQueue, DropQueue, SetQueueConfig, QueueInfo, InsertEvent, Ticker, ForceTick, RegisterConsumer, RegisterConsumerAt, UnregisterConsumer, NextBatch, GetBatchEvents, GetBatchInfo, EventRetry, FinishBatch, MaintRetryEvents, ConsumerInfo, AddTrigger, Clock, PgqdOn, PgqdOff}
+use Rattle.sky_model.specs.declared.stmt.Stmt.TheVariants.{Row, CreateQueue, DropQueue, SetQueueConfig, QueueInfo, InsertEvent, Ticker, ForceTick, RegisterConsumer, RegisterConsumerAt, UnregisterConsumer, NextBatch, GetBatchEvents, GetBatchInfo, EventRetry, FinishBatch, MaintRetryEvents, MaintRotateStep1, MaintRotateStep2, ConsumerInfo, AddTrigger, Clock, PgqdOn, PgqdOff}
 use Rattle.sky_model.specs.declared.stmt.Where.{Where}
 use Rattle.sky_model.specs.declared.reply.Reply.{Reply}
 use Rattle.sky_model.specs.declared.reply.Reply.TheVariants.{Refused}
 use Rattle.sky_model.specs.declared.reply.Refusal.{Refusal}
 use Rattle.sky_model.specs.declared.reply.Refusal.TheVariants.{Canceled, IdsSpent}
-use Rattle.sky_model.specs.History.{Batch, Mark, QueueMark, of_session, of_worker, ended, connected, disconnected, looked, block_failed, tabled, wrote, waits, waited, queued, raised, put, ticked}
-use Rattle.sky_model.specs.Queues.{Tick, tick}
+use Rattle.sky_model.specs.History.{Batch, Mark, QueueMark, of_session, of_worker, ended, connected, disconnected, looked, block_failed, tabled, wrote, waits, waited, queued, raised, put, ticked, switching, switched, second_step}
+use Rattle.sky_model.specs.declared.reply.HeldBack.{HeldBack}
+use Rattle.sky_model.specs.Queues.{NamedQueue, Tick, tick, is_pending}
+use Rattle.sky_model.specs.StepRotation.{held_back, switch_of, rotates, second_steps, lack_second_step, ends_switches, switches_by, switches_of, committed_by}
 use Rattle.sky_model.specs.Consumers.{Subscription}
 use Rattle.sky_model.specs.Sessions.{Block, outside, inside, failed, Session}
 use Rattle.sky_model.specs.State.{RowPart, Database, after_mark, after_marks}
 use Rattle.sky_model.specs.ShownRows.{KeyShown, RowsShown}
-use Rattle.sky_model.specs.Outcome.{Outcome, Checked, marks_of, ◌>>=◌, ◌>>◌, refused_if, does_marks, end_of, aborts, abort, settled}
+use Rattle.sky_model.specs.Outcome.{Outcome, Checked, marks_of, ◌>>=◌, ◌>>◌, refused_if, does_marks, after_marks_of, end_of, aborts, abort, settled}
 use Rattle.sky_model.specs.OwnTransaction.{begin_of, commit_of, written}
 use Rattle.sky_model.specs.StepLocks.{once_free}
 use Rattle.sky_model.specs.StepSession.{open_db, begin, begin_repeatable_read, leaves, commit, rollback, close, cancel}
@@ -39,7 +41,7 @@ use Rattle.sky_model.specs.Made.{Making, takes_sight, looking, runs_if}
 use Rattle.sky_model.specs.Reader.{Shown, PartReader}
 use Rattle.sky_model.specs.Gates.{Gate, gated}
 use Rattle.sky_model.specs.Settling.{Turn, turn_of, behind_marks, and_then, ready, attempted, resumed, goes_on, settles, settling}
-use Rattle.sky_model.specs.Calls.{row_form, form}
+use Rattle.sky_model.specs.Calls.{row_form, switches_first, form}
 use Rattle.std.proofs.lemmas.Bool.{cond_both}
 use Rattle.std.proofs.lemmas.Result.{IfOk-at_ok}
 use Rattle.sky_model.proofs.Cases.{by_test, ok-then, by_block}
@@ -312,12 +314,79 @@ module _ (p : Mark → Bool) (of_queues : (mark : QueueMark) → p (queued mark)
       of (Ok marks) also = (given.0, also)
       of (Err refusal) also = tt
 
+-- ---- which statement makes switches
+
+-- a statement on rows other than `commit` makes none
+abbrev pub SwitchesNone : RowStmt → Type 0
+SwitchesNone stmt = (d : Database) (now : ℤ) (who : ℕ) → switches_first d now who stmt ≡ []
+
+pub by_commit : (P : RowStmt → Type 0) → P Commit → ((stmt : RowStmt) → SwitchesNone stmt → P stmt) → (stmt : RowStmt) → P stmt
+by_commit P commits other (OpenDb name) = other (OpenDb name) (λ d now who. refl)
+by_commit P commits other Close = other Close (λ d now who. refl)
+by_commit P commits other Cancel = other Cancel (λ d now who. refl)
+by_commit P commits other Begin = other Begin (λ d now who. refl)
+by_commit P commits other BeginRepeatableRead = other BeginRepeatableRead (λ d now who. refl)
+by_commit P commits other Commit = commits
+by_commit P commits other Rollback = other Rollback (λ d now who. refl)
+by_commit P commits other TxidCurrent = other TxidCurrent (λ d now who. refl)
+by_commit P commits other TxidCurrentSnapshot = other TxidCurrentSnapshot (λ d now who. refl)
+by_commit P commits other (TxidVisibleInSnapshot txid snapshot) = other (TxidVisibleInSnapshot txid snapshot) (λ d now who. refl)
+by_commit P commits other (CreateTable table columns) = other (CreateTable table columns) (λ d now who. refl)
+by_commit P commits other (Insert table row) = other (Insert table row) (λ d now who. refl)
+by_commit P commits other (Update table key sets) = other (Update table key sets) (λ d now who. refl)
+by_commit P commits other (Delete table key) = other (Delete table key) (λ d now who. refl)
+by_commit P commits other (Get table key) = other (Get table key) (λ d now who. refl)
+by_commit P commits other (Scan table) = other (Scan table) (λ d now who. refl)
+
+-- with no marks before, a statement does the same
+pub none-before : (c : Checked Outcome) → after_marks_of [] c ≡ c
+none-before (Ok outcome) = refl
+none-before (Err refusal) = refl
+
+pub none-first : (d : Database) (now : ℤ) (who : ℕ) (stmt : RowStmt) (c : Checked Outcome) → SwitchesNone stmt → after_marks_of (switches_first d now who stmt) c ≡ c
+none-first d now who stmt c none = ap (λ marks. after_marks_of marks c) (none d now who) ∙ none-before c
+
+-- ---- the marks are of queues
+
+module _ (p : Mark → Bool) (of_queues : (mark : QueueMark) → p (queued mark) ≡ true) where
+  pub each-switches_by : (d : Database) (now : ℤ) (t : ℕ) (queues : List NamedQueue) → EachMark p (switches_by d now t queues)
+  each-switches_by d now t [] = tt
+  each-switches_by d now t (q ∷ queues) =
+      by_test (λ b. EachMark p (if b then queued (switched q.number now) ∷ switches_by d now t queues else switches_by d now t queues)) (is_pending t (d.queue q.number).tables)
+      (λ _. each-front p (queued (switched q.number now)) (switches_by d now t queues) (of_queues (switched q.number now)) (each-switches_by d now t queues)) (λ _. each-switches_by d now t queues)
+
+  each-switches_of : (d : Database) (now : ℤ) (txid : Option ℕ) → EachMark p (switches_of d now txid)
+  each-switches_of d now None = tt
+  each-switches_of d now (Some t) = each-switches_by d now t d.queues
+
+  pub each-switches_first : (d : Database) (now : ℤ) (who : ℕ) (stmt : RowStmt) → EachMark p (switches_first d now who stmt)
+  each-switches_first d now who stmt =
+      by_commit (λ s. EachMark p (switches_first d now who s)) (each-switches_of d now (committed_by (d.part.session who).block (d.part.session who).txid))
+      (λ s none. subst (EachMark p) (sym (none d now who)) tt) stmt
+
+  -- so a statement still gives such marks with them
+  pub gives-first : (R : Reply → Type 0) (d : Database) (now : ℤ) (who : ℕ) (stmt : RowStmt) (c : Checked Outcome) → Gives R p c → Gives R p (after_marks_of (switches_first d now who stmt) c)
+  gives-first R d now who stmt (Err refusal) gives = tt
+  gives-first R d now who stmt (Ok outcome) gives = (gives.0, each-append p (switches_first d now who stmt) outcome.marks (each-switches_first d now who stmt) gives.1)
+
 -- and with a gate for its writes
 pub gives-gated : {G : Type 0} (R : Reply → Type 0) (p : Mark → Bool) (gate : Gate G) (g : G) (c : Checked Outcome) → Gives R p c → Gives R p (gated gate g c)
 gives-gated R p gate g (Err refusal) given = tt
 gives-gated R p gate g (Ok o) given = search (after)
 
 -- ---- statements on queues
+
+-- the marks of a first step are of queues, and those of second steps
+module _ (p : Mark → Bool) (of_queues : (mark : QueueMark) → p (queued mark) ≡ true) where
+  pub each-switch_of : (q t : ℕ) (now : ℤ) (b : Block) → EachMark p (switch_of q t now b)
+  each-switch_of q t now b =
+      by_block (λ c. EachMark p (switch_of q t now c))
+      (each-front p (queued (switching q t)) (queued (switched q now) ∷ []) (of_queues (switching q t)) (each-front p (queued (switched q now)) [] (of_queues (switched q now)) tt))
+      (each-front p (queued (switching q t)) [] (of_queues (switching q t)) tt) (each-front p (queued (switching q t)) [] (of_queues (switching q t)) tt) b
+
+  pub each-second_steps : (t : ℕ) (queues : List NamedQueue) → EachMark p (second_steps t queues)
+  each-second_steps t [] = tt
+  each-second_steps t (q ∷ queues) = each-front p (queued (second_step q.number t)) (second_steps t queues) (of_queues (second_step q.number t)) (each-second_steps t queues)
 
 module _ (who : ℕ) where
   abbrev QueueGives : Checked Outcome → Type 0
@@ -344,6 +413,15 @@ module _ (who : ℕ) where
   gives-brings d now (r ∷ rs) =
       checked AnyReply _ (next_id d.part) _ (λ t. (tt, each-append (may_leave (record no_more { queues = true }) who) (back now t (r ∷ rs)) (ended of_worker t true ∷ []) (each-back now t (r ∷ rs)) tt))
 
+  gives-rotates : (d : Database) (now : ℤ) (q : ℕ) (why : Option HeldBack) → QueueGives (rotates d now who q why)
+  gives-rotates d now q (Some why) = (tt, tt)
+  gives-rotates d now q None = search (checked, left-written, each-switch_of) depth 8
+
+  gives-ends_switches : (d : Database) (queues : List NamedQueue) → QueueGives (ends_switches d queues)
+  gives-ends_switches d [] = (tt, tt)
+  gives-ends_switches d (q ∷ queues) =
+      checked AnyReply _ (next_id d.part) _ (λ t. (tt, each-append (may_leave (record no_more { queues = true }) who) (second_steps t (q ∷ queues)) (ended of_worker t true ∷ []) (each-second_steps (may_leave (record no_more { queues = true }) who) (λ mark. refl) t (q ∷ queues)) tt))
+
   gives-finishes : (o : Option Batch) → QueueGives (finishes o)
   gives-finishes None = (tt, tt)
   gives-finishes (Some batch) = (tt, tt)
@@ -351,8 +429,9 @@ module _ (who : ℕ) where
   -- any statement
   pub gives-form : (d : Database) (shown : Shown) (now : ℤ) (stmt : Stmt) → Gives AnyReply (may_leave (kinds (d.part.session who).is_open stmt) who) (form d shown now who stmt)
   gives-form d shown now (Row stmt) =
-      gives-tells (may_leave (kinds is_open (Row stmt)) who) (λ mark. refl) AnyReply d now _
-      (gives-map ReplyHasMoments AnyReply (may_leave (row_kinds is_open stmt) who) (may_leave (kinds is_open (Row stmt)) who) (λ reply has. tt) also _ (gives-row_form who d.part shown.rows stmt))
+      gives-first (may_leave (kinds is_open (Row stmt)) who) (λ mark. refl) AnyReply d now who stmt _
+      (gives-tells (may_leave (kinds is_open (Row stmt)) who) (λ mark. refl) AnyReply d now _
+      (gives-map ReplyHasMoments AnyReply (may_leave (row_kinds is_open stmt) who) (may_leave (kinds is_open (Row stmt)) who) (λ reply has. tt) also _ (gives-row_form who d.part shown.rows stmt)))
     where
       is_open : Bool
       is_open = (d.part.session who).is_open
@@ -376,6 +455,8 @@ module _ (who : ℕ) where
   gives-form d shown now (EventRetry batch event seconds) = search (checked, either) depth 10
   gives-form d shown now (FinishBatch batch) = gives-finishes (d.batch batch)
   gives-form d shown now MaintRetryEvents = gives-brings d now (due_now now most_back d.retries)
+  gives-form d shown now (MaintRotateStep1 name) = checked AnyReply _ (queue_called name d) _ (λ q. gives-rotates d now q (held_back now (d.queue q)))
+  gives-form d shown now MaintRotateStep2 = gives-ends_switches d (lack_second_step d)
   gives-form d shown now (ConsumerInfo name consumer) = search (checked) depth 8
   gives-form d shown now (AddTrigger name table queue backup ignored) = search (checked, after) depth 8
   gives-form d shown now (Clock time) = (tt, tt)

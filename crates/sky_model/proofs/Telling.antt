@@ -188,7 +188,7 @@ module _ {G : Type 0} (gate : Gate G) (now : ℤ) (related : Database → RowPar
 
   told-runs : (who : ℕ) (stmt : RowStmt) (may : Checked (Unit {0})) (d : Database) (g : G) → related d d.part g
       → Outcomes d d.part g (runs_if (row_making (by_gate gate part_by_itself) who stmt) (where_of_row stmt) who (d.part, g) may)
-      (runs_if (making database_by_itself now who (Row stmt)) (where_of_row stmt) who d may)
+      (runs_if (row_making (within_part database_by_itself now) who stmt) (where_of_row stmt) who d may)
   told-runs who stmt (Err refusal) d g is = told-settled who (d.part.session who) (Err refusal) (Err refusal) d d.part g is refl
   told-runs who stmt (Ok _) d g is =
       by_test (λ b. Outcomes d d.part g (if b then looking who (here shown) else here d) (if b then looking who (there shown) else there d)) (takes_sight (where_of_row stmt) (d.part.session who).sight)
@@ -279,9 +279,9 @@ module _ {G : Type 0} (gate : Gate G) (now : ℤ) (related : Database → RowPar
 
   -- and a statement on rows
   pub row_turn-told : (d : Database) (p : RowPart) (g : G) (who : ℕ) (stmt : RowStmt) → related d p g
-      → SameTold gate related d p g (row_turn (by_gate gate part_by_itself) (p, g) who stmt) (database_turn database_by_itself d now who (Row stmt))
+      → SameTold gate related d p g (row_turn (by_gate gate part_by_itself) (p, g) who stmt) (row_turn (within_part database_by_itself now) d who stmt)
   row_turn-told d p g who stmt is =
-      at-own d p g (λ x. Turns d x g (row_turn (by_gate gate part_by_itself) (x, g) who stmt) (database_turn database_by_itself d now who (Row stmt))) is (λ own.
+      at-own d p g (λ x. Turns d x g (row_turn (by_gate gate part_by_itself) (x, g) who stmt) (row_turn (within_part database_by_itself now) d who stmt)) is (λ own.
       let same = told-runs who stmt (allowed (is_waiting who d.part.waiting) (d.part.session who).is_open (d.part.session who).block (where_of_row stmt)) d g own in
-      with_settling-told d d.part g (turn_of who (row_statement (by_gate gate part_by_itself) (d.part, g) who stmt)) (turn_of who (statement database_by_itself d now who (Row stmt)))
+      with_settling-told d d.part g (turn_of who (row_statement (by_gate gate part_by_itself) (d.part, g) who stmt)) (turn_of who (row_statement (within_part database_by_itself now) d who stmt))
       (record { answers = ap (λ reply. (who, reply) ∷ []) same.reply; inserted = same.inserted; stands = same.stands }))

@@ -28,7 +28,7 @@ use Rattle.sky_model.proofs.StandingQueues.{beyond, stands-or-new, registered-st
 use Rattle.sky_model.proofs.EventsBegun.{Begun, events-begun}
 use Rattle.sky_model.proofs.Snapshots.{sound, runs-unended, sees-snapshot}
 use Rattle.sky_model.proofs.Climbing.{xmin_of}
-use Rattle.sky_model.proofs.Rotation.{cut, base, IsCut, cuts, cut-base, some-is, Sits, sits, some-tick, above-is, made-kept}
+use Rattle.sky_model.proofs.KeptTicks.{cut, base, IsCut, cuts, cut-base, some-is, Sits, sits, some-tick, above-is, made-kept}
 use Rattle.sky_model.proofs.TickOrder.{is_made-tick}
 use Rattle.sky_model.proofs.ActiveBatches.{IsActive, active_batches}
 use Rattle.sky_model.proofs.Selecting.{batch_events-by_id}

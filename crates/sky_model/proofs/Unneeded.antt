@@ -1,5 +1,5 @@
 -- What doesn't exist if nothing refuses that a queue is dropped: a consumer of it, a trigger into it, and an event of a running transaction in it.
-use Rattle.std.proofs.Common.{◌≡◌, ℕ, List, [], ◌∷◌, false, not, ◌==◌, ◌||◌, ◌∙◌, All, get_or, length, find, ap, Option, Some, None, is_some, bytes_eq, option_map, refl, arith, if◌then◌else◌}
+use Rattle.std.proofs.Common.{◌≡◌, ℕ, Bool, List, [], ◌∷◌, false, not, ◌==◌, ◌||◌, ◌∙◌, All, get_or, length, find, ap, Option, Some, None, is_some, bytes_eq, option_map, refl, arith, if◌then◌else◌}
 use Rattle.std.specs.List.{list_any}
 use Rattle.std.proofs.lemmas.Bool.Decides.{nat_tests}
 use Rattle.std.proofs.lemmas.List.Elements.{All-nil, All-cons}
@@ -29,15 +29,9 @@ none-into q (t ∷ ts) none =
     by_test (λ b. (t.trigger.queue == q) ≡ b → option_map (λ t. HasTriggers (shown_name t)) (if b then Some t else first_trigger_into q ts) ≡ None → All (λ t. (t.trigger.queue == q) ≡ false) (t ∷ ts)) (t.trigger.queue == q)
     (λ _ is none. absurd (cc)) (λ _ is none. All-cons (λ (t : TableTrigger). (t.trigger.queue == q) ≡ false) t ts is (none-into q ts none)) refl none
 
--- events of which no running transaction has put one
-none-any : (t : ℕ) (es : List Event) → list_any (λ e. e.ev_txid == t) es ≡ false → All (λ e. (e.ev_txid == t) ≡ false) es
-none-any t [] none = All-nil (λ (e : Event). (e.ev_txid == t) ≡ false)
-none-any t (e ∷ es) none =
-    All-cons (λ (e : Event). (e.ev_txid == t) ≡ false) e es (grind (arith, none)) (none-any t es (grind (arith, none)))
-
-pub none-put : (es : List Event) (ts : List ℕ) → option_map QueueBusy (find (λ t. list_any (λ e. e.ev_txid == t) es) ts) ≡ None → All (λ e. contains e.ev_txid ts ≡ false) es
-none-put es [] none = λ k e less. refl
-none-put es (t ∷ ts) none =
-    by_test (λ b. list_any (λ e. e.ev_txid == t) es ≡ b → option_map QueueBusy (if b then Some t else find (λ u. list_any (λ e. e.ev_txid == u) es) ts) ≡ None → All (λ e. contains e.ev_txid (t ∷ ts) ≡ false) es)
-    (list_any (λ e. e.ev_txid == t) es) (λ _ is none. absurd (cc))
-    (λ _ is none. λ k e less. ap (λ b. b || contains (get_or es k e).ev_txid ts) (none-any t es is k e less) ∙ none-put es ts none k e less) refl none
+-- tables of which no running transaction has a part
+pub none-put : (has : ℕ → Bool) (ts : List ℕ) → option_map QueueBusy (find has ts) ≡ None → All (λ t. has t ≡ false) ts
+none-put has [] none = All-nil (λ t. has t ≡ false)
+none-put has (t ∷ ts) none =
+    by_test (λ b. has t ≡ b → option_map QueueBusy (if b then Some t else find has ts) ≡ None → All (λ t. has t ≡ false) (t ∷ ts)) (has t)
+    (λ _ is none. absurd (cc)) (λ _ is none. All-cons (λ t. has t ≡ false) t ts is (none-put has ts none)) refl none

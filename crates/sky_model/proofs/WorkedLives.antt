@@ -42,7 +42,7 @@ of_w id prev cur = record { id = id; queue = 0; consumer = w; sub = 2; prev = pr
 abbrev ticks_made : History
 ticks_made =
     queued (ticked 0 4 (pos 0) 1) ∷ queued (ticked 0 3 (pos 0) 1) ∷ ended (of_session 0) 3 true ∷ queued (put 0 event) ∷ queued (raised 0 1) ∷ began (of_session 0) 3
-    ∷ queued (ticked 0 2 (pos 0) 0) ∷ queued (ticked 0 1 (pos 0) 0) ∷ queued (made (codes "q")) ∷ []
+    ∷ queued (ticked 0 2 (pos 0) 0) ∷ queued (made (codes "q") 2 (pos 0)) ∷ []
 
 -- the first consumer has a batch, and so has the second, which has finished one before
 abbrev both_have : History
@@ -138,8 +138,8 @@ elsewhere = (refl, refl)
 
 ticks_legal : Legal ticks_made
 ticks_legal =
-    next (next (next (next (next (next (next (next (next start (makes (codes "q") refl)) (ticks_next 0 1 (pos 0) 0 refl (omega arith))) (ticks_next 0 2 (pos 0) 0 refl (omega arith)))
-    (begins 0 refl)) (raises 0 1 refl (omega arith))) (puts 0 0 event refl refl refl (All-nil (λ (e : Event). e.ev_id < 1)))) (ends 0 3 true refl)) (ticks_next 0 3 (pos 0) 1 refl (omega arith))) (ticks_next 0 4 (pos 0) 1 refl (omega arith))
+    next (next (next (next (next (next (next (next start (makes (codes "q") 2 (pos 0) refl)) (ticks_next 0 2 (pos 0) 0 refl (omega arith) refl))
+    (begins 0 refl)) (raises 0 1 refl (omega arith))) (puts 0 0 event refl refl refl (All-nil (λ (e : Event). e.ev_id < 1)))) (ends 0 3 true refl)) (ticks_next 0 3 (pos 0) 1 refl (omega arith) refl)) (ticks_next 0 4 (pos 0) 1 refl (omega arith) refl)
 
 -- a batch of the second consumer is made, and finished
 served : (h : History) (id prev cur : ℕ) → Opens h (of_w id prev cur) → active_batch id (queued (opened (of_w id prev cur)) ∷ h) ≡ Some (of_w id prev cur) → Legal h
@@ -149,12 +149,12 @@ served h id prev cur o is l = next (next l (opens (of_w id prev cur) o)) (closes
 both_legal : Legal both_have
 both_legal =
     next (next (served _ 1 2 3 (record { within = refl; stands = refl; fresh = omega arith; closing = _; made = refl; to = refl }) refl
-    (next (next ticks_legal (registers 0 v 1 1 refl refl (omega arith) (omega arith))) (registers 0 w 2 2 refl refl (omega arith) (omega arith))))
+    (next (next ticks_legal (registers 0 v 1 1 refl refl (omega arith) (omega arith) (omega arith))) (registers 0 w 2 2 refl refl (omega arith) (omega arith) (omega arith))))
     (opens (of_w 2 3 4) (record { within = refl; stands = refl; fresh = omega arith; closing = _; made = refl; to = refl })))
     (opens (of_v 3 1 1 2) (record { within = refl; stands = refl; fresh = omega arith; closing = _; made = refl; to = refl }))
 
 back_legal : Legal back
-back_legal = next both_legal (moves 0 w 2 1 refl refl (omega arith) (omega arith))
+back_legal = next both_legal (moves 0 w 2 1 refl refl (omega arith) (omega arith) (omega arith))
 
 again_legal : Legal again
 again_legal =
@@ -162,7 +162,7 @@ again_legal =
     (served _ 4 1 2 (record { within = refl; stands = refl; fresh = omega arith; closing = _; made = refl; to = refl }) refl back_legal)
 
 forward_legal : Legal forward
-forward_legal = next again_legal (moves 0 w 2 4 refl refl (omega arith) (omega arith))
+forward_legal = next again_legal (moves 0 w 2 4 refl refl (omega arith) (omega arith) (omega arith))
 
 anew_legal : Legal anew
-anew_legal = next (next both_legal (unregisters 0 v 1 refl refl)) (registers 0 v 3 4 refl refl (omega arith) (omega arith))
+anew_legal = next (next both_legal (unregisters 0 v 1 refl refl)) (registers 0 v 3 4 refl refl (omega arith) (omega arith) (omega arith))

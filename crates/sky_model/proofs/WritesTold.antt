@@ -4,6 +4,7 @@ use Rattle.sky_val.specs.declared.val.Val.{Val}
 use Rattle.sky_keys.specs.Waits.{Waiting, is_waiting}
 use Rattle.sky_model.specs.declared.stmt.Stmt.{Stmt}
 use Rattle.sky_model.specs.declared.stmt.Stmt.TheVariants.{Row}
+use Rattle.sky_model.specs.declared.stmt.RowStmt.TheVariants.{Commit}
 use Rattle.sky_model.specs.History.{Mark, Whose, of_session, of_worker, looked, tabled, wrote, waited, History}
 use Rattle.sky_model.specs.Sessions.{Session, session, has_open, block, own_txid}
 use Rattle.sky_model.specs.Locks.{waiting}
@@ -23,7 +24,7 @@ use Rattle.sky_model.specs.DatabaseCalls.{DatabaseCall, stepped, entered, failed
 use Rattle.sky_model.specs.LawsOfWrites.{IsTold, WritesAreTold}
 use Rattle.sky_model.proofs.Marks.{database_of-mark, database_of-marks}
 use Rattle.sky_model.proofs.Lawful.{database-reads, past-behind}
-use Rattle.sky_model.proofs.StatementMarks.{each-first, each-rest, AnyReply, gives-map, Kinds, no_more, may_leave, kinds, gives-form, each-failure, given-settled}
+use Rattle.sky_model.proofs.StatementMarks.{each-first, each-rest, AnyReply, gives-map, Kinds, no_more, may_leave, kinds, gives-form, each-failure, given-settled, by_commit, none-first}
 use Rattle.sky_model.proofs.GatedLemmas.{is_no_write, WritesNone, plain-if, plain-abort}
 use Rattle.std.proofs.lemmas.Result.{IfOk-at_ok}
 use Rattle.sky_model.proofs.Cases.{ok-then}
@@ -127,14 +128,20 @@ tells-told h told now who s (Ok o) = of (with_told (database_of h) now o.marks) 
     of (Ok marks) all = all
     of (Err refusal) all = plain-told h (abort who s.block s.txid refusal) (plain-abort who s.block s.txid refusal) told
 
-form-told : (h : History) → AllTold h → (now : ℤ) (who : ℕ) (stmt : Stmt) → AllTold (marked h (settled who (session h who) (form (database_of h) (shown_in h) now who stmt)).marks)
-form-told h told now who (Row stmt) = tells-told h told now who (session h who) (row_form (part_of h) (rows_in h) who stmt)
-form-told h told now who stmt =
+form-plain : (h : History) → AllTold h → (now : ℤ) (who : ℕ) (stmt : Stmt) → (kinds (has_open who h) stmt).writes ≡ false
+    → AllTold (marked h (settled who (session h who) (form (database_of h) (shown_in h) now who stmt)).marks)
+form-plain h told now who stmt quiet =
     let k : Kinds = kinds (has_open who h) stmt in
     let done : Checked Outcome = form (database_of h) (shown_in h) now who stmt in
     plain-told h (settled who (session h who) done).marks
     (given-settled AnyReply is_no_write (λ _. tt) (plain-if no_more refl) who (session h who) done
-    (gives-map AnyReply AnyReply (may_leave k who) is_no_write (λ reply any. any) (plain-if k refl who) done (gives-form who (database_of h) (shown_in h) now stmt))).1 told
+    (gives-map AnyReply AnyReply (may_leave k who) is_no_write (λ reply any. any) (plain-if k quiet who) done (gives-form who (database_of h) (shown_in h) now stmt))).1 told
+
+form-told : (h : History) → AllTold h → (now : ℤ) (who : ℕ) (stmt : Stmt) → AllTold (marked h (settled who (session h who) (form (database_of h) (shown_in h) now who stmt)).marks)
+form-told h told now who (Row stmt) =
+    by_commit (λ s. AllTold (marked h (settled who (session h who) (form (database_of h) (shown_in h) now who (Row s))).marks)) (form-plain h told now who (Row Commit) refl)
+    (λ s still. subst (λ c. AllTold (marked h (settled who (session h who) c).marks)) (sym (none-first (database_of h) now who s _ still)) (tells-told h told now who (session h who) (row_form (part_of h) (rows_in h) who s))) stmt
+form-told h told now who stmt = form-plain h told now who stmt refl
 
 runs-told : (h : History) → AllTold h → (now : ℤ) (who : ℕ) (stmt : Stmt) (may : Checked (Unit {0})) → AllTold (marked h (runs_if (making database_by_history now who stmt) (where_of stmt) who h may).marks)
 runs-told h told now who stmt (Err refusal) = plain-told h (abort who (session h who).block (session h who).txid refusal) (plain-abort who (session h who).block (session h who).txid refusal) told

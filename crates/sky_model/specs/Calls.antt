@@ -14,9 +14,7 @@ use Rattle.sky_model.specs.Limits.{most_of}
 use Rattle.sky_model.specs.History.{Mark, Fact, entered, left, daemon_on, daemon_off, Past}
 use Rattle.sky_model.specs.State.{RowPart, Database}
 use Rattle.sky_model.specs.ShownRows.{RowsShown}
-use Rattle.sky_model.specs.Outcome.{Outcome, Checked, answers}
-use Rattle.sky_model.specs.declared.stmt.Where.TheVariants.{WhenOpen}
-use Rattle.sky_model.specs.Sessions.{Block, inside}
+use Rattle.sky_model.specs.Outcome.{Outcome, Checked, answers, after_marks_of}
 use Rattle.sky_model.specs.Allowed.{where_of_row, where_of, allowed}
 use Rattle.sky_model.specs.Clock.{deed_in, clock, waits_at}
 use Rattle.sky_model.specs.Made.{Making, made_by}
@@ -27,10 +25,10 @@ use Rattle.sky_model.specs.StepTrigger.{add_trigger}
 use Rattle.sky_model.specs.Telling.{tells}
 use Rattle.sky_model.specs.StepConsumer.{register_consumer, register_consumer_at, unregister_consumer, next_batch, get_batch_events, get_batch_info, finish_batch, consumer_info}
 use Rattle.sky_model.specs.StepRetry.{event_retry, maint_retry_events}
-use Rattle.sky_model.specs.StepRotation.{maint_rotate_step1, maint_rotate_step2, switches_of}
+use Rattle.sky_model.specs.StepRotation.{maint_rotate_step1, maint_rotate_step2, committed_by, switches_of}
 use Rattle.sky_model.specs.World.{World, world_of, on_top}
 use Rattle.sky_model.specs.Reader.{Shown, PartReader, DatabaseReader, Reader, within_part, within_database, by_past, Deed, answers_with, refuses, appears, founds, followed}
-use Rattle.sky_model.specs.Settling.{Turn, turn_of, marks_alone, and_then, with_settling}
+use Rattle.sky_model.specs.Settling.{Turn, turn_of, with_settling}
 use Rattle.sky_model.specs.Promises.{Part, after_all}
 
 -- what a statement on sessions, transactions, tables and rows does, if its session may make it
@@ -52,9 +50,15 @@ row_form d shown who (Delete table key) = delete d shown who table key
 row_form d shown who (Get table key) = get d shown who table key
 row_form d shown who (Scan table) = scan d shown who table
 
+-- the switches of event tables that a statement on rows makes before all else: `commit` makes those that its transaction has pending, so what it
+-- unblocks finds them made
+abbrev pub switches_first : Database → ℤ → ℕ → RowStmt → List Mark
+switches_first d now who Commit = switches_of d now (committed_by (d.part.session who).block (d.part.session who).txid)
+switches_first d now who stmt = []
+
 -- what a statement does, if its session may make it; the clock and the daemons are the world's, so what theirs do is defined below
 abbrev pub form : Database → Shown → ℤ → ℕ → Stmt → Checked Outcome
-form d shown now who (Row stmt) = tells d now (row_form d.part shown.rows who stmt)
+form d shown now who (Row stmt) = after_marks_of (switches_first d now who stmt) (tells d now (row_form d.part shown.rows who stmt))
 form d shown now who (CreateQueue queue) = create_queue d now who queue
 form d shown now who (DropQueue queue) = drop_queue d queue
 form d shown now who (SetQueueConfig queue param value) = set_queue_config d queue param value
@@ -108,27 +112,8 @@ abbrev pub statement : {P : Type 0} → DatabaseReader P → P → ℤ → ℕ �
 statement r p now who stmt = made_by (making r now who stmt) (where_of stmt) who p
 
 -- with those that it unblocks
-abbrev pub statement_turn : {P : Type 0} → DatabaseReader P → P → ℤ → ℕ → Stmt → Turn
-statement_turn r p now who stmt = with_settling (within_part r now) p (turn_of who (statement r p now who stmt))
-
--- the transaction of a block that a session may commit
-abbrev pub commits_in : Bool → Block → Option ℕ → Option ℕ
-commits_in true inside txid = txid
-commits_in _ block txid = None
-
--- the transaction that a session's `commit` makes permanent, if it has an id
-abbrev pub commits : RowPart → ℕ → Option ℕ
-commits d who = commits_in (is_ok (allowed (is_waiting who d.waiting) (d.session who).is_open (d.session who).block WhenOpen)) (d.session who).block (d.session who).txid
-
--- what a statement makes happen before all else: `commit` makes the switches that its transaction has pending, so what it unblocks finds them made
-abbrev pub before_statement : Database → ℤ → ℕ → Stmt → List Mark
-before_statement d now who (Row Commit) = switches_of d now (commits d.part who)
-before_statement d now who stmt = []
-
--- a statement of a session, with all that happens in its database
 abbrev pub database_turn : {P : Type 0} → DatabaseReader P → P → ℤ → ℕ → Stmt → Turn
-database_turn r p now who stmt =
-    and_then (within_part r now) p (marks_alone (before_statement (r.database p) now who stmt)) (λ q. statement_turn r q now who stmt)
+database_turn r p now who stmt = with_settling (within_part r now) p (turn_of who (statement r p now who stmt))
 
 -- the name of the database that a statement is to open
 abbrev pub opening : Stmt → Option (List ℕ)

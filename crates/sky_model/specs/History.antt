@@ -20,7 +20,7 @@ pub record Batch : Type 0 where
 
 -- what happened to the queues of a database; a queue is identified by its number in the order of making
 pub data QueueMark : Type 0 where
-  -- a queue was made, by a transaction, at a time
+  -- a queue was made, by a transaction that has ended, with its first tick, at a time
   made : (name : List ℕ) (t : ℕ) (time : ℤ) → QueueMark
   -- its event sequence has this value from now on
   raised : (queue value : ℕ) → QueueMark

@@ -59,6 +59,11 @@ answers reply = Ok (record { reply = reply; marks = [] })
 abbrev pub does_marks : Reply → List Mark → Checked Outcome
 does_marks reply marks = Ok (record { reply = reply; marks = marks })
 
+-- what a statement does after marks that come before its own, unless it is refused
+abbrev pub after_marks_of : List Mark → Checked Outcome → Checked Outcome
+after_marks_of marks (Err refusal) = Err refusal
+after_marks_of marks (Ok outcome) = Ok (record outcome { marks = marks ++ outcome.marks })
+
 -- the end of a session's transaction, if it has an id
 abbrev pub end_of : Bool → ℕ → Option ℕ → List Mark
 end_of committed who None = []

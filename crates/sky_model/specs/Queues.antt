@@ -86,9 +86,14 @@ pub record Tick : Type 0 where
   pub snapshot : SnapshotView
   pub seq : ℕ
 
+-- the first tick of a queue that is made at a place
+abbrev pub new_tick : ℤ → History → Tick
+new_tick time h = record { id = 1; time = time; snapshot = snapshot h; seq = 0 }
+
 -- the ticks that were ever made of a queue, in the order of making, each with the snapshot at its place
 abbrev pub ticks : ℕ → History → List Tick
 ticks queue [] = []
+ticks queue (queued (made name t time) ∷ h) = if queues_made h == queue then ticks queue h ++ new_tick time h ∷ [] else ticks queue h
 ticks queue (queued (ticked q id time seq) ∷ h) =
     if q == queue
     then ticks queue h ++ record { id = id; time = time; snapshot = snapshot h; seq = seq } ∷ []
@@ -121,6 +126,7 @@ second_step_of ts = unwrap_or ts.second_step 0
 -- those that it keeps: a switch drops the ticks that aren't above the second step of the one before; none is kept once the queue is dropped
 abbrev pub kept_ticks : ℕ → History → List Tick
 kept_ticks queue [] = []
+kept_ticks queue (queued (made name t time) ∷ h) = if queues_made h == queue then kept_ticks queue h ++ new_tick time h ∷ [] else kept_ticks queue h
 kept_ticks queue (queued (ticked q id time seq) ∷ h) =
     if q == queue
     then kept_ticks queue h ++ record { id = id; time = time; snapshot = snapshot h; seq = seq } ∷ []
@@ -141,5 +147,6 @@ seq_at (Some t) = t.seq
 -- the history as it was when a tick was made; the empty one if it isn't made
 abbrev pub at_tick : ℕ → ℕ → History → History
 at_tick queue tick [] = []
+at_tick queue tick (queued (made name t time) ∷ h) = if queues_made h == queue && 1 == tick then h else at_tick queue tick h
 at_tick queue tick (queued (ticked q id time seq) ∷ h) = if q == queue && id == tick then h else at_tick queue tick h
 at_tick queue tick (_ ∷ h) = at_tick queue tick h

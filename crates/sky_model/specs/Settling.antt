@@ -19,10 +19,6 @@ pub record Turn : Type 0 where
 abbrev pub turn_of : ℕ → Outcome → Turn
 turn_of who outcome = record { answers = (who, outcome.reply) ∷ []; marks = outcome.marks }
 
--- marks without an answer
-abbrev pub marks_alone : List Mark → Turn
-marks_alone marks = record { answers = []; marks = marks }
-
 -- nothing
 abbrev pub rests : Turn
 rests = record { answers = []; marks = [] }

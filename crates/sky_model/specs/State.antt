@@ -131,7 +131,10 @@ abbrev pub after_queue_mark : Database → QueueMark → Database
 after_queue_mark d (made name t time) = record d {
   queues_made = d.queues_made + 1;
   queues = d.queues ++ record { number = d.queues_made; name = name } ∷ [];
-  queue = changed_at d.queues_made (with_tables (λ _. new_tables t time)) d.queue;
+  queue = changed_at d.queues_made (λ x. record x {
+    tables = new_tables t time;
+    tick_list = x.tick_list ++ record { id = 1; time = time; snapshot = snapshot_of d.part.next d.part.running_ids; seq = 0 } ∷ [];
+  }) d.queue;
 }
 after_queue_mark d (raised q value) = record d { queue = changed_at q (λ x. record x { seq = value }) d.queue }
 after_queue_mark d (put q event) = record d { queue = changed_at q (with_tables (with_stored event)) d.queue }

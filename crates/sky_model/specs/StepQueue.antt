@@ -21,14 +21,13 @@ use Rattle.sky_model.specs.Outcome.{Outcome, Checked, ◌>>=◌, ◌>>◌, refus
 abbrev pub queue_called : List ℕ → Database → Checked ℕ
 queue_called name d = found_or (queue_number name d.queues) (NoQueue name)
 
--- `create_queue NAME`: a queue with its first tick, which is made when the transaction has ended
+-- `create_queue NAME`: a queue with its first tick, made when the transaction has ended
 abbrev pub create_queue : Database → ℤ → ℕ → List ℕ → Checked Outcome
 create_queue d now who name =
     if is_some (queue_number name d.queues) then answers (Number 0) else do
       refused_if (nat_le (most_of Queues) (length d.queues)) (TooMany Queues)
       t ← txid_for d.part who
-      does_marks (Number 1)
-          (written who t (d.part.session who) (queued (made name t now) ∷ []) ++ queued (ticked d.queues_made 1 now 0) ∷ [])
+      does_marks (Number 1) (written who t (d.part.session who) [] ++ queued (made name t now) ∷ [])
 
 -- whether a transaction has put an event into event tables, or makes their pending switch
 abbrev pub has_part_in : Tables → ℕ → Bool

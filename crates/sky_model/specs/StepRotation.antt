@@ -8,7 +8,7 @@ use Rattle.sky_model.specs.declared.reply.HeldBack as held
 use Rattle.sky_model.specs.declared.reply.HeldBack.TheVariants.{Pending, Period, SecondStep, Consumer}
 use Rattle.sky_model.specs.declared.reply.HeldBack.TheVariants as held_by
 use Rattle.sky_model.specs.History.{Mark, of_worker, began, ended, queued, switching, switched, second_step}
-use Rattle.sky_model.specs.Sessions.{Block, outside, Session}
+use Rattle.sky_model.specs.Sessions.{Block, outside, inside, Session}
 use Rattle.sky_model.specs.Queues.{NamedQueue, is_pending, Tick, tick, newest_tick, is_above}
 use Rattle.sky_model.specs.Consumers.{Subscription}
 use Rattle.sky_model.specs.State.{RowPart, Queue, Database}
@@ -113,6 +113,11 @@ abbrev pub switches_by : Database → ℤ → ℕ → List NamedQueue → List M
 switches_by d now t [] = []
 switches_by d now t (q ∷ queues) =
     if is_pending t (d.queue q.number).tables then queued (switched q.number now) ∷ switches_by d now t queues else switches_by d now t queues
+
+-- the transaction of a session's block that `commit` makes permanent, if it has an id
+abbrev pub committed_by : Block → Option ℕ → Option ℕ
+committed_by inside txid = txid
+committed_by block txid = None
 
 abbrev pub switches_of : Database → ℤ → Option ℕ → List Mark
 switches_of d now None = []

@@ -10,9 +10,6 @@ returns-clause-triggers c = law.queues_of_triggers_stand
 pub returns-clause-busy : goal.returns-clause-busy
 returns-clause-busy c = law.busy_queues_stand
 
-pub returns-clause-kept : goal.returns-clause-kept
-returns-clause-kept c = law.standing_queues_keep_all
-
 pub returns-clause-gone : goal.returns-clause-gone
 returns-clause-gone c = law.other_queues_keep_nothing
 

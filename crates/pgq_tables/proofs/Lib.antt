@@ -1,0 +1,4 @@
+pub mod Orders
+mod Places
+mod Marking
+pub mod Aged
