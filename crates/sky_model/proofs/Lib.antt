@@ -54,6 +54,9 @@ pub mod Rotating
 pub mod Rotation
 mod QueuesInUse
 pub mod TickOrder
+pub mod Climbing
+pub mod Rotation
+pub mod Tripled
 pub mod ActiveBatches
 pub mod FinishedBatches
 pub mod EventsOnce
