@@ -196,7 +196,7 @@ free-position q (Some t) consumer sub free member has is =
     (ap (λ o. option_and_then (held_by_tick_of (λ at. Consumer consumer at.id at.snapshot.xmin) t) (option_and_then (λ (s : Subscription). tick s.position q.tick_list) o)) (sym has) ∙ one) is
 
 -- a switch drops the ticks that aren't above the second step, and no others
-switch-drops : {xmin cut : ℕ} {pending : Option ℕ} (second : Option ℕ) (all left : List Tick) → Climbs 0 0 all → Cuts xmin cut second pending all left → is_some pending ≡ true
+pub switch-drops : {xmin cut : ℕ} {pending : Option ℕ} (second : Option ℕ) (all left : List Tick) → Climbs 0 0 all → Cuts xmin cut second pending all left → is_some pending ≡ true
     → ticks_above (unwrap_or second 0) left ≡ filter (is_above (unwrap_or second 0)) left
 switch-drops {cut = cut} second all left run c pending =
     let last : id_of (newest_tick left) ≡ last_id 0 all = ap id_of (newest-same all left c) ∙ sym (last_id-newest all) in
@@ -355,7 +355,7 @@ base-newest h l q is =
     (λ pending. (c.awaits pending).1) (λ _. c.fresh))
 
 -- a tick at which a consumer may register is above that
-sits-at : (h : History) → Legal h → (q : ℕ) → IsQueue h q → (n : ℕ) → n ≤ id_of (newest_tick (ticks q h)) → floor (queue_of h q) ≤ n → base q h < xmin_of (tick n (ticks q h))
+pub sits-at : (h : History) → Legal h → (q : ℕ) → IsQueue h q → (n : ℕ) → n ≤ id_of (newest_tick (ticks q h)) → floor (queue_of h q) ≤ n → base q h < xmin_of (tick n (ticks q h))
 sits-at h l q is n most from =
     let up = base-newest h l q is in
     let run : Climbs 0 0 (ticks q h) = (climbing h l q).run in

@@ -102,7 +102,7 @@ rolled_back-ended (_ ∷ h) t e = rolled_back-ended h t e
 pub unended-unrolled : (h : History) (t : ℕ) → has_ended h t ≡ false → has_rolled_back h t ≡ false
 unended-unrolled h t e = by_test (λ b. b ≡ false) (has_rolled_back h t) (λ is. absurd (cc (sym (rolled_back-ended h t is) ∙ e))) (λ _. refl)
 
-dead-again : (h : History) (whose : Whose) (t : ℕ) (es : List Event) → map (marked_dead t) (map (as_stored h) es) ≡ map (as_stored (ended whose t false ∷ h)) es
+pub dead-again : (h : History) (whose : Whose) (t : ℕ) (es : List Event) → map (marked_dead t) (map (as_stored h) es) ≡ map (as_stored (ended whose t false ∷ h)) es
 dead-again h whose t [] = refl
 dead-again h whose t (e ∷ es) = ap (λ xs. as_stored (ended whose t false ∷ h) e ∷ xs) (dead-again h whose t es)
 
@@ -157,7 +157,7 @@ holds-ended h cut ts all whose t s = record {
   stepped = s.stepped;
 }
 
-alive : (h : History) (e : Event) → has_ended h e.ev_txid ≡ false → as_stored h e ≡ record { event = e; dead = false }
+pub alive : (h : History) (e : Event) → has_ended h e.ev_txid ≡ false → as_stored h e ≡ record { event = e; dead = false }
 alive h e unended = ap (λ b. record { event = e; dead = b }) (unended-unrolled h e.ev_txid unended)
 
 pub holds : (h : History) → Legal h → (q : ℕ) → IsQueue h q → DoesHold h q
