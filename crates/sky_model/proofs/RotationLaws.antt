@@ -1,5 +1,5 @@
 -- The laws on the rotation of event tables.
-use Rattle.std.proofs.Common.{◌≡◌, ℤ, ℕ, zero, suc, ◌+◌, ◌%◌, ◌<◌, ◌≤◌, List, [], ◌∷◌, ◌++◌, Bool, true, false, not, ◌||◌, ◌&&◌, ◌==◌, filter, map, length, slice_get, slice_set, slice_index_or, Option, Some, None, is_some, refl, sym, ◌∙◌, ap, subst, arith, All, Contains, if◌then◌else◌}
+use Rattle.std.proofs.Common.{◌≡◌, ℤ, ℕ, zero, suc, ◌+◌, ◌%◌, ◌<◌, ◌≤◌, List, [], ◌∷◌, ◌++◌, true, false, ◌&&◌, ◌==◌, filter, map, length, slice_get, slice_set, slice_index_or, Some, is_some, refl, sym, ◌∙◌, ap, subst, arith, All, Contains, if◌then◌else◌}
 use Rattle.std.proofs.Math.Nat.{mod-add-mod}
 use Rattle.std.proofs.lemmas.Bool.{eq-eqb}
 use Rattle.std.proofs.lemmas.Bool.Decides.{nat_tests}
@@ -9,22 +9,22 @@ use Rattle.sky_val.specs.declared.event.Event.{Event}
 use Rattle.pgq_tables.specs.Tables as tables_of
 use Rattle.pgq_tables.specs.Tables.{Stored, Tables, no_tables, new_tables, with_stored, marked_dead, with_dead, with_pending, without_pending, with_second_step}
 use Rattle.sky_model.specs.History.{ended, queued, made, switched, History}
-use Rattle.sky_model.specs.Transactions.{has_ended, has_rolled_back}
-use Rattle.sky_model.specs.Queues.{queues_made, queues, events, is_pending, tables, Tick, ticks, tick, kept_ticks, ticks_above, is_above, second_step_of}
+use Rattle.sky_model.specs.Transactions.{has_rolled_back}
+use Rattle.sky_model.specs.Queues.{queues_made, queues, events, is_pending, tables, ticks, tick, kept_ticks, ticks_above, is_above, second_step_of}
 use Rattle.sky_model.specs.Retries.{brought_by}
 use Rattle.sky_model.specs.State.{queue_of}
 use Rattle.sky_model.specs.StepConsumer.{floor}
 use Rattle.sky_model.specs.LawsOfRotation.{switches, put_while, as_stored, HoldsWhatWasPut, TablesHoldWhatWasPut, is_needed, previous_events, current_events, NeededEventsAreStored, PositionsAreKept, SwitchesDropTicks}
 use Rattle.sky_model.proofs.Legal.{IsQueue, makes, puts, puts_back, begins_switch, makes_switch, ends_switch, drops, Legal, start, next}
 use Rattle.sky_model.proofs.QueueNumbers.{queue-below, others-among, others-apart}
-use Rattle.sky_model.proofs.StandingQueues.{beyond, stands-or-new, registered-stands}
+use Rattle.sky_model.proofs.StandingQueues.{stands-or-new}
 use Rattle.sky_model.proofs.Snapshots.{sound, runs-unended, has_committed-ended}
 use Rattle.sky_model.proofs.Selecting.{committed_at_tick}
 use Rattle.sky_model.proofs.Climbing.{xmin_of, climbing}
 use Rattle.sky_model.proofs.KeptTicks.{cut, base, IsCut, cuts, cut-base, switch-drops, floor-newest, sits-at, some-tick, above-is, position-kept, position-above}
 use Rattle.sky_model.proofs.Tripled.{turned-previous, turned-current, DoesHold, holds, rolled_back-ended, dead-again, alive, cut-ended}
 use Rattle.sky_model.proofs.SnapshotLaws.{legal_place}
-use Rattle.sky_model.proofs.Cases.{by_same, by_test}
+use Rattle.sky_model.proofs.Cases.{by_test}
 
 -- ---- what the tables have
 
@@ -108,8 +108,8 @@ have (ended whose t false ∷ h) (next l fine) q is =
     let ts : Tables = tables q h in
     let keep = as_stored (ended whose t false ∷ h) in
     let dead : map (map (marked_dead t)) ts.lists ≡ map keep (put_while q 0 h) ∷ map keep (put_while q 1 h) ∷ map keep (put_while q 2 h) ∷ [] =
-        ap (map (map (marked_dead t))) s.lists_are
-        ∙ (λ i. dead-again h whose t (put_while q 0 h) i ∷ dead-again h whose t (put_while q 1 h) i ∷ dead-again h whose t (put_while q 2 h) i ∷ []) in
+    ap (map (map (marked_dead t))) s.lists_are
+    ∙ (λ i. dead-again h whose t (put_while q 0 h) i ∷ dead-again h whose t (put_while q 1 h) i ∷ dead-again h whose t (put_while q 2 h) i ∷ []) in
     by_test (λ b. Has keep (switches q h) (put_while q 0 h) (put_while q 1 h) (put_while q 2 h) (with_dead t (if b then without_pending ts else ts)).current (with_dead t (if b then without_pending ts else ts)).lists)
     (is_pending t ts) (λ _. record { at = s.at; lists_are = dead }) (λ _. record { at = s.at; lists_are = dead })
 have _ (next {h = h} l (makes name t time new)) q is =
@@ -210,9 +210,9 @@ needed_are_stored h l q is =
     let keep = as_stored h in
     let recent = s.previous ++ s.current in
     let lists : map keep recent ≡ previous_events (tables q h) ++ current_events (tables q h) =
-        map-append keep s.previous s.current
-        ∙ (λ i. sym (turned-previous (map keep s.oldest) (map keep s.previous) (map keep s.current) (tables q h).current (tables q h).lists s.turned) i
-        ++ sym (turned-current (map keep s.oldest) (map keep s.previous) (map keep s.current) (tables q h).current (tables q h).lists s.turned) i) in
+    map-append keep s.previous s.current
+    ∙ (λ i. sym (turned-previous (map keep s.oldest) (map keep s.previous) (map keep s.current) (tables q h).current (tables q h).lists s.turned) i
+    ++ sym (turned-current (map keep s.oldest) (map keep s.previous) (map keep s.current) (tables q h).current (tables q h).lists s.turned) i) in
     subst (All (IsSafe h q)) (sym s.whole)
     (All-append (IsSafe h q) s.gone (s.oldest ++ recent) (All-weaker (λ e. e.ev_txid ≤ cut q h) (IsSafe h q) (past-unneeded h l q is) s.gone s.past)
     (All-append (IsSafe h q) s.oldest recent (All-weaker (λ e. e.ev_txid ≤ cut q h) (IsSafe h q) (past-unneeded h l q is) s.oldest s.passing)
