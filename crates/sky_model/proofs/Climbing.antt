@@ -1,9 +1,9 @@
 -- Ticks climb: their ids are consecutive, and the lower bounds of their snapshots don't fall.
-use Rattle.std.proofs.Common.{◌≡◌, ℕ, zero, suc, ◌+◌, ◌<◌, ◌≤◌, List, [], ◌∷◌, ◌++◌, Bool, true, false, not, ◌==◌, nat_lt, filter, find, Option, Some, None, is_some, refl, sym, ◌∙◌, ap, subst, arith, All, AllPairs, if◌then◌else◌}
+use Rattle.std.proofs.Common.{◌≡◌, ℕ, zero, suc, ◌+◌, ◌<◌, ◌≤◌, List, [], ◌∷◌, ◌++◌, Bool, true, false, not, ◌==◌, filter, find, Option, Some, None, is_some, refl, sym, ◌∙◌, ap, subst, arith, All, AllPairs, if◌then◌else◌}
 use Rattle.std.proofs.lemmas.Bool.Decides.{nat_tests}
-use Rattle.std.proofs.lemmas.List.Elements.{All-nil, All-cons, All-head, All-tail, All-weaker, All-filter}
-use Rattle.sky_txid.specs.Ids.{contains, first_or}
-use Rattle.sky_model.specs.History.{Whose, began, ended, queued, ticked, History}
+use Rattle.std.proofs.lemmas.List.Elements.{All-head, All-filter}
+use Rattle.sky_txid.specs.Ids.{first_or}
+use Rattle.sky_model.specs.History.{Whose, began, ended, History}
 use Rattle.sky_model.specs.Transactions.{next_txid, running, snapshot}
 use Rattle.sky_model.specs.Queues.{new_tick, queues_made, Tick, ticks, tick, newest_tick, id_of, is_above}
 use Rattle.sky_model.proofs.Legal.{Fine, makes, ticks_next, Legal, start, next}

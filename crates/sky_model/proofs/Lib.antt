@@ -6,6 +6,7 @@ mod WorkedClock
 mod WorkedDrops
 mod WorkedConsumers
 mod WorkedRetries
+mod WorkedRotations
 mod WorkedOpening
 mod WorkedRows
 mod WorkedBatches

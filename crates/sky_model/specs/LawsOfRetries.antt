@@ -3,11 +3,12 @@ use Rattle.std.specs.Prelude.{◌≡◌, ℕ, ◌+◌, ◌≤◌, ℤ, ◌≤ℤ
 use Rattle.sky_val.specs.declared.event.Event.{Event}
 use Rattle.pgq_retry.specs.declared.retry.Retry.{Retry}
 use Rattle.pgq_retry.specs.Retries.{is_event, is_asked}
-use Rattle.sky_model.specs.History.{Batch, queued, put, returned, History}
+use Rattle.sky_model.specs.History.{Batch, queued, put, asked, returned, History}
 use Rattle.sky_model.specs.Transactions.{has_ended}
 use Rattle.sky_model.specs.Queues.{events}
-use Rattle.sky_model.specs.Consumers.{subscription_id}
-use Rattle.sky_model.specs.Retries.{retries}
+use Rattle.sky_model.specs.Consumers.{subscription_id, active_batch}
+use Rattle.sky_model.specs.Batches.{batch_events}
+use Rattle.sky_model.specs.Retries.{retries, retried}
 use Rattle.sky_model.specs.LawsOfBatches.{stands_in}
 use Rattle.sky_model.specs.HistoryPlaces.{IsPlace}
 
@@ -36,6 +37,24 @@ pub record IsRetry (p : History) (retry : Retry) : Type 0 where
 -- so is each that waits
 abbrev pub RetriesAreCopies : Type 0
 RetriesAreCopies = (p : History) → IsPlace p → All (IsRetry p) (retries p)
+
+-- an active batch of a retry's queue and subscription lists an event
+pub record ListsEvent (p : History) (retry : Retry) (source : Event) : Type 0 where
+  pub batch : Batch
+  pub active : active_batch batch.id p ≡ Some batch
+  pub of_queue : batch.queue ≡ retry.queue
+  pub of_subscription : batch.sub ≡ retry.sub
+  pub listed : Contains (batch_events p batch) source
+
+-- a retry that is asked for is of an event that an active batch lists: this event as its subscription is to get it
+pub record IsAskedOfBatch (p : History) (retry : Retry) : Type 0 where
+  pub source : Event
+  pub lists : ListsEvent p retry source
+  pub copied : retry.event ≡ retried retry.sub source
+
+-- so it is with each that is asked for
+abbrev pub RetriesAreOfActiveBatches : Type 0
+RetriesAreOfActiveBatches = (p : History) (retry : Retry) → IsPlace (queued (asked retry) ∷ p) → IsAskedOfBatch p retry
 
 -- for each event id of a subscription at most one waits
 abbrev pub RetriesWaitOnce : Type 0

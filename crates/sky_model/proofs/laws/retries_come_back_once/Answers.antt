@@ -4,6 +4,9 @@ use Rattle.sky_model.proofs.laws.retries_come_back_once.Goals as goal
 pub returns-clause-copies : goal.returns-clause-copies
 returns-clause-copies c = law.retries_are_copies
 
+pub returns-clause-listed : goal.returns-clause-listed
+returns-clause-listed c = law.retries_are_of_active_batches
+
 pub returns-clause-once : goal.returns-clause-once
 returns-clause-once c = law.retries_wait_once
 
