@@ -88,6 +88,7 @@ pub mod WriteOrder
 pub mod Subscriptions
 pub mod RetryCopies
 pub mod RetryLaws
+pub mod RetryMoments
 mod WorkersRest
 pub mod RetryRounds
 pub mod RetriesBack

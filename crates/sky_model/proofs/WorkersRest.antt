@@ -59,7 +59,7 @@ no_work-if k none who _ e = refl
 no_work-abort : (who : ℕ) (s : Session) (refusal : _) → EachMark is_no_work (abort who s.block s.txid refusal)
 no_work-abort who s refusal = each-abort AnyReply is_no_work (λ _. tt) (no_work-if no_more refl) who s.block s.txid refusal
 
-rows-no_work : (is_open : Bool) (stmt : RowStmt) → (row_kinds is_open stmt).works ≡ false
+pub rows-no_work : (is_open : Bool) (stmt : RowStmt) → (row_kinds is_open stmt).works ≡ false
 rows-no_work is_open (OpenDb name) = refl
 rows-no_work is_open Close = refl
 rows-no_work is_open Cancel = refl

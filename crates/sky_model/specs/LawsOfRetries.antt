@@ -1,15 +1,17 @@
 -- The laws on events that are retried, at each place of each history that calls make.
-use Rattle.std.specs.Prelude.{◌≡◌, ℕ, ◌+◌, ◌≤◌, ℤ, ◌≤ℤ◌, List, ◌∷◌, true, false, Some, unwrap_or, All, Contains, length, filter}
+use Rattle.std.specs.Prelude.{◌≡◌, ℕ, ◌+◌, ◌≤◌, ℤ, ◌≤ℤ◌, List, ◌∷◌, true, false, ⊤, Option, Some, None, unwrap_or, All, Contains, length, filter}
 use Rattle.sky_val.specs.declared.event.Event.{Event}
 use Rattle.pgq_retry.specs.declared.retry.Retry.{Retry}
 use Rattle.pgq_retry.specs.Retries.{is_event, is_asked}
-use Rattle.sky_model.specs.History.{Batch, queued, put, asked, returned, History}
+use Rattle.sky_model.specs.History.{Batch, Mark, queued, put, asked, returned, History}
 use Rattle.sky_model.specs.Transactions.{has_ended}
 use Rattle.sky_model.specs.Queues.{events}
 use Rattle.sky_model.specs.Consumers.{subscription_id, active_batch}
 use Rattle.sky_model.specs.Batches.{batch_events}
 use Rattle.sky_model.specs.Retries.{retries, retried}
 use Rattle.sky_model.specs.LawsOfBatches.{stands_in}
+use Rattle.sky_model.specs.Reader.{database_by_history}
+use Rattle.sky_model.specs.DatabaseCalls.{DatabaseCall, stepped, entered, failed, worked, database_does}
 use Rattle.sky_model.specs.HistoryPlaces.{IsPlace}
 
 -- an event is a copy of another one: all fields are the same except transaction, owner and number of retries
@@ -81,3 +83,19 @@ RetriesComeBackDue = (p : History) (retry : Retry) (moment : ℤ) → IsPlace (q
 -- an event that is a subscription's own is in no batch of another one
 abbrev pub RetriesAreForTheirSubscription : Type 0
 RetriesAreForTheirSubscription = (h : History) (b : Batch) (e : Event) (sub : ℕ) → e.ev_owner ≡ Some sub → stands_in h b e ≡ true → b.sub ≡ sub
+
+-- the moment of a call, if it has one
+abbrev pub moment_of : DatabaseCall → Option ℤ
+moment_of (stepped who stmt now) = Some now
+moment_of (entered who outside) = None
+moment_of (failed who now) = Some now
+moment_of (worked part now) = Some now
+
+-- the mark of a retry that comes back at that moment, or a mark of something else
+abbrev pub IsBackAt : Option ℤ → Mark → Type 0
+IsBackAt at (queued (returned retry moment)) = at ≡ Some moment
+IsBackAt at _ = ⊤
+
+-- a retry comes back at the moment of the call that brings it
+abbrev pub RetriesComeBackAtCalls : Type 0
+RetriesComeBackAtCalls = (h : History) (call : DatabaseCall) → All (IsBackAt (moment_of call)) (database_does database_by_history h call).marks

@@ -1,4 +1,5 @@
 use Rattle.sky_model.proofs.RetryLaws as law
+use Rattle.sky_model.proofs.RetryMoments as moments
 use Rattle.sky_model.proofs.laws.retries_come_back_once.Goals as goal
 
 pub returns-clause-copies : goal.returns-clause-copies
@@ -12,6 +13,9 @@ returns-clause-once c = law.retries_wait_once
 
 pub returns-clause-due : goal.returns-clause-due
 returns-clause-due c = law.retries_come_back_due
+
+pub returns-clause-moment : goal.returns-clause-moment
+returns-clause-moment c = moments.retries_come_back_at_calls
 
 pub returns-clause-owned : goal.returns-clause-owned
 returns-clause-owned c = law.retries_are_for_their_subscription
