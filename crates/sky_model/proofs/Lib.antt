@@ -89,6 +89,7 @@ pub mod Subscriptions
 pub mod RetryCopies
 pub mod RetryLaws
 pub mod RetryMoments
+pub mod RetriesListed
 mod WorkersRest
 pub mod RetryRounds
 pub mod RetriesBack

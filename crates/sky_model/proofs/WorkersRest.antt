@@ -13,7 +13,7 @@ use Rattle.sky_model.specs.declared.daemon.DaemonPart.{DaemonPart}
 use Rattle.sky_model.specs.declared.daemon.DaemonPart.TheVariants.{Tick, Retry, Maintain}
 use Rattle.sky_model.specs.declared.reply.Reply.TheVariants.{Number}
 use Rattle.sky_model.specs.declared.reply.HeldBack.{HeldBack}
-use Rattle.sky_model.specs.History.{Mark, QueueMark, of_session, of_worker, began, ended, looked, queued, ticked, asked, returned, switching, switched, History}
+use Rattle.sky_model.specs.History.{Mark, QueueMark, of_session, of_worker, began, ended, looked, queued, made, ticked, asked, returned, switching, switched, History}
 use Rattle.sky_model.specs.Transactions.{workers}
 use Rattle.sky_model.specs.Sessions.{Session, session, has_open, block, own_txid}
 use Rattle.sky_model.specs.Locks.{waiting}
@@ -72,14 +72,16 @@ rows-no_work is_open _ = refl
 abbrev is_at_work : Mark → Bool
 is_at_work (queued (ticked q id time seq)) = false
 is_at_work (queued (asked retry)) = false
+is_at_work (queued (made name t time)) = false
 is_at_work (queued mark) = true
 is_at_work _ = false
 
--- each tick was made, and each retry asked for, while no worker's transaction was running; and those commit
+-- each tick was made, each queue too, and each retry asked for, while no worker's transaction was running; and those commit
 abbrev pub Calm : History → Type 0
 Calm [] = Unit {0}
 Calm (queued (ticked q id time seq) ∷ h) = (workers h ≡ []) × Calm h
 Calm (queued (asked retry) ∷ h) = (workers h ≡ []) × Calm h
+Calm (queued (made name t time) ∷ h) = (workers h ≡ []) × Calm h
 Calm (ended of_worker t committed ∷ h) = (committed ≡ true) × Calm h
 Calm (_ ∷ h) = Calm h
 
@@ -93,6 +95,7 @@ pub record Rests (h : History) : Type 0 where
 rests-mark : (h : History) (mark : Mark) → EachMark is_no_work (mark ∷ []) → Rests h → Rests (mark ∷ h)
 rests-mark h (queued (ticked q id time seq)) all r = record { calm = (r.idle, r.calm); idle = r.idle }
 rests-mark h (queued (asked retry)) all r = record { calm = (r.idle, r.calm); idle = r.idle }
+rests-mark h (queued (made name t time)) all r = record { calm = (r.idle, r.calm); idle = r.idle }
 rests-mark h (began of_worker t) all r = absurd all
 rests-mark h (ended of_worker t committed) all r = absurd all
 rests-mark h _ all r = record { calm = r.calm; idle = r.idle }
@@ -110,6 +113,7 @@ record Works (h : History) (t : ℕ) : Type 0 where
 works-mark : (h : History) (t : ℕ) (mark : Mark) → EachMark is_at_work (mark ∷ []) → Works h t → Works (mark ∷ h) t
 works-mark h t (queued (ticked q id time seq)) all w = absurd all
 works-mark h t (queued (asked retry)) all w = absurd all
+works-mark h t (queued (made name u time)) all w = absurd all
 works-mark h t (queued mark) all w = record { calm = w.calm; one = w.one }
 works-mark h t _ all w = absurd all
 

@@ -1,11 +1,11 @@
 -- The laws on events that are retried, at each place of each history that calls make.
-use Rattle.std.specs.Prelude.{◌≡◌, ℕ, ◌+◌, ◌≤◌, ℤ, ◌≤ℤ◌, List, ◌∷◌, true, false, ⊤, Option, Some, None, unwrap_or, All, Contains, length, filter}
+use Rattle.std.specs.Prelude.{◌≡◌, ℕ, ◌+◌, ◌≤◌, ℤ, ◌≤ℤ◌, List, ◌∷◌, ◌++◌, ◌==◌, is_some, true, false, ⊤, Option, Some, None, unwrap_or, All, Contains, length, filter}
 use Rattle.sky_val.specs.declared.event.Event.{Event}
 use Rattle.pgq_retry.specs.declared.retry.Retry.{Retry}
 use Rattle.pgq_retry.specs.Retries.{is_event, is_asked}
 use Rattle.sky_model.specs.History.{Batch, Mark, queued, put, asked, returned, History}
 use Rattle.sky_model.specs.Transactions.{has_ended}
-use Rattle.sky_model.specs.Queues.{events}
+use Rattle.sky_model.specs.Queues.{events, ticks, tick}
 use Rattle.sky_model.specs.Consumers.{subscription_id, active_batch}
 use Rattle.sky_model.specs.Batches.{batch_events}
 use Rattle.sky_model.specs.Retries.{retries, retried}
@@ -79,6 +79,18 @@ pub record ComesBack (p : History) (retry : Retry) (moment : ℤ) : Type 0 where
 -- so it is with each that comes back
 abbrev pub RetriesComeBackDue : Type 0
 RetriesComeBackDue = (p : History) (retry : Retry) (moment : ℤ) → IsPlace (queued (returned retry moment) ∷ p) → ComesBack p retry moment
+
+-- the opening tick of a batch was made at a place, and its closing tick later, up to another place
+pub record IsAcross (later place : History) (b : Batch) : Type 0 where
+  pub opened : is_some (tick b.prev (ticks b.queue place)) ≡ true
+  pub unclosed : is_some (tick b.cur (ticks b.queue place)) ≡ false
+  pub closed : is_some (tick b.cur (ticks b.queue later)) ≡ true
+
+-- the event by which a retry came back is in each batch of its subscription across the place where it did, and in no other batch of its queue across it
+abbrev pub RetriesAreListed : Type 0
+RetriesAreListed = (later : List Mark) (below : History) (retry : Retry) (event : Event) (moment : ℤ) →
+    let place : History = queued (returned retry moment) ∷ queued (put retry.queue event) ∷ below in
+    IsPlace (later ++ place) → (b : Batch) → b.queue ≡ retry.queue → IsAcross (later ++ place) place b → stands_in (later ++ place) b event ≡ (retry.sub == b.sub)
 
 -- an event that is a subscription's own is in no batch of another one
 abbrev pub RetriesAreForTheirSubscription : Type 0

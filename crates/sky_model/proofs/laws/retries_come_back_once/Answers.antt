@@ -1,5 +1,6 @@
 use Rattle.sky_model.proofs.RetryLaws as law
 use Rattle.sky_model.proofs.RetryMoments as moments
+use Rattle.sky_model.proofs.RetriesListed as listed
 use Rattle.sky_model.proofs.laws.retries_come_back_once.Goals as goal
 
 pub returns-clause-copies : goal.returns-clause-copies
@@ -16,6 +17,9 @@ returns-clause-due c = law.retries_come_back_due
 
 pub returns-clause-moment : goal.returns-clause-moment
 returns-clause-moment c = moments.retries_come_back_at_calls
+
+pub returns-clause-in_batches : goal.returns-clause-in_batches
+returns-clause-in_batches c = listed.retries_are_listed
 
 pub returns-clause-owned : goal.returns-clause-owned
 returns-clause-owned c = law.retries_are_for_their_subscription
