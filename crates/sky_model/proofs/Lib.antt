@@ -90,6 +90,7 @@ pub mod RetryCopies
 pub mod RetryLaws
 pub mod RetryMoments
 pub mod RetriesListed
+pub mod ListedOnce
 mod WorkersRest
 pub mod RetryRounds
 pub mod RetriesBack

@@ -25,15 +25,16 @@ use Rattle.sky_model.proofs.Cases.{by_same, by_test}
 
 -- ---- its transaction commits before the next tick
 
-calm-below : (later : List Mark) (p : History) → Calm (later ++ p) → Calm p
+pub calm-below : (later : List Mark) (p : History) → Calm (later ++ p) → Calm p
 calm-below [] p c = c
 calm-below (queued (ticked q id time seq) ∷ later) p c = calm-below later p c.1
 calm-below (queued (asked retry) ∷ later) p c = calm-below later p c.1
+calm-below (queued (put q event) ∷ later) p c = calm-below later p c.1
 calm-below (queued (made name t time) ∷ later) p c = calm-below later p c.1
 calm-below (ended of_worker t committed ∷ later) p c = calm-below later p c.1
 calm-below (_ ∷ later) p c = calm-below later p c
 
-calm_place : (p : History) → IsPlace p → Calm p
+pub calm_place : (p : History) → IsPlace p → Calm p
 calm_place p is = calm-below is.later p (subst Calm is.below (rests_calls is.calls).calm)
 
 -- a worker's transaction is running still, or has committed
@@ -44,6 +45,7 @@ lasts : (t : ℕ) (later : List Mark) (p : History) → Calm (later ++ p) → co
 lasts t [] p c works = grind (arith, works)
 lasts t (queued (ticked q id time seq) ∷ later) p c works = lasts t later p c.1 works
 lasts t (queued (asked retry) ∷ later) p c works = lasts t later p c.1 works
+lasts t (queued (put q event) ∷ later) p c works = lasts t later p c.1 works
 lasts t (queued (made name u time) ∷ later) p c works = lasts t later p c.1 works
 lasts t (began of_worker u ∷ later) p c works = let ih = lasts t later p c works in grind (arith, contains-push t u (workers (later ++ p)), ih)
 lasts t (ended of_worker u true ∷ later) p c works = let ih = lasts t later p c.1 works in grind (arith, contains-filter t u (workers (later ++ p)), ih)
@@ -67,6 +69,7 @@ at_later t q id (queued (made name u time) ∷ later) p c works un there =
     by_test (λ b. (b || is_made q id (later ++ p)) ≡ true → has_committed (if b then later ++ p else at_tick q id (later ++ p)) t ≡ true) (queues_made (later ++ p) == q && 1 == id)
     (λ _ _. committed-idle (later ++ p) t (lasts t later p c.1 works) c.0) (λ _ made. at_later t q id later p c.1 works un made) there
 at_later t q id (queued (asked retry) ∷ later) p c works un there = at_later t q id later p c.1 works un there
+at_later t q id (queued (put r event) ∷ later) p c works un there = at_later t q id later p c.1 works un there
 at_later t q id (ended of_worker u committed ∷ later) p c works un there = at_later t q id later p c.1 works un there
 at_later t q id (_ ∷ later) p c works un there = at_later t q id later p c works un there
 

@@ -3,6 +3,7 @@ use Rattle.std.specs.Prelude.{◌≡◌, ℕ, ◌+◌, ◌≤◌, ℤ, ◌≤ℤ
 use Rattle.sky_val.specs.declared.event.Event.{Event}
 use Rattle.pgq_retry.specs.declared.retry.Retry.{Retry}
 use Rattle.pgq_retry.specs.Retries.{is_event, is_asked}
+use Rattle.pgq_tables.specs.ById.{with_id}
 use Rattle.sky_model.specs.History.{Batch, Mark, queued, put, asked, returned, History}
 use Rattle.sky_model.specs.Transactions.{has_ended}
 use Rattle.sky_model.specs.Queues.{events, ticks, tick}
@@ -91,6 +92,10 @@ abbrev pub RetriesAreListed : Type 0
 RetriesAreListed = (later : List Mark) (below : History) (retry : Retry) (event : Event) (moment : ℤ) →
     let place : History = queued (returned retry moment) ∷ queued (put retry.queue event) ∷ below in
     IsPlace (later ++ place) → (b : Batch) → b.queue ≡ retry.queue → IsAcross (later ++ place) place b → stands_in (later ++ place) b event ≡ (retry.sub == b.sub)
+
+-- a batch lists at most one event of an id and a transaction; so the event by which a retry came back comes once
+abbrev pub EventsComeOnce : Type 0
+EventsComeOnce = (p : History) → IsPlace p → (b : Batch) (id t : ℕ) → length (filter (λ e. e.ev_txid == t) (with_id id (batch_events p b))) ≤ 1
 
 -- an event that is a subscription's own is in no batch of another one
 abbrev pub RetriesAreForTheirSubscription : Type 0

@@ -6,7 +6,7 @@ ghost use Rattle.sky_model.specs.LawsOfHistories.{HistoriesAreMadeByOwnCalls, Ho
 ghost use Rattle.sky_model.specs.LawsOfLines.{BadWordIsLeast, LinesAreInForm};
 ghost use Rattle.sky_model.specs.LawsOfLocks.{DeadlocksAreRings, HoldersHaveWritten, NothingIsReady, WritersHaveWritten};
 ghost use Rattle.sky_model.specs.LawsOfQueues.{BusyQueuesStand, NewQueuesAreOthers, OtherQueuesKeepNothing, QueuesOfConsumersStand, QueuesOfTriggersStand};
-ghost use Rattle.sky_model.specs.LawsOfRetries.{RetriesAreCopies, RetriesAreForTheirSubscription, RetriesAreListed, RetriesAreOfActiveBatches, RetriesComeBackAtCalls, RetriesComeBackDue, RetriesWaitOnce};
+ghost use Rattle.sky_model.specs.LawsOfRetries.{EventsComeOnce, RetriesAreCopies, RetriesAreForTheirSubscription, RetriesAreListed, RetriesAreOfActiveBatches, RetriesComeBackAtCalls, RetriesComeBackDue, RetriesWaitOnce};
 ghost use Rattle.sky_model.specs.LawsOfRows.{RowsAreReadUnderSnapshots};
 ghost use Rattle.sky_model.specs.LawsOfSnapshots.{BatchesAreSelectedBySnapshots, SnapshotsSeeWhatHasEnded};
 ghost use Rattle.sky_model.specs.LawsOfWrites.{EventIdsFollowWrites, EventIdsRise, KeysAreWrittenInTurn, SnapshotsSeeEarlierWriters, StandingRowsFit, WritesAndCommitsHaveOneOrder, WritesAreTold, WritesNameWhatStands, WrittenRowsFit};
@@ -107,7 +107,7 @@ pub fn subscriptions_are_given_once()
 /// At each such place each retry that waits is of a subscription of its queue, and its event a copy of one that was
 /// put there, with the subscription as its owner and one retry more; it was asked for of an active batch of this
 /// subscription, which listed that event; and for each event id of a subscription at most one waits. One that comes back waited and is due, its event was put just before, of a transaction that hadn't ended,
-/// and it waits no more; it comes back at the moment of the call that brings it. Its event is in each batch of its subscription whose opening tick was made before, and whose closing tick later, and in no other such batch. And an event with an owner is in no batch of another subscription.
+/// and it waits no more; it comes back at the moment of the call that brings it. Its event is in each batch of its subscription whose opening tick was made before, and whose closing tick later, and in no other such batch; and a batch lists at most one event of an id and a transaction. And an event with an owner is in no batch of another subscription.
 pub fn retries_come_back_once()
     ensures copies { RetriesAreCopies }
     ensures listed { RetriesAreOfActiveBatches }
@@ -115,6 +115,7 @@ pub fn retries_come_back_once()
     ensures due { RetriesComeBackDue }
     ensures moment { RetriesComeBackAtCalls }
     ensures in_batches { RetriesAreListed }
+    ensures listed_once { EventsComeOnce }
     ensures owned { RetriesAreForTheirSubscription }
 {}
 

@@ -1,6 +1,7 @@
 use Rattle.sky_model.proofs.RetryLaws as law
 use Rattle.sky_model.proofs.RetryMoments as moments
 use Rattle.sky_model.proofs.RetriesListed as listed
+use Rattle.sky_model.proofs.ListedOnce as listed_once
 use Rattle.sky_model.proofs.laws.retries_come_back_once.Goals as goal
 
 pub returns-clause-copies : goal.returns-clause-copies
@@ -20,6 +21,9 @@ returns-clause-moment c = moments.retries_come_back_at_calls
 
 pub returns-clause-in_batches : goal.returns-clause-in_batches
 returns-clause-in_batches c = listed.retries_are_listed
+
+pub returns-clause-listed_once : goal.returns-clause-listed_once
+returns-clause-listed_once c = listed_once.events_come_once
 
 pub returns-clause-owned : goal.returns-clause-owned
 returns-clause-owned c = law.retries_are_for_their_subscription
