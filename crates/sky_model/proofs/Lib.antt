@@ -91,6 +91,7 @@ pub mod RetryLaws
 pub mod RetryMoments
 pub mod RetriesListed
 pub mod ListedOnce
+pub mod BusyQueues
 mod WorkersRest
 pub mod RetryRounds
 pub mod RetriesBack

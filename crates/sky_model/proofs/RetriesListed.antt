@@ -1,19 +1,16 @@
 -- A retry that came back is in the batches of its subscription that are across the place where it did, since its transaction commits before the next tick.
-use Rattle.std.proofs.Common.{◌≡◌, ℕ, ◌+◌, ◌<◌, ◌≤◌, ℤ, List, [], ◌∷◌, ◌++◌, Bool, true, false, not, ◌&&◌, ◌||◌, ◌==◌, Some, is_some, All, Contains, refl, sym, ◌∙◌, ap, subst, arith, if◌then◌else◌}
-use Rattle.std.proofs.lemmas.Bool.{or_right, or_left}
-use Rattle.std.proofs.lemmas.Bool.Decides.{nat_tests}
+use Rattle.std.proofs.Common.{◌≡◌, ℕ, ◌<◌, ℤ, List, [], ◌∷◌, ◌++◌, true, false, not, ◌&&◌, ◌||◌, ◌==◌, Some, Contains, refl, sym, ◌∙◌, ap, subst, arith, if◌then◌else◌}
 use Rattle.std.proofs.lemmas.List.Elements.{All-contains}
 use Rattle.sky_val.specs.declared.event.Event.{Event}
 use Rattle.sky_txid.specs.Ids.{contains}
 use Rattle.pgq_retry.specs.declared.retry.Retry.{Retry}
 use Rattle.pgq_tables.specs.Listed.{is_for}
-use Rattle.sky_model.specs.History.{Batch, Mark, of_session, of_worker, began, ended, queued, made, put, ticked, asked, returned, History}
+use Rattle.sky_model.specs.History.{Mark, of_session, of_worker, began, ended, queued, made, put, ticked, asked, returned, History}
 use Rattle.sky_model.specs.Transactions.{workers, has_ended, has_committed}
 use Rattle.sky_model.specs.Queues.{queues_made, ticks, newest_tick, id_of, at_tick}
 use Rattle.sky_model.specs.Retries.{retries, brought_by}
 use Rattle.sky_model.specs.HistoryPlaces.{IsPlace}
-use Rattle.sky_model.specs.LawsOfBatches.{stands_in}
-use Rattle.sky_model.specs.LawsOfRetries.{IsRetry, IsAcross, RetriesAreListed}
+use Rattle.sky_model.specs.LawsOfRetries.{IsRetry, RetriesAreListed}
 use Rattle.sky_model.proofs.Legal.{Fine, Returns, makes, ticks_next, returns, Legal}
 use Rattle.sky_model.proofs.Snapshots.{sound, runs-unended, contains-push, contains-filter}
 use Rattle.sky_model.proofs.SnapshotLaws.{legal-below_mark, fine_mark, legal-below, legal_place}

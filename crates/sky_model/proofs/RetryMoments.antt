@@ -1,5 +1,5 @@
 -- A retry comes back at the moment of the call that brings it.
-use Rattle.std.proofs.Common.{◌≡◌, ℕ, ℤ, List, [], ◌∷◌, Bool, true, false, All, Option, Some, None, Ok, Err, refl, sym, ◌∙◌, ap}
+use Rattle.std.proofs.Common.{◌≡◌, ℕ, ℤ, List, [], ◌∷◌, Bool, true, false, All, Some, None, Ok, Err, refl, sym, ◌∙◌, ap}
 use Rattle.std.specs.Ordering.{int_eq}
 use Rattle.std.proofs.lemmas.Bool.{and_parts}
 use Rattle.std.proofs.lemmas.Bool.Decides.{Decides-int_eq}
@@ -9,7 +9,7 @@ use Rattle.pgq_retry.specs.declared.retry.Retry.{Retry}
 use Rattle.pgq_retry.specs.Retries.{due_now}
 use Rattle.sky_model.specs.declared.stmt.Stmt.{Stmt}
 use Rattle.sky_model.specs.declared.stmt.Stmt.TheVariants.{Row, MaintRetryEvents, MaintRotateStep2}
-use Rattle.sky_model.specs.History.{Mark, QueueMark, of_worker, began, ended, looked, queued, returned, History}
+use Rattle.sky_model.specs.History.{Mark, QueueMark, looked, queued, returned, History}
 use Rattle.sky_model.specs.Sessions.{session, has_open, block, own_txid}
 use Rattle.sky_model.specs.Locks.{waiting}
 use Rattle.sky_model.specs.State.{Database, part_of, database_of}
@@ -22,10 +22,10 @@ use Rattle.sky_model.specs.StepRotation.{lack_second_step, maint_rotate_step2}
 use Rattle.sky_model.specs.Reader.{Shown, shown_in, database_by_history, within_part}
 use Rattle.sky_model.specs.Settling.{Turn, turn_of, behind_marks, settling, with_settling}
 use Rattle.sky_model.specs.Calls.{form, making, statement}
-use Rattle.sky_model.specs.SessionMarks.{look_of, failure, entry_place, enters, failing}
-use Rattle.sky_model.specs.DatabaseCalls.{DatabaseCall, stepped, entered, failed, worked, database_does}
-use Rattle.sky_model.specs.LawsOfRetries.{moment_of, IsBackAt, RetriesComeBackAtCalls}
-use Rattle.sky_model.proofs.StatementMarks.{EachMark, each-map, each-append, each-first, each-rest, when-true, AnyReply, Gives, Given, gives-map, given-runs, gives-tells, Kinds, no_more, is_no_return, may_leave, attempt_kinds, kinds, gives-form, each-failure, settling-gives}
+use Rattle.sky_model.specs.SessionMarks.{look_of, entry_place, enters, failing}
+use Rattle.sky_model.specs.DatabaseCalls.{stepped, entered, failed, worked, database_does}
+use Rattle.sky_model.specs.LawsOfRetries.{IsBackAt, RetriesComeBackAtCalls}
+use Rattle.sky_model.proofs.StatementMarks.{EachMark, each-append, each-rest, when-true, AnyReply, Gives, gives-map, given-runs, gives-tells, Kinds, no_more, is_no_return, may_leave, attempt_kinds, kinds, gives-form, each-failure, settling-gives}
 use Rattle.sky_model.proofs.DaemonTurns.{each-brings, each-ends_switches, each-daemon_does}
 use Rattle.sky_model.proofs.WorkersRest.{rows-no_work}
 

@@ -1,5 +1,5 @@
 -- A worker's transaction begins and commits in one turn, without a tick or a new retry in between; and retries come back at the moment of their call.
-use Rattle.std.proofs.Common.{◌≡◌, ℕ, zero, suc, ℤ, int_le, List, [], ◌∷◌, ◌++◌, Bool, true, false, ◌&&◌, not, filter, Option, Some, None, Ok, Err, length, nat_le, refl, sym, ap, subst, ◌∙◌, arith, All, Contains, ◌==◌, ◌+◌, ◌^◌, ◌<◌, ◌≤◌, if◌then◌else◌}
+use Rattle.std.proofs.Common.{◌≡◌, ℕ, zero, suc, ℤ, List, [], ◌∷◌, ◌++◌, Bool, true, false, ◌&&◌, not, filter, Option, Some, None, Ok, Err, length, nat_le, refl, sym, ap, subst, ◌∙◌, arith, All, Contains, ◌==◌, ◌+◌, ◌^◌, ◌<◌, ◌≤◌, if◌then◌else◌}
 use Rattle.std.proofs.lemmas.Bool.Decides.{nat_tests}
 use Rattle.std.proofs.lemmas.Bool.{cond_both, and_parts}
 use Rattle.std.proofs.lemmas.List.Elements.{All-head, All-tail, All-contains}
@@ -18,7 +18,7 @@ use Rattle.sky_model.specs.declared.daemon.DaemonPart.{DaemonPart}
 use Rattle.sky_model.specs.declared.daemon.DaemonPart.TheVariants as part
 use Rattle.sky_model.specs.declared.reply.Reply.TheVariants.{Number}
 use Rattle.sky_model.specs.declared.reply.HeldBack.{HeldBack}
-use Rattle.sky_model.specs.History.{Mark, QueueMark, of_session, of_worker, began, ended, looked, queued, made, put, ticked, asked, returned, switching, switched, History}
+use Rattle.sky_model.specs.History.{Mark, QueueMark, of_worker, began, ended, looked, queued, made, put, ticked, asked, returned, switching, switched, History}
 use Rattle.sky_model.specs.Transactions.{next_txid, workers}
 use Rattle.sky_model.specs.Sessions.{Session, session, has_open, block, own_txid}
 use Rattle.sky_model.specs.Locks.{waiting}
