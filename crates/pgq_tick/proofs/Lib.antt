@@ -1,3 +1,2 @@
 pub mod TickLists
-pub mod Dropping
 mod Worked

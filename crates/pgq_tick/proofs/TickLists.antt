@@ -1,5 +1,5 @@
 -- Lists of ticks with rising ids.
-use Rattle.std.proofs.Common.{◌≡◌, ◌≢◌, ℕ, suc, zero, ◌+◌, ◌-◌, ◌<◌, ◌≤◌, List, [], ◌∷◌, ◌++◌, Bool, true, false, ◌==◌, Option, Some, None, Result, Ok, Err, length, slice_get, get_or, option_copied, IfSome, Bor, length-append, option_map, refl, sym, ◌∙◌, ap, subst, arith, if◌then◌else◌}
+use Rattle.std.proofs.Common.{◌≡◌, ◌≢◌, ℕ, suc, zero, ◌+◌, ◌-◌, ◌<◌, ◌≤◌, List, [], ◌∷◌, ◌++◌, Bool, true, false, ◌||◌, ◌==◌, Option, Some, None, Result, Ok, Err, length, slice_get, get_or, option_copied, IfSome, Bor, length-append, option_map, refl, sym, ◌∙◌, ap, subst, arith, if◌then◌else◌}
 use Rattle.std.specs.Prelude.{filter, option_and_then}
 use Rattle.std.specs.Result.{result_ok}
 use Rattle.std.specs.Ordering.{nat_cmp, ordering_index}
@@ -11,7 +11,8 @@ use Rattle.sky_model.specs.Queues.{Tick, tick, newest_tick}
 use Rattle.sky_model.specs.StepQueue.{last_two}
 use Rattle.sky_model.specs.Queues.{id_of}
 use Rattle.sky_model.specs.Moment.{IsTime}
-use Rattle.pgq_tick.specs.Ticks.{AreTicks, is_above, ticks_above}
+use Rattle.pgq_tick.specs.Ticks.{AreTicks}
+use Rattle.sky_model.specs.Queues.{is_above, ticks_above}
 
 pub newest_tick-at : (ts : List Tick) → 0 < length ts → newest_tick ts ≡ slice_get ts (length ts - 1)
 newest_tick-at [] some = absurd (omega arith)
@@ -159,12 +160,16 @@ AreTicks-next ts view new t same are is id time =
     let next : t.id ≡ id_of (newest_tick ts) + 1 = id ∙ ap (λ xs. id_of (newest_tick xs) + 1) (sym same) in
     subst (λ xs. (0 < length xs) × AreTicks 1 xs) (sym is) (omega (arith, length-append ts (t ∷ [])), AreTicks-push 1 ts t are.1 are.0 (omega arith) time)
 
+-- the newest tick is one that isn't dropped
+newest-stays : (p : Tick → Bool) (o : Option Tick) → IfSome o (λ t. (p t || t.id == id_of o) ≡ true)
+newest-stays p None = tt
+newest-stays p (Some t) = grind (arith, nat_tests)
+
 -- the ticks that are kept, the newest among them
-pub AreTicks-kept : (txid : ℕ) (ts view new : List Tick) → ts ≡ view → (0 < length ts) × AreTicks 1 ts → new ≡ ticks_above txid ts → IfSome (newest_tick view) (λ t. txid < t.snapshot.xmin)
-    → (0 < length new) × AreTicks 1 new
-AreTicks-kept txid ts view new same are is newest =
-    let kept : IfSome (newest_tick ts) (λ t. is_above txid t ≡ true) = IfSome_then (newest_tick ts) (subst (λ xs. IfSome (newest_tick xs) (λ t. txid < t.snapshot.xmin)) (sym same) newest) (λ t lt. grind (arith, nat_tests)) in
-    subst (λ xs. (0 < length xs) × AreTicks 1 xs) (sym is) (some-filter (is_above txid) ts kept are.0, AreTicks-filter (is_above txid) 1 ts are.1)
+pub AreTicks-kept : (txid : ℕ) (ts new : List Tick) → (0 < length ts) × AreTicks 1 ts → new ≡ ticks_above txid ts → (0 < length new) × AreTicks 1 new
+AreTicks-kept txid ts new are is =
+    let keeps : Tick → Bool = λ t. is_above txid t || t.id == id_of (newest_tick ts) in
+    subst (λ xs. (0 < length xs) × AreTicks 1 xs) (sym is) (some-filter keeps ts (newest-stays (is_above txid) (newest_tick ts)) are.0, AreTicks-filter keeps 1 ts are.1)
 
 -- the last item is the newest
 pub newest-is : (slice ts view : List Tick) (t : Tick) → slice ≡ ts → ts ≡ view → 0 < length ts → t ≡ get_or slice (length slice - 1) t → newest_tick view ≡ Some t

@@ -1,7 +1,7 @@
 -- Lists of ticks, as a queue keeps them.
 use Rattle.std.specs.Prelude.{ℕ, ◌+◌, ℤ, pos, neg_ℤ, ◌≤◌, ◌≤ℤ◌, nat_lt, Bool, List, [], ◌∷◌, Option, option_map, find, filter}
 use Rattle.sky_model.specs.Moment.{IsTime}
-use Rattle.sky_model.specs.Queues.{Tick}
+use Rattle.sky_model.specs.Queues.{Tick, is_above}
 
 -- a time from one moment of the clock to another
 abbrev pub IsSpan : ℤ → Type 0
@@ -12,14 +12,6 @@ abbrev pub AreTicks : ℕ → List Tick → Type 0
 AreTicks least [] = Unit {0}
 AreTicks least (t ∷ ts) = (least ≤ t.id) × IsTime t.time × AreTicks (t.id + 1) ts
 
--- whether the lower bound of a tick's snapshot is above a transaction id
-abbrev pub is_above : ℕ → Tick → Bool
-is_above txid t = nat_lt txid t.snapshot.xmin
-
 -- the least id of the ticks above a transaction id: that of the first such tick, since ids rise
 abbrev pub least_above : ℕ → List Tick → Option ℕ
 least_above txid ts = option_map Tick.id (find (is_above txid) ts)
-
--- the ticks above a transaction id
-abbrev pub ticks_above : ℕ → List Tick → List Tick
-ticks_above txid ts = filter (is_above txid) ts

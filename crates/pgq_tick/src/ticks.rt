@@ -4,7 +4,8 @@ ghost use Rattle.sky_model.specs.StepQueue.{due_of, is_due_after, last_two};
 ghost use Rattle.sky_model.specs.Queues.{id_of};
 ghost use Rattle.sky_txid.specs.Snapshot.{sees};
 ghost use Rattle.sky_model.specs.Moment.{IsTime};
-ghost use Rattle.pgq_tick.specs.Ticks.{IsSpan, AreTicks, is_above, least_above, ticks_above};
+ghost use Rattle.sky_model.specs.Queues.{is_above, ticks_above};
+ghost use Rattle.pgq_tick.specs.Ticks.{IsSpan, AreTicks, least_above};
 
 use crate::config::QueueConfig;
 use sky_model::{Refusal, Stop};
@@ -70,8 +71,22 @@ impl Tick {
         self.snapshot.sees(txid)
     }
 
+    /// The snapshot at it.
+    pub fn snapshot(&self) -> &Snapshot
+        ensures { result.now ≡ self.now.snapshot }
+    {
+        &self.snapshot
+    }
+
+    /// The lower bound of its snapshot: every transaction below it had ended.
+    pub fn xmin(&self) -> u64
+        ensures { result ≡ self.now.snapshot.xmin }
+    {
+        self.snapshot.xmin()
+    }
+
     /// Whether the lower bound of its snapshot is above this transaction id.
-    fn is_above(&self, txid: u64) -> bool
+    pub fn is_above(&self, txid: u64) -> bool
         ensures { result ≡ is_above txid self.now }
     {
         txid < self.snapshot.xmin()
@@ -150,12 +165,13 @@ impl Ticks {
         Some(tick.id)
     }
 
-    /// Drops the ticks whose snapshot's lower bound is at or below this transaction id.
+    /// Drops the ticks whose snapshot's lower bound is at or below this transaction id, but never the newest one.
     pub fn drop_below(&mut self, txid: u64)
-        requires { IfSome (newest_tick self.old) (λ newest. txid < newest.snapshot.xmin) }
         ensures { self.new ≡ ticks_above txid self.old }
     {
-        self.ticks.retain(|tick| tick.is_above(txid));
+        let newest = self.newest().id();
+        self.ticks
+            .retain(|tick| tick.is_above(txid) || tick.id == newest);
     }
 
     /// Appends a tick with the next id, and answers that id.

@@ -5,7 +5,7 @@ use Rattle.sky_model.specs.declared.stmt.RowStmt.{RowStmt}
 use Rattle.sky_model.specs.declared.stmt.RowStmt.TheVariants.{Get}
 use Rattle.sky_model.specs.declared.reply.Refusal.{Refusal}
 use Rattle.sky_model.specs.declared.reply.Refusal.TheVariants.{EventIdsSpent}
-use Rattle.sky_model.specs.History.{Mark, of_session, tabled, wrote}
+use Rattle.sky_model.specs.History.{Mark, of_session, ended, tabled, wrote}
 use Rattle.sky_model.specs.Sessions.{Block}
 use Rattle.sky_model.specs.State.{RowPart, after_part, after_part_marks}
 use Rattle.sky_model.specs.ShownRows.{RowsShown, rows_by}
@@ -42,19 +42,33 @@ WritesNone marks = EachMark is_no_write marks
 abbrev pub PlainOutcome : Checked Outcome → Type 0
 PlainOutcome c = WritesNone (marks_of c)
 
-none-told : {G : Type 0} (gate : Gate G) (g : G) (marks : List Mark) → WritesNone marks → (takes_all gate g marks ≡ true) × (passed_all gate g marks ≡ g)
-none-told gate g [] plain = (refl, refl)
-none-told gate g (tabled (wrote who t table key old new) ∷ marks) plain = absurd plain
-none-told gate g (mark ∷ marks) plain = none-told gate g marks plain
+none-asked : {G : Type 0} (gate : Gate G) (g : G) (marks : List Mark) → WritesNone marks → takes_all gate g marks ≡ true
+none-asked gate g [] plain = refl
+none-asked gate g (tabled (wrote who t table key old new) ∷ marks) plain = absurd plain
+none-asked gate g (ended whose t false ∷ marks) plain = none-asked gate (gate.undone g t) marks plain
+none-asked gate g (mark ∷ marks) plain = none-asked gate g marks plain
 
--- without a write a gate stays as it is
-pub passed-none : {G : Type 0} (gate : Gate G) (g : G) (marks : List Mark) → WritesNone marks → passed_all gate g marks ≡ g
-passed-none gate g marks plain = (none-told gate g marks plain).1
+-- a mark of which a gate isn't notified
+abbrev pub is_unnoticed : Mark → Bool
+is_unnoticed (tabled (wrote who t table key old new)) = false
+is_unnoticed (ended whose t false) = false
+is_unnoticed _ = true
+
+-- it isn't of any of the marks
+abbrev pub NoticesNone : List Mark → Type 0
+NoticesNone marks = EachMark is_unnoticed marks
+
+-- without a write and a rollback a gate stays as it is
+pub passed-none : {G : Type 0} (gate : Gate G) (g : G) (marks : List Mark) → NoticesNone marks → passed_all gate g marks ≡ g
+passed-none gate g [] none = refl
+passed-none gate g (tabled (wrote who t table key old new) ∷ marks) none = absurd none
+passed-none gate g (ended whose t false ∷ marks) none = absurd none
+passed-none gate g (mark ∷ marks) none = passed-none gate g marks none
 
 -- and what writes nothing is done as without the gate
 pub gated-none : {G : Type 0} (gate : Gate G) (g : G) (c : Checked Outcome) → PlainOutcome c → gated gate g c ≡ c
 gated-none gate g (Err refusal) plain = refl
-gated-none gate g (Ok o) plain = ap (λ b. refused_if (not b) EventIdsSpent >> Ok o) (none-told gate g o.marks plain).0
+gated-none gate g (Ok o) plain = ap (λ b. refused_if (not b) EventIdsSpent >> Ok o) (none-asked gate g o.marks plain)
 
 -- ---- what writes nothing
 
@@ -71,10 +85,6 @@ pub plain-get : (d : RowPart) (shown : RowsShown) (who : ℕ) (name : List ℕ) 
 plain-get d shown who name key =
     each-map (may_leave no_more who) is_no_write (plain-if no_more refl who) (marks_of (get d shown who name key))
     (each-given ReplyHasMoments (may_leave no_more who) (get d shown who name key) (gives-row_form who d shown (Get name key)))
-
--- a refusal that aborts a block doesn't notify the gate
-pub passed-abort : {G : Type 0} (gate : Gate G) (g : G) (who : ℕ) (b : Block) (txid : Option ℕ) (refusal : Refusal) → passed_all gate g (abort who b txid refusal) ≡ g
-passed-abort gate g who b txid refusal = passed-none gate g (abort who b txid refusal) (plain-abort who b txid refusal)
 
 -- ---- the gate that always has room
 

@@ -1,5 +1,5 @@
 -- Which ticks of a queue are kept, and that each consumer stands at one of them.
-use Rattle.std.proofs.Common.{◌≡◌, ℕ, zero, suc, ◌+◌, ◌<◌, ◌≤◌, List, [], ◌∷◌, ◌++◌, Bool, true, false, not, ◌||◌, ◌&&◌, ◌==◌, nat_lt, filter, find, Option, Some, None, is_some, option_map, unwrap_or, bytes_eq, refl, sym, ◌∙◌, ap, subst, arith, All, if◌then◌else◌}
+use Rattle.std.proofs.Common.{◌≡◌, ℕ, ◌+◌, ◌<◌, ◌≤◌, List, [], ◌∷◌, ◌++◌, Bool, true, false, ◌||◌, ◌&&◌, ◌==◌, filter, Option, Some, None, is_some, option_map, unwrap_or, bytes_eq, refl, sym, ◌∙◌, ap, subst, arith, All, if◌then◌else◌}
 use Rattle.std.specs.Option.{option_or, option_and_then}
 use Rattle.std.specs.List.{list_any}
 use Rattle.std.proofs.lemmas.Bool.Decides.{nat_tests}
@@ -7,10 +7,10 @@ use Rattle.std.proofs.lemmas.List.Elements.{All-nil, All-cons, All-head, All-tai
 use Rattle.sky_names.proofs.PlaceLemmas.{same_name}
 use Rattle.pgq_tables.specs.Tables as tables_of
 use Rattle.pgq_tables.specs.Tables.{Tables, no_tables, new_tables, with_stored, with_dead, with_pending, without_pending, with_second_step}
-use Rattle.sky_model.specs.History.{Batch, began, ended, queued, made, switched, ticked, History}
-use Rattle.sky_model.specs.Transactions.{next_txid, running, snapshot}
-use Rattle.sky_model.specs.Queues.{new_tick, queues_made, queues, is_pending, without_transaction, tables, Tick, ticks, tick, newest_tick, id_of, is_above, ticks_above, second_step_of, kept_ticks}
-use Rattle.sky_model.specs.Consumers.{consumers, subscription_id, position, active, Subscription, subscription, active_batch}
+use Rattle.sky_model.specs.History.{began, ended, queued, made, switched, History}
+use Rattle.sky_model.specs.Transactions.{snapshot}
+use Rattle.sky_model.specs.Queues.{new_tick, queues_made, queues, is_pending, tables, Tick, ticks, tick, newest_tick, id_of, is_above, ticks_above, second_step_of, kept_ticks}
+use Rattle.sky_model.specs.Consumers.{subscription_id, position, active, Subscription}
 use Rattle.sky_model.specs.Retries.{brought_by}
 use Rattle.sky_model.specs.State.{Queue, queue_of}
 use Rattle.sky_model.specs.StepConsumer.{floor}
@@ -22,7 +22,7 @@ use Rattle.sky_model.proofs.QueueNumbers.{queue-below, others-among, others-apar
 use Rattle.sky_model.proofs.StandingQueues.{beyond, stands-or-new, registered-stands}
 use Rattle.sky_model.proofs.Climbing.{xmin-began, xmin-ended, xmin-least, xmin-most, xmin_of, Climbs, last_id, last_xmin, last_id-newest, last_xmin-newest, found_above, climbs, first_above, first-after, first-most, above-first, first-least, Climbing, climbing}
 use Rattle.sky_model.proofs.Ticks.{newest_tick-push}
-use Rattle.sky_model.proofs.TickOrder.{is_made, is_made-tick}
+use Rattle.sky_model.proofs.TickOrder.{is_made-tick}
 use Rattle.sky_model.proofs.ActiveBatches.{same_consumer, IsActive, active_batches}
 use Rattle.sky_model.proofs.Members.{among-consumers}
 use Rattle.sky_model.proofs.Cases.{by_same, by_test}
@@ -196,14 +196,14 @@ free-position q (Some t) consumer sub free member has is =
     (ap (λ o. option_and_then (held_by_tick_of (λ at. Consumer consumer at.id at.snapshot.xmin) t) (option_and_then (λ (s : Subscription). tick s.position q.tick_list) o)) (sym has) ∙ one) is
 
 -- a switch drops the ticks that aren't above the second step, and no others
-switch-drops : {xmin cut : ℕ} {pending : Option ℕ} (second : Option ℕ) (all left : List Tick) → Climbs 0 0 all → Cuts xmin cut second pending all left → is_some pending ≡ true
+pub switch-drops : {xmin cut : ℕ} {pending : Option ℕ} (second : Option ℕ) (all left : List Tick) → Climbs 0 0 all → Cuts xmin cut second pending all left → is_some pending ≡ true
     → ticks_above (unwrap_or second 0) left ≡ filter (is_above (unwrap_or second 0)) left
 switch-drops {cut = cut} second all left run c pending =
     let last : id_of (newest_tick left) ≡ last_id 0 all = ap id_of (newest-same all left c) ∙ sym (last_id-newest all) in
     let up : unwrap_or second 0 < last_xmin 0 all = subst (λ n. unwrap_or second 0 < n) (sym (last_xmin-newest all)) (c.awaits pending).1 in
     let above : All (λ t. t.id ≡ last_id 0 all → unwrap_or second 0 < t.snapshot.xmin) left =
-        subst (All (λ t. t.id ≡ last_id 0 all → unwrap_or second 0 < t.snapshot.xmin)) (sym c.kept)
-        (All-filter (is_above cut) (λ t. t.id ≡ last_id 0 all → unwrap_or second 0 < t.snapshot.xmin) all (last-above 0 0 (unwrap_or second 0) all run up)) in
+    subst (All (λ t. t.id ≡ last_id 0 all → unwrap_or second 0 < t.snapshot.xmin)) (sym c.kept)
+    (All-filter (is_above cut) (λ t. t.id ≡ last_id 0 all → unwrap_or second 0 < t.snapshot.xmin) all (last-above 0 0 (unwrap_or second 0) all run up)) in
     filter-alike (λ t. is_above (unwrap_or second 0) t || t.id == id_of (newest_tick left)) (is_above (unwrap_or second 0)) left
     (All-weaker (λ t. t.id ≡ last_id 0 all → unwrap_or second 0 < t.snapshot.xmin)
     (λ t. (is_above (unwrap_or second 0) t || t.id == id_of (newest_tick left)) ≡ is_above (unwrap_or second 0) t) (λ t is. grind (arith, nat_tests, last, is)) left above)
@@ -355,7 +355,7 @@ base-newest h l q is =
     (λ pending. (c.awaits pending).1) (λ _. c.fresh))
 
 -- a tick at which a consumer may register is above that
-sits-at : (h : History) → Legal h → (q : ℕ) → IsQueue h q → (n : ℕ) → n ≤ id_of (newest_tick (ticks q h)) → floor (queue_of h q) ≤ n → base q h < xmin_of (tick n (ticks q h))
+pub sits-at : (h : History) → Legal h → (q : ℕ) → IsQueue h q → (n : ℕ) → n ≤ id_of (newest_tick (ticks q h)) → floor (queue_of h q) ≤ n → base q h < xmin_of (tick n (ticks q h))
 sits-at h l q is n most from =
     let up = base-newest h l q is in
     let run : Climbs 0 0 (ticks q h) = (climbing h l q).run in

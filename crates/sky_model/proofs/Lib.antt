@@ -58,6 +58,7 @@ pub mod TickOrder
 pub mod Climbing
 pub mod KeptTicks
 pub mod Tripled
+pub mod RotationLaws
 pub mod ActiveBatches
 pub mod FinishedBatches
 pub mod EventsOnce

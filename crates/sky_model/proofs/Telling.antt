@@ -7,7 +7,7 @@ use Rattle.sky_model.specs.declared.stmt.RowStmt.{RowStmt}
 use Rattle.sky_model.specs.declared.reply.Reply.TheVariants.{Refused}
 use Rattle.sky_model.specs.declared.reply.Refusal.{Refusal}
 use Rattle.sky_model.specs.declared.reply.Refusal.TheVariants.{EventIdsSpent}
-use Rattle.sky_model.specs.History.{Mark, looked, of_session, tabled, wrote, waited, queued}
+use Rattle.sky_model.specs.History.{Mark, Whose, ended, looked, of_session, tabled, wrote, waited, queued}
 use Rattle.sky_model.specs.Sessions.{Session}
 use Rattle.sky_model.specs.State.{RowPart, after_part, after_part_marks, Database, after_mark, after_marks}
 use Rattle.sky_model.specs.ShownRows.{rows_by}
@@ -26,16 +26,18 @@ use Rattle.sky_model.proofs.DatabaseStanding.{after_marks-append, behind-all}
 use Rattle.sky_model.proofs.Inserted.{Inserted, none, kept, with_raised, with_put, inserted-same, inserted-append}
 use Rattle.sky_model.proofs.Cases.{by_test}
 
--- a mark that is neither a session's write nor a queue's
+-- a mark that is neither a session's write nor a queue's, and rolls no transaction back
 abbrev pub IsOther : Mark → Type 0
 IsOther (tabled (wrote (of_session who) t table key old new)) = ⊥
 IsOther (queued mark) = ⊥
+IsOther (ended whose t false) = ⊥
 IsOther _ = Unit {0}
 
 -- a gate keeps what records writes at this time: whether there are ids for their events, and what they leave
 pub record TellsAlike {G : Type 0} (gate : Gate G) (now : ℤ) (related : Database → RowPart → G → Type 0) : Type 0 where
   pub part : (d : Database) (p : RowPart) (g : G) → related d p g → d.part ≡ p
   pub other : (d : Database) (p : RowPart) (g : G) (mark : Mark) → IsOther mark → related d p g → related (after_mark d mark) (after_part p mark) g
+  pub undone : (d : Database) (p : RowPart) (g : G) (whose : Whose) (t : ℕ) → related d p g → related (after_mark d (ended whose t false)) (after_part p (ended whose t false)) (gate.undone g t)
   pub room : (d : Database) (p : RowPart) (g : G) (who t table : ℕ) (key : List Val) (old new : Option (List Val)) → related d p g
       → takes gate g (tabled (wrote (of_session who) t table key old new))
       ≡ is_ok (told_of (after_mark d (tabled (wrote (of_session who) t table key old new))) now (tabled (wrote (of_session who) t table key old new)))
@@ -97,6 +99,8 @@ module _ {G : Type 0} (gate : Gate G) (now : ℤ) (related : Database → RowPar
   others [] rows plain d p g is = is
   others (queued mark ∷ marks) rows plain d p g is = absurd rows
   others (tabled (wrote who t table key old new) ∷ marks) rows plain d p g is = absurd plain
+  others (ended whose t false ∷ marks) rows plain d p g is =
+      others marks rows plain (after_mark d (ended whose t false)) (after_part p (ended whose t false)) (gate.undone g t) (alike.undone d p g whose t is)
   others (mark ∷ marks) rows plain d p g is = others marks rows plain (after_mark d mark) (after_part p mark) g (alike.other d p g mark tt is)
 
   -- a gate takes a mark, and it is recorded; or neither
@@ -116,6 +120,7 @@ module _ {G : Type 0} (gate : Gate G) (now : ℤ) (related : Database → RowPar
       of : (b : Bool) (x : Checked (List Mark)) → told_of (after_mark d write) now write ≡ x → b ≡ is_ok x → EventMarks x → ToldMark d p g write b x
       of b (Ok told) same room only = (room, only, alike.wrote d p g who t table key old new told is same)
       of b (Err refusal) same room only = (room, only)
+  told-mark (ended whose t false) marks rows d p g is = (refl, none, alike.undone d p g whose t is)
   told-mark mark marks rows d p g is = (refl, none, alike.other d p g mark tt is)
 
   -- the same of marks

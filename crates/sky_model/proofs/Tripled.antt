@@ -1,24 +1,24 @@
 -- The three event tables of a queue: what each has, and that no event is gone that a batch still has or a running transaction has put.
-use Rattle.std.proofs.Common.{◌≡◌, ℤ, ℕ, zero, suc, ◌+◌, ◌%◌, ◌<◌, ◌≤◌, List, [], ◌∷◌, ◌++◌, Bool, true, false, not, ◌||◌, ◌&&◌, ◌==◌, nat_lt, filter, find, map, flat_map, take, drop, length, slice_set, slice_index_or, Option, Some, None, is_some, option_map, unwrap_or, refl, sym, ◌∙◌, ap, subst, arith, All, if◌then◌else◌}
+use Rattle.std.proofs.Common.{◌≡◌, ℤ, ℕ, ◌+◌, ◌%◌, ◌<◌, ◌≤◌, List, [], ◌∷◌, ◌++◌, Bool, true, false, ◌||◌, ◌==◌, filter, map, flat_map, take, drop, length, slice_set, slice_index_or, Some, is_some, unwrap_or, refl, sym, ◌∙◌, ap, subst, arith, All, if◌then◌else◌}
 use Rattle.std.specs.List.{list_any}
-use Rattle.std.proofs.lemmas.Bool.{or_right, eq-eqb, and_parts}
+use Rattle.std.proofs.lemmas.Bool.{or_right, eq-eqb}
 use Rattle.std.proofs.lemmas.Bool.Decides.{nat_tests}
 use Rattle.std.proofs.lemmas.List.{map-append, append-nil, append_assoc}
 use Rattle.std.proofs.lemmas.List.Elements.{All-nil, All-cons, All-head, All-tail, All-weaker, All-append, filter-append}
 use Rattle.sky_val.specs.declared.event.Event.{Event}
 use Rattle.sky_txid.specs.Ids.{contains}
-use Rattle.sky_txid.specs.Snapshot.{SnapshotView, sees}
+use Rattle.sky_txid.specs.Snapshot.{SnapshotView}
 use Rattle.pgq_tables.specs.Tables as tables_of
 use Rattle.pgq_tables.specs.Tables.{Stored, Tables, no_tables, new_tables, with_stored, marked_dead, with_dead, with_pending, without_pending, with_second_step, by_age}
 use Rattle.pgq_tables.specs.Listed.{is_listed, listed}
 use Rattle.pgq_tables.specs.ById.{by_id}
-use Rattle.sky_model.specs.History.{Batch, Whose, ended, queued, made, switched, History}
-use Rattle.sky_model.specs.Transactions.{next_txid, running, has_ended, has_rolled_back, snapshot}
-use Rattle.sky_model.specs.Queues.{queues_made, queues, events, is_pending, without_transaction, tables, Tick, ticks, tick, kept_ticks, second_step_of}
-use Rattle.sky_model.specs.Consumers.{subscription_id, position, active_batch}
+use Rattle.sky_model.specs.History.{Batch, Whose, ended, queued, made, History}
+use Rattle.sky_model.specs.Transactions.{running, has_ended, has_rolled_back, snapshot}
+use Rattle.sky_model.specs.Queues.{queues_made, queues, events, is_pending, tables, ticks, tick, kept_ticks, second_step_of}
+use Rattle.sky_model.specs.Consumers.{active_batch}
 use Rattle.sky_model.specs.Retries.{brought_by}
 use Rattle.sky_model.specs.Batches.{batch_events}
-use Rattle.sky_model.specs.Selection.{is_selected, snapshot_at, selected_of, listed_between, selected}
+use Rattle.sky_model.specs.Selection.{is_selected, snapshot_at, listed_between, selected}
 use Rattle.sky_model.specs.State.{database_of}
 use Rattle.sky_model.specs.StepQueue.{has_part_in}
 use Rattle.sky_model.specs.LawsOfRotation.{as_stored}
@@ -102,7 +102,7 @@ rolled_back-ended (_ ∷ h) t e = rolled_back-ended h t e
 pub unended-unrolled : (h : History) (t : ℕ) → has_ended h t ≡ false → has_rolled_back h t ≡ false
 unended-unrolled h t e = by_test (λ b. b ≡ false) (has_rolled_back h t) (λ is. absurd (cc (sym (rolled_back-ended h t is) ∙ e))) (λ _. refl)
 
-dead-again : (h : History) (whose : Whose) (t : ℕ) (es : List Event) → map (marked_dead t) (map (as_stored h) es) ≡ map (as_stored (ended whose t false ∷ h)) es
+pub dead-again : (h : History) (whose : Whose) (t : ℕ) (es : List Event) → map (marked_dead t) (map (as_stored h) es) ≡ map (as_stored (ended whose t false ∷ h)) es
 dead-again h whose t [] = refl
 dead-again h whose t (e ∷ es) = ap (λ xs. as_stored (ended whose t false ∷ h) e ∷ xs) (dead-again h whose t es)
 
@@ -157,7 +157,7 @@ holds-ended h cut ts all whose t s = record {
   stepped = s.stepped;
 }
 
-alive : (h : History) (e : Event) → has_ended h e.ev_txid ≡ false → as_stored h e ≡ record { event = e; dead = false }
+pub alive : (h : History) (e : Event) → has_ended h e.ev_txid ≡ false → as_stored h e ≡ record { event = e; dead = false }
 alive h e unended = ap (λ b. record { event = e; dead = b }) (unended-unrolled h e.ev_txid unended)
 
 pub holds : (h : History) → Legal h → (q : ℕ) → IsQueue h q → DoesHold h q
@@ -264,7 +264,7 @@ listed-all : (h : History) (cut : ℕ) (ts : Tables) (all : List Event) → Hold
     → listed from to sub ts ≡ by_id (filter (is_selected (has_rolled_back h) from to sub) all)
 listed-all h cut ts all s from to up sub =
     let seen : All (λ e. is_selected (has_rolled_back h) from to sub e ≡ false) s.gone =
-        All-weaker (λ e. e.ev_txid ≤ cut) (λ e. is_selected (has_rolled_back h) from to sub e ≡ false) (λ e le. grind (arith, nat_tests, le, up)) s.gone s.past in
+    All-weaker (λ e. e.ev_txid ≤ cut) (λ e. is_selected (has_rolled_back h) from to sub e ≡ false) (λ e le. grind (arith, nat_tests, le, up)) s.gone s.past in
     ap by_id (ap (λ xs. map Stored.event (filter (is_listed from to sub) xs)) (by_age-left (as_stored h) cut ts all s)
     ∙ listed-selected h from to sub (s.oldest ++ (s.previous ++ s.current))
     ∙ ap (λ xs. xs ++ filter (is_selected (has_rolled_back h) from to sub) (s.oldest ++ (s.previous ++ s.current))) (sym (filter-none (is_selected (has_rolled_back h) from to sub) s.gone seen))

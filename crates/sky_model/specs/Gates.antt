@@ -1,8 +1,9 @@
--- A gate for writes of rows: it is asked whether it has room for a write, and notified of each that is made.
-use Rattle.std.specs.Prelude.{ℕ, List, [], ◌∷◌, Bool, true, not, ◌&&◌, Option, Ok}
+-- A gate for writes of rows: it is asked whether it has room for a write, and notified of each that is made, and of each transaction that is rolled
+-- back.
+use Rattle.std.specs.Prelude.{ℕ, List, [], ◌∷◌, Bool, true, false, not, ◌&&◌, Option, Ok}
 use Rattle.sky_val.specs.declared.val.Val.{Val}
 use Rattle.sky_model.specs.declared.reply.Refusal.TheVariants.{EventIdsSpent}
-use Rattle.sky_model.specs.History.{Mark, of_session, tabled, wrote}
+use Rattle.sky_model.specs.History.{Mark, of_session, ended, tabled, wrote}
 use Rattle.sky_model.specs.Outcome.{Outcome, Checked, ◌>>=◌, ◌>>◌, refused_if}
 use Rattle.sky_model.specs.Reader.{PartReader}
 
@@ -12,10 +13,12 @@ pub record RowWrite : Type 0 where
   pub old : Option (List Val)
   pub new : Option (List Val)
 
--- whether a gate, in its state, has room for a write; and its state after it was notified of a transaction's write
+-- whether a gate, in its state, has room for a write; its state after it was notified of a transaction's write; and its state after it was notified
+-- that a transaction was rolled back
 pub record Gate (G : Type 0) : Type 0 where
   pub has_room : G → RowWrite → Bool
   pub after : G → ℕ → RowWrite → G
+  pub undone : G → ℕ → G
 
 -- whether it has room for a mark: for the write, if it is a session's
 abbrev pub takes : {G : Type 0} → Gate G → G → Mark → Bool
@@ -25,6 +28,7 @@ takes gate g _ = true
 -- the gate after a mark
 abbrev pub passed : {G : Type 0} → Gate G → G → Mark → G
 passed gate g (tabled (wrote (of_session who) t table key old new)) = gate.after g t (record { table = table; old = old; new = new })
+passed gate g (ended whose t false) = gate.undone g t
 passed gate g _ = g
 
 -- whether it has room for each of some marks, in their order
@@ -55,4 +59,4 @@ by_gate gate r = record {
 
 -- the gate that always has room, and keeps nothing
 abbrev pub open_gate : Gate (Unit {0})
-open_gate = record { has_room = λ g write. true; after = λ g t write. g }
+open_gate = record { has_room = λ g write. true; after = λ g t write. g; undone = λ g t. g }

@@ -2,23 +2,33 @@
 use Rattle.std.specs.Prelude.{ℕ, Bool, true, List, [], ◌∷◌, ◌++◌}
 use Rattle.sky_model.specs.Gates.{RowWrite, Gate}
 
--- whether there is room for a write after those that the call has made, each with its transaction, in order
+-- what a gate is notified of: a transaction's write, or that it was rolled back
+pub data Notice : Type 0 where
+  written : (t : ℕ) (write : RowWrite) → Notice
+  undone : (t : ℕ) → Notice
+
+-- whether there is room for a write after what the gate was notified of in the call, in order
 abbrev pub Room : Type 0
-Room = List (ℕ × RowWrite) → RowWrite → Bool
+Room = List Notice → RowWrite → Bool
 
 -- for any write
 abbrev pub any_room : Room
-any_room made write = true
+any_room notices write = true
 
--- a gate after writes
-abbrev pub after_writes : {G : Type 0} → Gate G → G → List (ℕ × RowWrite) → G
-after_writes gate g [] = g
-after_writes gate g (write ∷ made) = after_writes gate (gate.after g write.0 write.1) made
+-- a gate after notices
+abbrev pub after_notices : {G : Type 0} → Gate G → G → List Notice → G
+after_notices gate g [] = g
+after_notices gate g (written t write ∷ notices) = after_notices gate (gate.after g t write) notices
+after_notices gate g (undone t ∷ notices) = after_notices gate (gate.undone g t) notices
 
 -- the room that a gate has, as it is at a call
 abbrev pub room_of : {G : Type 0} → Gate G → G → Room
-room_of gate g made write = gate.has_room (after_writes gate g made) write
+room_of gate g notices write = gate.has_room (after_notices gate g notices) write
 
--- a room as a gate, which keeps the writes of the call
-abbrev pub room_gate : Room → Gate (List (ℕ × RowWrite))
-room_gate room = record { has_room = room; after = λ made t write. made ++ (t, write) ∷ [] }
+-- a room as a gate, which keeps what it is notified of in the call
+abbrev pub room_gate : Room → Gate (List Notice)
+room_gate room = record {
+  has_room = room;
+  after = λ notices t write. notices ++ written t write ∷ [];
+  undone = λ notices t. notices ++ undone t ∷ [];
+}

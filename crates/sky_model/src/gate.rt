@@ -5,9 +5,10 @@ ghost use Rattle.sky_model.specs.Gates.{Gate, open_gate};
 use sky_val::{NoMemory, Op, Row};
 use std::marker::Model;
 
-/// Guards the writes of rows: it is asked whether it has room for each, and notified of it.
+/// Guards the writes of rows: it is asked whether it has room for each, and notified of it, and of each transaction
+/// that is rolled back.
 pub trait WriteGate {
-    // For which writes it has room, in its state; and its state after it was notified of a write.
+    // For which writes it has room, in its state; and its state after it was notified of a write or a rollback.
     ghost rule: { Gate Self };
 
     /// Whether there is room for the write in the table of this number: `old` is the row that the key has, `new` the
@@ -29,6 +30,10 @@ pub trait WriteGate {
         requires room { rule.has_room self.old (record { table = table; old = option_copied old; new = option_copied new }) ≡ true }
         ensures ok { OnOk result (self.new ≡ rule.after self.old txid (record { table = table; old = option_copied old.entry; new = option_copied new.entry })) }
         ensures err { OnErr result (self.new ≡ self.old) };
+
+    /// Notifies it that the transaction of this id was rolled back.
+    fn rolled_back(&mut self, txid: u64)
+        ensures { self.new ≡ rule.undone self.old txid };
 }
 
 /// The gate that always has room, and keeps nothing.
@@ -58,4 +63,6 @@ impl WriteGate for OpenGate {
     ) -> Result<(), NoMemory> {
         Ok(())
     }
+
+    fn rolled_back(&mut self, _txid: u64) {}
 }

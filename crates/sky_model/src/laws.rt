@@ -7,6 +7,7 @@ ghost use Rattle.sky_model.specs.LawsOfLines.{BadWordIsLeast, LinesAreInForm};
 ghost use Rattle.sky_model.specs.LawsOfLocks.{DeadlocksAreRings, HoldersHaveWritten, NothingIsReady, WritersHaveWritten};
 ghost use Rattle.sky_model.specs.LawsOfQueues.{BusyQueuesStand, NewQueuesAreOthers, OtherQueuesKeepNothing, ProducersHaveWork, QueuesOfConsumersStand, QueuesOfTriggersStand};
 ghost use Rattle.sky_model.specs.LawsOfRetries.{EventsComeOnce, RetriesAreCopies, RetriesAreForTheirSubscription, RetriesAreListed, RetriesAreOfActiveBatches, RetriesComeBackAtCalls, RetriesComeBackDue, RetriesWaitOnce};
+ghost use Rattle.sky_model.specs.LawsOfRotation.{NeededEventsAreStored, PositionsAreKept, SwitchesDropTicks, TablesHoldWhatWasPut};
 ghost use Rattle.sky_model.specs.LawsOfRows.{RowsAreReadUnderSnapshots};
 ghost use Rattle.sky_model.specs.LawsOfSnapshots.{BatchesAreSelectedBySnapshots, SnapshotsSeeWhatHasEnded};
 ghost use Rattle.sky_model.specs.LawsOfWrites.{EventIdsFollowWrites, EventIdsRise, KeysAreWrittenInTurn, SnapshotsSeeEarlierWriters, StandingRowsFit, WritesAndCommitsHaveOneOrder, WritesAreTold, WritesNameWhatStands, WrittenRowsFit};
@@ -187,4 +188,15 @@ pub fn daemons_work_when_due()
     ensures started { DaemonsHaveStarted }
     ensures next { NextDueIsFirst }
     ensures works { DaemonsWorkWhenDue }
+{}
+
+/// The three event tables of a queue that stands have what was put while each was the current one, since it was last
+/// emptied. No switch loses an event that a running transaction has put, or that a consumer at a tick at which one may
+/// register hasn't got yet. The position of each consumer is such a tick, and is kept. A switch drops the ticks that
+/// aren't above the second step of the one before, and no others.
+pub fn rotation_leaves_what_is_needed()
+    ensures tables { TablesHoldWhatWasPut }
+    ensures events { NeededEventsAreStored }
+    ensures positions { PositionsAreKept }
+    ensures ticks { SwitchesDropTicks }
 {}

@@ -7,6 +7,7 @@
 #![tactic(auto)]
 
 mod event;
+mod held;
 mod moment;
 mod print;
 mod queue;

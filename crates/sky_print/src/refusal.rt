@@ -38,6 +38,7 @@ pub(crate) fn append_refusal(
         Refusal::Serialize(txid) => append_numbered(b"Serialize ", *txid, into),
         Refusal::TableBusy(txid) => append_numbered(b"TableBusy ", *txid, into),
         Refusal::TableExists(name) => append_named(b"TableExists ", name.bytes(), into),
+        Refusal::TickTooOld(tick, least) => append_numbers(b"TickTooOld ", *tick, *least, into),
         Refusal::TooMany(limit) => append_limit(*limit, into),
         Refusal::TriggerExists(name) => append_named(b"TriggerExists ", name.bytes(), into),
         Refusal::TwiceNamed(column) => append_named(b"TwiceNamed ", column.bytes(), into),
@@ -120,8 +121,8 @@ pub(crate) fn append_named(name: &[u8], field: &[u8], into: &mut Vec<u8>) -> Res
     into.extend_from_slice(field)
 }
 
-// A refusal's name, which ends in a space, and a number.
-fn append_numbered(name: &[u8], number: u64, into: &mut Vec<u8>) -> Result<(), NoMemory>
+/// Appends a name, which ends in a space, and the number after it.
+pub(crate) fn append_numbered(name: &[u8], number: u64, into: &mut Vec<u8>) -> Result<(), NoMemory>
     ensures ok { OnOk result (into.new.items ≡ into.old.items ++ (name.now ++ decimal number)) }
     ensures kept { OnErr result (Keeps into.old.items into.new.items) }
 {
@@ -129,8 +130,13 @@ fn append_numbered(name: &[u8], number: u64, into: &mut Vec<u8>) -> Result<(), N
     append_number(number, into)
 }
 
-// A refusal's name, which ends in a space, and two numbers.
-fn append_numbers(name: &[u8], number: u64, other: u64, into: &mut Vec<u8>) -> Result<(), NoMemory>
+/// Appends a name, which ends in a space, and the two numbers after it.
+pub(crate) fn append_numbers(
+    name: &[u8],
+    number: u64,
+    other: u64,
+    into: &mut Vec<u8>,
+) -> Result<(), NoMemory>
     ensures ok { OnOk result (into.new.items
         ≡ into.old.items ++ (name.now ++ decimal number ++ 32 ∷ decimal other)) }
     ensures kept { OnErr result (Keeps into.old.items into.new.items) }

@@ -7,8 +7,9 @@ use crate::cause::LineCause;
 use crate::clock_forms::{clock, pgqd};
 use crate::queue_forms::{
     consumer_info, create_queue, drop_queue, event_retry, finish_batch, force_tick,
-    get_batch_events, get_batch_info, insert_event, maint_retry_events, next_batch, queue_info,
-    register_consumer, register_consumer_at, set_queue_config, ticker, unregister_consumer,
+    get_batch_events, get_batch_info, insert_event, maint_retry_events, maint_rotate_step1,
+    maint_rotate_step2, next_batch, queue_info, register_consumer, register_consumer_at,
+    set_queue_config, ticker, unregister_consumer,
 };
 use crate::row_forms::{create_table, delete, get, insert, scan, update};
 use crate::session_forms::{alone, begin, open_db, txid_visible_in_snapshot};
@@ -173,6 +174,12 @@ fn read_long(alloc: Global, first: &[u8], words: &mut Words) -> Result<Stmt, Lin
     }
     if first == b"maint_retry_events".as_slice() {
         return maint_retry_events(words);
+    }
+    if first == b"maint_rotate_step1".as_slice() {
+        return maint_rotate_step1(alloc, words);
+    }
+    if first == b"maint_rotate_step2".as_slice() {
+        return maint_rotate_step2(words);
     }
     Err(words.refused())
 }

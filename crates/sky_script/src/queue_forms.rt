@@ -195,6 +195,21 @@ pub(crate) fn maint_retry_events(words: &mut Words) -> Result<Stmt, LineCause>
     Ok(Stmt::MaintRetryEvents)
 }
 
+pub(crate) fn maint_rotate_step1(alloc: Global, words: &mut Words) -> Result<Stmt, LineCause>
+    ensures { Answers result (last Name (λ queue. Stmt.MaintRotateStep1 queue)) words.old }
+{
+    let queue = words.name(alloc)?;
+    words.end()?;
+    Ok(Stmt::MaintRotateStep1 { queue })
+}
+
+pub(crate) fn maint_rotate_step2(words: &mut Words) -> Result<Stmt, LineCause>
+    ensures { Answers result (stop Stmt.MaintRotateStep2) words.old }
+{
+    words.end()?;
+    Ok(Stmt::MaintRotateStep2)
+}
+
 pub(crate) fn consumer_info(alloc: Global, words: &mut Words) -> Result<Stmt, LineCause>
     ensures { let row = one Name (λ queue. last Dotted (λ consumer. Stmt.ConsumerInfo queue consumer)) in
         Answers result row words.old }
