@@ -6,13 +6,13 @@ use Rattle.sky_model.specs.declared.reply.Refusal.TheVariants.{Canceled, Deadloc
 use Rattle.sky_model.specs.History.{tabled, waits, waited}
 use Rattle.sky_model.specs.Sessions.{Block, outside, inside, failed}
 use Rattle.sky_model.specs.State.{RowPart, after_part, after_part_marks}
-use Rattle.sky_model.specs.Outcome.{◌>>◌, refused_by, does_marks, abort}
+use Rattle.sky_model.specs.Outcome.{◌>>◌, refused_by, does_marks, marks_of, abort}
 use Rattle.sky_model.specs.declared.stmt.Attempt.{Attempt}
 use Rattle.sky_val.specs.declared.val.Val.{Val}
 use Rattle.sky_model.specs.StepLocks.{ring, blocked}
 use Rattle.sky_model.specs.StepSession.{cancel}
 use Rattle.sky_model.specs.Reader.{PartReader, part_by_itself}
-use Rattle.sky_model.specs.Gates.{Gate, by_gate}
+use Rattle.sky_model.specs.Gates.{Gate, passed_all, by_gate}
 use Rattle.sky_model.specs.Settling.{turn_of, ready, attempted, resumed, settling}
 use Rattle.sky_model.proofs.Resting.{gated-keeps, fewer-wait, settling-none, settling-some}
 use Rattle.sky_session.specs.declared.answer.RowStep.{RowStep}
@@ -78,6 +78,16 @@ does-cancel d mid new before after who busy left back replied told =
       told = told ∙ ap (with_effects before.effects) same;
       changed = back ∙ ap (after_part_marks mid) same ∙ ap (λ p. after_part_marks p (abort who (d.session who).block (d.session who).txid Canceled)) left;
     })
+  where
+    same : failure who (mid.session who).txid (mid.session who).block ≡ abort who (d.session who).block (d.session who).txid Canceled
+    same = ap (λ (p : RowPart). failure who (p.session who).txid (p.session who).block) left ∙ failure-abort who (d.session who).txid (d.session who).block
+
+-- its gate is notified of the rollback
+pub passes-cancel : {G : Type 0} (gate : Gate G) (d mid : RowPart) (g g' : G) (who : ℕ) → is_waiting who d.waiting ≡ true → mid ≡ after_part d (tabled (waited who))
+    → g' ≡ passed_all gate g (failure who (mid.session who).txid (mid.session who).block)
+    → g' ≡ passed_all gate g (marks_of (cancel who (d.session who).txid (d.session who).block (is_waiting who d.waiting)))
+passes-cancel gate d mid g g' who busy left passed =
+    passed ∙ ap (passed_all gate g) same ∙ ap (λ b. passed_all gate g (marks_of (cancel who (d.session who).txid (d.session who).block b))) (sym busy)
   where
     same : failure who (mid.session who).txid (mid.session who).block ≡ abort who (d.session who).block (d.session who).txid Canceled
     same = ap (λ (p : RowPart). failure who (p.session who).txid (p.session who).block) left ∙ failure-abort who (d.session who).txid (d.session who).block

@@ -1,5 +1,5 @@
 -- What a step gives, part by part.
-use Rattle.std.proofs.Common.{◌≡◌, ◌≢◌, ℕ, List, [], ◌∷◌, ◌++◌, Bool, true, false, Option, Some, None, Result, Ok, Err, IfOk, OnOk, refl, sym, ◌∙◌, ap, subst, append_assoc, append-nil, eq-eqb, if◌then◌else◌}
+use Rattle.std.proofs.Common.{◌≡◌, ℕ, List, [], ◌∷◌, ◌++◌, Bool, true, false, Option, Some, None, Result, Ok, Err, IfOk, OnOk, refl, sym, ◌∙◌, ap, subst, append_assoc, append-nil, eq-eqb, if◌then◌else◌}
 use Rattle.sky_model.specs.declared.reply.Reply.TheVariants.{Number}
 use Rattle.sky_model.specs.declared.reply.Refusal.{Refusal}
 use Rattle.sky_model.specs.declared.stmt.RowStmt.{RowStmt}
@@ -9,8 +9,11 @@ use Rattle.sky_urlenc.specs.RowEvents.{op_of}
 use Rattle.sky_keys.specs.Waits.{is_waiting}
 use Rattle.sky_model.specs.History.{Mark, ended, looked, tabled, wrote}
 use Rattle.sky_model.specs.State.{RowPart, with_txid, after_part, after_part_marks}
-use Rattle.sky_model.specs.ShownRows.{rows_by}
-use Rattle.sky_model.specs.Outcome.{Outcome, Checked, ◌>>=◌, does_marks, settled}
+use Rattle.sky_val.specs.declared.val.Val.{Val}
+use Rattle.sky_val.specs.Schemas.{key_columns}
+use Rattle.sky_model.specs.ShownRows.{RowsShown, rows_by}
+use Rattle.sky_model.specs.StepRows.{table_called, fits, row_or_none, get}
+use Rattle.sky_model.specs.Outcome.{Outcome, Checked, ◌>>=◌, ◌>>◌, does_marks, settled}
 use Rattle.sky_model.specs.Allowed.{where_of_row, allowed}
 use Rattle.sky_model.specs.Made.{Making, takes_sight, runs, looking, runs_if}
 use Rattle.sky_model.specs.OwnTransaction.{own_or_next, txid_for, begin_of, commit_of, written}
@@ -19,7 +22,7 @@ use Rattle.sky_model.specs.Reader.{part_by_itself}
 use Rattle.sky_model.specs.Gates.{Gate, passed_all, gated, by_gate, open_gate}
 use Rattle.sky_model.specs.Calls.{row_form, row_making, row_statement}
 use Rattle.sky_model.specs.Settling.{Turn, turn_of, joined, behind_marks, settling, with_settling}
-use Rattle.sky_model.proofs.GatedLemmas.{gated-behind, passed-append, passed-abort, passed-none, gated-none, PlainOutcome}
+use Rattle.sky_model.proofs.GatedLemmas.{gated-behind, passed-append, passed-none, gated-none, PlainOutcome, NoticesNone}
 use Rattle.sky_session.specs.declared.answer.RowStep.{RowStep}
 use Rattle.sky_session.specs.declared.effect.Effect.TheVariants.{Wrote, Committed, Aborted}
 use Rattle.sky_session.specs.Effects.{EffectsView, effects_by, with_effects}
@@ -27,13 +30,12 @@ use Rattle.sky_state.specs.Views.{RowStateView}
 use Rattle.sky_state.specs.Seen.{seen}
 use Rattle.sky_model.specs.declared.stop.Stop.{Stop}
 use Rattle.sky_model.specs.declared.stop.Stop.TheVariants as stop
-use Rattle.sky_model.specs.Sessions.{Block, outside, inside, failed, Session}
-use Rattle.sky_model.specs.SessionMarks.{look_of, sight_marks, failure, failing, Enters, entry, entry_place, single_end, takes_id, taking, ending}
+use Rattle.sky_model.specs.Sessions.{Block, outside}
+use Rattle.sky_model.specs.SessionMarks.{look_of, sight_marks, failing, Enters, entry, entry_place, single_end, takes_id, taking, ending}
 use Rattle.sky_model.specs.RowCalls.{RowCall, row_entered, txid_taken, single_ended}
 use Rattle.sky_model.specs.RowSteps.{RowSteps}
 use Rattle.sky_model.proofs.RowCallStanding.{row_enter_from_exact, take_txid_from_exact, end_single_from_exact}
-use Rattle.sky_session.specs.Gives.{nothing, Adds, Settles, Gives, Does, Ran, Passes, Writes}
-use Rattle.sky_model.specs.Stops.{Refuses}
+use Rattle.sky_session.specs.Gives.{nothing, Adds, Settles, Gives, Does, Ran, Passes, Runs, Writes}
 use Rattle.sky_model.specs.Outcome.{marks_of}
 
 -- the marks of two lists, one after the other
@@ -161,46 +163,26 @@ gives-all old new before after call turn told first same settles = subst (Gives 
 pub entered : (d mid : RowPart) (who : ℕ) (place there : Where) (found r : Option Refusal) → place ≡ there → found ≡ r → Enters d mid who place found → Enters d mid who there r
 entered d mid who place there found r same is enters = subst (λ p. Enters d mid who p r) same (subst (λ o. Enters d mid who place o) is enters)
 
--- a statement that its session may not make is refused, and no gate is notified
-pub adds-barred : {G : Type 0} (gate : Gate G) (g : G) (d mid new : RowPart) (before after : RowStep) (who : ℕ) (stmt : RowStmt) (refusal : Refusal) → allowed (is_waiting who d.waiting) (d.session who).is_open (d.session who).block (where_of_row stmt) ≡ Err refusal
-    → mid ≡ d → Does mid new before after who (Ok (settled who (mid.session who) (Err refusal))) → Adds gate (d, g) (new, g) before after (turn_of who (row_statement (by_gate gate part_by_itself) (d, g) who stmt))
-adds-barred gate g d mid new before after who stmt refusal is same does =
-    subst (λ checked. Adds gate (d, g) (new, g) before after (turn_of who (runs_if (row_making (by_gate gate part_by_itself) who stmt) (where_of_row stmt) who (d, g) checked))) (sym is)
-    (let here : Does d new before after who (Ok (settled who (d.session who) (Err refusal))) = subst (λ (p : RowPart). Does p new before after who (Ok (settled who (p.session who) (Err refusal)))) same does in
-    record { replied = here.replied; told = here.told; changed = here.changed; passed = sym (passed-abort gate g who (d.session who).block (d.session who).txid refusal) })
+-- a statement that its session may not make is refused
+pub adds-barred : {G : Type 0} (gate : Gate G) (g : G) (d mid : RowPart) (new : RowPart × G) (before after : RowStep) (who : ℕ) (stmt : RowStmt) (refusal : Refusal) → allowed (is_waiting who d.waiting) (d.session who).is_open (d.session who).block (where_of_row stmt) ≡ Err refusal
+    → mid ≡ d → Adds gate (mid, g) new before after (turn_of who (settled who (mid.session who) (Err refusal))) → Adds gate (d, g) new before after (turn_of who (row_statement (by_gate gate part_by_itself) (d, g) who stmt))
+adds-barred gate g d mid new before after who stmt refusal is same adds =
+    subst (λ checked. Adds gate (d, g) new before after (turn_of who (runs_if (row_making (by_gate gate part_by_itself) who stmt) (where_of_row stmt) who (d, g) checked))) (sym is)
+    (subst (λ (p : RowPart). Adds gate (p, g) new before after (turn_of who (settled who (p.session who) (Err refusal)))) same adds)
 
--- a statement that is refused when it is run aborts its session's block
-pub does-refused : (d mid new : RowPart) (before middle after : RowStep) (who : ℕ) (refusal : Refusal) (checked : Checked Outcome) → Refuses d mid refusal checked × (middle ≡ before)
-    → Does mid new middle after who (Ok (settled who (mid.session who) (Err refusal))) → Does d new before after who (Ok (settled who (d.session who) checked))
-does-refused d mid new before middle after who refusal checked stops does =
-    subst (λ o. Does d new before after who (Ok (settled who (d.session who) o))) (sym stops.0.refused)
-    (subst (λ (p : RowPart × RowStep). Does p.0 new p.1 after who (Ok (settled who (p.0.session who) (Err refusal)))) (λ i. (stops.0.same i, stops.1 i)) does)
+-- one that is refused when it is run aborts its session's block
+pub adds-refused : {G : Type 0} (gate : Gate G) (old mid : RowStateView × G) (new : RowPart × G) (before middle after : RowStep) (who : ℕ) (refusal : Refusal) (checked : Checked Outcome)
+    → Runs gate old mid before middle who (Err (stop.Refused refusal)) checked → Adds gate (seen mid.0, mid.1) new middle after (turn_of who (settled who ((seen mid.0).session who) (Err refusal)))
+    → Adds gate (seen old.0, old.1) new before after (turn_of who (settled who ((seen old.0).session who) checked))
+adds-refused {G} gate old mid new before middle after who refusal checked runs adds =
+    subst (λ o. Adds gate (seen old.0, old.1) new before after (turn_of who (settled who ((seen old.0).session who) o))) (sym runs.ran.0.refused)
+    (subst (λ (p : (RowPart × G) × RowStep). Adds gate p.0 new p.1 after (turn_of who (settled who (p.0.0.session who) (Err refusal)))) (λ i. ((runs.ran.0.same i, runs.passes i), runs.ran.1 i)) adds)
 
 -- and one that isn't refused does what its outcome says
-pub does-done : (d new : RowPart) (before after : RowStep) (who : ℕ) (checked : Checked Outcome) → Does d new before after who checked → Does d new before after who (Ok (settled who (d.session who) checked))
-does-done d new before after who (Ok outcome) does = does
-does-done d new before after who (Err refusal) does = absurd (cc)
-
--- its gate has recorded what it did, and nothing if it was refused
-passed-run : {G : Type 0} (gate : Gate G) (g g' : G) (old new : RowStateView) (before after : RowStep) (who : ℕ) (s : Session) (ran : Result (Unit {0}) Stop) (checked : Checked Outcome)
-    → ran ≢ Err stop.NoMemory → Ran old new before after who ran checked → Passes gate g g' ran checked → g' ≡ passed_all gate g (settled who s checked).marks
-passed-run gate g g' old new before after who s (Ok _) (Ok outcome) memory does told = told
-passed-run gate g g' old new before after who s (Ok _) (Err refusal) memory does told = absurd (cc (Does.accepted does))
-passed-run gate g g' old new before after who s (Err (stop.Refused refusal)) checked memory stops same =
-    same ∙ sym (ap (λ o. passed_all gate g (settled who s o).marks) stops.0.refused ∙ passed-abort gate g who s.block s.txid refusal)
-passed-run gate g g' old new before after who s (Err stop.NoMemory) checked memory does told = absurd (memory refl)
-
--- a statement that was run adds its answer, even if that is a refusal
-pub adds-run : {G : Type 0} (gate : Gate G) (g g' : G) (old mid : RowStateView) (new : RowPart) (before middle after : RowStep) (who : ℕ) (ran : Result (Unit {0}) Stop) (checked : Checked Outcome)
-    → Writes gate (old, g) (mid, g') before middle who ran checked → ran ≢ Err stop.NoMemory
-    → Does (seen old) new before after who (Ok (settled who ((seen old).session who) (gated gate g checked)))
-    → Adds gate (seen old, g) (new, g') before after (turn_of who (settled who ((seen old).session who) (gated gate g checked)))
-adds-run gate g g' old mid new before middle after who ran checked writes memory does = record {
-  replied = does.replied;
-  told = does.told;
-  changed = does.changed;
-  passed = passed-run gate g g' old mid before middle who ((seen old).session who) ran (gated gate g checked) memory writes.ran writes.passes;
-}
+pub adds-done : {G : Type 0} (gate : Gate G) (old new : RowStateView × G) (before after : RowStep) (who : ℕ) (checked : Checked Outcome) → Runs gate old new before after who (Ok tt) checked
+    → Adds gate (seen old.0, old.1) (seen new.0, new.1) before after (turn_of who (settled who ((seen old.0).session who) checked))
+adds-done gate old new before after who (Ok outcome) runs = record { replied = runs.ran.replied; told = runs.ran.told; changed = runs.ran.changed; passed = runs.passes }
+adds-done gate old new before after who (Err refusal) runs = absurd (cc (Does.accepted runs.ran))
 
 -- a statement whose block's snapshot was taken before it
 pub adds-made : {G : Type 0} (gate : Gate G) (g : G) (d mid : RowPart) (new : RowPart × G) (before after : RowStep) (who : ℕ) (stmt : RowStmt) → allowed (is_waiting who d.waiting) (d.session who).is_open (d.session who).block (where_of_row stmt) ≡ Ok tt
@@ -221,16 +203,34 @@ adds-made {G} gate g d mid new before after who stmt is look adds =
     by true e = let behind : there (after_part d (looked who)) = subst there e adds in record { replied = behind.replied; told = behind.told; changed = behind.changed; passed = behind.passed }
     by false e = subst there e adds
 
--- a statement that writes nothing is done as without the gate, which isn't notified
+-- a statement that writes nothing is done as without the gate
+pub writes-passed : {G : Type 0} (gate : Gate G) (g g' : G) (old new : RowStateView) (before after : RowStep) (who : ℕ) (result : Result (Unit {0}) Stop) (checked : Checked Outcome) → PlainOutcome checked
+    → Runs gate (old, g) (new, g') before after who result checked → Writes gate (old, g) (new, g') before after who result checked
+writes-passed gate g g' old new before after who result checked plain runs = subst (Runs gate (old, g) (new, g') before after who result) (sym (gated-none gate g checked plain)) runs
+
+-- `get` leaves no mark
+pub unnoticed-get : (d : RowPart) (shown : RowsShown) (who : ℕ) (name : List ℕ) (key : List Val) → NoticesNone (marks_of (get d shown who name key))
+unnoticed-get d shown who name key = called (table_called name d)
+  where
+    row : (o : Option (List Val)) → NoticesNone (marks_of (row_or_none o))
+    row None = tt
+    row (Some r) = tt
+
+    fitting : (f : Checked (Unit {0})) (o : Option (List Val)) → NoticesNone (marks_of (f >> row_or_none o))
+    fitting (Err refusal) o = tt
+    fitting (Ok _) o = row o
+
+    called : (table : Checked ℕ) → NoticesNone (marks_of (table >>= (λ t. fits (key_columns (d.columns t)) key >> row_or_none (shown.key who t key).row)))
+    called (Err refusal) = tt
+    called (Ok t) = fitting (fits (key_columns (d.columns t)) key) (shown.key who t key).row
+
+-- what rolls nothing back isn't told to the gate either
 pub writes-plain : {G : Type 0} (gate : Gate G) (g : G) (old new : RowStateView) (before after : RowStep) (who : ℕ) (result : Result (Unit {0}) Stop) (checked : Checked Outcome) → PlainOutcome checked
-    → Ran old new before after who result checked → Writes gate (old, g) (new, g) before after who result checked
-writes-plain gate g old new before after who result checked plain ran = record {
-  ran = subst (Ran old new before after who result) (sym (gated-none gate g checked plain)) ran;
-  passes = subst (Passes gate g g result) (sym (gated-none gate g checked plain)) (of result);
-}
+    → NoticesNone (marks_of checked) → Ran old new before after who result checked → Writes gate (old, g) (new, g) before after who result checked
+writes-plain gate g old new before after who result checked plain none ran = writes-passed gate g g old new before after who result checked plain (record { ran = ran; passes = of result })
   where
     of : (r : Result (Unit {0}) Stop) → Passes gate g g r checked
-    of (Ok _) = sym (passed-none gate g (marks_of checked) plain)
+    of (Ok _) = sym (passed-none gate g (marks_of checked) none)
     of (Err (stop.Refused refusal)) = refl
     of (Err stop.NoMemory) = tt
 
@@ -254,14 +254,7 @@ pub entered-steps : {E : Type 0} (old new : RowPart) (who : ℕ) (alone : Bool) 
 entered-steps old new who alone (Ok refusal) enters = row_enter_from_exact old new who alone refusal enters
 entered-steps old new who alone (Err e) enters = tt
 
--- a rollback is added, and no gate is notified
-pub adds-failing : {G : Type 0} (gate : Gate G) (g : G) (d new : RowPart) (before after : RowStep) (who : ℕ) → after.replies ≡ before.replies → after.effects ≡ with_effects before.effects (failing d who).marks
-    → new ≡ after_part_marks d (failing d who).marks → Adds gate (d, g) (new, g) before after (failing d who)
-adds-failing gate g d new before after who replied told changed =
-    record { replied = replied ∙ sym (append-nil before.replies); told = told; changed = changed; passed = sym (none (d.session who).txid (d.session who).block) }
-  where
-    none : (txid : Option ℕ) (b : Block) → passed_all gate g (failure who txid b) ≡ g
-    none txid outside = refl
-    none None inside = refl
-    none (Some t) inside = refl
-    none txid failed = refl
+-- a rollback is added
+pub adds-failing : {G : Type 0} (gate : Gate G) (d new : RowPart × G) (before after : RowStep) (who : ℕ) → after.replies ≡ before.replies → after.effects ≡ with_effects before.effects (failing d.0 who).marks
+    → new.0 ≡ after_part_marks d.0 (failing d.0 who).marks → new.1 ≡ passed_all gate d.1 (failing d.0 who).marks → Adds gate d new before after (failing d.0 who)
+adds-failing gate d new before after who replied told changed passed = record { replied = replied ∙ sym (append-nil before.replies); told = told; changed = changed; passed = passed }

@@ -3,7 +3,7 @@ use Rattle.sky_keys.specs.Waits.{other_holder}
 use Rattle.sky_model.specs.declared.reply.Reply.TheVariants.{Number}
 use Rattle.sky_model.specs.declared.stmt.Attempt.TheVariants.{Changes}
 use Rattle.sky_model.specs.ShownRows.{rows_by}
-use Rattle.sky_model.specs.StepRows.{writes_key, some_row, with_sets}
+use Rattle.sky_model.specs.StepRows.{attempts, writes_key, some_row, with_sets}
 use Rattle.sky_state.specs.Seen.{seen}
 use Rattle.sky_session.proofs.FreeLemmas.{change-free, writes-told}
 use Rattle.sky_session.proofs.locking.change_key.Goals as goal
@@ -15,7 +15,7 @@ returns g c =
     let free : other_holder d.holder c.args.who c.args.key.table c.args.key.key ≡ None = search rules in
     let is : shown.row ≡ Some c.in-Some.old.now = search rules in
     let made : some_row (with_sets (d.columns c.args.key.table) c.args.sets.now c.in-Some.old.now) ≡ Ok (Some c.in_ok-new.new) = search rules in
-    writes-told g.G.WriteGate.rule c.args.gate.now c.tell_write.new.gate c.args.state.now c.write_key.new.state c.args.step.now c.write_key.new.step c.args.who _ (writes_key d c.args.who c.args.key.table c.args.key.key (Some c.in-Some.old.now) (Some c.in_ok-new.new)) (Number 1) _
+    writes-told g.G.WriteGate.rule c.args.gate.now c.tell_write.new.gate c.args.state.now c.write_key.new.state c.args.step.now c.write_key.new.step c.args.who (attempts d shown c.args.who c.args.key.table c.args.key.key (Changes c.args.sets.now)) (writes_key d c.args.who c.args.key.table c.args.key.key (Some c.in-Some.old.now) (Some c.in_ok-new.new)) (Number 1) _
     (change-free g.G.WriteGate.rule c.args.gate.now d shown c.args.who c.args.key.table c.args.key.key (Changes c.args.sets.now) (λ row. some_row (with_sets (d.columns c.args.key.table) c.args.sets.now row)) shown.row
     c.in-Some.old.now (Some c.in_ok-new.new) is free c.in_ok-check_seen.ensures.ok made) c.in_ok-txid.ensures.does c.in_ok-txid.ensures.passed
     c.in_ok-write_key.ensures.replied (c.in_ok-write_key.ensures.told (Some c.in-Some.old.now) c.args.step.now.effects c.in_ok-txid.ensures.told) (c.in_ok-write_key.ensures.marks (Some c.in-Some.old.now))

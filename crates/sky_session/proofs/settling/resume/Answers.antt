@@ -10,7 +10,6 @@ use Rattle.sky_model.specs.Settling.{turn_of, attempted}
 use Rattle.sky_session.specs.Gives.{Adds}
 use Rattle.sky_state.specs.Seen.{seen}
 use Rattle.sky_keys.proofs.WaitLemmas.{is_waiting-without}
-use Rattle.sky_session.proofs.Steps.{adds-run}
 use Rattle.sky_session.proofs.LockLemmas.{adds-resumed}
 use Rattle.sky_session.proofs.settling.resume.Goals as goal
 
@@ -27,8 +26,7 @@ returns g c =
     let mid = seen old in
     let key = c.args.key in
     let checked = attempts mid ((rows_by mid).key c.args.who key.table key.key) c.args.who key.table key.key c.waited-attempt.result in
-    adds-resumed gate c.args.gate.now (seen c.args.state.now) mid (seen c.or_refuse.new.state, c.attempt_key-ran.new.gate) c.args.step.now c.or_refuse.new.step (entry c.args.who key) c.waited-attempt.ensures.mark
-    (subst (λ attempt. Adds gate (mid, c.args.gate.now) (seen c.or_refuse.new.state, c.attempt_key-ran.new.gate) c.args.step.now c.or_refuse.new.step (turn_of c.args.who (attempted (by_gate gate part_by_itself) (entry c.args.who key) attempt (mid, c.args.gate.now))))
+    adds-resumed gate c.args.gate.now (seen c.args.state.now) mid (seen c.or_refuse.new.state, c.or_refuse.new.gate) c.args.step.now c.or_refuse.new.step (entry c.args.who key) c.waited-attempt.ensures.mark
+    (subst (λ attempt. Adds gate (mid, c.args.gate.now) (seen c.or_refuse.new.state, c.or_refuse.new.gate) c.args.step.now c.or_refuse.new.step (turn_of c.args.who (attempted (by_gate gate part_by_itself) (entry c.args.who key) attempt (mid, c.args.gate.now))))
     c.waited-attempt.ensures.taken
-    (adds-run gate c.args.gate.now c.attempt_key-ran.new.gate old c.attempt_key-ran.new.state (seen c.or_refuse.new.state) c.args.step.now c.attempt_key-ran.new.step c.or_refuse.new.step c.args.who c.attempt_key-ran.result checked
-    c.attempt_key-ran.ensures c.in_ok-or_refuse.ensures.memory (c.in_ok-or_refuse.ensures.answered old c.args.step.now (gated gate c.args.gate.now checked) c.attempt_key-ran.ensures.ran)))
+    (c.in_ok-or_refuse.ensures (old, c.args.gate.now) c.args.step.now (gated gate c.args.gate.now checked) c.attempt_key-ran.ensures))
