@@ -1,0 +1,9 @@
+pub mod Keyed
+pub mod Digits
+pub mod ByTxid
+pub mod Looks
+pub mod Sorted
+pub mod Between
+pub mod Earliest
+pub mod Ages
+pub mod Holds
