@@ -1,5 +1,5 @@
 -- What is shown of slots, each of which has one queue or none.
-use Rattle.std.proofs.Common.{◌≡◌, ℕ, zero, suc, ◌<◌, List, [], ◌∷◌, map, length, get_or, slice_set, refl, sym, ◌∙◌, ap, subst, arith}
+use Rattle.std.proofs.Common.{◌≡◌, ℕ, zero, suc, ◌+◌, ◌<◌, List, [], ◌∷◌, ◌++◌, map, take, drop, length, get_or, slice_set, refl, sym, ◌∙◌, ap, subst, arith}
 use Rattle.pgq_queues.specs.Views.{QueueView}
 use Rattle.pgq_queues.specs.Seen.{no_queue, Stands}
 use Rattle.pgq_queues.proofs.TracedLists.{there}
@@ -17,7 +17,7 @@ map-at f (y ∷ ys) zero x is lt = ap f (sym is)
 map-at f (y ∷ ys) (suc i) x is lt = map-at f ys i x is (omega (arith, lt))
 
 -- the default that is read for a missing item doesn't matter if the item is there
-any-default : {A : Type 0} (xs : List A) (i : ℕ) (d e : A) → i < length xs → get_or xs i d ≡ get_or xs i e
+pub any-default : {A : Type 0} (xs : List A) (i : ℕ) (d e : A) → i < length xs → get_or xs i d ≡ get_or xs i e
 any-default [] i d e lt = absurd (omega (arith, lt))
 any-default (x ∷ xs) zero d e lt = refl
 any-default (x ∷ xs) (suc i) d e lt = any-default xs i d e (omega (arith, lt))
@@ -30,3 +30,25 @@ is-there queues i (x ∷ xs) q at stands is = is ∙ sym at ∙ any-default queu
 pub changed-there : (queues : List QueueView) (i : ℕ) (slot : List QueueView) (w : QueueView) → get_or queues i no_queue ≡ get_or slot 0 no_queue → Stands queues i → get_or (slice_set slot 0 w) 0 no_queue ≡ w
 changed-there queues i [] w at stands = let ticks = subst (λ (x : QueueView). 0 < length x.ticks) at stands in absurd (omega (arith, ticks))
 changed-there queues i (x ∷ xs) w at stands = refl
+
+-- ---- each is changed, one after another
+
+-- the first are changed, and the next one isn't yet
+next-there : {A : Type 0} (f : A → A) (xs : List A) (i : ℕ) (d : A) → get_or (map f (take i xs) ++ drop i xs) i d ≡ get_or xs i d
+next-there f [] zero d = refl
+next-there f [] (suc i) d = refl
+next-there f (x ∷ xs) zero d = refl
+next-there f (x ∷ xs) (suc i) d = next-there f xs i d
+
+next-changed : {A : Type 0} (f : A → A) (xs : List A) (i : ℕ) (d : A) → i < length xs → slice_set (map f (take i xs) ++ drop i xs) i (f (get_or xs i d)) ≡ map f (take (suc i) xs) ++ drop (suc i) xs
+next-changed f [] i d lt = absurd (omega (arith, lt))
+next-changed f (x ∷ xs) zero d lt = refl
+next-changed f (x ∷ xs) (suc i) d lt = ap (λ ys. f x ∷ ys) (next-changed f xs i d (omega (arith, lt)))
+
+pub one-changed : {A : Type 0} (f : A → A) (xs items : List A) (i : ℕ) (old new : A) → items ≡ map f (take i xs) ++ drop i xs → i < length xs → old ≡ get_or items i old → new ≡ f old
+    → slice_set items i new ≡ map f (take (i + 1) xs) ++ drop (i + 1) xs
+one-changed f xs items i old new so_far lt at is =
+    let later : suc i ≡ i + 1 = omega arith in
+    (λ j. slice_set (so_far j) i ((is ∙ ap f (at ∙ ap (λ ys. get_or ys i old) so_far ∙ next-there f xs i old)) j))
+    ∙ next-changed f xs i old lt
+    ∙ ap (λ n. map f (take n xs) ++ drop n xs) later
