@@ -8,4 +8,5 @@ pub mod Consumed
 pub mod Waiting
 pub mod BroughtBack
 pub mod Telling
-pub mod Rotated
+pub mod RotatedQueues
+pub mod HeldBack

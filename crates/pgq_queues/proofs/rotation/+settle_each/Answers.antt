@@ -3,7 +3,7 @@ use Rattle.std.proofs.lemmas.Int.{to_z-of_z}
 use Rattle.sky_model.specs.Moment.{IsTime}
 use Rattle.pgq_queues.specs.Seen.{Stands}
 use Rattle.pgq_queues.proofs.TracedLists.{stand-set}
-use Rattle.pgq_queues.proofs.Rotated.{settled-stays, each-still}
+use Rattle.pgq_queues.proofs.RotatedQueues.{settled-stays, each-still}
 use Rattle.pgq_queues.proofs.rotation.+settle_each.Goals as goal
 
 pub settle_each-requires : goal.settle_each-requires

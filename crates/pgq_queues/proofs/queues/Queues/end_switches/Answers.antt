@@ -1,5 +1,5 @@
 use Rattle.pgq_queues.proofs.TracedLists.{within-still}
-use Rattle.pgq_queues.proofs.Rotated.{ended-retried, ended-as}
+use Rattle.pgq_queues.proofs.RotatedQueues.{ended-retried, ended-as}
 use Rattle.pgq_queues.proofs.queues.Queues.end_switches.Goals as goal
 
 pub invariant_of-self : goal.invariant_of-self

@@ -2,7 +2,7 @@ use Rattle.std.proofs.Common.{ℤ, ◌∙◌, ap, w64}
 use Rattle.std.proofs.lemmas.Int.{to_z-of_z}
 use Rattle.pgq_queues.specs.Rotated.{settled_in, each_changed}
 use Rattle.pgq_queues.proofs.TracedLists.{within-still}
-use Rattle.pgq_queues.proofs.Rotated.{settled-retried, settled-as}
+use Rattle.pgq_queues.proofs.RotatedQueues.{settled-retried, settled-as}
 use Rattle.pgq_queues.proofs.queues.Queues.switch_tables.Goals as goal
 
 pub invariant_of-self : goal.invariant_of-self

@@ -20,17 +20,12 @@ use Rattle.pgq_queues.specs.Retried.{RetriedAtMost, RetriedWithin}
 use Rattle.pgq_queues.specs.Stored.{AllStored}
 use Rattle.pgq_queues.specs.Rotated.{retabled, undone_in, switched_in, settled_in, ended_in, each_changed}
 use Rattle.pgq_queues.proofs.AllStored.{stored-without, stored-switched}
-use Rattle.pgq_queues.proofs.Slotted.{any-default}
+use Rattle.pgq_queues.proofs.Slotted.{any-default, undone-get}
 use Rattle.pgq_queues.proofs.Marked.{get_or-slice_set, batches-same, queues-set, queue-kept}
 use Rattle.pgq_queues.proofs.TracedLists.{there, goes-then, Stays, some-above, stand-set}
 use Rattle.pgq_queues.proofs.Waiting.{set-either, retried-still}
 
 -- ---- a rollback
-
-undone-get : (t : ℕ) (queues : List QueueView) (n : ℕ) → get_or (map (undone_in t) queues) n no_queue ≡ undone_in t (get_or queues n no_queue)
-undone-get t [] n = refl
-undone-get t (q ∷ qs) zero = refl
-undone-get t (q ∷ qs) (suc n) = undone-get t qs n
 
 undone-length : (t : ℕ) (queues : List QueueView) → length (map (undone_in t) queues) ≡ length queues
 undone-length t [] = refl
@@ -58,18 +53,6 @@ undone-as v now queues t same is part =
     ∙ ap (λ (w : QueuesView). record (seen_with part w) { queue = λ n. with_tables (without_transaction t) (queue_at w n) }) same
 
 -- ---- each of some queues is changed
-
-pub each-next : (f : QueueView → QueueView) (values : List ℕ) (place n : ℕ) (queues : List QueueView) (old new : QueueView) → place < length values → n ≡ get_or values place n → n < length queues → old ≡ get_or queues n old → new ≡ f old
-    → each_changed f (drop (place + 1) values) (slice_set queues n new) ≡ each_changed f (drop place values) queues
-each-next f values place n queues old new inside at lt is changed =
-    ap (λ q. each_changed f (drop (place + 1) values) (slice_set queues n q)) (changed ∙ ap f (get_or_read queues n old lt is no_queue))
-    ∙ ap (λ ns. each_changed f ns queues) (sym (drop_more values place n inside ∙ ap (λ m. m ∷ drop (place + 1) values) (sym at)))
-
-pub each-none : (f : QueueView → QueueView) (values : List ℕ) (place : ℕ) (queues : List QueueView) → length values ≤ place → queues ≡ each_changed f (drop place values) queues
-each-none f [] zero queues past = refl
-each-none f [] (suc place) queues past = refl
-each-none f (n ∷ ns) zero queues past = absurd (omega (arith, past))
-each-none f (n ∷ ns) (suc place) queues past = each-none f ns place queues (omega (arith, past))
 
 each-bound : {rounds : ℕ} → (f : QueueView → QueueView) → ((q : QueueView) → AllStored (RetriedAtMost rounds) q.tables.tables → AllStored (RetriedAtMost rounds) (f q).tables.tables) → (ns : List ℕ) (queues : List QueueView)
     → ((n : ℕ) → AllStored (RetriedAtMost rounds) (get_or queues n no_queue).tables.tables) → (n : ℕ) → AllStored (RetriedAtMost rounds) (get_or (each_changed f ns queues) n no_queue).tables.tables
