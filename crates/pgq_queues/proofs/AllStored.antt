@@ -1,5 +1,5 @@
 -- What holds of each stored event still holds when event tables change.
-use Rattle.std.proofs.Common.{◌≡◌, ℕ, zero, suc, ℤ, ◌<◌, length, ◌+◌, Bool, true, false, List, [], ◌∷◌, ◌++◌, take, drop, map, get_or, slice_set, refl, sym, subst, Some, Option, Result, IfOk, Global, Vec, if◌then◌else◌}
+use Rattle.std.proofs.Common.{◌≡◌, ℕ, zero, suc, ℤ, ◌+◌, Bool, true, false, List, [], ◌∷◌, ◌++◌, take, drop, map, get_or, slice_set, refl, sym, subst, Some, Option, Result, IfOk, Global, Vec, if◌then◌else◌}
 use Rattle.std.specs.Prelude.{flat_map, find, IfSome, ◌==◌}
 use Rattle.std.specs.List.{All}
 use Rattle.std.proofs.lemmas.List.Elements.{All-nil, All-cons, All-head, All-tail, All-append, All-set, All-push, All-take, All-drop, All-map, All-weaker, All-pop}

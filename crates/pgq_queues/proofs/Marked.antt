@@ -1,26 +1,20 @@
 -- What queues show after what the code changed in them.
-use Rattle.std.proofs.Common.{◌≡◌, ℕ, ℤ, suc, zero, ◌+◌, ◌<◌, List, [], ◌∷◌, ◌++◌, Bool, true, false, ◌||◌, ◌==◌, Option, Some, None, Result, Ok, Err, OnErr, Vec, Global, IfOk, length, get_or, slice_set, get_or-set_same, get_or-set_other, ◌≢◌, filter, nat_cmp, cond, length-append, refl, sym, ◌∙◌, ap, subst, arith, if◌then◌else◌}
+use Rattle.std.proofs.Common.{◌≡◌, ℕ, ℤ, suc, zero, ◌+◌, ◌<◌, List, [], ◌∷◌, ◌++◌, Bool, true, false, ◌==◌, Option, Some, None, Result, Ok, Err, OnErr, length, get_or, slice_set, get_or-set_same, get_or-set_other, ◌≢◌, nat_cmp, cond, length-append, refl, sym, ◌∙◌, ap, subst, arith, if◌then◌else◌}
 use Rattle.std.proofs.lemmas.Bool.Decides.{nat_tests}
-use Rattle.std.proofs.lemmas.List.Elements.{All-filter}
 use Rattle.std.specs.Prelude.{option_and_then, slice_get}
 use Rattle.std.specs.List.{remove}
 use Rattle.std.proofs.lemmas.List.{set-get_or, length-set, get_or_read}
 use Rattle.std.proofs.Math.ListN.{get_or-eq_default}
 use Rattle.std.proofs.Math.Seq.{get_or-append_seam}
-use Rattle.std.proofs.lemmas.Result.{IfOk-weaker}
-use Rattle.std.specs.declared.alloc.AllocError.{AllocError}
 use Rattle.std.proofs.lemmas.Option.{get_or_from_slice_get, slice_get_read}
 use Rattle.std.specs.BTreeMap.{is_at}
 use Rattle.std.specs.Map.{lookup}
-use Rattle.sky_val.specs.declared.event.Event.{Event}
 use Rattle.sky_txid.specs.Snapshot.{SnapshotView}
-use Rattle.sky_model.specs.Moment.{HasMoment}
-use Rattle.sky_model.specs.Printed.{EventsHaveMoments}
 use Rattle.sky_names.specs.Named.{NamedView, value_of}
 use Rattle.sky_names.specs.Places.{place_of}
 use Rattle.sky_model.specs.History as model
 use Rattle.sky_model.specs.History.{queued, made, ticked, dropped, traced}
-use Rattle.sky_model.specs.Queues.{Tick, tick}
+use Rattle.sky_model.specs.Queues.{Tick}
 use Rattle.sky_model.specs.Triggers.{TableTrigger}
 use Rattle.pgq_tables.specs.Tables.{Tables, no_tables, new_tables}
 use Rattle.sky_model.specs.State.{Queue, RowPart, changed_at, emptied, after_mark}

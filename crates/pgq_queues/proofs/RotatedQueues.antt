@@ -1,10 +1,9 @@
 -- What queues show after a rollback, after the switches that a commit makes, and after second steps; and what still holds.
-use Rattle.std.proofs.Common.{◌≡◌, ℕ, zero, suc, ℤ, ◌+◌, ◌<◌, ◌≤◌, List, [], ◌∷◌, ◌++◌, Bool, true, false, ◌==◌, Option, Some, None, Result, map, filter, take, drop, length, length-append, get_or, slice_set, refl, sym, ◌∙◌, ap, subst, arith, if◌then◌else◌}
+use Rattle.std.proofs.Common.{◌≡◌, ℕ, zero, suc, ℤ, ◌+◌, ◌<◌, ◌≤◌, List, [], ◌∷◌, Bool, true, false, ◌==◌, map, filter, take, length, length-append, get_or, slice_set, refl, sym, ◌∙◌, ap, subst, arith, if◌then◌else◌}
 use Rattle.std.specs.Prelude.{is_none}
-use Rattle.std.specs.List.{All}
 use Rattle.std.proofs.lemmas.Bool.Decides.{nat_tests}
-use Rattle.std.proofs.lemmas.List.{take_more, drop_more, get_or_read, length-set}
-use Rattle.std.proofs.lemmas.List.Elements.{All-head, All-tail, filter-append}
+use Rattle.std.proofs.lemmas.List.{take_more, length-set}
+use Rattle.std.proofs.lemmas.List.Elements.{filter-append}
 use Rattle.pgq_tables.specs.Tables.{with_second_step}
 use Rattle.pgq_retry.specs.declared.retry.Retry.{Retry}
 use Rattle.sky_names.specs.Named.{value_of}

@@ -1,5 +1,5 @@
 -- How a queue is rotated, as the code keeps it.
-use Rattle.std.specs.Prelude.{ℕ, ℤ, Bool, List, [], ◌∷◌, is_none, if◌then◌else◌, slice_index_or, slice_set}
+use Rattle.std.specs.Prelude.{ℕ, ℤ, List, [], ◌∷◌, is_none, if◌then◌else◌, slice_index_or, slice_set}
 use Rattle.pgq_tables.specs.Tables.{Tables, with_second_step}
 use Rattle.pgq_tables.specs.Tables as tables_of
 use Rattle.sky_model.specs.Queues.{is_pending, without_transaction, ticks_above, second_step_of}

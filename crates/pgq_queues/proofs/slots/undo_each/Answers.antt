@@ -1,4 +1,4 @@
-use Rattle.std.proofs.Common.{length, arith}
+use Rattle.std.proofs.Common.{arith}
 use Rattle.pgq_queues.specs.Rotated.{undone_in}
 use Rattle.pgq_queues.proofs.Slotted.{one-changed}
 use Rattle.pgq_queues.proofs.slots.undo_each.Goals as goal

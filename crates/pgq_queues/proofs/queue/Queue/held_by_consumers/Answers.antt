@@ -1,4 +1,4 @@
-use Rattle.std.proofs.Common.{◌≡◌, ◌<◌, [], Some, length, get_or, sym, ◌∙◌, ap, arith}
+use Rattle.std.proofs.Common.{◌<◌, [], Some, length, get_or, sym, ◌∙◌, ap, arith}
 use Rattle.std.specs.Prelude.{slice_get}
 use Rattle.sky_model.specs.declared.reply.HeldBack.TheVariants.{Consumer}
 use Rattle.pgq_queues.specs.Views.{QueueView}
