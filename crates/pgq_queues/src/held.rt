@@ -1,9 +1,8 @@
 //! What holds a switch of a queue's event tables back, and from which tick on consumers may register.
 
-ghost use Rattle.std.specs.Prelude.{◌≡◌, ℕ, List, Some, ◌<◌, [], IfOk, IfSome, length, slice_get, option_map, option_copied};
+ghost use Rattle.std.specs.Prelude.{◌≡◌, ℕ, List, Some, ◌<◌, IfOk, IfSome, length, slice_get, option_map, option_copied};
 ghost use Rattle.sky_model.specs.declared.reply.HeldBack.TheVariants.{Consumer};
 ghost use Rattle.sky_model.specs.Moment.{IsTime, HasMoment};
-ghost use Rattle.sky_model.specs.Printed.{ReplyHasMoments};
 ghost use Rattle.sky_model.specs.StepConsumer.{floor};
 ghost use Rattle.sky_model.specs.StepRotation.{period_ends, held_by_consumer, held_by_consumers, held_by_newest, held_by_second_step, held_back};
 ghost use Rattle.pgq_queues.specs.Seen.{seen_queue};

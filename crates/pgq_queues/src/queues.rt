@@ -1,4 +1,4 @@
-ghost use Rattle.std.specs.Prelude.{◌≡◌, ℕ, ◌+◌, ◌-◌, ◌<◌, ◌^◌, [], ◌∷◌, ◌||◌, ◌==◌, true, Some, None, is_ok, Ok, IfOk, IfErr, OnOk, OnErr, IfSome, IfNone, option_copied, option_map, length, is_some, ◌↔◌, ◌≤◌, Err, find, slice_index_or, false};
+ghost use Rattle.std.specs.Prelude.{◌≡◌, ℕ, ◌+◌, ◌-◌, ◌<◌, ◌^◌, [], ◌==◌, true, Some, None, is_ok, Ok, IfOk, IfErr, OnOk, OnErr, IfSome, IfNone, option_copied, option_map, length, is_some, ◌↔◌, ◌≤◌, Err, find, slice_index_or, false};
 ghost use Rattle.std.specs.List.{All};
 ghost use Rattle.sky_model.specs.Config.{Config, param_of};
 ghost use Rattle.sky_model.specs.Consumers.{Subscription};

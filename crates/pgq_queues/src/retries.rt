@@ -12,7 +12,7 @@ ghost use Rattle.pgq_queues.specs.Seen.{seen_with, seen_span, queue_at, reads_at
 ghost use Rattle.pgq_queues.specs.Batches.{StillStand};
 ghost use Rattle.pgq_queues.specs.Looked.{most_in};
 ghost use Rattle.pgq_queues.specs.Traced.{KeepsRest};
-ghost use Rattle.pgq_queues.specs.Retried.{RetriedAtMost, HasConsumer, IsWaiting};
+ghost use Rattle.pgq_queues.specs.Retried.{RetriedAtMost, HasConsumer};
 
 use crate::batch::Span;
 use crate::queues::Queues;

@@ -1,6 +1,6 @@
 //! How the event tables of queues are rotated: a switch begins, a commit makes it, and a later transaction ends it.
 
-ghost use Rattle.std.specs.Prelude.{◌≡◌, ℕ, ◌≤◌, true, None, Some, IfOk, IfSome, drop, is_some, length};
+ghost use Rattle.std.specs.Prelude.{◌≡◌, ◌≤◌, true, None, Some, IfOk, IfSome, drop, is_some, length};
 ghost use Rattle.std.specs.List.{All};
 ghost use Rattle.sky_model.specs.History.{queued, switching, switched};
 ghost use Rattle.sky_model.specs.Moment.{IsTime};
