@@ -1,8 +1,9 @@
 -- The queues as a gate in front of the writes of rows: they have room for a write if there are ids for the events that record it, and store these
 -- after it.
-use Rattle.std.specs.Prelude.{ℕ, ℤ, ◌+◌, ◌^◌, Bool, true, not, ◌&&◌, ◌==◌, nat_le, if◌then◌else◌, List, [], ◌∷◌, ◌++◌, Option, Some, None, map, slice_set, slice_index_or}
+use Rattle.std.specs.Prelude.{ℕ, ℤ, ◌+◌, ◌^◌, Bool, true, not, ◌&&◌, ◌==◌, nat_le, if◌then◌else◌, List, [], ◌∷◌, Option, Some, None, map, slice_set, slice_index_or}
 use Rattle.sky_val.specs.declared.val.Val.{Val}
 use Rattle.sky_urlenc.specs.RowEvents.{RowEvent, events_of}
+use Rattle.pgq_tables.specs.Tables.{with_stored}
 use Rattle.sky_model.specs.Triggers.{TableTrigger}
 use Rattle.sky_model.specs.State.{changed_at}
 use Rattle.sky_model.specs.Telling.{told_event}
@@ -40,7 +41,7 @@ ids_left seq (e ∷ es) = not (nat_le (2 ^ 62) (seq e.queue + 1)) && ids_left (c
 
 -- a queue with one more event of a trigger, at a time, of a transaction: it takes the next id
 abbrev pub telling : ℤ → ℕ → RowEvent → QueueView → QueueView
-telling now t e q = record q { seq = q.seq + 1; events = q.events ++ told_event (q.seq + 1) now t e ∷ [] }
+telling now t e q = record q { seq = q.seq + 1; tables = record q.tables { tables = with_stored (told_event (q.seq + 1) now t e) q.tables.tables } }
 
 -- queues with events, each in its own
 abbrev pub telling_all : ℤ → ℕ → List RowEvent → List QueueView → List QueueView

@@ -6,6 +6,7 @@ use Rattle.pgq_retry.specs.declared.retry.Retry.{Retry}
 use Rattle.sky_model.specs.Moment.{HasMoment}
 use Rattle.pgq_sub.specs.Views.{SubView}
 use Rattle.pgq_queues.specs.Views.{QueueView}
+use Rattle.pgq_queues.specs.Stored.{AllStored}
 use Rattle.pgq_queues.specs.Seen.{no_queue, sub_at, Stands}
 
 -- an event was retried at most so often
@@ -31,4 +32,4 @@ pub record IsWaiting (rounds : ℕ) (queues : List QueueView) (r : Retry) : Type
 -- so it is with each retry; and no event that is stored was retried more often than retries came back
 pub record RetriedWithin (rounds : ℕ) (queues : List QueueView) (retries : List Retry) : Type 0 where
   pub waiting : All (IsWaiting (rounds + 1) queues) retries
-  pub stored : (n : ℕ) → All (RetriedAtMost rounds) (slice_index_or queues n no_queue).events
+  pub stored : (n : ℕ) → AllStored (RetriedAtMost rounds) (slice_index_or queues n no_queue).tables.tables

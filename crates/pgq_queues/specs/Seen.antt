@@ -1,17 +1,18 @@
 -- The readings of the definitions, in what the code keeps of a database's queues.
-use Rattle.std.specs.Prelude.{ℕ, pos, ◌<◌, Bool, List, [], ◌∷◌, length, Option, option_map, option_and_then, slice_index_or}
-use Rattle.std.specs.List.{list_any}
+use Rattle.std.specs.Prelude.{ℕ, pos, ◌<◌, List, [], ◌∷◌, length, Option, option_map, option_and_then, slice_index_or}
 use Rattle.std.specs.Ordering.{nat_cmp}
 use Rattle.std.specs.BTreeMap.{is_at}
 use Rattle.std.specs.Map.{lookup}
 use Rattle.sky_model.specs.History as model
 use Rattle.sky_model.specs.Queues.{NamedQueue}
+use Rattle.pgq_tables.specs.Tables.{no_tables}
 use Rattle.sky_model.specs.Config.{default_config}
 use Rattle.sky_model.specs.State.{Queue, RowPart, Database}
 use Rattle.pgq_sub.specs.declared.sub.OpenBatch.{OpenBatch}
 use Rattle.pgq_sub.specs.Views.{SubView}
 use Rattle.pgq_sub.specs.Seen.{seen_subs, shown, no_subs}
 use Rattle.pgq_queues.specs.declared.batch.Batch.{Batch}
+use Rattle.pgq_queues.specs.declared.batch.Span.{Span}
 use Rattle.pgq_queues.specs.declared.batch.Place.{Place}
 use Rattle.pgq_queues.specs.Views.{QueueView, QueuesView}
 
@@ -19,7 +20,7 @@ abbrev pub seen_queue : QueueView → Queue
 seen_queue q = record {
   config = q.config;
   seq = q.seq;
-  stored = q.events;
+  tables = q.tables.tables;
   tick_list = q.ticks;
   members = (seen_subs q.subs).members;
   sub = shown (seen_subs q.subs).kept;
@@ -27,7 +28,7 @@ seen_queue q = record {
 
 -- a queue that isn't made, or was dropped
 abbrev pub no_queue : QueueView
-no_queue = record { config = default_config; seq = 0; events = []; ticks = []; subs = no_subs }
+no_queue = record { config = default_config; seq = 0; tables = record { tables = no_tables; reads = 0 }; ticks = []; subs = no_subs }
 
 -- the queue of a number stands: it has a tick
 abbrev pub Stands : List QueueView → ℕ → Type 0
@@ -41,6 +42,14 @@ sub_at queues n consumer = (seen_subs (slice_index_or queues n no_queue).subs).k
 abbrev pub seen_batch : Batch → model.Batch
 seen_batch b = record { id = b.id; queue = b.queue; consumer = b.consumer.now; sub = b.sub; prev = b.prev; cur = b.cur }
 
+-- what decides which events a batch has: its queue, its subscription and its two ticks, and neither its id nor its consumer
+abbrev pub seen_span : Span → model.Batch
+seen_span s = record { id = 0; queue = s.queue; consumer = []; sub = s.sub; prev = s.prev; cur = s.cur }
+
+-- how many stored events of the queue of a number were ever looked at
+abbrev pub reads_at : List QueueView → ℕ → ℕ
+reads_at queues n = (slice_index_or queues n no_queue).tables.reads
+
 -- the active batch of a subscription at a place, under an id
 abbrev pub batch_of : ℕ → Place → SubView → Option model.Batch
 batch_of id p s = option_map (λ (batch : OpenBatch). record { id = id; queue = p.queue; consumer = p.consumer; sub = s.id; prev = s.position; cur = batch.cur }) s.active
@@ -52,10 +61,6 @@ batch_by subs id place = option_and_then (λ (p : Place). option_and_then (batch
 -- what is kept under a number
 abbrev pub kept : {A : Type 0} → List (ℕ × A) → ℕ → Option A
 kept entries n = lookup (is_at (nat_cmp n)) entries
-
--- whether a number is kept
-abbrev pub keeps : List ℕ → ℕ → Bool
-keeps numbers n = list_any (is_at (nat_cmp n)) numbers
 
 -- the queues of names and numbers
 abbrev pub numbered : List (List ℕ) → List ℕ → List NamedQueue
@@ -83,7 +88,6 @@ batch_at q id = batch_by (sub_at q.queues) id (kept q.batches id)
 abbrev pub seen_with : RowPart → QueuesView → Database
 seen_with part q = record {
   part = part;
-  undone = keeps q.undone;
   last_batch_id = q.last_batch_id;
   last_sub_id = q.last_sub_id;
   queues_made = length q.queues;
@@ -103,7 +107,6 @@ no_queues = record {
   names = record { names = []; values = [] };
   queues = [];
   batches = [];
-  undone = [];
   triggers = [];
   traced = [];
   retries = [];

@@ -1,9 +1,9 @@
 -- What contracts see of a queue and of a database's queues, as the code keeps them.
 use Rattle.std.specs.Prelude.{ℕ, ℤ, List}
 use Rattle.sky_val.specs.declared.column.Column.{Column}
-use Rattle.sky_val.specs.declared.event.Event.{Event}
 use Rattle.sky_names.specs.Named.{NamedView}
 use Rattle.pgq_retry.specs.declared.retry.Retry.{Retry}
+use Rattle.pgq_tables.specs.Views.{TablesView}
 use Rattle.sky_model.specs.Config.{Config}
 use Rattle.sky_model.specs.Queues.{Tick}
 use Rattle.sky_model.specs.Triggers.{TableTrigger}
@@ -13,7 +13,7 @@ use Rattle.pgq_queues.specs.declared.batch.Place.{Place}
 pub record QueueView : Type 0 where
   pub config : Config
   pub seq : ℕ
-  pub events : List Event
+  pub tables : TablesView
   pub ticks : List Tick
   -- by their consumers, in the order of registering
   pub subs : NamedView SubView
@@ -42,8 +42,6 @@ pub record QueuesView : Type 0 where
   pub queues : List QueueView
   -- where each active batch is: under its id, its queue and its consumer
   pub batches : List (ℕ × Place)
-  -- the transactions that were rolled back
-  pub undone : List ℕ
   -- the triggers, in the order of making
   pub triggers : List TableTrigger
   -- the tables with triggers, each under its number

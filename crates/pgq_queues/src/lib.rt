@@ -8,14 +8,15 @@
 
 mod batch;
 mod gate;
+mod held;
 mod queue;
 mod queues;
 mod retries;
+mod rotation;
 mod slots;
-mod stored;
 mod traced;
 
-pub use batch::Batch;
+pub use batch::{Batch, Span};
 pub use gate::EVENT_ID_END;
 pub use queue::Queue;
 pub use queues::Queues;

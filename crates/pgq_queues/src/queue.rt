@@ -1,61 +1,74 @@
-ghost use Rattle.std.specs.Prelude.{◌≡◌, ℕ, ℤ, ◌+◌, ◌<◌, ◌^◌, [], ◌∷◌, ◌++◌, Some, None, IfOk, IfErr, OnOk, OnErr, IfNone, IfSome, length, is_some, ◌↔◌, ◌≤◌, Ok, Err, find, ◌==◌, true, IsTrue, nat_lt, option_map, option_copied, unwrap_or};
-ghost use Rattle.std.specs.List.{list_any, All};
+ghost use Rattle.std.specs.Prelude.{◌≡◌, ℕ, ℤ, ◌+◌, ◌<◌, ◌^◌, ◌∷◌, ◌++◌, Some, None, IfOk, IfErr, OnOk, OnErr, IfNone, IfSome, length, is_none, is_some, ◌↔◌, ◌≤◌, Ok, Err, find, ◌==◌, true, option_map, option_copied};
+ghost use Rattle.pgq_tables.specs.Tables.{new_tables, with_stored, with_pending, with_second_step};
 ghost use Rattle.sky_model.specs.Config.{default_config, param_of};
 ghost use Rattle.pgq_tick.specs.Config.{set_to};
 ghost use Rattle.sky_model.specs.Queues.{newest_tick};
 ghost use Rattle.sky_model.specs.Selection.{selected_in};
 ghost use Rattle.pgq_sub.specs.Views.{with_open, finished, at_tick, seen_sub};
 ghost use Rattle.pgq_sub.specs.Seen.{seen_subs, open_in, no_subs, with_member, with_sub, without_member};
-ghost use Rattle.sky_model.specs.StepQueue.{is_due, info_of};
-ghost use Rattle.sky_model.specs.Queues.{id_of};
-ghost use Rattle.pgq_queues.specs.Seen.{keeps, seen_queue, seen_batch};
+ghost use Rattle.sky_model.specs.StepConsumer.{floor};
+ghost use Rattle.sky_model.specs.StepQueue.{is_due, info_of, has_part_in};
+ghost use Rattle.sky_model.specs.Queues.{id_of, tick};
+ghost use Rattle.pgq_queues.specs.Seen.{seen_queue, seen_span};
 ghost use Rattle.sky_model.specs.Moment.{HasMoment, IsTime};
 ghost use Rattle.sky_model.specs.Printed.{EventsHaveMoments};
+ghost use Rattle.pgq_batch.specs.Bound.{most_looks};
 ghost use Rattle.pgq_queues.specs.Views.{QueueView};
 ghost use Rattle.pgq_queues.specs.EventRule.{telling};
 ghost use Rattle.pgq_queues.specs.Retried.{RetriedAtMost};
+ghost use Rattle.pgq_queues.specs.Rotated.{retabled, undone_in, settled_in, ended_in, switched_in};
+ghost use Rattle.pgq_queues.specs.Stored.{AllStored};
+ghost use Rattle.pgq_queues.specs.Looked.{most_between};
 ghost use Rattle.sky_model.specs.Telling.{told_event};
 ghost use Rattle.sky_urlenc.specs.RowEvents.{RowEvent};
-ghost use Rattle.sky_txid.specs.Ids.{rises_within};
 
-use crate::batch::{Batch, first_of, select};
-use crate::stored::Stored;
+use crate::batch::Span;
 use pgq_sub::{OpenBatch, Sub, Subs};
+use pgq_tables::EventTables;
 use pgq_tick::{ConfigFault, QueueConfig, Tick, TickFault, Ticks};
 use sky_model::{Counts, QueueInfo};
 use sky_txid::Snapshot;
 use sky_urlenc::RowEvent;
 use sky_val::{Event, NoMemory, Text};
 use std::alloc::Global;
-use std::collections::BTreeSet;
 use std::marker::Model;
 
-/// A queue: how its ticker is set, its sequence, its events, its ticks and its consumers.
+/// How many event tables a queue has.
+const TABLES: usize = 3;
+
+/// A queue: its settings, its sequence, its event tables, its ticks and its consumers.
 #[derive(Drop)]
 pub struct Queue {
-    config: QueueConfig,
+    alloc: Global,
+    pub(crate) config: QueueConfig,
     seq: u64,
-    events: Vec<Stored>,
-    ticks: Ticks,
-    subs: Subs,
+    pub(crate) tables: EventTables,
+    pub(crate) ticks: Ticks,
+    pub(crate) subs: Subs,
 }
 
 impl Model for Queue {
-    ghost use Rattle.sky_model.specs.Printed.{EventsHaveMoments};
+    ghost use Rattle.sky_model.specs.Moment.{HasMoment, IsTime};
     ghost use Rattle.pgq_queues.specs.Views.{QueueView};
+    ghost use Rattle.pgq_queues.specs.Stored.{AllStored};
 
     ghost Value = { QueueView };
 
-    ghost invariant = { λ q. EventsHaveMoments q.events.items };
+    ghost invariant = { λ q. AllStored (λ e. HasMoment e.ev_time) q.tables.tables × IsTime q.tables.tables.switched_at };
 
-    ghost view = { λ q. record { config = q.config; seq = q.seq; events = q.events.items; ticks = q.ticks; subs = q.subs } };
+    ghost view = { λ q. record { config = q.config; seq = q.seq; tables = q.tables; ticks = q.ticks; subs = q.subs } };
 }
 
 impl Queue {
-    /// A queue with its first tick.
-    pub(crate) fn new(alloc: Global, now: i64, snapshot: Snapshot) -> Result<Queue, NoMemory>
+    /// A queue that a transaction made at this moment, with its first tick.
+    pub(crate) fn new(
+        alloc: Global,
+        txid: u64,
+        now: i64,
+        snapshot: Snapshot,
+    ) -> Result<Queue, NoMemory>
         requires { IsTime now }
-        ensures { IfOk result (λ queue. queue ≡ record { config = default_config; seq = 0; events = []; ticks = record { id = 1; time = now; snapshot = snapshot; seq = 0 } ∷ []; subs = no_subs }) }
+        ensures { IfOk result (λ queue. queue ≡ record { config = default_config; seq = 0; tables = record { tables = new_tables txid now; reads = 0 }; ticks = record { id = 1; time = now; snapshot = snapshot; seq = 0 } ∷ []; subs = no_subs }) }
     {
         let first = Tick {
             id: 1,
@@ -65,9 +78,10 @@ impl Queue {
         };
         let ticks = Ticks::new(alloc, first)?;
         Ok(Queue {
+            alloc,
             config: QueueConfig::new(),
             seq: 0,
-            events: Vec::new(alloc),
+            tables: EventTables::new(alloc, TABLES, txid, now)?,
             ticks,
             subs: Subs::new(alloc),
         })
@@ -75,7 +89,7 @@ impl Queue {
 
     /// The allocator that it was made with.
     pub(crate) fn alloc(&self) -> Global {
-        *self.events.allocator()
+        self.alloc
     }
 
     /// The value of the sequence.
@@ -92,16 +106,16 @@ impl Queue {
         &self.config
     }
 
-    /// What is shown of it. As no table is switched yet, the first of three has all its events.
+    /// What is shown of it.
     pub fn info(&self, alloc: Global) -> Result<QueueInfo, NoMemory>
         ensures { IfOk result (λ info. info ≡ info_of (seen_queue self.now)) }
     {
-        let mut stored = Vec::with_capacity(alloc, 3)?;
-        stored.push(self.events.len() as u64)?;
-        stored.push(0)?;
-        stored.push(0)?;
+        let mut stored = Vec::with_capacity(alloc, TABLES)?;
+        for table in 0..self.tables.len() {
+            stored.push(self.tables.count(table) as u64)?;
+        }
         Ok(QueueInfo {
-            current: 0,
+            current: self.tables.current() as u64,
             last_tick: self.ticks.newest().id(),
             seq: self.seq,
             stored: Counts::new(stored),
@@ -152,24 +166,18 @@ impl Queue {
         self.sub(consumer).is_some()
     }
 
-    /// The first of these transactions, given in rising order, that has an event here.
+    /// The first of these transactions that has an event here, or makes the pending switch.
     pub fn first_producer(&self, txids: &[u64]) -> Option<u64>
-        requires rising { (low : ℕ) × (high : ℕ) × IsTrue (rises_within low high txids.now) }
-        ensures { result ≡ find (λ t. list_any (λ e. e.ev_txid == t) (seen_queue self.now).stored) txids.now }
+        ensures { result ≡ find (has_part_in (seen_queue self.now).tables) txids.now }
     {
-        // A queue may have far more events than there are transactions, so each event is read once, and
-        // none if there is no transaction.
-        if txids.is_empty() {
-            return None;
-        }
-        let mut least = None;
-        for event in &self.events {
-            let txid = event.txid();
-            if is_before(txid, least) && txids.binary_search(&txid).is_ok() {
-                least = Some(txid);
-            }
-        }
-        least
+        txids.iter().copied().find(|txid| self.has_part(*txid))
+    }
+
+    /// Whether a transaction has an event here, or makes the pending switch.
+    fn has_part(&self, txid: u64) -> bool
+        ensures { result ≡ has_part_in (seen_queue self.now).tables txid }
+    {
+        self.tables.has_writer(txid) || self.tables.pending() == Some(txid)
     }
 
     /// The sequence has this value from now on.
@@ -192,12 +200,10 @@ impl Queue {
     /// Stores an event.
     pub(crate) fn put(&mut self, event: Event) -> Result<(), NoMemory>
         requires { HasMoment event.ev_time }
-        ensures ok { OnOk result (self.new ≡ record self.old { events = self.old.events ++ event ∷ [] }) }
+        ensures ok { OnOk result (self.new ≡ retabled (with_stored event) self.old) }
         ensures err { OnErr result (self.new ≡ self.old) }
     {
-        let stored = Stored::new(self.alloc(), event)?;
-        self.events.push(stored)?;
-        Ok(())
+        self.tables.insert(event)
     }
 
     /// Stores one more event of a trigger, which takes the next id.
@@ -208,8 +214,7 @@ impl Queue {
         ensures err { OnErr result (self.new ≡ self.old) }
     {
         let id = self.seq + 1;
-        let stored = Stored::new(self.alloc(), told_event(id, now, txid, event))?;
-        self.events.push(stored)?;
+        self.tables.insert(told_event(id, now, txid, event))?;
         self.seq = id;
         Ok(())
     }
@@ -219,7 +224,7 @@ impl Queue {
         requires { 0 < self.old.seq }
         ensures { (now : ℤ) (t : ℕ) (e : RowEvent) (q : QueueView) → self.old ≡ telling now t e q → self.new ≡ q }
     {
-        self.events.pop();
+        self.tables.take_back();
         self.seq -= 1;
     }
 
@@ -287,51 +292,107 @@ impl Queue {
         self.subs.unregister(consumer)
     }
 
-    /// The events of a batch of this queue, without those of the transactions that were rolled back.
-    pub(crate) fn select(
-        &self,
-        alloc: Global,
-        undone: &BTreeSet<u64>,
-        batch: &Batch<'_>,
-    ) -> Result<Vec<Event>, NoMemory>
-        ensures events { IfOk result (λ events. events.items ≡ selected_in (keeps undone.now.keys) (seen_queue self.now) (seen_batch batch.now)) }
+    /// The events of a batch of this queue; none if one of its ticks isn't kept.
+    pub(crate) fn select(&mut self, alloc: Global, span: Span) -> Result<Vec<Event>, NoMemory>
+        ensures events { IfOk result (λ events. events.items ≡ selected_in (seen_queue self.old) (seen_span span)) }
         ensures moments { IfOk result (λ events. EventsHaveMoments events.items) }
+        ensures but { self.new ≡ record self.old { tables = record self.old.tables { reads = self.new.tables.reads } } }
+        ensures lower { IfOk result (λ events. self.new.tables.reads < 2 ^ 64 - 1 → length events.items + self.old.tables.reads ≤ self.new.tables.reads) }
+        ensures upper { OnOk result (self.new.tables.reads ≤ self.old.tables.reads + most_between (tick span.prev self.old.ticks) (tick span.cur self.old.ticks) self.old.tables.tables) }
     {
-        let prev = self.ticks.get(batch.prev);
-        let cur = self.ticks.get(batch.cur);
-        select(alloc, self.events.as_slice(), prev, cur, undone, batch.sub)
-    }
-
-    /// Of the events of a batch of this queue with an id the first one by id. Those with equal ids are in the order in
-    /// which they are stored.
-    pub(crate) fn find(
-        &self,
-        alloc: Global,
-        undone: &BTreeSet<u64>,
-        batch: &Batch<'_>,
-        id: u64,
-    ) -> Result<Option<Event>, NoMemory>
-        ensures found { IfOk result (λ found. found ≡ find (λ e. e.ev_id == id) (selected_in (keeps undone.now.keys) (seen_queue self.now) (seen_batch batch.now))) }
-        ensures moment { IfOk result (λ found. IfSome found (λ e. HasMoment e.ev_time)) }
-        ensures rounds { (rounds : ℕ) → All (RetriedAtMost rounds) self.now.events → IfOk result (λ found. IfSome found (λ e. RetriedAtMost rounds e)) }
-    {
-        let prev = self.ticks.get(batch.prev);
-        let cur = self.ticks.get(batch.cur);
-        let found = first_of(self.events.as_slice(), prev, cur, undone, batch.sub, id);
-        match found {
-            Some(event) => Ok(Some(event.event(alloc)?)),
-            None => Ok(None),
+        let ticks = (self.ticks.get(span.prev), self.ticks.get(span.cur));
+        match ticks {
+            (Some(prev), Some(cur)) => pgq_batch::select(
+                alloc,
+                &mut self.tables,
+                prev.snapshot(),
+                cur.snapshot(),
+                span.sub,
+            ),
+            _ => Ok(Vec::new(alloc)),
         }
     }
-}
 
-/// Whether a transaction is less than the least one so far; it is if there is none yet.
-fn is_before(txid: u64, least: Option<u64>) -> bool
-    ensures { result ≡ unwrap_or (option_map (nat_lt txid) least) true }
-{
-    match least {
-        Some(least) => txid < least,
-        None => true,
+    /// Of the events of a batch of this queue the first with an id. Those with equal ids are in the order in which they
+    /// are stored.
+    pub(crate) fn find(
+        &mut self,
+        alloc: Global,
+        span: Span,
+        id: u64,
+    ) -> Result<Option<Event>, NoMemory>
+        ensures found { IfOk result (λ found. found ≡ find (λ e. e.ev_id == id) (selected_in (seen_queue self.old) (seen_span span))) }
+        ensures moment { IfOk result (λ found. IfSome found (λ e. HasMoment e.ev_time)) }
+        ensures rounds { (rounds : ℕ) → AllStored (RetriedAtMost rounds) self.old.tables.tables → IfOk result (λ found. IfSome found (λ e. RetriedAtMost rounds e)) }
+        ensures but { self.new ≡ record self.old { tables = record self.old.tables { reads = self.new.tables.reads } } }
+        ensures upper { OnOk result (self.new.tables.reads ≤ self.old.tables.reads + most_between (tick span.prev self.old.ticks) (tick span.cur self.old.ticks) self.old.tables.tables) }
+    {
+        let ticks = (self.ticks.get(span.prev), self.ticks.get(span.cur));
+        match ticks {
+            (Some(prev), Some(cur)) => pgq_batch::find(
+                alloc,
+                &mut self.tables,
+                prev.snapshot(),
+                cur.snapshot(),
+                span.sub,
+                id,
+            ),
+            _ => Ok(None),
+        }
+    }
+
+    /// A transaction was rolled back: its events are dead, and its switch isn't pending any more.
+    pub(crate) fn undo(&mut self, txid: u64)
+        ensures { self.new ≡ undone_in txid self.old }
+    {
+        if self.tables.pending() == Some(txid) {
+            self.tables.drop_switch();
+        }
+        self.tables.mark_dead(txid);
+    }
+
+    /// A switch is pending, which the commit of a transaction makes.
+    pub(crate) fn begin_switch(&mut self, txid: u64)
+        requires { self.old.tables.tables.pending ≡ None }
+        ensures { self.new ≡ retabled (with_pending txid) self.old }
+    {
+        self.tables.begin_switch(txid);
+    }
+
+    /// The pending switch is made, and the ticks are dropped that aren't above the second step of the one before.
+    pub(crate) fn commit_switch(&mut self, now: i64)
+        requires time { IsTime now }
+        requires pending { is_some self.old.tables.tables.pending ≡ true }
+        ensures { self.new ≡ switched_in now self.old }
+    {
+        self.ticks.drop_below(self.tables.step2_id().unwrap_or(0));
+        self.tables.commit_switch(now);
+    }
+
+    /// The pending switch is made if this transaction makes it.
+    pub(crate) fn settle(&mut self, txid: u64, now: i64)
+        requires { IsTime now }
+        ensures { self.new ≡ settled_in txid now self.old }
+    {
+        if self.tables.pending() == Some(txid) {
+            self.commit_switch(now);
+        }
+    }
+
+    /// Whether the second step of the last switch is missing.
+    pub(crate) fn lacks_second_step(&self) -> bool
+        ensures { result ≡ is_none self.now.tables.tables.second_step }
+    {
+        self.tables.step2_id().is_none()
+    }
+
+    /// A transaction makes the second step of the last switch, if it is missing.
+    pub(crate) fn end_switch(&mut self, txid: u64)
+        ensures { self.new ≡ ended_in txid self.old }
+    {
+        if self.lacks_second_step() {
+            self.tables.step2(txid);
+        }
     }
 }
 

@@ -1,4 +1,4 @@
-ghost use Rattle.std.specs.Prelude.{◌≡◌, ℕ, ◌+◌, ◌<◌, ◌^◌, [], ◌∷◌, ◌||◌, ◌==◌, true, Some, None, is_ok, Ok, IfOk, IfErr, OnOk, OnErr, IfSome, IfNone, option_copied, option_map, length, is_some, ◌↔◌, ◌≤◌, Err, find, slice_index_or, false};
+ghost use Rattle.std.specs.Prelude.{◌≡◌, ℕ, ◌+◌, ◌-◌, ◌<◌, ◌^◌, [], ◌∷◌, ◌||◌, ◌==◌, true, Some, None, is_ok, Ok, IfOk, IfErr, OnOk, OnErr, IfSome, IfNone, option_copied, option_map, length, is_some, ◌↔◌, ◌≤◌, Err, find, slice_index_or, false};
 ghost use Rattle.std.specs.List.{All};
 ghost use Rattle.sky_model.specs.Config.{Config, param_of};
 ghost use Rattle.sky_model.specs.Consumers.{Subscription};
@@ -9,18 +9,19 @@ ghost use Rattle.sky_model.specs.Printed.{EventsHaveMoments};
 ghost use Rattle.sky_model.specs.Queues.{NamedQueue, queue_number};
 ghost use Rattle.sky_model.specs.Selection.{selected};
 ghost use Rattle.sky_model.specs.ShownRows.{snapshot_now};
-ghost use Rattle.sky_model.specs.State.{RowPart, after_mark, after_marks};
+ghost use Rattle.sky_model.specs.State.{RowPart, after_mark};
 ghost use Rattle.sky_model.specs.StepConsumer.{batch_info_of};
 ghost use Rattle.sky_model.specs.StepQueue.{newest_id};
 ghost use Rattle.sky_model.specs.StepTrigger.{has_trigger};
 ghost use Rattle.sky_model.specs.Triggers.{triggers_of};
-ghost use Rattle.pgq_queues.specs.Seen.{kept, seen_with, seen_queue, seen_batch, unnamed, queues_of, queue_at, batch_at, no_queues, Stands};
+ghost use Rattle.pgq_queues.specs.Seen.{kept, seen_with, seen_queue, seen_batch, seen_span, reads_at, unnamed, queues_of, queue_at, batch_at, no_queues, Stands};
 ghost use Rattle.pgq_queues.specs.Batches.{StillStand, but_of};
+ghost use Rattle.pgq_queues.specs.Looked.{most_in};
 ghost use Rattle.pgq_sub.specs.declared.sub.OpenBatch.{OpenBatch};
 ghost use Rattle.pgq_queues.specs.Traced.{traced_at, IsTable, AreTables, KeepsRest};
 ghost use Rattle.pgq_queues.specs.Retried.{RetriedAtMost, HasConsumer};
 
-use crate::batch::{Batch, Place, seq_at};
+use crate::batch::{Batch, Place, Span, seq_at};
 use crate::queue::Queue;
 use crate::slots::Slots;
 use crate::traced::{TableTrigger, Traced, TracedTable};
@@ -32,11 +33,10 @@ use sky_names::Named;
 use sky_txid::Snapshot;
 use sky_val::{Event, NoMemory, Schema, Text};
 use std::alloc::Global;
-use std::collections::{BTreeMap, BTreeSet};
+use std::collections::BTreeMap;
 use std::marker::Model;
 
-/// The queues of one database, with their active batches; the transactions that were rolled back, whose events no batch
-/// lists; and the triggers of tables, whose events go to queues.
+/// The queues of one database, with their active batches, and the triggers of tables, whose events go to queues.
 #[derive(Drop)]
 pub struct Queues {
     pub(crate) alloc: Global,
@@ -45,12 +45,10 @@ pub struct Queues {
     last_batch_id: u64,
     last_sub_id: u64,
     // The queues that stand: the number of each under its name, in the order of making.
-    names: Named<usize>,
+    pub(crate) names: Named<usize>,
     pub(crate) slots: Slots,
     // Where each active batch is, under its id. All else of it is in its subscription.
     batches: BTreeMap<u64, Place>,
-    // The transactions that were rolled back.
-    pub(crate) undone: BTreeSet<u64>,
     // The triggers, in the order of making.
     pub(crate) triggers: Vec<TableTrigger>,
     // The tables with triggers, each under its number.
@@ -78,7 +76,6 @@ impl Model for Queues {
       names = q.names;
       queues = q.slots;
       batches = q.batches.entries;
-      undone = q.undone.keys;
       triggers = q.triggers.items;
       traced = q.traced.entries;
       retries = q.retries;
@@ -102,7 +99,6 @@ impl Queues {
             names: Named::new(alloc),
             slots: Slots::new(alloc),
             batches: BTreeMap::new(alloc),
-            undone: BTreeSet::new(alloc),
             triggers: Vec::new(alloc),
             traced: BTreeMap::new(alloc),
             retries: RetryQueue::new(alloc),
@@ -197,14 +193,23 @@ impl Queues {
         })
     }
 
-    /// The events of a batch, without those of the transactions that were rolled back.
-    pub fn batch_events(&self, batch: &Batch<'_>) -> Result<Vec<Event>, NoMemory>
-        requires { Stands self.now.queues batch.now.queue }
-        ensures events { (part : RowPart) → IfOk result (λ events. events.items ≡ selected (seen_with part self.now) (seen_batch batch.now)) }
+    /// The events of a batch; none if one of its ticks isn't kept.
+    pub fn batch_events(&mut self, span: Span) -> Result<Vec<Event>, NoMemory>
+        requires { Stands self.old.queues span.queue }
+        ensures events { (part : RowPart) → IfOk result (λ events. events.items ≡ selected (seen_with part self.old) (seen_span span)) }
         ensures moments { IfOk result (λ events. EventsHaveMoments events.items) }
+        ensures same { (part : RowPart) → seen_with part self.new ≡ seen_with part self.old }
+        ensures stand { StillStand self.old.queues self.new.queues }
+        ensures rest { KeepsRest self.old self.new }
+
+        // How many stored events are looked at, in this queue and in no other. Each event of the batch was looked at,
+        // unless so many were that they are no longer counted.
+        ensures others { (n : ℕ) → (span.queue == n) ≡ false → reads_at self.new.queues n ≡ reads_at self.old.queues n }
+        ensures lower { IfOk result (λ events. reads_at self.new.queues span.queue < 2 ^ 64 - 1 → length events.items + reads_at self.old.queues span.queue ≤ reads_at self.new.queues span.queue) }
+        ensures upper { OnOk result (reads_at self.new.queues span.queue ≤ reads_at self.old.queues span.queue + most_in (queue_at self.old span.queue) (seen_span span)) }
     {
-        self.queue(batch.queue)
-            .select(self.alloc, &self.undone, batch)
+        let alloc = self.alloc;
+        self.slots.get_mut(span.queue).select(alloc, span)
     }
 
     /// What is shown of a batch.
@@ -264,28 +269,24 @@ impl Queues {
         self.triggers.iter().find(|t| t.trigger.queue() == queue)
     }
 
-    /// Notes that a transaction was rolled back.
-    pub fn undo(&mut self, txid: u64) -> Result<(), NoMemory>
-        ensures noted { OnOk result ((part : RowPart) → seen_with part self.new
-            ≡ record (seen_with part self.old) { undone = λ u. u == txid || (seen_with part self.old).undone u }) }
-        ensures err { OnErr result (self.new ≡ self.old) }
-        ensures rest { KeepsRest self.old self.new }
-    {
-        self.undone.insert(txid)?;
-        Ok(())
-    }
-
-    /// Makes a queue of a new name, with its first tick, which has the snapshot as it is now.
-    pub fn make(&mut self, name: Text, now: i64, snapshot: Snapshot) -> Result<(), NoMemory>
+    /// Makes a queue of a new name, by a transaction that has ended, with its first tick, which has the snapshot as it is
+    /// now.
+    pub fn make(
+        &mut self,
+        name: Text,
+        txid: u64,
+        now: i64,
+        snapshot: Snapshot,
+    ) -> Result<(), NoMemory>
         requires new { queue_number name (queues_of self.old) ≡ None }
         requires room { length (queues_of self.old) < 64 }
         requires time { IsTime now }
-        ensures marks { OnOk result ((part : RowPart) → snapshot ≡ snapshot_now part → seen_with part self.new
-            ≡ after_marks (seen_with part self.old) (queued (made name) ∷ queued (ticked (length self.old.queues) 1 now 0) ∷ [])) }
+        ensures mark { OnOk result ((part : RowPart) → snapshot ≡ snapshot_now part → seen_with part self.new
+            ≡ after_mark (seen_with part self.old) (queued (made name txid now))) }
         ensures err { OnErr result (self.new ≡ self.old) }
         ensures rest { KeepsRest self.old self.new }
     {
-        let queue = Queue::new(self.alloc, now, snapshot)?;
+        let queue = Queue::new(self.alloc, txid, now, snapshot)?;
         let number = self.slots.len();
         self.slots.add(queue)?;
         match self.names.add(name, number) {

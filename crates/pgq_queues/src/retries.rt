@@ -1,6 +1,6 @@
 //! The retries of a database: which events wait to come back to their queues, and how they do.
 
-ghost use Rattle.std.specs.Prelude.{◌≡◌, ℤ, ◌+◌, ◌<◌, ◌^◌, ◌==◌, not, find, length, take, if◌then◌else◌, IfOk, IfSome, OnOk, OnErr};
+ghost use Rattle.std.specs.Prelude.{◌≡◌, ℕ, ℤ, false, ◌+◌, ◌<◌, ◌≤◌, ◌^◌, ◌==◌, not, find, length, take, if◌then◌else◌, IfOk, IfSome, OnOk, OnErr};
 ghost use Rattle.std.specs.List.{All};
 ghost use Rattle.pgq_retry.specs.Retries.{is_asked, count_of, by_due, due_now};
 ghost use Rattle.sky_model.specs.History.{queued, asked};
@@ -8,11 +8,13 @@ ghost use Rattle.sky_model.specs.Moment.{HasMoment};
 ghost use Rattle.sky_model.specs.Selection.{selected};
 ghost use Rattle.sky_model.specs.State.{RowPart, after_mark, after_marks};
 ghost use Rattle.sky_model.specs.StepRetry.{back, most_back};
-ghost use Rattle.pgq_queues.specs.Seen.{seen_with, seen_batch, Stands};
+ghost use Rattle.pgq_queues.specs.Seen.{seen_with, seen_span, queue_at, reads_at, Stands};
+ghost use Rattle.pgq_queues.specs.Batches.{StillStand};
+ghost use Rattle.pgq_queues.specs.Looked.{most_in};
 ghost use Rattle.pgq_queues.specs.Traced.{KeepsRest};
 ghost use Rattle.pgq_queues.specs.Retried.{RetriedAtMost, HasConsumer, IsWaiting};
 
-use crate::batch::Batch;
+use crate::batch::Span;
 use crate::queues::Queues;
 use pgq_retry::Retry;
 use sky_val::{Event, NoMemory};
@@ -35,16 +37,21 @@ impl Queues {
         self.retries.count_due(now, MOST_BACK)
     }
 
-    /// Of a batch's events with an id the first one. No other is copied.
-    pub fn event_in(&self, batch: &Batch<'_>, id: u64) -> Result<Option<Event>, NoMemory>
-        requires { Stands self.now.queues batch.now.queue }
+    /// Of a batch's events the first with an id. No other is copied.
+    pub fn event_in(&mut self, span: Span, id: u64) -> Result<Option<Event>, NoMemory>
+        requires { Stands self.old.queues span.queue }
         ensures found { (part : RowPart) → IfOk result (λ found. found
-            ≡ find (λ e. e.ev_id == id) (selected (seen_with part self.now) (seen_batch batch.now))) }
+            ≡ find (λ e. e.ev_id == id) (selected (seen_with part self.old) (seen_span span))) }
         ensures moment { IfOk result (λ found. IfSome found (λ e. HasMoment e.ev_time)) }
-        ensures rounds { IfOk result (λ found. IfSome found (λ e. RetriedAtMost self.now.rounds e)) }
+        ensures rounds { IfOk result (λ found. IfSome found (λ e. RetriedAtMost self.old.rounds e)) }
+        ensures same { (part : RowPart) → seen_with part self.new ≡ seen_with part self.old }
+        ensures stand { StillStand self.old.queues self.new.queues }
+        ensures rest { KeepsRest self.old self.new }
+        ensures others { (n : ℕ) → (span.queue == n) ≡ false → reads_at self.new.queues n ≡ reads_at self.old.queues n }
+        ensures upper { OnOk result (reads_at self.new.queues span.queue ≤ reads_at self.old.queues span.queue + most_in (queue_at self.old span.queue) (seen_span span)) }
     {
-        self.queue(batch.queue)
-            .find(self.alloc, &self.undone, batch, id)
+        let alloc = self.alloc;
+        self.slots.get_mut(span.queue).find(alloc, span, id)
     }
 
     /// Makes an event wait to come back, unless one of its id waits for the same subscription. The answer is whether it

@@ -34,6 +34,13 @@ pub kept-there : (n now : NamedView SubView) (key : List ℕ) (place : ℕ) (old
     → Some old ≡ value_of key now
 kept-there n now key place old same is lt at = sym (value_of-there n key place old is lt at) ∙ ap (value_of key) same
 
+-- and what is at a place is kept of the consumer there
+pub at-place : (n now : NamedView SubView) (key : List ℕ) (place : ℕ) (s : SubView) → n ≡ now → Distinct n.names → place < length n.values → s ≡ get_or n.values place s
+    → slice_get now.names place ≡ Some key → value_of key now ≡ Some s
+at-place n now key place s same distinct lt at there =
+    let here : slice_get n.names place ≡ Some key = ap (λ (v : NamedView SubView). slice_get v.names place) same ∙ there in
+    sym (kept-there n now key place s same (sym (place_of-Distinct n.names place key distinct here)) lt at)
+
 -- a name that isn't there isn't removed
 all_but-lacking : (key : List ℕ) (names : List (List ℕ)) → place_of key names ≡ None → all_but key names ≡ names
 all_but-lacking key [] is = refl

@@ -1,4 +1,4 @@
-ghost use Rattle.std.specs.Prelude.{◌≡◌, ◌<◌, ◌^◌, ◌-◌, None, OnOk, OnErr, IfNone, length, option_copied};
+ghost use Rattle.std.specs.Prelude.{◌≡◌, ℕ, ◌<◌, ◌^◌, ◌-◌, List, Some, None, OnOk, OnErr, IfNone, length, slice_get, option_copied};
 ghost use Rattle.pgq_sub.specs.Views.{with_open, finished, at_tick};
 ghost use Rattle.pgq_sub.specs.Seen.{seen_subs, open_in, no_subs, with_member, with_sub, without_member};
 
@@ -46,6 +46,24 @@ impl Subs {
     {
         let number = self.subs.number(consumer)?;
         Some(self.subs.get(number as usize))
+    }
+
+    /// The consumer at a place in the order of registering.
+    pub fn consumer(&self, place: usize) -> &Text
+        requires { place < length self.now.names }
+        ensures { slice_get self.now.names place ≡ Some result.now }
+    {
+        &self.subs.names()[place]
+    }
+
+    /// The subscription of the consumer at a place.
+    pub fn at(&self, place: usize) -> &Sub
+        requires { place < length self.now.names }
+        ensures { (consumer : List ℕ) → slice_get self.now.names place ≡ Some consumer → (seen_subs self.now).kept consumer ≡ Some result.now }
+    {
+        // No other one has its name.
+        let _ = self.subs.names();
+        self.subs.get(place)
     }
 
     /// Registers a new consumer as a subscription that is at a tick.

@@ -220,8 +220,8 @@ impl EventTables {
         txids.iter().copied().find(|txid| self.has_writer(*txid))
     }
 
-    /// Whether a transaction has an event in some table.
-    fn has_writer(&self, txid: u64) -> bool
+    /// Whether a transaction has an event in some table. No event is looked at.
+    pub fn has_writer(&self, txid: u64) -> bool
         ensures { result ≡ list_any (λ s. s.event.ev_txid == txid) (by_age self.now.tables) }
     {
         any_has(&self.tables, txid)

@@ -1,0 +1,126 @@
+//! How the event tables of queues are rotated: a switch begins, a commit makes it, and a later transaction ends it.
+
+ghost use Rattle.std.specs.Prelude.{◌≡◌, ℕ, ◌≤◌, true, None, Some, IfOk, IfSome, drop, is_some, length};
+ghost use Rattle.std.specs.List.{All};
+ghost use Rattle.sky_model.specs.History.{queued, switching, switched};
+ghost use Rattle.sky_model.specs.Moment.{IsTime};
+ghost use Rattle.sky_model.specs.Queues.{without_transaction};
+ghost use Rattle.sky_model.specs.State.{RowPart, with_tables, after_mark, after_marks};
+ghost use Rattle.sky_model.specs.StepRotation.{held_back, lack_second_step, second_steps, switches_of};
+ghost use Rattle.pgq_queues.specs.Seen.{seen_with, queue_at, Stands};
+ghost use Rattle.pgq_queues.specs.Batches.{StillStand};
+ghost use Rattle.pgq_queues.specs.Held.{IsPrinted};
+ghost use Rattle.pgq_queues.specs.Rotated.{settled_in, ended_in, each_changed};
+ghost use Rattle.pgq_queues.specs.Traced.{KeepsRest};
+
+use crate::queues::Queues;
+use crate::slots::Slots;
+use sky_model::HeldBack;
+use sky_names::Named;
+use sky_val::NoMemory;
+
+impl Queues {
+    /// A transaction was rolled back: its events are dead, and the switches that it has pending are given up.
+    pub fn undo(&mut self, txid: u64)
+        ensures undone { (part : RowPart) → seen_with part self.new
+            ≡ record (seen_with part self.old) { queue = λ n. with_tables (without_transaction txid) ((seen_with part self.old).queue n) } }
+        ensures stand { StillStand self.old.queues self.new.queues }
+        ensures rest { KeepsRest self.old self.new }
+    {
+        self.slots.undo(txid);
+    }
+
+    /// What holds a switch of a queue back, if anything does.
+    pub fn held_back(&self, queue: usize, now: i64) -> Result<Option<HeldBack>, NoMemory>
+        requires stands { Stands self.now.queues queue }
+        requires time { IsTime now }
+        ensures held { IfOk result (λ held. held ≡ held_back now (queue_at self.now queue)) }
+        ensures moment { IfOk result (λ held. IfSome held IsPrinted) }
+    {
+        self.queue(queue).held_back(self.alloc, now)
+    }
+
+    /// A switch of a queue is pending, which the commit of a transaction makes.
+    pub fn begin_switch(&mut self, queue: usize, txid: u64)
+        requires stands { Stands self.old.queues queue }
+        requires none { (queue_at self.old queue).tables.pending ≡ None }
+        ensures mark { (part : RowPart) → seen_with part self.new ≡ after_mark (seen_with part self.old) (queued (switching queue txid)) }
+        ensures stand { StillStand self.old.queues self.new.queues }
+        ensures rest { KeepsRest self.old self.new }
+    {
+        self.slots.get_mut(queue).begin_switch(txid);
+    }
+
+    /// The pending switch of a queue is made.
+    pub fn commit_switch(&mut self, queue: usize, now: i64)
+        requires stands { Stands self.old.queues queue }
+        requires time { IsTime now }
+        requires pending { is_some (queue_at self.old queue).tables.pending ≡ true }
+        ensures mark { (part : RowPart) → seen_with part self.new ≡ after_mark (seen_with part self.old) (queued (switched queue now)) }
+        ensures stand { StillStand self.old.queues self.new.queues }
+        ensures rest { KeepsRest self.old self.new }
+    {
+        self.slots.get_mut(queue).commit_switch(now);
+    }
+
+    /// A transaction commits: the switches that it has pending are made.
+    pub fn switch_tables(&mut self, txid: u64, now: i64)
+        requires { IsTime now }
+        ensures marks { (part : RowPart) → seen_with part self.new
+            ≡ after_marks (seen_with part self.old) (switches_of (seen_with part self.old) now (Some txid)) }
+        ensures stand { StillStand self.old.queues self.new.queues }
+        ensures rest { KeepsRest self.old self.new }
+    {
+        settle_each(&mut self.slots, &self.names, 0, txid, now);
+    }
+
+    /// How many queues lack the second step of their last switch.
+    pub fn unfinished(&self) -> usize
+        ensures { (part : RowPart) → result ≡ length (lack_second_step (seen_with part self.now)) }
+    {
+        let mut count = 0;
+        for place in 0..self.names.len() {
+            if self.slots.get(*self.names.get(place)).lacks_second_step() {
+                count += 1;
+            }
+        }
+        count
+    }
+
+    /// A transaction makes the second step of each switch that lacks it.
+    pub fn end_switches(&mut self, txid: u64)
+        ensures marks { (part : RowPart) → seen_with part self.new
+            ≡ after_marks (seen_with part self.old) (second_steps txid (lack_second_step (seen_with part self.old))) }
+        ensures stand { StillStand self.old.queues self.new.queues }
+        ensures rest { KeepsRest self.old self.new }
+    {
+        end_each(&mut self.slots, &self.names, 0, txid);
+    }
+}
+
+/// Of the queues of the names from this place on the switches are made that a transaction has pending.
+fn settle_each(queues: &mut Slots, names: &Named<usize>, place: usize, txid: u64, now: i64)
+    requires place { place ≤ length names.now.values }
+    requires time { IsTime now }
+    requires stand { All (Stands queues.old) names.now.values }
+    ensures each { queues.new ≡ each_changed (settled_in txid now) (drop place names.now.values) queues.old }
+    ensures stand { StillStand queues.old queues.new }
+{
+    if place < names.len() {
+        queues.get_mut(*names.get(place)).settle(txid, now);
+        settle_each(queues, names, place + 1, txid, now);
+    }
+}
+
+/// Of the queues of the names from this place on a transaction makes the second steps that are missing.
+fn end_each(queues: &mut Slots, names: &Named<usize>, place: usize, txid: u64)
+    requires place { place ≤ length names.now.values }
+    requires stand { All (Stands queues.old) names.now.values }
+    ensures each { queues.new ≡ each_changed (ended_in txid) (drop place names.now.values) queues.old }
+    ensures stand { StillStand queues.old queues.new }
+{
+    if place < names.len() {
+        queues.get_mut(*names.get(place)).end_switch(txid);
+        end_each(queues, names, place + 1, txid);
+    }
+}
