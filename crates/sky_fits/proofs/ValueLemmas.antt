@@ -1,7 +1,8 @@
 -- The columns of a table and the values of a row or of a key, one by one.
-use Rattle.std.proofs.Common.{◌≡◌, ℕ, ◌+◌, ◌<◌, arith, Bool, true, false, cond, List, [], ◌∷◌, length, drop, get_or, Option, None, Some, Ok, suc, add-one, refl, sym, ◌∙◌, ap, eq-eqb}
+use Rattle.std.proofs.Common.{◌≡◌, ℕ, ◌+◌, ◌<◌, arith, Bool, true, false, cond, List, [], ◌∷◌, length, drop, get_or, Option, None, Some, Result, Ok, Err, suc, add-one, refl, sym, subst, ◌∙◌, ap, eq-eqb}
 use Rattle.std.specs.Prelude.{◌⊎◌, not, ◌&&◌, option_map}
 use Rattle.std.specs.Option.{option_or}
+use Rattle.std.specs.Result.{IfErr, IsErrAnd}
 use Rattle.std.proofs.Math.Seq.{drop-cons}
 use Rattle.sky_val.specs.declared.val.Val.{Val}
 use Rattle.sky_val.specs.declared.column.Column.{Column}
@@ -11,6 +12,9 @@ use Rattle.sky_val.specs.Schemas.{is_null, is_of_kind, values_fault, key_columns
 use Rattle.sky_val.proofs.SchemaLemmas.{values_fault-end}
 use Rattle.sky_model.specs.declared.reply.BadRow.TheVariants as badly
 use Rattle.sky_model.specs.declared.reply.Refusal.TheVariants.{BadRow}
+use Rattle.sky_model.specs.declared.stop.Stop.{Stop}
+use Rattle.sky_model.specs.declared.stop.Stop.TheVariants.{Refused, NoMemory}
+use Rattle.sky_model.specs.Stops.{StopsAs}
 use Rattle.sky_model.specs.Outcome.{Checked, ◌>>◌}
 use Rattle.sky_model.specs.Outcome.{refused_by}
 use Rattle.sky_model.specs.StepRows.{column_name, bad_values, fits}
@@ -89,6 +93,17 @@ one_left columns key index place column here alike =
 -- a value that its column takes is passed
 pub takes-pass : (column : Column) (columns : List Column) (value : Val) (values : List Val) → fits (column ∷ []) (value ∷ []) ≡ Ok tt → takes (column ∷ columns) (value ∷ values) ≡ takes columns values
 takes-pass column columns value values taken_here = takes-cons column columns value values ∙ ap (λ first. first >> takes columns values) taken_here
+
+-- at a value that its column doesn't take, all stops as it does alone
+pub takes-stop : (column : Column) (columns : List Column) (value : Val) (values : List Val) (stop : Stop)
+    → StopsAs stop (fits (column ∷ []) (value ∷ [])) → StopsAs stop (takes (column ∷ columns) (value ∷ values))
+takes-stop column columns value values (Refused refusal) refused = takes-cons column columns value values ∙ ap (λ first. first >> takes columns values) refused
+takes-stop column columns value values NoMemory short = tt
+
+-- what is handed on stops as what it was
+pub handed : {A B : Type 0} (r : Result A Stop) (was : Stop) (checked : Checked B) → IsErrAnd r (λ stop. stop ≡ was) → StopsAs was checked → IfErr r (λ stop. StopsAs stop checked)
+handed (Ok v) was checked is stops = absurd is
+handed (Err stop) was checked is stops = subst (λ s. StopsAs s checked) (sym is) stops
 
 pub key-pass : (columns : List Column) (key : List Val) (index place : ℕ) (column : Column) (value : Val) → key_columns (drop index columns) ≡ column ∷ key_columns (drop (index + 1) columns)
     → place < length key → get_or key place value ≡ value → fits (column ∷ []) (value ∷ []) ≡ Ok tt
