@@ -2,15 +2,17 @@
 use Rattle.std.proofs.Common.{◌≡◌, ℕ, zero, suc, ℤ, ◌+◌, ◌-◌, ◌<◌, ◌≤◌, List, [], ◌∷◌, ◌++◌, Bool, true, false, Result, Ok, Err, OnOk, not, filter, take, drop, min, length, length-take, take-append-drop, get_or, slice_set, refl, sym, ◌∙◌, ap, subst, arith, if◌then◌else◌}
 use Rattle.std.specs.Prelude.{int_le, unwrap_or}
 use Rattle.std.specs.List.{All}
-use Rattle.std.proofs.lemmas.List.Elements.{All-cons, All-head, All-tail, All-filter}
+use Rattle.std.proofs.lemmas.List.Elements.{All-cons, All-head, All-tail, All-filter, All-weaker}
 use Rattle.sky_model.specs.Retries.{brought_by}
-use Rattle.sky_model.specs.State.{RowPart, Database, changed_at, after_marks}
+use Rattle.sky_model.specs.State.{RowPart, Database, changed_at, with_tables, after_marks}
 use Rattle.sky_model.specs.StepRetry.{back}
 use Rattle.pgq_retry.specs.declared.retry.Retry.{Retry}
 use Rattle.pgq_retry.specs.Retries.{is_event, put_by, sorted_by, by_due, is_due, due_now, without}
 use Rattle.pgq_retry.proofs.TakingDue.{taken_are}
 use Rattle.pgq_queues.specs.Views.{QueueView, QueuesView}
-use Rattle.pgq_queues.specs.Seen.{seen_queue, queue_at, seen_with}
+use Rattle.pgq_queues.specs.Seen.{no_queue, seen_queue, queue_at, seen_with}
+use Rattle.pgq_tables.specs.Tables.{Stored, with_stored}
+use Rattle.pgq_queues.specs.Rotated.{retabled}
 use Rattle.pgq_queues.specs.Retried.{RetriedAtMost, IsWaiting, RetriedWithin}
 use Rattle.pgq_queues.proofs.Marked.{queues-set}
 
@@ -39,12 +41,12 @@ within-left {rounds} sub ev_id queues rs left is within = record { waiting = all
 
 -- one is back in its queue, and waits no more
 pub brought-as : (v now : QueuesView) (r : Retry) (t : ℕ) (moment : ℤ) (old new : QueueView) (left : List Retry) → v ≡ now → r.queue < length v.queues → old ≡ get_or v.queues r.queue old
-    → new ≡ record old { events = old.events ++ brought_by t r.event ∷ [] } → left ≡ without r.sub r.event.ev_id v.retries
+    → new ≡ retabled (with_stored (brought_by t r.event)) old → left ≡ without r.sub r.event.ev_id v.retries
     → (part : RowPart) → seen_with part (record v { queues = slice_set v.queues r.queue new; retries = left }) ≡ after_marks (seen_with part now) (back moment t (r ∷ []))
 brought-as v now r t moment old new left same lt at is less part =
     ap (λ (d : Database). record d { retries = left })
-    (queues-set v now r.queue old new (λ q. record q { stored = q.stored ++ brought_by t r.event ∷ [] }) same lt at (ap seen_queue is) (ap QueueView.subs is) part)
-    ∙ ap (λ rs. record (seen_with part now) { queue = changed_at r.queue (λ q. record q { stored = q.stored ++ brought_by t r.event ∷ [] }) (queue_at now); retries = rs })
+    (queues-set v now r.queue old new (with_tables (with_stored (brought_by t r.event))) same lt at (ap seen_queue is) (ap QueueView.subs is) part)
+    ∙ ap (λ rs. record (seen_with part now) { queue = changed_at r.queue (with_tables (with_stored (brought_by t r.event))) (queue_at now); retries = rs })
     (less ∙ ap (λ (w : QueuesView). without r.sub r.event.ev_id w.retries) same)
 
 -- the first of so many
@@ -61,7 +63,7 @@ brought-then d e f count t moment r rs left some first one rest =
     ∙ ap (λ xs. after_marks d (back moment t xs)) (sym (take-first count (by_due rs) r (by_due left) some first))
 
 pub bring-marks : {A E : Type 0} → (o : Result A E) (v now new : QueuesView) (r : Retry) (t count : ℕ) (old q : QueueView) (left : List Retry) → v ≡ now → r.queue < length v.queues → old ≡ get_or v.queues r.queue old
-    → q ≡ record old { events = old.events ++ brought_by t r.event ∷ [] } → left ≡ without r.sub r.event.ev_id v.retries → (count ≡ 0 → ⊥) → by_due v.retries ≡ r ∷ by_due left
+    → q ≡ retabled (with_stored (brought_by t r.event)) old → left ≡ without r.sub r.event.ev_id v.retries → (count ≡ 0 → ⊥) → by_due v.retries ≡ r ∷ by_due left
     → OnOk o ((moment : ℤ) (part : RowPart) → seen_with part new
     ≡ after_marks (seen_with part (record v { queues = slice_set v.queues r.queue q; retries = left })) (back moment t (take (count - 1) (by_due left))))
     → OnOk o ((moment : ℤ) (part : RowPart) → seen_with part new ≡ after_marks (seen_with part now) (back moment t (take count (by_due now.retries))))
@@ -95,7 +97,9 @@ within-later {rounds} queues rs within = record {
       let waits = within.waiting k d lt in
       let most : unwrap_or (get_or rs k d).event.ev_retry 0 ≤ rounds + 1 = waits.most in
       record { owner = waits.owner; moment = waits.moment; most = omega (arith, most) };
-  stored = λ n k d lt. let most = within.stored n k d lt in omega (arith, most);
+  stored = λ n.
+      All-weaker (All (λ (s : Stored). RetriedAtMost rounds s.event)) (All (λ (s : Stored). RetriedAtMost (rounds + 1) s.event))
+      (λ list all k d lt. let most = all k d lt in omega (arith, most)) (get_or queues n no_queue).tables.tables.lists (within.stored n);
 }
 
 pub all-most : {rounds : ℕ} → (queues : List QueueView) (rs : List Retry) → RetriedWithin rounds queues rs → All (λ (r : Retry). RetriedAtMost (rounds + 1) r.event) rs

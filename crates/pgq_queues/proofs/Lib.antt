@@ -1,12 +1,12 @@
 pub mod NumberedQueues
 pub mod Slotted
+pub mod AllStored
 pub mod Marked
 pub mod TracedLists
 pub mod Indexed
-pub mod ById
 pub mod Consumed
 pub mod Waiting
 pub mod BroughtBack
 pub mod Telling
-pub mod FirstOf
-pub mod FirstById
+pub mod RotatedQueues
+pub mod HeldBack

@@ -12,7 +12,6 @@ use Rattle.std.specs.declared.alloc.AllocError.{AllocError}
 use Rattle.std.proofs.lemmas.Option.{get_or_from_slice_get, slice_get_read}
 use Rattle.std.specs.BTreeMap.{is_at}
 use Rattle.std.specs.Map.{lookup}
-use Rattle.std.specs.List.{list_any}
 use Rattle.sky_val.specs.declared.event.Event.{Event}
 use Rattle.sky_txid.specs.Snapshot.{SnapshotView}
 use Rattle.sky_model.specs.Moment.{HasMoment}
@@ -23,19 +22,16 @@ use Rattle.sky_model.specs.History as model
 use Rattle.sky_model.specs.History.{queued, made, ticked, dropped, traced}
 use Rattle.sky_model.specs.Queues.{Tick, tick}
 use Rattle.sky_model.specs.Triggers.{TableTrigger}
-use Rattle.pgq_tables.specs.ById.{by_id}
-use Rattle.sky_model.specs.Selection.{snapshot_at, is_selected, selected_in, selected}
-use Rattle.sky_model.specs.State.{Queue, RowPart, changed_at, emptied, after_mark, after_marks}
+use Rattle.pgq_tables.specs.Tables.{Tables, no_tables, new_tables}
+use Rattle.sky_model.specs.State.{Queue, RowPart, changed_at, emptied, after_mark}
 use Rattle.sky_model.specs.ShownRows.{snapshot_now}
-use Rattle.pgq_queues.specs.declared.batch.Batch.{Batch}
 use Rattle.pgq_queues.specs.declared.batch.Place.{Place}
 use Rattle.pgq_sub.specs.Views.{SubView}
 use Rattle.pgq_sub.specs.Seen.{SubsSeen, seen_subs, shown, no_subs}
 use Rattle.pgq_queues.specs.Views.{QueueView, TracedTableView, QueuesView}
-use Rattle.pgq_queues.specs.Seen.{seen_queue, no_queue, seen_batch, batch_by, sub_at, kept, keeps, numbered, queue_at, seen_with}
+use Rattle.pgq_queues.specs.Seen.{seen_queue, no_queue, batch_by, sub_at, kept, numbered, queue_at, seen_with}
 use Rattle.pgq_queues.specs.Traced.{AreTables}
 use Rattle.pgq_queues.specs.Numbers.{Rise}
-use Rattle.pgq_queues.proofs.ById.{All-by_id}
 use Rattle.pgq_queues.proofs.NumberedQueues.{numbered-more, others-removed}
 use Rattle.sky_model.specs.Config.{default_config}
 
@@ -49,16 +45,16 @@ pub kept-updated : {A : Type 0} → (old new : List (ℕ × A)) (n : ℕ) (o : O
 kept-updated old new n o updates m = updates m ∙ ap (λ b. cond b o (kept old m)) (is_at-nat n m)
 
 -- a queue that is made has its first tick alone
-pub queues-made : (queues : List QueueView) (t : Tick) (count : ℕ) → count ≡ length queues
-    → (λ n. seen_queue (get_or (queues ++ record { config = default_config; seq = 0; events = []; ticks = t ∷ []; subs = no_subs } ∷ []) n no_queue))
-    ≡ changed_at count (λ q. record q { tick_list = q.tick_list ++ t ∷ [] }) (λ n. seen_queue (get_or queues n no_queue))
-queues-made queues t count is = λ i n. pointwise n (count == n) refl i
+pub queues-made : (queues : List QueueView) (t : Tick) (ts : Tables) (count : ℕ) → count ≡ length queues
+    → (λ n. seen_queue (get_or (queues ++ record { config = default_config; seq = 0; tables = record { tables = ts; reads = 0 }; ticks = t ∷ []; subs = no_subs } ∷ []) n no_queue))
+    ≡ changed_at count (λ q. record q { tables = ts; tick_list = q.tick_list ++ t ∷ [] }) (λ n. seen_queue (get_or queues n no_queue))
+queues-made queues t ts count is = λ i n. pointwise n (count == n) refl i
   where
     new : QueueView
-    new = record { config = default_config; seq = 0; events = []; ticks = t ∷ []; subs = no_subs }
+    new = record { config = default_config; seq = 0; tables = record { tables = ts; reads = 0 }; ticks = t ∷ []; subs = no_subs }
 
     ticked : Queue → Queue
-    ticked q = record q { tick_list = q.tick_list ++ t ∷ [] }
+    ticked q = record q { tables = ts; tick_list = q.tick_list ++ t ∷ [] }
 
     apart : (qs : List QueueView) (n : ℕ) → (length qs ≡ n → ⊥) → get_or (qs ++ new ∷ []) n no_queue ≡ get_or qs n no_queue
     apart [] zero other = absurd (other refl)
@@ -83,36 +79,6 @@ get_or-slice_set xs i n x lt = by (i == n) refl
 -- a queue whose subscriptions alone have changed
 pub subs-changed : (old new : QueueView) (subs : SubsSeen) → new ≡ record old { subs = new.subs } → seen_subs new.subs ≡ subs → seen_queue new ≡ record (seen_queue old) { members = subs.members; sub = shown subs.kept }
 subs-changed old new subs but is = ap seen_queue but ∙ (λ i. record (seen_queue old) { members = (is i).members; sub = shown (is i).kept })
-
--- what is selected between two ticks are the events of a batch
-pub selects : (undone : ℕ → Bool) (v now : QueueView) (batch : Batch) (prev cur : Option Tick) (events : List Event) (r : Result (Vec Event Global) AllocError) → v ≡ now
-    → prev ≡ tick batch.prev v.ticks → cur ≡ tick batch.cur v.ticks → events ≡ v.events
-    → IfOk r (λ selected. selected.items ≡ by_id (filter (is_selected undone (snapshot_at prev) (snapshot_at cur) batch.sub) events))
-    → IfOk r (λ selected. selected.items ≡ selected_in undone (seen_queue now) (seen_batch batch))
-selects undone v now batch prev cur events r same from_is to_is all is =
-    IfOk-weaker r _ _ (λ selected e. e
-    ∙ ap (λ es. by_id (filter (is_selected undone (snapshot_at prev) (snapshot_at cur) batch.sub) es)) all
-    ∙ ap (λ t. by_id (filter (is_selected undone (snapshot_at t) (snapshot_at cur) batch.sub) v.events)) from_is
-    ∙ ap (λ t. by_id (filter (is_selected undone (snapshot_at (tick batch.prev v.ticks)) (snapshot_at t) batch.sub) v.events)) to_is
-    ∙ ap (λ (q : QueueView). selected_in undone (seen_queue q) (seen_batch batch)) same) is
-
--- they were made at times that are printed, as all are
-pub selects-moments : (stored events : List Event) (p : Event → Bool) (r : Result (Vec Event Global) AllocError) → EventsHaveMoments stored → events ≡ stored
-    → IfOk r (λ selected. selected.items ≡ by_id (filter p events)) → IfOk r (λ selected. EventsHaveMoments selected.items)
-selects-moments stored events p r have all is =
-    IfOk-weaker r _ _ (λ selected e. subst EventsHaveMoments (sym (e ∙ ap (λ es. by_id (filter p es)) all)) (All-by_id (λ event. HasMoment event.ev_time) (filter p stored) (All-filter p (λ event. HasMoment event.ev_time) stored have))) is
-
--- a transaction that was noted as rolled back
-pub undone-insert : (old new : List ℕ) (t : ℕ) → ((q : ℕ) → list_any (is_at (nat_cmp q)) new ≡ cond (is_at (nat_cmp t) q) true (list_any (is_at (nat_cmp q)) old))
-    → keeps new ≡ (λ u. u == t || keeps old u)
-undone-insert old new t updates = λ i u. pointwise u i
-  where
-    by : (u : ℕ) (b : Bool) → (t == u) ≡ b → cond b true (keeps old u) ≡ (u == t || keeps old u)
-    by u true e = (let yes_it_is : true ≡ (u == t) = grind (arith, nat_tests) in ap (λ c. c || keeps old u) yes_it_is)
-    by u false e = (let it_is_not : false ≡ (u == t) = grind (arith, nat_tests) in ap (λ c. c || keeps old u) it_is_not)
-
-    pointwise : (u : ℕ) → keeps new u ≡ (u == t || keeps old u)
-    pointwise u = updates u ∙ ap (λ b. cond b true (keeps old u)) (is_at-nat t u) ∙ by u (t == u) refl
 
 -- ---- the database that queues are shown in
 
@@ -200,13 +166,13 @@ sub_at-gone queues i lt none n consumer = ap (λ (q : QueueView). value_of consu
     by true e = let one : i ≡ n = grind (arith, nat_tests) in sym (no-subs (get_or queues i no_queue).subs consumer none) ∙ ap (λ m. sub_at queues m consumer) one
     by false e = refl
 
--- a queue that is made has its first tick, with the snapshot as it was
-pub made-as : (v now : QueuesView) (names : NamedView ℕ) (queues : List QueueView) (q : QueueView) (name : List ℕ) (number : ℕ) (t : Tick) → v ≡ now
+-- a queue that is made has its tables and its first tick, with the snapshot as it was
+pub made-as : (v now : QueuesView) (names : NamedView ℕ) (queues : List QueueView) (q : QueueView) (name : List ℕ) (number txid : ℕ) (t : Tick) → v ≡ now
     → names ≡ record { names = v.names.names ++ name ∷ []; values = v.names.values ++ number ∷ [] } → number ≡ length v.queues → queues ≡ v.queues ++ q ∷ []
-    → q ≡ record { config = default_config; seq = 0; events = []; ticks = t ∷ []; subs = no_subs } → length v.names.values ≡ length v.names.names
+    → q ≡ record { config = default_config; seq = 0; tables = record { tables = new_tables txid t.time; reads = 0 }; ticks = t ∷ []; subs = no_subs } → length v.names.values ≡ length v.names.names
     → t.id ≡ 1 → t.seq ≡ 0 → (part : RowPart) → t.snapshot ≡ snapshot_now part
-    → seen_with part (record v { names = names; queues = queues }) ≡ after_marks (seen_with part now) (queued (made name) ∷ queued (ticked (length now.queues) 1 t.time 0) ∷ [])
-made-as v now names queues q name number t same more next one new count id seq part snap =
+    → seen_with part (record v { names = names; queues = queues }) ≡ after_mark (seen_with part now) (queued (made name txid t.time))
+made-as v now names queues q name number txid t same more next one new count id seq part snap =
     (λ i. record (seen_with part v) {
       queues_made = (ap length one ∙ length-append v.queues (q ∷ [])) i;
       queues = (ap (λ (n : NamedView ℕ). numbered n.names n.values) more
@@ -214,18 +180,18 @@ made-as v now names queues q name number t same more next one new count id seq p
           ∙ ap (λ n. numbered v.names.names v.names.values ++ record { number = n; name = name } ∷ []) next) i;
       queue = ((λ j n. seen_queue (get_or (one j) n no_queue))
           ∙ ap (λ x. λ n. seen_queue (get_or (v.queues ++ x ∷ []) n no_queue)) new
-          ∙ queues-made v.queues t (length v.queues) refl) i;
+          ∙ queues-made v.queues t (new_tables txid t.time) (length v.queues) refl) i;
       batch = batches-same v.queues queues v.batches (λ m c. ap (λ qs. sub_at qs m c) one ∙ sub_at-more v.queues q (ap QueueView.subs new) m c) i;
     })
     ∙ ap (λ (w : QueuesView). record (seen_with part w) {
       queues_made = length w.queues + 1;
       queues = numbered w.names.names w.names.values ++ record { number = length w.queues; name = name } ∷ [];
-      queue = changed_at (length w.queues) (λ x. record x { tick_list = x.tick_list ++ t ∷ [] }) (queue_at w);
+      queue = changed_at (length w.queues) (λ x. record x { tables = new_tables txid t.time; tick_list = x.tick_list ++ t ∷ [] }) (queue_at w);
     }) same
     ∙ ap (λ (x : Tick). record (seen_with part now) {
       queues_made = length now.queues + 1;
       queues = numbered now.names.names now.names.values ++ record { number = length now.queues; name = name } ∷ [];
-      queue = changed_at (length now.queues) (λ y. record y { tick_list = y.tick_list ++ x ∷ [] }) (queue_at now);
+      queue = changed_at (length now.queues) (λ y. record y { tables = new_tables txid t.time; tick_list = y.tick_list ++ x ∷ [] }) (queue_at now);
     }) is
   where
     is : t ≡ record { id = 1; time = t.time; snapshot = snapshot_now part; seq = 0 }
@@ -236,7 +202,7 @@ no-members : (subs : NamedView SubView) → (seen_subs subs).members ≡ [] → 
 no-members subs none = λ i. record { members = sym none i; kept = λ name. sym (no-subs subs name none) i }
 
 emptied-as : (q : QueueView) → (seen_queue q).members ≡ [] → seen_queue no_queue ≡ emptied (seen_queue q)
-emptied-as q none = ap (λ (s : SubsSeen). record { config = default_config; seq = 0; stored = []; tick_list = []; members = s.members; sub = shown s.kept }) (no-members q.subs none)
+emptied-as q none = ap (λ (s : SubsSeen). record { config = default_config; seq = 0; tables = no_tables; tick_list = []; members = s.members; sub = shown s.kept }) (no-members q.subs none)
 
 pub dropped-as : (v now : QueuesView) (names : NamedView ℕ) (queues : List QueueView) (n place : ℕ) → v ≡ now → names ≡ record { names = remove v.names.names place; values = remove v.names.values place }
     → queues ≡ slice_set v.queues n no_queue → length v.names.values ≡ length v.names.names → Rise 0 v.names.values → slice_get v.names.values place ≡ Some n → n < length v.queues
@@ -262,25 +228,12 @@ dropped-as v now names queues n place same gone empty count rise at low none par
     pointwise : (m : ℕ) → seen_queue (get_or (slice_set v.queues n no_queue) m no_queue) ≡ changed_at n emptied (queue_at v) m
     pointwise m = ap seen_queue (get_or-slice_set v.queues n m no_queue low) ∙ by m (n == m) refl
 
--- a transaction is noted as rolled back
-pub undone-as : (v now : QueuesView) (more : List ℕ) (t : ℕ) → v ≡ now → ((q : ℕ) → list_any (is_at (nat_cmp q)) more ≡ cond (is_at (nat_cmp t) q) true (list_any (is_at (nat_cmp q)) v.undone))
-    → (part : RowPart) → seen_with part (record v { undone = more }) ≡ record (seen_with part now) { undone = λ u. u == t || keeps now.undone u }
-undone-as v now more t same updates part =
-    (λ i. record (seen_with part v) { undone = undone-insert v.undone more t updates i })
-    ∙ ap (λ (w : QueuesView). record (seen_with part w) { undone = λ u. u == t || keeps w.undone u }) same
-
 -- one more trigger
 pub traced-as : (v now : QueuesView) (more : List TableTrigger) (tables : List (ℕ × TracedTableView)) (x : TableTrigger) → v ≡ now → more ≡ v.triggers ++ x ∷ []
     → (part : RowPart) → seen_with part (record v { triggers = more; traced = tables }) ≡ after_mark (seen_with part now) (queued (traced x.table x.name x.trigger))
 traced-as v now more tables x same is part =
     (λ i. record (seen_with part v) { triggers = is i })
     ∙ ap (λ (w : QueuesView). after_mark (seen_with part w) (queued (traced x.table x.name x.trigger))) same
-
--- the events of a batch of a queue that is there
-pub selects-at : (now : QueuesView) (undone : List ℕ) (q : QueueView) (batch : Batch) (r : Result (Vec Event Global) AllocError) → undone ≡ now.undone → seen_queue q ≡ queue_at now batch.queue
-    → IfOk r (λ events. events.items ≡ selected_in (keeps undone) (seen_queue q) (seen_batch batch)) → (part : RowPart) → IfOk r (λ events. events.items ≡ selected (seen_with part now) (seen_batch batch))
-selects-at now undone q batch r but same is part =
-    IfOk-weaker r _ _ (λ events e. e ∙ ap (λ u. selected_in (keeps u) (seen_queue q) (seen_batch batch)) but ∙ ap (λ x. selected_in (keeps now.undone) x (seen_batch batch)) same) is
 
 -- what is kept of tables stays true if neither they nor the triggers change
 pub tables-kept : (v now : QueuesView) → v ≡ now → (part : RowPart) → AreTables part now → AreTables part v

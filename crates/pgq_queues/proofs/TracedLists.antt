@@ -6,7 +6,7 @@ use Rattle.std.proofs.lemmas.List.Elements.{All-cons, All-append, filter-append}
 use Rattle.std.proofs.Math.ListN.{get_or-append}
 use Rattle.std.proofs.Math.Seq.{get_or-append_seam}
 use Rattle.std.specs.List.{All, remove}
-use Rattle.std.specs.Prelude.{slice_get}
+use Rattle.std.specs.Prelude.{slice_get, IfSome, ◌||◌, ◌-◌, ℤ}
 use Rattle.std.specs.BTreeMap.{is_at}
 use Rattle.std.specs.Map.{lookup}
 use Rattle.sky_val.specs.declared.column.Column.{Column}
@@ -18,7 +18,9 @@ use Rattle.pgq_queues.specs.Traced.{no_trigger, triggers_at, traced_by, traced_a
 use Rattle.pgq_queues.specs.declared.batch.Place.{Place}
 use Rattle.sky_names.specs.Named.{NamedView}
 use Rattle.pgq_sub.specs.Seen.{no_subs}
-use Rattle.sky_model.specs.Queues.{Tick}
+use Rattle.sky_model.specs.Queues.{Tick, newest_tick, id_of, is_above, ticks_above, second_step_of}
+use Rattle.pgq_tick.proofs.TickLists.{newest_tick-at, some-filter}
+use Rattle.pgq_queues.specs.Rotated.{switched_in}
 use Rattle.pgq_queues.specs.Batches.{StillStand, open_id, AreIndexed, BatchesWithin}
 use Rattle.pgq_queues.specs.Numbers.{AreNumbers}
 use Rattle.pgq_queues.proofs.NumberedQueues.{numbers-more, numbers-removed, stands-there}
@@ -278,6 +280,26 @@ stays-ticked old new t is = record {
 pub stays-tick : {E : Type 0} (r : Result ℕ E) (old new : QueueView) (t : ℕ → Tick) → IfOk r (λ id. new ≡ record old { ticks = old.ticks ++ t id ∷ [] }) → OnErr r (new ≡ old) → Stays old new
 stays-tick (Ok id) old new t ok err = stays-ticked old new (t id) ok
 stays-tick (Err e) old new t ok err = stays-alike old new (ap QueueView.ticks err) (ap QueueView.subs err)
+
+-- after a switch: it keeps the newest tick
+pub some-above : (txid : ℕ) (ts : List Tick) → 0 < length ts → 0 < length (ticks_above txid ts)
+some-above txid ts some =
+    some-filter (λ t. is_above txid t || t.id == id_of (newest_tick ts)) ts
+    (subst (λ o. IfSome o (λ t. (is_above txid t || t.id == id_of o) ≡ true)) (sym (newest_tick-at ts some)) (by (slice_get ts (length ts - 1)))) some
+  where
+    or_true : (b : Bool) → (b || true) ≡ true
+    or_true true = refl
+    or_true false = refl
+
+    by : (o : Option Tick) → IfSome o (λ t. (is_above txid t || t.id == id_of o) ≡ true)
+    by None = tt
+    by (Some t) = let same : (t.id == t.id) ≡ true = grind (arith, nat_tests) in ap (λ b. is_above txid t || b) same ∙ or_true (is_above txid t)
+
+pub stays-switched : (old new : QueueView) (now : ℤ) → new ≡ switched_in now old → Stays old new
+stays-switched old new now is = record {
+  ticks = λ lt. subst (λ (q : QueueView). 0 < length q.ticks) (sym is) (some-above (second_step_of old.tables.tables) old.ticks lt);
+  subs = ap QueueView.subs is;
+}
 
 -- the queues that stood stand
 pub stand-set : (queues : List QueueView) (i : ℕ) (old new : QueueView) → Stands queues i → i < length queues → old ≡ get_or queues i old → Stays old new → StillStand queues (slice_set queues i new)

@@ -1,6 +1,6 @@
 //! What holds a switch of a queue's event tables back, and from which tick on consumers may register.
 
-ghost use Rattle.std.specs.Prelude.{◌≡◌, ◌<◌, [], IfOk, IfSome, length, slice_get, option_map, option_copied};
+ghost use Rattle.std.specs.Prelude.{◌≡◌, ℕ, List, Some, ◌<◌, [], IfOk, IfSome, length, slice_get, option_map, option_copied};
 ghost use Rattle.sky_model.specs.declared.reply.HeldBack.TheVariants.{Consumer};
 ghost use Rattle.sky_model.specs.Moment.{IsTime, HasMoment};
 ghost use Rattle.sky_model.specs.Printed.{ReplyHasMoments};

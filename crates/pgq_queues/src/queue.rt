@@ -1,4 +1,4 @@
-ghost use Rattle.std.specs.Prelude.{◌≡◌, ℕ, ℤ, ◌+◌, ◌<◌, ◌^◌, ◌∷◌, ◌++◌, Some, None, IfOk, IfErr, OnOk, OnErr, IfNone, IfSome, length, is_none, is_some, ◌↔◌, ◌≤◌, Ok, Err, find, ◌==◌, true, option_map, option_copied};
+ghost use Rattle.std.specs.Prelude.{◌≡◌, ℕ, ℤ, ◌+◌, ◌-◌, [], ◌<◌, ◌^◌, ◌∷◌, ◌++◌, Some, None, IfOk, IfErr, OnOk, OnErr, IfNone, IfSome, length, is_none, is_some, ◌↔◌, ◌≤◌, Ok, Err, find, ◌==◌, true, option_map, option_copied};
 ghost use Rattle.pgq_tables.specs.Tables.{new_tables, with_stored, with_pending, with_second_step};
 ghost use Rattle.sky_model.specs.Config.{default_config, param_of};
 ghost use Rattle.pgq_tick.specs.Config.{set_to};
@@ -221,7 +221,7 @@ impl Queue {
 
     /// Takes the last event of a trigger back, and its id.
     pub(crate) fn take_back(&mut self)
-        requires { 0 < self.old.seq }
+        requires { (now : ℤ) × (t : ℕ) × (e : RowEvent) × (q : QueueView) × (self.old ≡ telling now t e q) }
         ensures { (now : ℤ) (t : ℕ) (e : RowEvent) (q : QueueView) → self.old ≡ telling now t e q → self.new ≡ q }
     {
         self.tables.take_back();

@@ -79,8 +79,8 @@ impl Queues {
         ensures { (part : RowPart) → result ≡ length (lack_second_step (seen_with part self.now)) }
     {
         let mut count = 0;
-        for place in 0..self.names.len() {
-            if self.slots.get(*self.names.get(place)).lacks_second_step() {
+        for place in 0..self.count() {
+            if self.queue(self.number_at(place)).lacks_second_step() {
                 count += 1;
             }
         }

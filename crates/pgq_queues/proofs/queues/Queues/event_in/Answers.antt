@@ -1,7 +1,11 @@
-use Rattle.std.proofs.Common.{ap}
+use Rattle.std.proofs.Common.{IfOk, subst}
+use Rattle.std.specs.Prelude.{IfSome}
 use Rattle.pgq_queues.specs.Views.{QueuesView}
-use Rattle.pgq_queues.proofs.FirstById.{finds-at}
+use Rattle.pgq_queues.specs.Retried.{RetriedAtMost}
+use Rattle.pgq_queues.proofs.Waiting.{stored-here}
 use Rattle.pgq_queues.proofs.queues.Queues.event_in.Goals as goal
 
-pub returns-clause-found : goal.returns-clause-found
-returns-clause-found c = λ part. finds-at c.args.self.now _ _ c.args.batch.now c.args.id c.find.result (ap QueuesView.undone c.self.view_is) c.queue.ensures c.find.ensures.found part
+pub returns-clause-rounds : goal.returns-clause-rounds
+returns-clause-rounds c =
+    subst (λ (v : QueuesView). IfOk c.find.result (λ found. IfSome found (λ e. RetriedAtMost v.rounds e))) c.self.view_is
+    (c.find.ensures.rounds c.self.inside.rounds (stored-here c.self.inside.slots c.args.span.queue c.get_mut.result.now c.self.inside.retries c.get_mut.ensures.within c.get_mut.ensures.value c.self.invariant.0.1))

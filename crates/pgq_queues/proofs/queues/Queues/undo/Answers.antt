@@ -1,5 +1,9 @@
-use Rattle.pgq_queues.proofs.Marked.{undone-as}
+use Rattle.pgq_queues.proofs.TracedLists.{within-still}
+use Rattle.pgq_queues.proofs.RotatedQueues.{undone-stand, undone-retried}
 use Rattle.pgq_queues.proofs.queues.Queues.undo.Goals as goal
 
-pub returns-clause-noted : goal.returns-clause-noted
-returns-clause-noted c = undone-as _ _ c.insert.new.self.keys c.args.txid c.self.view_is c.in_ok-insert.ensures.updates.0
+pub invariant_of-self : goal.invariant_of-self
+invariant_of-self c = (
+  (c.self.invariant.0.0, undone-retried c.self.inside.slots c.undo.new.self c.args.txid c.self.inside.retries c.undo.ensures c.self.invariant.0.1),
+  within-still c.self.inside.names c.self.inside.slots c.undo.new.self c.self.inside.batches.entries c.self.inside.triggers.items c.self.inside.traced.entries (undone-stand c.self.inside.slots c.undo.new.self c.args.txid c.undo.ensures) c.self.invariant.1,
+)
