@@ -234,4 +234,4 @@ waits-stay d (_ ∷ marks) all = absurd all
 
 pub daemon-waits : (d : Database) (part : DaemonPart) (now : ℤ) → (after_marks d (daemon_does database_by_itself d part now).marks).part.waiting ≡ d.part.waiting
 daemon-waits d part now =
-    waits-stay d (daemon_does database_by_itself d part now).marks (each-daemon_does leaves_waits (λ mark. refl) (λ t. refl) (λ t. refl) database_by_itself d part now)
+    waits-stay d (daemon_does database_by_itself d part now).marks (each-daemon_does leaves_waits now (λ mark _. refl) (λ r. refl) (λ t. refl) (λ t. refl) database_by_itself d part)

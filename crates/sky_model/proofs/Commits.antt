@@ -1,23 +1,17 @@
 -- `commit` makes the switches of event tables that its transaction has pending; no other statement on rows makes any.
-use Rattle.std.proofs.Common.{◌≡◌, ℕ, ◌+◌, ◌<◌, ℤ, List, [], ◌∷◌, ◌++◌, Bool, true, false, not, ◌==◌, ◌||◌, Option, Some, None, option_map, unwrap_or, Ok, Err, All, get_or, filter, refl, sym, ◌∙◌, ap, subst, arith, if◌then◌else◌}
+use Rattle.std.proofs.Common.{◌≡◌, ℕ, ℤ, List, [], ◌∷◌, ◌++◌, true, false, not, ◌==◌, ◌||◌, Option, Some, None, option_map, unwrap_or, All, get_or, refl, sym, ap, subst, arith, if◌then◌else◌}
 use Rattle.std.specs.List.{list_any}
 use Rattle.std.proofs.lemmas.Bool.Decides.{nat_tests}
 use Rattle.std.proofs.lemmas.Bool.{eq-eqb, or_right}
 use Rattle.std.proofs.lemmas.List.Elements.{All-nil, All-cons, All-head, All-tail, All-push, All-weaker}
-use Rattle.sky_model.specs.declared.stmt.RowStmt.{RowStmt}
-use Rattle.sky_model.specs.declared.stmt.RowStmt.TheVariants.{OpenDb, Close, Cancel, Begin, BeginRepeatableRead, Commit, Rollback, TxidCurrent, TxidCurrentSnapshot, TxidVisibleInSnapshot, CreateTable, Insert, Update, Delete, Get, Scan}
-use Rattle.sky_model.specs.declared.reply.Reply.{Reply}
 use Rattle.pgq_tables.specs.Tables as tables_of
-use Rattle.sky_model.specs.History.{Mark, QueueMark, queued, made, switched, dropped, History}
+use Rattle.sky_model.specs.History.{Mark, queued, made, switched, dropped, History}
 use Rattle.sky_model.specs.Queues.{NamedQueue, queues_made, queues, others_than, tables, is_pending}
-use Rattle.sky_model.specs.Sessions.{Block}
 use Rattle.sky_model.specs.State.{Database, database_of}
-use Rattle.sky_model.specs.Outcome.{Outcome, Checked, after_marks_of}
-use Rattle.sky_model.specs.StepRotation.{switches_by, switches_of, committed_by}
-use Rattle.sky_model.specs.Calls.{switches_first}
-use Rattle.sky_model.proofs.Legal.{IsAmong, IsQueue, makes_switch, Chain, done, more, Legal, next}
+use Rattle.sky_model.specs.StepRotation.{switches_by, switches_of}
+use Rattle.sky_model.proofs.Legal.{IsAmong, IsQueue, makes_switch, Chain, more, Legal, next}
 use Rattle.sky_model.proofs.QueueNumbers.{queue-below}
-use Rattle.sky_model.proofs.Cases.{by_test, by_same}
+use Rattle.sky_model.proofs.Cases.{by_test}
 
 -- ---- they may come
 
@@ -28,9 +22,10 @@ Apart (q ∷ queues) = All (λ r. (q.number == r.number) ≡ false) queues × Ap
 
 apart-push : (queues : List NamedQueue) (last : NamedQueue) → Apart queues → All (λ q. (q.number == last.number) ≡ false) queues → Apart (queues ++ last ∷ [])
 apart-push [] last apart other = (All-nil (λ r. (last.number == r.number) ≡ false), tt)
-apart-push (q ∷ queues) last apart other =
-    (All-push (λ r. (q.number == r.number) ≡ false) queues last apart.0 (All-head (λ q. (q.number == last.number) ≡ false) q queues other),
-    apart-push queues last apart.1 (All-tail (λ q. (q.number == last.number) ≡ false) q queues other))
+apart-push (q ∷ queues) last apart other = (
+  All-push (λ r. (q.number == r.number) ≡ false) queues last apart.0 (All-head (λ q. (q.number == last.number) ≡ false) q queues other),
+  apart-push queues last apart.1 (All-tail (λ q. (q.number == last.number) ≡ false) q queues other),
+)
 
 all-others : (P : NamedQueue → Type 0) (p : ℕ) (queues : List NamedQueue) → All P queues → All P (others_than p queues)
 all-others P p [] all = all

@@ -18,7 +18,7 @@ use Rattle.sky_model.specs.StepRotation.{held_back, rotates_alone, rotates_by_it
 use Rattle.sky_model.specs.Reader.{DatabaseReader, database_by_history, within_part}
 use Rattle.sky_model.specs.Settling.{Turn, behind_marks, marked, joined, and_then, ready}
 use Rattle.sky_model.specs.Daemon.{quietly, ticks_of, daemon_does, moved_by, again_if, retries_of, first_steps_of, second_step_of_all}
-use Rattle.sky_model.proofs.StatementMarks.{EachMark, each-append, each-given, AnyReply, gives-tick, each-front, each-second_steps}
+use Rattle.sky_model.proofs.StatementMarks.{EachMark, each-append, each-given, AnyReply, gives-tick, is_no_return, each-front, each-second_steps}
 
 module _ {P Q : Type 0} (r : DatabaseReader P) (s : DatabaseReader Q) (at : P → Q) (same : (p : P) → r.database p ≡ s.database (at p)) (behind : (p : P) (mark : Mark) → at (r.behind p mark) ≡ s.behind (at p) mark) where
   -- a place after marks is read as the other one after them
@@ -71,59 +71,60 @@ module _ {P Q : Type 0} (r : DatabaseReader P) (s : DatabaseReader Q) (at : P �
       ∙ ap (λ (d : Database). and_then (within_part s now) (at p) (first_steps_of s now d.queues (at p)) (second_step_of_all s)) (same p)
 
 -- each mark of it is one of queues, or of a worker's transaction, which commits
-module _ (p : Mark → Bool) (of_queues : (mark : QueueMark) → p (queued mark) ≡ true) (begins : (t : ℕ) → p (began of_worker t) ≡ true) (ends : (t : ℕ) → p (ended of_worker t true) ≡ true) where
-  each-ticks : {P : Type 0} (r : DatabaseReader P) (now : ℤ) (queues : List NamedQueue) (x : P) → EachMark p (ticks_of r now queues x).marks
-  each-ticks r now [] x = tt
-  each-ticks r now (q ∷ queues) x =
+module _ (p : Mark → Bool) (now : ℤ) (of_queues : (mark : QueueMark) → is_no_return mark ≡ true → p (queued mark) ≡ true) (returns : (retry : retry.Retry) → p (queued (returned retry now)) ≡ true)
+    (begins : (t : ℕ) → p (began of_worker t) ≡ true) (ends : (t : ℕ) → p (ended of_worker t true) ≡ true) where
+  each-ticks : {P : Type 0} (r : DatabaseReader P) (queues : List NamedQueue) (x : P) → EachMark p (ticks_of r now queues x).marks
+  each-ticks r [] x = tt
+  each-ticks r (q ∷ queues) x =
       let marks : List Mark = (quietly (next_tick (r.database x) now q.number)).marks in
-      each-append p marks _ (each-given AnyReply p _ (gives-tick p of_queues (r.database x) now q.number)) (each-ticks r now queues (behind_marks (within_part r now) x marks))
+      each-append p marks _ (each-given AnyReply p _ (gives-tick p of_queues (r.database x) now q.number)) (each-ticks r queues (behind_marks (within_part r now) x marks))
 
-  each-back : (now : ℤ) (t : ℕ) (rs : List retry.Retry) → EachMark p (back now t rs)
-  each-back now t [] = tt
-  each-back now t (r ∷ rs) =
-      each-front p (queued (put r.queue (brought_by t r.event))) (queued (returned r now) ∷ back now t rs) (of_queues (put r.queue (brought_by t r.event)))
-      (each-front p (queued (returned r now)) (back now t rs) (of_queues (returned r now)) (each-back now t rs))
+  each-back : (t : ℕ) (rs : List retry.Retry) → EachMark p (back now t rs)
+  each-back t [] = tt
+  each-back t (r ∷ rs) =
+      each-front p (queued (put r.queue (brought_by t r.event))) (queued (returned r now) ∷ back now t rs) (of_queues (put r.queue (brought_by t r.event)) refl)
+      (each-front p (queued (returned r now)) (back now t rs) (returns r) (each-back t rs))
 
-  each-brings : (d : Database) (now : ℤ) (rs : List retry.Retry) → EachMark p (marks_of (brings d now rs))
-  each-brings d now [] = tt
-  each-brings d now (r ∷ rs) = of (next_id d.part)
+  pub each-brings : (d : Database) (rs : List retry.Retry) → EachMark p (marks_of (brings d now rs))
+  each-brings d [] = tt
+  each-brings d (r ∷ rs) = of (next_id d.part)
     where
       of : (c : Checked ℕ) → EachMark p (marks_of (c >>= (λ t. does_marks (Number (length (r ∷ rs))) (began of_worker t ∷ back now t (r ∷ rs) ++ ended of_worker t true ∷ []))))
       of (Ok t) =
           each-front p (began of_worker t) (back now t (r ∷ rs) ++ ended of_worker t true ∷ []) (begins t)
-          (each-append p (back now t (r ∷ rs)) (ended of_worker t true ∷ []) (each-back now t (r ∷ rs)) (each-front p (ended of_worker t true) [] (ends t) tt))
+          (each-append p (back now t (r ∷ rs)) (ended of_worker t true ∷ []) (each-back t (r ∷ rs)) (each-front p (ended of_worker t true) [] (ends t) tt))
       of (Err refusal) = tt
 
   each-again : {P : Type 0} (rest : P → Turn) → ((x : P) → EachMark p (rest x).marks) → (b : Bool) (x : P) → EachMark p (again_if b rest x).marks
   each-again rest each true x = each x
   each-again rest each false x = tt
 
-  each-retries : {P : Type 0} (r : DatabaseReader P) (now : ℤ) (n : ℕ) (x : P) → EachMark p (retries_of r now n x).marks
-  each-retries r now zero x = tt
-  each-retries r now (suc n) x =
+  each-retries : {P : Type 0} (r : DatabaseReader P) (n : ℕ) (x : P) → EachMark p (retries_of r now n x).marks
+  each-retries r zero x = tt
+  each-retries r (suc n) x =
       let c : Checked Outcome = maint_retry_events (r.database x) now in
-      each-append p (marks_of c) _ (each-brings (r.database x) now (due_now now most_back (r.database x).retries))
-      (each-again (retries_of r now n) (each-retries r now n) (nat_le most_back (moved_by (reply_of c))) (behind_marks (within_part r now) x (marks_of c)))
+      each-append p (marks_of c) _ (each-brings (r.database x) (due_now now most_back (r.database x).retries))
+      (each-again (retries_of r now n) (each-retries r n) (nat_le most_back (moved_by (reply_of c))) (behind_marks (within_part r now) x (marks_of c)))
 
-  each-rotates : (d : Database) (now : ℤ) (q : ℕ) (why : Option HeldBack) → EachMark p (marks_of (rotates_alone d now q why))
-  each-rotates d now q (Some why) = tt
-  each-rotates d now q None = of (next_id d.part)
+  each-rotates : (d : Database) (q : ℕ) (why : Option HeldBack) → EachMark p (marks_of (rotates_alone d now q why))
+  each-rotates d q (Some why) = tt
+  each-rotates d q None = of (next_id d.part)
     where
       of : (c : Checked ℕ)
           → EachMark p (marks_of (c >>= (λ t. does_marks (Number 1) (began of_worker t ∷ queued (switching q t) ∷ queued (switched q now) ∷ ended of_worker t true ∷ []))))
       of (Ok t) =
           each-front p (began of_worker t) (queued (switching q t) ∷ queued (switched q now) ∷ ended of_worker t true ∷ []) (begins t)
-          (each-front p (queued (switching q t)) (queued (switched q now) ∷ ended of_worker t true ∷ []) (of_queues (switching q t))
-          (each-front p (queued (switched q now)) (ended of_worker t true ∷ []) (of_queues (switched q now)) (each-front p (ended of_worker t true) [] (ends t) tt)))
+          (each-front p (queued (switching q t)) (queued (switched q now) ∷ ended of_worker t true ∷ []) (of_queues (switching q t) refl)
+          (each-front p (queued (switched q now)) (ended of_worker t true ∷ []) (of_queues (switched q now) refl) (each-front p (ended of_worker t true) [] (ends t) tt)))
       of (Err refusal) = tt
 
-  each-first_steps : {P : Type 0} (r : DatabaseReader P) (now : ℤ) (queues : List NamedQueue) (x : P) → EachMark p (first_steps_of r now queues x).marks
-  each-first_steps r now [] x = tt
-  each-first_steps r now (q ∷ queues) x =
+  each-first_steps : {P : Type 0} (r : DatabaseReader P) (queues : List NamedQueue) (x : P) → EachMark p (first_steps_of r now queues x).marks
+  each-first_steps r [] x = tt
+  each-first_steps r (q ∷ queues) x =
       let marks : List Mark = (quietly (rotates_by_itself (r.database x) now q.number)).marks in
-      each-append p marks _ (each-rotates (r.database x) now q.number (held_back now ((r.database x).queue q.number))) (each-first_steps r now queues (behind_marks (within_part r now) x marks))
+      each-append p marks _ (each-rotates (r.database x) q.number (held_back now ((r.database x).queue q.number))) (each-first_steps r queues (behind_marks (within_part r now) x marks))
 
-  each-ends_switches : (d : Database) (queues : List NamedQueue) → EachMark p (marks_of (ends_switches d queues))
+  pub each-ends_switches : (d : Database) (queues : List NamedQueue) → EachMark p (marks_of (ends_switches d queues))
   each-ends_switches d [] = tt
   each-ends_switches d (q ∷ queues) = of (next_id d.part)
     where
@@ -133,13 +134,13 @@ module _ (p : Mark → Bool) (of_queues : (mark : QueueMark) → p (queued mark)
           (each-append p (second_steps t (q ∷ queues)) (ended of_worker t true ∷ []) (each-second_steps p of_queues t (q ∷ queues)) (each-front p (ended of_worker t true) [] (ends t) tt))
       of (Err refusal) = tt
 
-  pub each-daemon_does : {P : Type 0} (r : DatabaseReader P) (x : P) (part : DaemonPart) (now : ℤ) → EachMark p (daemon_does r x part now).marks
-  each-daemon_does r x Tick now = each-ticks r now (r.database x).queues x
-  each-daemon_does r x Retry now = each-retries r now (length (r.database x).retries) x
-  each-daemon_does r x Maintain now =
+  pub each-daemon_does : {P : Type 0} (r : DatabaseReader P) (x : P) (part : DaemonPart) → EachMark p (daemon_does r x part now).marks
+  each-daemon_does r x Tick = each-ticks r (r.database x).queues x
+  each-daemon_does r x Retry = each-retries r (length (r.database x).retries) x
+  each-daemon_does r x Maintain =
       let first : List Mark = (first_steps_of r now (r.database x).queues x).marks in
       let d : Database = r.database (behind_marks (within_part r now) x first) in
-      each-append p first _ (each-first_steps r now (r.database x).queues x) (each-ends_switches d (lack_second_step d))
+      each-append p first _ (each-first_steps r (r.database x).queues x) (each-ends_switches d (lack_second_step d))
 
 abbrev is_without_session : Mark → Bool
 is_without_session (queued mark) = true
@@ -157,4 +158,4 @@ ready-still h (_ ∷ marks) all = absurd all
 -- so a statement that waits isn't ready by it
 pub daemon-ready : (h : History) (part : DaemonPart) (now : ℤ) → ready (part_of (marked h (daemon_does database_by_history h part now).marks)) ≡ ready (part_of h)
 daemon-ready h part now =
-    ready-still h (daemon_does database_by_history h part now).marks (each-daemon_does is_without_session (λ mark. refl) (λ t. refl) (λ t. refl) database_by_history h part now)
+    ready-still h (daemon_does database_by_history h part now).marks (each-daemon_does is_without_session now (λ mark _. refl) (λ r. refl) (λ t. refl) (λ t. refl) database_by_history h part)

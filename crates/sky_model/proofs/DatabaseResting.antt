@@ -10,8 +10,8 @@ use Rattle.sky_model.proofs.Resting.{is_quiet, KeepsPart}
 
 -- a database keeps its row part by itself
 pub database-keeps : (now : ℤ) → KeepsPart (within_part database_by_itself now)
-database-keeps now = record { part = part-behind; quiet = λ d c quiet. gives-tells is_quiet (λ mark. refl) ReplyHasMoments d now c quiet }
+database-keeps now = record { part = part-behind; quiet = λ d c quiet. gives-tells is_quiet (λ mark _. refl) ReplyHasMoments d now c quiet }
 
 -- and a history does
 pub history-keeps : (now : ℤ) → KeepsPart (within_part database_by_history now)
-history-keeps now = record { part = part_of-mark; quiet = λ h c quiet. gives-tells is_quiet (λ mark. refl) ReplyHasMoments (database_of h) now c quiet }
+history-keeps now = record { part = part_of-mark; quiet = λ h c quiet. gives-tells is_quiet (λ mark _. refl) ReplyHasMoments (database_of h) now c quiet }

@@ -1,9 +1,7 @@
 -- Whatever is called, the history of each database is one that its own calls make; and those are legal.
-use Rattle.std.proofs.Common.{zero, suc, ◌≡◌, All, ℕ, ℤ, List, [], ◌∷◌, ◌++◌, Bool, true, false, nat_le, ◌+◌, ◌^◌, ◌||◌, ◌==◌, arith, Option, Some, None, Ok, Err, map, length, refl, sym, ◌∙◌, ap, subst, if◌then◌else◌}
+use Rattle.std.proofs.Common.{zero, suc, ◌≡◌, All, ℕ, ℤ, List, [], ◌∷◌, ◌++◌, Bool, true, false, nat_le, ◌+◌, ◌^◌, arith, Option, Some, None, Ok, Err, map, length, refl, sym, ◌∙◌, ap, subst, if◌then◌else◌}
 use Rattle.sky_model.specs.StepRetry.{most_back, maint_retry_events}
 use Rattle.sky_model.specs.Retries.{retries}
-use Rattle.std.specs.List.{list_any}
-use Rattle.std.proofs.lemmas.Bool.{eq-eqb, or_right}
 use Rattle.std.proofs.lemmas.List.Elements.{All-nil, All-cons, All-head, All-tail, All-weaker}
 use Rattle.sky_model.specs.declared.stmt.Stmt.{Stmt}
 use Rattle.sky_model.specs.InForm.{IsInForm}
@@ -32,7 +30,7 @@ use Rattle.sky_model.specs.Daemon.{quietly, ticks_of, daemon_does, retries_of, m
 use Rattle.sky_model.proofs.Rotation.{newest-kept}
 use Rattle.sky_model.proofs.Commits.{all-among}
 use Rattle.sky_model.proofs.Rotating.{may_rotate, rotates-stay, may_end_switches}
-use Rattle.sky_model.specs.StepRotation.{held_back, rotates_by_itself, maint_rotate_step2}
+use Rattle.sky_model.specs.StepRotation.{held_back, rotates_by_itself}
 use Rattle.sky_model.proofs.DaemonTurns.{same-daemon_does}
 use Rattle.sky_model.proofs.ClockSteps.{after-clock}
 use Rattle.sky_model.specs.Calls.{database_turn, opening, opens, outside_does, beside, session_does, turn, Call, called, past_of}

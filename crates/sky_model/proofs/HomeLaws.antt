@@ -262,7 +262,7 @@ homed-session past all homed who stmt (Some d) is =
 homed-works : (past : Past) (d : ℕ) (part : DaemonPart) (now : ℤ) → Homed past → Homed (on_top past (map (within d) (daemon_does (within_database by_past d) past part now).marks))
 homed-works past d part now homed v e =
     let marks : List Mark = (daemon_does (within_database by_past d) past part now).marks in
-    let stay : Stay marks = each-daemon_does is_staying (λ mark. refl) (λ t. refl) (λ t. refl) (within_database by_past d) past part now in
+    let stay : Stay marks = each-daemon_does is_staying now (λ mark _. refl) (λ r. refl) (λ t. refl) (λ t. refl) (within_database by_past d) past part in
     ap (has_open v) (history-marks past d marks e)
     ∙ by_same (λ c. has_open v (if c then marked (history_in past e) marks else history_in past e) ≡ stands (home past v) e) d e
     (λ _. open-stays v (history_in past e) marks stay ∙ homed v e) (λ _. homed v e)

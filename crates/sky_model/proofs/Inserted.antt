@@ -1,5 +1,5 @@
 -- Marks with marks of events among them: what they leave of a database besides its queues.
-use Rattle.std.proofs.Common.{◌≡◌, ℕ, ◌+◌, Bool, false, List, [], ◌∷◌, ◌++◌, Option, Some, None, refl, ◌||◌, ◌==◌, true}
+use Rattle.std.proofs.Common.{◌≡◌, ℕ, ◌+◌, false, List, [], ◌∷◌, ◌++◌, Option, Some, None, refl, true}
 use Rattle.sky_val.specs.declared.event.Event.{Event}
 use Rattle.pgq_retry.specs.declared.retry.Retry.{Retry}
 use Rattle.pgq_retry.specs.Retries.{without as without_retry, without_sub}

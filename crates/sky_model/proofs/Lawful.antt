@@ -16,14 +16,14 @@ use Rattle.sky_model.specs.Batches.{batch_events}
 use Rattle.sky_model.specs.Retries.{retries}
 use Rattle.sky_model.specs.StepRetry.{retry_of, brings, most_back, maint_retry_events, back}
 use Rattle.sky_names.specs.Places.{place_of}
-use Rattle.sky_model.specs.History.{Batch, Mark, of_session, of_worker, began, ended, looked, tabled, waited, queued, made, raised, put, ticked, moved, unregistered, opened, closed, History}
+use Rattle.sky_model.specs.History.{Batch, Mark, of_session, of_worker, began, ended, looked, tabled, waited, queued, made, raised, put, moved, unregistered, opened, closed, History}
 use Rattle.sky_model.specs.Transactions.{next_txid, running, workers}
 use Rattle.sky_model.specs.Sessions.{Block, outside, inside, failed, has_open, block, own_txid, session}
 use Rattle.sky_model.specs.Rows.{table_names, columns_of}
 use Rattle.sky_model.specs.Triggers.{triggers, triggers_of}
 use Rattle.sky_model.specs.StepTrigger.{has_trigger, may_ignore}
 use Rattle.sky_model.specs.Config.{param_of, configured_by}
-use Rattle.sky_model.specs.Queues.{queues_made, queues, queue_number, config, Tick, ticks, kept_ticks, tick, newest_tick, sequence, events, tables}
+use Rattle.sky_model.specs.Queues.{queues, queue_number, config, Tick, ticks, kept_ticks, tick, newest_tick, sequence, events, tables}
 use Rattle.sky_model.specs.Consumers.{consumers, subscription_id, position, active, Subscription, subscription, active_batch}
 use Rattle.sky_model.specs.Locks.{waiting}
 use Rattle.sky_model.specs.State.{RowPart, part_of, queue_of, database_of}
@@ -41,14 +41,13 @@ use Rattle.sky_model.specs.Gates.{Gate, takes_all, gated, by_gate}
 use Rattle.sky_model.specs.Made.{takes_sight, looking, runs_if}
 use Rattle.sky_model.specs.Settling.{Turn, turn_of, behind_marks, and_then, ready, attempted, resumed, goes_on, settles, settling, with_settling}
 use Rattle.sky_model.specs.Calls.{row_form, form, row_making, making, row_statement, row_turn, statement, database_turn, turn}
-use Rattle.sky_model.proofs.Legal.{MayWait, IsAmong, IsQueue, begins, ends, looks, begins_work, ends_work, ends_waiting, makes, asks, raises, puts, ticks_next, registers, opens as opens_fine, closes, moves, unregisters, configures, drops, traces, Chain, done, more, Legal, next}
+use Rattle.sky_model.proofs.Legal.{MayWait, IsQueue, begins, ends, looks, begins_work, ends_work, ends_waiting, makes, asks, raises, puts, ticks_next, registers, opens as opens_fine, closes, moves, unregisters, configures, drops, traces, Chain, done, more, Legal, next}
 use Rattle.sky_model.proofs.Good.{MayStand, Good, same-session, good_test, good_test_then, good_found, good_if, good_refused, good_refused_by, good_commits}
 use Rattle.sky_model.proofs.RowOutcomes.{OfRows, attempts-rows, form-rows}
 use Rattle.sky_model.proofs.LawfulTelling.{good_append, legal_behind, good_tells}
 use Rattle.sky_model.proofs.WaitersFit.{may_go_on}
 use Rattle.sky_model.proofs.LawfulRows.{no-one, nothing, good_leaves, good_attempts, good_row_form}
-use Rattle.sky_model.proofs.QueueNumbers.{among-number, among-last}
-use Rattle.sky_model.proofs.Ticks.{ticks_beyond}
+use Rattle.sky_model.proofs.QueueNumbers.{among-number}
 use Rattle.sky_model.proofs.Rotation.{newest-kept, kept-made, floor-newest}
 use Rattle.sky_model.proofs.Commits.{good_switches}
 use Rattle.sky_model.proofs.Rotating.{good_rotates, may_end_switches}
@@ -56,8 +55,8 @@ use Rattle.sky_model.specs.StepRotation.{held_back, maint_rotate_step2, switches
 use Rattle.sky_model.specs.StepSession.{commit, leaves as leaves_block}
 use Rattle.sky_model.specs.Telling.{tells}
 use Rattle.sky_model.proofs.StatementMarks.{by_commit, none-first}
-use Rattle.sky_model.proofs.ActiveBatches.{of_another-is, active_batches}
-use Rattle.sky_model.proofs.RetriesBack.{AreBack, due-back, good_back, listed_is_stored}
+use Rattle.sky_model.proofs.ActiveBatches.{IsActive, of_another-is, active_batches}
+use Rattle.sky_model.proofs.RetriesBack.{AreBack, due-back, good_back, listed_is_stored, found_is_listed}
 use Rattle.sky_model.proofs.Snapshots.{contains-push}
 use Rattle.sky_model.proofs.Unneeded.{no-member, none-into, none-put}
 use Rattle.sky_model.proofs.Selecting.{events_below-next}
@@ -262,10 +261,20 @@ good_form h l now who (EventRetry id event seconds) may =
     good_found h who (active_batch id h) NoBatch _ (λ b active.
     good_found h who (find (λ e. e.ev_id == event) es) NoEvent _ (λ e found.
     good_if h who (is_asked b.sub e.ev_id (retries h)) _ _ done (λ fresh.
+    let a : IsActive h id b = active_batches h l id b active in
+    let is : find (λ e. e.ev_id == event) (batch_events h b) ≡ Some e =
+    subst (λ xs. find (λ e. e.ev_id == event) xs ≡ Some e) (sym (ap (λ o. unwrap_or o []) (ap (option_map (batch_events h)) (sym active) ∙ listed))) found in
     more (asks b.consumer e (retry_of now seconds b e) (record {
-      registered = (active_batches h l id b active).owned;
-      stored = listed_is_stored h b e event (subst (λ xs. find (λ e. e.ev_id == event) xs ≡ Some e) (sym (ap (λ o. unwrap_or o []) (ap (option_map (batch_events h)) (sym active) ∙ listed))) found);
+      registered = a.owned;
+      stored = listed_is_stored h b e event is;
       copied = refl;
+      listed = record {
+        batch = b;
+        active = subst (λ i. active_batch i h ≡ Some b) (sym a.named) active;
+        of_queue = refl;
+        of_subscription = refl;
+        listed = found_is_listed (batch_events h b) (λ e. e.ev_id == event) e is;
+      };
       fresh = fresh;
     })) done))))
 good_form h l now who MaintRetryEvents may = good_maint h l now who

@@ -22,7 +22,6 @@ use Rattle.sky_model.specs.Sessions.{has_open, outside, inside, block, own_txid}
 use Rattle.sky_model.specs.Rows.{table_names}
 use Rattle.sky_model.specs.Locks.{holder, waiting}
 use Rattle.sky_model.specs.Triggers.{triggers, triggers_of}
-use Rattle.pgq_tables.specs.Tables.{Tables}
 use Rattle.sky_model.specs.Queues.{NamedQueue, queues, queue_number, sequence, events, tables, Tick, ticks, tick, newest_tick}
 use Rattle.sky_model.specs.Consumers.{subscription_id, subscription, last_subscription, last_batch, active_batch}
 use Rattle.sky_model.specs.Retries.{retries, retried, brought_by}
@@ -35,6 +34,7 @@ use Rattle.sky_model.specs.ShownRows.{rows_by}
 use Rattle.sky_model.specs.StepRows.{column_called, bad_set, is_key_change}
 use Rattle.sky_model.specs.StepTrigger.{has_trigger}
 use Rattle.sky_model.specs.LawsOfWrites.{IsRowOf}
+use Rattle.sky_model.specs.LawsOfRetries.{ListsEvent}
 
 -- a queue of this number is among them
 abbrev pub IsAmong : ℕ → List NamedQueue → Type 0
@@ -80,11 +80,13 @@ pub record MayWait (d : RowPart) (who table : ℕ) (key : List Val) (attempt : A
   pub quiet : is_waiting who d.waiting ≡ false
   pub is_open : (d.session who).is_open ≡ true
 
--- an event that was put into a queue is to be retried for a subscription of this queue, for which none with its id waits
+-- an event that was put into a queue, and that an active batch of a subscription of this queue lists, is to be retried for this subscription, for
+-- which none with its id waits
 pub record Asks (h : History) (consumer : List ℕ) (source : Event) (retry : Retry) : Type 0 where
   pub registered : subscription_id retry.queue consumer h ≡ Some retry.sub
   pub stored : Contains (events retry.queue h) source
   pub copied : retry.event ≡ retried retry.sub source
+  pub listed : ListsEvent h retry source
   pub fresh : is_asked retry.sub retry.event.ev_id (retries h) ≡ false
 
 -- a retry that waits comes back into its queue, which stands, in a worker's transaction; its event has an id that was given there

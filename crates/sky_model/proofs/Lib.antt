@@ -6,6 +6,7 @@ mod WorkedClock
 mod WorkedDrops
 mod WorkedConsumers
 mod WorkedRetries
+mod WorkedRotations
 mod WorkedOpening
 mod WorkedRows
 mod WorkedBatches
@@ -88,6 +89,11 @@ pub mod WriteOrder
 pub mod Subscriptions
 pub mod RetryCopies
 pub mod RetryLaws
+pub mod RetryMoments
+pub mod RetriesListed
+pub mod ListedOnce
+pub mod BusyQueues
+mod WorkersRest
 pub mod RetryRounds
 pub mod RetriesBack
 pub mod EventIds

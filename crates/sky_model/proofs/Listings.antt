@@ -22,14 +22,14 @@ use Rattle.sky_model.proofs.ActiveBatches.{IsActive, active_batches}
 use Rattle.sky_model.proofs.Cases.{by_same}
 
 -- a tick that is made stays
-made_since : (q id : ℕ) (later : List Mark) (p : History) → is_made q id p ≡ true → is_made q id (later ++ p) ≡ true
+pub made_since : (q id : ℕ) (later : List Mark) (p : History) → is_made q id p ≡ true → is_made q id (later ++ p) ≡ true
 made_since q id [] p made = made
 made_since q id (queued (of_queue.made name t time) ∷ later) p made = or_right (queues_made (later ++ p) == q && 1 == id) (is_made q id (later ++ p)) (made_since q id later p made)
 made_since q id (queued (ticked r m time seq) ∷ later) p made = or_right (r == q && m == id) (is_made q id (later ++ p)) (made_since q id later p made)
 made_since q id (_ ∷ later) p made = made_since q id later p made
 
 -- a transaction that hasn't ended hadn't committed at a tick
-unended-uncommitted : (h : History) → Legal h → (t : ℕ) → has_ended h t ≡ false → (q id : ℕ) → has_committed (at_tick q id h) t ≡ false
+pub unended-uncommitted : (h : History) → Legal h → (t : ℕ) → has_ended h t ≡ false → (q id : ℕ) → has_committed (at_tick q id h) t ≡ false
 unended-uncommitted h l t unended q id = false_from_ne_true (has_committed (at_tick q id h) t) (λ was.
     cc (sym (committed_since h q id t was) ∙ has_committed-ended h l t ∙ ap (λ e. e && not (has_rolled_back h t)) unended))
 
@@ -46,7 +46,7 @@ same_put h l q e unended b =
         (unended-uncommitted h l e.ev_txid unended b.queue b.cur)
 
 -- a new tick has another id than the ticks up to one that is made
-new_tick : (h : History) → Legal h → (q made id new : ℕ) → is_made q made h ≡ true → id ≤ made → id_of (newest_tick (ticks q h)) < new → (new == id) ≡ false
+pub new_tick : (h : History) → Legal h → (q made id new : ℕ) → is_made q made h ≡ true → id ≤ made → id_of (newest_tick (ticks q h)) < new → (new == id) ≡ false
 new_tick h l q made id new there le above = false_from_ne_true (new == id) (λ test.
     let same : new ≡ id = eqb-true new id test in cc (sym there ∙ unmade_above h l q made (omega arith)))
 

@@ -1,5 +1,5 @@
 -- What a database and the world show changes by marks and facts alone.
-use Rattle.std.proofs.Common.{◌≡◌, ℕ, ◌+◌, List, [], ◌∷◌, ◌++◌, Bool, true, false, not, ◌&&◌, ◌||◌, ◌==◌, filter, Option, Some, None, refl, ◌∙◌, ap, bytes_eq, option_map, if◌then◌else◌}
+use Rattle.std.proofs.Common.{◌≡◌, ℕ, ◌+◌, List, [], ◌∷◌, ◌++◌, Bool, true, false, not, ◌&&◌, ◌==◌, filter, Option, Some, None, refl, ◌∙◌, ap, bytes_eq, option_map, if◌then◌else◌}
 use Rattle.sky_keys.specs.Waits.{released}
 use Rattle.sky_keys.specs.Versions.{forgotten}
 use Rattle.pgq_retry.specs.Retries.{without_sub}
@@ -9,7 +9,7 @@ use Rattle.pgq_tables.specs.Tables as tables_of
 use Rattle.pgq_tables.specs.Tables.{new_tables, with_stored, with_pending, with_second_step, no_tables}
 use Rattle.sky_model.specs.Queues.{new_tick, queues_made, queues, others_than, without_transaction, ticks_above, second_step_of}
 use Rattle.sky_model.specs.Consumers.{all_but, Subscription, subscription_id, position, active, of_another}
-use Rattle.sky_model.specs.Transactions.{next_txid, running, has_rolled_back, snapshot}
+use Rattle.sky_model.specs.Transactions.{next_txid, running, snapshot}
 use Rattle.sky_model.specs.Sessions.{outside, inside, failed, at_each, at_first, at_place, sight, sight_by, session}
 use Rattle.sky_model.specs.Versions.{versions}
 use Rattle.sky_model.specs.State.{queue_of, part_of, database_of, changed_at, changed_for, with_batch, at_position, after_queue_mark, after_part, after_mark, after_marks}
@@ -102,10 +102,12 @@ database_of-queue_mark h (closed b) = λ i. record (database_of h) {
       ∙ by_case (b.queue == n) (λ c. record (queue_of h n) { sub = if c then changed_for b.consumer (option_map (at_position b.cur)) (queue_of h n).sub else (queue_of h n).sub })) i;
 }
 database_of-queue_mark h (switching q t) = λ i. record (database_of h) { queue = λ n. by_case (q == n) (λ b. record (queue_of h n) { tables = if b then with_pending t (queue_of h n).tables else (queue_of h n).tables }) i }
-database_of-queue_mark h (switched q time) = λ i. record (database_of h) { queue = λ n. by_case (q == n) (λ b. record (queue_of h n) {
-  tables = if b then tables_of.switched time (queue_of h n).tables else (queue_of h n).tables;
-  tick_list = if b then ticks_above (second_step_of (queue_of h n).tables) (queue_of h n).tick_list else (queue_of h n).tick_list;
-}) i }
+database_of-queue_mark h (switched q time) = λ i. record (database_of h) {
+  queue = λ n. by_case (q == n) (λ b. record (queue_of h n) {
+    tables = if b then tables_of.switched time (queue_of h n).tables else (queue_of h n).tables;
+    tick_list = if b then ticks_above (second_step_of (queue_of h n).tables) (queue_of h n).tick_list else (queue_of h n).tick_list;
+  }) i;
+}
 database_of-queue_mark h (second_step q t) = λ i. record (database_of h) { queue = λ n. by_case (q == n) (λ b. record (queue_of h n) { tables = if b then with_second_step t (queue_of h n).tables else (queue_of h n).tables }) i }
 database_of-queue_mark h (configured q c) = λ i. record (database_of h) { queue = λ n. by_case (q == n) (λ b. record (queue_of h n) { config = if b then c else (queue_of h n).config }) i }
 database_of-queue_mark h (dropped q) = λ i. record (database_of h) {

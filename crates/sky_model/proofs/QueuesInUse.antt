@@ -1,13 +1,13 @@
 -- What needs a queue finds it, and of one that doesn't stand nothing is kept.
-use Rattle.std.proofs.Common.{◌≡◌, ℕ, ◌<◌, List, [], ◌∷◌, ◌++◌, true, false, ◌==◌, ◌||◌, bytes_eq, is_some, All, get_or, Option, Some, None, option_map, refl, sym, subst, ◌∙◌, ap, arith, if◌then◌else◌}
+use Rattle.std.proofs.Common.{◌≡◌, ℕ, List, [], ◌∷◌, ◌++◌, true, false, ◌==◌, ◌||◌, bytes_eq, is_some, All, get_or, Option, Some, None, option_map, refl, sym, subst, ◌∙◌, ap, arith, if◌then◌else◌}
 use Rattle.std.specs.List.{list_any}
 use Rattle.std.proofs.lemmas.Bool.Decides.{nat_tests}
 use Rattle.std.proofs.lemmas.Bool.{eqb-true}
-use Rattle.std.proofs.lemmas.List.Elements.{All-nil, All-head, All-tail, All-push, All-weaker}
+use Rattle.std.proofs.lemmas.List.Elements.{All-nil, All-head, All-tail, All-push}
 use Rattle.sky_val.specs.declared.event.Event.{Event}
 use Rattle.sky_txid.specs.Ids.{contains}
 use Rattle.sky_model.specs.History.{began, ended, queued, dropped, History}
-use Rattle.sky_model.specs.Transactions.{next_txid, running, snapshot}
+use Rattle.sky_model.specs.Transactions.{running, snapshot}
 use Rattle.sky_model.specs.Config.{default_config}
 use Rattle.sky_model.specs.Queues.{new_tick, NamedQueue, queues_made, queues, others_than, config, sequence, events, tables, without_transaction, kept_ticks, ticks_above, second_step_of}
 use Rattle.sky_model.specs.Consumers.{all_but, consumers, subscription_id, position, active}
@@ -20,7 +20,7 @@ use Rattle.sky_model.specs.StepQueue.{has_part_in}
 use Rattle.sky_model.proofs.QueueNumbers.{among-before, among-last, among-others}
 use Rattle.sky_model.proofs.EventsBegun.{Begun, events-begun}
 use Rattle.sky_model.proofs.Members.{among-consumers}
-use Rattle.sky_model.proofs.Snapshots.{sound, runs-below, begun-next, contains-push, contains-filter}
+use Rattle.sky_model.proofs.Snapshots.{sound, begun-next, contains-push, contains-filter}
 use Rattle.sky_model.proofs.StandingQueues.{beyond, registered-stands}
 use Rattle.sky_model.proofs.Rotation.{running-stored}
 use Rattle.sky_model.proofs.LawfulTelling.{trigger-queues}

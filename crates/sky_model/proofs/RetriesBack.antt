@@ -96,6 +96,10 @@ listed_is_stored h b e id found =
     (all-by_id_onto (Contains (events b.queue h)) [] (filter (stands_in h b) (events b.queue h)) (All-nil (Contains (events b.queue h)))
     (All-filter (stands_in h b) (Contains (events b.queue h)) (events b.queue h) (All-contains_itself (events b.queue h)))) found
 
+-- what is found of a batch's events is listed
+pub found_is_listed : (es : List Event) (p : Event → Bool) (e : Event) → find p es ≡ Some e → Contains es e
+found_is_listed es p e found = all-found (Contains es) p es e (All-contains_itself es) found
+
 -- ---- their marks
 
 -- the others are other events

@@ -4,12 +4,12 @@ use Rattle.std.specs.List.{list_any}
 use Rattle.std.proofs.lemmas.Bool.{eqb-true}
 use Rattle.pgq_retry.specs.declared.retry.Retry.{Retry}
 use Rattle.pgq_retry.specs.Retries.{is_event}
-use Rattle.sky_model.specs.History.{queued, returned, History}
+use Rattle.sky_model.specs.History.{queued, asked, returned, History}
 use Rattle.sky_model.specs.Transactions.{has_committed}
 use Rattle.sky_model.specs.Queues.{at_tick}
 use Rattle.sky_model.specs.Retries.{retries, brought_by}
-use Rattle.sky_model.specs.LawsOfRetries.{ComesBack, RetriesAreCopies, RetriesWaitOnce, RetriesComeBackDue, RetriesAreForTheirSubscription}
-use Rattle.sky_model.proofs.Legal.{Fine, returns, Legal}
+use Rattle.sky_model.specs.LawsOfRetries.{IsAskedOfBatch, ComesBack, RetriesAreCopies, RetriesAreOfActiveBatches, RetriesWaitOnce, RetriesComeBackDue, RetriesAreForTheirSubscription}
+use Rattle.sky_model.proofs.Legal.{Fine, asks, returns, Legal}
 use Rattle.sky_model.proofs.Snapshots.{sound, runs-unended}
 use Rattle.sky_model.proofs.SnapshotLaws.{legal-below_mark, fine_mark, legal_place}
 use Rattle.sky_model.proofs.RetryCopies.{copies, once}
@@ -19,6 +19,14 @@ retries_are_copies p is = copies p (legal_place p is)
 
 pub retries_wait_once : RetriesWaitOnce
 retries_wait_once p is sub id = once p (legal_place p is) sub id
+
+-- ---- what is asked for
+
+asked_of_batch : {p : History} {retry : Retry} → Fine p (queued (asked retry)) → IsAskedOfBatch p retry
+asked_of_batch (asks consumer source retry a) = record { source = source; lists = a.listed; copied = a.copied }
+
+pub retries_are_of_active_batches : RetriesAreOfActiveBatches
+retries_are_of_active_batches p retry is = asked_of_batch (fine_mark (legal_place (queued (asked retry) ∷ p) is))
 
 -- ---- what comes back
 

@@ -1,5 +1,5 @@
 -- Both steps of a rotation leave a legal history legal.
-use Rattle.std.proofs.Common.{◌≡◌, ℕ, ◌+◌, ◌^◌, ℤ, List, [], ◌∷◌, ◌++◌, Bool, true, false, ◌==◌, nat_le, Option, Some, None, option_map, is_none, Ok, Err, All, get_or, filter, length, refl, sym, ◌∙◌, ap, subst, arith, if◌then◌else◌}
+use Rattle.std.proofs.Common.{◌≡◌, ℕ, ◌+◌, ◌^◌, ℤ, List, [], ◌∷◌, ◌++◌, Bool, true, false, ◌==◌, nat_le, Option, Some, None, option_map, is_none, Ok, All, get_or, filter, length, refl, sym, ap, subst, arith, if◌then◌else◌}
 use Rattle.std.specs.Option.{option_or}
 use Rattle.std.proofs.lemmas.Bool.Decides.{nat_tests}
 use Rattle.std.proofs.lemmas.List.Elements.{All-nil, All-cons, All-head, All-tail}
@@ -8,16 +8,16 @@ use Rattle.sky_model.specs.declared.reply.HeldBack.{HeldBack}
 use Rattle.sky_model.specs.declared.reply.HeldBack.TheVariants.{Pending}
 use Rattle.sky_model.specs.declared.reply.Reply.TheVariants.{Number}
 use Rattle.sky_model.specs.declared.reply.Refusal.TheVariants.{TxidsSpent}
-use Rattle.pgq_tables.specs.Tables.{Tables, with_pending, with_second_step}
-use Rattle.sky_model.specs.History.{Mark, of_session, of_worker, began, ended, queued, switching, switched, second_step, History}
+use Rattle.pgq_tables.specs.Tables.{with_pending, with_second_step}
+use Rattle.sky_model.specs.History.{of_session, of_worker, began, ended, queued, switching, switched, second_step, History}
 use Rattle.sky_model.specs.Transactions.{next_txid, running, workers}
-use Rattle.sky_model.specs.Sessions.{Block, outside, inside, failed, block, own_txid}
+use Rattle.sky_model.specs.Sessions.{Block, block, own_txid}
 use Rattle.sky_model.specs.Queues.{NamedQueue, queues, tables}
 use Rattle.sky_model.specs.State.{part_of, queue_of, database_of}
 use Rattle.sky_model.specs.OwnTransaction.{own_or_next, begin_of, commit_of}
 use Rattle.sky_model.specs.Settling.{marked}
-use Rattle.sky_model.specs.Outcome.{Outcome, Checked, ◌>>=◌, ◌>>◌, refused_if, does_marks, marks_of}
-use Rattle.sky_model.specs.StepRotation.{held_back, held_by_period, held_by_second_step, switch_of, rotates, rotates_alone, rotates_by_itself, lack_second_step, second_steps, ends_switches, maint_rotate_step2}
+use Rattle.sky_model.specs.Outcome.{◌>>=◌, ◌>>◌, refused_if, does_marks, marks_of}
+use Rattle.sky_model.specs.StepRotation.{held_back, held_by_period, held_by_second_step, switch_of, rotates, rotates_alone, lack_second_step, second_steps, ends_switches, maint_rotate_step2}
 use Rattle.sky_model.proofs.Legal.{IsQueue, MaySwitch, Fine, begins, begins_work, ends, ends_work, begins_switch, makes_switch, ends_switch, Chain, done, more, Legal, next}
 use Rattle.sky_model.proofs.Good.{Good, same-session, good_test_then}
 use Rattle.sky_model.proofs.Commits.{Apart, queues-apart, all-among}

@@ -1,12 +1,13 @@
 -- What the statements on sessions, transactions, tables and rows can do: they list no event, and touch no queue.
-use Rattle.std.proofs.Common.{◌≡◌, ℕ, List, Bool, true, false, Option, refl}
+use Rattle.std.proofs.Common.{◌≡◌, ℕ, List, Bool, true, false, Option, refl, sym, ◌∙◌}
 use Rattle.sky_val.specs.declared.val.Val.{Val}
 use Rattle.sky_keys.specs.Waits.{is_waiting}
 use Rattle.sky_model.specs.declared.stmt.RowStmt.{RowStmt}
 use Rattle.sky_model.specs.declared.stmt.RowStmt.TheVariants.{OpenDb}
 use Rattle.sky_model.specs.declared.stmt.Attempt.{Attempt}
 use Rattle.sky_model.specs.declared.reply.Refusal.{Refusal}
-use Rattle.sky_model.specs.History.{Mark, looked, queued}
+use Rattle.std.proofs.lemmas.Bool.{and_parts}
+use Rattle.sky_model.specs.History.{Mark, looked, queued, returned}
 use Rattle.sky_model.specs.Sessions.{Block}
 use Rattle.sky_model.specs.State.{RowPart}
 use Rattle.sky_model.specs.ShownRows.{KeyShown, RowsShown}
@@ -38,6 +39,7 @@ abbrev pub TurnOfRows : Turn → Type 0
 TurnOfRows turn = TurnGives is_of_rows turn
 
 rows-if : (k : Kinds) → k.queues ≡ false → (who : ℕ) (mark : Mark) → may_leave k who mark ≡ true → is_of_rows mark ≡ true
+rows-if k none who (queued (returned retry moment)) e = absurd (cc (sym (and_parts k.queues k.works e).0 ∙ none))
 rows-if k none who (queued mark) e = absurd (cc)
 rows-if k none who _ e = refl
 

@@ -12,8 +12,7 @@ use Rattle.sky_model.specs.Batches.{batch_events}
 use Rattle.pgq_tables.specs.Listed.{is_for}
 use Rattle.pgq_tables.specs.ById.{by_id}
 use Rattle.sky_model.specs.Retries.{brought_by}
-use Rattle.sky_model.specs.Selection.{snapshot_at, selected_of, selected}
-use Rattle.sky_model.specs.State.{database_of}
+use Rattle.sky_model.specs.Selection.{snapshot_at, selected_of}
 use Rattle.sky_model.proofs.Legal.{IsQueue, makes, raises, puts, puts_back, drops, Legal, start, next}
 use Rattle.sky_model.proofs.QueueNumbers.{others-among, others-apart}
 use Rattle.sky_model.proofs.StandingQueues.{beyond, stands-or-new}

@@ -12,7 +12,7 @@ use Rattle.sky_model.specs.Queues.{new_tick, queues_made, queues, events, tables
 use Rattle.sky_model.specs.Consumers.{subscription_id}
 use Rattle.sky_model.specs.Retries.{brought_by}
 use Rattle.sky_model.proofs.Legal.{IsQueue, makes, puts, puts_back, ticks_next, registers, unregisters, begins_switch, makes_switch, ends_switch, drops, Legal, start, next}
-use Rattle.sky_model.proofs.QueueNumbers.{queue-below, among-before, others-among, others-apart, among-others}
+use Rattle.sky_model.proofs.QueueNumbers.{queue-below, among-before, among-others}
 use Rattle.sky_model.proofs.Cases.{by_test}
 
 -- of a queue that isn't made yet nothing is kept, and nothing ever was

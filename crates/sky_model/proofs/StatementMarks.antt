@@ -15,7 +15,7 @@ use Rattle.sky_model.specs.declared.reply.Reply.{Reply}
 use Rattle.sky_model.specs.declared.reply.Reply.TheVariants.{Refused}
 use Rattle.sky_model.specs.declared.reply.Refusal.{Refusal}
 use Rattle.sky_model.specs.declared.reply.Refusal.TheVariants.{Canceled, IdsSpent}
-use Rattle.sky_model.specs.History.{Batch, Mark, QueueMark, of_session, of_worker, ended, connected, disconnected, looked, block_failed, tabled, wrote, waits, waited, queued, raised, put, ticked, switching, switched, second_step}
+use Rattle.sky_model.specs.History.{Batch, Mark, QueueMark, of_session, of_worker, began, ended, connected, disconnected, looked, block_failed, tabled, wrote, waits, waited, queued, raised, put, ticked, switching, switched, second_step, returned}
 use Rattle.sky_model.specs.declared.reply.HeldBack.{HeldBack}
 use Rattle.sky_model.specs.Queues.{NamedQueue, Tick, tick, is_pending}
 use Rattle.sky_model.specs.StepRotation.{held_back, switch_of, rotates, second_steps, lack_second_step, ends_switches, switches_by, switches_of, committed_by}
@@ -42,7 +42,7 @@ use Rattle.sky_model.specs.Reader.{Shown, PartReader}
 use Rattle.sky_model.specs.Gates.{Gate, gated}
 use Rattle.sky_model.specs.Settling.{Turn, turn_of, behind_marks, and_then, ready, attempted, resumed, goes_on, settles, settling}
 use Rattle.sky_model.specs.Calls.{row_form, switches_first, form}
-use Rattle.std.proofs.lemmas.Bool.{cond_both}
+use Rattle.std.proofs.lemmas.Bool.{cond_both, and_parts}
 use Rattle.std.proofs.lemmas.Result.{IfOk-at_ok}
 use Rattle.sky_model.proofs.Cases.{by_test, ok-then, by_block}
 use Rattle.sky_model.proofs.Good.{same-session}
@@ -130,17 +130,23 @@ either R p false c e gives also = also
 
 -- ---- which marks there may be
 
+-- a mark of a queue by which no retry comes back
+abbrev pub is_no_return : QueueMark → Bool
+is_no_return (returned retry moment) = false
+is_no_return _ = true
+
 -- besides those of a session's transaction and block, and of a new table: of the database being opened or closed, of writes, of waits that begin or
--- end, and of queues
+-- end, of queues, and of workers
 pub record Kinds : Type 0 where
   pub moves : Bool
   pub writes : Bool
   pub blocks : Bool
   pub wakes : Bool
   pub queues : Bool
+  pub works : Bool
 
 abbrev pub no_more : Kinds
-no_more = record { moves = false; writes = false; blocks = false; wakes = false; queues = false }
+no_more = record { moves = false; writes = false; blocks = false; wakes = false; queues = false; works = false }
 
 -- whether a session may leave a mark, if these kinds are allowed
 abbrev pub may_leave : Kinds → ℕ → Mark → Bool
@@ -149,12 +155,15 @@ may_leave k who (disconnected v) = k.moves
 may_leave k who (tabled (wrote whose t table key old new)) = k.writes
 may_leave k who (tabled (waits v table key attempt)) = k.blocks && v == who
 may_leave k who (tabled (waited v)) = k.wakes
+may_leave k who (queued (returned retry moment)) = k.queues && k.works
 may_leave k who (queued mark) = k.queues
+may_leave k who (began of_worker t) = k.works
+may_leave k who (ended of_worker t committed) = k.works
 may_leave k who _ = true
 
 -- those of an attempt with a key that another session holds, or doesn't
 abbrev pub attempt_kinds : Bool → Kinds
-attempt_kinds held = record { moves = false; writes = true; blocks = held; wakes = false; queues = false }
+attempt_kinds held = record { moves = false; writes = true; blocks = held; wakes = false; queues = false; works = false }
 
 -- those of a statement on rows of a session that has the database open, or hasn't
 abbrev pub row_kinds : Bool → RowStmt → Kinds
@@ -169,7 +178,14 @@ row_kinds is_open _ = no_more
 -- and those of any, whose writes are recorded
 abbrev pub kinds : Bool → Stmt → Kinds
 kinds is_open (Row stmt) = record (row_kinds is_open stmt) { queues = true }
+kinds is_open MaintRetryEvents = record no_more { queues = true; works = true }
+kinds is_open MaintRotateStep2 = record no_more { queues = true; works = true }
 kinds is_open _ = record no_more { queues = true }
+
+-- of a queue, other than by a retry that comes back
+others-left : (k : Kinds) → k.queues ≡ true → (who : ℕ) (mark : QueueMark) → is_no_return mark ≡ true → may_leave k who (queued mark) ≡ true
+others-left k is who (returned retry moment) e = absurd (cc)
+others-left k is who _ e = is
 
 -- ---- what every session leaves
 
@@ -276,15 +292,15 @@ module _ (who : ℕ) where
 abbrev EachChecked : (Mark → Bool) → Checked (List Mark) → Type 0
 EachChecked p c = IfOk c (EachMark p)
 
-module _ (p : Mark → Bool) (of_queues : (mark : QueueMark) → p (queued mark) ≡ true) where
+module _ (p : Mark → Bool) (of_queues : (mark : QueueMark) → is_no_return mark ≡ true → p (queued mark) ≡ true) where
   each-told_by : (d : Database) (now : ℤ) (t : ℕ) (es : List RowEvent) → EachChecked p (told_by d now t es)
   each-told_by d now t [] = tt
   each-told_by d now t (e ∷ es) =
       ok-then (EachMark p) (next_event_id (d.queue e.queue)) _ (λ id _.
       let behind : Database = after_marks d (event_marks e.queue (told_event id now t e)) in
       ok-then (EachMark p) (told_by behind now t es) _ (λ rest is.
-      each-front p (queued (raised e.queue id)) (queued (put e.queue (told_event id now t e)) ∷ rest) (of_queues _)
-      (each-front p (queued (put e.queue (told_event id now t e))) rest (of_queues _) (IfOk-at_ok (EachMark p) is (each-told_by behind now t es)))))
+      each-front p (queued (raised e.queue id)) (queued (put e.queue (told_event id now t e)) ∷ rest) (of_queues (raised e.queue id) refl)
+      (each-front p (queued (put e.queue (told_event id now t e))) rest (of_queues (put e.queue (told_event id now t e)) refl) (IfOk-at_ok (EachMark p) is (each-told_by behind now t es)))))
 
   each-told_of : (d : Database) (now : ℤ) (mark : Mark) → EachChecked p (told_of d now mark)
   each-told_of d now (tabled (wrote (of_session who) t table key old new)) = each-told_by d now t (events_in d table old new)
@@ -303,7 +319,7 @@ module _ (p : Mark → Bool) (of_queues : (mark : QueueMark) → p (queued mark)
   gives-tick d now queue =
       either AnyReply p (is_due now (d.queue queue)) _ _
       (after AnyReply p (refused_if (nat_le (2 ^ 64) (newest_id (d.queue queue) + 1)) IdsSpent) _
-      (tt, each-front p (queued (ticked queue (newest_id (d.queue queue) + 1) now (d.queue queue).seq)) [] (of_queues _) tt)) (tt, tt)
+      (tt, each-front p (queued (ticked queue (newest_id (d.queue queue) + 1) now (d.queue queue).seq)) [] (of_queues (ticked queue (newest_id (d.queue queue) + 1) now (d.queue queue).seq) refl) tt)) (tt, tt)
 
   -- a statement does the same once its writes are recorded
   pub gives-tells : (R : Reply → Type 0) (d : Database) (now : ℤ) (c : Checked Outcome) → Gives R p c → Gives R p (tells d now c)
@@ -348,12 +364,12 @@ none-first d now who stmt c none = ap (λ marks. after_marks_of marks c) (none d
 
 -- ---- the marks are of queues
 
-module _ (p : Mark → Bool) (of_queues : (mark : QueueMark) → p (queued mark) ≡ true) where
+module _ (p : Mark → Bool) (of_queues : (mark : QueueMark) → is_no_return mark ≡ true → p (queued mark) ≡ true) where
   pub each-switches_by : (d : Database) (now : ℤ) (t : ℕ) (queues : List NamedQueue) → EachMark p (switches_by d now t queues)
   each-switches_by d now t [] = tt
   each-switches_by d now t (q ∷ queues) =
       by_test (λ b. EachMark p (if b then queued (switched q.number now) ∷ switches_by d now t queues else switches_by d now t queues)) (is_pending t (d.queue q.number).tables)
-      (λ _. each-front p (queued (switched q.number now)) (switches_by d now t queues) (of_queues (switched q.number now)) (each-switches_by d now t queues)) (λ _. each-switches_by d now t queues)
+      (λ _. each-front p (queued (switched q.number now)) (switches_by d now t queues) (of_queues (switched q.number now) refl) (each-switches_by d now t queues)) (λ _. each-switches_by d now t queues)
 
   each-switches_of : (d : Database) (now : ℤ) (txid : Option ℕ) → EachMark p (switches_of d now txid)
   each-switches_of d now None = tt
@@ -377,20 +393,23 @@ gives-gated R p gate g (Ok o) given = search (after)
 -- ---- statements on queues
 
 -- the marks of a first step are of queues, and those of second steps
-module _ (p : Mark → Bool) (of_queues : (mark : QueueMark) → p (queued mark) ≡ true) where
+module _ (p : Mark → Bool) (of_queues : (mark : QueueMark) → is_no_return mark ≡ true → p (queued mark) ≡ true) where
   pub each-switch_of : (q t : ℕ) (now : ℤ) (b : Block) → EachMark p (switch_of q t now b)
   each-switch_of q t now b =
       by_block (λ c. EachMark p (switch_of q t now c))
-      (each-front p (queued (switching q t)) (queued (switched q now) ∷ []) (of_queues (switching q t)) (each-front p (queued (switched q now)) [] (of_queues (switched q now)) tt))
-      (each-front p (queued (switching q t)) [] (of_queues (switching q t)) tt) (each-front p (queued (switching q t)) [] (of_queues (switching q t)) tt) b
+      (each-front p (queued (switching q t)) (queued (switched q now) ∷ []) (of_queues (switching q t) refl) (each-front p (queued (switched q now)) [] (of_queues (switched q now) refl) tt))
+      (each-front p (queued (switching q t)) [] (of_queues (switching q t) refl) tt) (each-front p (queued (switching q t)) [] (of_queues (switching q t) refl) tt) b
 
   pub each-second_steps : (t : ℕ) (queues : List NamedQueue) → EachMark p (second_steps t queues)
   each-second_steps t [] = tt
-  each-second_steps t (q ∷ queues) = each-front p (queued (second_step q.number t)) (second_steps t queues) (of_queues (second_step q.number t)) (each-second_steps t queues)
+  each-second_steps t (q ∷ queues) = each-front p (queued (second_step q.number t)) (second_steps t queues) (of_queues (second_step q.number t) refl) (each-second_steps t queues)
 
 module _ (who : ℕ) where
   abbrev QueueGives : Checked Outcome → Type 0
   QueueGives c = Gives AnyReply (may_leave (record no_more { queues = true }) who) c
+
+  abbrev WorkGives : Checked Outcome → Type 0
+  WorkGives c = Gives AnyReply (may_leave (record no_more { queues = true; works = true }) who) c
 
   gives-opens : (d : Database) (q : ℕ) (consumer : List ℕ) (sub : Subscription) (o : Option Tick) → QueueGives (opens_batch d q consumer sub o)
   gives-opens d q consumer sub None = (tt, tt)
@@ -404,23 +423,23 @@ module _ (who : ℕ) where
   gives-leaves q consumer None = (tt, tt)
   gives-leaves q consumer (Some sub) = (tt, tt)
 
-  each-back : (now : ℤ) (t : ℕ) (rs : List Retry) → EachMark (may_leave (record no_more { queues = true }) who) (back now t rs)
+  each-back : (now : ℤ) (t : ℕ) (rs : List Retry) → EachMark (may_leave (record no_more { queues = true; works = true }) who) (back now t rs)
   each-back now t [] = tt
   each-back now t (r ∷ rs) = each-back now t rs
 
-  gives-brings : (d : Database) (now : ℤ) (rs : List Retry) → QueueGives (brings d now rs)
+  gives-brings : (d : Database) (now : ℤ) (rs : List Retry) → WorkGives (brings d now rs)
   gives-brings d now [] = (tt, tt)
   gives-brings d now (r ∷ rs) =
-      checked AnyReply _ (next_id d.part) _ (λ t. (tt, each-append (may_leave (record no_more { queues = true }) who) (back now t (r ∷ rs)) (ended of_worker t true ∷ []) (each-back now t (r ∷ rs)) tt))
+      checked AnyReply _ (next_id d.part) _ (λ t. (tt, each-append (may_leave (record no_more { queues = true; works = true }) who) (back now t (r ∷ rs)) (ended of_worker t true ∷ []) (each-back now t (r ∷ rs)) tt))
 
   gives-rotates : (d : Database) (now : ℤ) (q : ℕ) (why : Option HeldBack) → QueueGives (rotates d now who q why)
   gives-rotates d now q (Some why) = (tt, tt)
   gives-rotates d now q None = search (checked, left-written, each-switch_of) depth 8
 
-  gives-ends_switches : (d : Database) (queues : List NamedQueue) → QueueGives (ends_switches d queues)
+  gives-ends_switches : (d : Database) (queues : List NamedQueue) → WorkGives (ends_switches d queues)
   gives-ends_switches d [] = (tt, tt)
   gives-ends_switches d (q ∷ queues) =
-      checked AnyReply _ (next_id d.part) _ (λ t. (tt, each-append (may_leave (record no_more { queues = true }) who) (second_steps t (q ∷ queues)) (ended of_worker t true ∷ []) (each-second_steps (may_leave (record no_more { queues = true }) who) (λ mark. refl) t (q ∷ queues)) tt))
+      checked AnyReply _ (next_id d.part) _ (λ t. (tt, each-append (may_leave (record no_more { queues = true; works = true }) who) (second_steps t (q ∷ queues)) (ended of_worker t true ∷ []) (each-second_steps (may_leave (record no_more { queues = true; works = true }) who) (others-left (record no_more { queues = true; works = true }) refl who) t (q ∷ queues)) tt))
 
   gives-finishes : (o : Option Batch) → QueueGives (finishes o)
   gives-finishes None = (tt, tt)
@@ -429,14 +448,15 @@ module _ (who : ℕ) where
   -- any statement
   pub gives-form : (d : Database) (shown : Shown) (now : ℤ) (stmt : Stmt) → Gives AnyReply (may_leave (kinds (d.part.session who).is_open stmt) who) (form d shown now who stmt)
   gives-form d shown now (Row stmt) =
-      gives-first (may_leave (kinds is_open (Row stmt)) who) (λ mark. refl) AnyReply d now who stmt _
-      (gives-tells (may_leave (kinds is_open (Row stmt)) who) (λ mark. refl) AnyReply d now _
+      gives-first (may_leave (kinds is_open (Row stmt)) who) (others-left (kinds is_open (Row stmt)) refl who) AnyReply d now who stmt _
+      (gives-tells (may_leave (kinds is_open (Row stmt)) who) (others-left (kinds is_open (Row stmt)) refl who) AnyReply d now _
       (gives-map ReplyHasMoments AnyReply (may_leave (row_kinds is_open stmt) who) (may_leave (kinds is_open (Row stmt)) who) (λ reply has. tt) also _ (gives-row_form who d.part shown.rows stmt)))
     where
       is_open : Bool
       is_open = (d.part.session who).is_open
 
       also : (mark : Mark) → may_leave (row_kinds is_open stmt) who mark ≡ true → may_leave (kinds is_open (Row stmt)) who mark ≡ true
+      also (queued (returned retry moment)) e = (and_parts (row_kinds is_open stmt).queues (row_kinds is_open stmt).works e).1
       also (queued mark) e = refl
       also _ e = e
   gives-form d shown now (CreateQueue name) = search (either, after, checked, each-append, left-written) depth 8
@@ -444,7 +464,7 @@ module _ (who : ℕ) where
   gives-form d shown now (SetQueueConfig name param value) = search (checked) depth 8
   gives-form d shown now (QueueInfo name) = search (checked)
   gives-form d shown now (InsertEvent name ev_type ev_data extra) = search (checked, left-written) depth 8
-  gives-form d shown now (Ticker name) = checked AnyReply _ (queue_called name d) _ (gives-tick (may_leave (record no_more { queues = true }) who) (λ mark. refl) d now)
+  gives-form d shown now (Ticker name) = checked AnyReply _ (queue_called name d) _ (gives-tick (may_leave (record no_more { queues = true }) who) (others-left (record no_more { queues = true }) refl who) d now)
   gives-form d shown now (ForceTick name) = search (checked, after)
   gives-form d shown now (RegisterConsumer name consumer) = search (checked, after, either) depth 8
   gives-form d shown now (RegisterConsumerAt name consumer tick) = search (checked, after, either) depth 10

@@ -44,4 +44,4 @@ stays-form d shown now who stmt is =
 pub stay-settling : (h : History) (now : ℤ) → Stay (settling (within_part database_by_history now) h).marks
 stay-settling h now =
     (settling-gives is_staying (λ who. refl) (stays-if (attempt_kinds true) refl) (within_part database_by_history now)
-    (record { tells = λ g c stay. gives-tells is_staying (λ mark. refl) ReplyHasMoments (database_of g) now c stay }) h).marks
+    (record { tells = λ g c stay. gives-tells is_staying (λ mark _. refl) ReplyHasMoments (database_of g) now c stay }) h).marks

@@ -4,7 +4,6 @@ use Rattle.sky_val.specs.declared.val.Val.{Val}
 use Rattle.sky_keys.specs.Waits.{Waiting, is_waiting}
 use Rattle.sky_urlenc.specs.RowEvents.{RowEvent}
 use Rattle.sky_model.specs.declared.stmt.RowStmt.{RowStmt}
-use Rattle.sky_model.specs.declared.stmt.Stmt.TheVariants.{Row}
 use Rattle.sky_model.specs.declared.reply.Reply.TheVariants.{Refused}
 use Rattle.sky_model.specs.declared.reply.Refusal.{Refusal}
 use Rattle.sky_model.specs.declared.reply.Refusal.TheVariants.{EventIdsSpent}
@@ -19,7 +18,7 @@ use Rattle.sky_model.specs.Telling.{events_in, told_event, event_marks, told_by,
 use Rattle.sky_model.specs.Reader.{part_by_itself, database_by_itself, within_part}
 use Rattle.sky_model.specs.Gates.{Gate, takes, passed, takes_all, passed_all, gated, by_gate}
 use Rattle.sky_model.specs.Settling.{Turn, turn_of, behind_marks, and_then, ready, attempted, resumed, goes_on, settles, settling, with_settling}
-use Rattle.sky_model.specs.Calls.{row_form, row_making, making, row_statement, row_turn, statement, database_turn}
+use Rattle.sky_model.specs.Calls.{row_form, row_making, row_statement, row_turn}
 use Rattle.sky_model.proofs.StatementMarks.{each-rest}
 use Rattle.sky_model.proofs.RowOutcomes.{is_of_rows, RowMarks, OfRows, abort-rows, attempts-rows, form-rows}
 use Rattle.sky_model.proofs.GatedLemmas.{gated-behind, passed-append, WritesNone, plain-abort}

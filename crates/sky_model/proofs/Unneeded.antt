@@ -1,11 +1,9 @@
 -- What doesn't exist if nothing refuses that a queue is dropped: a consumer of it, a trigger into it, and an event of a running transaction in it.
-use Rattle.std.proofs.Common.{◌≡◌, ℕ, Bool, List, [], ◌∷◌, false, not, ◌==◌, ◌||◌, ◌∙◌, All, get_or, length, find, ap, Option, Some, None, is_some, bytes_eq, option_map, refl, arith, if◌then◌else◌}
+use Rattle.std.proofs.Common.{◌≡◌, ℕ, Bool, List, [], ◌∷◌, false, not, ◌==◌, All, length, find, Option, Some, None, is_some, bytes_eq, option_map, refl, arith, if◌then◌else◌}
 use Rattle.std.specs.List.{list_any}
 use Rattle.std.proofs.lemmas.Bool.Decides.{nat_tests}
 use Rattle.std.proofs.lemmas.List.Elements.{All-nil, All-cons}
 use Rattle.sky_model.specs.declared.reply.Refusal.TheVariants.{HasTriggers, QueueBusy}
-use Rattle.sky_val.specs.declared.event.Event.{Event}
-use Rattle.sky_txid.specs.Ids.{contains}
 use Rattle.sky_model.specs.History.{History}
 use Rattle.sky_model.specs.Triggers.{TableTrigger}
 use Rattle.sky_model.specs.Consumers.{consumers, subscription_id}

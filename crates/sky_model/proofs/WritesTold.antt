@@ -193,7 +193,7 @@ does-told h told (stepped who stmt now) = with_settling-told now h (turn_of who 
 does-told h told (entered who alone) =
     enters-told h told who (takes_sight (entry_place alone) (session h who).sight) (allowed (is_waiting who (waiting h)) (has_open who h) (block who h) (entry_place alone))
 does-told h told (worked part now) =
-    plain-told h (daemon_does database_by_history h part now).marks (each-daemon_does is_no_write (λ mark. refl) (λ t. refl) (λ t. refl) database_by_history h part now) told
+    plain-told h (daemon_does database_by_history h part now).marks (each-daemon_does is_no_write now (λ mark _. refl) (λ r. refl) (λ t. refl) (λ t. refl) database_by_history h part) told
 does-told h told (failed_call who now) =
     with_settling-told now h (failing (part_of h) who) (plain-told h (failure who (own_txid who h) (block who h)) (each-failure AnyReply is_no_write (λ _. tt) (plain-if no_more refl) who (own_txid who h) (block who h)) told)
 

@@ -4,7 +4,7 @@ use Rattle.sky_val.specs.declared.event.Event.{Event}
 use Rattle.pgq_tables.specs.Tables.{Stored, Tables}
 use Rattle.sky_model.specs.History.{queued, put, switched, History}
 use Rattle.sky_model.specs.Transactions.{has_ended, has_committed, has_rolled_back}
-use Rattle.sky_model.specs.Queues.{events, tables, Tick, tick, kept_ticks, at_tick, is_above, second_step_of}
+use Rattle.sky_model.specs.Queues.{events, tables, tick, kept_ticks, at_tick, is_above, second_step_of}
 use Rattle.sky_model.specs.Consumers.{subscription_id, position}
 use Rattle.sky_model.specs.State.{queue_of}
 use Rattle.sky_model.specs.StepConsumer.{floor}

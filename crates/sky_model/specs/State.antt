@@ -1,6 +1,5 @@
 -- What a database shows at a place: all that a statement reads of it, each part by its definition. The code keeps these, and a mark changes them.
 use Rattle.std.specs.Prelude.{ℕ, ℤ, ◌+◌, List, [], ◌∷◌, ◌++◌, Bool, true, false, not, ◌&&◌, ◌||◌, Option, Some, None, ◌==◌, bytes_eq, filter, length, option_map, if◌then◌else◌}
-use Rattle.sky_val.specs.declared.event.Event.{Event}
 use Rattle.sky_val.specs.declared.column.Column.{Column}
 use Rattle.sky_val.specs.Entries.{Entries}
 use Rattle.sky_keys.specs.Waits.{Holders, taken, released, Waiting, without}

@@ -1,17 +1,16 @@
 -- What the statements on rotation do: a queue's event tables are switched in two steps, each in a transaction of its own.
-use Rattle.std.specs.Prelude.{ℕ, ℤ, ◌+ℤ◌, int_lt, List, [], ◌∷◌, ◌++◌, Bool, true, false, Option, Some, None, option_map, is_none, filter, map, length, if◌then◌else◌}
+use Rattle.std.specs.Prelude.{ℕ, ℤ, ◌+ℤ◌, int_lt, List, [], ◌∷◌, ◌++◌, true, Option, Some, None, option_map, is_none, filter, length, if◌then◌else◌}
 use Rattle.std.specs.Option.{option_or, option_and_then}
-use Rattle.pgq_tables.specs.Tables.{Tables}
 use Rattle.sky_model.specs.declared.reply.Reply as reply
 use Rattle.sky_model.specs.declared.reply.Reply.TheVariants.{Number}
 use Rattle.sky_model.specs.declared.reply.HeldBack as held
 use Rattle.sky_model.specs.declared.reply.HeldBack.TheVariants.{Pending, Period, SecondStep, Consumer}
 use Rattle.sky_model.specs.declared.reply.HeldBack.TheVariants as held_by
 use Rattle.sky_model.specs.History.{Mark, of_worker, began, ended, queued, switching, switched, second_step}
-use Rattle.sky_model.specs.Sessions.{Block, outside, inside, Session}
+use Rattle.sky_model.specs.Sessions.{Block, outside, inside}
 use Rattle.sky_model.specs.Queues.{NamedQueue, is_pending, Tick, tick, newest_tick, is_above}
 use Rattle.sky_model.specs.Consumers.{Subscription}
-use Rattle.sky_model.specs.State.{RowPart, Queue, Database}
+use Rattle.sky_model.specs.State.{Queue, Database}
 use Rattle.sky_model.specs.OwnTransaction.{next_id, txid_for, written}
 use Rattle.sky_model.specs.Outcome.{Outcome, Checked, ◌>>=◌, answers, does_marks}
 use Rattle.sky_model.specs.StepQueue.{queue_called}

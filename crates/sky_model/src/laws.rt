@@ -5,8 +5,8 @@ ghost use Rattle.sky_model.specs.LawsOfDaemons.{DaemonsHaveStarted, DaemonsWorkW
 ghost use Rattle.sky_model.specs.LawsOfHistories.{HistoriesAreMadeByOwnCalls, HomesAreOpen, WaitersHaveOpen, BlocksAreOpen};
 ghost use Rattle.sky_model.specs.LawsOfLines.{BadWordIsLeast, LinesAreInForm};
 ghost use Rattle.sky_model.specs.LawsOfLocks.{DeadlocksAreRings, HoldersHaveWritten, NothingIsReady, WritersHaveWritten};
-ghost use Rattle.sky_model.specs.LawsOfQueues.{BusyQueuesStand, NewQueuesAreOthers, OtherQueuesKeepNothing, QueuesOfConsumersStand, QueuesOfTriggersStand};
-ghost use Rattle.sky_model.specs.LawsOfRetries.{RetriesAreCopies, RetriesAreForTheirSubscription, RetriesComeBackDue, RetriesWaitOnce};
+ghost use Rattle.sky_model.specs.LawsOfQueues.{BusyQueuesStand, NewQueuesAreOthers, OtherQueuesKeepNothing, ProducersHaveWork, QueuesOfConsumersStand, QueuesOfTriggersStand};
+ghost use Rattle.sky_model.specs.LawsOfRetries.{EventsComeOnce, RetriesAreCopies, RetriesAreForTheirSubscription, RetriesAreListed, RetriesAreOfActiveBatches, RetriesComeBackAtCalls, RetriesComeBackDue, RetriesWaitOnce};
 ghost use Rattle.sky_model.specs.LawsOfRotation.{NeededEventsAreStored, PositionsAreKept, SwitchesDropTicks, TablesHoldWhatWasPut};
 ghost use Rattle.sky_model.specs.LawsOfRows.{RowsAreReadUnderSnapshots};
 ghost use Rattle.sky_model.specs.LawsOfSnapshots.{BatchesAreSelectedBySnapshots, SnapshotsSeeWhatHasEnded};
@@ -105,14 +105,22 @@ pub fn subscriptions_are_given_once()
     ensures new { SubscriptionsAreNew }
 {}
 
-/// At each such place each retry that waits is of a subscription of its queue, and its event a copy of one that was
-/// put there, with the subscription as its owner and one retry more; and for each event id of a subscription at most
-/// one waits. One that comes back waited and is due, its event was put just before, of a transaction that hadn't ended,
-/// and it waits no more. And an event with an owner is in no batch of another subscription.
+/// At each such place each retry that waits is of a subscription of its queue, and its event a copy of one that was put
+/// there, with the subscription as its owner and one retry more; it was asked for of an active batch of this
+/// subscription, which lists that event; and for each event id of a subscription at most one waits. One that comes back
+/// waited and is due, its event was put just before, of a transaction that hadn't ended, and it waits no more; it comes
+/// back at the moment of the call that brings it. Its event is in each batch of its subscription whose opening tick was
+/// made before, and whose closing tick is made later, and in no other batch across that place; and a batch lists at
+/// most one event of an id and a transaction, so it lists this one once. And an event with an owner is in no batch of
+/// another subscription.
 pub fn retries_come_back_once()
     ensures copies { RetriesAreCopies }
+    ensures listed { RetriesAreOfActiveBatches }
     ensures once { RetriesWaitOnce }
     ensures due { RetriesComeBackDue }
+    ensures moment { RetriesComeBackAtCalls }
+    ensures in_batches { RetriesAreListed }
+    ensures listed_once { EventsComeOnce }
     ensures owned { RetriesAreForTheirSubscription }
 {}
 
@@ -128,12 +136,15 @@ pub fn writes_name_what_stands()
 
 /// At each such place a queue stands, that is, it was made and not dropped, if a consumer is registered with it, if a
 /// trigger puts events into it, or if a transaction that hasn't ended has put one into it: none of these loses its
-/// queue. Nothing is kept of one that was dropped or isn't made yet.
+/// queue. One that stands is refused to be dropped as busy for the least transaction that hasn't ended and has put an
+/// event into it, or has a switch of its tables pending, if there is one. Nothing is kept of one that was dropped or
+/// isn't made yet.
 /// And the next queue that is made is none that was dropped, even if it gets the name of one.
 pub fn queues_in_use_stand()
     ensures consumers { QueuesOfConsumersStand }
     ensures triggers { QueuesOfTriggersStand }
     ensures busy { BusyQueuesStand }
+    ensures producers { ProducersHaveWork }
     ensures gone { OtherQueuesKeepNothing }
     ensures others { NewQueuesAreOthers }
 {}

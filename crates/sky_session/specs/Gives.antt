@@ -17,7 +17,7 @@ use Rattle.sky_state.specs.Seen.{seen}
 abbrev pub nothing : Bool → RowStep
 nothing whole = record { replies = []; effects = record { whole = whole; items = [] } }
 
--- a turn is added to what was given: its replies and effects are appended, the part is then as after its marks, and the gate has recorded its writes
+-- a turn is added to what was given: its replies and effects are appended, the part is then as after its marks, and the gate has recorded its writes and rollbacks
 pub record Adds {G : Type 0} (gate : Gate G) (old new : RowPart × G) (before after : RowStep) (turn : Turn) : Type 0 where
   pub replied : after.replies ≡ before.replies ++ turn.answers
   pub told : after.effects ≡ with_effects before.effects turn.marks
@@ -51,7 +51,11 @@ abbrev pub Passes : {G : Type 0} → Gate G → G → G → Result (Unit {0}) St
 Passes gate old new (Ok _) checked = new ≡ passed_all gate old (marks_of checked)
 Passes gate old new (Err stop) checked = Keeps stop old new
 
--- a statement was run with a gate, which refuses what it has no room for, and has recorded what was done
-pub record Writes {G : Type 0} (gate : Gate G) (old new : RowStateView × G) (before after : RowStep) (who : ℕ) (result : Result (Unit {0}) Stop) (checked : Checked Outcome) : Type 0 where
-  pub ran : Ran old.0 new.0 before after who result (gated gate old.1 checked)
-  pub passes : Passes gate old.1 new.1 result (gated gate old.1 checked)
+-- a statement was run, and a gate has recorded what it did
+pub record Runs {G : Type 0} (gate : Gate G) (old new : RowStateView × G) (before after : RowStep) (who : ℕ) (result : Result (Unit {0}) Stop) (checked : Checked Outcome) : Type 0 where
+  pub ran : Ran old.0 new.0 before after who result checked
+  pub passes : Passes gate old.1 new.1 result checked
+
+-- one that the gate refuses if it has no room for it
+abbrev pub Writes : {G : Type 0} → Gate G → (old new : RowStateView × G) → (before after : RowStep) → ℕ → Result (Unit {0}) Stop → Checked Outcome → Type 0
+Writes gate old new before after who result checked = Runs gate old new before after who result (gated gate old.1 checked)

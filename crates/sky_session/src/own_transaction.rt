@@ -10,13 +10,14 @@ ghost use Rattle.sky_model.specs.Sessions.{outside};
 ghost use Rattle.sky_model.specs.State.{after_part_marks};
 ghost use Rattle.sky_model.specs.OwnTransaction.{txid_for, begin_of, commit_of, written};
 ghost use Rattle.sky_session.specs.Effects.{with_effects};
+ghost use Rattle.sky_model.specs.Gates.{passed_all};
 ghost use Rattle.sky_model.specs.SessionMarks.{Enters, failing, ending};
 ghost use Rattle.sky_state.specs.Seen.{seen};
 
 use crate::effect::{Effect, Effects};
 use sky_fits::{Block, allow};
 use sky_locks::LockKey;
-use sky_model::{Refusal, Where};
+use sky_model::{Refusal, Where, WriteGate};
 use sky_state::RowState;
 use sky_val::{NoMemory, Row, SessionId};
 
@@ -149,20 +150,24 @@ pub(crate) fn write_own(
     Ok(())
 }
 
-/// Rolls back the transaction of the session's block, and aborts the block, if it is in one that isn't aborted.
-pub(crate) fn abort_block(
+/// Rolls back the transaction of the session's block, and aborts the block, if it is in one that isn't aborted. The gate
+/// is notified of the rollback.
+pub(crate) fn abort_block<G: WriteGate>(
     state: &mut RowState,
     who: SessionId,
+    gate: &mut G,
     effects: &mut Effects,
 ) -> Result<(), NoMemory>
     ensures marks { OnOk result (seen state.new ≡ after_part_marks (seen state.old) (failing (seen state.old) who).marks) }
     ensures told { OnOk result (effects.new ≡ with_effects effects.old (failing (seen state.old) who).marks) }
+    ensures passed { OnOk result (gate.new ≡ passed_all G.rule gate.old (failing (seen state.old) who).marks) }
 {
     if state.block(who) != Block::Inside {
         return Ok(());
     }
     if let Some(txid) = state.own_txid(who) {
         state.aborted(who, txid);
+        gate.rolled_back(txid);
         effects.push(Effect::Aborted(txid))?;
     }
     state.block_failed(who)?;

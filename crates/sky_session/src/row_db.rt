@@ -12,12 +12,13 @@ ghost use Rattle.sky_model.specs.OwnTransaction.{next_id, txid_for, begin_of, wr
 ghost use Rattle.sky_model.specs.SessionMarks.{Enters, entry, entry_place, failing, taking, ending};
 ghost use Rattle.sky_model.specs.WorkerMarks.{beginning, ending_work};
 ghost use Rattle.sky_model.specs.Reader.{part_by_itself};
-ghost use Rattle.sky_model.specs.Gates.{by_gate};
+ghost use Rattle.sky_model.specs.Gates.{by_gate, passed_all};
 ghost use Rattle.sky_model.specs.Rooms.{any_room, room_of};
 ghost use Rattle.sky_model.specs.Calls.{row_turn};
 ghost use Rattle.sky_model.specs.RowCalls.{row_stepped, row_entered, row_failed, row_settled, rolled_back, txid_taken, single_ended, worker_begun, worker_ended};
 ghost use Rattle.sky_model.specs.RowSteps.{RowSteps};
 ghost use Rattle.sky_model.specs.Settling.{ready, settling, with_settling};
+ghost use Rattle.sky_session.specs.Committing.{commits_of};
 ghost use Rattle.sky_session.specs.Effects.{with_effects};
 ghost use Rattle.sky_session.specs.Gives.{Settles, Gives, nothing};
 ghost use Rattle.sky_state.specs.Seen.{seen};
@@ -27,7 +28,7 @@ use crate::effect::Effects;
 use crate::own_transaction::{abort_block, admit, begin_own, commit_alone, next_txid, take_own};
 use crate::settling::settle_behind;
 use crate::statements::own_answer;
-use sky_fits::Block;
+use sky_fits::{Block, allow};
 use sky_model::{OpenGate, Refusal, RowStmt, Where, WriteGate};
 use sky_state::RowState;
 use sky_trans::TransFault;
@@ -97,6 +98,21 @@ impl RowDb {
         self.state.is_waiting(who)
     }
 
+    /// The id of the transaction that a `commit` of the session makes permanent now; none if it may not commit, is in no
+    /// block or in an aborted one, or its transaction has no id.
+    pub fn commits(&self, who: SessionId) -> Option<u64>
+        ensures { result ≡ commits_of (seen self.now) who }
+    {
+        let waits = self.state.is_waiting(who);
+        if allow(waits, self.state.standing(who), Where::WhenOpen).is_err() {
+            return None;
+        }
+        match self.state.block(who) {
+            Block::Inside => self.state.own_txid(who),
+            _ => None,
+        }
+    }
+
     /// Whether the session is in a transaction block, an aborted one too.
     pub fn in_transaction(&self, who: SessionId) -> bool
         ensures { IsTrue result ↔ (((seen self.now).session who).block ≢ outside) }
@@ -130,8 +146,8 @@ impl RowDb {
     }
 
     /// The same with a gate for the writes: the statement's own, and those of the statements that it unblocks. The gate
-    /// is notified of them in their order, so that the effects are the ends of transactions alone. A write that it has
-    /// no room for is refused, if nothing else refuses it.
+    /// is notified of them and of rollbacks in their order, so that the effects are the ends of transactions alone. A
+    /// write that it has no room for is refused, if nothing else refuses it.
     pub fn step_with<G: WriteGate>(
         &mut self,
         who: SessionId,
@@ -198,7 +214,7 @@ impl RowDb {
         ensures { OnOk result (Settles G.rule (seen self.old, gate.old) (seen self.new, gate.new) step.old step.new
             (row_failed (room_of G.rule gate.old) who) (with_settling (by_gate G.rule part_by_itself) (seen self.old, gate.old) (failing (seen self.old) who))) }
     {
-        abort_block(&mut self.state, who, &mut step.effects)?;
+        abort_block(&mut self.state, who, gate, &mut step.effects)?;
         settle_behind(&mut self.state, gate, step)?;
         Ok(())
     }
@@ -278,13 +294,19 @@ impl RowDb {
     }
 
     /// Rolls back the transaction of the session's block, and aborts the block, if it is in one that isn't aborted. The
-    /// effect is added to those before.
-    pub fn roll_back(&mut self, who: SessionId, effects: &mut Effects) -> Result<(), NoMemory>
+    /// gate is notified of it, and the effect is added to those before.
+    pub fn roll_back<G: WriteGate>(
+        &mut self,
+        who: SessionId,
+        gate: &mut G,
+        effects: &mut Effects,
+    ) -> Result<(), NoMemory>
         ensures marks { OnOk result (seen self.new ≡ after_part_marks (seen self.old) (failing (seen self.old) who).marks) }
         ensures told { OnOk result (effects.new ≡ with_effects effects.old (failing (seen self.old) who).marks) }
+        ensures passed { OnOk result (gate.new ≡ passed_all G.rule gate.old (failing (seen self.old) who).marks) }
         ensures steps { OnOk result (RowSteps (seen self.old) (seen self.new) (rolled_back who) (failing (seen self.old) who)) }
     {
-        abort_block(&mut self.state, who, effects)?;
+        abort_block(&mut self.state, who, gate, effects)?;
         Ok(())
     }
 

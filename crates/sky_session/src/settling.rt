@@ -34,7 +34,7 @@ fn resume<G: WriteGate>(
 {
     let attempt = state.waited(who);
     let ran = attempt_key(state, who, key, &attempt, gate, step);
-    or_refuse(state, who, ran, step)?;
+    or_refuse(state, who, ran, gate, step)?;
     Ok(())
 }
 

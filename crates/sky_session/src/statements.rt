@@ -4,7 +4,6 @@
 ghost use Rattle.std.specs.Prelude.{◌≡◌, ◌≢◌, [], ◌∷◌, true, false, Ok, Err, Result, OnOk};
 ghost use Rattle.sky_keys.specs.Waits.{is_waiting};
 ghost use Rattle.sky_model.specs.declared.stmt.Where.TheVariants.{WhenReading};
-ghost use Rattle.sky_model.specs.declared.stop.Stop.TheVariants.{NoMemory};
 ghost use Rattle.sky_model.specs.InForm.{IsRowInForm};
 ghost use Rattle.sky_model.specs.Allowed.{where_of_row};
 ghost use Rattle.sky_model.specs.Sessions.{outside};
@@ -15,9 +14,9 @@ ghost use Rattle.sky_model.specs.StepSession.{open_db, begin, begin_repeatable_r
 ghost use Rattle.sky_model.specs.Calls.{row_form, row_statement};
 ghost use Rattle.sky_model.specs.Reader.{part_by_itself};
 ghost use Rattle.sky_model.specs.Settling.{turn_of};
-ghost use Rattle.sky_model.specs.Gates.{by_gate};
+ghost use Rattle.sky_model.specs.Gates.{by_gate, passed_all};
 ghost use Rattle.sky_session.specs.Effects.{with_effects};
-ghost use Rattle.sky_session.specs.Gives.{Adds, Does, Ran, Writes};
+ghost use Rattle.sky_session.specs.Gives.{Adds, Ran, Passes, Runs, Writes};
 ghost use Rattle.sky_session.specs.declared.answer.RowStep.{RowStep};
 ghost use Rattle.sky_state.specs.Views.{RowStateView};
 ghost use Rattle.sky_state.specs.Seen.{seen};
@@ -45,29 +44,29 @@ pub(crate) fn own_answer<G: WriteGate>(
     ensures { OnOk result (Adds G.rule (seen state.old, gate.old) (seen state.new, gate.new) step.old step.new (turn_of who (row_statement (by_gate G.rule part_by_itself) (seen state.old, gate.old) who stmt.now))) }
 {
     if let Some(refusal) = admit(state, who, where_of(stmt))? {
-        refuse(state, who, refusal, step)?;
+        refuse(state, who, refusal, gate, step)?;
         return Ok(());
     }
     let ran = run_form(state, who, stmt, gate, step);
-    or_refuse(state, who, ran, step)?;
+    or_refuse(state, who, ran, gate, step)?;
     Ok(())
 }
 
 /// Answers with the refusal, if a statement that was run is refused.
-pub(crate) fn or_refuse(
+pub(crate) fn or_refuse<G: WriteGate>(
     state: &mut RowState,
     who: SessionId,
     ran: Result<(), Stop>,
+    gate: &mut G,
     step: &mut RowStep,
 ) -> Result<(), NoMemory>
-    ensures answered { (old : RowStateView) (before : RowStep) (checked : Checked Outcome) → Ran old state.old before step.old who ran checked
-        → OnOk result (Does (seen old) (seen state.new) before step.new who (Ok (settled who ((seen old).session who) checked))) }
-    ensures memory { OnOk result (ran ≢ Err NoMemory) }
+    ensures { (old : RowStateView × G) (before : RowStep) (checked : Checked Outcome) → Runs G.rule old (state.old, gate.old) before step.old who ran checked
+        → OnOk result (Adds G.rule (seen old.0, old.1) (seen state.new, gate.new) before step.new (turn_of who (settled who ((seen old.0).session who) checked))) }
 {
     match ran {
         Ok(()) => Ok(()),
         Err(Stop::Refused(refusal)) => {
-            refuse(state, who, refusal, step)?;
+            refuse(state, who, refusal, gate, step)?;
             Ok(())
         }
         Err(Stop::NoMemory) => Err(AllocError),
@@ -75,16 +74,17 @@ pub(crate) fn or_refuse(
 }
 
 /// Answers with a refusal. It aborts the block that its session is in, unless it is one of the few that abort nothing.
-fn refuse(
+fn refuse<G: WriteGate>(
     state: &mut RowState,
     who: SessionId,
     refusal: Refusal,
+    gate: &mut G,
     step: &mut RowStep,
 ) -> Result<(), NoMemory>
-    ensures { OnOk result (Does (seen state.old) (seen state.new) step.old step.new who (Ok (settled who ((seen state.old).session who) (Err refusal)))) }
+    ensures { OnOk result (Adds G.rule (seen state.old, gate.old) (seen state.new, gate.new) step.old step.new (turn_of who (settled who ((seen state.old).session who) (Err refusal)))) }
 {
     if refusal.aborts() {
-        abort_block(state, who, &mut step.effects)?;
+        abort_block(state, who, gate, &mut step.effects)?;
     }
     step.answer(who, Reply::Refused(refusal))?;
     Ok(())
@@ -103,12 +103,12 @@ fn run_form<G: WriteGate>(
 {
     match stmt {
         RowStmt::OpenDb { name: _ } => open_db(state, who, step),
-        RowStmt::Close => close(state, who, step),
-        RowStmt::Cancel => cancel(state, who, step),
+        RowStmt::Close => close(state, who, gate, step),
+        RowStmt::Cancel => cancel(state, who, gate, step),
         RowStmt::Begin => begin(state, who, step),
         RowStmt::BeginRepeatableRead => begin_repeatable_read(state, who, step),
-        RowStmt::Commit => commit(state, who, step),
-        RowStmt::Rollback => rollback(state, who, step),
+        RowStmt::Commit => commit(state, who, gate, step),
+        RowStmt::Rollback => rollback(state, who, gate, step),
         RowStmt::TxidCurrent => txid_current(state, who, step),
         RowStmt::TxidCurrentSnapshot => txid_current_snapshot(state, who, step),
         RowStmt::TxidVisibleInSnapshot { txid, snapshot } => {
@@ -135,28 +135,41 @@ fn open_db(state: &mut RowState, who: SessionId, step: &mut RowStep) -> Result<(
 }
 
 /// `close`: a block is rolled back.
-fn close(state: &mut RowState, who: SessionId, step: &mut RowStep) -> Result<(), Stop>
-    ensures { Ran state.old state.new step.old step.new who result (close who ((seen state.old).session who).txid ((seen state.old).session who).block) }
+fn close<G: WriteGate>(
+    state: &mut RowState,
+    who: SessionId,
+    gate: &mut G,
+    step: &mut RowStep,
+) -> Result<(), Stop>
+    ensures ran { Ran state.old state.new step.old step.new who result (close who ((seen state.old).session who).txid ((seen state.old).session who).block) }
+    ensures passes { Passes G.rule gate.old gate.new result (close who ((seen state.old).session who).txid ((seen state.old).session who).block) }
 {
     if state.block(who) == Block::Outside {
         state.disconnected(who);
         return Ok(step.answer(who, Reply::Done)?);
     }
-    roll_back_block(state, who, &mut step.effects)?;
+    roll_back_block(state, who, gate, &mut step.effects)?;
     state.disconnected(who);
     Ok(step.answer(who, Reply::Done)?)
 }
 
 /// `cancel`: the session no longer waits, and its block is rolled back.
-fn cancel(state: &mut RowState, who: SessionId, step: &mut RowStep) -> Result<(), Stop>
-    ensures { let s = (seen state.old).session who in
+fn cancel<G: WriteGate>(
+    state: &mut RowState,
+    who: SessionId,
+    gate: &mut G,
+    step: &mut RowStep,
+) -> Result<(), Stop>
+    ensures ran { let s = (seen state.old).session who in
         Ran state.old state.new step.old step.new who result (cancel who s.txid s.block (is_waiting who (seen state.old).waiting)) }
+    ensures passes { let s = (seen state.old).session who in
+        Passes G.rule gate.old gate.new result (cancel who s.txid s.block (is_waiting who (seen state.old).waiting)) }
 {
     if !state.is_waiting(who) {
         return Ok(step.answer(who, Reply::NotWaiting)?);
     }
     state.waited(who);
-    abort_block(state, who, &mut step.effects)?;
+    abort_block(state, who, gate, &mut step.effects)?;
     Ok(step.answer(who, Reply::Refused(Refusal::Canceled))?)
 }
 
@@ -188,8 +201,14 @@ fn begin_repeatable_read(
 }
 
 /// `commit`: an aborted block is rolled back.
-fn commit(state: &mut RowState, who: SessionId, step: &mut RowStep) -> Result<(), Stop>
-    ensures { Ran state.old state.new step.old step.new who result (commit who ((seen state.old).session who).txid ((seen state.old).session who).block) }
+fn commit<G: WriteGate>(
+    state: &mut RowState,
+    who: SessionId,
+    gate: &mut G,
+    step: &mut RowStep,
+) -> Result<(), Stop>
+    ensures ran { Ran state.old state.new step.old step.new who result (commit who ((seen state.old).session who).txid ((seen state.old).session who).block) }
+    ensures passes { Passes G.rule gate.old gate.new result (commit who ((seen state.old).session who).txid ((seen state.old).session who).block) }
 {
     match state.block(who) {
         Block::Outside => Ok(step.answer(who, Reply::NoTransaction)?),
@@ -198,20 +217,26 @@ fn commit(state: &mut RowState, who: SessionId, step: &mut RowStep) -> Result<()
             Ok(step.answer(who, Reply::Commit)?)
         }
         Block::Failed => {
-            roll_back_block(state, who, &mut step.effects)?;
+            roll_back_block(state, who, gate, &mut step.effects)?;
             Ok(step.answer(who, Reply::Rollback)?)
         }
     }
 }
 
 /// `rollback`
-fn rollback(state: &mut RowState, who: SessionId, step: &mut RowStep) -> Result<(), Stop>
-    ensures { Ran state.old state.new step.old step.new who result (rollback who ((seen state.old).session who).txid ((seen state.old).session who).block) }
+fn rollback<G: WriteGate>(
+    state: &mut RowState,
+    who: SessionId,
+    gate: &mut G,
+    step: &mut RowStep,
+) -> Result<(), Stop>
+    ensures ran { Ran state.old state.new step.old step.new who result (rollback who ((seen state.old).session who).txid ((seen state.old).session who).block) }
+    ensures passes { Passes G.rule gate.old gate.new result (rollback who ((seen state.old).session who).txid ((seen state.old).session who).block) }
 {
     if state.block(who) == Block::Outside {
         return Ok(step.answer(who, Reply::NoTransaction)?);
     }
-    roll_back_block(state, who, &mut step.effects)?;
+    roll_back_block(state, who, gate, &mut step.effects)?;
     Ok(step.answer(who, Reply::Rollback)?)
 }
 
@@ -228,17 +253,20 @@ fn commit_block(state: &mut RowState, who: SessionId, effects: &mut Effects) -> 
     Ok(())
 }
 
-/// The session's block ends, and its transaction is rolled back, if it has an id.
-fn roll_back_block(
+/// The session's block ends, and its transaction is rolled back, if it has an id. The gate is notified of it.
+fn roll_back_block<G: WriteGate>(
     state: &mut RowState,
     who: SessionId,
+    gate: &mut G,
     effects: &mut Effects,
 ) -> Result<(), NoMemory>
     ensures marks { OnOk result (seen state.new ≡ after_part_marks (seen state.old) (leaves false who ((seen state.old).session who).txid)) }
     ensures told { OnOk result (effects.new ≡ with_effects effects.old (leaves false who ((seen state.old).session who).txid)) }
+    ensures passed { OnOk result (gate.new ≡ passed_all G.rule gate.old (leaves false who ((seen state.old).session who).txid)) }
 {
     if let Some(txid) = state.own_txid(who) {
         state.aborted(who, txid);
+        gate.rolled_back(txid);
         effects.push(Effect::Aborted(txid))?;
     }
     state.block_ended(who);

@@ -1,4 +1,5 @@
 use Rattle.sky_model.proofs.QueuesInUse as law
+use Rattle.sky_model.proofs.BusyQueues as busy
 use Rattle.sky_model.proofs.laws.queues_in_use_stand.Goals as goal
 
 pub returns-clause-consumers : goal.returns-clause-consumers
@@ -9,6 +10,9 @@ returns-clause-triggers c = law.queues_of_triggers_stand
 
 pub returns-clause-busy : goal.returns-clause-busy
 returns-clause-busy c = law.busy_queues_stand
+
+pub returns-clause-producers : goal.returns-clause-producers
+returns-clause-producers c = busy.producers_have_work
 
 pub returns-clause-gone : goal.returns-clause-gone
 returns-clause-gone c = law.other_queues_keep_nothing
