@@ -34,7 +34,7 @@ use Rattle.pgq_queues.specs.Traced.{traced_by, traced_at, IsTraced, AreTables}
 use Rattle.pgq_queues.specs.EventRule.{events_at, sequences, ids_left, telling, telling_all, event_rule}
 use Rattle.pgq_queues.proofs.Marked.{get_or-slice_set}
 use Rattle.pgq_queues.proofs.Telling.{telling-length}
-use Rattle.pgq_queues.proofs.Rotated.{undone-as}
+use Rattle.pgq_queues.proofs.RotatedQueues.{undone-as}
 use Rattle.pgq_queues.specs.Rotated.{undone_in}
 use Rattle.pgq_tables.specs.Tables.{with_stored}
 use Rattle.pgq_db.specs.Switches.{first_switches}
