@@ -90,20 +90,30 @@ agree-entered old new who place (Err no_memory) q enters err are = agree-same ol
 
 -- ---- turns of rows
 
-rounds-passed : (q : QueuesView) (mark : Mark) → (passed event_rule q mark).rounds ≡ q.rounds
-rounds-passed q (tabled (wrote (of_session who) t table key old new)) = refl
-rounds-passed q mark = refl
+-- what is kept of triggers and tables stays the same in the queues as the gate
+keeps-passed : (q : QueuesView) (mark : Mark) → KeepsRest q (passed event_rule q mark)
+keeps-passed q (tabled (wrote (of_session who) t table key old new)) = record { time = refl; triggers = refl; traced = refl; rounds = refl }
+keeps-passed q (ended whose t false) = record { time = refl; triggers = refl; traced = refl; rounds = refl }
+keeps-passed q mark = record { time = refl; triggers = refl; traced = refl; rounds = refl }
 
-rounds-behind : (q : QueuesView) (marks : List Mark) → (passed_all event_rule q marks).rounds ≡ q.rounds
-rounds-behind q [] = refl
-rounds-behind q (mark ∷ marks) = rounds-behind (passed event_rule q mark) marks ∙ rounds-passed q mark
+keeps-all : (q : QueuesView) (marks : List Mark) → KeepsRest q (passed_all event_rule q marks)
+keeps-all q [] = record { time = refl; triggers = refl; traced = refl; rounds = refl }
+keeps-all q (mark ∷ marks) =
+    let one = keeps-passed q mark in
+    let rest = keeps-all (passed event_rule q mark) marks in
+    record { time = rest.time ∙ one.time; triggers = rest.triggers ∙ one.triggers; traced = rest.traced ∙ one.traced; rounds = rest.rounds ∙ one.rounds }
+
+-- after marks of rows
+pub agree-passed : (old new : RowPart) (was left : QueuesView) (marks : List Mark) → new ≡ after_part_marks old marks → left ≡ passed_all event_rule was marks → Agree old was → Agree new left
+agree-passed old new was left marks part_is left_is are =
+    agree-then old new marks left part_is (subst (Agree old) (sym left_is) (agree-stay old was (passed_all event_rule was marks) (keeps-all was marks) are))
 
 -- after a turn, from where the queues got a time
-pub agree-behind_turn : (now at : ℤ) (p after : RowPart) (was q left : QueuesView) (gated told : Turn) → (Alike now was.undone (seen_with p was) p q → SameTold event_rule (Alike now was.undone) (seen_with p was) p q gated told)
+pub agree-behind_turn : (now at : ℤ) (p after : RowPart) (was q left : QueuesView) (gated told : Turn) → (Alike now (seen_with p was) p q → SameTold event_rule (Alike now) (seen_with p was) p q gated told)
     → q ≡ record was { time = at } → at ≡ now → Agree p was → All (λ t. t.trigger.queue < length q.queues) q.triggers → after ≡ after_part_marks p gated.marks → left ≡ passed_all event_rule q gated.marks → Agree after left
 agree-behind_turn now at p after was q left gated told tells is time are within part_is left_is =
     let more = next-then p after gated.marks part_is in
-    let same : left.rounds ≡ was.rounds = ap QueuesView.rounds left_is ∙ rounds-behind q gated.marks ∙ ap QueuesView.rounds is in
+    let same : left.rounds ≡ was.rounds = ap QueuesView.rounds left_is ∙ (keeps-all q gated.marks).rounds ∙ ap QueuesView.rounds is in
     record {
       tables = tables-behind_turn now at p after was q left gated told tells is time are.tables within part_is left_is;
       given = omega (arith, more, same, are.given);
@@ -124,3 +134,7 @@ agree-back old new t was q left is keeps are =
       given = omega (arith, one, before);
       few = omega (arith, few, before);
     })
+
+-- a worker's transaction, in which queues change and the rest stays
+pub agree-worked : (old new : RowPart) (t : ℕ) (was q : QueuesView) → new ≡ after_part_marks old (began of_worker t ∷ ended of_worker t true ∷ []) → KeepsRest was q → Agree old was → Agree new q
+agree-worked old new t was q is keeps are = agree-stay new was q keeps (agree-then old new (began of_worker t ∷ ended of_worker t true ∷ []) was is are)

@@ -7,7 +7,7 @@ use Rattle.sky_model.specs.declared.reply.BatchInfo as shown_batch
 use Rattle.sky_model.specs.declared.reply.Reply.{Reply}
 use Rattle.sky_model.specs.declared.reply.Reply.TheVariants.{Number, Events, BatchInfo}
 use Rattle.sky_model.specs.declared.reply.Limit.TheVariants.{Consumers}
-use Rattle.sky_model.specs.declared.reply.Refusal.TheVariants.{NoBatch, NodeConsumer, NoTick, TooMany, IdsSpent}
+use Rattle.sky_model.specs.declared.reply.Refusal.TheVariants.{NoBatch, NodeConsumer, NoTick, TickTooOld, TooMany, IdsSpent}
 use Rattle.sky_model.specs.History.{Batch, QueueMark, queued, registered, moved, unregistered, opened, closed}
 use Rattle.sky_model.specs.Queues.{Tick, tick, newest_tick}
 use Rattle.sky_model.specs.Consumers.{Subscription}
@@ -18,7 +18,7 @@ use Rattle.sky_model.specs.Outcome.{Outcome, Checked, ◌>>=◌, ◌>>◌, refus
 use Rattle.sky_model.specs.Reader.{shown_by}
 use Rattle.sky_model.specs.StepQueue.{queue_called, newest_id}
 use Rattle.sky_model.specs.Queues.{id_of}
-use Rattle.sky_model.specs.StepConsumer.{has_dot, registers, register_consumer, register_consumer_at, leaves, unregister_consumer, opens_batch, get_batch_events, batch_info_of, get_batch_info, finishes, finish_batch}
+use Rattle.sky_model.specs.StepConsumer.{has_dot, registers, register_consumer, register_consumer_at, leaves, unregister_consumer, opens_batch, floor, get_batch_events, batch_info_of, get_batch_info, finishes, finish_batch}
 use Rattle.sky_state.specs.Seen.{seen}
 use Rattle.pgq_queues.specs.declared.batch.Batch as read
 use Rattle.pgq_queues.specs.Views.{QueuesView}
@@ -75,21 +75,38 @@ module _ (d : Database) (name consumer : List ℕ) (q : ℕ) (found : queue_call
   gives-known who before after known pushed = subst (Runs d d before after who) (sym (anew true known)) (record { accepted = refl; replied = pushed; changed = refl }, tt)
 
   -- at a tick that the queue has
-  at-tick : (id : ℕ) (b : Bool) → (id == 0 || nat_lt (newest_id (d.queue q)) id) ≡ false → is_some ((d.queue q).sub consumer) ≡ b
+  abbrev by_floor : (id m : ℕ) → Checked Outcome → Checked Outcome
+  by_floor id m rest = refused_if (nat_lt id m) (TickTooOld id m) >> rest
+
+  abbrev at_number : ℕ → ℕ → Checked Outcome
+  at_number id n = if is_some ((d.queue n).sub consumer) then does_marks (Number 0) (queued (moved n consumer id) ∷ []) else registers d n consumer id
+
+  has-tick : (id : ℕ) → (id == 0 || nat_lt (newest_id (d.queue q)) id) ≡ false → register_consumer_at d name consumer id ≡ by_floor id (floor (d.queue q)) (at_number id q)
+  has-tick id within =
+      behind (λ n. refused_if (id == 0 || nat_lt (newest_id (d.queue n)) id) (NoTick id (newest_id (d.queue n))) >> by_floor id (floor (d.queue n)) (at_number id n))
+      ∙ ap (λ x. refused_if x (NoTick id (newest_id (d.queue q))) >> by_floor id (floor (d.queue q)) (at_number id q)) within
+
+  -- one that is too old
+  pub too-old : (id oldest : ℕ) → (id == 0 || nat_lt (newest_id (d.queue q)) id) ≡ false → oldest ≡ floor (d.queue q) → id < oldest → register_consumer_at d name consumer id ≡ Err (TickTooOld id oldest)
+  too-old id oldest within is low =
+      let old : nat_lt id oldest ≡ true = grind (arith, nat_tests) in
+      has-tick id within ∙ ap (λ m. by_floor id m (at_number id q)) (sym is) ∙ ap (λ b. refused_if b (TickTooOld id oldest) >> at_number id q) old
+
+  at-tick : (id oldest : ℕ) (b : Bool) → (id == 0 || nat_lt (newest_id (d.queue q)) id) ≡ false → oldest ≡ floor (d.queue q) → oldest ≤ id → is_some ((d.queue q).sub consumer) ≡ b
       → register_consumer_at d name consumer id ≡ (if b then does_marks (Number 0) (queued (moved q consumer id) ∷ []) else registers d q consumer id)
-  at-tick id b within is =
-      behind (λ n. refused_if (id == 0 || nat_lt (newest_id (d.queue n)) id) (NoTick id (newest_id (d.queue n)))
-      >> (if is_some ((d.queue n).sub consumer) then does_marks (Number 0) (queued (moved n consumer id) ∷ []) else registers d n consumer id))
-      ∙ ap (λ x. refused_if x (NoTick id (newest_id (d.queue q))) >> (if is_some ((d.queue q).sub consumer) then does_marks (Number 0) (queued (moved q consumer id) ∷ []) else registers d q consumer id)) within
+  at-tick id oldest b within low le is =
+      let new : nat_lt id oldest ≡ false = grind (arith, nat_tests) in
+      has-tick id within ∙ ap (λ m. by_floor id m (at_number id q)) (sym low) ∙ ap (λ x. refused_if x (TickTooOld id oldest) >> at_number id q) new
       ∙ ap (λ x. if x then does_marks (Number 0) (queued (moved q consumer id) ∷ []) else registers d q consumer id) is
 
-  pub register_at-new : (id : ℕ) → (id == 0 || nat_lt (newest_id (d.queue q)) id) ≡ false → is_some ((d.queue q).sub consumer) ≡ false → registers d q consumer id ≡ register_consumer_at d name consumer id
-  register_at-new id within new = sym (at-tick id false within new)
+  pub register_at-new : (id oldest : ℕ) → (id == 0 || nat_lt (newest_id (d.queue q)) id) ≡ false → oldest ≡ floor (d.queue q) → oldest ≤ id → is_some ((d.queue q).sub consumer) ≡ false
+      → registers d q consumer id ≡ register_consumer_at d name consumer id
+  register_at-new id oldest within low le new = sym (at-tick id oldest false within low le new)
 
-  pub gives-moved : (s : Database) (who id : ℕ) (before after : List (ℕ × Reply)) → (id == 0 || nat_lt (newest_id (d.queue q)) id) ≡ false → is_some ((d.queue q).sub consumer) ≡ true
-      → s ≡ after_mark d (queued (moved q consumer id)) → after ≡ before ++ (who, Number 0) ∷ [] → Runs d s before after who (register_consumer_at d name consumer id)
-  gives-moved s who id before after within known changed pushed =
-      subst (Runs d s before after who) (sym (at-tick id true within known)) (record { accepted = refl; replied = pushed; changed = changed }, tt)
+  pub gives-moved : (s : Database) (who id oldest : ℕ) (before after : List (ℕ × Reply)) → (id == 0 || nat_lt (newest_id (d.queue q)) id) ≡ false → oldest ≡ floor (d.queue q) → oldest ≤ id
+      → is_some ((d.queue q).sub consumer) ≡ true → s ≡ after_mark d (queued (moved q consumer id)) → after ≡ before ++ (who, Number 0) ∷ [] → Runs d s before after who (register_consumer_at d name consumer id)
+  gives-moved s who id oldest before after within low le known changed pushed =
+      subst (Runs d s before after who) (sym (at-tick id oldest true within low le known)) (record { accepted = refl; replied = pushed; changed = changed }, tt)
 
   -- one that leaves, if it is registered
   pub gives-leave : (s : Database) (who count : ℕ) (o : Option ℕ) (before after : List (ℕ × Reply)) → o ≡ option_map Subscription.id ((d.queue q).sub consumer)
@@ -186,11 +203,11 @@ gives-finish v now queues who id count before after same over nothing pushed is 
     of (Some batch) over nothing is = (record { accepted = refl; replied = pushed ∙ ap (λ n. before ++ (who, Number n) ∷ []) is; changed = over (seen v.rows) }, tt)
 
 -- its events
-pub gives-events : (d : Database) (who id : ℕ) (batch : read.Batch) (events : List Event) (before after : List (ℕ × Reply)) → Some (seen_batch batch) ≡ d.batch id
-    → events ≡ selected d (seen_batch batch) → EventsHaveMoments events → after ≡ before ++ (who, Events events) ∷ [] → Runs d d before after who (get_batch_events (shown_by d).events id)
-gives-events d who id batch events before after there is have pushed =
-    subst (λ found. Runs d d before after who (found_or (option_map (selected d) found) NoBatch >>= (λ es. answers (Events es)))) there
-    (record { accepted = refl; replied = pushed ∙ ap (λ es. before ++ (who, Events es) ∷ []) is; changed = refl }, subst EventsHaveMoments is have)
+pub gives-events : (d s : Database) (who id : ℕ) (batch : read.Batch) (events : List Event) (before after : List (ℕ × Reply)) → Some (seen_batch batch) ≡ d.batch id
+    → events ≡ selected d (seen_batch batch) → EventsHaveMoments events → s ≡ d → after ≡ before ++ (who, Events events) ∷ [] → Runs d s before after who (get_batch_events (shown_by d).events id)
+gives-events d s who id batch events before after there is have same pushed =
+    subst (λ found. Runs d s before after who (found_or (option_map (selected d) found) NoBatch >>= (λ es. answers (Events es)))) there
+    (record { accepted = refl; replied = pushed ∙ ap (λ es. before ++ (who, Events es) ∷ []) is; changed = same }, subst EventsHaveMoments is have)
 
 -- what is shown of it
 pub gives-info : (d : Database) (who id : ℕ) (batch : read.Batch) (info : shown_batch.BatchInfo) (before after : List (ℕ × Reply)) → Some (seen_batch batch) ≡ d.batch id

@@ -46,7 +46,6 @@ use Rattle.pgq_queues.specs.Views.{QueuesView}
 use Rattle.pgq_queues.specs.Seen.{seen_with}
 use Rattle.pgq_db.specs.Views.{DbView}
 use Rattle.pgq_db.specs.Seen.{seen_database}
-use Rattle.pgq_db.specs.Undone.{undone_by}
 use Rattle.pgq_db.specs.Gives.{Gives, Adds, Answers, Does}
 use Rattle.sky_model.specs.Stops.{Refuses, Stops}
 use Rattle.sky_model.specs.declared.stop.Stop.{Stop}
@@ -136,28 +135,27 @@ gives-event d s1 s2 s3 now time who name ev_type ev_data extra q seq t event bef
         ∙ ap (λ b. (refused_if b EventIdsSpent >> Ok ((d.queue q).seq + 1)) >>= result) unspent
         ∙ ap (λ n. result (n + 1)) (sym is)
 
-queue-written : (d : Database) (who t : ℕ) (o : Option ℕ) (b : Block) (n : ℕ) (name : List ℕ) (time : ℤ)
-    → after_marks (after_marks d (begin_of who t o ++ commit_of who t b)) (queued (made name) ∷ queued (ticked n 1 time 0) ∷ [])
-    ≡ after_marks d ((begin_of who t o ++ (queued (made name) ∷ []) ++ commit_of who t b) ++ queued (ticked n 1 time 0) ∷ [])
-queue-written d who t None outside n name time = refl
-queue-written d who t (Some own) outside n name time = refl
-queue-written d who t _ _ n name time = refl
+queue-written : (d : Database) (who t : ℕ) (o : Option ℕ) (b : Block) (name : List ℕ) (time : ℤ)
+    → after_mark (after_marks d (begin_of who t o ++ commit_of who t b)) (queued (made name t time))
+    ≡ after_marks d ((begin_of who t o ++ [] ++ commit_of who t b) ++ queued (made name t time) ∷ [])
+queue-written d who t None outside name time = refl
+queue-written d who t (Some own) outside name time = refl
+queue-written d who t _ _ name time = refl
 
--- a queue that is made, in a transaction of its own
-pub made-queue : (d s1 s2 : Database) (now time : ℤ) (who t count : ℕ) (name copied : List ℕ) → copied ≡ name → count ≡ d.queues_made → time ≡ now
+-- a queue that is made, once its transaction has ended
+pub made-queue : (d s1 s2 : Database) (now time : ℤ) (who t : ℕ) (name copied : List ℕ) → copied ≡ name → time ≡ now
     → s1 ≡ after_marks d (begin_of who t (d.part.session who).txid ++ commit_of who t (d.part.session who).block)
-    → s2 ≡ after_marks s1 (queued (made copied) ∷ queued (ticked count 1 time 0) ∷ [])
-    → s2 ≡ after_marks d (written who t (d.part.session who) (queued (made name) ∷ []) ++ queued (ticked d.queues_made 1 now 0) ∷ [])
-made-queue d s1 s2 now time who t count name copied same names at m1 m2 =
-    m2 ∙ ap (λ s. after_marks s (queued (made copied) ∷ queued (ticked count 1 time 0) ∷ [])) m1
-    ∙ queue-written d who t (d.part.session who).txid (d.part.session who).block count copied time
-    ∙ ap (λ n. after_marks d (written who t (d.part.session who) (queued (made n) ∷ []) ++ queued (ticked count 1 time 0) ∷ [])) same
-    ∙ ap (λ n. after_marks d (written who t (d.part.session who) (queued (made name) ∷ []) ++ queued (ticked n 1 time 0) ∷ [])) names
-    ∙ ap (λ x. after_marks d (written who t (d.part.session who) (queued (made name) ∷ []) ++ queued (ticked d.queues_made 1 x 0) ∷ [])) at
+    → s2 ≡ after_mark s1 (queued (made copied t time))
+    → s2 ≡ after_marks d (written who t (d.part.session who) [] ++ queued (made name t now) ∷ [])
+made-queue d s1 s2 now time who t name copied same at m1 m2 =
+    m2 ∙ ap (λ s. after_mark s (queued (made copied t time))) m1
+    ∙ queue-written d who t (d.part.session who).txid (d.part.session who).block copied time
+    ∙ ap (λ n. after_marks d (written who t (d.part.session who) [] ++ queued (made n t time) ∷ [])) same
+    ∙ ap (λ x. after_marks d (written who t (d.part.session who) [] ++ queued (made name t x) ∷ [])) at
 
 -- what a queue that is made gives
 pub gives-queue : (d s : Database) (now : ℤ) (who t : ℕ) (name : List ℕ) (before after : List (ℕ × Reply)) → queue_number name d.queues ≡ None → length d.queues < 64 → txid_for d.part who ≡ Ok t
-    → s ≡ after_marks d (written who t (d.part.session who) (queued (made name) ∷ []) ++ queued (ticked d.queues_made 1 now 0) ∷ [])
+    → s ≡ after_marks d (written who t (d.part.session who) [] ++ queued (made name t now) ∷ [])
     → after ≡ before ++ (who, Number 1) ∷ [] → Runs d s before after who (create_queue d now who name)
 gives-queue d s now who t name before after new room txid is pushed = subst (Runs d s before after who) (sym whole) (record { accepted = refl; replied = pushed; changed = is }, tt)
   where
@@ -165,7 +163,7 @@ gives-queue d s now who t name before after new room txid is pushed = subst (Run
     few = grind (arith, nat_tests)
 
     result : ℕ → Checked Outcome
-    result x = does_marks (Number 1) (written who x (d.part.session who) (queued (made name) ∷ []) ++ queued (ticked d.queues_made 1 now 0) ∷ [])
+    result x = does_marks (Number 1) (written who x (d.part.session who) [] ++ queued (made name x now) ∷ [])
 
     whole : create_queue d now who name ≡ result t
     whole =
@@ -218,59 +216,6 @@ module _ (d : Database) (name : List ℕ) (q : ℕ) (found : queue_called name d
 -- a database whose row part alone has changed
 pub part-as : (v now : DbView) (rows : RowStateView) (part : RowPart) → v ≡ now → seen rows ≡ part → seen_database (record v { rows = rows }) ≡ record (seen_database now) { part = part }
 part-as v now rows part same is = (λ i. record (seen_database v) { part = is i }) ∙ ap (λ (w : DbView). record (seen_database w) { part = part }) same
-
--- a write undoes nothing
-undone-wrote : (whole : Bool) (effect : Effect) (effects : List Effect) (undone : ℕ → Bool) → undone_by (effect ∷ effects) undone ≡ undone_by effects undone
-    → undone_by (if whole then effect ∷ effects else effects) undone ≡ undone_by effects undone
-undone-wrote true effect effects undone is = is
-undone-wrote false effect effects undone is = refl
-
--- marks of rows change the row part, and which transactions were rolled back
-pub after-row_marks : (whole : Bool) (d : Database) (marks : List Mark) → RowMarks marks
-    → after_marks d marks ≡ record d { part = after_part_marks d.part marks; undone = undone_by (effects_by whole marks) d.undone }
-after-row_marks whole d [] rows = refl
-after-row_marks whole d (queued mark ∷ marks) rows = absurd rows
-after-row_marks whole d (tabled (wrote who t table key old new) ∷ marks) rows =
-    let write : Mark = tabled (wrote who t table key old new) in
-    after-row_marks whole (after_mark d write) marks rows
-    ∙ ap (λ u. record d { part = after_part_marks d.part (write ∷ marks); undone = u }) (sym (undone-wrote whole (Wrote t table (op_of old new) old new) (effects_by whole marks) d.undone refl))
-after-row_marks whole d (ended who t true ∷ marks) rows = after-row_marks whole (after_mark d (ended who t true)) marks rows
-after-row_marks whole d (ended who t false ∷ marks) rows = after-row_marks whole (after_mark d (ended who t false)) marks rows
-after-row_marks whole d (mark ∷ marks) rows = after-row_marks whole (after_mark d mark) marks rows
-
--- what was rolled back is what the effects undo that were added
-pub undone-as : (d : Database) (marks : List Mark) (before after : EffectsView) → RowMarks marks → before.items ≡ [] → after ≡ with_effects before marks
-    → undone_by after.items d.undone ≡ (after_marks d marks).undone
-undone-as d marks before after rows none told =
-    ap (λ (e : EffectsView). undone_by e.items d.undone) told ∙ ap (λ es. undone_by (es ++ effects_by before.whole marks) d.undone) none
-    ∙ ap Database.undone (sym (after-row_marks before.whole d marks rows))
-
--- marks of rows, with those noted that were rolled back
-pub noted-as : (d s1 s2 : Database) (marks : List Mark) (before after : EffectsView) → RowMarks marks → before.items ≡ [] → after ≡ with_effects before marks
-    → s1.part ≡ after_part_marks d.part marks → s1 ≡ record d { part = s1.part } → s2 ≡ record s1 { undone = undone_by after.items s1.undone } → s2 ≡ after_marks d marks
-noted-as d s1 s2 marks before after rows none told changed but noted =
-    noted ∙ (λ i. record (but i) { undone = undone_by after.items (but i).undone })
-    ∙ (λ i. record d { part = changed i; undone = (undone-as d marks before after rows none told ∙ ap Database.undone (after-row_marks true d marks rows)) i })
-    ∙ sym (after-row_marks true d marks rows)
-
-undone-step : (d s whole : Database) (rest all : List Effect) (effect : Effect) → s ≡ record d { undone = undone_by (effect ∷ []) d.undone } → all ≡ effect ∷ rest
-    → record d { undone = undone_by all d.undone } ≡ whole → record s { undone = undone_by rest s.undone } ≡ whole
-undone-step d s whole rest all effect noted is before =
-    ap (λ (x : Database). record x { undone = undone_by rest x.undone }) noted
-    ∙ (λ i. record d { undone = one effect i })
-    ∙ ap (λ effects. record d { undone = undone_by effects d.undone }) (sym is) ∙ before
-  where
-    one : (e : Effect) → undone_by rest (undone_by (e ∷ []) d.undone) ≡ undone_by (e ∷ rest) d.undone
-    one (Aborted txid) = refl
-    one _ = refl
-
--- what one more effect undoes
-pub undone-at : (d s whole : Database) (items effects : List Effect) (i : ℕ) (effect : Effect) → s ≡ record d { undone = undone_by (effect ∷ []) d.undone } → items ≡ effects
-    → i < length items → effect ≡ get_or items i effect → record d { undone = undone_by (drop i effects) d.undone } ≡ whole
-    → record s { undone = undone_by (drop (i + 1) effects) s.undone } ≡ whole
-undone-at d s whole items effects i effect noted same lt is before =
-    undone-step d s whole (drop (i + 1) effects) (drop i effects) effect noted
-    (ap (drop i) (sym same) ∙ drop_more items i effect lt ∙ ap (λ e. e ∷ drop (i + 1) items) (sym is) ∙ ap (λ es. effect ∷ drop (i + 1) es) same) before
 
 -- a refusal that aborts leaves what a block does that is aborted
 pub abort-failure : (who : ℕ) (txid : Option ℕ) (b : Block) (refusal : Refusal) → aborts refusal ≡ true → abort who b txid refusal ≡ failure who txid b

@@ -3,16 +3,16 @@ use Rattle.std.proofs.Common.{◌≡◌, ℕ, suc, ℤ, ◌+◌, ◌<◌, ◌^�
 use Rattle.std.specs.Prelude.{not, ◌&&◌, option_map, slice_get, unwrap_or}
 use Rattle.std.specs.List.{All}
 use Rattle.std.proofs.lemmas.Bool.Decides.{nat_tests}
-use Rattle.std.proofs.lemmas.List.{length-set}
+use Rattle.std.proofs.lemmas.List.{length-set, length-map}
 use Rattle.std.proofs.lemmas.List.Elements.{All-map, All-filter}
 use Rattle.sky_val.specs.declared.val.Val.{Val}
 use Rattle.sky_val.specs.declared.event.Event.{Event}
 use Rattle.sky_names.specs.Named.{value_of}
 use Rattle.sky_urlenc.specs.RowEvents.{RowEvent, Trigger, events_of, event_of}
 use Rattle.sky_model.specs.declared.reply.Refusal.TheVariants.{EventIdsSpent}
-use Rattle.sky_model.specs.History.{Mark, of_session, ended, tabled, wrote, queued}
+use Rattle.sky_model.specs.History.{Mark, Whose, of_session, ended, tabled, wrote, queued}
 use Rattle.sky_model.specs.Triggers.{TableTrigger, triggers_of}
-use Rattle.sky_model.specs.State.{Queue, RowPart, after_part, after_part_marks, Database, changed_at, after_mark, after_marks}
+use Rattle.sky_model.specs.State.{Queue, RowPart, after_part, after_part_marks, Database, changed_at, with_tables, after_mark, after_marks}
 use Rattle.sky_model.specs.Outcome.{Checked, ◌>>=◌, ◌>>◌, refused_if}
 use Rattle.sky_model.specs.Telling.{write_in, events_in, told_event, event_marks, told_by, told_of}
 use Rattle.sky_model.specs.Reader.{part_by_itself, database_by_itself, within_part}
@@ -21,17 +21,24 @@ use Rattle.sky_model.specs.Settling.{Turn, settling}
 use Rattle.sky_model.specs.Calls.{row_turn, database_turn}
 use Rattle.sky_model.specs.declared.stmt.RowStmt.{RowStmt}
 use Rattle.sky_model.specs.declared.stmt.Stmt.TheVariants.{Row}
-use Rattle.sky_model.proofs.RowOutcomes.{TurnOfRows, itself-rows, by_gate-rows, settling-rows-by, row_turn-rows-by}
-use Rattle.sky_model.proofs.Inserted.{BesideQueues, inserted-beside}
+use Rattle.sky_model.proofs.RowOutcomes.{RowMarks, TurnOfRows, failure-rows, itself-rows, by_gate-rows, settling-rows-by, row_turn-rows-by}
 use Rattle.sky_model.proofs.Telling.{IsOther, TellsAlike, SameTold, settling-told, row_turn-told}
-use Rattle.sky_session.specs.declared.effect.Effect.{Effect}
+use Rattle.sky_model.proofs.DatabaseStanding.{after_marks-append}
+use Rattle.sky_model.proofs.GatedLemmas.{is_no_write, WritesNone, plain-if}
+use Rattle.sky_model.proofs.StatementMarks.{AnyReply, no_more, each-failure}
+use Rattle.sky_model.specs.SessionMarks.{failure}
+use Rattle.sky_model.specs.Sessions.{Block}
 use Rattle.pgq_queues.specs.Views.{QueueView, TracedTableView, QueuesView}
-use Rattle.pgq_queues.specs.Seen.{no_queue, seen_queue, sub_at, batch_by, kept, keeps, seen_with}
+use Rattle.pgq_queues.specs.Seen.{no_queue, seen_queue, sub_at, batch_by, kept, seen_with}
 use Rattle.pgq_queues.specs.Traced.{traced_by, traced_at, IsTraced, AreTables}
 use Rattle.pgq_queues.specs.EventRule.{events_at, sequences, ids_left, telling, telling_all, event_rule}
 use Rattle.pgq_queues.proofs.Marked.{get_or-slice_set}
 use Rattle.pgq_queues.proofs.Telling.{telling-length}
-use Rattle.pgq_db.specs.Undone.{undone_by}
+use Rattle.pgq_queues.proofs.RotatedQueues.{undone-as}
+use Rattle.pgq_queues.specs.Rotated.{undone_in}
+use Rattle.pgq_tables.specs.Tables.{with_stored}
+use Rattle.pgq_db.specs.Switches.{first_switches}
+use Rattle.pgq_db.proofs.Switched.{turn-first}
 use Rattle.pgq_db.proofs.Tables.{tables-kept}
 
 -- ---- events that record writes, and those that queues store
@@ -42,7 +49,7 @@ shown queues n = seen_queue (get_or queues n no_queue)
 
 -- an event's marks change what a queue shows as storing it does
 next-shown : (queues : List QueueView) (now : ℤ) (t : ℕ) (e : RowEvent) → e.queue < length queues
-    → changed_at e.queue (λ q. record q { stored = q.stored ++ told_event ((shown queues e.queue).seq + 1) now t e ∷ [] }) (changed_at e.queue (λ q. record q { seq = (shown queues e.queue).seq + 1 }) (shown queues))
+    → changed_at e.queue (with_tables (with_stored (told_event ((shown queues e.queue).seq + 1) now t e))) (changed_at e.queue (λ q. record q { seq = (shown queues e.queue).seq + 1 }) (shown queues))
     ≡ shown (slice_set queues e.queue (telling now t e (get_or queues e.queue no_queue)))
 next-shown queues now t e lt = λ i n. pointwise n i
   where
@@ -50,7 +57,7 @@ next-shown queues now t e lt = λ i n. pointwise n i
     one = get_or queues e.queue no_queue
 
     stores : Queue → Queue
-    stores q = record q { stored = q.stored ++ told_event (one.seq + 1) now t e ∷ [] }
+    stores q = with_tables (with_stored (told_event (one.seq + 1) now t e)) q
 
     raises : Queue → Queue
     raises q = record q { seq = one.seq + 1 }
@@ -64,11 +71,11 @@ next-shown queues now t e lt = λ i n. pointwise n i
     pointwise n = by n (e.queue == n) refl ∙ ap seen_queue (sym (get_or-slice_set queues e.queue n (telling now t e one) lt))
 
 next-seqs : (f : ℕ → Queue) (q : ℕ) (event : Event)
-    → (λ n. (changed_at q (λ x. record x { stored = x.stored ++ event ∷ [] }) (changed_at q (λ x. record x { seq = (f q).seq + 1 }) f) n).seq) ≡ changed_at q (λ n. n + 1) (λ n. (f n).seq)
+    → (λ n. (changed_at q (with_tables (with_stored event)) (changed_at q (λ x. record x { seq = (f q).seq + 1 }) f) n).seq) ≡ changed_at q (λ n. n + 1) (λ n. (f n).seq)
 next-seqs f q event = λ i n. by n (q == n) refl i
   where
     stores : Queue → Queue
-    stores x = record x { stored = x.stored ++ event ∷ [] }
+    stores x = with_tables (with_stored event) x
 
     raises : Queue → Queue
     raises x = record x { seq = (f q).seq + 1 }
@@ -121,7 +128,7 @@ told-behind (e ∷ es) queues d now t told within is ok = by (nat_le (2 ^ 62) ((
 
     there : behind.queue ≡ shown next
     there =
-        (λ i. changed_at e.queue (λ q. record q { stored = q.stored ++ told_event ((is i e.queue).seq + 1) now t e ∷ [] }) (changed_at e.queue (λ q. record q { seq = (is i e.queue).seq + 1 }) (is i)))
+        (λ i. changed_at e.queue (with_tables (with_stored (told_event ((is i e.queue).seq + 1) now t e))) (changed_at e.queue (λ q. record q { seq = (is i e.queue).seq + 1 }) (is i)))
         ∙ next-shown queues now t e low
 
     later : All (λ x. x.queue < length next) es
@@ -158,29 +165,40 @@ subs-told (e ∷ es) queues now t within = subs-told es (slice_set queues e.queu
     pointwise n consumer =
         ap (λ (q : QueueView). value_of consumer q.subs) (get_or-slice_set queues e.queue n one (within 0 e (omega arith))) ∙ by n consumer (e.queue == n) refl
 
+-- a rollback leaves what the queues show after it
+undone-shown : (p : RowPart) (q : QueuesView) (whose : Whose) (t : ℕ) → after_mark (seen_with p q) (ended whose t false) ≡ seen_with (after_part p (ended whose t false)) (event_rule.undone q t)
+undone-shown p q whose t = sym (undone-as q q (map (undone_in t) q.queues) t refl refl (after_part p (ended whose t false)))
+
 -- ---- a database, its row part, and its queues
 
--- a database, its row part and its queues at a time, when some transactions had been noted as rolled back
-pub record Alike (now : ℤ) (undone : List ℕ) (d : Database) (p : RowPart) (q : QueuesView) : Type 0 where
-  pub whole : d ≡ record (seen_with p q) { undone = d.undone }
+-- a database, its row part and its queues at a time
+pub record Alike (now : ℤ) (d : Database) (p : RowPart) (q : QueuesView) : Type 0 where
+  pub whole : d ≡ seen_with p q
   pub time : q.time ≡ now
-  pub noted : q.undone ≡ undone
   pub tables : AreTables p q
   pub within : All (λ t. t.trigger.queue < length q.queues) q.triggers
 
-module _ (now : ℤ) (undone : List ℕ) where
+module _ (now : ℤ) where
   abbrev Here : Database → RowPart → QueuesView → Type 0
-  Here d p q = Alike now undone d p q
+  Here d p q = Alike now d p q
 
-  whole-other : (d : Database) (p : RowPart) (q : QueuesView) (mark : Mark) → IsOther mark → d ≡ record (seen_with p q) { undone = d.undone }
-      → after_mark d mark ≡ record (seen_with (after_part p mark) q) { undone = (after_mark d mark).undone }
+  whole-other : (d : Database) (p : RowPart) (q : QueuesView) (mark : Mark) → IsOther mark → d ≡ seen_with p q → after_mark d mark ≡ seen_with (after_part p mark) q
   whole-other d p q (ended who t true) other is = ap (λ x. after_mark x (ended who t true)) is
-  whole-other d p q (ended who t false) other is = ap (λ x. after_mark x (ended who t false)) is
+  whole-other d p q (ended who t false) other is = absurd other
   whole-other d p q (queued mark) other is = absurd other
   whole-other d p q mark other is = ap (λ x. after_mark x mark) is
 
   other-alike : (d : Database) (p : RowPart) (q : QueuesView) (mark : Mark) → IsOther mark → Here d p q → Here (after_mark d mark) (after_part p mark) q
-  other-alike d p q mark other is = record { whole = whole-other d p q mark other is.whole; time = is.time; noted = is.noted; tables = tables-kept p mark q is.tables; within = is.within }
+  other-alike d p q mark other is = record { whole = whole-other d p q mark other is.whole; time = is.time; tables = tables-kept p mark q is.tables; within = is.within }
+
+  -- a rollback
+  undone-alike : (d : Database) (p : RowPart) (q : QueuesView) (whose : Whose) (t : ℕ) → Here d p q → Here (after_mark d (ended whose t false)) (after_part p (ended whose t false)) (event_rule.undone q t)
+  undone-alike d p q whose t is = record {
+    whole = ap (λ x. after_mark x (ended whose t false)) is.whole ∙ undone-shown p q whose t;
+    time = is.time;
+    tables = tables-kept p (ended whose t false) (event_rule.undone q t) is.tables;
+    within = λ k x lt. subst (λ n. (get_or q.triggers k x).trigger.queue < n) (sym (length-map q.queues (undone_in t))) (is.within k x lt);
+  }
 
   -- the events of a write are those that the queues store
   same-events : (d : Database) (p : RowPart) (q : QueuesView) (table : ℕ) (old new : Option (List Val)) → Here d p q
@@ -214,7 +232,6 @@ module _ (now : ℤ) (undone : List ℕ) where
           batch = batches i;
         };
         time = is.time;
-        noted = is.noted;
         tables = tables-kept p write (passed event_rule q write) is.tables;
         within = λ k x lt. subst (λ n. (get_or q.triggers k x).trigger.queue < n) (sym (telling-length q.time t (events_at (traced_at q table) change) q.queues)) (is.within k x lt);
       })
@@ -247,31 +264,23 @@ module _ (now : ℤ) (undone : List ℕ) where
       behind = told-behind events q.queues (after_mark d write) now t told within (ap Database.queue is.whole) ok
 
   pub events-alike : TellsAlike event_rule now Here
-  events-alike = record { part = λ d p q is. ap Database.part is.whole; other = other-alike; room = room-alike; wrote = wrote-alike }
+  events-alike = record { part = λ d p q is. ap Database.part is.whole; other = other-alike; undone = undone-alike; room = room-alike; wrote = wrote-alike }
 
   -- ---- what a database gives
 
   -- a statement on rows does the same with the queues as its gate and in the database, and so do those that may resume
   pub step-told : (d : Database) (p : RowPart) (q : QueuesView) (who : ℕ) (stmt : RowStmt) → Here d p q
-      → SameTold event_rule Here d p q (row_turn (by_gate event_rule part_by_itself) (p, q) who stmt) (database_turn database_by_itself d now who (Row stmt))
+      → SameTold event_rule Here d p q (row_turn (by_gate event_rule part_by_itself) (p, q) who stmt) (row_turn (within_part database_by_itself now) d who stmt)
   step-told d p q who stmt is = row_turn-told event_rule now Here events-alike d p q who stmt is
 
   pub settle-told : (d : Database) (p : RowPart) (q : QueuesView) → Here d p q
       → SameTold event_rule Here d p q (settling (by_gate event_rule part_by_itself) (p, q)) (settling (within_part database_by_itself now) d)
   settle-told d p q is = settling-told event_rule now Here events-alike d p q is
 
-  -- after a turn the row part and the queues show the database, once it is noted what was rolled back
-  pub told-changed : (d : Database) (p after : RowPart) (q left noted : QueuesView) (gated told : Turn) (effects : List Effect) → SameTold event_rule Here d p q gated told
-      → after ≡ after_part_marks p gated.marks → left ≡ passed_all event_rule q gated.marks → undone_by effects (keeps undone) ≡ (after_marks d gated.marks).undone
-      → seen_with after noted ≡ record (seen_with after left) { undone = undone_by effects (keeps left.undone) } → seen_with after noted ≡ after_marks d told.marks
-  told-changed d p after q left noted gated told effects same part_is left_is gone is =
-      is ∙ (λ i. record (seen_with (part_is i) (left_is i)) { undone = rolled_back i }) ∙ sym same.stands.whole
-    where
-      rolled_back : undone_by effects (keeps left.undone) ≡ (after_marks d told.marks).undone
-      rolled_back =
-          (λ i. undone_by effects (keeps ((ap QueuesView.undone left_is ∙ same.stands.noted) i)))
-          ∙ gone
-          ∙ ap BesideQueues.undone (sym (inserted-beside d same.inserted))
+  -- after a turn the row part and the queues show the database
+  pub told-changed : (d : Database) (p after : RowPart) (q left : QueuesView) (gated told : Turn) → SameTold event_rule Here d p q gated told
+      → after ≡ after_part_marks p gated.marks → left ≡ passed_all event_rule q gated.marks → seen_with after left ≡ after_marks d told.marks
+  told-changed d p after q left gated told same part_is left_is = (λ i. seen_with (part_is i) (left_is i)) ∙ sym same.stands.whole
 
   -- and what is kept of tables is true
   pub told-tables : (d : Database) (p after : RowPart) (q left : QueuesView) (gated told : Turn) → SameTold event_rule Here d p q gated told
@@ -280,20 +289,64 @@ module _ (now : ℤ) (undone : List ℕ) where
 
 -- queues to which a time was given
 pub alike-at : (now at : ℤ) (p : RowPart) (was q : QueuesView) → q ≡ record was { time = at } → at ≡ now → AreTables p was → All (λ t. t.trigger.queue < length q.queues) q.triggers
-    → Alike now was.undone (seen_with p was) p q
-alike-at now at p was q is time tables within = record {
-  whole = λ i. record (seen_with p (sym is i)) { undone = keeps was.undone };
-  time = ap QueuesView.time is ∙ time;
-  noted = ap QueuesView.undone is;
-  tables = subst (AreTables p) (sym is) tables;
-  within = within;
-}
+    → Alike now (seen_with p was) p q
+alike-at now at p was q is time tables within = record { whole = λ i. seen_with p (sym is i); time = ap QueuesView.time is ∙ time; tables = subst (AreTables p) (sym is) tables; within = within }
 
 -- after a turn from there what is kept of tables is true
-pub tables-behind_turn : (now at : ℤ) (p after : RowPart) (was q left : QueuesView) (gated told : Turn) → (Alike now was.undone (seen_with p was) p q → SameTold event_rule (Alike now was.undone) (seen_with p was) p q gated told)
+pub tables-behind_turn : (now at : ℤ) (p after : RowPart) (was q left : QueuesView) (gated told : Turn) → (Alike now (seen_with p was) p q → SameTold event_rule (Alike now) (seen_with p was) p q gated told)
     → q ≡ record was { time = at } → at ≡ now → AreTables p was → All (λ t. t.trigger.queue < length q.queues) q.triggers → after ≡ after_part_marks p gated.marks → left ≡ passed_all event_rule q gated.marks → AreTables after left
 tables-behind_turn now at p after was q left gated told tells is time tables within =
-    told-tables now was.undone (seen_with p was) p after q left gated told (tells (alike-at now at p was q is time tables within))
+    told-tables now (seen_with p was) p after q left gated told (tells (alike-at now at p was q is time tables within))
+
+-- ---- a statement on rows, after the switches that it makes
+
+-- what the code answers is what the whole database does, and so is what it leaves
+pub record Stepped (now : ℤ) (d s : Database) (who : ℕ) (stmt : RowStmt) (gated : Turn) : Type 0 where
+  pub answers : (database_turn database_by_itself d now who (Row stmt)).answers ≡ gated.answers
+  pub changed : s ≡ after_marks d (database_turn database_by_itself d now who (Row stmt)).marks
+
+pub stepped : (now at : ℤ) (p after : RowPart) (old was q left : QueuesView) (who : ℕ) (stmt : RowStmt) → seen_with p was ≡ after_marks (seen_with p old) (first_switches (seen_with p old) at who stmt)
+    → q ≡ record was { time = at } → at ≡ now → AreTables p was → All (λ t. t.trigger.queue < length q.queues) q.triggers
+    → after ≡ after_part_marks p (row_turn (by_gate event_rule part_by_itself) (p, q) who stmt).marks → left ≡ passed_all event_rule q (row_turn (by_gate event_rule part_by_itself) (p, q) who stmt).marks
+    → Stepped now (seen_with p old) (seen_with after left) who stmt (row_turn (by_gate event_rule part_by_itself) (p, q) who stmt)
+stepped now at p after old was q left who stmt first is time tables within part_is left_is =
+    record {
+      answers = ap Turn.answers (turn-first d now who stmt) ∙ same.answers;
+      changed = changed ∙ ap (λ (t : Turn). after_marks d t.marks) (sym (turn-first d now who stmt));
+    }
+  where
+    d : Database
+    d = seen_with p old
+
+    gated : Turn
+    gated = row_turn (by_gate event_rule part_by_itself) (p, q) who stmt
+
+    made : seen_with p was ≡ after_marks d (first_switches d now who stmt)
+    made = first ∙ ap (λ n. after_marks d (first_switches d n who stmt)) time
+
+    same : SameTold event_rule (Alike now) (after_marks d (first_switches d now who stmt)) p q gated (row_turn (within_part database_by_itself now) (after_marks d (first_switches d now who stmt)) who stmt)
+    same = subst (λ x. SameTold event_rule (Alike now) x p q gated (row_turn (within_part database_by_itself now) x who stmt)) made
+        (step-told now (seen_with p was) p q who stmt (alike-at now at p was q is time tables within))
+
+    changed : seen_with after left ≡ after_marks d (first_switches d now who stmt ++ (row_turn (within_part database_by_itself now) (after_marks d (first_switches d now who stmt)) who stmt).marks)
+    changed = told-changed now (after_marks d (first_switches d now who stmt)) p after q left gated _ same part_is left_is ∙ sym (after_marks-append d (first_switches d now who stmt) _)
+
+-- ---- a block that is rolled back
+
+-- marks of rows among which there is no write
+pub unwritten : (p : RowPart) (q : QueuesView) (marks : List Mark) → RowMarks marks → WritesNone marks → seen_with (after_part_marks p marks) (passed_all event_rule q marks) ≡ after_marks (seen_with p q) marks
+unwritten p q [] rows plain = refl
+unwritten p q (queued mark ∷ marks) rows plain = absurd rows
+unwritten p q (tabled (wrote who t table key old new) ∷ marks) rows plain = absurd plain
+unwritten p q (ended whose t false ∷ marks) rows plain =
+    unwritten (after_part p (ended whose t false)) (event_rule.undone q t) marks rows plain ∙ ap (λ x. after_marks x marks) (sym (undone-shown p q whose t))
+unwritten p q (ended whose t true ∷ marks) rows plain = unwritten (after_part p (ended whose t true)) q marks rows plain
+unwritten p q (mark ∷ marks) rows plain = unwritten (after_part p mark) q marks rows plain
+
+pub failure-unwritten : (p : RowPart) (q : QueuesView) (who : ℕ) (o : Option ℕ) (b : Block)
+    → seen_with (after_part_marks p (failure who o b)) (passed_all event_rule q (failure who o b)) ≡ after_marks (seen_with p q) (failure who o b)
+failure-unwritten p q who o b =
+    unwritten p q (failure who o b) (failure-rows who o b) (each-failure AnyReply is_no_write (λ _. tt) (plain-if no_more refl) who o b)
 
 -- the turns of rows do marks of rows, and list no event
 pub step-rows : (p : RowPart) (q : QueuesView) (who : ℕ) (stmt : RowStmt) → TurnOfRows (row_turn (by_gate event_rule part_by_itself) (p, q) who stmt)

@@ -9,3 +9,5 @@ pub mod Tables
 pub mod EventsAlike
 pub mod Agreeing
 pub mod RetrySteps
+pub mod Switched
+pub mod RotationSteps

@@ -72,7 +72,7 @@ within-behind count who lt d (tabled (waits v table key attempt) ∷ marks) own 
 within-behind count who lt d (tabled (waited v) ∷ marks) own within =
     within-behind count who lt (after_mark d (tabled (waited v))) marks own (All-filter (λ w. not (w.who == v)) (IsWithin count) d.part.waiting within)
 within-behind count who lt d (ended v t true ∷ marks) own within = within-behind count who lt (after_mark d (ended v t true)) marks own within
-within-behind count who lt d (queued (made name) ∷ marks) own within = within-behind count who lt (after_mark d (queued (made name))) marks own within
+within-behind count who lt d (queued (made name t time) ∷ marks) own within = within-behind count who lt (after_mark d (queued (made name t time))) marks own within
 within-behind count who lt d (mark ∷ marks) own within = within-behind count who lt (after_mark d mark) marks own within
 
 waiting-within : (count who : ℕ) (ws : List Waiting) → WaitersWithin count ws → is_waiting who ws ≡ true → who < count

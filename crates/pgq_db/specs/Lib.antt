@@ -1,6 +1,6 @@
 pub mod Views
 pub mod Seen
-pub mod Undone
+pub mod Switches
 pub mod Agreeing
 pub mod Gives
 pub mod Configured

@@ -56,6 +56,10 @@ impl Db {
         if tick == 0 || tick > newest {
             return Err(Stop::Refused(Refusal::NoTick(tick, newest)));
         }
+        let oldest = self.queues.queue(queue).floor();
+        if tick < oldest {
+            return Err(Stop::Refused(Refusal::TickTooOld(tick, oldest)));
+        }
         if self.queues.queue(queue).has_consumer(consumer) {
             self.queues.move_to(queue, consumer, tick);
             replies.push(who, Reply::Number(0))?;
@@ -164,17 +168,18 @@ impl Db {
 
     /// `get_batch_events N`: the events of an active batch.
     pub(crate) fn get_batch_events(
-        &self,
+        &mut self,
         who: SessionId,
         id: u64,
         replies: &mut Replies,
     ) -> Result<(), Stop>
-        ensures { Ran self.now self.now replies.old replies.new who result (get_batch_events (shown_by (seen_database self.now)).events id) }
+        ensures { Ran self.old self.new replies.old replies.new who result (get_batch_events (shown_by (seen_database self.old)).events id) }
     {
         let Some(batch) = self.queues.batch(id) else {
             return Err(Stop::Refused(Refusal::NoBatch));
         };
-        let events = Events::new(self.queues.batch_events(&batch)?);
+        let span = batch.span();
+        let events = Events::new(self.queues.batch_events(span)?);
         replies.push(who, Reply::Events(events))?;
         Ok(())
     }

@@ -7,7 +7,9 @@ ghost use Rattle.sky_model.specs.Reader.{database_by_itself};
 ghost use Rattle.sky_model.specs.StepQueue.{next_tick};
 ghost use Rattle.sky_model.specs.Outcome.{reply_of};
 ghost use Rattle.sky_model.specs.StepRetry.{most_back, maint_retry_events};
-ghost use Rattle.sky_model.specs.Daemon.{quietly, ticks_of, moved_by, retries_of, daemon_does};
+ghost use Rattle.sky_model.specs.Daemon.{quietly, ticks_of, moved_by, retries_of, first_steps_of, daemon_does};
+ghost use Rattle.sky_model.specs.StepRotation.{rotates_by_itself};
+ghost use Rattle.sky_model.specs.declared.daemon.DaemonPart.TheVariants.{Maintain};
 ghost use Rattle.sky_model.specs.DatabaseCalls.{worked};
 ghost use Rattle.sky_model.specs.DatabaseSteps.{DatabaseSteps};
 ghost use Rattle.pgq_queues.specs.Seen.{Stands};
@@ -31,7 +33,7 @@ impl Db {
         match part {
             DaemonPart::Tick => self.make_ticks(now)?,
             DaemonPart::Retry => self.retry_events(now)?,
-            DaemonPart::Maintain => {}
+            DaemonPart::Maintain => self.rotate(now)?,
         }
         Ok(())
     }
@@ -39,9 +41,8 @@ impl Db {
     /// Makes the ticks that are due.
     fn make_ticks(&mut self, now: i64) -> Result<(), NoMemory>
         requires { IsTime now }
-        ensures ticked { OnOk result (seen_database self.new
+        ensures { OnOk result (seen_database self.new
             ≡ after_marks (seen_database self.old) (ticks_of database_by_itself now (seen_database self.old).queues (seen_database self.old)).marks) }
-        ensures rows { OnOk result ((seen_database self.new).part ≡ (seen_database self.old).part) }
     {
         for place in 0..self.queues.count() {
             let queue = self.queues.number_at(place);
@@ -54,13 +55,52 @@ impl Db {
     fn make_tick(&mut self, queue: usize, now: i64) -> Result<(), NoMemory>
         requires queue { Stands self.old.queues.queues queue }
         requires time { IsTime now }
-        ensures ticked { OnOk result (seen_database self.new ≡ after_marks (seen_database self.old) (quietly (next_tick (seen_database self.old) now queue)).marks) }
+        ensures { OnOk result (seen_database self.new ≡ after_marks (seen_database self.old) (quietly (next_tick (seen_database self.old) now queue)).marks) }
     {
         if !self.queues.queue(queue).is_due(now) {
             return Ok(());
         }
         match self.tick(queue, now) {
             Ok(_) => Ok(()),
+            Err(Stop::Refused(_)) => Ok(()),
+            Err(Stop::NoMemory) => Err(AllocError),
+        }
+    }
+
+    /// Rotates the queues: the first step of each, and then the second.
+    fn rotate(&mut self, now: i64) -> Result<(), NoMemory>
+        requires { IsTime now }
+        ensures { OnOk result (seen_database self.new ≡ after_marks (seen_database self.old) (daemon_does database_by_itself (seen_database self.old) Maintain now).marks) }
+    {
+        self.begin_switches(now)?;
+        match self.end_switches() {
+            Ok(_) => Ok(()),
+            Err(Stop::Refused(_)) => Ok(()),
+            Err(Stop::NoMemory) => Err(AllocError),
+        }
+    }
+
+    /// The first step of the rotation of each queue.
+    fn begin_switches(&mut self, now: i64) -> Result<(), NoMemory>
+        requires { IsTime now }
+        ensures { OnOk result (seen_database self.new
+            ≡ after_marks (seen_database self.old) (first_steps_of database_by_itself now (seen_database self.old).queues (seen_database self.old)).marks) }
+    {
+        for place in 0..self.queues.count() {
+            let queue = self.queues.number_at(place);
+            self.begin_switch(queue, now)?;
+        }
+        Ok(())
+    }
+
+    /// The first step of the rotation of a queue, if there is an id for it.
+    fn begin_switch(&mut self, queue: usize, now: i64) -> Result<(), NoMemory>
+        requires queue { Stands self.old.queues.queues queue }
+        requires time { IsTime now }
+        ensures { OnOk result (seen_database self.new ≡ after_marks (seen_database self.old) (quietly (rotates_by_itself (seen_database self.old) now queue)).marks) }
+    {
+        match self.rotate_alone(queue, now) {
+            Ok(()) => Ok(()),
             Err(Stop::Refused(_)) => Ok(()),
             Err(Stop::NoMemory) => Err(AllocError),
         }

@@ -26,7 +26,7 @@ ghost use Rattle.pgq_db.specs.Waiters.{StaysWithin};
 ghost use Rattle.pgq_db.specs.Gives.{Gives, Adds};
 ghost use Rattle.pgq_db.specs.Configured.{refusal_for, configured_as, Configures};
 
-use crate::noting::undo_aborted;
+use crate::rotation::switch_before;
 use pgq_queues::Queues;
 use pgq_sub::Sub;
 use pgq_tick::ConfigFault;
@@ -153,7 +153,8 @@ impl Db {
         Ok(replies)
     }
 
-    /// Runs a statement on rows, and those that it unblocks. Events record their writes.
+    /// Runs a statement on rows, and those that it unblocks. Events record their writes. The switches of event tables
+    /// that a `commit` makes are made before it.
     pub(crate) fn step_rows(
         &mut self,
         now: i64,
@@ -171,6 +172,7 @@ impl Db {
         if self.is_cut {
             return Err(AllocError);
         }
+        switch_before(&mut self.queues, &self.rows, now, who, stmt);
         self.queues.set_time(now);
         self.step.effects.clear();
         // The list is the step's as long as that runs.
@@ -180,10 +182,7 @@ impl Db {
             .step_into(who, stmt, &mut self.queues, &mut self.step);
         mem::swap(&mut self.step.replies, replies);
         match stepped {
-            Ok(()) => {
-                undo_aborted(&mut self.queues, &self.step.effects)?;
-                Ok(())
-            }
+            Ok(()) => Ok(()),
             Err(no_memory) => {
                 self.is_cut = true;
                 Err(no_memory)
@@ -211,10 +210,7 @@ impl Db {
         let settled = self.rows.settle_into(&mut self.queues, &mut self.step);
         mem::swap(&mut self.step.replies, replies);
         match settled {
-            Ok(()) => {
-                undo_aborted(&mut self.queues, &self.step.effects)?;
-                Ok(())
-            }
+            Ok(()) => Ok(()),
             Err(no_memory) => {
                 self.is_cut = true;
                 Err(no_memory)
@@ -227,11 +223,11 @@ impl Db {
         ensures { OnOk result (seen_database self.new ≡ after_marks (seen_database self.old) (failing (seen_database self.old).part who).marks) }
     {
         self.step.effects.clear();
-        match self.rows.roll_back(who, &mut self.step.effects) {
-            Ok(()) => {
-                undo_aborted(&mut self.queues, &self.step.effects)?;
-                Ok(())
-            }
+        match self
+            .rows
+            .roll_back(who, &mut self.queues, &mut self.step.effects)
+        {
+            Ok(()) => Ok(()),
             Err(no_memory) => {
                 self.is_cut = true;
                 Err(no_memory)
@@ -266,7 +262,7 @@ impl Db {
         Ok(id)
     }
 
-    /// The least running transaction that has an event in a queue.
+    /// The least running transaction that has an event in a queue, or a switch of it that is pending.
     pub(crate) fn least_producer(&self, queue: usize) -> Result<Option<u64>, NoMemory>
         requires { Stands self.now.queues.queues queue }
         ensures { IfOk result (λ txid. txid ≡ least_producer (seen_database self.now) queue) }

@@ -11,8 +11,8 @@
 mod consumers;
 mod daemon;
 mod db;
-mod noting;
 mod retries;
+mod rotation;
 mod statements;
 
 pub use db::Db;

@@ -46,14 +46,15 @@ impl Db {
         let Some(batch) = self.queues.batch(id) else {
             return Err(Stop::Refused(Refusal::NoBatch));
         };
-        let Some(found) = self.queues.event_in(&batch, event)? else {
+        let span = batch.span();
+        let Some(found) = self.queues.event_in(span, event)? else {
             return Err(Stop::Refused(Refusal::NoEvent));
         };
         let retry = Retry {
-            queue: batch.queue,
-            sub: batch.sub,
+            queue: span.queue,
+            sub: span.sub,
             due: now + (SECOND * seconds) as i64,
-            event: retried(batch.sub, found),
+            event: retried(span.sub, found),
         };
         let count = u64::from(self.queues.retry(retry)?);
         replies.push(who, Reply::Number(count))?;
@@ -105,7 +106,7 @@ fn retried(sub: u64, mut event: Event) -> Event
 }
 
 /// A transaction of a worker, which commits at once, or a refusal if no id is left for it.
-fn work_alone(rows: &mut RowDb) -> Result<u64, Stop>
+pub(crate) fn work_alone(rows: &mut RowDb) -> Result<u64, Stop>
     ensures id { IfOk result (λ txid. next_id (seen rows.old) ≡ Ok txid) }
     ensures marks { IfOk result (λ txid. seen rows.new ≡ after_part_marks (seen rows.old) (began of_worker txid ∷ ended of_worker txid true ∷ [])) }
     ensures stops { IfErr result (λ stop. Stops stop (seen rows.old) (seen rows.new) (next_id (seen rows.old))) }

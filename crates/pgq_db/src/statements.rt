@@ -4,7 +4,7 @@
 ghost use Rattle.std.specs.Prelude.{◌≡◌, ◌+◌, ◌<◌, find, not, option_copied, [], ◌∷◌, ◌++◌, true, false, if◌then◌else◌, None, Some, Ok, Err, IfOk, IfErr, OnOk, length};
 ghost use Rattle.sky_model.specs.declared.stmt.Where.TheVariants.{WhenReading, WhenOutside};
 ghost use Rattle.sky_model.specs.Queues.{queue_number};
-ghost use Rattle.sky_model.specs.History.{queued, made, ticked};
+ghost use Rattle.sky_model.specs.History.{queued, made};
 ghost use Rattle.sky_model.specs.State.{RowPart, after_marks};
 ghost use Rattle.sky_model.specs.Outcome.{settled};
 ghost use Rattle.sky_model.specs.Printed.{HaveMoments};
@@ -235,6 +235,8 @@ impl Db {
                 seconds,
             } => self.event_retry(now, who, *batch, *event, *seconds, replies),
             Stmt::MaintRetryEvents => self.maint_retry_events(now, who, replies),
+            Stmt::MaintRotateStep1 { queue } => self.maint_rotate_step1(now, who, queue, replies),
+            Stmt::MaintRotateStep2 => self.maint_rotate_step2(who, replies),
             Stmt::FinishBatch { batch } => self.finish_batch(who, *batch, replies),
             Stmt::ConsumerInfo { queue, consumer } => {
                 self.consumer_info(who, queue, consumer, replies)
@@ -263,7 +265,7 @@ impl Db {
         queue_called(self.alloc, &self.queues, queue)
     }
 
-    /// `create_queue NAME`: the first tick is made when the transaction has ended.
+    /// `create_queue NAME`: the queue and its first tick are made when the transaction has ended.
     fn create_queue(
         &mut self,
         now: i64,
@@ -299,17 +301,17 @@ impl Db {
         requires room { length (seen_database self.old).queues < 64 }
         requires id { txid_for (seen_database self.old).part who ≡ Ok txid }
         ensures { OnOk result (seen_database self.new ≡ after_marks (seen_database self.old)
-            (written who txid ((seen_database self.old).part.session who) (queued (made name.now) ∷ []) ++ queued (ticked (seen_database self.old).queues_made 1 now 0) ∷ [])) }
+            (written who txid ((seen_database self.old).part.session who) [] ++ queued (made name.now txid now) ∷ [])) }
     {
         let name = name.copy(self.alloc)?;
         self.take_txid(who, txid)?;
         let snapshot = self.rows.snapshot_now()?;
-        self.queues.make(name, now, snapshot)?;
+        self.queues.make(name, txid, now, snapshot)?;
         Ok(())
     }
 
     /// `drop_queue NAME`: a queue without consumers, which no trigger writes into, and in which no running transaction has
-    /// an event.
+    /// an event or a switch that is pending.
     fn drop_queue(&mut self, who: SessionId, name: &Text, replies: &mut Replies) -> Result<(), Stop>
         ensures { Ran self.old self.new replies.old replies.new who result (drop_queue (seen_database self.old) name.now) }
     {
@@ -562,5 +564,8 @@ fn is_outside(stmt: &Stmt) -> bool
     requires { is_on_queues stmt.now ≡ true }
     ensures { (if result then WhenOutside else WhenReading) ≡ where_of stmt.now }
 {
-    !matches!(stmt, Stmt::InsertEvent { .. })
+    !matches!(
+        stmt,
+        Stmt::InsertEvent { .. } | Stmt::MaintRotateStep1 { .. }
+    )
 }

@@ -10,6 +10,7 @@ use Rattle.sky_model.specs.Telling.{told_event}
 use Rattle.sky_model.specs.Gates.{Gate, RowWrite}
 use Rattle.pgq_queues.specs.Views.{QueueView, TracedView, QueuesView}
 use Rattle.pgq_queues.specs.Seen.{no_queue}
+use Rattle.pgq_queues.specs.Rotated.{undone_in}
 use Rattle.pgq_queues.specs.Traced.{traced_at}
 
 -- the events of triggers that record a write in a table, and those of all its triggers
@@ -48,9 +49,10 @@ abbrev pub telling_all : ℤ → ℕ → List RowEvent → List QueueView → Li
 telling_all now t [] queues = queues
 telling_all now t (e ∷ es) queues = telling_all now t es (slice_set queues e.queue (telling now t e (slice_index_or queues e.queue no_queue)))
 
--- there is room for a write if there are ids for all its events; then these are stored
+-- there is room for a write if there are ids for all its events; then these are stored. Those of a transaction that is rolled back are dead
 abbrev pub event_rule : Gate QueuesView
 event_rule = record {
   has_room = λ q write. ids_left (sequences q.queues) (events_at (traced_at q write.table) write);
   after = λ q t write. record q { queues = telling_all q.time t (events_at (traced_at q write.table) write) q.queues };
+  undone = λ q t. record q { queues = map (undone_in t) q.queues };
 }

@@ -40,6 +40,10 @@ impl WriteGate for Queues {
         let traced = Traced::new(self.triggers.as_slice(), table);
         tell(&mut self.slots, &traced, 0, self.time, txid, old, new)
     }
+
+    fn rolled_back(&mut self, txid: u64) {
+        self.slots.undo(txid);
+    }
 }
 
 /// How many of the first triggers record the write by an event of the queue.
