@@ -1,13 +1,12 @@
-use Rattle.std.proofs.Common.{◌≡◌, ◌*◌, ◌^◌, ◌<◌, pos, ◌+ℤ◌, w64, to_z, of_z, arith, refl, sym, ◌∙◌, ap, subst, not, if◌then◌else◌}
+use Rattle.std.proofs.Common.{◌≡◌, ◌*◌, ◌^◌, ◌<◌, pos, ◌+ℤ◌, w64, to_z, of_z, arith, refl, sym, ◌∙◌, ap, subst, not}
 use Rattle.std.specs.Prelude.{find, ◌==◌}
 use Rattle.std.proofs.lemmas.Int.{ints, to_z-of_z, to_z_pos}
 use Rattle.sky_val.specs.declared.event.Event.{Event}
 use Rattle.pgq_retry.specs.Retries.{is_asked}
-use Rattle.sky_model.specs.History.{queued, asked}
 use Rattle.sky_model.specs.Reader.{shown_by}
 use Rattle.sky_model.specs.Retries.{retried}
 use Rattle.sky_model.specs.Selection.{selected}
-use Rattle.sky_model.specs.State.{RowPart, Database, after_mark}
+use Rattle.sky_model.specs.State.{RowPart, Database}
 use Rattle.sky_model.specs.StepRetry.{event_retry}
 use Rattle.sky_state.specs.Seen.{seen}
 use Rattle.pgq_queues.specs.declared.batch.Span.{Span}
@@ -15,7 +14,8 @@ use Rattle.pgq_queues.specs.Seen.{seen_with, seen_batch, seen_span, batch_at}
 use Rattle.pgq_db.specs.Views.{DbView}
 use Rattle.pgq_db.specs.Seen.{seen_database}
 use Rattle.pgq_db.proofs.Databases.{Runs}
-use Rattle.pgq_db.proofs.RetrySteps.{no-event, gives-retry}
+use Rattle.pgq_db.proofs.RetrySteps.{no-event, gives-retry, asked-as}
+use Rattle.pgq_db.proofs.Agreeing.{agree-stay}
 use Rattle.pgq_db.proofs.db.Db.event_retry.Goals as goal
 
 pub returns-in_default-2 : goal.returns-in_default-2
@@ -47,5 +47,15 @@ returns c =
     (sym c.in-Some-2.is ∙ c.in_ok-found.ensures.found p ∙ ap (λ (s : Span). find (λ (e : Event). e.ev_id == c.args.event) (selected was (seen_span s))) c.span-span.ensures)
     (λ i. record { queue = (c.span-span.ensures i).queue; sub = (c.span-span.ensures i).sub; due = due i; event = event i })
     (c.in_ok-retry.ensures.fresh ∙ ap (λ (x : Database). not (is_asked c.span-span.result.sub c.retried.result.ev_id x.retries)) (c.event_in.ensures.same p))
-    (c.in_ok-retry.ensures.mark p ∙ ap (λ (x : Database). if c.in_ok-retry.field-0 then after_mark x (queued (asked _)) else x) (c.event_in.ensures.same p)) c.from-count.ensures
+    (asked-as _ _ _ _ _ (c.in_ok-retry.ensures.mark p) (c.event_in.ensures.same p)) c.from-count.ensures
     c.in_ok-push.ensures.ok)
+
+pub invariant_of-self-in_err-push : goal.invariant_of-self-in_err-push
+invariant_of-self-in_err-push c = λ e.
+    let p : RowPart = seen c.self.inside.rows in
+    agree-stay p c.event_in.new.self c.retry.new.self c.retry.ensures.rest (agree-stay p c.self.inside.queues c.event_in.new.self c.event_in.ensures.rest (c.self.invariant e))
+
+pub invariant_of-self-2 : goal.invariant_of-self-2
+invariant_of-self-2 c = λ e.
+    let p : RowPart = seen c.self.inside.rows in
+    agree-stay p c.event_in.new.self c.retry.new.self c.retry.ensures.rest (agree-stay p c.self.inside.queues c.event_in.new.self c.event_in.ensures.rest (c.self.invariant e))
