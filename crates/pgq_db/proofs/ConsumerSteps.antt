@@ -1,5 +1,5 @@
 -- What the statements on consumers and batches give.
-use Rattle.std.proofs.Common.{◌≡◌, ℕ, ◌+◌, ◌<◌, ◌≤◌, ◌^◌, List, [], ◌∷◌, ◌++◌, Bool, true, false, nat_le, nat_lt, Option, Some, None, Ok, IfSome, IfNone, is_some, length, option_map, refl, sym, ◌∙◌, ap, subst, arith, if◌then◌else◌, ◌==◌, ◌||◌}
+use Rattle.std.proofs.Common.{◌≡◌, ℕ, ◌+◌, ◌<◌, ◌≤◌, ◌^◌, List, [], ◌∷◌, ◌++◌, Bool, true, false, nat_le, nat_lt, Option, Some, None, Ok, Err, IfSome, IfNone, is_some, length, option_map, refl, sym, ◌∙◌, ap, subst, arith, if◌then◌else◌, ◌==◌, ◌||◌}
 use Rattle.std.proofs.lemmas.Bool.Decides.{nat_tests}
 use mir.Val.{bool_byte}
 use Rattle.sky_val.specs.declared.event.Event.{Event}

@@ -47,6 +47,10 @@ module _ (d : Database) (now : ℤ) (id event seconds : ℕ) (b : model.Batch) (
       by true true e changed counted = absurd (cc)
       by false false e changed counted = absurd (cc)
 
+-- the same of a database that shows the same
+pub asked-as : (s d e : Database) (retry : Retry) (fresh : Bool) → s ≡ (if fresh then after_mark d (queued (asked retry)) else d) → d ≡ e → s ≡ (if fresh then after_mark e (queued (asked retry)) else e)
+asked-as s d e retry fresh is same = is ∙ ap (λ x. if fresh then after_mark x (queued (asked retry)) else x) same
+
 -- ---- those that are due come back
 
 -- marks of queues may come after the end of a transaction that commits

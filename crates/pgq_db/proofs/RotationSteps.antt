@@ -23,6 +23,10 @@ use Rattle.pgq_db.proofs.Databases.{Runs}
 
 -- ---- what holds a switch back
 
+pub absent : {A : Type 0} (o : Option A) → is_some o ≡ false → None ≡ o
+absent None none = refl
+absent (Some x) none = absurd (cc)
+
 -- if nothing does, none is pending
 pub none-pending : (now : ℤ) (q : Queue) → None ≡ held_back now q → q.tables.pending ≡ None
 none-pending now q none = of q.tables.pending _ none
@@ -36,8 +40,8 @@ pub now-pending : (d e : Database) (q t : ℕ) → e ≡ after_mark d (queued (s
 now-pending d e q t is = ap (λ (x : Database). is_some (x.queue q).tables.pending) is ∙ here (q == q) (eq-eqb q q refl)
   where
     here : (b : Bool) → b ≡ true → is_some (Queue.tables (if b then with_tables (with_pending t) (d.queue q) else d.queue q)).pending ≡ true
-    here true yes = refl
-    here false yes = absurd (cc)
+    here true is_true = refl
+    here false is_true = absurd (cc)
 
 -- ---- the first step
 
@@ -67,7 +71,7 @@ module _ (d : Database) (now : ℤ) (who : ℕ) (name : List ℕ) (q : ℕ) (fou
   gives-held why before after held printed pushed =
       subst (Runs d d before after who) (sym (known ∙ ap (rotates d now who q) (sym held))) (record { accepted = refl; replied = pushed; changed = refl }, printed)
 
-  does : ℕ → Checked Outcome
+  abbrev does : ℕ → Checked Outcome
   does t = does_marks (Number 1) (written who t (d.part.session who) (switch_of q t now (d.part.session who).block))
 
   free : None ≡ held_back now (d.queue q) → maint_rotate_step1 d now who name ≡ (txid_for d.part who >>= does)
@@ -91,17 +95,17 @@ module _ (d : Database) (now : ℤ) (who : ℕ) (name : List ℕ) (q : ℕ) (fou
       )
 
 -- the same by a daemon
+abbrev does_alone : ℤ → ℕ → ℕ → Checked Outcome
+does_alone now q t = does_marks (Number 1) (began of_worker t ∷ queued (switching q t) ∷ queued (switched q now) ∷ ended of_worker t true ∷ [])
+
 pub switched-alone : (d s : Database) (part : RowPart) (now : ℤ) (q t : ℕ) → None ≡ held_back now (d.queue q) → next_id d.part ≡ Ok t
     → part ≡ after_part_marks d.part (began of_worker t ∷ ended of_worker t true ∷ []) → s ≡ after_marks (record d { part = part }) (switch_of q t now outside)
     → s ≡ after_marks d (marks_of (rotates_by_itself d now q))
 switched-alone d s part now q t none left changed is =
     is
     ∙ ap (λ p. after_marks (record d { part = p }) (switch_of q t now outside)) changed
-    ∙ ap (λ c. after_marks d (marks_of (c >>= does))) (sym left)
+    ∙ ap (λ c. after_marks d (marks_of (c >>= does_alone now q))) (sym left)
     ∙ ap (λ why. after_marks d (marks_of (rotates_alone d now q why))) none
-  where
-    does : ℕ → Checked Outcome
-    does u = does_marks (Number 1) (began of_worker u ∷ queued (switching q u) ∷ queued (switched q now) ∷ ended of_worker u true ∷ [])
 
 pub held-alone : (d : Database) (now : ℤ) (q : ℕ) (o : Option HeldBack) → o ≡ held_back now (d.queue q) → is_some o ≡ true → d ≡ after_marks d (marks_of (rotates_by_itself d now q))
 held-alone d now q None held some = absurd (cc)
@@ -109,10 +113,7 @@ held-alone d now q (Some why) held some = ap (λ o. after_marks d (marks_of (rot
 
 -- or there is no id for it
 pub alone-spent : (d : Database) (now : ℤ) (q : ℕ) (refusal : Refusal) → None ≡ held_back now (d.queue q) → next_id d.part ≡ Err refusal → rotates_by_itself d now q ≡ Err refusal
-alone-spent d now q refusal none spent = ap (rotates_alone d now q) (sym none) ∙ ap (λ c. c >>= does) spent
-  where
-    does : ℕ → Checked Outcome
-    does u = does_marks (Number 1) (began of_worker u ∷ queued (switching q u) ∷ queued (switched q now) ∷ ended of_worker u true ∷ [])
+alone-spent d now q refusal none spent = ap (rotates_alone d now q) (sym none) ∙ ap (λ c. c >>= does_alone now q) spent
 
 -- ---- the second step
 
@@ -121,7 +122,7 @@ behind-end : (d : Database) (t : ℕ) (queues : List NamedQueue) → after_marks
 behind-end d t [] = refl
 behind-end d t (q ∷ queues) = behind-end (after_mark d (queued (second_step q.number t))) t queues
 
-does_steps : List NamedQueue → ℕ → Checked Outcome
+abbrev does_steps : List NamedQueue → ℕ → Checked Outcome
 does_steps queues t = does_marks (Number (length queues)) (began of_worker t ∷ second_steps t queues ++ ended of_worker t true ∷ [])
 
 some-lack : (d : Database) (n : ℕ) (queues : List NamedQueue) → n ≡ length queues → (n ≡ 0 → ⊥) → ends_switches d queues ≡ (next_id d.part >>= does_steps queues)

@@ -6,7 +6,8 @@ use Rattle.sky_model.specs.declared.stmt.RowStmt.TheVariants.{Commit}
 use Rattle.sky_model.specs.declared.stmt.Stmt.TheVariants.{Row}
 use Rattle.sky_model.specs.declared.stmt.Where.TheVariants.{WhenOpen}
 use Rattle.sky_model.specs.Allowed.{where_of_row, allowed}
-use Rattle.sky_model.specs.Calls.{row_making, making, row_statement, row_turn, statement, database_turn}
+use Rattle.sky_model.specs.ShownRows.{rows_by}
+use Rattle.sky_model.specs.Calls.{row_form, row_making, making, row_statement, row_turn, statement, database_turn}
 use Rattle.sky_model.specs.History.{Mark, queued, switched}
 use Rattle.sky_model.specs.Made.{runs_if, made_by}
 use Rattle.sky_model.specs.Outcome.{Outcome, Checked, after_marks_of, settled}
@@ -83,7 +84,7 @@ module _ (d : Database) (now : ℤ) (who : ℕ) where
   other-statement : (stmt : RowStmt) → SwitchesNone stmt → statement database_by_itself d now who (Row stmt) ≡ row_statement reads d who stmt
   other-statement stmt none =
       ap (λ outcome. made_by (record (row_making reads who stmt) { outcome = outcome }) (where_of_row stmt) who d)
-      (λ i e. none-first e now who stmt _ none i)
+      (λ i e. none-first e now who stmt (tells e now (row_form e.part (rows_by e.part) who stmt)) none i)
 
   -- ---- with those that it unblocks
 

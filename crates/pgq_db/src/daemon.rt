@@ -8,7 +8,7 @@ ghost use Rattle.sky_model.specs.StepQueue.{next_tick};
 ghost use Rattle.sky_model.specs.Outcome.{reply_of};
 ghost use Rattle.sky_model.specs.StepRetry.{most_back, maint_retry_events};
 ghost use Rattle.sky_model.specs.Daemon.{quietly, ticks_of, moved_by, retries_of, first_steps_of, daemon_does};
-ghost use Rattle.sky_model.specs.StepRotation.{rotates_by_itself};
+ghost use Rattle.sky_model.specs.StepRotation.{rotates_by_itself, maint_rotate_step2};
 ghost use Rattle.sky_model.specs.declared.daemon.DaemonPart.TheVariants.{Maintain};
 ghost use Rattle.sky_model.specs.DatabaseCalls.{worked};
 ghost use Rattle.sky_model.specs.DatabaseSteps.{DatabaseSteps};
@@ -73,11 +73,8 @@ impl Db {
         ensures { OnOk result (seen_database self.new ≡ after_marks (seen_database self.old) (daemon_does database_by_itself (seen_database self.old) Maintain now).marks) }
     {
         self.begin_switches(now)?;
-        match self.end_switches() {
-            Ok(_) => Ok(()),
-            Err(Stop::Refused(_)) => Ok(()),
-            Err(Stop::NoMemory) => Err(AllocError),
-        }
+        self.end_rotation()?;
+        Ok(())
     }
 
     /// The first step of the rotation of each queue.
@@ -101,6 +98,17 @@ impl Db {
     {
         match self.rotate_alone(queue, now) {
             Ok(()) => Ok(()),
+            Err(Stop::Refused(_)) => Ok(()),
+            Err(Stop::NoMemory) => Err(AllocError),
+        }
+    }
+
+    /// The second step of the rotation of the queues that lack it, if there is an id for it.
+    fn end_rotation(&mut self) -> Result<(), NoMemory>
+        ensures { OnOk result (seen_database self.new ≡ after_marks (seen_database self.old) (quietly (maint_rotate_step2 (seen_database self.old))).marks) }
+    {
+        match self.end_switches() {
+            Ok(_) => Ok(()),
             Err(Stop::Refused(_)) => Ok(()),
             Err(Stop::NoMemory) => Err(AllocError),
         }

@@ -1,8 +1,10 @@
 use Rattle.std.proofs.Common.{◌∙◌, ap, subst, sym}
 use Rattle.sky_model.specs.Printed.{EventsHaveMoments}
 use Rattle.sky_model.specs.Selection.{selected}
+use Rattle.sky_model.specs.State.{Database}
 use Rattle.sky_state.specs.Seen.{seen}
-use Rattle.pgq_queues.specs.Seen.{seen_batch, batch_at}
+use Rattle.pgq_queues.specs.declared.batch.Span.{Span}
+use Rattle.pgq_queues.specs.Seen.{seen_batch, seen_span, seen_with, batch_at}
 use Rattle.pgq_db.specs.Views.{DbView}
 use Rattle.pgq_db.specs.Seen.{seen_database}
 use Rattle.pgq_db.proofs.ConsumerSteps.{gives-events}
@@ -10,6 +12,7 @@ use Rattle.pgq_db.proofs.db.Db.get_batch_events.Goals as goal
 
 pub returns : goal.returns
 returns c =
-    gives-events (seen_database c.args.self.now) c.args.who c.args.id c.in-Some.batch c.new-events.result _ _ (c.in-Some.ensures.batch ∙ ap (λ (v : DbView). batch_at v.queues c.args.id) c.self.view_is)
-    (c.new-events.ensures ∙ c.in_ok-batch_events.ensures.events (seen c.self.inside.rows) ∙ ap (λ (v : DbView). selected (seen_database v) (seen_batch c.in-Some.batch)) c.self.view_is)
-    (subst EventsHaveMoments (sym c.new-events.ensures) c.in_ok-batch_events.ensures.moments) c.in_ok-push.ensures.ok
+    let was : Database = seen_with (seen c.self.inside.rows) c.self.inside.queues in
+    gives-events (seen_database c.args.self.now) _ c.args.who c.args.id c.in-Some.batch c.new-events.result _ _ (c.in-Some.ensures.batch ∙ ap (λ (v : DbView). batch_at v.queues c.args.id) c.self.view_is)
+    (c.new-events.ensures ∙ c.in_ok-batch_events.ensures.events (seen c.self.inside.rows) ∙ ap (λ (s : Span). selected was (seen_span s)) c.span-span.ensures ∙ ap (λ (v : DbView). selected (seen_database v) (seen_batch c.in-Some.batch)) c.self.view_is)
+    (subst EventsHaveMoments (sym c.new-events.ensures) c.in_ok-batch_events.ensures.moments) (c.batch_events.ensures.same (seen c.self.inside.rows) ∙ ap seen_database c.self.view_is) c.in_ok-push.ensures.ok

@@ -1,26 +1,43 @@
-use Rattle.std.proofs.Common.{sym, ◌∙◌, subst}
+use Rattle.std.proofs.Common.{refl, sym, ◌∙◌, ap, subst}
 use Rattle.sky_model.specs.History.{moved}
+use Rattle.sky_model.specs.StepConsumer.{floor}
+use Rattle.pgq_queues.specs.Seen.{queue_at}
+use Rattle.pgq_db.specs.Views.{DbView}
 use Rattle.pgq_db.specs.Seen.{seen_database}
 use Rattle.pgq_db.specs.Gives.{Ran}
 use Rattle.pgq_db.proofs.Databases.{marked-as}
-use Rattle.pgq_db.proofs.ConsumerSteps.{known-as, newest-as, tick-within, register_at-new, gives-moved}
+use Rattle.pgq_db.proofs.ConsumerSteps.{known-as, newest-as, tick-within, too-old, register_at-new, gives-moved}
 use Rattle.pgq_db.proofs.db.Db.register_consumer_at.Goals as goal
+
+pub returns-then-tick-oldest : goal.returns-then-tick-oldest
+returns-then-tick-oldest c = (
+  record {
+    refused = too-old (seen_database c.args.self.now) c.args.name.now c.args.consumer.now c.in_ok-queue.queue c.in_ok-queue.ensures.ok (sym c.has_dot.ensures ∙ c.if-has_dot.false) c.args.tick _
+        (tick-within c.args.tick _ _ c.if-tick-eq0.false c.if-tick-newest.false
+        (newest-as _ _ c.in_ok-queue.queue _ _ _ _ c.self.view_is c.queue.ensures c.ticks.ensures c.newest.ensures.newest c.id-newest.ensures))
+        (c.floor-oldest.ensures ∙ ap floor c.queue-2.ensures ∙ ap (λ (v : DbView). floor (queue_at v.queues c.in_ok-queue.queue)) c.self.view_is) c.if-tick-oldest.true;
+    same = refl;
+  },
+  refl,
+)
 
 pub returns-then-has_consumer : goal.returns-then-has_consumer
 returns-then-has_consumer c =
-    gives-moved (seen_database c.args.self.now) c.args.name.now c.args.consumer.now c.in_ok-queue.queue c.in_ok-queue.ensures.ok (sym c.has_dot.ensures ∙ c.if-has_dot.false) _ c.args.who c.args.tick _ _
+    gives-moved (seen_database c.args.self.now) c.args.name.now c.args.consumer.now c.in_ok-queue.queue c.in_ok-queue.ensures.ok (sym c.has_dot.ensures ∙ c.if-has_dot.false) _ c.args.who c.args.tick _ _ _
     (tick-within c.args.tick _ _ c.if-tick-eq0.false c.if-tick-newest.false
     (newest-as _ _ c.in_ok-queue.queue _ _ _ _ c.self.view_is c.queue.ensures c.ticks.ensures c.newest.ensures.newest c.id-newest.ensures))
-    (known-as _ _ c.in_ok-queue.queue _ c.args.consumer.now _ _ c.self.view_is c.queue-2.ensures c.has_consumer.ensures c.if-has_consumer.true)
+    (c.floor-oldest.ensures ∙ ap floor c.queue-2.ensures ∙ ap (λ (v : DbView). floor (queue_at v.queues c.in_ok-queue.queue)) c.self.view_is) c.if-tick-oldest.false
+    (known-as _ _ c.in_ok-queue.queue _ c.args.consumer.now _ _ c.self.view_is c.queue-3.ensures c.has_consumer.ensures c.if-has_consumer.true)
     (marked-as _ _ c.move_to.new.self (λ _. moved c.in_ok-queue.queue c.args.consumer.now c.args.tick) c.self.view_is c.move_to.ensures.mark) c.in_ok-push.ensures.ok
 
 pub new_consumer-requires-clause-new : goal.new_consumer-requires-clause-new
-new_consumer-requires-clause-new c = known-as _ _ c.in_ok-queue.queue _ c.args.consumer.now _ _ c.self.view_is c.queue-2.ensures c.has_consumer.ensures c.if-has_consumer.false
+new_consumer-requires-clause-new c = known-as _ _ c.in_ok-queue.queue _ c.args.consumer.now _ _ c.self.view_is c.queue-3.ensures c.has_consumer.ensures c.if-has_consumer.false
 
 pub returns : goal.returns
 returns c =
     subst (Ran c.args.self.now c.new_consumer.new.self c.args.replies.now c.new_consumer.new.replies c.args.who c.new_consumer.result)
-    (register_at-new (seen_database c.args.self.now) c.args.name.now c.args.consumer.now c.in_ok-queue.queue c.in_ok-queue.ensures.ok (sym c.has_dot.ensures ∙ c.if-has_dot.false) c.args.tick
+    (register_at-new (seen_database c.args.self.now) c.args.name.now c.args.consumer.now c.in_ok-queue.queue c.in_ok-queue.ensures.ok (sym c.has_dot.ensures ∙ c.if-has_dot.false) c.args.tick _
     (tick-within c.args.tick _ _ c.if-tick-eq0.false c.if-tick-newest.false
     (newest-as _ _ c.in_ok-queue.queue _ _ _ _ c.self.view_is c.queue.ensures c.ticks.ensures c.newest.ensures.newest c.id-newest.ensures))
-    (known-as _ _ c.in_ok-queue.queue _ c.args.consumer.now _ _ c.self.view_is c.queue-2.ensures c.has_consumer.ensures c.if-has_consumer.false)) c.new_consumer.ensures
+    (c.floor-oldest.ensures ∙ ap floor c.queue-2.ensures ∙ ap (λ (v : DbView). floor (queue_at v.queues c.in_ok-queue.queue)) c.self.view_is) c.if-tick-oldest.false
+    (known-as _ _ c.in_ok-queue.queue _ c.args.consumer.now _ _ c.self.view_is c.queue-3.ensures c.has_consumer.ensures c.if-has_consumer.false)) c.new_consumer.ensures
