@@ -16,8 +16,9 @@ use Rattle.sky_model.specs.Reader.{DatabaseReader, within_part, within_database,
 use Rattle.sky_model.specs.Settling.{Turn, behind_marks}
 use Rattle.sky_model.specs.Outcome.{Outcome, Checked, reply_of, marks_of}
 use Rattle.sky_model.specs.StepRetry.{most_back, maint_retry_events}
+use Rattle.sky_model.specs.StepRotation.{rotates_by_itself}
 use Rattle.sky_model.specs.StepQueue.{next_tick}
-use Rattle.sky_model.specs.Daemon.{quietly, ticks_of, moved_by, again_if, retries_of, daemon_does, is_due_at, first_after, earlier, next_due}
+use Rattle.sky_model.specs.Daemon.{quietly, ticks_of, moved_by, again_if, retries_of, first_steps_of, daemon_does, is_due_at, first_after, earlier, next_due}
 use Rattle.sky_model.specs.Clock.{deed_in, part_works, daemon_works, daemons_work, at_moment, goes_to, through, last_moment, clock_goes, clock}
 use Rattle.sky_world.specs.Views.{WorldView}
 use Rattle.sky_world.specs.Seen.{seen_world}
@@ -205,10 +206,14 @@ retries-silent r now (suc n) p =
     let c : Checked Outcome = maint_retry_events (r.database p) now in
     again-silent (retries_of r now n) (retries-silent r now n) (nat_le most_back (moved_by (reply_of c))) (behind_marks (within_part r now) p (marks_of c))
 
+steps-silent : {P : Type 0} (r : DatabaseReader P) (now : ℤ) (queues : List NamedQueue) (p : P) → [] ≡ (first_steps_of r now queues p).answers
+steps-silent r now [] p = refl
+steps-silent r now (q ∷ queues) p = steps-silent r now queues (behind_marks (within_part r now) p (quietly (rotates_by_itself (r.database p) now q.number)).marks)
+
 does-silent : {P : Type 0} (r : DatabaseReader P) (p : P) (part : DaemonPart) (now : ℤ) → [] ≡ (daemon_does r p part now).answers
 does-silent r p Tick now = ticks-silent r now (r.database p).queues p
 does-silent r p Retry now = retries-silent r now (length (r.database p).retries) p
-does-silent r p Maintain now = refl
+does-silent r p Maintain now = λ i. steps-silent r now (r.database p).queues p i ++ []
 
 part-silent : (d : ℕ) (part : DaemonPart) (w : World) → [] ≡ (part_works by_world d part w).answers
 part-silent d part w = by (is_due_at w.now part (w.daemons d))
