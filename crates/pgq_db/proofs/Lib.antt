@@ -11,3 +11,4 @@ pub mod Agreeing
 pub mod RetrySteps
 pub mod Switched
 pub mod RotationSteps
+pub mod Looking

@@ -7,6 +7,7 @@ ghost use Rattle.sky_model.specs.Reader.{shown_by};
 ghost use Rattle.pgq_sub.specs.Views.{seen_sub};
 ghost use Rattle.pgq_queues.specs.Seen.{Stands};
 ghost use Rattle.pgq_db.specs.Seen.{seen_database};
+ghost use Rattle.pgq_db.specs.Looks.{LooksUnlessCut};
 ghost use Rattle.pgq_db.specs.Gives.{Ran};
 
 use crate::db::Db;
@@ -173,7 +174,8 @@ impl Db {
         id: u64,
         replies: &mut Replies,
     ) -> Result<(), Stop>
-        ensures { Ran self.old self.new replies.old replies.new who result (get_batch_events (shown_by (seen_database self.old)).events id) }
+        ensures ran { Ran self.old self.new replies.old replies.new who result (get_batch_events (shown_by (seen_database self.old)).events id) }
+        ensures looks { LooksUnlessCut self.old.queues self.new.queues id result }
     {
         let Some(batch) = self.queues.batch(id) else {
             return Err(Stop::Refused(Refusal::NoBatch));

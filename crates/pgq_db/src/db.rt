@@ -24,6 +24,7 @@ ghost use Rattle.pgq_queues.specs.Seen.{Stands};
 ghost use Rattle.pgq_db.specs.Seen.{seen_database};
 ghost use Rattle.pgq_db.specs.Waiters.{StaysWithin};
 ghost use Rattle.pgq_db.specs.Gives.{Gives, Adds};
+ghost use Rattle.pgq_db.specs.Looks.{ReadsNone};
 ghost use Rattle.pgq_db.specs.Configured.{refusal_for, configured_as, Configures};
 
 use crate::rotation::switch_before;
@@ -114,6 +115,7 @@ impl Db {
     pub fn enter(&mut self, who: SessionId, outside: bool) -> Result<Option<Refusal>, NoMemory>
         ensures enters { IfOk result (λ refusal. Enters (seen_database self.old).part (seen_database self.new).part who (entry_place outside) refusal) }
         ensures but { seen_database self.new ≡ record (seen_database self.old) { part = (seen_database self.new).part } }
+        ensures queues { OnOk result (self.new.queues ≡ self.old.queues) }
         ensures err { OnErr result (seen_database self.new ≡ seen_database self.old) }
         ensures steps { OnOk result (DatabaseSteps (seen_database self.old) (seen_database self.new) (entered who outside)
             (entry (seen_database self.old).part who (entry_place outside))) }
@@ -196,6 +198,7 @@ impl Db {
         ensures adds { OnOk result (Adds (seen_database self.old) (seen_database self.new) replies.old replies.new (settling (within_part database_by_itself now) (seen_database self.old))) }
         ensures rests { OnOk result (ready (seen_database self.new).part ≡ None) }
         ensures moments { OnOk result (HaveMoments (settling (within_part database_by_itself now) (seen_database self.old)).answers) }
+        ensures reads { OnOk result (ReadsNone self.old.queues self.new.queues) }
     {
         if self.rows.is_at_rest() {
             return Ok(());
@@ -220,7 +223,8 @@ impl Db {
 
     /// Rolls back the block that the session is in, which stays aborted. What this unblocks isn't run yet.
     pub(crate) fn roll_back(&mut self, who: SessionId) -> Result<(), NoMemory>
-        ensures { OnOk result (seen_database self.new ≡ after_marks (seen_database self.old) (failing (seen_database self.old).part who).marks) }
+        ensures marks { OnOk result (seen_database self.new ≡ after_marks (seen_database self.old) (failing (seen_database self.old).part who).marks) }
+        ensures reads { OnOk result (ReadsNone self.old.queues self.new.queues) }
     {
         self.step.effects.clear();
         match self

@@ -22,6 +22,7 @@ ghost use Rattle.sky_model.specs.Moment.{IsTime};
 ghost use Rattle.pgq_queues.specs.Seen.{seen_with, Stands};
 ghost use Rattle.pgq_db.specs.Seen.{seen_database};
 ghost use Rattle.pgq_db.specs.Waiters.{StaysWithin};
+ghost use Rattle.pgq_db.specs.Looks.{LooksWithin, RanWithin, ReadsNone};
 ghost use Rattle.pgq_db.specs.Gives.{is_clock, is_on_queues, Gives, Adds, Answers, Ran};
 ghost use Rattle.sky_model.specs.Stops.{StopsAs};
 
@@ -44,6 +45,7 @@ impl Db {
         ensures rests { OnOk result (ready (seen_database self.new).part ≡ None) }
         ensures moments { IfOk result HaveMoments }
         ensures within { IfOk result (λ replies. StaysWithin (seen_database self.old) (seen_database self.new) who replies) }
+        ensures looks { OnOk result (LooksWithin self.old.queues self.new.queues stmt.now) }
         ensures steps { OnOk result (DatabaseSteps (seen_database self.old) (seen_database self.new) (stepped who stmt.now now)
             (database_turn database_by_itself (seen_database self.old) now who stmt.now)) }
     {
@@ -66,6 +68,7 @@ impl Db {
         ensures exact { OnOk result (Adds (seen_database self.old) (seen_database self.new) replies.old replies.new (database_turn database_by_itself (seen_database self.old) now who stmt.now)) }
         ensures rests { OnOk result (ready (seen_database self.new).part ≡ None) }
         ensures moments { OnOk result (HaveMoments (database_turn database_by_itself (seen_database self.old) now who stmt.now).answers) }
+        ensures looks { OnOk result (LooksWithin self.old.queues self.new.queues stmt.now) }
         ensures within { OnOk result (StaysWithin (seen_database self.old) (seen_database self.new) who (database_turn database_by_itself (seen_database self.old) now who stmt.now).answers) }
         ensures steps { OnOk result (DatabaseSteps (seen_database self.old) (seen_database self.new) (stepped who stmt.now now) (database_turn database_by_itself (seen_database self.old) now who stmt.now)) }
     {
@@ -87,6 +90,7 @@ impl Db {
         ensures adds { OnOk result (Adds (seen_database self.old) (seen_database self.new) replies.old replies.new (database_turn database_by_itself (seen_database self.old) now who stmt.now)) }
         ensures rests { OnOk result (ready (seen_database self.new).part ≡ None) }
         ensures moments { OnOk result (HaveMoments (database_turn database_by_itself (seen_database self.old) now who stmt.now).answers) }
+        ensures looks { OnOk result (LooksWithin self.old.queues self.new.queues stmt.now) }
     {
         match stmt {
             Stmt::Row(stmt) => {
@@ -115,6 +119,7 @@ impl Db {
         ensures adds { OnOk result (Adds (seen_database self.old) (seen_database self.new) replies.old replies.new (database_turn database_by_itself (seen_database self.old) now who stmt.now)) }
         ensures rests { OnOk result (ready (seen_database self.new).part ≡ None) }
         ensures moments { OnOk result (HaveMoments (database_turn database_by_itself (seen_database self.old) now who stmt.now).answers) }
+        ensures looks { OnOk result (LooksWithin self.old.queues self.new.queues stmt.now) }
     {
         self.run_or_refuse(now, who, stmt, replies)?;
         self.settle(now, replies)?;
@@ -132,7 +137,8 @@ impl Db {
         requires time { IsTime now }
         requires form { IsInForm stmt.now }
         requires kind { is_on_queues stmt.now ≡ true }
-        ensures { OnOk result (Answers (seen_database self.old) (seen_database self.new) replies.old replies.new who (statement database_by_itself (seen_database self.old) now who stmt.now)) }
+        ensures answers { OnOk result (Answers (seen_database self.old) (seen_database self.new) replies.old replies.new who (statement database_by_itself (seen_database self.old) now who stmt.now)) }
+        ensures looks { OnOk result (LooksWithin self.old.queues self.new.queues stmt.now) }
     {
         match self.enter(who, is_outside(stmt))? {
             None => {
@@ -157,8 +163,9 @@ impl Db {
         requires time { IsTime now }
         requires form { IsInForm stmt.now }
         requires kind { is_on_queues stmt.now ≡ true }
-        ensures { OnOk result (Answers (seen_database self.old) (seen_database self.new) replies.old replies.new who
+        ensures answers { OnOk result (Answers (seen_database self.old) (seen_database self.new) replies.old replies.new who
             (settled who ((seen_database self.old).part.session who) (form (seen_database self.old) (shown_by (seen_database self.old)) now who stmt.now))) }
+        ensures looks { OnOk result (LooksWithin self.old.queues self.new.queues stmt.now) }
     {
         match self.run_form(now, who, stmt, replies) {
             Ok(()) => Ok(()),
@@ -177,7 +184,8 @@ impl Db {
         refusal: Refusal,
         replies: &mut Replies,
     ) -> Result<(), NoMemory>
-        ensures { OnOk result (Answers (seen_database self.old) (seen_database self.new) replies.old replies.new who (settled who ((seen_database self.old).part.session who) (Err refusal))) }
+        ensures answers { OnOk result (Answers (seen_database self.old) (seen_database self.new) replies.old replies.new who (settled who ((seen_database self.old).part.session who) (Err refusal))) }
+        ensures reads { OnOk result (ReadsNone self.old.queues self.new.queues) }
     {
         if refusal.aborts() {
             self.roll_back(who)?;
@@ -196,6 +204,7 @@ impl Db {
         requires form { IsInForm stmt.now }
         requires kind { is_on_queues stmt.now ≡ true }
         ensures ran { Ran self.old self.new replies.old replies.new who result (form (seen_database self.old) (shown_by (seen_database self.old)) now who stmt.now) }
+        ensures looks { RanWithin self.old.queues self.new.queues stmt.now result }
     {
         match stmt {
             Stmt::Row(_) | Stmt::Clock { .. } => unreachable!(),

@@ -15,13 +15,13 @@ returns-clause-exact c =
     let d = seen_database c.args.self.now in
     let gives = gives-added _ _ _ _ _ c.new-replies.ensures
     (adds-then (to_z w64 (of_z w64 c.args.now)) d (seen_database c.roll_back.new.self) _ (failing d.part c.args.who) c.new-replies.result c.new-replies.result _
-    (record { replied = sym (append-nil c.new-replies.result); changed = c.in_ok-roll_back.ensures }) c.in_ok-settle.ensures.adds) in
+    (record { replied = sym (append-nil c.new-replies.result); changed = c.in_ok-roll_back.ensures.marks }) c.in_ok-settle.ensures.adds) in
     rw (to_z-of_z w64 c.args.now c.ranges.now) at gives
 
 pub returns-clause-moments : goal.returns-clause-moments
 returns-clause-moments c =
     let d = seen_database c.args.self.now in
-    let have = then-moments (to_z w64 (of_z w64 c.args.now)) d _ (failing d.part c.args.who) (λ k a at. absurd (omega arith)) c.in_ok-roll_back.ensures c.in_ok-settle.ensures.moments in
+    let have = then-moments (to_z w64 (of_z w64 c.args.now)) d _ (failing d.part c.args.who) (λ k a at. absurd (omega arith)) c.in_ok-roll_back.ensures.marks c.in_ok-settle.ensures.moments in
     same-moments _ _ (returns-clause-exact c).replied (rw (to_z-of_z w64 c.args.now c.ranges.now) at have)
 
 pub returns-clause-within : goal.returns-clause-within

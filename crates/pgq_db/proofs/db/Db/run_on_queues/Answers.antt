@@ -7,11 +7,12 @@ use Rattle.sky_model.specs.Calls.{statement, database_turn}
 use Rattle.pgq_db.specs.Seen.{seen_database}
 use Rattle.pgq_db.proofs.Databases.{adds-then}
 use Rattle.pgq_db.proofs.Moments.{one-moments, then-moments}
+use Rattle.pgq_db.proofs.Looking.{looks-then}
 use Rattle.pgq_db.proofs.db.Db.run_on_queues.Goals as goal
 
 pub returns-clause-adds : goal.returns-clause-adds
 returns-clause-adds c =
-    let adds = adds-then (to_z w64 (of_z w64 c.args.now)) (seen_database c.args.self.now) _ _ _ _ _ _ c.in_ok-run_or_refuse.ensures.0 c.in_ok-settle.ensures.adds in
+    let adds = adds-then (to_z w64 (of_z w64 c.args.now)) (seen_database c.args.self.now) _ _ _ _ _ _ c.in_ok-run_or_refuse.ensures.answers.0 c.in_ok-settle.ensures.adds in
     rw (to_z-of_z w64 c.args.now c.ranges.now) at adds
 
 pub returns-clause-moments : goal.returns-clause-moments
@@ -19,4 +20,7 @@ returns-clause-moments c =
     let d = seen_database c.args.self.now in
     subst (λ (now : ℤ). HaveMoments (database_turn database_by_itself d now c.args.who c.args.stmt.now).answers) (to_z-of_z w64 c.args.now c.ranges.now)
     (then-moments (to_z w64 (of_z w64 c.args.now)) d _ (turn_of c.args.who (statement database_by_itself d (to_z w64 (of_z w64 c.args.now)) c.args.who c.args.stmt.now))
-    (one-moments c.args.who _ c.in_ok-run_or_refuse.ensures.1) c.in_ok-run_or_refuse.ensures.0.changed c.in_ok-settle.ensures.moments)
+    (one-moments c.args.who _ c.in_ok-run_or_refuse.ensures.answers.1) c.in_ok-run_or_refuse.ensures.answers.0.changed c.in_ok-settle.ensures.moments)
+
+pub returns-clause-looks : goal.returns-clause-looks
+returns-clause-looks c = looks-then c.args.self.now.queues c.run_or_refuse.new.self.queues c.settle.new.self.queues c.args.stmt.now c.in_ok-run_or_refuse.ensures.looks c.in_ok-settle.ensures.reads

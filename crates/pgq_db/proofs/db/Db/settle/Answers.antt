@@ -15,6 +15,8 @@ use Rattle.pgq_db.specs.Gives.{Adds}
 use Rattle.pgq_db.proofs.EventsAlike.{Alike, alike-at, settle-told, settle-rows, told-changed}
 use Rattle.pgq_db.proofs.Moments.{same-moments}
 use Rattle.pgq_db.proofs.Agreeing.{agree-behind_turn}
+use Rattle.pgq_db.specs.Looks.{ReadsNone}
+use Rattle.pgq_db.proofs.Looking.{reads-passed}
 use Rattle.pgq_db.proofs.db.Db.settle.Goals as goal
 
 pub invariant_of-self : goal.invariant_of-self
@@ -47,3 +49,8 @@ returns-in-Ok-clause-moments c =
     let alike : Alike c.args.now (seen_with p was) p q = alike-at c.args.now (to_z w64 (of_z w64 c.args.now)) p was q c.set_time.ensures.time (to_z-of_z w64 c.args.now c.ranges.now) (c.self.invariant c.if-self.false).tables c.set_time.ensures.within in
     subst (λ (v : DbView). HaveMoments (settling (within_part database_by_itself c.args.now) (seen_database v)).answers) c.self.view_is
     (same-moments _ _ (settle-told c.args.now (seen_with p was) p q alike).answers (settle-rows p q).moments)
+
+pub returns-in-Ok-clause-reads : goal.returns-in-Ok-clause-reads
+returns-in-Ok-clause-reads c =
+    subst (λ (v : DbView). ReadsNone v.queues c.settle_into-settled.new.gate) c.self.view_is
+    (reads-passed c.self.inside.queues c.set_time.new.self c.settle_into-settled.new.gate (settling (by_gate event_rule part_by_itself) (seen c.self.inside.rows, c.set_time.new.self)).marks (ap QueuesView.queues c.set_time.ensures.time) c.in-Ok.ensures.exact.passed)

@@ -1,0 +1,80 @@
+-- How many stored events a statement looks at: what changes queues otherwise looks at none.
+use Rattle.std.proofs.Common.{◌≡◌, ℕ, zero, suc, ℤ, ◌+◌, ◌≤◌, Bool, true, false, ◌==◌, List, [], ◌∷◌, Option, Some, None, Ok, Err, get_or, slice_set, map, refl, sym, ◌∙◌, ap, subst, arith, if◌then◌else◌}
+use Rattle.std.proofs.lemmas.Bool.Decides.{nat_tests}
+use Rattle.sky_urlenc.specs.RowEvents.{RowEvent}
+use Rattle.sky_model.specs.Gates.{passed, passed_all}
+use Rattle.sky_model.specs.History as model
+use Rattle.sky_model.specs.History.{Mark, of_session, ended, tabled, wrote}
+use Rattle.sky_model.specs.declared.reply.Refusal.{Refusal}
+use Rattle.sky_model.specs.declared.stmt.Stmt.{Stmt}
+use Rattle.sky_model.specs.declared.stmt.Stmt.TheVariants.{GetBatchEvents}
+use Rattle.sky_model.specs.declared.stop.Stop.TheVariants.{Refused}
+use Rattle.pgq_queues.specs.declared.batch.Batch as read
+use Rattle.pgq_queues.specs.declared.batch.Span.{Span}
+use Rattle.pgq_queues.specs.EventRule.{events_at, telling, telling_all, event_rule}
+use Rattle.pgq_queues.specs.Looked.{most_in}
+use Rattle.pgq_queues.specs.Seen.{no_queue, seen_batch, seen_span, queue_at, batch_at, reads_at}
+use Rattle.pgq_queues.specs.Traced.{traced_at}
+use Rattle.pgq_queues.specs.Views.{QueueView, QueuesView}
+use Rattle.pgq_queues.proofs.Slotted.{undone-get}
+use Rattle.pgq_db.specs.Looks.{most_for, LooksFor, LooksWithin, RanWithin, ReadsNone}
+
+-- ---- the queues as the gate
+
+reads-set : (queues : List QueueView) (i n : ℕ) (x : QueueView) → x.tables.reads ≡ (get_or queues i no_queue).tables.reads → reads_at (slice_set queues i x) n ≡ reads_at queues n
+reads-set [] i n x is = refl
+reads-set (q ∷ qs) zero zero x is = is
+reads-set (q ∷ qs) zero (suc n) x is = refl
+reads-set (q ∷ qs) (suc i) zero x is = refl
+reads-set (q ∷ qs) (suc i) (suc n) x is = reads-set qs i n x is
+
+reads-told : (es : List RowEvent) (queues : List QueueView) (now : ℤ) (t n : ℕ) → reads_at (telling_all now t es queues) n ≡ reads_at queues n
+reads-told [] queues now t n = refl
+reads-told (e ∷ es) queues now t n =
+    let one : QueueView = telling now t e (get_or queues e.queue no_queue) in
+    reads-told es (slice_set queues e.queue one) now t n ∙ reads-set queues e.queue n one refl
+
+reads-mark : (q : QueuesView) (mark : Mark) → ReadsNone q (passed event_rule q mark)
+reads-mark q (tabled (wrote (of_session who) t table key old new)) = λ n. reads-told (events_at (traced_at q table) (record { table = table; old = old; new = new })) q.queues q.time t n
+reads-mark q (ended whose t false) = λ n. ap (λ (x : QueueView). x.tables.reads) (undone-get t q.queues n)
+reads-mark q mark = λ n. refl
+
+reads-all : (q : QueuesView) (marks : List Mark) → ReadsNone q (passed_all event_rule q marks)
+reads-all q [] = λ n. refl
+reads-all q (mark ∷ marks) = λ n. reads-all (passed event_rule q mark) marks n ∙ reads-mark q mark n
+
+-- queues after marks of rows
+pub reads-passed : (old q left : QueuesView) (marks : List Mark) → q.queues ≡ old.queues → left ≡ passed_all event_rule q marks → ReadsNone old left
+reads-passed old q left marks same is = λ n. ap (λ (x : QueuesView). reads_at x.queues n) is ∙ reads-all q marks n ∙ ap (λ queues. reads_at queues n) same
+
+-- ---- the events of a batch
+
+pub looks-for : (old new : QueuesView) (id : ℕ) (batch : read.Batch) (span : Span) → Some (seen_batch batch) ≡ batch_at old id
+    → span ≡ record { queue = batch.queue; sub = batch.sub; prev = batch.prev; cur = batch.cur } → ((n : ℕ) → (span.queue == n) ≡ false → reads_at new.queues n ≡ reads_at old.queues n)
+    → reads_at new.queues span.queue ≤ reads_at old.queues span.queue + most_in (queue_at old span.queue) (seen_span span) → LooksFor old new id
+looks-for old new id batch span there is others upper = λ n. subst (λ o. reads_at new.queues n ≤ reads_at old.queues n + most_for old n o) there (by n (batch.queue == n) refl)
+  where
+    by : (n : ℕ) (b : Bool) → (batch.queue == n) ≡ b → reads_at new.queues n ≤ reads_at old.queues n + (if b then most_in (queue_at old n) (seen_batch batch) else 0)
+    by n true e =
+        let same : batch.queue ≡ n = grind (arith, nat_tests) in
+        subst (λ m. reads_at new.queues m ≤ reads_at old.queues m + most_in (queue_at old m) (seen_batch batch)) same
+        (subst (λ (s : Span). reads_at new.queues s.queue ≤ reads_at old.queues s.queue + most_in (queue_at old s.queue) (seen_span s)) is upper)
+    by n false e = let same = others n (subst (λ (s : Span). (s.queue == n) ≡ false) (sym is) e) in omega (arith, same)
+
+-- ---- a statement, part by part
+
+pub looks-none : (old new : QueuesView) (stmt : Stmt) → ReadsNone old new → LooksWithin old new stmt
+looks-none old new (GetBatchEvents id) none = λ n. let same = none n in omega (arith, same)
+looks-none old new _ none = tt
+
+pub looks-done : (old new : QueuesView) (stmt : Stmt) (done : Unit {0}) → RanWithin old new stmt (Ok done) → LooksWithin old new stmt
+looks-done old new (GetBatchEvents id) done looks = looks
+looks-done old new _ done looks = tt
+
+pub looks-then : (old mid new : QueuesView) (stmt : Stmt) → LooksWithin old mid stmt → ReadsNone mid new → LooksWithin old new stmt
+looks-then old mid new (GetBatchEvents id) looks none = λ n. let most = looks n in let same = none n in omega (arith, most, same)
+looks-then old mid new _ looks none = tt
+
+pub looks-refused : (old mid new : QueuesView) (stmt : Stmt) (refusal : Refusal) → RanWithin old mid stmt (Err (Refused refusal)) → ReadsNone mid new → LooksWithin old new stmt
+looks-refused old mid new (GetBatchEvents id) refusal looks none = λ n. let most = looks n in let same = none n in omega (arith, most, same)
+looks-refused old mid new _ refusal looks none = tt

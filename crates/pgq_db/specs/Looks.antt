@@ -1,0 +1,38 @@
+-- How many stored events a statement looks at, by queue.
+use Rattle.std.specs.Prelude.{◌≡◌, ℕ, ◌+◌, ◌≤◌, ◌==◌, Option, Some, None, if◌then◌else◌, Result, Ok, Err}
+use Rattle.sky_model.specs.History.{Batch}
+use Rattle.sky_model.specs.declared.stmt.Stmt.{Stmt}
+use Rattle.sky_model.specs.declared.stmt.Stmt.TheVariants.{GetBatchEvents}
+use Rattle.sky_model.specs.declared.stop.Stop.{Stop}
+use Rattle.sky_model.specs.declared.stop.Stop.TheVariants.{Refused, NoMemory}
+use Rattle.pgq_queues.specs.Looked.{most_in}
+use Rattle.pgq_queues.specs.Seen.{queue_at, batch_at, reads_at}
+use Rattle.pgq_queues.specs.Views.{QueuesView}
+
+-- how many of a queue's are looked at for a batch, at most: none of another queue's
+abbrev pub most_for : QueuesView → ℕ → Option Batch → ℕ
+most_for q n None = 0
+most_for q n (Some b) = if b.queue == n then most_in (queue_at q n) b else 0
+
+-- of each queue no more are looked at
+abbrev pub LooksFor : QueuesView → QueuesView → ℕ → Type 0
+LooksFor old new id = (n : ℕ) → reads_at new.queues n ≤ reads_at old.queues n + most_for old n (batch_at old id)
+
+-- so it is with `get_batch_events N`; of other statements nothing is said
+abbrev pub LooksWithin : QueuesView → QueuesView → Stmt → Type 0
+LooksWithin old new (GetBatchEvents id) = LooksFor old new id
+LooksWithin old new _ = Unit {0}
+
+-- whether it is refused or not; out of memory, nothing is said of it
+abbrev pub LooksUnlessCut : QueuesView → QueuesView → ℕ → Result (Unit {0}) Stop → Type 0
+LooksUnlessCut old new id (Ok _) = LooksFor old new id
+LooksUnlessCut old new id (Err (Refused refusal)) = LooksFor old new id
+LooksUnlessCut old new id (Err NoMemory) = Unit {0}
+
+abbrev pub RanWithin : QueuesView → QueuesView → Stmt → Result (Unit {0}) Stop → Type 0
+RanWithin old new (GetBatchEvents id) result = LooksUnlessCut old new id result
+RanWithin old new _ result = Unit {0}
+
+-- nothing is looked at
+abbrev pub ReadsNone : QueuesView → QueuesView → Type 0
+ReadsNone old new = (n : ℕ) → reads_at new.queues n ≡ reads_at old.queues n
