@@ -17,6 +17,6 @@ returns-in-Some-clause-marks c =
     ∙ ap (λ (now : ℤ). after_marks d (switches_of d now (Some c.in-Some.txid))) (to_z-of_z w64 c.args.now c.ranges.now)
     ∙ ap (λ (txid : Option ℕ). after_marks d (switches_of d c.args.now txid)) c.in-Some.ensures in
     elim c.match-matches.branch [
-      in-Commit w ↦ made ∙ ap (λ (stmt : RowStmt). after_marks d (first_switches d c.args.now c.args.who stmt)) (sym w.in-Commit.is)
+      | in-Commit w ↦ made ∙ ap (λ (stmt : RowStmt). after_marks d (first_switches d c.args.now c.args.who stmt)) (sym w.in-Commit.is)
       | in_default w ↦ absurd (cc)
     ]
