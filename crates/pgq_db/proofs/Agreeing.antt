@@ -8,7 +8,7 @@ use Rattle.sky_model.specs.declared.reply.Refusal.TheVariants.{TxidsSpent}
 use Rattle.sky_model.specs.declared.stmt.Where.{Where}
 use Rattle.sky_model.specs.History.{Mark, of_session, of_worker, began, ended, tabled, table_made, wrote, waits, waited}
 use Rattle.sky_model.specs.State.{RowPart, after_part, after_part_marks}
-use Rattle.sky_model.specs.Outcome.{Checked, ◌>>◌, refused_if}
+use Rattle.sky_model.specs.Outcome.{◌>>◌, refused_if}
 use Rattle.sky_model.specs.OwnTransaction.{next_id}
 use Rattle.sky_model.specs.Gates.{passed, passed_all}
 use Rattle.sky_model.specs.SessionMarks.{sight_marks, Enters}

@@ -1,7 +1,6 @@
 -- What a database shows, after what the code changed in it.
-use Rattle.std.proofs.Common.{Err, is_ok, drop, ◌≡◌, ℕ, ℤ, ◌+◌, ◌<◌, ◌≤◌, ◌^◌, List, [], ◌∷◌, ◌++◌, Bool, true, false, nat_le, Option, Some, None, Result, Ok, IfOk, OnOk, is_some, length, append_assoc, get_or, option_map, refl, sym, ◌∙◌, ap, subst, arith, if◌then◌else◌, ◌↔◌, ◌==◌}
+use Rattle.std.proofs.Common.{Err, is_ok, ◌≡◌, ℕ, ℤ, ◌+◌, ◌<◌, ◌≤◌, ◌^◌, List, [], ◌∷◌, ◌++◌, Bool, true, false, nat_le, Option, Some, None, Result, Ok, IfOk, OnOk, is_some, length, append_assoc, option_map, refl, sym, ◌∙◌, ap, subst, arith, if◌then◌else◌, ◌↔◌, ◌==◌}
 use Rattle.std.proofs.lemmas.Bool.Decides.{nat_tests}
-use Rattle.std.proofs.lemmas.List.{drop_more}
 use Rattle.sky_val.specs.declared.event.Event.{Event}
 use Rattle.sky_txid.specs.Snapshot.{SnapshotView}
 use Rattle.sky_names.specs.Places.{place_of}
@@ -16,7 +15,7 @@ use Rattle.sky_model.specs.declared.reply.Refusal.{Refusal}
 use Rattle.sky_model.specs.declared.reply.Refusal.TheVariants.{BadColumn, HasConsumers, HasTriggers, NoTable, QueueBusy, TableBusy, TooMany, TriggerExists, EventIdsSpent, IdsSpent}
 use Rattle.sky_model.specs.declared.stmt.Stmt.{Stmt}
 use Rattle.sky_model.specs.declared.stmt.Where.{Where}
-use Rattle.sky_model.specs.History.{Mark, ended, looked, block_failed, tabled, wrote, queued, QueueMark, made, raised, put, ticked, dropped, traced}
+use Rattle.sky_model.specs.History.{Mark, looked, block_failed, queued, QueueMark, made, raised, put, dropped, traced}
 use Rattle.sky_model.specs.Sessions.{Block, outside, inside}
 use Rattle.sky_model.specs.Queues.{queue_number}
 use Rattle.sky_model.specs.Triggers.{TableTrigger, triggers_of}
@@ -33,12 +32,7 @@ use Rattle.sky_model.specs.Settling.{Turn, behind_marks, settling, with_settling
 use Rattle.sky_model.specs.Calls.{form, making, statement}
 use Rattle.sky_model.specs.DatabaseCalls as call
 use Rattle.sky_model.specs.DatabaseSteps.{DatabaseSteps}
-use Rattle.sky_model.proofs.RowOutcomes.{RowMarks}
 use Rattle.sky_model.proofs.DatabaseStanding.{after_marks-append, behind-all, database_enter_from_exact}
-use Rattle.sky_urlenc.specs.RowEvents.{op_of}
-use Rattle.sky_session.specs.Effects.{EffectsView, effects_by, with_effects}
-use Rattle.sky_session.specs.declared.effect.Effect.{Effect}
-use Rattle.sky_session.specs.declared.effect.Effect.TheVariants.{Wrote, Aborted}
 use Rattle.sky_model.specs.SessionMarks.{look_of, failure, Enters, entry, entry_place}
 use Rattle.sky_state.specs.Views.{RowStateView}
 use Rattle.sky_state.specs.Seen.{seen}

@@ -1,5 +1,5 @@
 -- What the statements on retries give.
-use Rattle.std.proofs.Common.{◌≡◌, ℕ, zero, suc, ℤ, ◌+◌, ◌*◌, ◌<◌, ◌≤◌, List, [], ◌∷◌, ◌++◌, Bool, true, false, not, Option, Some, None, Result, Ok, Err, find, length, option_map, refl, sym, ◌∙◌, ap, subst, arith, if◌then◌else◌, ◌==◌}
+use Rattle.std.proofs.Common.{◌≡◌, ℕ, zero, suc, ℤ, ◌<◌, List, [], ◌∷◌, ◌++◌, Bool, true, false, not, Option, Some, None, Ok, Err, find, length, option_map, refl, sym, ◌∙◌, ap, subst, arith, if◌then◌else◌, ◌==◌}
 use Rattle.std.proofs.lemmas.Bool.Decides.{nat_tests}
 use mir.Val.{bool_byte}
 use Rattle.sky_val.specs.declared.event.Event.{Event}
@@ -8,13 +8,12 @@ use Rattle.pgq_retry.specs.declared.retry.Retry.{Retry}
 use Rattle.pgq_retry.specs.Retries.{is_asked, due_now}
 use Rattle.sky_model.specs.declared.reply.Reply.{Reply}
 use Rattle.sky_model.specs.declared.reply.Reply.TheVariants.{Number}
-use Rattle.sky_model.specs.declared.reply.Refusal.{Refusal}
 use Rattle.sky_model.specs.declared.reply.Refusal.TheVariants.{NoBatch, NoEvent}
 use Rattle.sky_model.specs.History as model
 use Rattle.sky_model.specs.History.{Mark, of_worker, began, ended, queued, put, asked, returned}
 use Rattle.sky_model.specs.Selection.{selected}
 use Rattle.sky_model.specs.State.{RowPart, after_part_marks, Database, after_mark, after_marks}
-use Rattle.sky_model.specs.Outcome.{Outcome, Checked, marks_of, ◌>>=◌, found_or, answers, does_marks}
+use Rattle.sky_model.specs.Outcome.{marks_of, ◌>>=◌, found_or, answers, does_marks}
 use Rattle.sky_model.specs.OwnTransaction.{next_id}
 use Rattle.sky_model.specs.Reader.{shown_by}
 use Rattle.sky_model.specs.Retries.{brought_by}

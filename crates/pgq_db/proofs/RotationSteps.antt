@@ -1,5 +1,5 @@
 -- What the statements on rotation give.
-use Rattle.std.proofs.Common.{◌≡◌, ℕ, zero, suc, ℤ, ◌<◌, List, [], ◌∷◌, ◌++◌, Bool, true, false, not, ◌==◌, Option, Some, None, Ok, Err, length, refl, sym, ◌∙◌, ap, subst, arith, if◌then◌else◌, IsTrue, ◌↔◌}
+use Rattle.std.proofs.Common.{◌≡◌, ℕ, ℤ, List, [], ◌∷◌, ◌++◌, Bool, true, false, not, ◌==◌, Option, Some, None, Ok, Err, length, refl, sym, ◌∙◌, ap, subst, arith, if◌then◌else◌, IsTrue, ◌↔◌}
 use Rattle.std.specs.Prelude.{◌≢◌, option_map, is_some}
 use Rattle.std.specs.Option.{option_or}
 use Rattle.std.proofs.lemmas.Bool.{eq-eqb}
@@ -10,7 +10,7 @@ use Rattle.sky_model.specs.declared.reply.Reply.{Reply}
 use Rattle.sky_model.specs.declared.reply.Reply.TheVariants.{Number}
 use Rattle.sky_model.specs.declared.reply.Reply.TheVariants as reply
 use Rattle.sky_model.specs.declared.reply.Refusal.{Refusal}
-use Rattle.sky_model.specs.History.{Mark, of_worker, began, ended, queued, switching, switched, second_step}
+use Rattle.sky_model.specs.History.{of_worker, began, ended, queued, switching, switched, second_step}
 use Rattle.sky_model.specs.Outcome.{Outcome, Checked, ◌>>=◌, answers, does_marks, reply_of, marks_of}
 use Rattle.sky_model.specs.OwnTransaction.{next_id, txid_for, begin_of, commit_of, written}
 use Rattle.sky_model.specs.Printed.{ReplyHasMoments}

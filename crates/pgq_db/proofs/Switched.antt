@@ -1,5 +1,5 @@
 -- The switches of event tables that a `commit` makes come first, and it does all else as it does after them.
-use Rattle.std.proofs.Common.{◌≡◌, ℕ, ℤ, List, [], ◌∷◌, ◌++◌, Bool, true, false, Option, Some, None, Ok, Err, is_ok, append_assoc, refl, sym, ◌∙◌, ap, if◌then◌else◌}
+use Rattle.std.proofs.Common.{◌≡◌, ℕ, ℤ, List, [], ◌∷◌, ◌++◌, Option, Some, None, Ok, Err, is_ok, append_assoc, refl, sym, ◌∙◌, ap, if◌then◌else◌}
 use Rattle.sky_keys.specs.Waits.{is_waiting}
 use Rattle.sky_model.specs.declared.stmt.RowStmt.{RowStmt}
 use Rattle.sky_model.specs.declared.stmt.RowStmt.TheVariants.{Commit}
@@ -12,7 +12,7 @@ use Rattle.sky_model.specs.History.{Mark, queued, switched}
 use Rattle.sky_model.specs.Made.{runs_if, made_by}
 use Rattle.sky_model.specs.Outcome.{Outcome, Checked, after_marks_of, settled}
 use Rattle.sky_model.specs.Queues.{NamedQueue, is_pending}
-use Rattle.sky_model.specs.Reader.{PartReader, database_by_itself, within_part, shown_by}
+use Rattle.sky_model.specs.Reader.{PartReader, database_by_itself, within_part}
 use Rattle.sky_model.specs.Sessions.{Block, outside, inside, failed, Session}
 use Rattle.sky_model.specs.Settling.{Turn, turn_of, behind_marks, settling, with_settling}
 use Rattle.sky_model.specs.State.{RowPart, Database, after_mark, after_marks}

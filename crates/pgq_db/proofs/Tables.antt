@@ -1,18 +1,14 @@
 -- What is kept of tables stays true: a table that is made stays as it is.
-use Rattle.std.proofs.Common.{◌≡◌, ℕ, zero, suc, ◌<◌, Bool, true, false, ◌==◌, List, [], ◌∷◌, ◌++◌, Option, Some, None, Result, Ok, Err, IfOk, OnErr, length, refl, sym, ◌∙◌, ap, subst, arith, if◌then◌else◌}
+use Rattle.std.proofs.Common.{◌≡◌, ℕ, zero, suc, ◌<◌, Bool, true, false, ◌==◌, List, [], ◌∷◌, ◌++◌, Option, Some, None, length, refl, sym, ◌∙◌, ap, subst, arith, if◌then◌else◌}
 use Rattle.std.specs.Prelude.{slice_get}
 use Rattle.std.proofs.lemmas.Bool.Decides.{nat_tests}
 use Rattle.std.proofs.lemmas.Option.{slice_get_within}
-use Rattle.std.specs.declared.alloc.AllocError.{AllocError}
 use Rattle.sky_val.specs.declared.column.Column.{Column}
 use Rattle.sky_names.specs.Places.{place_of}
 use Rattle.sky_names.proofs.PlaceLemmas.{slice_get-place_of}
-use Rattle.sky_model.specs.declared.reply.Refusal.{Refusal}
-use Rattle.sky_model.specs.declared.stmt.Where.{Where}
 use Rattle.sky_model.specs.History.{Mark, ended, tabled, table_made}
 use Rattle.sky_model.specs.Triggers.{TableTrigger}
 use Rattle.sky_model.specs.State.{RowPart, after_part, after_part_marks, changed_at}
-use Rattle.sky_model.specs.SessionMarks.{sight_marks, Enters}
 use Rattle.pgq_queues.specs.Views.{TracedTableView, QueuesView}
 use Rattle.pgq_queues.specs.Seen.{kept}
 use Rattle.pgq_queues.specs.Traced.{IsTable, IsTraced, AreTables, KeepsRest}

@@ -3,9 +3,10 @@
 //! `Db::step` runs one statement of one session, and those of other sessions that it unblocks. What a contract sees of
 //! a `Db` is read by `seen_database` as the definitions' database. For every place of every history that calls make where
 //! the database was as it was, the answers are those of the definitions, and the database is then that of the history
-//! with the turn's marks on top. A statement that is run elsewhere comes in by `enter`, and if it is refused there,
-//! `fail` aborts the block that its session is in. Nothing here knows a session's name, another database, or a byte of a
-//! script.
+//! with the turn's marks on top. The queues are the gate of the rows: they hear of each write and of each rollback, in
+//! their order, and before a `commit` the switches of event tables are made that its transaction has pending. A statement
+//! that is run elsewhere comes in by `enter`, and if it is refused there, `fail` aborts the block that its session is in.
+//! Nothing here knows a session's name, another database, or a byte of a script.
 #![tactic(auto)]
 
 mod consumers;

@@ -1,6 +1,6 @@
-use Rattle.std.proofs.Common.{ℤ, [], ◌∷◌, Bool, ◌∙◌, sym, ap, if◌then◌else◌, w64}
+use Rattle.std.proofs.Common.{ℤ, [], Bool, ◌∙◌, sym, ap, if◌then◌else◌, w64}
 use Rattle.std.proofs.lemmas.Int.{to_z-of_z}
-use Rattle.sky_model.specs.History.{queued, switching, switched}
+use Rattle.sky_model.specs.History.{queued, switched}
 use Rattle.sky_model.specs.Sessions.{outside, inside}
 use Rattle.sky_model.specs.State.{part_of, after_mark, after_marks}
 use Rattle.sky_model.specs.StepRotation.{switch_of}
