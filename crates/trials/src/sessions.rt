@@ -88,9 +88,9 @@ struct Few {
 
 impl WriteGate for Few {
     ghost rule = { record {
-        has_room = λ gate write. nat_lt 0 gate.left;
-        after = λ gate t write. record { left = gate.left - 1 };
-        undone = λ gate t. gate;
+      has_room = λ gate write. nat_lt 0 gate.left;
+      after = λ gate t write. record { left = gate.left - 1 };
+      undone = λ gate t. gate;
     } };
 
     fn room(&self, _table: u32, _op: Op, _old: Option<&Row>, _new: Option<&Row>) -> bool {

@@ -4,7 +4,6 @@ use Rattle.sky_model.specs.Queues.{newest_tick, id_of, is_above, ticks_above}
 use Rattle.pgq_tick.proofs.TickLists.{AreTicks-kept}
 use Rattle.pgq_tick.proofs.ticks.Ticks.drop_below.Goals as goal
 
-
 pub invariant_of-self : goal.invariant_of-self
 invariant_of-self c =
     let id = c.id-newest.ensures ∙ sym (ap id_of c.newest.ensures.newest) ∙ sym (ap (λ ts. id_of (newest_tick ts)) c.self.view_is) in
