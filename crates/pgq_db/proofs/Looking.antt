@@ -6,7 +6,7 @@ use Rattle.sky_model.specs.Gates.{passed, passed_all}
 use Rattle.sky_model.specs.History.{Mark, of_session, ended, tabled, wrote}
 use Rattle.sky_model.specs.declared.reply.Refusal.{Refusal}
 use Rattle.sky_model.specs.declared.stmt.Stmt.{Stmt}
-use Rattle.sky_model.specs.declared.stmt.Stmt.TheVariants.{GetBatchEvents}
+use Rattle.sky_model.specs.declared.stmt.Stmt.TheVariants.{GetBatchEvents, EventRetry}
 use Rattle.sky_model.specs.declared.stop.Stop.TheVariants.{Refused}
 use Rattle.pgq_queues.specs.declared.batch.Batch as read
 use Rattle.pgq_queues.specs.declared.batch.Span.{Span}
@@ -64,16 +64,20 @@ looks-for old new id batch span there is others upper = λ n. subst (λ o. reads
 
 pub looks-none : (old new : QueuesView) (stmt : Stmt) → ReadsNone old new → LooksWithin old new stmt
 looks-none old new (GetBatchEvents id) none = λ n. let same = none n in omega (arith, same)
+looks-none old new (EventRetry id event seconds) none = λ n. let same = none n in omega (arith, same)
 looks-none old new _ none = tt
 
 pub looks-done : (old new : QueuesView) (stmt : Stmt) (done : Unit {0}) → RanWithin old new stmt (Ok done) → LooksWithin old new stmt
 looks-done old new (GetBatchEvents id) done looks = looks
+looks-done old new (EventRetry id event seconds) done looks = looks
 looks-done old new _ done looks = tt
 
 pub looks-then : (old mid new : QueuesView) (stmt : Stmt) → LooksWithin old mid stmt → ReadsNone mid new → LooksWithin old new stmt
 looks-then old mid new (GetBatchEvents id) looks none = λ n. let most = looks n in let same = none n in omega (arith, most, same)
+looks-then old mid new (EventRetry id event seconds) looks none = λ n. let most = looks n in let same = none n in omega (arith, most, same)
 looks-then old mid new _ looks none = tt
 
 pub looks-refused : (old mid new : QueuesView) (stmt : Stmt) (refusal : Refusal) → RanWithin old mid stmt (Err (Refused refusal)) → ReadsNone mid new → LooksWithin old new stmt
 looks-refused old mid new (GetBatchEvents id) refusal looks none = λ n. let most = looks n in let same = none n in omega (arith, most, same)
+looks-refused old mid new (EventRetry id event seconds) refusal looks none = λ n. let most = looks n in let same = none n in omega (arith, most, same)
 looks-refused old mid new _ refusal looks none = tt

@@ -34,8 +34,8 @@ use sky_val::{Event, NoMemory, Schema, SessionId, Text, copy_option};
 use std::alloc::{AllocError, Global};
 
 impl Db {
-    /// Runs a statement of a session, and those that it unblocks. Once memory has run out
-    /// nothing is said of the database.
+    /// Runs a statement of a session, and those that it unblocks. For `get_batch_events` and `event_retry` no more stored
+    /// events are looked at than the batch's ticks allow. Once memory has run out nothing is said of the database.
     pub fn step(&mut self, who: SessionId, stmt: &Stmt, now: i64) -> Result<Replies, NoMemory>
         requires time { IsTime now }
         requires form { IsInForm stmt.now }
