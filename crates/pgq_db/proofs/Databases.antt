@@ -9,7 +9,7 @@ use Rattle.sky_model.specs.declared.reply.Reply.{Reply}
 use Rattle.std.specs.Prelude.{find, not}
 use Rattle.sky_model.specs.ShownRows.{least_writer}
 use Rattle.sky_model.specs.StepTrigger.{has_trigger, may_ignore, add_trigger}
-use Rattle.sky_model.specs.declared.reply.Reply.TheVariants.{Done, Number}
+use Rattle.sky_model.specs.declared.reply.Reply.TheVariants.{Done, Number, Refused}
 use Rattle.sky_model.specs.declared.reply.Limit.TheVariants.{Queues, Triggers}
 use Rattle.sky_model.specs.declared.reply.Refusal.{Refusal}
 use Rattle.sky_model.specs.declared.reply.Refusal.TheVariants.{BadColumn, HasConsumers, HasTriggers, NoTable, QueueBusy, TableBusy, TooMany, TriggerExists, EventIdsSpent, IdsSpent}
@@ -260,6 +260,29 @@ answers-turned_away d s1 s2 now who stmt place before after refusal is enters bu
   where
     turned : Enters d.part s1.part who (where_of stmt) (Some refusal)
     turned = subst (λ p. Enters d.part s1.part who p (Some refusal)) is enters
+
+-- the reply alone
+pub reply-entered : (d s1 : Database) (now : ℤ) (who : ℕ) (stmt : Stmt) (place : Where) → place ≡ where_of stmt → Enters d.part s1.part who place None → s1 ≡ record d { part = s1.part }
+    → (statement database_by_itself d now who stmt).reply ≡ (settled who (s1.part.session who) (form s1 (shown_by s1) now who stmt)).reply
+reply-entered d s1 now who stmt place is enters but =
+    ap (λ o. (runs_if m (where_of stmt) who d o).reply) entered.0
+    ∙ of (takes_sight (where_of stmt) (d.part.session who).sight) (but ∙ ap (λ part. record d { part = part }) entered.1)
+  where
+    m : Making Database
+    m = making database_by_itself now who stmt
+
+    entered : Enters d.part s1.part who (where_of stmt) None
+    entered = subst (λ p. Enters d.part s1.part who p None) is enters
+
+    of : (b : Bool) → s1 ≡ record d { part = after_part_marks d.part (look_of who b) }
+        → (if b then looking who (runs m who (after_mark d (looked who))) else runs m who d).reply ≡ (settled who (s1.part.session who) (form s1 (shown_by s1) now who stmt)).reply
+    of true e = ap (λ (x : Database). (settled who (x.part.session who) (form x (shown_by x) now who stmt)).reply) (sym e)
+    of false e = ap (λ (x : Database). (settled who (x.part.session who) (form x (shown_by x) now who stmt)).reply) (sym e)
+
+pub reply-turned_away : (d s1 : Database) (now : ℤ) (who : ℕ) (stmt : Stmt) (place : Where) (refusal : Refusal) → place ≡ where_of stmt → Enters d.part s1.part who place (Some refusal)
+    → (statement database_by_itself d now who stmt).reply ≡ Refused refusal
+reply-turned_away d s1 now who stmt place refusal is enters =
+    ap (λ o. (runs_if (making database_by_itself now who stmt) (where_of stmt) who d o).reply) (subst (λ p. Enters d.part s1.part who p (Some refusal)) is enters).0
 
 -- what a statement answers that isn't refused, and one that is
 pub answers-done : (d s : Database) (before after : List (ℕ × Reply)) (who : ℕ) (checked : Checked Outcome) → Runs d s before after who checked

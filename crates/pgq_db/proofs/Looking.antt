@@ -1,12 +1,22 @@
 -- How many stored events a statement looks at: what changes queues otherwise looks at none.
-use Rattle.std.proofs.Common.{◌≡◌, ℕ, zero, suc, ℤ, ◌+◌, ◌≤◌, Bool, true, false, ◌==◌, List, [], ◌∷◌, Some, Ok, Err, get_or, slice_set, refl, sym, ◌∙◌, ap, subst, arith, if◌then◌else◌}
+use Rattle.std.proofs.Common.{◌≡◌, ℕ, zero, suc, ℤ, ◌+◌, ◌-◌, ◌^◌, ◌<◌, ◌≤◌, Bool, true, false, ◌==◌, List, [], ◌∷◌, length, option_map, Option, None, Some, Ok, Err, get_or, slice_set, refl, sym, ◌∙◌, ap, subst, arith, if◌then◌else◌}
 use Rattle.std.proofs.lemmas.Bool.Decides.{nat_tests}
+use Rattle.sky_val.specs.declared.event.Event.{Event}
 use Rattle.sky_urlenc.specs.RowEvents.{RowEvent}
 use Rattle.sky_model.specs.Gates.{passed, passed_all}
-use Rattle.sky_model.specs.History.{Mark, of_session, ended, tabled, wrote}
+use Rattle.sky_model.specs.History.{Batch, Mark, of_session, ended, tabled, wrote}
 use Rattle.sky_model.specs.declared.reply.Refusal.{Refusal}
+use Rattle.sky_model.specs.declared.reply.Refusal.TheVariants.{NoBatch}
+use Rattle.sky_model.specs.declared.reply.Reply.{Reply}
+use Rattle.sky_model.specs.declared.reply.Reply.TheVariants as answer
+use Rattle.sky_model.specs.Outcome.{Checked, Outcome, ◌>>=◌, found_or, answers, reply_of, settled}
+use Rattle.sky_model.specs.Reader.{shown_by}
+use Rattle.sky_model.specs.Selection.{selected}
+use Rattle.sky_model.specs.Sessions.{Session}
+use Rattle.sky_model.specs.State.{Database}
+use Rattle.sky_model.specs.StepConsumer.{get_batch_events}
 use Rattle.sky_model.specs.declared.stmt.Stmt.{Stmt}
-use Rattle.sky_model.specs.declared.stmt.Stmt.TheVariants.{GetBatchEvents}
+use Rattle.sky_model.specs.declared.stmt.Stmt.TheVariants.{GetBatchEvents, EventRetry}
 use Rattle.sky_model.specs.declared.stop.Stop.TheVariants.{Refused}
 use Rattle.pgq_queues.specs.declared.batch.Batch as read
 use Rattle.pgq_queues.specs.declared.batch.Span.{Span}
@@ -16,7 +26,9 @@ use Rattle.pgq_queues.specs.Seen.{no_queue, seen_batch, seen_span, queue_at, bat
 use Rattle.pgq_queues.specs.Traced.{traced_at}
 use Rattle.pgq_queues.specs.Views.{QueueView, QueuesView}
 use Rattle.pgq_queues.proofs.Slotted.{undone-get}
-use Rattle.pgq_db.specs.Looks.{most_for, LooksFor, LooksWithin, RanWithin, ReadsNone}
+use Rattle.pgq_db.specs.Views.{DbView}
+use Rattle.pgq_db.specs.Seen.{seen_database}
+use Rattle.pgq_db.specs.Looks.{most_for, LooksFor, LooksWithin, RanWithin, LooksFrom, ListsFrom, ListsLooked, ReadsNone}
 
 -- ---- the queues as the gate
 
@@ -64,16 +76,59 @@ looks-for old new id batch span there is others upper = λ n. subst (λ o. reads
 
 pub looks-none : (old new : QueuesView) (stmt : Stmt) → ReadsNone old new → LooksWithin old new stmt
 looks-none old new (GetBatchEvents id) none = λ n. let same = none n in omega (arith, same)
+looks-none old new (EventRetry id event seconds) none = λ n. let same = none n in omega (arith, same)
 looks-none old new _ none = tt
 
 pub looks-done : (old new : QueuesView) (stmt : Stmt) (done : Unit {0}) → RanWithin old new stmt (Ok done) → LooksWithin old new stmt
 looks-done old new (GetBatchEvents id) done looks = looks
+looks-done old new (EventRetry id event seconds) done looks = looks
 looks-done old new _ done looks = tt
 
 pub looks-then : (old mid new : QueuesView) (stmt : Stmt) → LooksWithin old mid stmt → ReadsNone mid new → LooksWithin old new stmt
 looks-then old mid new (GetBatchEvents id) looks none = λ n. let most = looks n in let same = none n in omega (arith, most, same)
+looks-then old mid new (EventRetry id event seconds) looks none = λ n. let most = looks n in let same = none n in omega (arith, most, same)
 looks-then old mid new _ looks none = tt
 
 pub looks-refused : (old mid new : QueuesView) (stmt : Stmt) (refusal : Refusal) → RanWithin old mid stmt (Err (Refused refusal)) → ReadsNone mid new → LooksWithin old new stmt
 looks-refused old mid new (GetBatchEvents id) refusal looks none = λ n. let most = looks n in let same = none n in omega (arith, most, same)
+looks-refused old mid new (EventRetry id event seconds) refusal looks none = λ n. let most = looks n in let same = none n in omega (arith, most, same)
 looks-refused old mid new _ refusal looks none = tt
+
+-- ---- the events that are listed
+
+pub lists-for : (v : DbView) (new : QueuesView) (id : ℕ) (batch : read.Batch) (span : Span) (events : List Event) → Some (seen_batch batch) ≡ batch_at v.queues id
+    → span ≡ record { queue = batch.queue; sub = batch.sub; prev = batch.prev; cur = batch.cur } → events ≡ selected (seen_database v) (seen_span span)
+    → (reads_at new.queues span.queue < 2 ^ 64 - 1 → length events + reads_at v.queues.queues span.queue ≤ reads_at new.queues span.queue)
+    → ListsFrom v.queues new id (reply_of (get_batch_events (shown_by (seen_database v)).events id))
+lists-for v new id batch span events there is are lower =
+    subst (λ found. ListsFrom v.queues new id (reply_of (found_or (option_map (selected d) found) NoBatch >>= (λ es. answers (answer.Events es))))) there
+    (subst (LooksFrom v.queues new (selected d (seen_batch batch))) there
+    (subst (λ (es : List Event). reads_at new.queues batch.queue < 2 ^ 64 - 1 → length es + reads_at v.queues.queues batch.queue ≤ reads_at new.queues batch.queue)
+    (are ∙ ap (λ (s : Span). selected d (seen_span s)) is)
+    (subst (λ (s : Span). reads_at new.queues s.queue < 2 ^ 64 - 1 → length events + reads_at v.queues.queues s.queue ≤ reads_at new.queues s.queue) is lower)))
+  where
+    d : Database
+    d = seen_database v
+
+pub lists-done : (old new : QueuesView) (stmt : Stmt) (who : ℕ) (s : Session) (checked : Checked Outcome) → ListsLooked old new stmt (reply_of checked) → ListsLooked old new stmt (settled who s checked).reply
+lists-done old new stmt who s (Ok outcome) lists = lists
+lists-done old new stmt who s (Err refusal) lists = lists
+
+pub lists-refused : (old new : QueuesView) (stmt : Stmt) (reply : Reply) (refusal : Refusal) → reply ≡ answer.Refused refusal → ListsLooked old new stmt reply
+lists-refused old new stmt reply refusal is = subst (ListsLooked old new stmt) (sym is) (of stmt)
+  where
+    of : (stmt : Stmt) → ListsLooked old new stmt (answer.Refused refusal)
+    of (GetBatchEvents id) = tt
+    of _ = tt
+
+pub lists-then : (old mid new : QueuesView) (stmt : Stmt) (reply : Reply) → ListsLooked old mid stmt reply → ReadsNone mid new → ListsLooked old new stmt reply
+lists-then old mid new (GetBatchEvents id) (answer.Events events) lists none = of (batch_at old id) lists
+  where
+    of : (o : Option Batch) → LooksFrom old mid events o → LooksFrom old new events o
+    of None lists = tt
+    of (Some b) lists = λ few.
+        let same = none b.queue in
+        let least = lists (omega (arith, same, few)) in
+        omega (arith, same, least)
+lists-then old mid new (GetBatchEvents id) _ lists none = tt
+lists-then old mid new _ reply lists none = tt

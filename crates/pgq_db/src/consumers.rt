@@ -1,13 +1,14 @@
 //! The statements on consumers and their batches.
 
-ghost use Rattle.std.specs.Prelude.{◌≡◌, ◌+◌, false, None, Some, is_some};
+ghost use Rattle.std.specs.Prelude.{◌≡◌, ◌+◌, false, None, Some, OnOk, is_some};
 ghost use Rattle.sky_model.specs.Queues.{tick};
 ghost use Rattle.sky_model.specs.StepConsumer.{has_dot, registers, register_consumer, register_consumer_at, unregister_consumer, opens_batch, next_batch, get_batch_events, get_batch_info, finish_batch, consumer_info};
+ghost use Rattle.sky_model.specs.Outcome.{reply_of};
 ghost use Rattle.sky_model.specs.Reader.{shown_by};
 ghost use Rattle.pgq_sub.specs.Views.{seen_sub};
 ghost use Rattle.pgq_queues.specs.Seen.{Stands};
 ghost use Rattle.pgq_db.specs.Seen.{seen_database};
-ghost use Rattle.pgq_db.specs.Looks.{LooksUnlessCut};
+ghost use Rattle.pgq_db.specs.Looks.{LooksUnlessCut, ListsFrom};
 ghost use Rattle.pgq_db.specs.Gives.{Ran};
 
 use crate::db::Db;
@@ -176,6 +177,7 @@ impl Db {
     ) -> Result<(), Stop>
         ensures ran { Ran self.old self.new replies.old replies.new who result (get_batch_events (shown_by (seen_database self.old)).events id) }
         ensures looks { LooksUnlessCut self.old.queues self.new.queues id result }
+        ensures lists { OnOk result (ListsFrom self.old.queues self.new.queues id (reply_of (get_batch_events (shown_by (seen_database self.old)).events id))) }
     {
         let Some(batch) = self.queues.batch(id) else {
             return Err(Stop::Refused(Refusal::NoBatch));

@@ -14,6 +14,7 @@ ghost use Rattle.sky_model.specs.Stops.{Stops};
 ghost use Rattle.sky_state.specs.Seen.{seen};
 ghost use Rattle.pgq_db.specs.Seen.{seen_database};
 ghost use Rattle.pgq_db.specs.Gives.{Ran};
+ghost use Rattle.pgq_db.specs.Looks.{LooksUnlessCut};
 
 use crate::db::Db;
 use pgq_retry::Retry;
@@ -38,7 +39,8 @@ impl Db {
     ) -> Result<(), Stop>
         requires time { IsTime now }
         requires seconds { seconds ≤ 1_000_000_000 }
-        ensures { Ran self.old self.new replies.old replies.new who result (event_retry (seen_database self.old) (shown_by (seen_database self.old)).events now id event seconds) }
+        ensures ran { Ran self.old self.new replies.old replies.new who result (event_retry (seen_database self.old) (shown_by (seen_database self.old)).events now id event seconds) }
+        ensures looks { LooksUnlessCut self.old.queues self.new.queues id result }
     {
         if self.is_cut {
             return Err(Stop::NoMemory);

@@ -6,7 +6,7 @@ ghost use Rattle.sky_model.specs.declared.stmt.Where.TheVariants.{WhenReading, W
 ghost use Rattle.sky_model.specs.Queues.{queue_number};
 ghost use Rattle.sky_model.specs.History.{queued, made};
 ghost use Rattle.sky_model.specs.State.{RowPart, after_marks};
-ghost use Rattle.sky_model.specs.Outcome.{settled};
+ghost use Rattle.sky_model.specs.Outcome.{reply_of, settled};
 ghost use Rattle.sky_model.specs.Printed.{HaveMoments};
 ghost use Rattle.sky_model.specs.OwnTransaction.{txid_for, written};
 ghost use Rattle.sky_model.specs.StepQueue.{queue_called, create_queue, drop_queue, shown_name, set_queue_config, queue_info, insert_event, ticker, force_tick, made_event};
@@ -22,7 +22,7 @@ ghost use Rattle.sky_model.specs.Moment.{IsTime};
 ghost use Rattle.pgq_queues.specs.Seen.{seen_with, Stands};
 ghost use Rattle.pgq_db.specs.Seen.{seen_database};
 ghost use Rattle.pgq_db.specs.Waiters.{StaysWithin};
-ghost use Rattle.pgq_db.specs.Looks.{LooksWithin, RanWithin, ReadsNone};
+ghost use Rattle.pgq_db.specs.Looks.{LooksWithin, RanWithin, ListsLooked, ReadsNone};
 ghost use Rattle.pgq_db.specs.Gives.{is_clock, is_on_queues, Gives, Adds, Answers, Ran};
 ghost use Rattle.sky_model.specs.Stops.{StopsAs};
 
@@ -34,8 +34,9 @@ use sky_val::{Event, NoMemory, Schema, SessionId, Text, copy_option};
 use std::alloc::{AllocError, Global};
 
 impl Db {
-    /// Runs a statement of a session, and those that it unblocks. Once memory has run out
-    /// nothing is said of the database.
+    /// Runs a statement of a session, and those that it unblocks. For `get_batch_events` and `event_retry` no more stored
+    /// events are looked at than the batch's ticks allow, and for `get_batch_events` no fewer than are listed. Once memory
+    /// has run out nothing is said of the database.
     pub fn step(&mut self, who: SessionId, stmt: &Stmt, now: i64) -> Result<Replies, NoMemory>
         requires time { IsTime now }
         requires form { IsInForm stmt.now }
@@ -46,6 +47,7 @@ impl Db {
         ensures moments { IfOk result HaveMoments }
         ensures within { IfOk result (λ replies. StaysWithin (seen_database self.old) (seen_database self.new) who replies) }
         ensures looks { OnOk result (LooksWithin self.old.queues self.new.queues stmt.now) }
+        ensures lists { OnOk result (ListsLooked self.old.queues self.new.queues stmt.now (statement database_by_itself (seen_database self.old) now who stmt.now).reply) }
         ensures steps { OnOk result (DatabaseSteps (seen_database self.old) (seen_database self.new) (stepped who stmt.now now)
             (database_turn database_by_itself (seen_database self.old) now who stmt.now)) }
     {
@@ -69,6 +71,7 @@ impl Db {
         ensures rests { OnOk result (ready (seen_database self.new).part ≡ None) }
         ensures moments { OnOk result (HaveMoments (database_turn database_by_itself (seen_database self.old) now who stmt.now).answers) }
         ensures looks { OnOk result (LooksWithin self.old.queues self.new.queues stmt.now) }
+        ensures lists { OnOk result (ListsLooked self.old.queues self.new.queues stmt.now (statement database_by_itself (seen_database self.old) now who stmt.now).reply) }
         ensures within { OnOk result (StaysWithin (seen_database self.old) (seen_database self.new) who (database_turn database_by_itself (seen_database self.old) now who stmt.now).answers) }
         ensures steps { OnOk result (DatabaseSteps (seen_database self.old) (seen_database self.new) (stepped who stmt.now now) (database_turn database_by_itself (seen_database self.old) now who stmt.now)) }
     {
@@ -91,6 +94,7 @@ impl Db {
         ensures rests { OnOk result (ready (seen_database self.new).part ≡ None) }
         ensures moments { OnOk result (HaveMoments (database_turn database_by_itself (seen_database self.old) now who stmt.now).answers) }
         ensures looks { OnOk result (LooksWithin self.old.queues self.new.queues stmt.now) }
+        ensures lists { OnOk result (ListsLooked self.old.queues self.new.queues stmt.now (statement database_by_itself (seen_database self.old) now who stmt.now).reply) }
     {
         match stmt {
             Stmt::Row(stmt) => {
@@ -120,6 +124,7 @@ impl Db {
         ensures rests { OnOk result (ready (seen_database self.new).part ≡ None) }
         ensures moments { OnOk result (HaveMoments (database_turn database_by_itself (seen_database self.old) now who stmt.now).answers) }
         ensures looks { OnOk result (LooksWithin self.old.queues self.new.queues stmt.now) }
+        ensures lists { OnOk result (ListsLooked self.old.queues self.new.queues stmt.now (statement database_by_itself (seen_database self.old) now who stmt.now).reply) }
     {
         self.run_or_refuse(now, who, stmt, replies)?;
         self.settle(now, replies)?;
@@ -139,6 +144,7 @@ impl Db {
         requires kind { is_on_queues stmt.now ≡ true }
         ensures answers { OnOk result (Answers (seen_database self.old) (seen_database self.new) replies.old replies.new who (statement database_by_itself (seen_database self.old) now who stmt.now)) }
         ensures looks { OnOk result (LooksWithin self.old.queues self.new.queues stmt.now) }
+        ensures lists { OnOk result (ListsLooked self.old.queues self.new.queues stmt.now (statement database_by_itself (seen_database self.old) now who stmt.now).reply) }
     {
         match self.enter(who, is_outside(stmt))? {
             None => {
@@ -166,6 +172,8 @@ impl Db {
         ensures answers { OnOk result (Answers (seen_database self.old) (seen_database self.new) replies.old replies.new who
             (settled who ((seen_database self.old).part.session who) (form (seen_database self.old) (shown_by (seen_database self.old)) now who stmt.now))) }
         ensures looks { OnOk result (LooksWithin self.old.queues self.new.queues stmt.now) }
+        ensures lists { OnOk result (ListsLooked self.old.queues self.new.queues stmt.now
+            (settled who ((seen_database self.old).part.session who) (form (seen_database self.old) (shown_by (seen_database self.old)) now who stmt.now)).reply) }
     {
         match self.run_form(now, who, stmt, replies) {
             Ok(()) => Ok(()),
@@ -205,6 +213,7 @@ impl Db {
         requires kind { is_on_queues stmt.now ≡ true }
         ensures ran { Ran self.old self.new replies.old replies.new who result (form (seen_database self.old) (shown_by (seen_database self.old)) now who stmt.now) }
         ensures looks { RanWithin self.old.queues self.new.queues stmt.now result }
+        ensures lists { OnOk result (ListsLooked self.old.queues self.new.queues stmt.now (reply_of (form (seen_database self.old) (shown_by (seen_database self.old)) now who stmt.now))) }
     {
         match stmt {
             Stmt::Row(_) | Stmt::Clock { .. } => unreachable!(),

@@ -64,6 +64,7 @@ impl Queues {
         ensures mark { IfOk result (λ fresh. (part : RowPart) → seen_with part self.new
             ≡ (if fresh then after_mark (seen_with part self.old) (queued (asked retry)) else seen_with part self.old)) }
         ensures err { OnErr result ((part : RowPart) → seen_with part self.new ≡ seen_with part self.old) }
+        ensures queues { self.new.queues ≡ self.old.queues }
         ensures rest { KeepsRest self.old self.new }
     {
         self.retries.ask(retry)

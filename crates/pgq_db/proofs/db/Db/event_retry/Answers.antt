@@ -1,4 +1,4 @@
-use Rattle.std.proofs.Common.{◌≡◌, ◌*◌, ◌^◌, ◌<◌, pos, ◌+ℤ◌, w64, to_z, of_z, arith, refl, sym, ◌∙◌, ap, subst, not}
+use Rattle.std.proofs.Common.{◌≡◌, ◌≤◌, ◌+◌, List, ◌*◌, ◌^◌, ◌<◌, pos, ◌+ℤ◌, w64, to_z, of_z, arith, refl, sym, ◌∙◌, ap, subst, not}
 use Rattle.std.specs.Prelude.{find, ◌==◌}
 use Rattle.std.proofs.lemmas.Int.{ints, to_z-of_z, to_z_pos}
 use Rattle.sky_val.specs.declared.event.Event.{Event}
@@ -10,16 +10,20 @@ use Rattle.sky_model.specs.State.{RowPart, Database}
 use Rattle.sky_model.specs.StepRetry.{event_retry}
 use Rattle.sky_state.specs.Seen.{seen}
 use Rattle.pgq_queues.specs.declared.batch.Span.{Span}
-use Rattle.pgq_queues.specs.Seen.{seen_with, seen_batch, seen_span, batch_at}
+use Rattle.pgq_queues.specs.Seen.{seen_with, seen_batch, seen_span, batch_at, queue_at, reads_at}
 use Rattle.pgq_db.specs.Views.{DbView}
 use Rattle.pgq_db.specs.Seen.{seen_database}
 use Rattle.pgq_db.proofs.Databases.{Runs}
 use Rattle.pgq_db.proofs.RetrySteps.{no-event, gives-retry, asked-as}
 use Rattle.pgq_db.proofs.Agreeing.{agree-stay}
+use Rattle.pgq_queues.specs.Looked.{most_in}
+use Rattle.pgq_queues.specs.Views.{QueueView}
+use Rattle.pgq_db.specs.Looks.{LooksFor}
+use Rattle.pgq_db.proofs.Looking.{looks-for}
 use Rattle.pgq_db.proofs.db.Db.event_retry.Goals as goal
 
-pub returns-in_default-2 : goal.returns-in_default-2
-returns-in_default-2 c =
+pub returns-in_default-2-clause-ran : goal.returns-in_default-2-clause-ran
+returns-in_default-2-clause-ran c =
     let p : RowPart = seen c.self.inside.rows in
     let was : Database = seen_with p c.self.inside.queues in (
       record {
@@ -31,8 +35,8 @@ returns-in_default-2 c =
       refl,
     )
 
-pub returns : goal.returns
-returns c =
+pub returns-clause-ran : goal.returns-clause-ran
+returns-clause-ran c =
     let p : RowPart = seen c.self.inside.rows in
     let was : Database = seen_with p c.self.inside.queues in
     let left : Database = seen_with p c.retry.new.self in
@@ -59,3 +63,16 @@ pub invariant_of-self-2 : goal.invariant_of-self-2
 invariant_of-self-2 c = λ e.
     let p : RowPart = seen c.self.inside.rows in
     agree-stay p c.event_in.new.self c.retry.new.self c.retry.ensures.rest (agree-stay p c.self.inside.queues c.event_in.new.self c.event_in.ensures.rest (c.self.invariant e))
+
+pub returns-in_default-2-clause-looks : goal.returns-in_default-2-clause-looks
+returns-in_default-2-clause-looks c =
+    subst (λ (v : DbView). LooksFor v.queues c.event_in.new.self c.args.id) c.self.view_is
+    (looks-for c.self.inside.queues c.event_in.new.self c.args.id c.in-Some.batch c.span-span.result c.in-Some.ensures.batch c.span-span.ensures c.event_in.ensures.others c.in_ok-found.ensures.upper)
+
+pub returns-clause-looks : goal.returns-clause-looks
+returns-clause-looks c =
+    subst (λ (v : DbView). LooksFor v.queues c.retry.new.self c.args.id) c.self.view_is
+    (looks-for c.self.inside.queues c.retry.new.self c.args.id c.in-Some.batch c.span-span.result c.in-Some.ensures.batch c.span-span.ensures
+    (λ n other. ap (λ queues. reads_at queues n) c.retry.ensures.queues ∙ c.event_in.ensures.others n other)
+    (subst (λ (queues : List QueueView). reads_at queues c.span-span.result.queue ≤ reads_at c.self.inside.queues.queues c.span-span.result.queue + most_in (queue_at c.self.inside.queues c.span-span.result.queue) (seen_span c.span-span.result))
+    (sym c.retry.ensures.queues) c.in_ok-found.ensures.upper))

@@ -1,12 +1,13 @@
-use Rattle.std.proofs.Common.{ℤ, Err, subst, w64}
+use Rattle.std.proofs.Common.{ℤ, Err, ap, subst, w64}
 use Rattle.std.proofs.lemmas.Int.{to_z-of_z}
 use Rattle.sky_model.specs.Reader.{shown_by}
+use Rattle.sky_model.specs.Outcome.{reply_of, settled}
 use Rattle.sky_model.specs.Calls.{form}
 use Rattle.sky_model.specs.Stops.{Stops, Keeps}
 use Rattle.pgq_db.specs.Seen.{seen_database}
 use Rattle.pgq_db.proofs.Databases.{Runs, answers-done, answers-refused}
-use Rattle.pgq_db.specs.Looks.{RanWithin}
-use Rattle.pgq_db.proofs.Looking.{looks-done, looks-refused}
+use Rattle.pgq_db.specs.Looks.{RanWithin, ListsLooked}
+use Rattle.pgq_db.proofs.Looking.{looks-done, looks-refused, lists-done, lists-refused}
 use Rattle.pgq_db.proofs.db.Db.run_entered.Goals as goal
 
 pub returns-in_ok-refuse-in-Err-Refused-clause-answers : goal.returns-in_ok-refuse-in-Err-Refused-clause-answers
@@ -31,3 +32,17 @@ returns-in_ok-refuse-in-Err-Refused-clause-looks c =
 
 pub returns-in-Ok-clause-looks : goal.returns-in-Ok-clause-looks
 returns-in-Ok-clause-looks c = looks-done c.args.self.now.queues c.run_form.new.self.queues c.args.stmt.now _ c.in-Ok.ensures.looks
+
+pub returns-in_ok-refuse-in-Err-Refused-clause-lists : goal.returns-in_ok-refuse-in-Err-Refused-clause-lists
+returns-in_ok-refuse-in-Err-Refused-clause-lists c =
+    let d = seen_database c.args.self.now in
+    let tried = λ (now : ℤ). form d (shown_by d) now c.args.who c.args.stmt.now in
+    let stops = subst (λ stop. Stops stop d (seen_database c.run_form.new.self) (tried c.args.now)) c.in-Err-Refused.field-0-is
+    (subst (λ (now : ℤ). Stops c.in-Err-Refused.field-0 d (seen_database c.run_form.new.self) (tried now)) (to_z-of_z w64 c.args.now c.ranges.now) c.in-Err-Refused.ensures.ran.0) in
+    lists-refused c.args.self.now.queues c.refuse.new.self.queues c.args.stmt.now _ c.in-Err-Refused.refusal (ap (λ checked. (settled c.args.who (d.part.session c.args.who) checked).reply) stops.refused)
+
+pub returns-in-Ok-clause-lists : goal.returns-in-Ok-clause-lists
+returns-in-Ok-clause-lists c =
+    let d = seen_database c.args.self.now in
+    lists-done c.args.self.now.queues c.run_form.new.self.queues c.args.stmt.now c.args.who (d.part.session c.args.who) (form d (shown_by d) c.args.now c.args.who c.args.stmt.now)
+    (subst (λ (now : ℤ). ListsLooked c.args.self.now.queues c.run_form.new.self.queues c.args.stmt.now (reply_of (form d (shown_by d) now c.args.who c.args.stmt.now))) (to_z-of_z w64 c.args.now c.ranges.now) c.in-Ok.ensures.lists)

@@ -5,9 +5,10 @@ use Rattle.sky_model.specs.Reader.{database_by_itself}
 use Rattle.sky_model.specs.Settling.{turn_of}
 use Rattle.sky_model.specs.Calls.{statement, database_turn}
 use Rattle.pgq_db.specs.Seen.{seen_database}
+use Rattle.pgq_db.specs.Looks.{ListsLooked}
 use Rattle.pgq_db.proofs.Databases.{adds-then}
 use Rattle.pgq_db.proofs.Moments.{one-moments, then-moments}
-use Rattle.pgq_db.proofs.Looking.{looks-then}
+use Rattle.pgq_db.proofs.Looking.{looks-then, lists-then}
 use Rattle.pgq_db.proofs.db.Db.run_on_queues.Goals as goal
 
 pub returns-clause-adds : goal.returns-clause-adds
@@ -24,3 +25,10 @@ returns-clause-moments c =
 
 pub returns-clause-looks : goal.returns-clause-looks
 returns-clause-looks c = looks-then c.args.self.now.queues c.run_or_refuse.new.self.queues c.settle.new.self.queues c.args.stmt.now c.in_ok-run_or_refuse.ensures.looks c.in_ok-settle.ensures.reads
+
+pub returns-clause-lists : goal.returns-clause-lists
+returns-clause-lists c =
+    let d = seen_database c.args.self.now in
+    lists-then c.args.self.now.queues c.run_or_refuse.new.self.queues c.settle.new.self.queues c.args.stmt.now (statement database_by_itself d c.args.now c.args.who c.args.stmt.now).reply
+    (subst (λ (now : ℤ). ListsLooked c.args.self.now.queues c.run_or_refuse.new.self.queues c.args.stmt.now (statement database_by_itself d now c.args.who c.args.stmt.now).reply) (to_z-of_z w64 c.args.now c.ranges.now) c.in_ok-run_or_refuse.ensures.lists)
+    c.in_ok-settle.ensures.reads
