@@ -20,16 +20,6 @@ use sky_names::Named;
 use sky_val::NoMemory;
 
 impl Queues {
-    /// A transaction was rolled back: its events are dead, and the switches that it has pending are given up.
-    pub fn undo(&mut self, txid: u64)
-        ensures undone { (part : RowPart) → seen_with part self.new
-            ≡ record (seen_with part self.old) { queue = λ n. with_tables (without_transaction txid) ((seen_with part self.old).queue n) } }
-        ensures stand { StillStand self.old.queues self.new.queues }
-        ensures rest { KeepsRest self.old self.new }
-    {
-        self.slots.undo(txid);
-    }
-
     /// What holds a switch of a queue back, if anything does.
     pub fn held_back(&self, queue: usize, now: i64) -> Result<Option<HeldBack>, NoMemory>
         requires stands { Stands self.now.queues queue }
