@@ -9,7 +9,7 @@ use Rattle.pgq_tables.specs.Tables.{with_second_step}
 use Rattle.pgq_retry.specs.declared.retry.Retry.{Retry}
 use Rattle.sky_names.specs.Named.{NamedView, value_of}
 use Rattle.sky_model.specs.History.{Mark, QueueMark, queued, switched, second_step}
-use Rattle.sky_model.specs.Queues.{NamedQueue, is_pending, without_transaction}
+use Rattle.sky_model.specs.Queues.{NamedQueue, is_pending}
 use Rattle.sky_model.specs.State.{Queue, RowPart, Database, changed_at, with_tables, after_switch, after_mark, after_marks}
 use Rattle.sky_model.specs.StepRotation.{switches_by, second_steps, lack_second_step}
 use Rattle.pgq_queues.specs.Views.{QueueView, QueuesView}
@@ -21,7 +21,7 @@ use Rattle.pgq_queues.specs.Stored.{AllStored}
 use Rattle.pgq_queues.specs.Rotated.{retabled, undone_in, switched_in, settled_in, ended_in, each_changed}
 use Rattle.pgq_queues.proofs.AllStored.{stored-without, stored-switched}
 use Rattle.pgq_queues.proofs.Slotted.{any-default, undone-get}
-use Rattle.pgq_queues.proofs.Marked.{get_or-slice_set, batches-same, queues-set, queue-kept}
+use Rattle.pgq_queues.proofs.Marked.{get_or-slice_set, queues-set, queue-kept}
 use Rattle.pgq_queues.proofs.TracedLists.{there, goes-then, Stays, some-above, stand-set}
 use Rattle.pgq_queues.proofs.Waiting.{set-either, retried-still}
 

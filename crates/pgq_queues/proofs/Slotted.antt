@@ -1,5 +1,5 @@
 -- What is shown of slots, each of which has one queue or none.
-use Rattle.std.proofs.Common.{◌≡◌, ℕ, zero, suc, ◌+◌, ◌<◌, List, [], ◌∷◌, ◌++◌, map, take, drop, length, get_or, slice_set, refl, sym, ◌∙◌, ap, subst, arith}
+use Rattle.std.proofs.Common.{◌≡◌, ℕ, zero, suc, ◌<◌, List, [], ◌∷◌, map, length, get_or, slice_set, refl, sym, ◌∙◌, ap, subst, arith}
 use Rattle.pgq_queues.specs.Views.{QueueView}
 use Rattle.pgq_queues.specs.Seen.{no_queue, Stands}
 use Rattle.pgq_queues.specs.Rotated.{undone_in}

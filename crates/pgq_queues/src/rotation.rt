@@ -4,8 +4,7 @@ ghost use Rattle.std.specs.Prelude.{◌≡◌, ◌≤◌, true, None, Some, IfOk
 ghost use Rattle.std.specs.List.{All};
 ghost use Rattle.sky_model.specs.History.{queued, switching, switched};
 ghost use Rattle.sky_model.specs.Moment.{IsTime};
-ghost use Rattle.sky_model.specs.Queues.{without_transaction};
-ghost use Rattle.sky_model.specs.State.{RowPart, with_tables, after_mark, after_marks};
+ghost use Rattle.sky_model.specs.State.{RowPart, after_mark, after_marks};
 ghost use Rattle.sky_model.specs.StepRotation.{held_back, lack_second_step, second_steps, switches_of};
 ghost use Rattle.pgq_queues.specs.Seen.{seen_with, queue_at, Stands};
 ghost use Rattle.pgq_queues.specs.Batches.{StillStand};
