@@ -9,7 +9,7 @@ use Rattle.pgq_tables.specs.Tables.{with_second_step}
 use Rattle.pgq_retry.specs.declared.retry.Retry.{Retry}
 use Rattle.sky_names.specs.Named.{NamedView, value_of}
 use Rattle.sky_model.specs.History.{Mark, QueueMark, queued, switched, second_step}
-use Rattle.sky_model.specs.Queues.{NamedQueue, is_pending}
+use Rattle.sky_model.specs.Queues.{NamedQueue, is_pending, without_transaction}
 use Rattle.sky_model.specs.State.{Queue, RowPart, Database, changed_at, with_tables, after_switch, after_mark, after_marks}
 use Rattle.sky_model.specs.StepRotation.{switches_by, second_steps, lack_second_step}
 use Rattle.pgq_queues.specs.Views.{QueueView, QueuesView}
@@ -21,7 +21,7 @@ use Rattle.pgq_queues.specs.Stored.{AllStored}
 use Rattle.pgq_queues.specs.Rotated.{retabled, undone_in, switched_in, settled_in, ended_in, each_changed}
 use Rattle.pgq_queues.proofs.AllStored.{stored-without, stored-switched}
 use Rattle.pgq_queues.proofs.Slotted.{any-default, undone-get}
-use Rattle.pgq_queues.proofs.Marked.{get_or-slice_set, queues-set, queue-kept}
+use Rattle.pgq_queues.proofs.Marked.{get_or-slice_set, batches-same, queues-set, queue-kept}
 use Rattle.pgq_queues.proofs.TracedLists.{there, goes-then, Stays, some-above, stand-set}
 use Rattle.pgq_queues.proofs.Waiting.{set-either, retried-still}
 
@@ -43,8 +43,18 @@ undone-retried {rounds} queues new t rs is within =
     retried-still queues new rs (undone-stand queues new t is)
     (λ all n. subst (λ (q : QueueView). AllStored (RetriedAtMost rounds) q.tables.tables) (sym (ap (λ qs. get_or qs n no_queue) is ∙ undone-get t queues n)) (stored-without (RetriedAtMost rounds) t (get_or queues n no_queue).tables.tables (all n))) within
 
-pub undone-as : (v now : QueuesView) (queues : List QueueView) (t : ℕ) → v ≡ now → queues ≡ map (undone_in t) v.queues → record v { queues = queues } ≡ record now { queues = map (undone_in t) now.queues }
-undone-as v now queues t same is = (λ i. record v { queues = is i }) ∙ ap (λ (w : QueuesView). record w { queues = map (undone_in t) w.queues }) same
+pub undone-as : (v now : QueuesView) (queues : List QueueView) (t : ℕ) → v ≡ now → queues ≡ map (undone_in t) v.queues
+    → (part : RowPart) → seen_with part (record v { queues = queues }) ≡ record (seen_with part now) { queue = λ n. with_tables (without_transaction t) (queue_at now n) }
+undone-as v now queues t same is part =
+    (λ i. record (seen_with part v) {
+      queues_made = (ap length is ∙ undone-length t v.queues) i;
+      queue = λ n. ap seen_queue (ap (λ qs. get_or qs n no_queue) is ∙ undone-get t v.queues n) i;
+      batch = batches-same v.queues queues v.batches (undone-stand v.queues queues t is).subs i;
+    })
+    ∙ ap (λ (w : QueuesView). record (seen_with part w) { queue = λ n. with_tables (without_transaction t) (queue_at w n) }) same
+
+pub undone-whole : (v now : QueuesView) (queues : List QueueView) (t : ℕ) → v ≡ now → queues ≡ map (undone_in t) v.queues → record v { queues = queues } ≡ record now { queues = map (undone_in t) now.queues }
+undone-whole v now queues t same is = (λ i. record v { queues = is i }) ∙ ap (λ (w : QueuesView). record w { queues = map (undone_in t) w.queues }) same
 
 -- ---- each of some queues is changed
 

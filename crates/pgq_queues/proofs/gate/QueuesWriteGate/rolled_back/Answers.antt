@@ -1,6 +1,6 @@
 use Rattle.std.proofs.Common.{◌∙◌}
 use Rattle.pgq_queues.proofs.TracedLists.{within-still}
-use Rattle.pgq_queues.proofs.RotatedQueues.{undone-each, undone-stand, undone-retried, undone-as}
+use Rattle.pgq_queues.proofs.RotatedQueues.{undone-each, undone-stand, undone-retried, undone-whole}
 use Rattle.pgq_queues.proofs.gate.QueuesWriteGate.rolled_back.Goals as goal
 
 pub invariant_of-self : goal.invariant_of-self
@@ -11,4 +11,4 @@ invariant_of-self c =
     )
 
 pub returns : goal.returns
-returns c = undone-as _ _ c.undo_each.new.queues c.args.txid c.self.view_is (c.undo_each.ensures ∙ undone-each c.args.txid c.self.inside.names c.self.inside.slots c.self.invariant.1.0)
+returns c = undone-whole _ _ c.undo_each.new.queues c.args.txid c.self.view_is (c.undo_each.ensures ∙ undone-each c.args.txid c.self.inside.names c.self.inside.slots c.self.invariant.1.0)
