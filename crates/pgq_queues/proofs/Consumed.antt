@@ -22,7 +22,7 @@ use Rattle.pgq_queues.specs.Batches.{open_id, but_of, AreIndexed, BatchesWithin}
 use Rattle.pgq_queues.specs.Numbers.{AreNumbers}
 use Rattle.pgq_queues.specs.Traced.{TracedWithin}
 use Rattle.pgq_queues.proofs.Marked.{get_or-slice_set, subs-changed, one-set, batches_of}
-use Rattle.pgq_queues.proofs.TracedLists.{stands-set, ticks-kept, numbers-on, within-on}
+use Rattle.pgq_queues.proofs.TracedLists.{stands-set, gone-set, ticks-kept, numbers-on, within-on}
 use Rattle.pgq_queues.proofs.Indexed.{is_one, Changed, and_at, indexed-come, batches-come, indexed-less, batches-less, batches-another, indexed-more, batches-more}
 
 -- ---- one subscription of one queue has changed
@@ -83,7 +83,7 @@ pub within-subs : {last next : ℕ} → (numbers : NamedView ℕ) (queues : List
     → AreNumbers numbers (slice_set queues i new) × (BatchesWithin next (slice_set queues i new) more × TracedWithin (slice_set queues i new) triggers all)
 within-subs numbers queues i old new batches more triggers all lt at stands ticks indexed places within =
     let still = stands-set queues i new lt (ticks-kept queues i old new lt at stands ticks) in (
-      numbers-on queues (slice_set queues i new) numbers still within.0,
+      numbers-on queues (slice_set queues i new) numbers still (gone-set queues i new lt stands) within.0,
       (record { indexed = indexed; stand = λ id p is. still p.queue (places id p is) }, within-on queues (slice_set queues i new) triggers all still within.1.1),
     )
 

@@ -1,5 +1,5 @@
 -- What queues show after what the code changed in them.
-use Rattle.std.proofs.Common.{◌≡◌, ℕ, ℤ, suc, zero, ◌+◌, ◌<◌, List, [], ◌∷◌, ◌++◌, Bool, true, false, ◌==◌, Option, Some, None, Result, Ok, Err, OnErr, length, get_or, slice_set, get_or-set_same, get_or-set_other, ◌≢◌, nat_cmp, cond, length-append, refl, sym, ◌∙◌, ap, subst, arith, if◌then◌else◌}
+use Rattle.std.proofs.Common.{◌≡◌, ℕ, ℤ, suc, zero, ◌+◌, ◌<◌, List, [], ◌∷◌, ◌++◌, Bool, true, false, ◌==◌, Option, Some, None, Result, Ok, Err, OnOk, OnErr, IfOk, length, get_or, slice_set, get_or-set_same, get_or-set_other, ◌≢◌, nat_cmp, cond, length-append, refl, sym, ◌∙◌, ap, subst, arith, if◌then◌else◌}
 use Rattle.std.proofs.lemmas.Bool.Decides.{nat_tests}
 use Rattle.std.specs.Prelude.{option_and_then, slice_get}
 use Rattle.std.specs.List.{remove}
@@ -13,7 +13,7 @@ use Rattle.sky_txid.specs.Snapshot.{SnapshotView}
 use Rattle.sky_names.specs.Named.{NamedView, value_of}
 use Rattle.sky_names.specs.Places.{place_of}
 use Rattle.sky_model.specs.History as model
-use Rattle.sky_model.specs.History.{queued, made, ticked, dropped, traced}
+use Rattle.sky_model.specs.History.{queued, made, ticked, configured, dropped, traced}
 use Rattle.sky_model.specs.Queues.{Tick}
 use Rattle.sky_model.specs.Triggers.{TableTrigger}
 use Rattle.pgq_tables.specs.Tables.{Tables, no_tables, new_tables}
@@ -27,7 +27,7 @@ use Rattle.pgq_queues.specs.Seen.{seen_queue, no_queue, batch_by, sub_at, kept, 
 use Rattle.pgq_queues.specs.Traced.{AreTables}
 use Rattle.pgq_queues.specs.Numbers.{Rise}
 use Rattle.pgq_queues.proofs.NumberedQueues.{numbered-more, others-removed}
-use Rattle.sky_model.specs.Config.{default_config}
+use Rattle.sky_model.specs.Config.{Config, default_config}
 
 -- the test on an entry's key is equality
 pub is_at-nat : (k n : ℕ) → is_at (nat_cmp k) n ≡ (k == n)
@@ -241,3 +241,22 @@ shown-as v now same part = ap (seen_with part) same
 pub on-err : {A E : Type 0} (r : Result A E) (P : Type 0) → P → OnErr r P
 on-err (Ok a) P is = tt
 on-err (Err e) P is = is
+
+pub on-err-then : {A E : Type 0} (r : Result A E) (P Q : Type 0) → (P → Q) → OnErr r P → OnErr r Q
+on-err-then (Ok a) P Q next is = tt
+on-err-then (Err e) P Q next is = next is
+
+pub if-ok-then : {A E : Type 0} (r : Result A E) (P Q : A → Type 0) → ((a : A) → P a → Q a) → IfOk r P → IfOk r Q
+if-ok-then (Ok a) P Q next is = next a is
+if-ok-then (Err e) P Q next is = tt
+
+-- a queue has other settings
+pub configured-as : {A E : Type 0} (r : Result A E) (v now : QueuesView) (i : ℕ) (old new : QueueView) (set : Config → Result Config E) → v ≡ now → i < length v.queues → old ≡ get_or v.queues i old → new ≡ record old { config = new.config }
+    → OnOk r (set old.config ≡ Ok new.config)
+    → OnOk r ((part : RowPart) (config : Config) → set (queue_at now i).config ≡ Ok config → seen_with part (record v { queues = slice_set v.queues i new }) ≡ after_mark (seen_with part now) (queued (configured i config)))
+configured-as (Err e) v now i old new set same lt at but ok = tt
+configured-as (Ok a) v now i old new set same lt at but ok = λ part config is.
+    let both : Ok new.config ≡ Ok config = sym ok ∙ ap (λ (q : Queue). set q.config) (queue-at v now i old same lt at) ∙ is in
+    let one : new.config ≡ config = cc in
+    queues-set v now i old new (λ q. record q { config = new.config }) same lt at (ap seen_queue but) (ap QueueView.subs but) part
+    ∙ (λ j. record (seen_with part now) { queue = changed_at i (λ q. record q { config = one j }) (queue_at now) })

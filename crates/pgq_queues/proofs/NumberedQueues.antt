@@ -9,7 +9,7 @@ use Rattle.sky_names.specs.Places.{place_of, named}
 use Rattle.sky_names.specs.Named.{NamedView, value_of}
 use Rattle.sky_model.specs.Queues.{NamedQueue, others_than, queue_number}
 use Rattle.pgq_queues.specs.Views.{QueueView, QueuesView}
-use Rattle.pgq_queues.specs.Seen.{numbered, unnamed, queues_of, Stands}
+use Rattle.pgq_queues.specs.Seen.{no_queue, numbered, unnamed, queues_of, Stands}
 use Rattle.pgq_queues.specs.Numbers.{Rise, AreNumbers}
 
 -- the number of a name is the value that is kept under it
@@ -161,13 +161,41 @@ length-removed [] p lt = absurd (omega (arith, lt))
 length-removed (x ∷ xs) zero lt = refl
 length-removed (x ∷ xs) (suc p) lt = ap suc (length-removed xs p (omega (arith, lt)))
 
+-- what holds of the one that is removed, and of those that are left, holds of all
+all-back : (n p : ℕ) (P : ℕ → Type 0) (ns : List ℕ) → slice_get ns p ≡ Some n → P n → All P (remove ns p) → All P ns
+all-back n p P [] at here all = absurd (cc)
+all-back n zero P (m ∷ ms) at here all = let one : m ≡ n = cc in All-cons P m ms (subst P (sym one) here) all
+all-back n (suc p) P (m ∷ ms) at here all = All-cons P m ms (All-head P m (remove ms p) all) (all-back n p P ms at here (All-tail P m (remove ms p) all))
+
 pub numbers-removed : (n p : ℕ) (names : NamedView ℕ) (old new : List QueueView) → AreNumbers names old → p < length names.names → slice_get names.values p ≡ Some n → ((m : ℕ) → (n ≡ m → ⊥) → Stands old m → Stands new m)
+    → get_or new n no_queue ≡ no_queue → ((m : ℕ) → (n ≡ m → ⊥) → get_or old m no_queue ≡ no_queue → get_or new m no_queue ≡ no_queue)
     → AreNumbers (record { names = remove names.names p; values = remove names.values p }) new
-numbers-removed n p names old new are lt at step = record {
+numbers-removed n p names old new are lt at step empty rest = record {
   each = (let one = length-removed names.values p (omega (arith, lt, are.each)) in let other = length-removed names.names p lt in omega (arith, one, other, are.each));
   rise = rise-removed 0 p names.values are.rise;
   stand = all-removed n 0 p (Stands old) (Stands new) names.values are.rise at are.stand step;
+  others = λ k apart. by k apart (n == k) refl;
 }
+  where
+    by : (k : ℕ) → All (λ m. (m == k) ≡ false) (remove names.values p) → (b : Bool) → (n == k) ≡ b → get_or new k no_queue ≡ no_queue
+    by k apart true e = let one : n ≡ k = grind (arith, nat_tests) in ap (λ j. get_or new j no_queue) (sym one) ∙ empty
+    by k apart false e =
+        let other : n ≡ k → ⊥ = grind (arith, nat_tests) in
+        rest k other (are.others k (all-back n p (λ m. (m == k) ≡ false) names.values at e apart))
+
+-- what holds of some and one more holds of these
+all-parts : (P : ℕ → Type 0) (ns : List ℕ) (m : ℕ) → All P (ns ++ m ∷ []) → All P ns × P m
+all-parts P [] m all = (λ k d lt. absurd (omega (arith, lt)), All-head P m [] all)
+all-parts P (n ∷ ns) m all =
+    let rest = all-parts P ns m (All-tail P n (ns ++ m ∷ []) all) in
+    (All-cons P n ns (All-head P n (ns ++ m ∷ []) all) rest.0, rest.1)
+
+-- a queue that wasn't there isn't there after one more was made, unless it is that one
+none-more : (old : List QueueView) (q : QueueView) (n : ℕ) → (length old ≡ n → ⊥) → get_or old n no_queue ≡ no_queue → get_or (old ++ q ∷ []) n no_queue ≡ no_queue
+none-more [] q zero other none = absurd (other refl)
+none-more [] q (suc n) other none = refl
+none-more (x ∷ xs) q zero other none = none
+none-more (x ∷ xs) q (suc n) other none = none-more xs q n (λ same. other (ap suc same)) none
 
 -- one more name, with the number of a queue that was made after the others
 pub numbers-more : (names : NamedView ℕ) (name : List ℕ) (old : List QueueView) (q : QueueView) → 0 < length q.ticks → AreNumbers names old → All (λ n. n < length old) names.values → All (Stands (old ++ q ∷ [])) names.values
@@ -176,6 +204,10 @@ numbers-more names name old q ticks are low still last = record {
   each = (let one = length-append names.values (length old ∷ []) in let other = length-append names.names (name ∷ []) in omega (arith, one, other, are.each));
   rise = rise-more 0 (length old) names.values (omega arith) are.rise low;
   stand = All-append (Stands (old ++ q ∷ [])) names.values (length old ∷ []) still (All-cons (Stands (old ++ q ∷ [])) (length old) [] last (λ k d lt. absurd (omega (arith, lt))));
+  others = λ n apart.
+      let (each, newest) = all-parts (λ m. (m == n) ≡ false) names.values (length old) apart in
+      let other : length old ≡ n → ⊥ = grind (arith, nat_tests) in
+      none-more old q n other (are.others n each);
 }
 
 -- ---- the name of a number

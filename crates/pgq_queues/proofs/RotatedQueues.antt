@@ -1,12 +1,13 @@
 -- What queues show after a rollback, after the switches that a commit makes, and after second steps; and what still holds.
-use Rattle.std.proofs.Common.{◌≡◌, ℕ, zero, suc, ℤ, ◌+◌, ◌<◌, ◌≤◌, List, [], ◌∷◌, Bool, true, false, ◌==◌, map, filter, take, length, length-append, get_or, slice_set, refl, sym, ◌∙◌, ap, subst, arith, if◌then◌else◌}
+use Rattle.std.proofs.Common.{◌≡◌, ℕ, zero, suc, ℤ, ◌+◌, ◌<◌, ◌≤◌, List, [], ◌∷◌, Bool, true, false, ◌==◌, map, filter, take, length, length-append, get_or, slice_set, get_or-set_same, get_or-set_other, refl, sym, ◌∙◌, ap, subst, arith, if◌then◌else◌}
 use Rattle.std.specs.Prelude.{is_none}
 use Rattle.std.proofs.lemmas.Bool.Decides.{nat_tests}
 use Rattle.std.proofs.lemmas.List.{take_more, length-set}
-use Rattle.std.proofs.lemmas.List.Elements.{filter-append}
+use Rattle.std.proofs.lemmas.List.Elements.{All-cons, All-head, All-tail, filter-append}
+use Rattle.std.specs.List.{All}
 use Rattle.pgq_tables.specs.Tables.{with_second_step}
 use Rattle.pgq_retry.specs.declared.retry.Retry.{Retry}
-use Rattle.sky_names.specs.Named.{value_of}
+use Rattle.sky_names.specs.Named.{NamedView, value_of}
 use Rattle.sky_model.specs.History.{Mark, QueueMark, queued, switched, second_step}
 use Rattle.sky_model.specs.Queues.{NamedQueue, is_pending, without_transaction}
 use Rattle.sky_model.specs.State.{Queue, RowPart, Database, changed_at, with_tables, after_switch, after_mark, after_marks}
@@ -33,6 +34,7 @@ undone-length t (q ∷ qs) = ap suc (undone-length t qs)
 pub undone-stand : (queues new : List QueueView) (t : ℕ) → new ≡ map (undone_in t) queues → StillStand queues new
 undone-stand queues new t is = subst (StillStand queues) (sym is) (record {
   stands = λ n stands. subst (λ (q : QueueView). 0 < length q.ticks) (sym (undone-get t queues n)) stands;
+  gone = λ n none. undone-get t queues n ∙ ap (undone_in t) none;
   subs = λ n consumer. ap (λ (q : QueueView). value_of consumer q.subs) (undone-get t queues n);
 })
 
@@ -51,6 +53,9 @@ undone-as v now queues t same is part =
     })
     ∙ ap (λ (w : QueuesView). record (seen_with part w) { queue = λ n. with_tables (without_transaction t) (queue_at w n) }) same
 
+pub undone-whole : (v now : QueuesView) (queues : List QueueView) (t : ℕ) → v ≡ now → queues ≡ map (undone_in t) v.queues → record v { queues = queues } ≡ record now { queues = map (undone_in t) now.queues }
+undone-whole v now queues t same is = (λ i. record v { queues = is i }) ∙ ap (λ (w : QueuesView). record w { queues = map (undone_in t) w.queues }) same
+
 -- ---- each of some queues is changed
 
 each-bound : {rounds : ℕ} → (f : QueueView → QueueView) → ((q : QueueView) → AllStored (RetriedAtMost rounds) q.tables.tables → AllStored (RetriedAtMost rounds) (f q).tables.tables) → (ns : List ℕ) (queues : List QueueView)
@@ -68,6 +73,63 @@ each-retried {rounds} f goes ns queues new rs still is within =
 -- one more that stays, and then the others
 pub each-still : (queues new : List QueueView) (n : ℕ) (old q : QueueView) → Stands queues n → n < length queues → old ≡ get_or queues n old → Stays old q → StillStand (slice_set queues n q) new → StillStand queues new
 each-still queues new n old q stands lt at stays rest = goes-then queues (slice_set queues n q) new (stand-set queues n old q stands lt at stays) rest
+
+-- ---- a change that leaves a queue that isn't there as it is: of those that stand, it is one of all
+
+-- those of numbers that rise leave one below them as it was
+each-below : (f : QueueView → QueueView) (n low : ℕ) (ns : List ℕ) (queues : List QueueView) → n < low → Rise low ns → get_or (each_changed f ns queues) n no_queue ≡ get_or queues n no_queue
+each-below f n low [] queues lt rise = refl
+each-below f n low (m ∷ ms) queues lt rise =
+    let first = rise.0 in
+    let other : n ≡ m → ⊥ = λ e. omega (arith, e, lt, first) in
+    each-below f n (suc m) ms (slice_set queues m (f (get_or queues m no_queue))) (omega (arith, lt, first)) rise.1
+    ∙ get_or-set_other queues m n (f (get_or queues m no_queue)) no_queue other
+
+each-at : (f : QueueView → QueueView) → f no_queue ≡ no_queue → (low : ℕ) (ns : List ℕ) (queues : List QueueView) (n : ℕ) → Rise low ns → All (λ m. m < length queues) ns
+    → (All (λ m. (m == n) ≡ false) ns → get_or queues n no_queue ≡ no_queue) → get_or (each_changed f ns queues) n no_queue ≡ f (get_or queues n no_queue)
+each-at f keeps low [] queues n rise inside rest =
+    let none : get_or queues n no_queue ≡ no_queue = rest (λ k d lt. absurd (omega (arith, lt))) in
+    none ∙ sym keeps ∙ ap f (sym none)
+each-at f keeps low (m ∷ ms) queues n rise inside rest =
+    let long = length-set queues m here in
+    by (m == n) refl (each-at f keeps (suc m) ms (slice_set queues m here) n rise.1 (λ k d low. let few = All-tail (λ j. j < length queues) m ms inside k d low in omega (arith, few, long)))
+  where
+    here : QueueView
+    here = f (get_or queues m no_queue)
+
+    lt : m < length queues
+    lt = All-head (λ k. k < length queues) m ms inside
+
+    by : (b : Bool) → (m == n) ≡ b
+        → ((All (λ k. (k == n) ≡ false) ms → get_or (slice_set queues m here) n no_queue ≡ no_queue) → get_or (each_changed f ms (slice_set queues m here)) n no_queue ≡ f (get_or (slice_set queues m here) n no_queue))
+        → get_or (each_changed f ms (slice_set queues m here)) n no_queue ≡ f (get_or queues n no_queue)
+    by true e later =
+        let one : m ≡ n = grind (arith, nat_tests) in
+        each-below f n (suc m) ms (slice_set queues m here) (omega (arith, one)) rise.1
+        ∙ ap (λ k. get_or (slice_set queues m here) k no_queue) (sym one)
+        ∙ get_or-set_same queues m here no_queue lt
+        ∙ ap (λ k. f (get_or queues k no_queue)) one
+    by false e later =
+        let other : n ≡ m → ⊥ = grind (arith, nat_tests) in
+        let same = get_or-set_other queues m n here no_queue other in
+        later (λ apart. same ∙ rest (All-cons (λ k. (k == n) ≡ false) m ms e apart)) ∙ ap f same
+
+each-length : (f : QueueView → QueueView) (ns : List ℕ) (queues : List QueueView) → length (each_changed f ns queues) ≡ length queues
+each-length f [] queues = refl
+each-length f (m ∷ ms) queues = each-length f ms (slice_set queues m (f (get_or queues m no_queue))) ∙ length-set queues m (f (get_or queues m no_queue))
+
+-- as many queues, the same at each number
+same-queues : (one other : List QueueView) → length one ≡ length other → ((n : ℕ) → get_or one n no_queue ≡ get_or other n no_queue) → one ≡ other
+same-queues [] [] long at = refl
+same-queues [] (y ∷ ys) long at = absurd (omega (arith, long))
+same-queues (x ∷ xs) [] long at = absurd (omega (arith, long))
+same-queues (x ∷ xs) (y ∷ ys) long at = λ i. at 0 i ∷ same-queues xs ys (omega (arith, long)) (λ n. at (suc n)) i
+
+-- so a rollback in those that stand is one in all
+pub undone-each : (t : ℕ) (names : NamedView ℕ) (queues : List QueueView) → AreNumbers names queues → each_changed (undone_in t) names.values queues ≡ map (undone_in t) queues
+undone-each t names queues are =
+    same-queues _ _ (each-length (undone_in t) names.values queues ∙ sym (undone-length t queues))
+    (λ n. each-at (undone_in t) refl 0 names.values queues n are.rise (λ k d lt. there queues _ (are.stand k d lt)) (are.others n) ∙ sym (undone-get t queues n))
 
 -- those of some queues' marks that a test of the queues picks
 abbrev marks_for : (Queue → Bool) → (ℕ → QueueMark) → (ℕ → Queue) → List NamedQueue → List Mark

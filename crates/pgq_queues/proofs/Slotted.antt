@@ -1,5 +1,5 @@
 -- What is shown of slots, each of which has one queue or none.
-use Rattle.std.proofs.Common.{◌≡◌, ℕ, zero, suc, ◌+◌, ◌<◌, List, [], ◌∷◌, ◌++◌, map, take, drop, length, get_or, slice_set, refl, sym, ◌∙◌, ap, subst, arith}
+use Rattle.std.proofs.Common.{◌≡◌, ℕ, zero, suc, ◌<◌, List, [], ◌∷◌, map, length, get_or, slice_set, refl, sym, ◌∙◌, ap, subst, arith}
 use Rattle.pgq_queues.specs.Views.{QueueView}
 use Rattle.pgq_queues.specs.Seen.{no_queue, Stands}
 use Rattle.pgq_queues.specs.Rotated.{undone_in}
@@ -31,50 +31,6 @@ is-there queues i (x ∷ xs) q at stands is = is ∙ sym at ∙ any-default queu
 pub changed-there : (queues : List QueueView) (i : ℕ) (slot : List QueueView) (w : QueueView) → get_or queues i no_queue ≡ get_or slot 0 no_queue → Stands queues i → get_or (slice_set slot 0 w) 0 no_queue ≡ w
 changed-there queues i [] w at stands = let ticks = subst (λ (x : QueueView). 0 < length x.ticks) at stands in absurd (omega (arith, ticks))
 changed-there queues i (x ∷ xs) w at stands = refl
-
--- ---- each is changed, one after another
-
--- the first are changed, and the next one isn't yet
-next-there : {A : Type 0} (f : A → A) (xs : List A) (i : ℕ) (d : A) → get_or (map f (take i xs) ++ drop i xs) i d ≡ get_or xs i d
-next-there f [] zero d = refl
-next-there f [] (suc i) d = refl
-next-there f (x ∷ xs) zero d = refl
-next-there f (x ∷ xs) (suc i) d = next-there f xs i d
-
-next-changed : {A : Type 0} (f : A → A) (xs : List A) (i : ℕ) (d : A) → i < length xs → slice_set (map f (take i xs) ++ drop i xs) i (f (get_or xs i d)) ≡ map f (take (suc i) xs) ++ drop (suc i) xs
-next-changed f [] i d lt = absurd (omega (arith, lt))
-next-changed f (x ∷ xs) zero d lt = refl
-next-changed f (x ∷ xs) (suc i) d lt = ap (λ ys. f x ∷ ys) (next-changed f xs i d (omega (arith, lt)))
-
-pub one-changed : {A : Type 0} (f : A → A) (xs items : List A) (i : ℕ) (d new : A) → items ≡ map f (take i xs) ++ drop i xs → i < length xs → new ≡ f (get_or items i d)
-    → slice_set items i new ≡ map f (take (i + 1) xs) ++ drop (i + 1) xs
-one-changed f xs items i d new so_far lt is =
-    let later : suc i ≡ i + 1 = omega arith in
-    (λ j. slice_set (so_far j) i ((is ∙ ap f (ap (λ ys. get_or ys i d) so_far ∙ next-there f xs i d)) j))
-    ∙ next-changed f xs i d lt
-    ∙ ap (λ n. map f (take n xs) ++ drop n xs) later
-
-changed-length : {A : Type 0} (f : A → A) (xs : List A) (i : ℕ) → length (map f (take i xs) ++ drop i xs) ≡ length xs
-changed-length f [] zero = refl
-changed-length f [] (suc i) = refl
-changed-length f (x ∷ xs) zero = refl
-changed-length f (x ∷ xs) (suc i) = ap suc (changed-length f xs i)
-
-pub map-length : {A B : Type 0} (f : A → B) (xs : List A) → length (map f xs) ≡ length xs
-map-length f [] = refl
-map-length f (x ∷ xs) = ap suc (map-length f xs)
-
--- so it is with what is shown of slots
-pub slot-changed : {A : Type 0} (shown : A → QueueView) (f : QueueView → QueueView) (slots items : List A) (i : ℕ) (d new : A) → map shown items ≡ map f (take i (map shown slots)) ++ drop i (map shown slots) → i < length slots
-    → shown new ≡ f (shown (get_or items i d)) → map shown (slice_set items i new) ≡ map f (take (i + 1) (map shown slots)) ++ drop (i + 1) (map shown slots)
-slot-changed shown f slots items i d new so_far lt is =
-    let many = map-length shown slots in
-    let some = ap length so_far ∙ changed-length f (map shown slots) i in
-    let inside : i < length (map shown items) = omega (arith, lt, many, some) in
-    let there = map-length shown items in
-    map-set shown items i new
-    ∙ one-changed f (map shown slots) (map shown items) i no_queue (shown new) so_far (omega (arith, lt, many))
-    (is ∙ ap f (sym (map-at shown items i (get_or items i d) (any-default items i d (get_or items i d) (omega (arith, inside, there))) inside)))
 
 -- a rollback leaves a queue that isn't there as it is
 pub undone-get : (t : ℕ) (queues : List QueueView) (n : ℕ) → get_or (map (undone_in t) queues) n no_queue ≡ undone_in t (get_or queues n no_queue)

@@ -1,6 +1,6 @@
 -- The tables with triggers that a database keeps, after one of them changed.
 use Rattle.std.proofs.lemmas.List.{map-append, append-nil, get_or_read}
-use Rattle.std.proofs.Common.{◌≡◌, ℕ, zero, suc, ◌<◌, length-append, Bool, true, false, ◌==◌, List, [], ◌∷◌, ◌++◌, Option, Some, None, Result, Ok, Err, IfOk, OnErr, is_some, length, get_or, slice_set, get_or-set_other, option_map, nat_cmp, cond, refl, sym, ◌∙◌, ap, subst, arith, if◌then◌else◌}
+use Rattle.std.proofs.Common.{◌≡◌, ℕ, zero, suc, ◌<◌, length-append, Bool, true, false, ◌==◌, List, [], ◌∷◌, ◌++◌, Option, Some, None, Result, Ok, Err, IfOk, OnErr, is_some, length, get_or, slice_set, get_or-set_other, get_or-set_same, option_map, nat_cmp, cond, refl, sym, ◌∙◌, ap, subst, arith, if◌then◌else◌}
 use Rattle.std.proofs.lemmas.Bool.Decides.{nat_tests}
 use Rattle.std.proofs.lemmas.List.Elements.{All-cons, All-append, filter-append}
 use Rattle.std.proofs.Math.ListN.{get_or-append}
@@ -39,10 +39,10 @@ there (q ∷ qs) zero stands = omega arith
 there (q ∷ qs) (suc n) stands = let low = there qs n stands in omega (arith, low)
 
 pub goes-same : (old new : List QueueView) → new ≡ old → StillStand old new
-goes-same old new same = record { stands = λ n s. subst (λ qs. Stands qs n) (sym same) s; subs = λ n c. ap (λ qs. sub_at qs n c) same }
+goes-same old new same = record { stands = λ n s. subst (λ qs. Stands qs n) (sym same) s; gone = λ n none. ap (λ qs. get_or qs n no_queue) same ∙ none; subs = λ n c. ap (λ qs. sub_at qs n c) same }
 
 pub goes-then : (one two three : List QueueView) → StillStand one two → StillStand two three → StillStand one three
-goes-then one two three first rest = record { stands = λ n s. rest.stands n (first.stands n s); subs = λ n c. rest.subs n c ∙ first.subs n c }
+goes-then one two three first rest = record { stands = λ n s. rest.stands n (first.stands n s); gone = λ n none. rest.gone n (first.gone n none); subs = λ n c. rest.subs n c ∙ first.subs n c }
 
 -- one queue has changed, and stands
 pub stands-set : (queues : List QueueView) (i : ℕ) (new : QueueView) → i < length queues → 0 < length new.ticks → (n : ℕ) → Stands queues n → Stands (slice_set queues i new) n
@@ -52,6 +52,17 @@ stands-set queues i new lt ticks n s = subst (λ (q : QueueView). 0 < length q.t
     still true e = ticks
     still false e = s
 
+-- and one that wasn't there isn't
+pub gone-set : (queues : List QueueView) (i : ℕ) (new : QueueView) → i < length queues → Stands queues i → (n : ℕ) → get_or queues n no_queue ≡ no_queue → get_or (slice_set queues i new) n no_queue ≡ no_queue
+gone-set queues i new lt stands n none = get_or-slice_set queues i n new lt ∙ still (i == n) refl
+  where
+    still : (b : Bool) → (i == n) ≡ b → (if b then new else get_or queues n no_queue) ≡ no_queue
+    still true e =
+        let one : i ≡ n = grind (arith, nat_tests) in
+        let ticks = subst (λ (q : QueueView). 0 < length q.ticks) (ap (λ k. get_or queues k no_queue) one ∙ none) stands in
+        absurd (omega (arith, ticks))
+    still false e = none
+
 -- if its ticks and its subscriptions stay
 pub ticks-kept : (queues : List QueueView) (i : ℕ) (old new : QueueView) → i < length queues → old ≡ get_or queues i old → Stands queues i → new.ticks ≡ old.ticks → 0 < length new.ticks
 ticks-kept queues i old new lt at stands ticks = subst (λ ts. 0 < length ts) (ap QueueView.ticks (sym (get_or_read queues i old lt at no_queue)) ∙ sym ticks) stands
@@ -59,15 +70,13 @@ ticks-kept queues i old new lt at stands ticks = subst (λ ts. 0 < length ts) (a
 pub goes-alike : (queues : List QueueView) (i : ℕ) (old new : QueueView) → i < length queues → old ≡ get_or queues i old → Stands queues i → new.ticks ≡ old.ticks → new.subs ≡ old.subs → StillStand queues (slice_set queues i new)
 goes-alike queues i old new lt at stands ticks subs = record {
   stands = stands-set queues i new lt (ticks-kept queues i old new lt at stands ticks);
+  gone = gone-set queues i new lt stands;
   subs = sub_at-set queues i old new lt at subs;
 }
 
--- one more queue, at which nobody has registered
-pub goes-more : (queues : List QueueView) (q : QueueView) → q.subs ≡ no_subs → StillStand queues (queues ++ q ∷ [])
-goes-more queues q none = record {
-  stands = λ n s. subst (λ (x : QueueView). 0 < length x.ticks) (sym (get_or-append queues (q ∷ []) no_queue n (there queues n s))) s;
-  subs = sub_at-more queues q none;
-}
+-- one more queue
+pub stands-more : (queues : List QueueView) (q : QueueView) (n : ℕ) → Stands queues n → Stands (queues ++ q ∷ []) n
+stands-more queues q n s = subst (λ (x : QueueView). 0 < length x.ticks) (sym (get_or-append queues (q ∷ []) no_queue n (there queues n s))) s
 
 -- the triggers' queues, those of batches, and the numbers
 pub within-on : (old new : List QueueView) (triggers : List TableTrigger) (all : List (ℕ × TracedTableView)) → ((n : ℕ) → Stands old n → Stands new n) → TracedWithin old triggers all → TracedWithin new triggers all
@@ -77,11 +86,12 @@ indexed-on : (last : ℕ) (old new : List QueueView) (batches : List (ℕ × Pla
     → AreIndexed last (sub_at new) (kept batches)
 indexed-on last old new batches same are = subst (λ subs. AreIndexed last subs (kept batches)) (λ j n c. sym (same n c) j) are
 
-pub batches-on : {last : ℕ} → (old new : List QueueView) (batches : List (ℕ × Place)) → StillStand old new → BatchesWithin last old batches → BatchesWithin last new batches
-batches-on {last} old new batches on within = record { indexed = indexed-on last old new batches on.subs within.indexed; stand = λ id p is. on.stands _ (within.stand id p is) }
+pub batches-on : {last : ℕ} → (old new : List QueueView) (batches : List (ℕ × Place)) → ((n : ℕ) → Stands old n → Stands new n) → ((n : ℕ) (consumer : List ℕ) → sub_at new n consumer ≡ sub_at old n consumer)
+    → BatchesWithin last old batches → BatchesWithin last new batches
+batches-on {last} old new batches on subs within = record { indexed = indexed-on last old new batches subs within.indexed; stand = λ id p is. on _ (within.stand id p is) }
 
-pub numbers-on : (old new : List QueueView) (names : NamedView ℕ) → ((n : ℕ) → Stands old n → Stands new n) → AreNumbers names old → AreNumbers names new
-numbers-on old new names on are = record { each = are.each; rise = are.rise; stand = λ k d lt. on _ (are.stand k d lt) }
+pub numbers-on : (old new : List QueueView) (names : NamedView ℕ) → ((n : ℕ) → Stands old n → Stands new n) → ((n : ℕ) → get_or old n no_queue ≡ no_queue → get_or new n no_queue ≡ no_queue) → AreNumbers names old → AreNumbers names new
+numbers-on old new names on gone are = record { each = are.each; rise = are.rise; stand = λ k d lt. on _ (are.stand k d lt); others = λ n apart. gone n (are.others n apart) }
 
 -- ---- the places of a table's triggers
 
@@ -304,6 +314,7 @@ stays-switched old new now is = record {
 -- the queues that stood stand
 pub stand-set : (queues : List QueueView) (i : ℕ) (old new : QueueView) → Stands queues i → i < length queues → old ≡ get_or queues i old → Stays old new → StillStand queues (slice_set queues i new)
 stand-set queues i old new stands lt at stays = record {
+  gone = gone-set queues i new lt stands;
   stands = stands-set queues i new lt (stays.ticks (subst (λ (q : QueueView). 0 < length q.ticks) (sym (get_or_read queues i old lt at no_queue)) stands));
   subs = sub_at-set queues i old new lt at stays.subs;
 }
@@ -312,7 +323,7 @@ stand-set queues i old new stands lt at stays = record {
 pub within-still : {last : ℕ} → (numbers : NamedView ℕ) (old new : List QueueView) (batches : List (ℕ × Place)) (triggers : List TableTrigger) (all : List (ℕ × TracedTableView)) → StillStand old new
     → AreNumbers numbers old × (BatchesWithin last old batches × TracedWithin old triggers all) → AreNumbers numbers new × (BatchesWithin last new batches × TracedWithin new triggers all)
 within-still numbers old new batches triggers all still within =
-    (numbers-on old new numbers still.stands within.0, (batches-on old new batches still within.1.0, within-on old new triggers all still.stands within.1.1))
+    (numbers-on old new numbers still.stands still.gone within.0, (batches-on old new batches still.stands still.subs within.1.0, within-on old new triggers all still.stands within.1.1))
 
 -- a queue stands in what is kept as in what is shown
 pub stands-kept : (v now : QueuesView) (n : ℕ) → v ≡ now → Stands now.queues n → Stands v.queues n
@@ -326,11 +337,13 @@ pub within-made : {last : ℕ} → (names : NamedView ℕ) (name : List ℕ) (nu
     (all : List (ℕ × TracedTableView)) → more ≡ record { names = names.names ++ name ∷ []; values = names.values ++ number ∷ [] } → number ≡ length old → new ≡ old ++ q ∷ [] → 0 < length q.ticks → q.subs ≡ no_subs
     → AreNumbers names old × (BatchesWithin last old batches × TracedWithin old triggers all) → AreNumbers more new × (BatchesWithin last new batches × TracedWithin new triggers all)
 within-made {last} names name number old q more new batches triggers all named is come ticks none within =
-    let later = within-still names old (old ++ q ∷ []) batches triggers all (goes-more old q none) within in
     let newest : Stands (old ++ q ∷ []) (length old) = subst (λ (x : QueueView). 0 < length x.ticks) (sym (get_or-append_seam old q [] no_queue)) ticks in
-    let numbers = numbers-more names name old q ticks within.0 (λ k d lt. there old _ (within.0.stand k d lt)) later.0.stand newest in
+    let numbers = numbers-more names name old q ticks within.0 (λ k d lt. there old _ (within.0.stand k d lt)) (λ k d lt. still _ (within.0.stand k d lt)) newest in
     let whole : more ≡ record { names = names.names ++ name ∷ []; values = names.values ++ length old ∷ [] } = named ∙ ap (λ n. record { names = names.names ++ name ∷ []; values = names.values ++ n ∷ [] }) is in
-    subst (λ qs. AreNumbers more qs × (BatchesWithin last qs batches × TracedWithin qs triggers all)) (sym come) (subst (λ (n : NamedView ℕ). AreNumbers n (old ++ q ∷ [])) (sym whole) numbers, later.1)
+    subst (λ qs. AreNumbers more qs × (BatchesWithin last qs batches × TracedWithin qs triggers all)) (sym come) (subst (λ (n : NamedView ℕ). AreNumbers n (old ++ q ∷ [])) (sym whole) numbers, (batches-on old (old ++ q ∷ []) batches still (sub_at-more old q none) within.1.0, within-on old (old ++ q ∷ []) triggers all still within.1.1))
+  where
+    still : (n : ℕ) → Stands old n → Stands (old ++ q ∷ []) n
+    still = stands-more old q
 
 -- one less
 pub gone-apart : (queues : List QueueView) (n m : ℕ) → (n ≡ m → ⊥) → get_or (slice_set queues n no_queue) m no_queue ≡ get_or queues m no_queue
@@ -342,7 +355,7 @@ pub within-dropped : {last : ℕ} → (names : NamedView ℕ) (n place : ℕ) (o
     → AreNumbers names old × (BatchesWithin last old batches × TracedWithin old triggers all) → AreNumbers less new × (BatchesWithin last new batches × TracedWithin new triggers all)
 within-dropped {last} names n place old new less batches triggers all named empty low at none untold within =
     subst (λ qs. AreNumbers less qs × (BatchesWithin last qs batches × TracedWithin qs triggers all)) (sym empty) (
-      subst (λ (x : NamedView ℕ). AreNumbers x left) (sym named) (numbers-removed n place names old left within.0 low at stays),
+      subst (λ (x : NamedView ℕ). AreNumbers x left) (sym named) (numbers-removed n place names old left within.0 low at stays (get_or-set_same old n no_queue no_queue there_is) (λ m other no. gone-apart old n m other ∙ no)),
       (
         record {
           indexed = indexed-on last old left batches (sub_at-gone old n there_is none) within.1.0.indexed;

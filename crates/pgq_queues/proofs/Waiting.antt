@@ -26,8 +26,8 @@ use Rattle.pgq_tables.specs.Views.{TablesView}
 use Rattle.pgq_queues.specs.Stored.{AllStored}
 use Rattle.pgq_queues.specs.Rotated.{switched_in}
 use Rattle.pgq_queues.proofs.AllStored.{stored-one, stored-switched}
-use Rattle.pgq_queues.proofs.Marked.{no-subs, sub_at-gone}
-use Rattle.pgq_queues.proofs.TracedLists.{stands-set, ticks-kept, Stays, stand-set, goes-more, there, gone-apart}
+use Rattle.pgq_queues.proofs.Marked.{no-subs, sub_at-gone, sub_at-more}
+use Rattle.pgq_queues.proofs.TracedLists.{stands-set, ticks-kept, Stays, stand-set, stands-more, there, gone-apart}
 use Rattle.pgq_queues.proofs.Indexed.{is_one, same_parts}
 use Rattle.pgq_queues.proofs.Consumed.{Change, Becomes, subs-set, sub-here}
 
@@ -90,6 +90,9 @@ retried-stays queues i old new rs stands lt at stays goes within =
 -- the same events
 pub same-events : {rounds : ℕ} → (old new : TablesView) → new ≡ old → AllStored (RetriedAtMost rounds) old.tables → AllStored (RetriedAtMost rounds) new.tables
 same-events {rounds} old new same all = subst (λ (ts : TablesView). AllStored (RetriedAtMost rounds) ts.tables) (sym same) all
+
+pub same-tables : {rounds : ℕ} → (old new : Tables) → new ≡ old → AllStored (RetriedAtMost rounds) old → AllStored (RetriedAtMost rounds) new
+same-tables {rounds} old new same all = subst (AllStored (RetriedAtMost rounds)) (sym same) all
 
 -- and one more
 pub one-event : {rounds : ℕ} → (old new : Tables) (e : Event) → new ≡ with_stored e old → RetriedAtMost rounds e → AllStored (RetriedAtMost rounds) old → AllStored (RetriedAtMost rounds) new
@@ -216,7 +219,7 @@ bound-more (x ∷ xs) q none (suc n) all = bound-more xs q none n all
 
 pub retried-made : {rounds : ℕ} → (old new : List QueueView) (q : QueueView) (rs : List Retry) → new ≡ old ++ q ∷ [] → AllStored (RetriedAtMost rounds) q.tables.tables → q.subs ≡ no_subs → RetriedWithin rounds old rs → RetriedWithin rounds new rs
 retried-made {rounds} old new q rs come events subs within =
-    subst (λ qs. RetriedWithin rounds qs rs) (sym come) (retried-still old (old ++ q ∷ []) rs (goes-more old q subs) (λ all n. bound-more old q events n (all n)) within)
+    subst (λ qs. RetriedWithin rounds qs rs) (sym come) (retried-on old (old ++ q ∷ []) rs (stands-more old q) (λ n consumer s is. ap (option_map SubView.id) (sub_at-more old q subs n consumer) ∙ is) (λ all n. bound-more old q events n (all n)) within)
 
 pub retried-same : {rounds : ℕ} → (old new : List QueueView) (rs : List Retry) → new ≡ old → RetriedWithin rounds old rs → RetriedWithin rounds new rs
 retried-same {rounds} old new rs same within = subst (λ qs. RetriedWithin rounds qs rs) (sym same) within

@@ -1,15 +1,16 @@
 -- What a database keeps of its batches.
-use Rattle.std.specs.Prelude.{◌≡◌, ℕ, ◌≤◌, ◌==◌, List, Option, Some, None, option_map, if◌then◌else◌}
+use Rattle.std.specs.Prelude.{◌≡◌, ℕ, ◌≤◌, ◌==◌, List, Option, Some, None, option_map, if◌then◌else◌, slice_index_or}
 use Rattle.pgq_sub.specs.declared.sub.OpenBatch.{OpenBatch}
 use Rattle.pgq_sub.specs.Views.{SubView}
 use Rattle.pgq_sub.specs.Seen.{open_in}
 use Rattle.pgq_queues.specs.declared.batch.Place.{Place}
 use Rattle.pgq_queues.specs.Views.{QueueView}
-use Rattle.pgq_queues.specs.Seen.{Stands, kept, sub_at}
+use Rattle.pgq_queues.specs.Seen.{no_queue, Stands, kept, sub_at}
 
--- the queues that stood stand, and the subscriptions are what they were
+-- the queues that stood stand, no other has come, and the subscriptions are what they were
 pub record StillStand (old new : List QueueView) : Type 0 where
   pub stands : (n : ℕ) → Stands old n → Stands new n
+  pub gone : (n : ℕ) → slice_index_or old n no_queue ≡ no_queue → slice_index_or new n no_queue ≡ no_queue
   pub subs : (n : ℕ) (consumer : List ℕ) → sub_at new n consumer ≡ sub_at old n consumer
 
 -- the id of a subscription's active batch

@@ -5,12 +5,14 @@ ghost use Rattle.std.specs.List.{All};
 ghost use Rattle.sky_model.specs.Moment.{HasMoment};
 ghost use Rattle.pgq_queues.specs.Seen.{Stands};
 ghost use Rattle.pgq_queues.specs.Batches.{StillStand};
+ghost use Rattle.pgq_queues.specs.Rotated.{undone_in, each_changed};
 ghost use Rattle.pgq_queues.specs.EventRule.{events_by, table_events, count_of, sequences, ids_left, telling_all, event_rule};
 
 use crate::queues::Queues;
 use crate::slots::Slots;
 use crate::traced::Traced;
 use sky_model::WriteGate;
+use sky_names::Named;
 use sky_val::{NoMemory, Op, Row};
 
 /// The number at which the event ids of a queue run out.
@@ -42,7 +44,19 @@ impl WriteGate for Queues {
     }
 
     fn rolled_back(&mut self, txid: u64) {
-        self.slots.undo(txid);
+        undo_each(&mut self.slots, &self.names, 0, txid);
+    }
+}
+
+/// A transaction was rolled back, in each of the queues of the names from this place on.
+fn undo_each(queues: &mut Slots, names: &Named<usize>, place: usize, txid: u64)
+    requires place { place ≤ length names.now.values }
+    requires stand { All (Stands queues.old) names.now.values }
+    ensures { queues.new ≡ each_changed (undone_in txid) (drop place names.now.values) queues.old }
+{
+    if place < names.len() {
+        queues.get_mut(*names.get(place)).undo(txid);
+        undo_each(queues, names, place + 1, txid);
     }
 }
 

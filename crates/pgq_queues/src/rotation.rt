@@ -4,8 +4,7 @@ ghost use Rattle.std.specs.Prelude.{◌≡◌, ◌≤◌, true, None, Some, IfOk
 ghost use Rattle.std.specs.List.{All};
 ghost use Rattle.sky_model.specs.History.{queued, switching, switched};
 ghost use Rattle.sky_model.specs.Moment.{IsTime};
-ghost use Rattle.sky_model.specs.Queues.{without_transaction};
-ghost use Rattle.sky_model.specs.State.{RowPart, with_tables, after_mark, after_marks};
+ghost use Rattle.sky_model.specs.State.{RowPart, after_mark, after_marks};
 ghost use Rattle.sky_model.specs.StepRotation.{held_back, lack_second_step, second_steps, switches_of};
 ghost use Rattle.pgq_queues.specs.Seen.{seen_with, queue_at, Stands};
 ghost use Rattle.pgq_queues.specs.Batches.{StillStand};
@@ -20,16 +19,6 @@ use sky_names::Named;
 use sky_val::NoMemory;
 
 impl Queues {
-    /// A transaction was rolled back: its events are dead, and the switches that it has pending are given up.
-    pub fn undo(&mut self, txid: u64)
-        ensures undone { (part : RowPart) → seen_with part self.new
-            ≡ record (seen_with part self.old) { queue = λ n. with_tables (without_transaction txid) ((seen_with part self.old).queue n) } }
-        ensures stand { StillStand self.old.queues self.new.queues }
-        ensures rest { KeepsRest self.old self.new }
-    {
-        self.slots.undo(txid);
-    }
-
     /// What holds a switch of a queue back, if anything does.
     pub fn held_back(&self, queue: usize, now: i64) -> Result<Option<HeldBack>, NoMemory>
         requires stands { Stands self.now.queues queue }

@@ -1,8 +1,7 @@
-ghost use Rattle.std.specs.Prelude.{◌≡◌, ◌<◌, [], ◌∷◌, ◌++◌, List, OnOk, OnErr, length, map, slice_index_or, slice_set};
+ghost use Rattle.std.specs.Prelude.{◌≡◌, ◌<◌, [], ◌∷◌, ◌++◌, List, OnOk, OnErr, length, slice_index_or, slice_set};
 ghost use Rattle.std.specs.Borrow.{Lends, sem};
 ghost use Rattle.pgq_queues.specs.Views.{QueueView};
 ghost use Rattle.pgq_queues.specs.Seen.{no_queue, Stands};
-ghost use Rattle.pgq_queues.specs.Rotated.{undone_in};
 
 use crate::queue::Queue;
 use sky_val::NoMemory;
@@ -85,29 +84,11 @@ impl Slots {
         self.slots.pop();
     }
 
-    /// A transaction was rolled back, in each queue.
-    pub(crate) fn undo(&mut self, txid: u64)
-        ensures { self.new ≡ map (undone_in txid) self.old }
-    {
-        for slot in self.slots.iter_mut() {
-            undo_each(slot, txid);
-        }
-    }
-
     /// Drops the queue of this number.
     pub(crate) fn remove(&mut self, number: usize)
         requires { number < length self.old }
         ensures { self.new ≡ slice_set self.old number no_queue }
     {
         self.slots[number] = Vec::new(*self.slots.allocator());
-    }
-}
-
-/// A transaction was rolled back, in each of these queues.
-fn undo_each(queues: &mut [Queue], txid: u64)
-    ensures { queues.new ≡ map (undone_in txid) queues.old }
-{
-    for queue in queues {
-        queue.undo(txid);
     }
 }

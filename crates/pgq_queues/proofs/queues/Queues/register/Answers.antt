@@ -4,6 +4,7 @@ use Rattle.pgq_queues.specs.Views.{QueuesView}
 use Rattle.pgq_queues.proofs.TracedLists.{stands-kept}
 use Rattle.pgq_queues.proofs.Consumed.{becomes, not-kept, within-come, registered-as}
 use Rattle.pgq_queues.proofs.Waiting.{retried-come}
+use Rattle.pgq_queues.proofs.Marked.{queue-kept, on-err}
 use Rattle.pgq_queues.proofs.queues.Queues.register.Goals as goal
 
 pub invariant_of-self-2 : goal.invariant_of-self-2
@@ -23,3 +24,6 @@ pub returns-clause-mark : goal.returns-clause-mark
 returns-clause-mark c =
     registered-as _ _ c.args.queue _ c.args.tick c.args.consumer.now c.get_mut.result.now c.register.new.self c.self.view_is c.get_mut.ensures.within c.get_mut.ensures.value c.in_ok-register.ensures.but c.in_ok-register.ensures.subs
     (ap (λ (w : QueuesView). w.last_sub_id + 1) c.self.view_is) c.requires.new
+
+pub returns-in_err-register-clause-err : goal.returns-in_err-register-clause-err
+returns-in_err-register-clause-err c = on-err c.from_residual.result _ (queue-kept _ _ c.args.queue c.get_mut.result.now c.register.new.self c.self.view_is c.get_mut.ensures.value c.in_err-register.ensures.err)
