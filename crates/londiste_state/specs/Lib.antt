@@ -1,0 +1,3 @@
+pub mod StateText
+pub mod Moves
+pub mod Nodes
