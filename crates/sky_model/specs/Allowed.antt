@@ -3,7 +3,7 @@ use Rattle.std.specs.Prelude.{Bool, true, false, Ok, Err}
 use Rattle.sky_model.specs.declared.stmt.Stmt.{Stmt}
 use Rattle.sky_model.specs.declared.stmt.RowStmt.{RowStmt}
 use Rattle.sky_model.specs.declared.stmt.RowStmt.TheVariants.{OpenDb, Close, Cancel, Begin, BeginRepeatableRead, Commit, Rollback, TxidCurrent, TxidCurrentSnapshot, TxidVisibleInSnapshot, CreateTable, Insert, Update, Delete, Get, Scan}
-use Rattle.sky_model.specs.declared.stmt.Stmt.TheVariants.{Row, CreateQueue, DropQueue, SetQueueConfig, QueueInfo, InsertEvent, Ticker, ForceTick, RegisterConsumer, RegisterConsumerAt, UnregisterConsumer, NextBatch, GetBatchEvents, GetBatchInfo, EventRetry, FinishBatch, MaintRetryEvents, MaintRotateStep1, MaintRotateStep2, ConsumerInfo, AddTrigger, Clock, PgqdOn, PgqdOff}
+use Rattle.sky_model.specs.declared.stmt.Stmt.TheVariants.{Row, CreateQueue, DropQueue, SetQueueConfig, QueueInfo, InsertEvent, Ticker, ForceTick, RegisterConsumer, RegisterConsumerAt, UnregisterConsumer, NextBatch, GetBatchEvents, GetBatchInfo, EventRetry, FinishBatch, MaintRetryEvents, MaintRotateStep1, MaintRotateStep2, ConsumerInfo, AddTrigger, CreateRoot, Node, Clock, PgqdOn, PgqdOff}
 use Rattle.sky_model.specs.declared.stmt.Where.{Where}
 use Rattle.sky_model.specs.declared.stmt.Where.TheVariants.{Always, Anywhere, WhenOpen, WhenSound, WhenReading, WhenOutside}
 use Rattle.sky_model.specs.declared.reply.Refusal.TheVariants.{Aborted, Busy, InTransaction, NotOpen}
@@ -52,6 +52,8 @@ where_of (MaintRotateStep1 queue) = WhenReading
 where_of MaintRotateStep2 = WhenOutside
 where_of (ConsumerInfo queue consumer) = WhenOutside
 where_of (AddTrigger name table queue backup ignored) = WhenOutside
+where_of (CreateRoot name queue) = WhenOutside
+where_of (Node stmt) = WhenOutside
 where_of (Clock time) = Anywhere
 where_of PgqdOn = WhenOutside
 where_of PgqdOff = WhenOutside

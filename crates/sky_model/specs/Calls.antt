@@ -1,17 +1,18 @@
 -- What a call does: a statement of a session, with all that it causes.
-use Rattle.std.specs.Prelude.{ℕ, ℤ, Bool, true, false, List, [], ◌∷◌, ◌++◌, Option, Some, None, not, is_ok, nat_le, length, if◌then◌else◌}
+use Rattle.std.specs.Prelude.{ℕ, ℤ, Bool, true, false, List, [], ◌∷◌, ◌++◌, Option, Some, None, not, ◌&&◌, Ok, Err, is_ok, is_some, nat_le, length, if◌then◌else◌}
 use Rattle.sky_model.specs.declared.stmt.Stmt.{Stmt}
 use Rattle.sky_model.specs.declared.stmt.RowStmt.{RowStmt}
 use Rattle.sky_model.specs.declared.stmt.RowStmt.TheVariants.{OpenDb, Close, Cancel, Begin, BeginRepeatableRead, Commit, Rollback, TxidCurrent, TxidCurrentSnapshot, TxidVisibleInSnapshot, CreateTable, Insert, Update, Delete, Get, Scan}
-use Rattle.sky_model.specs.declared.stmt.Stmt.TheVariants.{Row, CreateQueue, DropQueue, SetQueueConfig, QueueInfo, InsertEvent, Ticker, ForceTick, RegisterConsumer, RegisterConsumerAt, UnregisterConsumer, NextBatch, GetBatchEvents, GetBatchInfo, EventRetry, FinishBatch, MaintRetryEvents, MaintRotateStep1, MaintRotateStep2, ConsumerInfo, AddTrigger, Clock, PgqdOn, PgqdOff}
+use Rattle.sky_model.specs.declared.stmt.Stmt.TheVariants.{Row, CreateQueue, DropQueue, SetQueueConfig, QueueInfo, InsertEvent, Ticker, ForceTick, RegisterConsumer, RegisterConsumerAt, UnregisterConsumer, NextBatch, GetBatchEvents, GetBatchInfo, EventRetry, FinishBatch, MaintRetryEvents, MaintRotateStep1, MaintRotateStep2, ConsumerInfo, AddTrigger, CreateRoot, Node, Clock, PgqdOn, PgqdOff}
+use Rattle.sky_model.specs.declared.stmt.NodeStmt.{NodeStmt}
 use Rattle.sky_model.specs.declared.reply.Reply.{Reply}
 use Rattle.sky_model.specs.declared.reply.Reply.TheVariants.{Done, NotWaiting, Refused}
 use Rattle.sky_model.specs.declared.reply.Limit.TheVariants.{Sessions, Databases}
-use Rattle.sky_model.specs.declared.reply.Refusal.TheVariants.{TooMany, NotOpen}
+use Rattle.sky_model.specs.declared.reply.Refusal.TheVariants.{TooMany, NodeExists, NotOpen}
 use Rattle.sky_keys.specs.Waits.{is_waiting}
 use Rattle.sky_names.specs.Places.{place_of}
 use Rattle.sky_model.specs.Limits.{most_of}
-use Rattle.sky_model.specs.History.{Mark, Fact, entered, left, daemon_on, daemon_off, Past}
+use Rattle.sky_model.specs.History.{Mark, Fact, entered, left, daemon_on, daemon_off, node_made, Past}
 use Rattle.sky_model.specs.State.{RowPart, Database}
 use Rattle.sky_model.specs.ShownRows.{RowsShown}
 use Rattle.sky_model.specs.Outcome.{Outcome, Checked, answers, after_marks_of}
@@ -26,6 +27,8 @@ use Rattle.sky_model.specs.Telling.{tells}
 use Rattle.sky_model.specs.StepConsumer.{register_consumer, register_consumer_at, unregister_consumer, next_batch, get_batch_events, get_batch_info, finish_batch, consumer_info}
 use Rattle.sky_model.specs.StepRetry.{event_retry, maint_retry_events}
 use Rattle.sky_model.specs.StepRotation.{maint_rotate_step1, maint_rotate_step2, committed_by, switches_of}
+use Rattle.sky_model.specs.StepNode.{create_root}
+use Rattle.sky_model.specs.NodesOfWorld.{WorldOutcome, node_called, node_form}
 use Rattle.sky_model.specs.World.{World, world_of, on_top}
 use Rattle.sky_model.specs.Reader.{Shown, PartReader, DatabaseReader, Reader, within_part, within_database, by_past, Deed, answers_with, refuses, appears, founds, followed}
 use Rattle.sky_model.specs.Settling.{Turn, turn_of, with_settling}
@@ -56,7 +59,8 @@ abbrev pub switches_first : Database → ℤ → ℕ → RowStmt → List Mark
 switches_first d now who Commit = switches_of d now (committed_by (d.part.session who).block (d.part.session who).txid)
 switches_first d now who stmt = []
 
--- what a statement does, if its session may make it; the clock and the daemons are the world's, so what theirs do is defined below
+-- what a statement does, if its session may make it; the clock, the daemons and the nodes' names are the world's, so what statements on those do is
+-- defined below
 abbrev pub form : Database → Shown → ℤ → ℕ → Stmt → Checked Outcome
 form d shown now who (Row stmt) = after_marks_of (switches_first d now who stmt) (tells d now (row_form d.part shown.rows who stmt))
 form d shown now who (CreateQueue queue) = create_queue d now who queue
@@ -79,6 +83,8 @@ form d shown now who (MaintRotateStep1 queue) = maint_rotate_step1 d now who que
 form d shown now who MaintRotateStep2 = maint_rotate_step2 d
 form d shown now who (ConsumerInfo queue consumer) = consumer_info d queue consumer
 form d shown now who (AddTrigger name table queue backup ignored) = add_trigger d name table queue backup ignored
+form d shown now who (CreateRoot name queue) = create_root d now who name queue
+form d shown now who (Node stmt) = answers Done
 form d shown now who (Clock time) = answers Done
 form d shown now who PgqdOn = answers Done
 form d shown now who PgqdOff = answers Done
@@ -167,11 +173,47 @@ beside w who stmt d =
     left_if who (is_leaving (is_waiting who (w.database d).part.waiting) stmt)
     ++ of_daemon_if (may_make (w.database d) who stmt) d (w.daemons d) stmt
 
+-- what a statement on nodes does in the world, or why it is refused
+abbrev pub world_does : ℕ → Checked WorldOutcome → Deed
+world_does who (Ok outcome) = answers_with who outcome.reply outcome.facts
+world_does who (Err refusal) = refuses who refusal
+
+-- a statement on nodes of a session, by the database that it has open, where it is refused if its session may not make it
+abbrev pub node_does : {P : Type 0} → Reader P → P → ℕ → NodeStmt → ℕ → Deed
+node_does r p who stmt d =
+    if may_make ((r.world p).database d) who (Node stmt) then world_does who (node_form (r.world p) d stmt)
+    else deed_in d [] (database_turn (within_database r d) p (r.world p).now who (Node stmt))
+
+-- whether the first of some answers is `ok`
+abbrev pub begins_with_ok : List (ℕ × Reply) → Bool
+begins_with_ok ((who, Done) ∷ answers) = true
+begins_with_ok _ = false
+
+-- a database got its node, if that was answered
+abbrev pub node_if : Bool → ℕ → List Fact
+node_if true d = node_made d ∷ []
+node_if false d = []
+
+-- `create_root` of a session, by the database that it has open
+abbrev pub roots_in : ℕ → Turn → Deed
+roots_in d turn = deed_in d (node_if (begins_with_ok turn.answers) d) turn
+
+-- refused if there is a node of the name
+abbrev pub root_does : {P : Type 0} → Reader P → P → ℕ → (name queue : List ℕ) → ℕ → Deed
+root_does r p who name queue d =
+    if may_make ((r.world p).database d) who (CreateRoot name queue) && is_some (node_called (r.world p) name) then refuses who (NodeExists name)
+    else roots_in d (database_turn (within_database r d) p (r.world p).now who (CreateRoot name queue))
+
 -- a statement of a session, by the database that it has open
+abbrev pub does_at : {P : Type 0} → Reader P → P → ℕ → Stmt → ℕ → Deed
+does_at r p who (Node stmt) d = node_does r p who stmt d
+does_at r p who (CreateRoot name queue) d = root_does r p who name queue d
+does_at r p who stmt d = deed_in d (beside (r.world p) who stmt d) (database_turn (within_database r d) p (r.world p).now who stmt)
+
+-- by the database that it has open, if any
 abbrev pub session_does : {P : Type 0} → Reader P → P → ℕ → Stmt → Option ℕ → Deed
 session_does r p who stmt None = outside_does r p who stmt (opening stmt)
-session_does r p who stmt (Some d) =
-    deed_in d (beside (r.world p) who stmt d) (database_turn (within_database r d) p (r.world p).now who stmt)
+session_does r p who stmt (Some d) = does_at r p who stmt d
 
 -- a turn: what a statement of a session does at a place
 abbrev pub turn : {P : Type 0} → Reader P → ℕ → Stmt → P → Deed

@@ -1,6 +1,7 @@
 -- The statement forms as a table, and what a line says by it.
 use Rattle.std.specs.Prelude.{ℕ, Bool, true, false, ◌+◌, ◌-◌, ◌^◌, ◌==◌, if◌then◌else◌, List, [], ◌∷◌, ◌++◌, length, take, drop, Option, Some, None, Result, Ok, Err, bytes_eq, codes}
 use Rattle.sky_model.specs.declared.stmt.RowStmt.TheVariants as row
+use Rattle.sky_model.specs.declared.stmt.NodeStmt.TheVariants as node
 use Rattle.sky_model.specs.declared.stmt.Stmt.{Stmt}
 use Rattle.sky_model.specs.declared.stmt.Stmt.TheVariants as stmt
 use Rattle.sky_model.specs.declared.line.Line.{Line}
@@ -125,6 +126,16 @@ queue_forms =
     ∷ (codes "consumer_info", one Name (λ queue. last Dotted (λ consumer. stmt.ConsumerInfo queue consumer)))
     ∷ []
 
+-- on nodes
+abbrev pub node_forms : List (List ℕ × Row)
+node_forms =
+    (codes "create_root", one Name (λ name. last Name (λ queue. stmt.CreateRoot name queue)))
+    ∷ (codes "create_leaf", one Name (λ name. last Name (λ provider. stmt.Node (node.CreateLeaf name provider))))
+    ∷ (codes "add_table", one Name (λ name. last Dotted (λ table. stmt.Node (node.AddTable name table))))
+    ∷ (codes "remove_table", one Name (λ name. last Dotted (λ table. stmt.Node (node.RemoveTable name table))))
+    ∷ (codes "table_state", one Name (λ name. last Dotted (λ table. stmt.Node (node.TableState name table))))
+    ∷ []
+
 -- on the clock and the daemon
 abbrev pub clock_forms : List (List ℕ × Row)
 clock_forms =
@@ -134,7 +145,7 @@ clock_forms =
 
 -- every form
 abbrev pub all_forms : List (List ℕ × Row)
-all_forms = session_forms ++ row_forms ++ queue_forms ++ clock_forms
+all_forms = session_forms ++ row_forms ++ queue_forms ++ node_forms ++ clock_forms
 
 -- the row of the first form with this first word, in a list of at most one
 abbrev pub named_form : List ℕ → List (List ℕ × Row) → List Row

@@ -6,6 +6,8 @@ use Rattle.sky_val.specs.declared.val.Val.{Val}
 use Rattle.sky_val.specs.declared.column.Column.{Column}
 use Rattle.sky_urlenc.specs.RowEvents.{Trigger}
 use Rattle.pgq_retry.specs.declared.retry.Retry.{Retry}
+use Rattle.sky_txid.specs.Snapshot.{SnapshotView}
+use Rattle.londiste_state.specs.declared.state.TableState.{TableState}
 use Rattle.sky_model.specs.declared.stmt.Attempt.{Attempt}
 use Rattle.sky_model.specs.Config.{Config}
 
@@ -54,6 +56,8 @@ pub data QueueMark : Type 0 where
   dropped : (queue : ℕ) → QueueMark
   -- a table got a trigger, which may have a name: events of a queue record the table's writes from now on
   traced : (table : ℕ) (name : Option (List ℕ)) (trigger : Trigger) → QueueMark
+  -- a table lost its triggers without a name
+  untraced : (table : ℕ) → QueueMark
 
 -- whose a transaction is: a session's, or a worker's
 pub data Whose : Type 0 where
@@ -70,6 +74,39 @@ pub data TableMark : Type 0 where
   waits : (who table : ℕ) (key : List Val) (attempt : Attempt) → TableMark
   -- the session no longer waits
   waited : (who : ℕ) → TableMark
+  -- sessions may not write a table from now on, or may again
+  read_only : (table : ℕ) (on : Bool) → TableMark
+
+-- which events a worker applies: those of the tables that are in sync, or those of a table that its copy's snapshot doesn't see
+pub data Pick : Type 0 where
+  ready : Pick
+  copy_of : (table : List ℕ) → Pick
+
+-- what happened to the node of a database; a table is identified by its name
+pub data NodeMark : Type 0 where
+  -- the root of a set was made, with the set's queue
+  root_made : (name queue : List ℕ) → NodeMark
+  -- a table joined the set; it left
+  listed : (table : List ℕ) → NodeMark
+  unlisted : (table : List ℕ) → NodeMark
+  -- a consumer of the set's queue is a leaf's from now on; it isn't any more
+  joined : (consumer : List ℕ) → NodeMark
+  parted : (consumer : List ℕ) → NodeMark
+  -- a leaf was made, of the root of this name, at a tick of its queue
+  leaf_made : (name provider : List ℕ) (tick : ℕ) → NodeMark
+  -- a table joined the leaf; it left
+  leaf_added : (table : List ℕ) → NodeMark
+  leaf_removed : (table : List ℕ) → NodeMark
+  -- a table of the leaf is in this state from now on
+  state_set : (table : List ℕ) (state : TableState) → NodeMark
+  -- a snapshot of the provider was taken for the copy of a table, whose consumer begins at a tick
+  held : (table : List ℕ) (tick : ℕ) → NodeMark
+  -- the copy ended: the table has the rows under the snapshot
+  copied : (table : List ℕ) (snapshot : SnapshotView) (tick : ℕ) → NodeMark
+  -- events of a batch were applied, up to a tick
+  applied : (pick : Pick) (tick : ℕ) → NodeMark
+  -- a copy that ran was given up
+  restarted : (table : List ℕ) → NodeMark
 
 -- what happened in a database
 pub data Mark : Type 0 where
@@ -93,6 +130,7 @@ pub data Mark : Type 0 where
   disconnected : (who : ℕ) → Mark
   tabled : TableMark → Mark
   queued : QueueMark → Mark
+  noded : NodeMark → Mark
 
 -- what happened in one database
 abbrev pub History : Type 0
@@ -115,6 +153,8 @@ pub data Fact : Type 0 where
   -- a database's daemon is on, from this moment on; it is off
   daemon_on : (database : ℕ) → Fact
   daemon_off : (database : ℕ) → Fact
+  -- a database got its node
+  node_made : (database : ℕ) → Fact
 
 -- what happened everywhere
 abbrev pub Past : Type 0

@@ -8,6 +8,8 @@ use Rattle.sky_model.specs.declared.stmt.Change.TheVariants.{To, Add}
 use Rattle.sky_model.specs.declared.stmt.Extra.{Extra}
 use Rattle.sky_model.specs.declared.stmt.RowStmt.{RowStmt}
 use Rattle.sky_model.specs.declared.stmt.RowStmt.TheVariants as row
+use Rattle.sky_model.specs.declared.stmt.NodeStmt.{NodeStmt}
+use Rattle.sky_model.specs.declared.stmt.NodeStmt.TheVariants as node
 use Rattle.sky_model.specs.declared.stmt.Stmt.{Stmt}
 use Rattle.sky_model.specs.declared.stmt.Stmt.TheVariants as stmt
 use Rattle.sky_model.specs.declared.line.Line.{Line}
@@ -80,6 +82,13 @@ abbrev pub IsOptExtra : Option Extra → Type 0
 IsOptExtra None = ⊤
 IsOptExtra (Some extra) = IsOf OptText extra.ev_extra1 × IsOf OptText extra.ev_extra2 × IsOf OptText extra.ev_extra3 × IsOf OptText extra.ev_extra4
 
+-- on nodes
+abbrev pub IsNodeInForm : NodeStmt → Type 0
+IsNodeInForm (node.CreateLeaf name provider) = IsOf Name name × IsOf Name provider
+IsNodeInForm (node.AddTable name table) = IsOf Name name × IsOf Dotted table
+IsNodeInForm (node.RemoveTable name table) = IsOf Name name × IsOf Dotted table
+IsNodeInForm (node.TableState name table) = IsOf Name name × IsOf Dotted table
+
 -- any
 abbrev pub IsInForm : Stmt → Type 0
 IsInForm (stmt.Row stmt) = IsRowInForm stmt
@@ -103,6 +112,8 @@ IsInForm (stmt.MaintRotateStep1 queue) = IsOf Name queue
 IsInForm stmt.MaintRotateStep2 = ⊤
 IsInForm (stmt.ConsumerInfo queue consumer) = IsOf Name queue × IsOf Dotted consumer
 IsInForm (stmt.AddTrigger name table queue backup ignored) = IsOf Name name × IsOf Dotted table × IsOf Name queue × All (IsOf Name) ignored
+IsInForm (stmt.CreateRoot name queue) = IsOf Name name × IsOf Name queue
+IsInForm (stmt.Node stmt) = IsNodeInForm stmt
 IsInForm (stmt.Clock time) = IsOf Advance time
 IsInForm stmt.PgqdOn = ⊤
 IsInForm stmt.PgqdOff = ⊤

@@ -12,7 +12,7 @@ use Rattle.sky_model.specs.Batches.{batch_events}
 use Rattle.sky_model.specs.Retries.{retries, retried}
 use Rattle.sky_model.specs.LawsOfBatches.{stands_in}
 use Rattle.sky_model.specs.Reader.{database_by_history}
-use Rattle.sky_model.specs.DatabaseCalls.{DatabaseCall, stepped, entered, failed, worked, database_does}
+use Rattle.sky_model.specs.DatabaseCalls.{DatabaseCall, stepped, entered, failed, worked, served, database_does}
 use Rattle.sky_model.specs.HistoryPlaces.{IsPlace}
 
 -- an event is a copy of another one: all fields are the same except transaction, owner and number of retries
@@ -107,6 +107,7 @@ moment_of (stepped who stmt now) = Some now
 moment_of (entered who outside) = None
 moment_of (failed who now) = Some now
 moment_of (worked part now) = Some now
+moment_of (served call) = None
 
 -- the mark of a retry that comes back at that moment, or a mark of something else
 abbrev pub IsBackAt : Option ℤ → Mark → Type 0

@@ -16,6 +16,7 @@ pub mod Queues
 pub mod Consumers
 pub mod Retries
 pub mod Batches
+pub mod Nodes
 pub mod State
 pub mod ShownRows
 pub mod Outcome
@@ -30,6 +31,7 @@ pub mod StepTrigger
 pub mod StepConsumer
 pub mod StepRetry
 pub mod StepRotation
+pub mod StepNode
 pub mod Telling
 pub mod StepSession
 pub mod Selection
@@ -40,6 +42,7 @@ pub mod Rooms
 pub mod Settling
 pub mod Daemon
 pub mod Clock
+pub mod NodesOfWorld
 pub mod Promises
 pub mod Calls
 pub mod SessionMarks

@@ -10,15 +10,16 @@ use Rattle.sky_model.specs.declared.reply.ConsumerInfo as consumer
 use Rattle.sky_model.specs.declared.reply.HeldBack as held
 use Rattle.sky_model.specs.declared.reply.HeldBack.TheVariants.{Pending, Period, SecondStep, Consumer, Tick}
 use Rattle.sky_model.specs.declared.reply.Reply.{Reply}
-use Rattle.sky_model.specs.declared.reply.Reply.TheVariants.{Done, Number, Null, Bool, Begin, AlreadyInTransaction, Commit, Rollback, NoTransaction, NotWaiting, Waits, Snapshot, Events, Row, NoRow, Rows, Moment, QueueInfo, BatchInfo, ConsumerInfo, HeldBack, Refused}
+use Rattle.sky_model.specs.declared.reply.Reply.TheVariants.{Done, Number, Null, Bool, Begin, AlreadyInTransaction, Commit, Rollback, NoTransaction, NotWaiting, Waits, Snapshot, Events, Row, NoRow, Rows, Moment, QueueInfo, BatchInfo, ConsumerInfo, HeldBack, State, Refused}
 use Rattle.sky_model.specs.Limits.{most_of}
 use Rattle.sky_model.specs.declared.reply.Limit.{Limit}
 use Rattle.sky_model.specs.declared.reply.Limit.TheVariants.{Sessions, Databases, Queues, Consumers, Tables, Columns, Triggers}
 use Rattle.sky_model.specs.declared.reply.BadRow as bad_row
 use Rattle.sky_model.specs.declared.reply.BadRow.TheVariants.{Count, «Type», NullKey, NoColumn, Twice}
 use Rattle.sky_model.specs.declared.reply.Refusal.{Refusal}
-use Rattle.sky_model.specs.declared.reply.Refusal.TheVariants.{Aborted, AlreadyOpen, BadColumn, BadRow, BadSnapshot, BadValue, Busy, Canceled, ClockSpent, Deadlock, Duplicate, EventIdsSpent, HasConsumers, HasTriggers, IdsSpent, InTransaction, KeyChange, NoBatch, NoConsumer, NoEvent, NodeConsumer, NoKey, NoParam, NoQueue, NoTable, NoTick, NotOpen, OutOfRange, QueueBusy, ReservedColumn, Serialize, TableBusy, TableExists, TickTooOld, TooMany, TriggerExists, TwiceNamed, TxidsSpent}
+use Rattle.sky_model.specs.declared.reply.Refusal.TheVariants.{Aborted, AlreadyInSet, AlreadyOpen, BadColumn, BadRow, BadSnapshot, BadValue, Busy, Canceled, ClockSpent, ConsumerExists, Deadlock, Duplicate, EventIdsSpent, HasConsumers, HasTriggers, IdsSpent, InTransaction, KeyChange, NoBatch, NoConsumer, NoEvent, NodeConsumer, NodeExists, NoKey, NoNode, NoParam, NoQueue, NoTable, NoTick, NotInSet, NotLeaf, NotOpen, NotProvider, OutOfRange, QueueBusy, QueueExists, ReadOnly, ReservedColumn, ReservedType, SchemaDiffers, Serialize, SetQueue, TableBusy, TableExists, TableInUse, TickTooOld, TooMany, TriggerExists, TwiceNamed, TxidsSpent}
 use Rattle.sky_txid.specs.SnapshotText.{snapshot_text}
+use Rattle.londiste_state.specs.StateText.{state_text}
 use Rattle.sky_model.specs.Moment.{moment, HasMoment}
 
 -- a text with each quote in it twice
@@ -101,6 +102,7 @@ name_at names n = unwrap_or (slice_get names n) []
 -- a refusal, if the sessions have these names
 abbrev pub refusal_text : List (List ℕ) → Refusal → List ℕ
 refusal_text names Aborted = codes "Aborted"
+refusal_text names (AlreadyInSet table) = codes "AlreadyInSet " ++ table
 refusal_text names AlreadyOpen = codes "AlreadyOpen"
 refusal_text names (BadColumn column) = codes "BadColumn " ++ column
 refusal_text names (BadRow why) = codes "BadRow " ++ bad_row_text why
@@ -109,6 +111,7 @@ refusal_text names (BadValue param) = codes "BadValue " ++ param
 refusal_text names Busy = codes "Busy"
 refusal_text names Canceled = codes "Canceled"
 refusal_text names ClockSpent = codes "ClockSpent"
+refusal_text names (ConsumerExists name) = codes "ConsumerExists " ++ name
 refusal_text names (Deadlock waiters) = codes "Deadlock" ++ spaced (map (name_at names) waiters)
 refusal_text names Duplicate = codes "Duplicate"
 refusal_text names EventIdsSpent = codes "EventIdsSpent"
@@ -121,18 +124,29 @@ refusal_text names NoBatch = codes "NoBatch"
 refusal_text names (NoConsumer name) = codes "NoConsumer " ++ name
 refusal_text names NoEvent = codes "NoEvent"
 refusal_text names NodeConsumer = codes "NodeConsumer"
+refusal_text names (NodeExists name) = codes "NodeExists " ++ name
 refusal_text names NoKey = codes "NoKey"
+refusal_text names (NoNode name) = codes "NoNode " ++ name
 refusal_text names (NoParam param) = codes "NoParam " ++ param
 refusal_text names (NoQueue name) = codes "NoQueue " ++ name
 refusal_text names (NoTable name) = codes "NoTable " ++ name
 refusal_text names (NoTick tick newest) = codes "NoTick " ++ decimal tick ++ 32 ∷ decimal newest
+refusal_text names (NotInSet table) = codes "NotInSet " ++ table
+refusal_text names (NotLeaf name) = codes "NotLeaf " ++ name
 refusal_text names NotOpen = codes "NotOpen"
+refusal_text names (NotProvider name) = codes "NotProvider " ++ name
 refusal_text names (OutOfRange column) = codes "OutOfRange " ++ column
 refusal_text names (QueueBusy txid) = codes "QueueBusy " ++ decimal txid
+refusal_text names (QueueExists name) = codes "QueueExists " ++ name
+refusal_text names ReadOnly = codes "ReadOnly"
 refusal_text names (ReservedColumn column) = codes "ReservedColumn " ++ column
+refusal_text names ReservedType = codes "ReservedType"
+refusal_text names (SchemaDiffers table) = codes "SchemaDiffers " ++ table
 refusal_text names (Serialize txid) = codes "Serialize " ++ decimal txid
+refusal_text names SetQueue = codes "SetQueue"
 refusal_text names (TableBusy txid) = codes "TableBusy " ++ decimal txid
 refusal_text names (TableExists name) = codes "TableExists " ++ name
+refusal_text names (TableInUse node) = codes "TableInUse " ++ node
 refusal_text names (TickTooOld tick least) = codes "TickTooOld " ++ decimal tick ++ 32 ∷ decimal least
 refusal_text names (TooMany limit) = codes "TooMany " ++ limit_text limit
 refusal_text names (TriggerExists name) = codes "TriggerExists " ++ name
@@ -189,6 +203,7 @@ reply_lines names (QueueInfo queue) = queue_text queue ∷ []
 reply_lines names (BatchInfo batch) = batch_text batch ∷ []
 reply_lines names (ConsumerInfo consumer) = consumer_text consumer ∷ []
 reply_lines names (HeldBack held) = held_text held ∷ []
+reply_lines names (State state) = state_text state ∷ []
 reply_lines names (Refused refusal) = (codes "error " ++ refusal_text names refusal) ∷ []
 
 -- a line of an answer, after its session's name

@@ -7,7 +7,7 @@ use Rattle.sky_val.specs.declared.column.Column.{Column}
 use Rattle.sky_val.specs.Order.{key_cmp}
 use Rattle.sky_val.specs.Entries as entries
 use Rattle.sky_val.specs.Entries.{Entries, at}
-use Rattle.sky_model.specs.History.{ended, tabled, table_made, wrote, History}
+use Rattle.sky_model.specs.History.{ended, tabled, table_made, wrote, read_only, History}
 use Rattle.sky_model.specs.Transactions.{has_committed}
 use Rattle.sky_model.specs.Sessions.{own_txid, sight, place_of_sight}
 
@@ -47,6 +47,12 @@ wrote_in table t [] = false
 wrote_in table t (tabled (wrote who u n key old new) ∷ h) = (n == table && u == t) || wrote_in table t h
 wrote_in table t (ended who u committed ∷ h) = not (u == t) && wrote_in table t h
 wrote_in table t (_ ∷ h) = wrote_in table t h
+
+-- whether sessions may not write a table
+abbrev pub is_read_only : ℕ → History → Bool
+is_read_only table [] = false
+is_read_only table (tabled (read_only n on) ∷ h) = if n == table then on else is_read_only table h
+is_read_only table (_ ∷ h) = is_read_only table h
 
 -- rows without the row of a key
 abbrev pub removed : List Val → Entries (List Val) → Entries (List Val)

@@ -8,20 +8,22 @@ use Rattle.sky_txid.specs.Snapshot.{SnapshotView, snapshot_of}
 use Rattle.sky_keys.specs.Versions.{written, forgotten}
 use Rattle.sky_model.specs.declared.stmt.Attempt.{Attempt}
 use Rattle.sky_model.specs.declared.stmt.Attempt.TheVariants.{Deletion}
-use Rattle.sky_model.specs.History.{Batch, Mark, Whose, of_session, of_worker, began, ended, block_begun, repeats, looked, block_failed, block_ended, connected, disconnected, tabled, TableMark, table_made, wrote, waits, waited, queued, QueueMark, made, raised, put, ticked, registered, moved, unregistered, opened, closed, asked, returned, switching, switched, second_step, configured, dropped, traced, History}
+use Rattle.sky_model.specs.History.{Batch, Mark, Whose, of_session, of_worker, began, ended, block_begun, repeats, looked, block_failed, block_ended, connected, disconnected, tabled, TableMark, table_made, wrote, waits, waited, read_only, noded, NodeMark, queued, QueueMark, made, raised, put, ticked, registered, moved, unregistered, opened, closed, asked, returned, switching, switched, second_step, configured, dropped, traced, untraced, History}
 use Rattle.sky_model.specs.Transactions.{next_txid, running, workers}
 use Rattle.pgq_tables.specs.Tables as tables_of
 use Rattle.pgq_tables.specs.Tables.{Tables, no_tables, new_tables, with_stored, with_pending, with_second_step}
 use Rattle.sky_model.specs.Sessions.{Block, inside, failed, outside, Sight, at_each, at_first, at_place, Session, session}
 use Rattle.sky_model.specs.Config.{Config, default_config}
-use Rattle.sky_model.specs.Rows.{table_names, columns_of, wrote_in}
+use Rattle.sky_model.specs.Rows.{table_names, columns_of, wrote_in, is_read_only}
 use Rattle.sky_model.specs.Versions.{versions}
 use Rattle.sky_model.specs.Locks.{holder, waiting, attempt}
-use Rattle.sky_model.specs.Triggers.{TableTrigger, triggers}
+use Rattle.sky_model.specs.Triggers.{TableTrigger, but_sets, triggers}
 use Rattle.sky_model.specs.Queues.{NamedQueue, queues_made, queues, others_than, config, sequence, tables, without_transaction, Tick, kept_ticks, ticks_above, second_step_of}
 use Rattle.pgq_retry.specs.declared.retry.Retry.{Retry}
 use Rattle.pgq_retry.specs.Retries.{without as without_retry, without_sub}
 use Rattle.sky_model.specs.Retries.{retries}
+use Rattle.londiste_state.specs.Nodes.{Node}
+use Rattle.sky_model.specs.Nodes.{after_node, node}
 use Rattle.sky_model.specs.Consumers.{all_but, consumers, Subscription, subscription, last_subscription, last_batch, of_another, active_batch}
 
 -- a queue, as a statement reads it
@@ -43,6 +45,7 @@ pub record RowPart : Type 0 where
   pub columns : ℕ → List Column
   pub versions : ℕ → Entries (List Version)
   pub wrote_in : (table t : ℕ) → Bool
+  pub is_read_only : ℕ → Bool
   pub holder : Holders
   pub waiting : List Waiting
   pub attempt : ℕ → Attempt
@@ -58,6 +61,7 @@ pub record Database : Type 0 where
   pub batch : ℕ → Option Batch
   pub triggers : List TableTrigger
   pub retries : List Retry
+  pub node : Option Node
 
 abbrev pub queue_of : History → ℕ → Queue
 queue_of h q = record {
@@ -79,6 +83,7 @@ part_of h = record {
   columns = λ n. columns_of n h;
   versions = λ n. versions n h;
   wrote_in = λ n t. wrote_in n t h;
+  is_read_only = λ n. is_read_only n h;
   holder = λ n key. holder n key h;
   waiting = waiting h;
   attempt = λ who. attempt who h;
@@ -95,6 +100,7 @@ database_of h = record {
   batch = λ id. active_batch id h;
   triggers = triggers h;
   retries = retries h;
+  node = node h;
 }
 
 -- the same function except at a number
@@ -186,6 +192,7 @@ after_queue_mark d (dropped q) = record d { queues = others_than q d.queues; que
 after_queue_mark d (traced table name trigger) = record d {
   triggers = d.triggers ++ record { table = table; name = name; trigger = trigger } ∷ [];
 }
+after_queue_mark d (untraced table) = record d { triggers = but_sets table d.triggers }
 
 -- a session after a mark of its own
 abbrev pub with_txid : Option ℕ → Session → Session
@@ -230,6 +237,7 @@ after_table_mark d (waits who table key attempted) = record d {
   attempt = changed_at who (λ _. attempted) d.attempt;
 }
 after_table_mark d (waited who) = record d { waiting = without who d.waiting; attempt = changed_at who (λ _. Deletion) d.attempt }
+after_table_mark d (read_only table on) = record d { is_read_only = changed_at table (λ _. on) d.is_read_only }
 
 -- transactions, sessions and tables after a mark
 abbrev pub after_part : RowPart → Mark → RowPart
@@ -263,6 +271,7 @@ after_part d (connected who) = record d { session = changed_at who (with_open tr
 after_part d (disconnected who) = record d { session = changed_at who (with_open false) d.session }
 after_part d (tabled mark) = after_table_mark d mark
 after_part d (queued mark) = d
+after_part d (noded mark) = d
 
 -- the same after marks, the first one first
 abbrev pub after_part_marks : RowPart → List Mark → RowPart
@@ -286,6 +295,7 @@ after_mark d (block_ended who) = record d { part = after_part d.part (block_ende
 after_mark d (connected who) = record d { part = after_part d.part (connected who) }
 after_mark d (disconnected who) = record d { part = after_part d.part (disconnected who) }
 after_mark d (tabled mark) = record d { part = after_part d.part (tabled mark) }
+after_mark d (noded mark) = record d { node = after_node mark d.node }
 
 -- a database after marks, the first one first
 abbrev pub after_marks : Database → List Mark → Database

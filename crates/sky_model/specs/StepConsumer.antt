@@ -12,13 +12,18 @@ use Rattle.sky_model.specs.Limits.{most_of}
 use Rattle.sky_model.specs.History.{Batch, queued, registered, moved, unregistered, opened, closed}
 use Rattle.sky_model.specs.Queues.{queue_name, Tick, tick, seq_at, id_of, is_above, second_step_of}
 use Rattle.sky_model.specs.Consumers.{Subscription}
+use Rattle.sky_model.specs.Nodes.{is_leafs}
 use Rattle.sky_model.specs.State.{Queue, Database}
 use Rattle.sky_model.specs.Outcome.{Outcome, Checked, ◌>>=◌, ◌>>◌, refused_if, found_or, answers, does_marks}
 use Rattle.sky_model.specs.StepQueue.{queue_called, newest_id}
 
--- a name with a dot in it is a node's
+-- a name with a dot in it
 abbrev pub has_dot : List ℕ → Bool
 has_dot name = list_any (λ b. b == 46) name
+
+-- whether a consumer of the queue of a name is a node's, so that no session may use it: such names have a dot, or are leaves'
+abbrev pub is_nodes : Database → (queue consumer : List ℕ) → Bool
+is_nodes d queue consumer = has_dot consumer || is_leafs queue consumer d.node
 
 -- a new consumer: a subscription with the next id, whose position is a tick
 abbrev pub registers : Database → ℕ → List ℕ → ℕ → Checked Outcome
@@ -31,7 +36,7 @@ registers d queue consumer tick = do
 abbrev pub register_consumer : Database → List ℕ → List ℕ → Checked Outcome
 register_consumer d name consumer = do
   queue ← queue_called name d
-  refused_if (has_dot consumer) NodeConsumer
+  refused_if (is_nodes d name consumer) NodeConsumer
   if is_some ((d.queue queue).sub consumer) then answers (Number 0) else registers d queue consumer (newest_id (d.queue queue))
 
 -- the least tick at which a consumer may register: the oldest that is kept, and while a switch is pending, which drops older ones, the oldest that
@@ -43,7 +48,7 @@ floor q = id_of (find (λ t. is_above (if is_some q.tables.pending then second_s
 abbrev pub register_consumer_at : Database → (name consumer : List ℕ) → ℕ → Checked Outcome
 register_consumer_at d name consumer id = do
   queue ← queue_called name d
-  refused_if (has_dot consumer) NodeConsumer
+  refused_if (is_nodes d name consumer) NodeConsumer
   refused_if (id == 0 || nat_lt (newest_id (d.queue queue)) id) (NoTick id (newest_id (d.queue queue)))
   refused_if (nat_lt id (floor (d.queue queue))) (TickTooOld id (floor (d.queue queue)))
   if is_some ((d.queue queue).sub consumer) then does_marks (Number 0) (queued (moved queue consumer id) ∷ []) else registers d queue consumer id
@@ -57,7 +62,7 @@ leaves queue consumer (Some sub) = does_marks (Number 1) (queued (unregistered q
 abbrev pub unregister_consumer : Database → (name consumer : List ℕ) → Checked Outcome
 unregister_consumer d name consumer = do
   queue ← queue_called name d
-  refused_if (has_dot consumer) NodeConsumer
+  refused_if (is_nodes d name consumer) NodeConsumer
   leaves queue consumer ((d.queue queue).sub consumer)
 
 -- a new batch, from a subscription's position to the tick with the next id, if that is made
@@ -84,7 +89,7 @@ takes_batch d queue consumer sub None = opens_batch d queue consumer sub (tick (
 abbrev pub next_batch : Database → List ℕ → List ℕ → Checked Outcome
 next_batch d name consumer = do
   queue ← queue_called name d
-  refused_if (has_dot consumer) NodeConsumer
+  refused_if (is_nodes d name consumer) NodeConsumer
   sub ← found_or ((d.queue queue).sub consumer) (NoConsumer consumer)
   takes_batch d queue consumer sub sub.active
 
@@ -122,10 +127,16 @@ consumer_info d name consumer = do
   sub ← found_or ((d.queue queue).sub consumer) (NoConsumer consumer)
   answers (ConsumerInfo (consumer_info_of d sub))
 
+-- whether a batch is of a node's consumer
+abbrev pub is_nodes_batch : Database → Batch → Bool
+is_nodes_batch d batch = is_nodes d (queue_name batch.queue d.queues) batch.consumer
+
 -- `finish_batch N`
-abbrev pub finishes : Option Batch → Checked Outcome
-finishes None = answers (Number 0)
-finishes (Some batch) = does_marks (Number 1) (queued (closed batch) ∷ [])
+abbrev pub finishes : Database → Option Batch → Checked Outcome
+finishes d None = answers (Number 0)
+finishes d (Some batch) = do
+  refused_if (is_nodes_batch d batch) NodeConsumer
+  does_marks (Number 1) (queued (closed batch) ∷ [])
 
 abbrev pub finish_batch : Database → ℕ → Checked Outcome
-finish_batch d id = finishes (d.batch id)
+finish_batch d id = finishes d (d.batch id)

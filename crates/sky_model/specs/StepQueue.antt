@@ -1,18 +1,19 @@
 -- What the statements on queues do. Each reads the database `d` as it is.
-use Rattle.std.specs.Prelude.{ℕ, ◌+◌, ◌-◌, ◌*◌, ◌^◌, ℤ, pos, ◌-ℤ◌, ◌*ℤ◌, List, [], ◌∷◌, ◌++◌, Bool, true, false, not, ◌&&◌, ◌||◌, Option, Some, None, option_map, unwrap_or, nat_lt, nat_le, ◌==◌, is_some, length, map, find, int_lt, Ok, if◌then◌else◌}
+use Rattle.std.specs.Prelude.{ℕ, ◌+◌, ◌-◌, ◌*◌, ◌^◌, ℤ, pos, ◌-ℤ◌, ◌*ℤ◌, List, [], ◌∷◌, ◌++◌, Bool, true, false, not, ◌&&◌, ◌||◌, Option, Some, None, option_map, unwrap_or, nat_lt, nat_le, ◌==◌, is_some, bytes_eq, take, length, map, find, int_lt, Ok, if◌then◌else◌}
 use Rattle.std.specs.List.{list_any}
 use Rattle.sky_val.specs.declared.event.Event.{Event}
 use Rattle.sky_model.specs.declared.stmt.Extra.{Extra}
 use Rattle.sky_model.specs.declared.reply.QueueInfo as reply
 use Rattle.sky_model.specs.declared.reply.Reply.TheVariants.{Number, Null, QueueInfo}
 use Rattle.sky_model.specs.declared.reply.Limit.TheVariants.{Queues}
-use Rattle.sky_model.specs.declared.reply.Refusal.TheVariants.{NoQueue, TooMany, HasConsumers, HasTriggers, QueueBusy, EventIdsSpent, IdsSpent, NoParam, BadValue}
+use Rattle.sky_model.specs.declared.reply.Refusal.TheVariants.{NoQueue, TooMany, HasConsumers, HasTriggers, QueueBusy, EventIdsSpent, IdsSpent, NoParam, BadValue, ReservedType, SetQueue}
 use Rattle.sky_model.specs.Limits.{most_of}
 use Rattle.sky_model.specs.History.{queued, made, raised, put, ticked, configured, dropped}
 use Rattle.pgq_tables.specs.Tables.{Tables, by_age}
 use Rattle.sky_model.specs.Queues.{queue_number, is_pending, Tick, newest_tick, id_of}
 use Rattle.sky_model.specs.Config.{Config, param_of, configured_by}
 use Rattle.sky_model.specs.Triggers.{TableTrigger}
+use Rattle.sky_model.specs.Nodes.{is_set_queue}
 use Rattle.sky_model.specs.State.{Queue, Database}
 use Rattle.sky_model.specs.OwnTransaction.{txid_for, written}
 use Rattle.sky_model.specs.Outcome.{Outcome, Checked, ◌>>=◌, ◌>>◌, refused_if, refused_by, found_or, answers, does_marks}
@@ -49,6 +50,7 @@ shown_name t = unwrap_or t.name []
 abbrev pub drop_queue : Database → List ℕ → Checked Outcome
 drop_queue d name = do
   queue ← queue_called name d
+  refused_if (is_set_queue name d.node) SetQueue
   refused_if (not (length (d.queue queue).members == 0)) (HasConsumers (length (d.queue queue).members))
   refused_by (option_map (λ t. HasTriggers (shown_name t)) (first_trigger_into queue d.triggers))
   refused_by (option_map QueueBusy (least_producer d queue))
@@ -81,10 +83,20 @@ next_event_id q = do
   refused_if (nat_le (2 ^ 62) (q.seq + 1)) EventIdsSpent
   Ok (q.seq + 1)
 
+-- whether a text begins with this byte and a colon
+abbrev pub begins_with : (byte : ℕ) → List ℕ → Bool
+begins_with byte text = bytes_eq (take 2 text) (byte ∷ 58 ∷ [])
+
+-- whether events of a type tell of rows: it begins with `I:`, `U:` or `D:`
+abbrev pub tells_of_rows : Option (List ℕ) → Bool
+tells_of_rows None = false
+tells_of_rows (Some text) = begins_with 73 text || begins_with 85 text || begins_with 68 text
+
 -- `insert_event NAME TVAL TVAL`, or with four more TVAL: an event with the next id of the queue's sequence
 abbrev pub insert_event : Database → ℤ → ℕ → List ℕ → Option (List ℕ) → Option (List ℕ) → Option Extra → Checked Outcome
 insert_event d now who name ev_type ev_data extra = do
   queue ← queue_called name d
+  refused_if (is_set_queue name d.node && tells_of_rows ev_type) ReservedType
   t ← txid_for d.part who
   id ← next_event_id (d.queue queue)
   does_marks (Number id)

@@ -4,12 +4,13 @@ use Rattle.sky_val.specs.declared.event.Event.{Event}
 use Rattle.pgq_retry.specs.declared.retry.Retry.{Retry}
 use Rattle.pgq_retry.specs.Retries.{is_asked, due_now}
 use Rattle.sky_model.specs.declared.reply.Reply.TheVariants.{Number}
-use Rattle.sky_model.specs.declared.reply.Refusal.TheVariants.{NoBatch, NoEvent}
+use Rattle.sky_model.specs.declared.reply.Refusal.TheVariants.{NoBatch, NodeConsumer, NoEvent}
 use Rattle.sky_model.specs.History.{Batch, Mark, of_worker, began, ended, queued, put, asked, returned}
 use Rattle.sky_model.specs.Retries.{retried, brought_by}
 use Rattle.sky_model.specs.State.{Database}
 use Rattle.sky_model.specs.OwnTransaction.{next_id}
-use Rattle.sky_model.specs.Outcome.{Outcome, Checked, ◌>>=◌, found_or, answers, does_marks}
+use Rattle.sky_model.specs.Outcome.{Outcome, Checked, ◌>>=◌, ◌>>◌, refused_if, found_or, answers, does_marks}
+use Rattle.sky_model.specs.StepConsumer.{is_nodes_batch}
 
 -- an event of a batch, as its subscription is to get it once more, so many seconds from now
 abbrev pub retry_of : ℤ → ℕ → Batch → Event → Retry
@@ -26,6 +27,7 @@ abbrev pub event_retry : Database → (ℕ → Option (List Event)) → ℤ → 
 event_retry d events_of now id event seconds = do
   events ← found_or (events_of id) NoBatch
   batch ← found_or (d.batch id) NoBatch
+  refused_if (is_nodes_batch d batch) NodeConsumer
   e ← found_or (find (λ e. e.ev_id == event) events) NoEvent
   asks_for d (retry_of now seconds batch e)
 

@@ -22,7 +22,7 @@ use Rattle.sky_model.specs.declared.reply.Limit.TheVariants.{Tables, Columns}
 use Rattle.sky_model.specs.declared.reply.BadRow as bad
 use Rattle.sky_model.specs.declared.reply.BadRow.TheVariants as badly
 use Rattle.sky_model.specs.declared.reply.Refusal.{Refusal}
-use Rattle.sky_model.specs.declared.reply.Refusal.TheVariants.{BadRow, Duplicate, KeyChange, NoKey, NoTable, OutOfRange, ReservedColumn, Serialize, TableExists, TooMany, TwiceNamed}
+use Rattle.sky_model.specs.declared.reply.Refusal.TheVariants.{BadRow, Duplicate, KeyChange, NoKey, NoTable, OutOfRange, ReadOnly, ReservedColumn, Serialize, TableExists, TooMany, TwiceNamed}
 use Rattle.sky_model.specs.declared.stmt.Attempt.{Attempt}
 use Rattle.sky_model.specs.declared.stmt.Attempt.TheVariants.{Insertion, Changes, Deletion}
 use Rattle.sky_model.specs.Limits.{most_of}
@@ -157,6 +157,7 @@ attempts d shown who table key Deletion = changes d shown who table key Deletion
 abbrev pub insert : RowPart → RowsShown → ℕ → List ℕ → List Val → Checked Outcome
 insert d shown who name row = do
   table ← table_called name d
+  refused_if (d.is_read_only table) ReadOnly
   fits (d.columns table) row
   attempts d (shown.key who table (key_of (d.columns table) row)) who table (key_of (d.columns table) row) (Insertion row)
 
@@ -168,6 +169,7 @@ key_stays columns sets = refused_by (option_map (λ (set : Set). KeyChange set.c
 abbrev pub update : RowPart → RowsShown → ℕ → List ℕ → List Val → List Set → Checked Outcome
 update d shown who name key sets = do
   table ← table_called name d
+  refused_if (d.is_read_only table) ReadOnly
   fits (key_columns (d.columns table)) key
   refused_by (option_map BadRow (bad_sets (d.columns table) [] sets))
   key_stays (d.columns table) sets
@@ -177,6 +179,7 @@ update d shown who name key sets = do
 abbrev pub delete : RowPart → RowsShown → ℕ → List ℕ → List Val → Checked Outcome
 delete d shown who name key = do
   table ← table_called name d
+  refused_if (d.is_read_only table) ReadOnly
   fits (key_columns (d.columns table)) key
   attempts d (shown.key who table key) who table key Deletion
 

@@ -4,10 +4,11 @@ use Rattle.std.specs.List.{list_any}
 use Rattle.sky_val.specs.declared.column.Column.{Column}
 use Rattle.sky_model.specs.declared.reply.Reply.TheVariants.{Done}
 use Rattle.sky_model.specs.declared.reply.Limit.TheVariants.{Triggers}
-use Rattle.sky_model.specs.declared.reply.Refusal.TheVariants.{BadColumn, TableBusy, TooMany, TriggerExists}
+use Rattle.sky_model.specs.declared.reply.Refusal.TheVariants.{BadColumn, SetQueue, TableBusy, TooMany, TriggerExists}
 use Rattle.sky_model.specs.Limits.{most_of}
 use Rattle.sky_model.specs.History.{queued, traced}
 use Rattle.sky_model.specs.Triggers.{TableTrigger, triggers_of}
+use Rattle.sky_model.specs.Nodes.{is_set_queue}
 use Rattle.sky_model.specs.State.{Database}
 use Rattle.sky_model.specs.ShownRows.{least_writer}
 use Rattle.sky_model.specs.Outcome.{Outcome, Checked, ◌>>=◌, ◌>>◌, refused_if, refused_by, does_marks}
@@ -32,6 +33,7 @@ abbrev pub add_trigger : Database → (name table queue : List ℕ) → Bool →
 add_trigger d name table_name queue_name backup ignored = do
   table ← table_called table_name d.part
   queue ← queue_called queue_name d
+  refused_if (is_set_queue queue_name d.node) SetQueue
   refused_if (has_trigger name (triggers_of table d.triggers)) (TriggerExists name)
   refused_if (nat_le (most_of Triggers) (length (triggers_of table d.triggers))) (TooMany Triggers)
   refused_by (option_map BadColumn (find (λ column. not (may_ignore (d.part.columns table) column)) ignored))

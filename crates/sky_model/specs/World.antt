@@ -1,6 +1,6 @@
 -- The world, as a statement reads it, and how what happens changes it.
 use Rattle.std.specs.Prelude.{ℕ, ℤ, pos, List, [], ◌∷◌, ◌++◌, Option, Some, None, ◌==◌, if◌then◌else◌}
-use Rattle.sky_model.specs.History.{History, Fact, appeared, founded, entered, left, within, clock_at, daemon_on, daemon_off, Past}
+use Rattle.sky_model.specs.History.{History, Fact, appeared, founded, entered, left, within, clock_at, daemon_on, daemon_off, node_made, Past}
 use Rattle.sky_model.specs.State.{Database, database_of, changed_at, after_mark}
 
 -- the sessions, in the order of appearance: a session's number is its place here
@@ -41,6 +41,12 @@ daemon (daemon_on d ∷ past) database = if d == database then Some (clock past)
 daemon (daemon_off d ∷ past) database = if d == database then None else daemon past database
 daemon (_ ∷ past) database = daemon past database
 
+-- the databases that have a node, in the order of making
+abbrev pub nodes : Past → List ℕ
+nodes [] = []
+nodes (node_made d ∷ past) = nodes past ++ d ∷ []
+nodes (_ ∷ past) = nodes past
+
 -- the world, as a statement reads it
 pub record World : Type 0 where
   pub now : ℤ
@@ -49,6 +55,7 @@ pub record World : Type 0 where
   pub homes : ℕ → Option ℕ
   pub database : ℕ → Database
   pub daemons : ℕ → Option ℤ
+  pub nodes : List ℕ
 
 abbrev pub world_of : Past → World
 world_of past = record {
@@ -58,6 +65,7 @@ world_of past = record {
   homes = home past;
   database = λ d. database_of (history_in past d);
   daemons = daemon past;
+  nodes = nodes past;
 }
 
 -- the world after something happened
@@ -70,6 +78,7 @@ after_fact w (within d mark) = record w { database = changed_at d (λ x. after_m
 after_fact w (clock_at moment) = record w { now = moment }
 after_fact w (daemon_on d) = record w { daemons = changed_at d (λ _. Some w.now) w.daemons }
 after_fact w (daemon_off d) = record w { daemons = changed_at d (λ _. None) w.daemons }
+after_fact w (node_made d) = record w { nodes = w.nodes ++ d ∷ [] }
 
 abbrev pub after_facts : World → List Fact → World
 after_facts w [] = w

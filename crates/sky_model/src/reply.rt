@@ -1,6 +1,7 @@
 ghost use Rattle.std.specs.Prelude.{◌≡◌, [], ◌∷◌, ◌++◌, IfOk, OnOk, OnErr};
 
 use crate::items::Items;
+use londiste_state::TableState;
 use sky_txid::Snapshot;
 use sky_val::{Event, MOST_COLUMNS, NoMemory, Row, SessionId, Text};
 use std::alloc::Global;
@@ -79,6 +80,8 @@ pub type Waiters = Items<SessionId>;
 pub enum Refusal {
     /// The session's transaction block is aborted.
     Aborted,
+    /// The node has the table.
+    AlreadyInSet(Text),
     /// The session has a database open already.
     AlreadyOpen,
     /// This column to ignore is part of the table's key, or no column of it.
@@ -95,6 +98,8 @@ pub enum Refusal {
     Canceled,
     /// The clock would pass its last moment.
     ClockSpent,
+    /// The provider's queue has a consumer of the node's name.
+    ConsumerExists(Text),
     /// These sessions would wait for each other in a cycle: the refused one first, then each time the one that the last
     /// waits for.
     Deadlock(Waiters),
@@ -120,8 +125,12 @@ pub enum Refusal {
     NoEvent,
     /// The consumer is a node's.
     NodeConsumer,
+    /// A node has this name, or the database has a node.
+    NodeExists(Text),
     /// No column of the table is part of its key.
     NoKey,
+    /// There is no such node.
+    NoNode(Text),
     /// A queue has no such parameter.
     NoParam(Text),
     /// The database has no such queue.
@@ -130,20 +139,38 @@ pub enum Refusal {
     NoTable(Text),
     /// The queue has no tick of this id; the newest has that one.
     NoTick(u64, u64),
+    /// The node, or for a leaf that a table is to join its provider's set, doesn't have the table.
+    NotInSet(Text),
+    /// The node is a root.
+    NotLeaf(Text),
     /// The session has no database open.
     NotOpen,
+    /// The node is no root.
+    NotProvider(Text),
     /// The sum leaves the range of numbers in this column.
     OutOfRange(Text),
     /// The transaction of this id is running, and has put an event into the queue.
     QueueBusy(u64),
+    /// The database has a queue of this name.
+    QueueExists(Text),
+    /// The table is in the database's leaf.
+    ReadOnly,
     /// No column may have this name.
     ReservedColumn(Text),
+    /// The queue is a set's, and the type of the event is one of those that tell of rows.
+    ReservedType,
+    /// The table has other columns than the provider's.
+    SchemaDiffers(Text),
     /// The transaction of this id wrote the key; it hadn't committed when the block's snapshot was taken, and has now.
     Serialize(u64),
+    /// The queue is a set's.
+    SetQueue,
     /// The transaction of this id is running, and has written the table.
     TableBusy(u64),
     /// The database has a table of this name.
     TableExists(Text),
+    /// This leaf has the table.
+    TableInUse(Text),
     /// The tick is below the least one at which a consumer may register; both ids.
     TickTooOld(u64, u64),
     /// The limit is reached.
@@ -174,6 +201,7 @@ impl Drop for Refusal {
     fn drop(self) {
         match self {
             Refusal::Aborted => {}
+            Refusal::AlreadyInSet(_) => {}
             Refusal::AlreadyOpen => {}
             Refusal::BadColumn(_) => {}
             Refusal::BadRow(_) => {}
@@ -182,6 +210,7 @@ impl Drop for Refusal {
             Refusal::Busy => {}
             Refusal::Canceled => {}
             Refusal::ClockSpent => {}
+            Refusal::ConsumerExists(_) => {}
             Refusal::Deadlock(_) => {}
             Refusal::Duplicate => {}
             Refusal::EventIdsSpent => {}
@@ -194,18 +223,29 @@ impl Drop for Refusal {
             Refusal::NoConsumer(_) => {}
             Refusal::NoEvent => {}
             Refusal::NodeConsumer => {}
+            Refusal::NodeExists(_) => {}
             Refusal::NoKey => {}
+            Refusal::NoNode(_) => {}
             Refusal::NoParam(_) => {}
             Refusal::NoQueue(_) => {}
             Refusal::NoTable(_) => {}
             Refusal::NoTick(_, _) => {}
+            Refusal::NotInSet(_) => {}
+            Refusal::NotLeaf(_) => {}
             Refusal::NotOpen => {}
+            Refusal::NotProvider(_) => {}
             Refusal::OutOfRange(_) => {}
             Refusal::QueueBusy(_) => {}
+            Refusal::QueueExists(_) => {}
+            Refusal::ReadOnly => {}
             Refusal::ReservedColumn(_) => {}
+            Refusal::ReservedType => {}
+            Refusal::SchemaDiffers(_) => {}
             Refusal::Serialize(_) => {}
+            Refusal::SetQueue => {}
             Refusal::TableBusy(_) => {}
             Refusal::TableExists(_) => {}
+            Refusal::TableInUse(_) => {}
             Refusal::TickTooOld(_, _) => {}
             Refusal::TooMany(_) => {}
             Refusal::TriggerExists(_) => {}
@@ -360,6 +400,8 @@ pub enum Reply {
     ConsumerInfo(ConsumerInfo),
     /// `0` and what holds a switch of event tables back.
     HeldBack(HeldBack),
+    /// The state of a leaf's table.
+    State(TableState),
     /// `error` and the refusal.
     Refused(Refusal),
 }
@@ -388,6 +430,7 @@ impl Drop for Reply {
             Reply::BatchInfo(_) => {}
             Reply::ConsumerInfo(_) => {}
             Reply::HeldBack(_) => {}
+            Reply::State(_) => {}
             Reply::Refused(_) => {}
         }
     }

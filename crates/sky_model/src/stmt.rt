@@ -206,6 +206,34 @@ impl Drop for RowStmt {
     }
 }
 
+/// A statement on the node of a name, which may be another database's than its session's.
+#[derive(Debug)]
+pub enum NodeStmt {
+    /// `create_leaf NAME NAME`: a node and its provider
+    CreateLeaf { name: Text, provider: Text },
+    /// `add_table NAME TABLE`: a node and a table
+    AddTable { name: Text, table: Text },
+    /// `remove_table NAME TABLE`
+    RemoveTable { name: Text, table: Text },
+    /// `table_state NAME TABLE`
+    TableState { name: Text, table: Text },
+}
+
+// By hand, as for the statements on rows.
+impl Drop for NodeStmt {
+    fn drop(self) {
+        match self {
+            NodeStmt::CreateLeaf {
+                name: _,
+                provider: _,
+            } => {}
+            NodeStmt::AddTable { name: _, table: _ } => {}
+            NodeStmt::RemoveTable { name: _, table: _ } => {}
+            NodeStmt::TableState { name: _, table: _ } => {}
+        }
+    }
+}
+
 /// A statement, with the words of its line in their order.
 #[derive(Debug)]
 pub enum Stmt {
@@ -304,6 +332,13 @@ pub enum Stmt {
         backup: bool,
         ignored: ColumnNames,
     },
+    /// `create_root NAME NAME`: a node and its queue
+    CreateRoot {
+        name: Text,
+        queue: Text,
+    },
+    /// one on nodes of other databases too
+    Node(NodeStmt),
     /// `clock +INTERVAL`, with the interval in microseconds
     Clock {
         time: i64,
@@ -374,6 +409,8 @@ impl Drop for Stmt {
                 backup: _,
                 ignored: _,
             } => {}
+            Stmt::CreateRoot { name: _, queue: _ } => {}
+            Stmt::Node(_) => {}
             Stmt::Clock { time: _ } => {}
             Stmt::PgqdOn => {}
             Stmt::PgqdOff => {}

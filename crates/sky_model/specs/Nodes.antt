@@ -1,0 +1,60 @@
+-- The node of a database: what it became by what happened to it.
+use Rattle.std.specs.Prelude.{List, ℕ, [], ◌∷◌, ◌&&◌, ◌||◌, Bool, false, Option, Some, None, option_map, bytes_eq}
+use Rattle.londiste_state.specs.declared.state.TableState.TheVariants.{CatchingUp}
+use Rattle.londiste_state.specs.Nodes.{LeafTable, Root, Leaf, Node, of_root, of_leaf, is_among, changed_in, with_root_table, without_root_table, with_consumer, without_consumer, with_leaf_table, without_leaf_table, with_state}
+use Rattle.sky_txid.specs.Snapshot.{SnapshotView}
+use Rattle.sky_model.specs.History.{noded, Pick, ready, copy_of, NodeMark, root_made, listed, unlisted, joined, parted, leaf_made, leaf_added, leaf_removed, state_set, held, copied, applied, restarted, History}
+
+-- a root changed, or a leaf
+abbrev pub at_root : (Root → Root) → Node → Node
+at_root change (of_root r) = of_root (change r)
+at_root change (of_leaf l) = of_leaf l
+
+abbrev pub at_leaf : (Leaf → Leaf) → Node → Node
+at_leaf change (of_root r) = of_root r
+at_leaf change (of_leaf l) = of_leaf (change l)
+
+-- a table whose copy ended, under a snapshot, and whose consumer is at a tick
+abbrev pub with_copy : SnapshotView → ℕ → LeafTable → LeafTable
+with_copy snapshot tick t = record t { state = CatchingUp; snapshot = Some snapshot; tick = tick }
+
+-- a table whose copy has applied batches up to a tick
+abbrev pub with_tick : ℕ → LeafTable → LeafTable
+with_tick tick t = record t { tick = tick }
+
+-- a leaf that has applied batches up to a tick
+abbrev pub with_applied : Pick → ℕ → Leaf → Leaf
+with_applied ready tick l = record l { tick = tick }
+with_applied (copy_of table) tick l = record l { tables = changed_in table (with_tick tick) l.tables }
+
+-- a database's node after something happened to it
+abbrev pub after_node : NodeMark → Option Node → Option Node
+after_node (root_made name queue) n = Some (of_root (record { name = name; queue = queue; tables = []; consumers = [] }))
+after_node (listed table) n = option_map (at_root (with_root_table table)) n
+after_node (unlisted table) n = option_map (at_root (without_root_table table)) n
+after_node (joined consumer) n = option_map (at_root (with_consumer consumer)) n
+after_node (parted consumer) n = option_map (at_root (without_consumer consumer)) n
+after_node (leaf_made name provider tick) n = Some (of_leaf (record { name = name; provider = provider; tick = tick; tables = [] }))
+after_node (leaf_added table) n = option_map (at_leaf (with_leaf_table table)) n
+after_node (leaf_removed table) n = option_map (at_leaf (without_leaf_table table)) n
+after_node (state_set table state) n = option_map (at_leaf (with_state table state)) n
+after_node (held table tick) n = n
+after_node (copied table snapshot tick) n = option_map (at_leaf (λ l. record l { tables = changed_in table (with_copy snapshot tick) l.tables })) n
+after_node (applied pick tick) n = option_map (at_leaf (with_applied pick tick)) n
+after_node (restarted table) n = n
+
+-- the node of a database, if it has one
+abbrev pub node : History → Option Node
+node [] = None
+node (noded mark ∷ h) = after_node mark (node h)
+node (_ ∷ h) = node h
+
+-- whether the queue of a name is a set's
+abbrev pub is_set_queue : List ℕ → Option Node → Bool
+is_set_queue queue (Some (of_root r)) = bytes_eq queue r.queue
+is_set_queue queue _ = false
+
+-- whether a consumer of the queue of a name is a leaf's
+abbrev pub is_leafs : (queue consumer : List ℕ) → Option Node → Bool
+is_leafs queue consumer (Some (of_root r)) = bytes_eq queue r.queue && is_among consumer r.consumers
+is_leafs queue consumer _ = false

@@ -1,0 +1,122 @@
+-- What is done to the node of a database, and by it. Each reads the database `d` as it is.
+use Rattle.std.specs.Prelude.{ℕ, ℤ, ◌+◌, List, [], ◌∷◌, ◌++◌, false, true, Option, Some, None, option_map, is_some, nat_le, length, Ok, if◌then◌else◌}
+use Rattle.std.specs.Option.{option_and_then}
+use Rattle.sky_urlenc.specs.RowEvents.{Trigger}
+use Rattle.sky_names.specs.Places.{place_of}
+use Rattle.londiste_state.specs.declared.state.TableState.{TableState}
+use Rattle.londiste_state.specs.Nodes.{Root, Leaf, Node, of_root, of_leaf}
+use Rattle.sky_model.specs.declared.reply.Reply.TheVariants.{Done, Number, Null}
+use Rattle.sky_model.specs.declared.reply.Limit.TheVariants.{Queues, Triggers}
+use Rattle.sky_model.specs.declared.reply.Refusal.TheVariants.{ConsumerExists, NodeExists, NotProvider, QueueExists, TableBusy, TooMany}
+use Rattle.sky_model.specs.Limits.{most_of}
+use Rattle.sky_model.specs.History.{Batch, tabled, read_only, queued, made, unregistered, closed, traced, untraced, noded, root_made, listed, unlisted, joined, parted, leaf_made, leaf_added, leaf_removed, state_set}
+use Rattle.sky_model.specs.Queues.{queue_number}
+use Rattle.sky_model.specs.Triggers.{triggers_of}
+use Rattle.sky_model.specs.Consumers.{Subscription}
+use Rattle.sky_model.specs.State.{Database}
+use Rattle.sky_model.specs.ShownRows.{least_writer}
+use Rattle.sky_model.specs.OwnTransaction.{txid_for, written}
+use Rattle.sky_model.specs.Outcome.{Outcome, Checked, ◌>>=◌, ◌>>◌, refused_if, refused_by, found_or, answers, does_marks}
+use Rattle.sky_model.specs.StepQueue.{newest_id}
+use Rattle.sky_model.specs.StepConsumer.{registers, takes_batch}
+
+-- `create_root NAME NAME`: the root of a set, with the set's queue
+abbrev pub create_root : Database → ℤ → ℕ → (name queue : List ℕ) → Checked Outcome
+create_root d now who name queue = do
+  refused_if (is_some d.node) (NodeExists name)
+  refused_if (is_some (queue_number queue d.queues)) (QueueExists queue)
+  refused_if (nat_le (most_of Queues) (length d.queues)) (TooMany Queues)
+  t ← txid_for d.part who
+  does_marks Done (written who t (d.part.session who) [] ++ queued (made queue t now) ∷ noded (root_made name queue) ∷ [])
+
+-- the queue of a node's set, if it is a root
+abbrev pub set_queue_of : Database → Option Node → Option ℕ
+set_queue_of d (Some (of_root r)) = queue_number r.queue d.queues
+set_queue_of d _ = None
+
+-- the queue of the set of a database's node
+abbrev pub set_queue : Database → Option ℕ
+set_queue d = set_queue_of d d.node
+
+-- a consumer of a leaf is registered at the queue, at its newest tick, which is the answer
+abbrev pub joins : Database → (queue : ℕ) → List ℕ → Checked Outcome
+joins d queue consumer = do
+  refused_if (is_some ((d.queue queue).sub consumer)) (ConsumerExists consumer)
+  registering ← registers d queue consumer (newest_id (d.queue queue))
+  does_marks (Number (newest_id (d.queue queue))) (registering.marks ++ noded (joined consumer) ∷ [])
+
+-- it leaves, if it is there
+abbrev pub parts : (queue : ℕ) → List ℕ → Option Subscription → Checked Outcome
+parts queue consumer None = answers Null
+parts queue consumer (Some sub) = does_marks Done (queued (unregistered queue consumer sub.id) ∷ noded (parted consumer) ∷ [])
+
+-- the trigger of a set: its events go to the set's queue
+abbrev pub set_trigger : ℕ → Trigger
+set_trigger queue = record { queue = queue; backup = false; ignored = [] }
+
+-- a table joins the set of a root: the set's trigger records its writes from now on
+abbrev pub lists : Database → (queue table : ℕ) → List ℕ → Checked Outcome
+lists d queue table name = do
+  refused_if (nat_le (most_of Triggers) (length (triggers_of table d.triggers))) (TooMany Triggers)
+  refused_by (option_map TableBusy (least_writer d.part table))
+  does_marks Done (noded (listed name) ∷ queued (traced table None (set_trigger queue)) ∷ [])
+
+-- it leaves
+abbrev pub unlists : (table : ℕ) → List ℕ → Checked Outcome
+unlists table name = does_marks Done (noded (unlisted name) ∷ queued (untraced table) ∷ [])
+
+-- a table joins a leaf: sessions may not write it from now on
+abbrev pub adds : Database → (table : ℕ) → List ℕ → Checked Outcome
+adds d table name = do
+  refused_by (option_map TableBusy (least_writer d.part table))
+  does_marks Done (noded (leaf_added name) ∷ tabled (read_only table true) ∷ [])
+
+-- it leaves
+abbrev pub removes : (table : ℕ) → List ℕ → Checked Outcome
+removes table name = does_marks Done (noded (leaf_removed name) ∷ tabled (read_only table false) ∷ [])
+
+-- what a database does for a node, its own or another's
+pub data NodeCall : Type 0 where
+  -- a leaf's consumer joins the queue of the database's set; it leaves
+  joining : (consumer : List ℕ) → NodeCall
+  parting : (consumer : List ℕ) → NodeCall
+  -- it takes its next batch; one is finished
+  fetching : (consumer : List ℕ) → NodeCall
+  finishing : (batch : ℕ) → NodeCall
+  -- the database gets a leaf
+  making_leaf : (name provider : List ℕ) (tick : ℕ) → NodeCall
+  -- a table joins the leaf; it leaves; it goes into a state
+  adding : (table : List ℕ) → NodeCall
+  removing : (table : List ℕ) → NodeCall
+  moving : (table : List ℕ) (state : TableState) → NodeCall
+  -- a table joins the set; it leaves
+  listing : (table : List ℕ) → NodeCall
+  unlisting : (table : List ℕ) → NodeCall
+
+-- what is done with something, if it is there
+abbrev pub if_there : {A : Type 0} → Option A → (A → Checked Outcome) → Checked Outcome
+if_there None next = answers Null
+if_there (Some a) next = next a
+
+-- a batch is finished
+abbrev pub closes : Batch → Checked Outcome
+closes batch = does_marks Done (queued (closed batch) ∷ [])
+
+-- the table of a name
+abbrev pub table_number : Database → List ℕ → Option ℕ
+table_number d name = place_of name d.part.tables
+
+-- what a call for a node does
+abbrev pub node_does : Database → NodeCall → Checked Outcome
+node_does d (joining consumer) = if_there (set_queue d) (λ queue. joins d queue consumer)
+node_does d (parting consumer) = if_there (set_queue d) (λ queue. parts queue consumer ((d.queue queue).sub consumer))
+node_does d (fetching consumer) =
+    if_there (set_queue d) (λ queue. if_there ((d.queue queue).sub consumer) (λ sub. takes_batch d queue consumer sub sub.active))
+node_does d (finishing batch) = if_there (d.batch batch) closes
+node_does d (making_leaf name provider tick) =
+    if is_some d.node then answers Null else does_marks Done (noded (leaf_made name provider tick) ∷ [])
+node_does d (adding name) = if_there (table_number d name) (λ table. adds d table name)
+node_does d (removing name) = if_there (table_number d name) (λ table. removes table name)
+node_does d (moving table state) = does_marks Done (noded (state_set table state) ∷ [])
+node_does d (listing name) = if_there (set_queue d) (λ queue. if_there (table_number d name) (λ table. lists d queue table name))
+node_does d (unlisting name) = if_there (table_number d name) (λ table. unlists table name)
