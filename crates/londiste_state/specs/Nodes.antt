@@ -3,9 +3,19 @@ use Rattle.std.specs.Prelude.{ℕ, List, [], ◌∷◌, ◌++◌, Bool, not, Opt
 use Rattle.std.specs.List.{list_any}
 use Rattle.londiste_state.specs.declared.state.TableState.{TableState}
 use Rattle.londiste_state.specs.declared.state.TableState.TheVariants.{Absent}
+use Rattle.londiste_state.specs.declared.node.Node as declared
+use Rattle.londiste_state.specs.declared.node.Node.TheVariants as variants
 pub use Rattle.londiste_state.specs.Kinds.{LeafTable, Root, Leaf}
-pub use Rattle.londiste_state.specs.declared.node.Node.{Node}
-pub use Rattle.londiste_state.specs.declared.node.Node.TheVariants.{Root as of_root, Leaf as of_leaf}
+
+-- a node is a root or a leaf
+abbrev pub Node : Type 0
+Node = declared.Node
+
+pattern abbrev pub of_root : Root → Node
+of_root r = variants.Root r
+
+pattern abbrev pub of_leaf : Leaf → Node
+of_leaf l = variants.Leaf l
 
 -- the name of a node
 abbrev pub node_name : Node → List ℕ

@@ -60,7 +60,7 @@ impl TableState {
         ensures ok { IfOk result (λ state. state_text state ≡ bytes.now) }
 
         // No two states are written alike.
-        ensures each { (state : TableState) → IsState state → state_text state ≡ bytes.now → result ≡ Ok state }
+        ensures read_back { (state : TableState) → IsState state → state_text state ≡ bytes.now → result ≡ Ok state }
         ensures bad { (result ≡ Err StateFault.BadState) ↔ ¬ (IsStateText bytes.now) }
     {
         if let Some(tick) = tick_after(WANNA_SYNC, bytes) {
