@@ -1,34 +1,21 @@
 -- A database's node in a set of replicated tables: the set's root, or a leaf.
-use Rattle.std.specs.Prelude.{ℕ, List, [], ◌∷◌, ◌++◌, Bool, false, not, Option, Some, None, option_map, bytes_eq, filter, find, map, if◌then◌else◌}
+use Rattle.std.specs.Prelude.{ℕ, List, [], ◌∷◌, ◌++◌, Bool, not, Option, None, bytes_eq, filter, find, map, if◌then◌else◌}
 use Rattle.std.specs.List.{list_any}
-use Rattle.sky_txid.specs.Snapshot.{SnapshotView}
 use Rattle.londiste_state.specs.declared.state.TableState.{TableState}
 use Rattle.londiste_state.specs.declared.state.TableState.TheVariants.{Absent}
+use Rattle.londiste_state.specs.declared.node.Node as declared
+use Rattle.londiste_state.specs.declared.node.Node.TheVariants as variants
+pub use Rattle.londiste_state.specs.Kinds.{LeafTable, Root, Leaf}
 
--- a table of a leaf: its state; the snapshot under which it was copied, if it was; and the tick up to which its copy has applied batches
-pub record LeafTable : Type 0 where
-  pub name : List ℕ
-  pub state : TableState
-  pub snapshot : Option SnapshotView
-  pub tick : ℕ
+-- a node is a root or a leaf
+abbrev pub Node : Type 0
+Node = declared.Node
 
--- the root of a set: the set's queue, its tables in the order of joining, and the consumers by which leaves use the queue
-pub record Root : Type 0 where
-  pub name : List ℕ
-  pub queue : List ℕ
-  pub tables : List (List ℕ)
-  pub consumers : List (List ℕ)
+pattern abbrev pub of_root : Root → Node
+of_root r = variants.Root r
 
--- a leaf: the root that provides its tables, the tick up to which it has applied batches, and its tables in the order of joining
-pub record Leaf : Type 0 where
-  pub name : List ℕ
-  pub provider : List ℕ
-  pub tick : ℕ
-  pub tables : List LeafTable
-
-pub data Node : Type 0 where
-  of_root : Root → Node
-  of_leaf : Leaf → Node
+pattern abbrev pub of_leaf : Leaf → Node
+of_leaf l = variants.Leaf l
 
 -- the name of a node
 abbrev pub node_name : Node → List ℕ
