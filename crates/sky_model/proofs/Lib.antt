@@ -58,6 +58,10 @@ pub mod TickOrder
 pub mod Climbing
 pub mod KeptTicks
 pub mod Tripled
+pub mod PendingOwners
+pub mod PlainStatements
+pub mod PendingCalls
+pub mod PendingSwitches
 pub mod RotationLaws
 pub mod ActiveBatches
 pub mod FinishedBatches
