@@ -6,7 +6,7 @@ use Rattle.std.proofs.lemmas.Bool.Decides.{nat_tests}
 use Rattle.std.proofs.lemmas.List.Elements.{All-nil, All-cons, All-head, All-tail, All-weaker, All-filter}
 use Rattle.sky_names.proofs.PlaceLemmas.{same_name}
 use Rattle.pgq_tables.specs.Tables as tables_of
-use Rattle.pgq_tables.specs.Tables.{Tables, no_tables, new_tables, with_stored, with_dead, with_pending, without_pending, with_second_step}
+use Rattle.pgq_tables.specs.Tables.{Tables, no_tables, new_tables, with_stored, with_pending, without_pending, with_second_step}
 use Rattle.sky_model.specs.History.{began, ended, queued, made, switched, History}
 use Rattle.sky_model.specs.Transactions.{snapshot}
 use Rattle.sky_model.specs.Queues.{new_tick, queues_made, queues, is_pending, tables, Tick, ticks, tick, newest_tick, id_of, is_above, ticks_above, second_step_of, kept_ticks}

@@ -60,8 +60,11 @@ pub mod KeptTicks
 pub mod Tripled
 pub mod PendingOwners
 pub mod PlainStatements
+pub mod SwitchingCalls
 pub mod PendingCalls
 pub mod PendingSwitches
+pub mod Periods
+pub mod MadeSwitches
 pub mod RotationLaws
 pub mod ActiveBatches
 pub mod FinishedBatches

@@ -3,7 +3,7 @@ use Rattle.std.proofs.Common.{◌≡◌, ℕ, ℤ, List, [], ◌∷◌, Bool, tr
 use Rattle.std.proofs.lemmas.Bool.Decides.{nat_tests}
 use Rattle.sky_txid.specs.Ids.{contains}
 use Rattle.pgq_tables.specs.Tables as tables_of
-use Rattle.pgq_tables.specs.Tables.{Tables, no_tables, new_tables, with_stored, with_pending, without_pending, with_second_step}
+use Rattle.pgq_tables.specs.Tables.{no_tables, new_tables, with_stored, with_pending, without_pending, with_second_step}
 use Rattle.sky_model.specs.History.{Mark, of_session, of_worker, began, ended, block_begun, block_failed, block_ended, queued, made, put, switching, switched, second_step, dropped, History}
 use Rattle.sky_model.specs.Transactions.{workers}
 use Rattle.sky_model.specs.Sessions.{outside, inside, failed, block, own_txid}

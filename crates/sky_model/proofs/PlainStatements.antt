@@ -11,7 +11,7 @@ use Rattle.sky_model.specs.declared.stmt.Stmt.{Stmt}
 use Rattle.sky_model.specs.declared.stmt.Stmt.TheVariants.{Row, CreateQueue, DropQueue, SetQueueConfig, QueueInfo, InsertEvent, Ticker, ForceTick, RegisterConsumer, RegisterConsumerAt, UnregisterConsumer, NextBatch, GetBatchEvents, GetBatchInfo, EventRetry, FinishBatch, MaintRetryEvents, MaintRotateStep1, MaintRotateStep2, ConsumerInfo, AddTrigger, Clock, PgqdOn, PgqdOff}
 use Rattle.sky_model.specs.declared.reply.Refusal.{Refusal}
 use Rattle.sky_model.specs.declared.reply.Refusal.TheVariants.{Canceled}
-use Rattle.sky_model.specs.History.{Batch, Mark, of_session, of_worker, ended, block_begun, block_failed, block_ended, tabled, wrote, queued, switching, History}
+use Rattle.sky_model.specs.History.{Batch, Mark, of_session, of_worker, ended, block_begun, block_failed, block_ended, tabled, wrote, queued, switching, switched, History}
 use Rattle.sky_model.specs.Queues.{NamedQueue, Tick, tick}
 use Rattle.sky_model.specs.StepRotation.{second_steps, lack_second_step, ends_switches}
 use Rattle.sky_model.specs.Consumers.{Subscription}
@@ -46,11 +46,12 @@ abbrev pub is_outside : Block → Bool
 is_outside outside = true
 is_outside _ = false
 
--- a session in such a block may leave such a mark: it commits outside a block alone, begins none, and no switch is pending by it
+-- a session in such a block may leave such a mark: it commits outside a block alone, begins none, and no switch is pending or made by it
 abbrev pub may_do : Block → ℕ → Mark → Bool
 may_do b who (ended (of_session v) t true) = is_outside b && v == who
 may_do b who (block_begun v) = false
 may_do b who (queued (switching q t)) = false
+may_do b who (queued (switched q time)) = false
 may_do b who _ = true
 
 abbrev pub IsOut : Block → ℕ → History → Type 0

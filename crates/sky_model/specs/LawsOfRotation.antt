@@ -1,8 +1,8 @@
 -- The laws on the rotation of event tables, at each place of each history that calls make.
-use Rattle.std.specs.Prelude.{◌≡◌, ℕ, ◌+◌, ◌%◌, ◌<◌, ◌≤◌, ℤ, List, [], ◌∷◌, ◌++◌, Bool, true, false, not, ◌&&◌, ◌||◌, ◌==◌, Some, None, map, filter, length, slice_get, slice_index_or, is_some, All, Contains, if◌then◌else◌}
+use Rattle.std.specs.Prelude.{◌≡◌, ℕ, ◌+◌, ◌%◌, ◌<◌, ◌≤◌, ℤ, ◌≤ℤ◌, List, [], ◌∷◌, ◌++◌, Bool, true, false, not, ◌&&◌, ◌||◌, ◌==◌, Option, Some, None, map, filter, length, slice_get, slice_index_or, is_some, All, Contains, if◌then◌else◌}
 use Rattle.sky_val.specs.declared.event.Event.{Event}
 use Rattle.pgq_tables.specs.Tables.{Stored, Tables}
-use Rattle.sky_model.specs.History.{Batch, queued, put, switching, switched, History}
+use Rattle.sky_model.specs.History.{Batch, Mark, queued, put, switching, switched, History}
 use Rattle.sky_model.specs.Transactions.{has_ended, has_committed, has_rolled_back}
 use Rattle.sky_model.specs.Queues.{events, tables, ticks, tick, newest_tick, kept_ticks, at_tick, is_above, second_step_of}
 use Rattle.sky_model.specs.Consumers.{subscription_id, position, active_batch}
@@ -10,7 +10,11 @@ use Rattle.sky_model.specs.Batches.{batch_events}
 use Rattle.sky_model.specs.Selection.{selected_in}
 use Rattle.sky_model.specs.State.{queue_of}
 use Rattle.sky_model.specs.StepConsumer.{floor}
-use Rattle.sky_model.specs.StepRotation.{held_by_second_step}
+use Rattle.sky_model.specs.StepRotation.{period_ends, held_by_second_step}
+use Rattle.sky_model.specs.Reader.{database_by_history}
+use Rattle.sky_model.specs.Settling.{marked}
+use Rattle.sky_model.specs.DatabaseCalls.{DatabaseCall, database_does, database_part}
+use Rattle.sky_model.specs.LawsOfRetries.{moment_of}
 use Rattle.sky_model.specs.LawsOfQueues.{Stands}
 use Rattle.sky_model.specs.HistoryPlaces.{IsPlace}
 
@@ -106,3 +110,26 @@ SwitchesWerePending = (p : History) (queue : ℕ) (time : ℤ) → IsPlace (queu
 -- and the transaction of one that is pending hasn't ended
 abbrev pub PendingSwitchesRun : Type 0
 PendingSwitchesRun = (p : History) → IsPlace p → (queue t : ℕ) → (tables queue p).pending ≡ Some t → has_ended p t ≡ false
+
+-- ---- switches and calls
+
+-- at the moment of a call, the rotation period of a queue is over, which began when the queue was made or last switched
+pub record IsOver (p : History) (queue : ℕ) (moment : Option ℤ) : Type 0 where
+  pub now : ℤ
+  pub called : moment ≡ Some now
+  pub over : period_ends (queue_of p queue) ≤ℤ now
+
+-- so it is at each place of a call at which a switch begins to be pending
+abbrev pub SwitchesBeginAfterPeriods : Type 0
+SwitchesBeginAfterPeriods = (h : History) (call : DatabaseCall) (earlier later : List Mark) (queue t : ℕ)
+    → (database_does database_by_history h call).marks ≡ earlier ++ queued (switching queue t) ∷ later → IsOver (marked h earlier) queue (moment_of call)
+
+-- a switch of a queue was made by a call, at its moment; after the call the transaction for which it was pending has committed
+pub record IsMadeBy (h : History) (call : DatabaseCall) (p : History) (queue : ℕ) (time : ℤ) : Type 0 where
+  pub called : moment_of call ≡ Some time
+  pub committed : (t : ℕ) → (tables queue p).pending ≡ Some t → has_committed (database_part.after h call) t ≡ true
+
+-- so it is with each switch that a call makes
+abbrev pub SwitchesAreCommitted : Type 0
+SwitchesAreCommitted = (h : History) (call : DatabaseCall) (earlier later : List Mark) (queue : ℕ) (time : ℤ)
+    → (database_does database_by_history h call).marks ≡ earlier ++ queued (switched queue time) ∷ later → IsMadeBy h call (marked h earlier) queue time

@@ -1,4 +1,6 @@
 use Rattle.sky_model.proofs.RotationLaws as law
+use Rattle.sky_model.proofs.Periods as periods
+use Rattle.sky_model.proofs.MadeSwitches as switches
 use Rattle.sky_model.proofs.laws.rotation_leaves_what_is_needed.Goals as goal
 
 pub returns-clause-tables : goal.returns-clause-tables
@@ -27,3 +29,9 @@ returns-clause-made c = law.switches_were_pending
 
 pub returns-clause-pending : goal.returns-clause-pending
 returns-clause-pending c = law.pending_switches_run
+
+pub returns-clause-period : goal.returns-clause-period
+returns-clause-period c = periods.switches_begin_after_periods
+
+pub returns-clause-commits : goal.returns-clause-commits
+returns-clause-commits c = switches.switches_are_committed
