@@ -6,7 +6,7 @@ use Rattle.std.proofs.lemmas.Bool.Decides.{nat_tests}
 use Rattle.std.proofs.lemmas.List.Elements.{All-nil, All-cons, All-head, All-tail, All-weaker, All-filter}
 use Rattle.sky_names.proofs.PlaceLemmas.{same_name}
 use Rattle.pgq_tables.specs.Tables as tables_of
-use Rattle.pgq_tables.specs.Tables.{Tables, no_tables, new_tables, with_stored, with_dead, with_pending, without_pending, with_second_step}
+use Rattle.pgq_tables.specs.Tables.{Tables, no_tables, new_tables, with_stored, with_pending, without_pending, with_second_step}
 use Rattle.sky_model.specs.History.{began, ended, queued, made, switched, History}
 use Rattle.sky_model.specs.Transactions.{snapshot}
 use Rattle.sky_model.specs.Queues.{new_tick, queues_made, queues, is_pending, tables, Tick, ticks, tick, newest_tick, id_of, is_above, ticks_above, second_step_of, kept_ticks}
@@ -476,6 +476,16 @@ made-kept h l q consumer sub has id t there from =
     let up : Sits h q consumer = sits h l q consumer sub has in
     let later = climbs 0 0 (ticks q h) (position q consumer h) id (climbing h l q).run from (ap is_some there) in
     kept-position h l q id (registered-stands h l q consumer sub has) (omega (arith, up, later)) ∙ there
+
+-- so from there on the kept ticks are those that were made
+pub position-later : (h : History) → Legal h → (q : ℕ) (consumer : List ℕ) (sub : ℕ) → subscription_id q consumer h ≡ Some sub → (id : ℕ)
+    → position q consumer h ≤ id → tick id (kept_ticks q h) ≡ tick id (ticks q h)
+position-later h l q consumer sub has id from = of (tick id (kept_ticks q h)) refl (tick id (ticks q h)) refl
+  where
+    of : (left : Option Tick) → tick id (kept_ticks q h) ≡ left → (all : Option Tick) → tick id (ticks q h) ≡ all → left ≡ all
+    of left is (Some t) there = sym is ∙ made-kept h l q consumer sub has id t there from
+    of None is None there = refl
+    of (Some t) is None there = absurd (cc (sym (kept-made h l q (registered-stands h l q consumer sub has) id t is) ∙ there))
 
 -- the tick after a consumer's position is made if it is kept
 pub next-kept : (h : History) → Legal h → (q : ℕ) (consumer : List ℕ) (sub : ℕ) → subscription_id q consumer h ≡ Some sub → (t : Tick)

@@ -58,6 +58,13 @@ pub mod TickOrder
 pub mod Climbing
 pub mod KeptTicks
 pub mod Tripled
+pub mod PendingOwners
+pub mod PlainStatements
+pub mod SwitchingCalls
+pub mod PendingCalls
+pub mod PendingSwitches
+pub mod Periods
+pub mod MadeSwitches
 pub mod RotationLaws
 pub mod ActiveBatches
 pub mod FinishedBatches

@@ -102,14 +102,14 @@ unsubscribed-empty h q none = of (consumers q h) refl
         absurd (cc (sym first ∙ ap (list_any (λ n. bytes_eq name n)) (sym is) ∙ among-consumers h q name ∙ ap is_some (none name)))
 
 -- but for its subscriptions nothing is kept of such a queue
-record IsBare (h : History) (q : ℕ) : Type 0 where
-  unset : config q h ≡ default_config
-  no_id : sequence q h ≡ 0
-  no_event : tables q h ≡ no_tables
-  no_tick : kept_ticks q h ≡ []
-  no_consumer : consumers q h ≡ []
+pub record IsBare (h : History) (q : ℕ) : Type 0 where
+  pub unset : config q h ≡ default_config
+  pub no_id : sequence q h ≡ 0
+  pub no_event : tables q h ≡ no_tables
+  pub no_tick : kept_ticks q h ≡ []
+  pub no_consumer : consumers q h ≡ []
 
-bare : (h : History) → Legal h → (q : ℕ) → list_any (λ x. x.number == q) (queues h) ≡ false → IsBare h q
+pub bare : (h : History) → Legal h → (q : ℕ) → list_any (λ x. x.number == q) (queues h) ≡ false → IsBare h q
 bare [] start q away = record { unset = refl; no_id = refl; no_event = refl; no_tick = refl; no_consumer = refl }
 bare (ended whose t false ∷ h) (next l fine) q away =
     let b : IsBare h q = bare h l q away in

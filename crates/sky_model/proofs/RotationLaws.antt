@@ -8,21 +8,24 @@ use Rattle.std.proofs.lemmas.List.Elements.{All-nil, All-cons, All-head, All-tai
 use Rattle.sky_val.specs.declared.event.Event.{Event}
 use Rattle.pgq_tables.specs.Tables as tables_of
 use Rattle.pgq_tables.specs.Tables.{Stored, Tables, no_tables, new_tables, with_stored, marked_dead, with_dead, with_pending, without_pending, with_second_step}
-use Rattle.sky_model.specs.History.{ended, queued, made, switched, History}
+use Rattle.sky_model.specs.History.{ended, queued, made, switching, switched, History}
 use Rattle.sky_model.specs.Transactions.{has_rolled_back}
 use Rattle.sky_model.specs.Queues.{queues_made, queues, events, is_pending, tables, ticks, tick, kept_ticks, ticks_above, is_above, second_step_of}
 use Rattle.sky_model.specs.Retries.{brought_by}
 use Rattle.sky_model.specs.State.{queue_of}
 use Rattle.sky_model.specs.StepConsumer.{floor}
-use Rattle.sky_model.specs.LawsOfRotation.{switches, put_while, as_stored, HoldsWhatWasPut, TablesHoldWhatWasPut, is_needed, previous_events, current_events, NeededEventsAreStored, PositionsAreKept, SwitchesDropTicks}
+use Rattle.sky_model.specs.LawsOfRotation.{switches, put_while, as_stored, HoldsWhatWasPut, TablesHoldWhatWasPut, is_needed, previous_events, current_events, NeededEventsAreStored, ActiveBatchesAreStored, PositionsAreKept, NewestTicksAreKept, SwitchesDropTicks, SwitchesBeginFree, SwitchesWerePending, PendingSwitchesRun}
 use Rattle.sky_model.proofs.Legal.{IsQueue, makes, puts, puts_back, begins_switch, makes_switch, ends_switch, drops, Legal, start, next}
 use Rattle.sky_model.proofs.QueueNumbers.{queue-below, others-among, others-apart}
 use Rattle.sky_model.proofs.StandingQueues.{stands-or-new}
 use Rattle.sky_model.proofs.Snapshots.{sound, runs-unended, has_committed-ended}
 use Rattle.sky_model.proofs.Selecting.{committed_at_tick}
 use Rattle.sky_model.proofs.Climbing.{xmin_of, climbing}
-use Rattle.sky_model.proofs.KeptTicks.{cut, base, IsCut, cuts, cut-base, switch-drops, floor-newest, sits-at, some-tick, above-is, position-kept, position-above}
-use Rattle.sky_model.proofs.Tripled.{turned-previous, turned-current, DoesHold, holds, rolled_back-ended, dead-again, alive, cut-ended}
+use Rattle.sky_model.proofs.KeptTicks.{cut, base, IsCut, cuts, cut-base, switch-drops, floor-newest, sits-at, some-tick, above-is, position-kept, position-above, position-later, newest-kept}
+use Rattle.sky_model.proofs.Tripled.{turned-previous, turned-current, DoesHold, holds, rolled_back-ended, dead-again, alive, cut-ended, batch_events-selected}
+use Rattle.sky_model.proofs.PendingOwners.{Settled}
+use Rattle.sky_model.proofs.PendingCalls.{held_calls}
+use Rattle.sky_model.proofs.PendingSwitches.{pending-unended, settled-below, switching-free, switched-pending}
 use Rattle.sky_model.proofs.SnapshotLaws.{legal_place}
 use Rattle.sky_model.proofs.Cases.{by_test}
 
@@ -228,10 +231,16 @@ tables_hold_what_was_put p is queue stands = hold_what_was_put p (legal_place p 
 pub needed_events_are_stored : NeededEventsAreStored
 needed_events_are_stored p is queue stands = needed_are_stored p (legal_place p is) queue stands
 
+pub active_batches_are_stored : ActiveBatchesAreStored
+active_batches_are_stored p is id b active = sym (batch_events-selected p (legal_place p is) id b active)
+
 pub positions_are_kept : PositionsAreKept
 positions_are_kept p is queue consumer sub has =
     let l : Legal p = legal_place p is in
-    record { kept = position-kept p l queue consumer sub has; above = position-above p l queue consumer sub has }
+    record { kept = position-kept p l queue consumer sub has; above = position-above p l queue consumer sub has; later = position-later p l queue consumer sub has }
+
+pub newest_ticks_are_kept : NewestTicksAreKept
+newest_ticks_are_kept p is queue stands = newest-kept p (legal_place p is) queue stands
 
 switch_drops : (p : History) (queue : ℕ) (time : ℤ) → Legal (queued (switched queue time) ∷ p)
     → kept_ticks queue (queued (switched queue time) ∷ p) ≡ filter (is_above (second_step_of (tables queue p))) (kept_ticks queue p)
@@ -242,3 +251,13 @@ switch_drops p queue _ (next l (makes_switch q t time i pends)) =
 
 pub switches_drop_ticks : SwitchesDropTicks
 switches_drop_ticks p queue time is = switch_drops p queue time (legal_place (queued (switched queue time) ∷ p) is)
+
+pub switches_begin_free : SwitchesBeginFree
+switches_begin_free p queue t is = switching-free p queue t (legal_place (queued (switching queue t) ∷ p) is)
+
+pub switches_were_pending : SwitchesWerePending
+switches_were_pending p queue time is = switched-pending p queue time (legal_place (queued (switched queue time) ∷ p) is)
+
+pub pending_switches_run : PendingSwitchesRun
+pending_switches_run p is queue t pends =
+    pending-unended p (legal_place p is) (settled-below is.later p (subst Settled is.below (held_calls is.calls).settled)) queue t pends

@@ -120,11 +120,11 @@ pub after : {A : Type 0} (R : Reply → Type 0) (p : Mark → Bool) (x : Checked
 after R p (Ok a) c gives = gives
 after R p (Err refusal) c gives = tt
 
-checked : {A : Type 0} (R : Reply → Type 0) (p : Mark → Bool) (x : Checked A) (c : A → Checked Outcome) → ((a : A) → Gives R p (c a)) → Gives R p (x >>= c)
+pub checked : {A : Type 0} (R : Reply → Type 0) (p : Mark → Bool) (x : Checked A) (c : A → Checked Outcome) → ((a : A) → Gives R p (c a)) → Gives R p (x >>= c)
 checked R p (Ok a) c gives = gives a
 checked R p (Err refusal) c gives = tt
 
-either : (R : Reply → Type 0) (p : Mark → Bool) (b : Bool) (c e : Checked Outcome) → Gives R p c → Gives R p e → Gives R p (if b then c else e)
+pub either : (R : Reply → Type 0) (p : Mark → Bool) (b : Bool) (c e : Checked Outcome) → Gives R p c → Gives R p e → Gives R p (if b then c else e)
 either R p true c e gives also = gives
 either R p false c e gives also = also
 

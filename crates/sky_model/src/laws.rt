@@ -7,7 +7,7 @@ ghost use Rattle.sky_model.specs.LawsOfLines.{BadWordIsLeast, LinesAreInForm};
 ghost use Rattle.sky_model.specs.LawsOfLocks.{DeadlocksAreRings, HoldersHaveWritten, NothingIsReady, WritersHaveWritten};
 ghost use Rattle.sky_model.specs.LawsOfQueues.{BusyQueuesStand, NewQueuesAreOthers, OtherQueuesKeepNothing, ProducersHaveWork, QueuesOfConsumersStand, QueuesOfTriggersStand};
 ghost use Rattle.sky_model.specs.LawsOfRetries.{EventsComeOnce, RetriesAreCopies, RetriesAreForTheirSubscription, RetriesAreListed, RetriesAreOfActiveBatches, RetriesComeBackAtCalls, RetriesComeBackDue, RetriesWaitOnce};
-ghost use Rattle.sky_model.specs.LawsOfRotation.{NeededEventsAreStored, PositionsAreKept, SwitchesDropTicks, TablesHoldWhatWasPut};
+ghost use Rattle.sky_model.specs.LawsOfRotation.{ActiveBatchesAreStored, NeededEventsAreStored, NewestTicksAreKept, PendingSwitchesRun, PositionsAreKept, SwitchesAreCommitted, SwitchesBeginAfterPeriods, SwitchesBeginFree, SwitchesDropTicks, SwitchesWerePending, TablesHoldWhatWasPut};
 ghost use Rattle.sky_model.specs.LawsOfRows.{RowsAreReadUnderSnapshots};
 ghost use Rattle.sky_model.specs.LawsOfSnapshots.{BatchesAreSelectedBySnapshots, SnapshotsSeeWhatHasEnded};
 ghost use Rattle.sky_model.specs.LawsOfWrites.{EventIdsFollowWrites, EventIdsRise, KeysAreWrittenInTurn, SnapshotsSeeEarlierWriters, StandingRowsFit, WritesAndCommitsHaveOneOrder, WritesAreTold, WritesNameWhatStands, WrittenRowsFit};
@@ -192,11 +192,23 @@ pub fn daemons_work_when_due()
 
 /// The three event tables of a queue that stands have what was put while each was the current one, since it was last
 /// emptied. No switch loses an event that a running transaction has put, or that a consumer at a tick at which one may
-/// register hasn't got yet. The position of each consumer is such a tick, and is kept. A switch drops the ticks that
-/// aren't above the second step of the one before, and no others.
+/// register hasn't got yet; and what is selected of the tables for a batch that is active are its events, of all that
+/// were ever put. The position of each consumer is such a tick, and is kept; so is each later tick, and the newest one.
+/// A switch drops the ticks that aren't above the second step of the one before, and no others. It begins to be pending
+/// for a transaction that hasn't ended, while no other one is, once the rotation period is over, and while neither the
+/// second step of the one before, nor a consumer, nor the newest tick holds it back. One that is made was pending, and is
+/// made at the moment of the call by which its transaction commits; the transaction of one that is pending hasn't ended.
+/// So a transaction commits only once its switches are made, and none is made of one that is rolled back.
 pub fn rotation_leaves_what_is_needed()
     ensures tables { TablesHoldWhatWasPut }
     ensures events { NeededEventsAreStored }
+    ensures batches { ActiveBatchesAreStored }
     ensures positions { PositionsAreKept }
+    ensures newest { NewestTicksAreKept }
     ensures ticks { SwitchesDropTicks }
+    ensures begins { SwitchesBeginFree }
+    ensures period { SwitchesBeginAfterPeriods }
+    ensures made { SwitchesWerePending }
+    ensures commits { SwitchesAreCommitted }
+    ensures pending { PendingSwitchesRun }
 {}
