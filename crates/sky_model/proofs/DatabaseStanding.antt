@@ -19,7 +19,7 @@ use Rattle.sky_model.proofs.DaemonTurns.{same-daemon_does}
 use Rattle.sky_model.specs.Calls.{form, making, statement, database_turn}
 use Rattle.sky_model.specs.SessionMarks.{look_of, Enters, entry_place, enters, entry, failing}
 use Rattle.sky_model.specs.Promises.{after_all}
-use Rattle.sky_model.specs.DatabaseCalls.{DatabaseCall, stepped, entered, failed, worked, IsDatabaseCallInForm, database_does, database_part}
+use Rattle.sky_model.specs.DatabaseCalls.{DatabaseCall, stepped, entered, failed, worked, served, IsDatabaseCallInForm, database_does, database_part}
 use Rattle.sky_model.specs.DatabaseSteps.{DatabaseSteps}
 use Rattle.sky_model.proofs.Legal.{Fine, looks, Chain, Legal, next}
 use Rattle.sky_model.proofs.Marks.{database_of-mark}
@@ -95,6 +95,7 @@ pub same-database_does : (h : History) → Legal h → (call : DatabaseCall) →
 same-database_does h l (stepped who stmt now) = sym (same-turn_at h l now who stmt)
 same-database_does h l (entered who outside) = refl
 same-database_does h l (worked part now) = sym (same-daemon_does database_by_history database_by_itself database_of (λ g. refl) database_of-mark h part now)
+same-database_does h l (served call) = refl
 same-database_does h l (failed who now) = sym (settling-kept h l now (failing (part_of h) who) (failing (part_of h) who) refl (good_does h l (failed who now)))
 
 -- the database after a call

@@ -1,5 +1,5 @@
 -- The moments at which daemons are due, as the clock moves from one to the next.
-use Rattle.std.proofs.Common.{◌≡◌, ◌⊎◌, inl, inr, ℕ, zero, suc, ◌+◌, ◌*◌, ◌/◌, ◌%◌, ◌<◌, ◌≤◌, ℤ, pos, ◌+ℤ◌, ◌-ℤ◌, ◌<ℤ◌, ◌≤ℤ◌, int_lt, unsigned_abs, List, [], ◌∷◌, ◌++◌, Bool, true, false, ◌&&◌, ◌==◌, nat_le, map, length, Option, Some, None, IfSome, option_map, Contains, refl, sym, ◌∙◌, ap, subst, arith, if◌then◌else◌}
+use Rattle.std.proofs.Common.{◌≡◌, ◌⊎◌, inl, inr, ℕ, zero, suc, ◌+◌, ◌*◌, ◌/◌, ◌%◌, ◌<◌, ◌≤◌, ℤ, pos, ◌+ℤ◌, ◌-ℤ◌, ◌<ℤ◌, ◌≤ℤ◌, int_lt, unsigned_abs, List, [], ◌∷◌, ◌++◌, Bool, true, false, ◌&&◌, is_some, ◌==◌, nat_le, map, length, Option, Some, None, IfSome, option_map, Contains, refl, sym, ◌∙◌, ap, subst, arith, if◌then◌else◌}
 use Rattle.std.proofs.lemmas.Int.{ints}
 use Rattle.std.proofs.lemmas.Bool.{eqb-true}
 use Rattle.std.proofs.lemmas.List.Elements.{All-head, All-tail}
@@ -7,18 +7,23 @@ use Rattle.sky_names.specs.Places.{place_of}
 use Rattle.sky_model.specs.declared.daemon.DaemonPart.{DaemonPart}
 use Rattle.sky_model.specs.declared.daemon.DaemonPart.TheVariants.{Tick, Retry, Maintain}
 use Rattle.sky_model.specs.declared.stmt.Stmt.{Stmt}
-use Rattle.sky_model.specs.declared.stmt.Stmt.TheVariants.{Clock, PgqdOn, PgqdOff}
+use Rattle.sky_model.specs.declared.stmt.Stmt.TheVariants.{CreateRoot, Node, Clock, PgqdOn, PgqdOff}
 use Rattle.sky_model.specs.declared.reply.Reply.TheVariants.{Moment}
 use Rattle.sky_model.specs.declared.reply.Refusal.TheVariants.{ClockSpent}
 use Rattle.sky_model.specs.InForm.{IsInForm}
 use Rattle.sky_model.specs.History.{Mark, Fact, appeared, founded, entered, within, clock_at, daemon_on, daemon_off, Past}
-use Rattle.sky_model.specs.World.{world_of, session_names, database_names, home, clock, daemon, on_top}
+use Rattle.sky_model.specs.World.{world_of, history_in, session_names, database_names, home, clock, daemon, on_top}
+use Rattle.sky_model.specs.State.{database_of}
+use Rattle.sky_model.specs.Outcome.{marks_of}
+use Rattle.sky_model.specs.StepNode.{node_does}
+use Rattle.sky_model.specs.NodesOfWorld.{node_called}
+use Rattle.sky_model.proofs.NodeDeeds.{after-node_does}
 use Rattle.sky_model.specs.Settling.{Turn}
 use Rattle.sky_model.specs.Reader.{Reader, within_database, by_past, Deed, answers_with, refuses, appears, idles, followed}
 use Rattle.sky_model.specs.Daemon.{daemon_does, period, is_due_at, first_after, earlier, next_due}
 use Rattle.sky_model.specs.Clock.{deed_in, part_works, daemon_works, daemons_work, at_moment, goes_to, through, last_moment, waits_at}
 use Rattle.sky_model.specs.Clock as statement
-use Rattle.sky_model.specs.Calls.{database_turn, opening, opens, outside_does, is_leaving, left_if, may_make, of_daemon_if, session_does, turn, Call, called, past_of}
+use Rattle.sky_model.specs.Calls.{database_turn, opening, opens, outside_does, is_leaving, left_if, may_make, of_daemon_if, begins_with_ok, node_if, does_at, session_does, turn, Call, called, past_of}
 use Rattle.sky_model.specs.Steps.{IsCallInForm}
 use Rattle.sky_model.specs.LawsOfDaemons.{AreOnSince, DaemonsHaveStarted, IsDue, IsFirstDue, IsNextDue, NextDueIsFirst, RiseFrom, at_moments, DaemonsWorkWhenDue}
 use Rattle.sky_model.proofs.PastHistories.{on_top-append}
@@ -401,13 +406,27 @@ started-outside : (past : Past) (who : ℕ) (stmt : Stmt) (name : Option (List �
 started-outside past who stmt None since = since
 started-outside past who stmt (Some name) since = started-opens past who stmt name (place_of name (database_names past)) since
 
-started-session : (past : Past) (who : ℕ) (stmt : Stmt) (at : Option ℕ) → AreStarted past → AreStarted (on_top past (session_does by_past past who stmt at).facts)
-started-session past who stmt None since = started-outside past who stmt (opening stmt) since
-started-session past who stmt (Some d) since =
+keep-node : (b : Bool) (d : ℕ) → Keep (node_if b d)
+keep-node true d past since = since
+keep-node false d past since = since
+
+started-at : (past : Past) (who : ℕ) (stmt : Stmt) (d : ℕ) → AreStarted past → AreStarted (on_top past (does_at by_past past who stmt d).facts)
+started-at past who (Node stmt) d since =
+    after-node_does AreStarted (λ p e since. since) (λ p e call since. keep-marks e (marks_of (node_does (database_of (history_in p e)) call)) p since) past who stmt d
+    (keep-deed d [] (database_turn (within_database by_past d) past (clock past) who (Node stmt)) (λ p still. still) past since) since
+started-at past who (CreateRoot name queue) d since =
+    let turn_within : Turn = database_turn (within_database by_past d) past (clock past) who (CreateRoot name queue) in
+    started-if past (may_make ((world_of past).database d) who (CreateRoot name queue) && is_some (node_called (world_of past) name)) _ _ since
+    (keep-deed d (node_if (begins_with_ok turn_within.answers) d) turn_within (keep-node (begins_with_ok turn_within.answers) d) past since)
+started-at past who stmt d since =
     let gone : List Fact = left_if who (is_leaving (waits_at (world_of past) who (Some d)) stmt) in
     let put : List Fact = of_daemon_if (may_make ((world_of past).database d) who stmt) d (daemon past d) stmt in
     keep-deed d (gone ++ put) (database_turn (within_database by_past d) past (clock past) who stmt)
     (keep-append gone put (keep-left who (is_leaving (waits_at (world_of past) who (Some d)) stmt)) (keep-daemon (may_make ((world_of past).database d) who stmt) d (daemon past d) stmt)) past since
+
+started-session : (past : Past) (who : ℕ) (stmt : Stmt) (at : Option ℕ) → AreStarted past → AreStarted (on_top past (session_does by_past past who stmt at).facts)
+started-session past who stmt None since = started-outside past who stmt (opening stmt) since
+started-session past who stmt (Some d) since = started-at past who stmt d since
 
 started-statement : (past : Past) (who : ℕ) (stmt : Stmt) → IsInForm stmt → AreStarted past → AreStarted (on_top past (turn by_past who stmt past).facts)
 started-statement past who (Clock time) form since = started-clock past who time (waits_at (world_of past) who (home past who)) form.0 since

@@ -1,5 +1,5 @@
 -- Whatever is called, the history of each database is one that its own calls make; and those are legal.
-use Rattle.std.proofs.Common.{zero, suc, ◌≡◌, All, ℕ, ℤ, List, [], ◌∷◌, ◌++◌, Bool, true, false, nat_le, ◌+◌, ◌^◌, arith, Option, Some, None, Ok, Err, map, length, refl, sym, ◌∙◌, ap, subst, if◌then◌else◌}
+use Rattle.std.proofs.Common.{zero, suc, ◌≡◌, All, ℕ, ℤ, List, [], ◌∷◌, ◌++◌, Bool, true, false, ◌&&◌, is_some, nat_le, ◌+◌, ◌^◌, arith, Option, Some, None, Ok, Err, map, length, refl, sym, ◌∙◌, ap, subst, if◌then◌else◌}
 use Rattle.sky_model.specs.StepRetry.{most_back, maint_retry_events}
 use Rattle.sky_model.specs.Retries.{retries}
 use Rattle.std.proofs.lemmas.List.Elements.{All-nil, All-cons, All-head, All-tail, All-weaker}
@@ -11,7 +11,7 @@ use Rattle.sky_model.specs.History.{Mark, History, Fact, appeared, founded, ente
 use Rattle.sky_model.specs.Sessions.{has_open, block, session}
 use Rattle.sky_model.specs.Locks.{waiting}
 use Rattle.sky_model.specs.State.{part_of, queue_of, database_of}
-use Rattle.sky_model.specs.Outcome.{Outcome, Checked, ◌>>◌, refused_if, answers, does_marks, reply_of}
+use Rattle.sky_model.specs.Outcome.{Outcome, Checked, ◌>>◌, refused_if, answers, does_marks, reply_of, marks_of}
 use Rattle.sky_model.specs.Allowed.{allowed}
 use Rattle.sky_model.specs.World.{world_of, history_in, on_top, session_names, database_names, home}
 use Rattle.sky_model.specs.Reader.{database_by_history, within_part, within_database, by_past, Deed, appears}
@@ -20,7 +20,7 @@ use Rattle.sky_model.specs.Settling.{Turn, marked, and_then}
 use Rattle.sky_model.specs.Clock.{deed_in, waits_at}
 use Rattle.sky_model.specs.declared.daemon.DaemonPart.{DaemonPart}
 use Rattle.sky_model.specs.declared.daemon.DaemonPart.TheVariants.{Tick, Retry, Maintain}
-use Rattle.sky_model.specs.declared.stmt.Stmt.TheVariants.{Clock}
+use Rattle.sky_model.specs.declared.stmt.Stmt.TheVariants.{CreateRoot, Node, Clock}
 use Rattle.sky_model.specs.declared.reply.Reply.TheVariants.{Number, Null}
 use Rattle.sky_model.specs.declared.reply.Refusal.TheVariants.{IdsSpent}
 use Rattle.sky_model.specs.Queues.{NamedQueue, queues, ticks, newest_tick}
@@ -33,10 +33,14 @@ use Rattle.sky_model.proofs.Rotating.{may_rotate, rotates-stay, may_end_switches
 use Rattle.sky_model.specs.StepRotation.{held_back, rotates_by_itself}
 use Rattle.sky_model.proofs.DaemonTurns.{same-daemon_does}
 use Rattle.sky_model.proofs.ClockSteps.{after-clock}
-use Rattle.sky_model.specs.Calls.{database_turn, opening, opens, outside_does, beside, session_does, turn, Call, called, past_of}
+use Rattle.sky_model.specs.StepNode.{NodeCall, node_does}
+use Rattle.sky_model.specs.NodesOfWorld.{node_called}
+use Rattle.sky_model.proofs.NodeCalls.{node-chain}
+use Rattle.sky_model.proofs.NodeDeeds.{node-quiet, after-node_does}
+use Rattle.sky_model.specs.Calls.{may_make, database_turn, opening, opens, outside_does, beside, begins_with_ok, node_if, does_at, session_does, turn, Call, called, past_of}
 use Rattle.sky_model.specs.SessionMarks.{look_of, entry_place, enters, failing}
 use Rattle.sky_model.specs.Promises.{after_all}
-use Rattle.sky_model.specs.DatabaseCalls.{DatabaseCall, stepped, entered, failed, worked, IsDatabaseCallInForm, database_does, database_part}
+use Rattle.sky_model.specs.DatabaseCalls.{DatabaseCall, stepped, entered, failed, worked, served, IsDatabaseCallInForm, database_does, database_part}
 use Rattle.sky_model.specs.HistoryPlaces.{IsPlace}
 use Rattle.sky_model.specs.Steps.{IsCallInForm}
 use Rattle.sky_model.specs.LawsOfHistories.{HistoriesAreMadeByOwnCalls}
@@ -130,6 +134,7 @@ pub good_does : (h : History) → Legal h → (call : DatabaseCall) → Chain h 
 good_does h l (stepped who stmt now) = good_turn h l now who stmt
 good_does h l (entered who outside) = good_enters h who (takes_sight (entry_place outside) (session h who).sight) (allowed (is_waiting who (waiting h)) (has_open who h) (block who h) (entry_place outside))
 good_does h l (worked part now) = good_daemon_does h l part now
+good_does h l (served call) = node-chain h l call
 good_does h l (failed who now) = good_with_settling-by (within_part database_by_history now) (λ g. g) (database-reads now) h l (failing (part_of h) who) (good_failure h who)
 
 -- so the history that calls make is legal
@@ -199,10 +204,35 @@ made_outside : (formed : Type 0) (past : Past) (who : ℕ) (stmt : Stmt) (name :
 made_outside formed past who stmt None is_form all = all
 made_outside formed past who stmt (Some name) is_form all = made_opens formed past who stmt name (place_of name (database_names past)) is_form all
 
+made_served : (formed : Type 0) (h : History) (call : NodeCall) → Made formed h → Made formed (marked h (marks_of (node_does (database_of h) call)))
+made_served formed h call made = record {
+  calls = served call ∷ made.calls;
+  in_form = λ holds. All-cons IsDatabaseCallInForm (served call) made.calls tt (made.in_form holds);
+  make = λ i. marked (made.make i) (marks_of (node_does (database_of (made.make i)) call));
+}
+
+-- a call for a node in a database
+made_called-in : (formed : Type 0) (past : Past) (d : ℕ) (call : NodeCall) → AllMade formed past
+    → AllMade formed (on_top past (map (within d) (marks_of (node_does (database_of (history_in past d)) call))))
+made_called-in formed past d call all = λ n.
+    let marks : List Mark = marks_of (node_does (database_of (history_in past d)) call) in
+    subst (Made formed) (sym (history-marks past d marks n))
+    (by_same (λ b. Made formed (if b then marked (history_in past n) marks else history_in past n)) d n
+    (λ same. subst (λ m. Made formed (marked (history_in past m) marks)) same (made_served formed (history_in past d) call (all d))) (λ _. all n))
+
+made_at : (formed : Type 0) (past : Past) (who : ℕ) (stmt : Stmt) (d : ℕ) → (formed → IsInForm stmt) → AllMade formed past → AllMade formed (on_top past (does_at by_past past who stmt d).facts)
+made_at formed past who (Node stmt) d is_form all =
+    after-node_does (AllMade formed) (λ p e made. made) (made_called-in formed) past who stmt d (made_deed formed past d who (Node stmt) [] (λ p n. refl) is_form all) all
+made_at formed past who (CreateRoot name queue) d is_form all =
+    let turn_within : Turn = database_turn (within_database by_past d) past (world_of past).now who (CreateRoot name queue) in
+    made_if formed past (may_make ((world_of past).database d) who (CreateRoot name queue) && is_some (node_called (world_of past) name)) _ _ all
+    (made_deed formed past d who (CreateRoot name queue) (node_if (begins_with_ok turn_within.answers) d) (node-quiet (begins_with_ok turn_within.answers) d).histories is_form all)
+made_at formed past who stmt d is_form all =
+    made_deed formed past d who stmt (beside (world_of past) who stmt d) (beside-outside (world_of past) who stmt d) is_form all
+
 made_session : (formed : Type 0) (past : Past) (who : ℕ) (stmt : Stmt) (at : Option ℕ) → (formed → IsInForm stmt) → AllMade formed past → AllMade formed (on_top past (session_does by_past past who stmt at).facts)
 made_session formed past who stmt None is_form all = made_outside formed past who stmt (opening stmt) is_form all
-made_session formed past who stmt (Some d) is_form all =
-    made_deed formed past d who stmt (beside (world_of past) who stmt d) (beside-outside (world_of past) who stmt d) is_form all
+made_session formed past who stmt (Some d) is_form all = made_at formed past who stmt d is_form all
 
 -- what a daemon does, by the past and by its database's history
 pub same-daemon-within : (past : Past) (d : ℕ) (part : DaemonPart) (now : ℤ) → daemon_does (within_database by_past d) past part now ≡ daemon_does database_by_history (history_in past d) part now

@@ -1,21 +1,23 @@
 -- Each session has open the database that is its home, whatever is called.
-use Rattle.std.proofs.Common.{◌≡◌, ◌≢◌, ◌⊎◌, inl, inr, ℕ, ℤ, List, [], ◌∷◌, ◌++◌, Bool, true, false, ◌==◌, nat_le, Option, Some, None, Ok, map, length, refl, sym, ◌∙◌, ap, subst, arith, if◌then◌else◌, not}
+use Rattle.std.proofs.Common.{◌≡◌, ◌≢◌, ◌⊎◌, inl, inr, ℕ, ℤ, List, [], ◌∷◌, ◌++◌, Bool, true, false, ◌&&◌, is_some, ◌==◌, nat_le, Option, Some, None, Ok, map, length, refl, sym, ◌∙◌, ap, subst, arith, if◌then◌else◌, not}
 use Rattle.std.proofs.lemmas.Bool.{false_from_ne_true}
 use Rattle.std.proofs.lemmas.Bool.Decides.{nat_tests}
 use Rattle.sky_keys.specs.Waits.{is_waiting}
 use Rattle.sky_names.specs.Places.{place_of}
 use Rattle.sky_model.specs.declared.stmt.Stmt.{Stmt}
 use Rattle.sky_model.specs.declared.daemon.DaemonPart.{DaemonPart}
-use Rattle.sky_model.specs.declared.stmt.Stmt.TheVariants.{Row, Clock}
+use Rattle.sky_model.specs.declared.stmt.Stmt.TheVariants.{Row, CreateRoot, Node, Clock}
 use Rattle.sky_model.specs.declared.stmt.RowStmt.TheVariants.{OpenDb, Close}
 use Rattle.sky_model.specs.declared.stmt.Where.TheVariants.{Anywhere, WhenOpen}
 use Rattle.sky_model.specs.declared.reply.Refusal.TheVariants.{Busy}
-use Rattle.sky_model.specs.History.{Mark, looked, History, Fact, appeared, founded, entered, left, within, Past}
+use Rattle.sky_model.specs.History.{Mark, connected, disconnected, looked, History, Fact, appeared, founded, entered, left, within, Past}
 use Rattle.sky_model.specs.Sessions.{Block, outside, inside, failed, has_open, block, own_txid, session}
 use Rattle.sky_model.specs.Locks.{waiting}
 use Rattle.sky_model.specs.State.{database_of}
 use Rattle.sky_model.specs.World.{home, history_in, session_names, database_names, on_top, world_of}
-use Rattle.sky_model.specs.Outcome.{Outcome, Checked, settled, after_marks_of}
+use Rattle.sky_model.specs.Outcome.{Outcome, Checked, settled, after_marks_of, marks_of}
+use Rattle.sky_model.specs.StepNode.{node_does}
+use Rattle.sky_model.specs.NodesOfWorld.{node_called}
 use Rattle.sky_model.specs.Allowed.{where_of, allowed}
 use Rattle.sky_model.specs.Made.{runs_if}
 use Rattle.sky_model.specs.StepSession.{open_db, close}
@@ -24,13 +26,15 @@ use Rattle.sky_model.specs.Reader.{shown_in, part_by_history, database_by_histor
 use Rattle.sky_model.specs.Settling.{Turn, marked, behind_marks, settling}
 use Rattle.sky_model.specs.Daemon.{daemon_does}
 use Rattle.sky_model.specs.Clock.{deed_in, waits_at}
-use Rattle.sky_model.specs.Calls.{making, statement, database_turn, opening, opens, outside_does, is_leaving, left_if, may_make, of_daemon_if, session_does, turn, Call, called, past_of}
+use Rattle.sky_model.specs.Calls.{making, statement, database_turn, opening, opens, outside_does, is_leaving, left_if, may_make, of_daemon_if, begins_with_ok, node_if, does_at, session_does, turn, Call, called, past_of}
 use Rattle.sky_model.specs.LawsOfHistories.{HomesAreOpen, WaitersHaveOpen, BlocksAreOpen}
 use Rattle.sky_model.proofs.Legal.{Fine, begins_block, fails_block, ends_block, connects, disconnects, Legal, start, next}
 use Rattle.sky_model.proofs.WaitersFit.{waits-open}
 use Rattle.sky_model.proofs.SnapshotLaws.{legal_place}
 use Rattle.sky_model.proofs.Resting.{behind-append}
 use Rattle.sky_model.proofs.PastHistories.{on_top-append, history-marks, AreOutside, history-outside, both-outside, left-outside, AreQuiet, daemon-quiet}
+use Rattle.sky_model.proofs.NodeCalls.{is_for_nodes, each-node}
+use Rattle.sky_model.proofs.NodeDeeds.{node-quiet, after-node_does}
 use Rattle.sky_model.proofs.DaemonTurns.{each-daemon_does}
 use Rattle.sky_model.proofs.ClockSteps.{after-clock}
 use Rattle.sky_model.proofs.Histories.{AllLegal, same-turn-within, legal_past}
@@ -252,21 +256,41 @@ module _ (past : Past) (homed : Homed past) (d who : ℕ) (at_home : home past w
       closing true waits = stays-home (Row Close) (busy-closes (history_in past d) (world_of past).now who waits)
       closing false quiet = leaves-home quiet
 
-homed-session : (past : Past) → AllLegal past → Homed past → (who : ℕ) (stmt : Stmt) (at : Option ℕ) → home past who ≡ at → Homed (on_top past (session_does by_past past who stmt at).facts)
-homed-session past all homed who stmt None is = homed-outside past all homed who stmt (opening stmt) refl is
-homed-session past all homed who stmt (Some d) is =
-    let may : Bool = may_make ((world_of past).database d) who stmt in
-    homed-inside past homed d who is (of_daemon_if may d ((world_of past).daemons d) stmt) (daemon-quiet may d ((world_of past).daemons d) stmt) stmt
-
--- what a daemon does leaves all open as it was
-homed-works : (past : Past) (d : ℕ) (part : DaemonPart) (now : ℤ) → Homed past → Homed (on_top past (map (within d) (daemon_does (within_database by_past d) past part now).marks))
-homed-works past d part now homed v e =
-    let marks : List Mark = (daemon_does (within_database by_past d) past part now).marks in
-    let stay : Stay marks = each-daemon_does is_staying now (λ mark _. refl) (λ r. refl) (λ t. refl) (λ t. refl) (within_database by_past d) past part in
+-- marks that leave all open as it was
+homed-marks : (past : Past) (d : ℕ) (marks : List Mark) → Stay marks → Homed past → Homed (on_top past (map (within d) marks))
+homed-marks past d marks stay homed v e =
     ap (has_open v) (history-marks past d marks e)
     ∙ by_same (λ c. has_open v (if c then marked (history_in past e) marks else history_in past e) ≡ stands (home past v) e) d e
     (λ _. open-stays v (history_in past e) marks stay ∙ homed v e) (λ _. homed v e)
     ∙ ap (λ o. stands o e) (sym (home-marks past d marks v))
+
+for-nodes : (mark : Mark) → is_for_nodes mark ≡ true → is_staying mark ≡ true
+for-nodes (connected who) e = absurd (cc)
+for-nodes (disconnected who) e = absurd (cc)
+for-nodes _ e = refl
+
+homed-at : (past : Past) → AllLegal past → Homed past → (who : ℕ) (stmt : Stmt) (d : ℕ) → home past who ≡ Some d → Homed (on_top past (does_at by_past past who stmt d).facts)
+homed-at past all homed who (Node stmt) d is =
+    after-node_does Homed (λ p e still. still)
+    (λ p e call still. homed-marks p e (marks_of (node_does (database_of (history_in p e)) call)) (each-node is_staying for-nodes (database_of (history_in p e)) call) still) past who stmt d
+    (homed-inside past homed d who is [] (node-quiet false d) (Node stmt)) homed
+homed-at past all homed who (CreateRoot name queue) d is =
+    let turn_within : Turn = database_turn (within_database by_past d) past (world_of past).now who (CreateRoot name queue) in
+    homed-if past (may_make ((world_of past).database d) who (CreateRoot name queue) && is_some (node_called (world_of past) name)) _ _ homed
+    (homed-inside past homed d who is (node_if (begins_with_ok turn_within.answers) d) (node-quiet (begins_with_ok turn_within.answers) d) (CreateRoot name queue))
+homed-at past all homed who stmt d is =
+    let may : Bool = may_make ((world_of past).database d) who stmt in
+    homed-inside past homed d who is (of_daemon_if may d ((world_of past).daemons d) stmt) (daemon-quiet may d ((world_of past).daemons d) stmt) stmt
+
+homed-session : (past : Past) → AllLegal past → Homed past → (who : ℕ) (stmt : Stmt) (at : Option ℕ) → home past who ≡ at → Homed (on_top past (session_does by_past past who stmt at).facts)
+homed-session past all homed who stmt None is = homed-outside past all homed who stmt (opening stmt) refl is
+homed-session past all homed who stmt (Some d) is = homed-at past all homed who stmt d is
+
+-- what a daemon does leaves all open as it was
+homed-works : (past : Past) (d : ℕ) (part : DaemonPart) (now : ℤ) → Homed past → Homed (on_top past (map (within d) (daemon_does (within_database by_past d) past part now).marks))
+homed-works past d part now homed =
+    let marks : List Mark = (daemon_does (within_database by_past d) past part now).marks in
+    homed-marks past d marks (each-daemon_does is_staying now (λ mark _. refl) (λ r. refl) (λ t. refl) (λ t. refl) (within_database by_past d) past part) homed
 
 homed-statement : (past : Past) → AllLegal past → Homed past → (who : ℕ) (stmt : Stmt) → Homed (on_top past (turn by_past who stmt past).facts)
 homed-statement past all homed who (Clock time) = after-clock Homed (λ p moment still. still) homed-works past who time (waits_at (world_of past) who (home past who)) homed

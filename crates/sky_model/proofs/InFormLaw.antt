@@ -83,9 +83,14 @@ forms_end =
     (ends (λ queue is. is)
     (ends tt
     (ends (λ queue is consumer dotted. (is, dotted))
+    (ends (λ name is queue also. (is, also))
+    (ends (λ name is provider also. (is, also))
+    (ends (λ name is table dotted. (is, dotted))
+    (ends (λ name is table dotted. (is, dotted))
+    (ends (λ name is table dotted. (is, dotted))
     (ends (λ time is. is)
     (ends (tt, tt)
-    tt))))))))))))))))))))))))))))))))))))
+    tt)))))))))))))))))))))))))))))))))))))))))
 
 -- ---- after a word
 

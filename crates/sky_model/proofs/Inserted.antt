@@ -3,8 +3,10 @@ use Rattle.std.proofs.Common.{◌≡◌, ℕ, ◌+◌, false, List, [], ◌∷�
 use Rattle.sky_val.specs.declared.event.Event.{Event}
 use Rattle.pgq_retry.specs.declared.retry.Retry.{Retry}
 use Rattle.pgq_retry.specs.Retries.{without as without_retry, without_sub}
-use Rattle.sky_model.specs.History.{Batch, Mark, ended, queued, made, raised, put, ticked, registered, moved, unregistered, opened, closed, asked, returned, switching, switched, second_step, traced, configured, dropped}
-use Rattle.sky_model.specs.Triggers.{TableTrigger}
+use Rattle.sky_model.specs.History.{Batch, Mark, ended, queued, made, raised, put, ticked, registered, moved, unregistered, opened, closed, asked, returned, switching, switched, second_step, traced, untraced, configured, dropped, noded}
+use Rattle.sky_model.specs.Triggers.{TableTrigger, but_sets}
+use Rattle.londiste_state.specs.Nodes.{Node}
+use Rattle.sky_model.specs.Nodes.{after_node}
 use Rattle.sky_model.specs.Queues.{NamedQueue, others_than}
 use Rattle.sky_model.specs.Consumers.{of_another}
 use Rattle.sky_model.specs.State.{RowPart, after_part, Database, changed_at, after_mark, after_marks}
@@ -37,9 +39,10 @@ pub record BesideQueues : Type 0 where
   pub batch : ℕ → Option Batch
   pub triggers : List TableTrigger
   pub retries : List Retry
+  pub node : Option Node
 
 abbrev pub beside : Database → BesideQueues
-beside d = record { part = d.part; last_batch_id = d.last_batch_id; last_sub_id = d.last_sub_id; queues_made = d.queues_made; queues = d.queues; batch = d.batch; triggers = d.triggers; retries = d.retries }
+beside d = record { part = d.part; last_batch_id = d.last_batch_id; last_sub_id = d.last_sub_id; queues_made = d.queues_made; queues = d.queues; batch = d.batch; triggers = d.triggers; retries = d.retries; node = d.node }
 
 -- a mark changes it alike
 beside-mark : (d e : Database) (mark : Mark) → beside d ≡ beside e → beside (after_mark d mark) ≡ beside (after_mark e mark)
@@ -67,6 +70,8 @@ beside-mark d e (queued (dropped queue)) same = λ i. record (same i) { queues =
 beside-mark d e (queued (traced table name trigger)) same = λ i. record (same i) {
   triggers = (same i).triggers ++ record { table = table; name = name; trigger = trigger } ∷ [];
 }
+beside-mark d e (queued (untraced table)) same = λ i. record (same i) { triggers = but_sets table (same i).triggers }
+beside-mark d e (noded mark) same = λ i. record (same i) { node = after_node mark (same i).node }
 beside-mark d e mark same = λ i. record (same i) { part = after_part (same i).part mark }
 
 beside-alike : (d e : Database) {xs ys : List Mark} → Inserted xs ys → beside d ≡ beside e → beside (after_marks d ys) ≡ beside (after_marks e xs)

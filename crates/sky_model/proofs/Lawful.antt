@@ -1,14 +1,15 @@
 -- Whatever is called of a database, its history is legal.
-use Rattle.std.proofs.Common.{Bool, ◌≡◌, All, ℕ, suc, zero, ℤ, ◌+◌, ◌<◌, List, [], ◌∷◌, ◌++◌, true, false, ◌==◌, ◌||◌, ◌≤◌, nat_le, nat_lt, Option, Some, None, Ok, Err, is_ok, option_map, unwrap_or, find, not, length, is_some, refl, sym, ◌∙◌, ap, subst, arith, ◌^◌, if◌then◌else◌}
+use Rattle.std.proofs.Common.{Bool, ◌≡◌, All, ℕ, suc, zero, ℤ, ◌+◌, ◌<◌, List, [], ◌∷◌, ◌++◌, true, false, ◌==◌, ◌||◌, ◌&&◌, ◌≤◌, nat_le, nat_lt, Option, Some, None, Ok, Err, is_ok, option_map, unwrap_or, find, not, length, is_some, refl, sym, ◌∙◌, ap, subst, arith, ◌^◌, if◌then◌else◌}
 use Rattle.std.proofs.lemmas.Bool.{cond_both}
 use Rattle.std.proofs.lemmas.Bool.Decides.{nat_tests}
 use Rattle.sky_model.specs.declared.stmt.Stmt.{Stmt}
 use Rattle.sky_model.specs.declared.stmt.Extra.{Extra}
 use Rattle.sky_model.specs.declared.stmt.RowStmt.{RowStmt}
-use Rattle.sky_model.specs.declared.stmt.Stmt.TheVariants.{Row, CreateQueue, DropQueue, SetQueueConfig, QueueInfo, InsertEvent, Ticker, ForceTick, RegisterConsumer, RegisterConsumerAt, UnregisterConsumer, NextBatch, GetBatchEvents, GetBatchInfo, EventRetry, FinishBatch, MaintRetryEvents, MaintRotateStep1, MaintRotateStep2, ConsumerInfo, AddTrigger, Clock, PgqdOn, PgqdOff}
-use Rattle.sky_model.specs.declared.reply.Reply.TheVariants.{Number}
+use Rattle.sky_model.specs.declared.stmt.Stmt.TheVariants.{Row, CreateQueue, DropQueue, SetQueueConfig, QueueInfo, InsertEvent, Ticker, ForceTick, RegisterConsumer, RegisterConsumerAt, UnregisterConsumer, NextBatch, GetBatchEvents, GetBatchInfo, EventRetry, FinishBatch, MaintRetryEvents, MaintRotateStep1, MaintRotateStep2, ConsumerInfo, AddTrigger, CreateRoot, Node, Clock, PgqdOn, PgqdOff}
+use Rattle.sky_model.specs.declared.reply.Reply.{Reply}
+use Rattle.sky_model.specs.declared.reply.Reply.TheVariants.{Number, Done}
 use Rattle.sky_model.specs.declared.reply.Limit.TheVariants.{Queues, Triggers}
-use Rattle.sky_model.specs.declared.reply.Refusal.TheVariants.{BadColumn, BadValue, HasConsumers, HasTriggers, NoParam, NoQueue, NoTable, QueueBusy, TableBusy, TooMany, TriggerExists, TxidsSpent, EventIdsSpent, NoBatch, NoConsumer, NoEvent}
+use Rattle.sky_model.specs.declared.reply.Refusal.TheVariants.{BadColumn, BadValue, NodeConsumer, NodeExists, QueueExists, ReservedType, SetQueue, HasConsumers, HasTriggers, NoParam, NoQueue, NoTable, QueueBusy, TableBusy, TooMany, TriggerExists, TxidsSpent, EventIdsSpent, NoBatch, NoConsumer, NoEvent}
 use Rattle.sky_keys.specs.Waits.{Waiting, is_waiting}
 use Rattle.pgq_retry.specs.declared.retry.Retry.{Retry}
 use Rattle.pgq_retry.specs.Retries.{is_asked, due_now}
@@ -16,7 +17,7 @@ use Rattle.sky_model.specs.Batches.{batch_events}
 use Rattle.sky_model.specs.Retries.{retries}
 use Rattle.sky_model.specs.StepRetry.{retry_of, brings, most_back, maint_retry_events, back}
 use Rattle.sky_names.specs.Places.{place_of}
-use Rattle.sky_model.specs.History.{Batch, Mark, of_session, of_worker, began, ended, looked, tabled, waited, queued, made, raised, put, moved, unregistered, opened, closed, History}
+use Rattle.sky_model.specs.History.{Batch, Mark, of_session, of_worker, began, ended, looked, tabled, waited, queued, made, raised, put, moved, unregistered, opened, closed, noded, root_made, History}
 use Rattle.sky_model.specs.Transactions.{next_txid, running, workers}
 use Rattle.sky_model.specs.Sessions.{Block, outside, inside, failed, has_open, block, own_txid, session}
 use Rattle.sky_model.specs.Rows.{table_names, columns_of}
@@ -25,6 +26,8 @@ use Rattle.sky_model.specs.StepTrigger.{has_trigger, may_ignore}
 use Rattle.sky_model.specs.Config.{param_of, configured_by}
 use Rattle.sky_model.specs.Queues.{queues, queue_number, config, Tick, ticks, kept_ticks, tick, newest_tick, sequence, events, tables}
 use Rattle.sky_model.specs.Consumers.{consumers, subscription_id, position, active, Subscription, subscription, active_batch}
+use Rattle.sky_model.specs.Nodes.{node, is_set_queue}
+use Rattle.sky_model.specs.StepNode.{create_root}
 use Rattle.sky_model.specs.Locks.{waiting}
 use Rattle.sky_model.specs.State.{RowPart, part_of, queue_of, database_of}
 use Rattle.sky_model.specs.ShownRows.{RowsShown, rows_in, least_writer}
@@ -32,16 +35,16 @@ use Rattle.sky_model.specs.OwnTransaction.{own_or_next, begin_of, commit_of, wri
 use Rattle.sky_model.specs.Outcome.{Outcome, Checked, ◌>>=◌, ◌>>◌, refused_if, answers, does_marks, after_marks_of, abort, settled, marks_of}
 use Rattle.sky_model.specs.Allowed.{where_of_row, where_of, allowed}
 use Rattle.sky_model.specs.StepRows.{attempts}
-use Rattle.sky_model.specs.StepQueue.{create_queue, first_trigger_into, shown_name, has_part_in, least_producer, insert_event, next_tick, is_due, forced, newest_id, next_event_id, made_event}
+use Rattle.sky_model.specs.StepQueue.{create_queue, first_trigger_into, shown_name, has_part_in, least_producer, tells_of_rows, insert_event, next_tick, is_due, forced, newest_id, next_event_id, made_event}
 use Rattle.sky_model.specs.Queues.{id_of}
 use Rattle.sky_model.specs.declared.stmt.RowStmt.TheVariants.{Commit}
-use Rattle.sky_model.specs.StepConsumer.{floor, has_dot, registers as registers_at, leaves, opens_batch, takes_batch, finishes}
+use Rattle.sky_model.specs.StepConsumer.{floor, is_nodes, is_nodes_batch, registers as registers_at, leaves, opens_batch, takes_batch, finishes}
 use Rattle.sky_model.specs.Reader.{shown_in, PartReader, part_by_history, database_by_history, within_part}
 use Rattle.sky_model.specs.Gates.{Gate, takes_all, gated, by_gate}
 use Rattle.sky_model.specs.Made.{takes_sight, looking, runs_if}
 use Rattle.sky_model.specs.Settling.{Turn, turn_of, behind_marks, and_then, ready, attempted, resumed, goes_on, settles, settling, with_settling}
 use Rattle.sky_model.specs.Calls.{row_form, form, row_making, making, row_statement, row_turn, statement, database_turn, turn}
-use Rattle.sky_model.proofs.Legal.{MayWait, IsQueue, begins, ends, looks, begins_work, ends_work, ends_waiting, makes, asks, raises, puts, ticks_next, registers, opens as opens_fine, closes, moves, unregisters, configures, drops, traces, Chain, done, more, Legal, next}
+use Rattle.sky_model.proofs.Legal.{MayWait, IsQueue, begins, ends, looks, begins_work, ends_work, ends_waiting, makes, asks, raises, puts, ticks_next, registers, opens as opens_fine, closes, moves, unregisters, configures, drops, traces, nodes, Chain, done, more, Legal, next}
 use Rattle.sky_model.proofs.Good.{MayStand, Good, same-session, good_test, good_test_then, good_found, good_if, good_refused, good_refused_by, good_commits}
 use Rattle.sky_model.proofs.RowOutcomes.{OfRows, attempts-rows, form-rows}
 use Rattle.sky_model.proofs.LawfulTelling.{good_append, legal_behind, good_tells}
@@ -71,31 +74,44 @@ active_batch-id (queued (moved q name tick) ∷ h) id batch is = active_batch-id
 active_batch-id (queued (unregistered q name sub) ∷ h) id batch is = active_batch-id h id batch (of_another-is q name (active_batch id h) batch is).0
 active_batch-id (_ ∷ h) id batch is = active_batch-id h id batch is
 
+-- a queue is made by a transaction of the session, and then others may come
+good_makes : (h : History) (now : ℤ) (who : ℕ) (name : List ℕ) (reply : Reply) (rest : List Mark) → ((g : History) → Chain g rest) → queue_number name (queues h) ≡ None
+    → Good h who (own_or_next (part_of h) (own_txid who h) >>= (λ t. does_marks reply (written who t (session h who) [] ++ queued (made name t now) ∷ rest)))
+good_makes h now who name reply rest good new = by_own (own_txid who h) refl
+  where
+    body : (g : History) (t : ℕ) (b : Block) → own_txid who g ≡ Some t → queue_number name (queues g) ≡ None → Chain g (commit_of who t b ++ queued (made name t now) ∷ rest)
+    body g t outside mine free = more (ends who t true mine) (more (makes name t now free) (good _))
+    body g t _ mine free = more (makes name t now free) (good _)
+
+    by_own : (o : Option ℕ) → own_txid who h ≡ o → Good h who (own_or_next (part_of h) o >>= (λ t.
+        does_marks reply ((begin_of who t o ++ [] ++ commit_of who t (block who h)) ++ queued (made name t now) ∷ rest)))
+    by_own None none =
+        good_test_then h who (nat_le (2 ^ 62) (next_txid h)) TxidsSpent (next_txid h) _
+        (more (begins who none) (body (began (of_session who) (next_txid h) ∷ h) (next_txid h) (block who h) (ap (λ b. if b then Some (next_txid h) else own_txid who h) (same-session who)) new))
+    by_own (Some t) mine = body h t (block who h) mine new
+
 good_create_queue : (h : History) → Legal h → (now : ℤ) (who : ℕ) (name : List ℕ) → Good h who (create_queue (database_of h) now who name)
 good_create_queue h l now who name =
     by_place (queue_number name (queues h)) refl
   where
-    body : (g : History) (t : ℕ) (b : Block) → own_txid who g ≡ Some t → queue_number name (queues g) ≡ None → Chain g (commit_of who t b ++ queued (made name t now) ∷ [])
-    body g t outside mine new = more (ends who t true mine) (more (makes name t now new) done)
-    body g t _ mine new = more (makes name t now new) done
-
-    by_own : (o : Option ℕ) → own_txid who h ≡ o → queue_number name (queues h) ≡ None → Good h who (own_or_next (part_of h) o >>= (λ t.
-        does_marks (Number 1) ((begin_of who t o ++ [] ++ commit_of who t (block who h)) ++ queued (made name t now) ∷ [])))
-    by_own None none new =
-        good_test_then h who (nat_le (2 ^ 62) (next_txid h)) TxidsSpent (next_txid h) _
-        (more (begins who none) (body (began (of_session who) (next_txid h) ∷ h) (next_txid h) (block who h) (ap (λ b. if b then Some (next_txid h) else own_txid who h) (same-session who)) new))
-    by_own (Some t) mine new = body h t (block who h) mine new
-
     by_place : (o : Option ℕ) → queue_number name (queues h) ≡ o → Good h who (if is_some o then answers (Number 0) else (
         refused_if (nat_le 64 (length (queues h))) (TooMany Queues) >> (own_or_next (part_of h) (own_txid who h) >>= (λ t.
         does_marks (Number 1) (written who t (session h who) [] ++ queued (made name t now) ∷ [])))))
     by_place (Some n) is = done
-    by_place None is = good_test h who (nat_le 64 (length (queues h))) (TooMany Queues) _ (λ _. by_own (own_txid who h) refl is)
+    by_place None is = good_test h who (nat_le 64 (length (queues h))) (TooMany Queues) _ (λ _. good_makes h now who name (Number 1) [] (λ g. done) is)
+
+good_create_root : (h : History) (now : ℤ) (who : ℕ) (name queue : List ℕ) → Good h who (create_root (database_of h) now who name queue)
+good_create_root h now who name queue =
+    good_test h who (is_some (node h)) (NodeExists name) _ (λ _.
+    good_test h who (is_some (queue_number queue (queues h))) (QueueExists queue) _ (λ new.
+    good_test h who (nat_le 64 (length (queues h))) (TooMany Queues) _ (λ _.
+    good_makes h now who queue Done (noded (root_made name queue) ∷ []) (λ g. more (nodes (root_made name queue)) done) (nothing (queue_number queue (queues h)) new))))
 
 good_insert_event : (h : History) → Legal h → (now : ℤ) (who : ℕ) (name : List ℕ) (ev_type ev_data : Option (List ℕ)) (extra : Option Extra)
     → Good h who (insert_event (database_of h) now who name ev_type ev_data extra)
 good_insert_event h l now who name ev_type ev_data extra =
-    good_found h who (queue_number name (queues h)) (NoQueue name) _ (λ q is. by_own q (among-number name (queues h) q is) (own_txid who h) refl)
+    good_found h who (queue_number name (queues h)) (NoQueue name) _ (λ q is.
+    good_test h who (is_set_queue name (node h) && tells_of_rows ev_type) ReservedType _ (λ _. by_own q (among-number name (queues h) q is) (own_txid who h) refl))
   where
     body : (g : History) → Legal g → (q n t : ℕ) (b : Block) → own_txid who g ≡ Some t → IsQueue g q → sequence q g ≡ n
         → Chain g (queued (raised q (n + 1)) ∷ queued (put q (made_event (n + 1) now t ev_type ev_data extra)) ∷ commit_of who t b)
@@ -123,7 +139,7 @@ good_opens_batch h who q consumer sub (Some t) below stands is =
     good_test h who (nat_le (2 ^ 64) ((database_of h).last_batch_id + 1)) _ _ (λ _.
     more (opens_fine _ (record { within = below; stands = stands; fresh = omega arith; closing = t; made = is t refl; to = refl })) done)
 
-good_takes_batch : (h : History) → Legal h → (who q : ℕ) (consumer : List ℕ) (sub : Subscription) (batch : Option ℕ)
+pub good_takes_batch : (h : History) → Legal h → (who q : ℕ) (consumer : List ℕ) (sub : Subscription) (batch : Option ℕ)
     → IsQueue h q → subscription q consumer h ≡ Some (record { id = sub.id; position = sub.position; active = batch })
     → Good h who (takes_batch (database_of h) q consumer sub batch)
 good_takes_batch h l who q consumer sub (Some batch) below stands = done
@@ -131,7 +147,7 @@ good_takes_batch h l who q consumer sub None below stands =
     good_opens_batch h who q consumer sub (tick (sub.position + 1) (kept_ticks q h)) below stands (λ t found. kept-made h l q below (sub.position + 1) t found)
 
 -- a new consumer, whose position is a tick that is made
-good_registers : (h : History) (who q : ℕ) (consumer : List ℕ) (at : ℕ) → IsQueue h q → subscription_id q consumer h ≡ None → at ≤ id_of (newest_tick (ticks q h)) → floor (queue_of h q) ≤ at
+pub good_registers : (h : History) (who q : ℕ) (consumer : List ℕ) (at : ℕ) → IsQueue h q → subscription_id q consumer h ≡ None → at ≤ id_of (newest_tick (ticks q h)) → floor (queue_of h q) ≤ at
     → Good h who (registers_at (database_of h) q consumer at)
 good_registers h who q consumer at below new within low =
     good_test h who (nat_le 256 (length ((database_of h).queue q).members)) _ _ (λ _.
@@ -139,7 +155,7 @@ good_registers h who q consumer at below new within low =
     more (registers q consumer _ at below new (omega arith) within low) done))
 
 -- one that leaves
-good_leaves_queue : (h : History) (who q : ℕ) (consumer : List ℕ) (o : Option ℕ) → IsQueue h q → subscription_id q consumer h ≡ o
+pub good_leaves_queue : (h : History) (who q : ℕ) (consumer : List ℕ) (o : Option ℕ) → IsQueue h q → subscription_id q consumer h ≡ o
     → Good h who (leaves q consumer (option_map (λ id. record { id = id; position = position q consumer h; active = active q consumer h }) o))
 good_leaves_queue h who q consumer None below stands = done
 good_leaves_queue h who q consumer (Some sub) below stands = more (unregisters q consumer sub below stands) done
@@ -183,9 +199,14 @@ good_commit h l now who = of (block who h) (own_txid who h) refl
     of failed None mine = good_leaves h who false None mine
     of failed (Some t) mine = good_leaves h who false (Some t) mine
 
-good_finishes : (h : History) (who id : ℕ) (batch : Option Batch) → active_batch id h ≡ batch → Good h who (finishes batch)
+-- an active batch may be finished
+pub good_closes : (h : History) (id : ℕ) (batch : Batch) → active_batch id h ≡ Some batch → Chain h (queued (closed batch) ∷ [])
+good_closes h id batch is = more (closes batch (ap (λ n. active_batch n h) (active_batch-id h id batch is) ∙ is)) done
+
+good_finishes : (h : History) (who id : ℕ) (batch : Option Batch) → active_batch id h ≡ batch → Good h who (finishes (database_of h) batch)
 good_finishes h who id None is = done
-good_finishes h who id (Some batch) is = more (closes batch (ap (λ n. active_batch n h) (active_batch-id h id batch is) ∙ is)) done
+good_finishes h who id (Some batch) is =
+    good_test h who (is_nodes_batch (database_of h) batch) NodeConsumer _ (λ _. good_closes h id batch is)
 
 -- a tick that is due
 pub good_next_tick : (h : History) → Legal h → (now : ℤ) (who q : ℕ) → IsQueue h q → Good h who (next_tick (database_of h) now q)
@@ -202,10 +223,11 @@ good_form h l now who (Row stmt) may =
 good_form h l now who (CreateQueue queue) may = good_create_queue h l now who queue
 good_form h l now who (DropQueue name) may =
     good_found h who (queue_number name (queues h)) (NoQueue name) _ (λ q is.
+    good_test h who (is_set_queue name (node h)) SetQueue _ (λ _.
     good_test h who (not (length (consumers q h) == 0)) (HasConsumers (length (consumers q h))) _ (λ none.
     good_refused_by h who (option_map (λ t. HasTriggers (shown_name t)) (first_trigger_into q (triggers h))) _ (λ untold.
     good_refused_by h who (option_map QueueBusy (least_producer (database_of h) q)) _ (λ idle.
-    more (drops q (no-member h q none) (none-into q (triggers h) untold) (none-put (has_part_in (tables q h)) (running h) idle)) done))))
+    more (drops q (no-member h q none) (none-into q (triggers h) untold) (none-put (has_part_in (tables q h)) (running h) idle)) done)))))
 good_form h l now who (InsertEvent queue ev_type ev_data extra) may = good_insert_event h l now who queue ev_type ev_data extra
 good_form h l now who (SetQueueConfig name param value) may =
     good_found h who (queue_number name (queues h)) (NoQueue name) _ (λ q is.
@@ -221,13 +243,13 @@ good_form h l now who (ForceTick name) may =
     more (raises q _ (among-number name (queues h) q is) (omega arith)) done))
 good_form h l now who (RegisterConsumer name consumer) may =
     good_found h who (queue_number name (queues h)) (NoQueue name) _ (λ q is.
-    good_test h who (has_dot consumer) _ _ (λ _.
+    good_test h who (is_nodes (database_of h) name consumer) _ _ (λ _.
     good_if h who (is_some (((database_of h).queue q).sub consumer)) _ _ done (λ new.
     let all : newest_id ((database_of h).queue q) ≡ id_of (newest_tick (ticks q h)) = ap id_of (newest-kept h l q (among-number name (queues h) q is)) in
     good_registers h who q consumer _ (among-number name (queues h) q is) (no-one _ (subscription_id q consumer h) (nothing _ new)) (omega arith) (omega (arith, all, floor-newest h l q (among-number name (queues h) q is))))))
 good_form h l now who (RegisterConsumerAt name consumer at) may =
     good_found h who (queue_number name (queues h)) (NoQueue name) _ (λ q is.
-    good_test h who (has_dot consumer) _ _ (λ _.
+    good_test h who (is_nodes (database_of h) name consumer) _ _ (λ _.
     good_test h who (at == 0 || nat_lt (newest_id ((database_of h).queue q)) at) _ _ (λ within.
     good_test h who (nat_lt at (floor (queue_of h q))) _ _ (λ low. good_at q is within low (subscription_id q consumer h) refl))))
   where
@@ -248,10 +270,10 @@ good_form h l now who (RegisterConsumerAt name consumer at) may =
         (sym stands) (good_registers h who q consumer at (among-number name (queues h) q is) stands (grind (arith, nat_tests, within, all)) (grind (arith, nat_tests, low)))
 good_form h l now who (UnregisterConsumer name consumer) may =
     good_found h who (queue_number name (queues h)) (NoQueue name) _ (λ q is.
-    good_test h who (has_dot consumer) _ _ (λ _. good_leaves_queue h who q consumer (subscription_id q consumer h) (among-number name (queues h) q is) refl))
+    good_test h who (is_nodes (database_of h) name consumer) _ _ (λ _. good_leaves_queue h who q consumer (subscription_id q consumer h) (among-number name (queues h) q is) refl))
 good_form h l now who (NextBatch name consumer) may =
     good_found h who (queue_number name (queues h)) (NoQueue name) _ (λ q is.
-    good_test h who (has_dot consumer) _ _ (λ _.
+    good_test h who (is_nodes (database_of h) name consumer) _ _ (λ _.
     good_found h who (((database_of h).queue q).sub consumer) (NoConsumer consumer) _ (λ sub stands.
     good_takes_batch h l who q consumer sub sub.active (among-number name (queues h) q is) stands)))
 good_form h l now who (GetBatchEvents batch) may = good_found h who ((shown_in h).events batch) _ _ (λ b _. done)
@@ -259,6 +281,7 @@ good_form h l now who (GetBatchInfo batch) may = good_found h who (active_batch 
 good_form h l now who (EventRetry id event seconds) may =
     good_found h who ((shown_in h).events id) NoBatch _ (λ es listed.
     good_found h who (active_batch id h) NoBatch _ (λ b active.
+    good_test h who (is_nodes_batch (database_of h) b) NodeConsumer _ (λ _.
     good_found h who (find (λ e. e.ev_id == event) es) NoEvent _ (λ e found.
     good_if h who (is_asked b.sub e.ev_id (retries h)) _ _ done (λ fresh.
     let a : IsActive h id b = active_batches h l id b active in
@@ -276,7 +299,7 @@ good_form h l now who (EventRetry id event seconds) may =
         listed = found_is_listed (batch_events h b) (λ e. e.ev_id == event) e is;
       };
       fresh = fresh;
-    })) done))))
+    })) done)))))
 good_form h l now who MaintRetryEvents may = good_maint h l now who
 good_form h l now who (MaintRotateStep1 name) may =
     good_found h who (queue_number name (queues h)) (NoQueue name) _ (λ q is. good_rotates h l now who q (among-number name (queues h) q is) (held_back now (queue_of h q)) refl)
@@ -288,11 +311,14 @@ good_form h l now who (ConsumerInfo name consumer) may =
 good_form h l now who (AddTrigger name table_name queue_name backup ignored) may =
     good_found h who (place_of table_name (table_names h)) (NoTable table_name) _ (λ table there.
     good_found h who (queue_number queue_name (queues h)) (NoQueue queue_name) _ (λ queue is.
+    good_test h who (is_set_queue queue_name (node h)) SetQueue _ (λ _.
     good_test h who (has_trigger name (triggers_of table (triggers h))) (TriggerExists name) _ (λ new.
     good_test h who (nat_le 8 (length (triggers_of table (triggers h)))) (TooMany Triggers) _ (λ _.
     good_refused_by h who (option_map BadColumn (find (λ column. not (may_ignore (columns_of table h) column)) ignored)) _ (λ _.
     good_refused_by h who (option_map TableBusy (least_writer (part_of h) table)) _ (λ _.
-    more (traces table (Some name) _ (place_of_within table_name (table_names h) table there) (among-number queue_name (queues h) queue is) new) done))))))
+    more (traces table (Some name) _ (place_of_within table_name (table_names h) table there) (among-number queue_name (queues h) queue is) new) done)))))))
+good_form h l now who (CreateRoot name queue) may = good_create_root h now who name queue
+good_form h l now who (Node stmt) may = done
 good_form h l now who (Clock time) may = done
 good_form h l now who PgqdOn may = done
 good_form h l now who PgqdOff may = done

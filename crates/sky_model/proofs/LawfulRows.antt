@@ -10,13 +10,13 @@ use Rattle.sky_model.specs.declared.stmt.RowStmt.{RowStmt}
 use Rattle.sky_model.specs.declared.stmt.RowStmt.TheVariants.{OpenDb, Close, Cancel, Begin, BeginRepeatableRead, Commit, Rollback, TxidCurrent, TxidCurrentSnapshot, TxidVisibleInSnapshot, CreateTable, Insert, Update, Delete, Get, Scan}
 use Rattle.sky_model.specs.declared.reply.Reply.TheVariants.{Number}
 use Rattle.sky_model.specs.declared.reply.Limit.TheVariants.{Tables}
-use Rattle.sky_model.specs.declared.reply.Refusal.TheVariants.{AlreadyOpen, BadRow, BadSnapshot, Canceled, Deadlock, Duplicate, KeyChange, NoTable, Serialize, TableExists, TooMany, TxidsSpent}
+use Rattle.sky_model.specs.declared.reply.Refusal.TheVariants.{AlreadyOpen, BadRow, BadSnapshot, Canceled, Deadlock, Duplicate, KeyChange, NoTable, ReadOnly, Serialize, TableExists, TooMany, TxidsSpent}
 use Rattle.sky_model.specs.declared.stmt.Attempt.{Attempt}
 use Rattle.sky_model.specs.declared.stmt.Attempt.TheVariants.{Insertion, Changes, Deletion}
 use Rattle.sky_model.specs.History.{of_session, began, ended, block_ended, disconnected, tabled, wrote, waited, History}
 use Rattle.sky_model.specs.Transactions.{next_txid}
 use Rattle.sky_model.specs.Sessions.{outside, has_open, block, own_txid}
-use Rattle.sky_model.specs.Rows.{table_names, columns_of}
+use Rattle.sky_model.specs.Rows.{table_names, columns_of, is_read_only}
 use Rattle.sky_model.specs.Locks.{holder, waiting}
 use Rattle.sky_model.specs.State.{part_of}
 use Rattle.sky_model.specs.ShownRows.{rows_in}
@@ -164,15 +164,17 @@ good_row_form h l who (CreateTable name columns) may =
     more (makes_table name columns (nothing (place_of name (table_names h)) new)) done)))
 good_row_form h l who (Insert name row) may =
     good_found h who (place_of name (table_names h)) (NoTable name) _ (λ table there.
+    good_test h who (is_read_only table h) ReadOnly _ (λ _.
     good_refused_by h who (option_map (bad_values (columns_of table h)) (row_fault (columns_of table h) row)) _ (λ fits.
     good_attempts h l who table (key_of (columns_of table h) row) (Insertion row) (record {
       within = place_of_within name (table_names h) table there;
       fits = (no-one (bad_values (columns_of table h)) (row_fault (columns_of table h) row) fits, refl);
       quiet = quiet-reading h who may;
       is_open = open-reading h who may;
-    })))
+    }))))
 good_row_form h l who (Update name key sets) may =
     good_found h who (place_of name (table_names h)) (NoTable name) _ (λ table there.
+    good_test h who (is_read_only table h) ReadOnly _ (λ _.
     good_refused_by h who (option_map (bad_values (key_columns (columns_of table h))) (row_fault (key_columns (columns_of table h)) key)) _ (λ _.
     good_refused_by h who (option_map BadRow (bad_sets (columns_of table h) [] sets)) _ (λ well.
     good_refused_by h who (option_map (λ (set : Set). KeyChange set.column) (find (is_key_change (columns_of table h)) sets)) _ (λ stays.
@@ -182,16 +184,17 @@ good_row_form h l who (Update name key sets) may =
           (no-one (λ (set : Set). KeyChange set.column) (find (is_key_change (columns_of table h)) sets) stays);
       quiet = quiet-reading h who may;
       is_open = open-reading h who may;
-    })))))
+    }))))))
 good_row_form h l who (Delete name key) may =
     good_found h who (place_of name (table_names h)) (NoTable name) _ (λ table there.
+    good_test h who (is_read_only table h) ReadOnly _ (λ _.
     good_refused_by h who (option_map (bad_values (key_columns (columns_of table h))) (row_fault (key_columns (columns_of table h)) key)) _ (λ fits.
     good_attempts h l who table key Deletion (record {
       within = place_of_within name (table_names h) table there;
       fits = no-one (bad_values (key_columns (columns_of table h))) (row_fault (key_columns (columns_of table h)) key) fits;
       quiet = quiet-reading h who may;
       is_open = open-reading h who may;
-    })))
+    }))))
 good_row_form h l who (Get name key) may =
     good_found h who (place_of name (table_names h)) (NoTable name) _ (λ table _.
     good_refused_by h who (option_map (bad_values (key_columns (columns_of table h))) (row_fault (key_columns (columns_of table h)) key)) _ (λ _.

@@ -1,5 +1,5 @@
 -- A statement on rows leaves a legal history legal once its writes are recorded.
-use Rattle.std.proofs.Common.{◌≡◌, ℕ, ℤ, ◌+◌, ◌^◌, List, [], ◌∷◌, ◌++◌, Bool, true, false, ◌==◌, nat_le, Option, Some, Ok, Err, IfOk, map, get_or, refl, sym, ◌∙◌, ap, subst, arith, if◌then◌else◌, All}
+use Rattle.std.proofs.Common.{◌≡◌, ℕ, ℤ, ◌+◌, ◌^◌, List, [], ◌∷◌, ◌++◌, Bool, true, false, not, ◌==◌, nat_le, Option, Some, Ok, Err, IfOk, map, get_or, refl, sym, ◌∙◌, ap, subst, arith, if◌then◌else◌, All}
 use Rattle.std.proofs.lemmas.List.Elements.{All-nil, All-head, All-tail, All-push, All-weaker, All-map, All-filter}
 use Rattle.sky_val.specs.declared.val.Val.{Val}
 use Rattle.sky_txid.specs.Ids.{contains}
@@ -7,16 +7,16 @@ use Rattle.sky_keys.specs.Waits.{other_than, is_waiting}
 use Rattle.sky_names.specs.Places.{place_of}
 use Rattle.sky_urlenc.specs.RowEvents.{Trigger, Write, event_of, RowEvent, events_of}
 use Rattle.sky_model.specs.declared.reply.Refusal.TheVariants.{EventIdsSpent}
-use Rattle.sky_model.specs.History.{Mark, of_session, began, tabled, wrote, queued, made, raised, put, dropped, traced, History, of_worker}
+use Rattle.sky_model.specs.History.{Mark, of_session, began, tabled, wrote, queued, made, raised, put, dropped, traced, untraced, History, of_worker}
 use Rattle.sky_model.specs.Sessions.{has_open, Block, block, own_txid}
-use Rattle.sky_model.specs.Triggers.{TableTrigger, triggers, triggers_of}
+use Rattle.sky_model.specs.Triggers.{TableTrigger, is_sets, triggers, triggers_of}
 use Rattle.sky_model.specs.Queues.{NamedQueue, queues_made, queues, sequence}
 use Rattle.sky_model.specs.State.{RowPart, part_of, after_part, database_of, after_mark, after_marks}
 use Rattle.sky_model.specs.Outcome.{Outcome, Checked, ◌>>=◌, ◌>>◌, refused_if, does_marks}
 use Rattle.sky_model.specs.Telling.{write_in, events_in, told_event, event_marks, told_by, told_of, with_told, tells}
 use Rattle.sky_model.specs.Reader.{part_by_history}
 use Rattle.sky_model.specs.Settling.{behind_marks, marked}
-use Rattle.sky_model.proofs.Legal.{Replaces, MayWait, IsAmong, IsQueue, Fine, begins, ends, begins_work, ends_work, begins_block, fails_block, ends_block, connects, disconnects, repeats_block, looks, makes_table, writes, begins_waiting, ends_waiting, raises, puts, drops, traces, Chain, done, more, Legal, next}
+use Rattle.sky_model.proofs.Legal.{Replaces, MayWait, IsAmong, IsQueue, Fine, begins, ends, begins_work, ends_work, begins_block, fails_block, ends_block, connects, disconnects, repeats_block, looks, makes_table, writes, begins_waiting, ends_waiting, raises, puts, drops, traces, guards, nodes, Chain, done, more, Legal, next}
 use Rattle.sky_model.proofs.QueueNumbers.{among-before, among-others}
 use Rattle.sky_model.proofs.Marks.{part_of-mark, database_of-mark, database_of-marks}
 use Rattle.sky_model.proofs.Selecting.{events_below-next}
@@ -64,6 +64,8 @@ trigger-queues (queued (traced table name trigger) ∷ h) l =
     All-push (λ t. IsAmong t.trigger.queue (queues h)) (triggers h) (record { table = table; name = name; trigger = trigger }) (trigger-queues h (below-mark l)) (traced-queue l)
 trigger-queues (queued (dropped q) ∷ h) l =
     λ k t less. among-others q (queues h) (get_or (triggers h) k t).trigger.queue (trigger-queues h (below-mark l) k t less) (undropped-triggers l k t less)
+trigger-queues (queued (untraced table) ∷ h) l =
+    All-filter (λ t. not (is_sets table t)) (λ t. IsAmong t.trigger.queue (queues h)) (triggers h) (trigger-queues h (below-mark l))
 trigger-queues (_ ∷ h) l = trigger-queues h (below-mark l)
 
 -- so are the events of a write
@@ -146,6 +148,8 @@ fine-alike h g same _ marks rows (writes who t table key old new mine free stand
     (subst (λ d. Replaces d who table key old new) same stands)
 fine-alike h g same _ marks rows (begins_waiting who table key attempt fits) = begins_waiting who table key attempt (subst (λ d. MayWait d who table key attempt) same fits)
 fine-alike h g same _ marks rows (ends_waiting who) = ends_waiting who
+fine-alike h g same _ marks rows (guards table on) = guards table on
+fine-alike h g same _ marks rows (nodes mark) = nodes mark
 
 chain-alike : (h g : History) → part_of h ≡ part_of g → (marks : List Mark) → RowMarks marks → Chain h marks → Chain g marks
 chain-alike h g same [] rows done = done

@@ -15,7 +15,7 @@ use Rattle.sky_names.specs.Places.{place_of}
 use Rattle.sky_model.specs.declared.stmt.Set.{Set}
 use Rattle.sky_model.specs.declared.stmt.Attempt.{Attempt}
 use Rattle.sky_model.specs.declared.stmt.Attempt.TheVariants.{Insertion, Changes, Deletion}
-use Rattle.sky_model.specs.History.{Batch, Mark, of_session, of_worker, began, ended, block_begun, repeats, looked, block_failed, block_ended, connected, disconnected, tabled, table_made, wrote, waits, waited, queued, made, raised, put, ticked, registered, moved, unregistered, opened, closed, asked, returned, switching, switched, second_step, configured, dropped, traced, History}
+use Rattle.sky_model.specs.History.{Batch, Mark, of_session, of_worker, began, ended, block_begun, repeats, looked, block_failed, block_ended, connected, disconnected, tabled, table_made, wrote, waits, waited, read_only, noded, NodeMark, queued, made, raised, put, ticked, registered, moved, unregistered, opened, closed, asked, returned, switching, switched, second_step, configured, dropped, traced, untraced, History}
 use Rattle.sky_model.specs.Config.{Config}
 use Rattle.sky_model.specs.Transactions.{next_txid, running, workers}
 use Rattle.sky_model.specs.Sessions.{has_open, outside, inside, block, own_txid}
@@ -154,6 +154,9 @@ pub data Fine (h : History) : Mark → Type 0 where
   traces : (table : ℕ) (name : Option (List ℕ)) (trigger : Trigger) → table < length (table_names h) → IsQueue h trigger.queue
       → IfSome name (λ n. has_trigger n (triggers_of table (triggers h)) ≡ false)
       → Fine h (queued (traced table name trigger))
+  untraces : (table : ℕ) → Fine h (queued (untraced table))
+  guards : (table : ℕ) (on : Bool) → Fine h (tabled (read_only table on))
+  nodes : (mark : NodeMark) → Fine h (noded mark)
 
 -- these marks may come next, one after another
 pub data Chain : History → List Mark → Type 0 where

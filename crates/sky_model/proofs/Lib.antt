@@ -45,6 +45,8 @@ pub mod PastHistories
 pub mod ClockSteps
 mod DueMoments
 pub mod Lawful
+pub mod NodeCalls
+pub mod NodeDeeds
 pub mod Histories
 pub mod Promised
 pub mod Entering

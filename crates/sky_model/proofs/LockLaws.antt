@@ -19,7 +19,7 @@ use Rattle.sky_model.specs.Settling.{Turn, turn_of, marked, ready, with_settling
 use Rattle.sky_model.specs.Calls.{statement, turn}
 use Rattle.sky_model.specs.SessionMarks.{look_of, entry_place, enters, failing}
 use Rattle.sky_model.specs.Promises.{after_all}
-use Rattle.sky_model.specs.DatabaseCalls.{stepped, entered, failed, worked, database_part}
+use Rattle.sky_model.specs.DatabaseCalls.{stepped, entered, failed, worked, served, database_part}
 use Rattle.sky_model.specs.LawsOfLocks.{HoldersHaveWritten, DeadlocksAreRings, NothingIsReady}
 use Rattle.sky_model.proofs.SnapshotLaws.{legal_place}
 use Rattle.sky_model.proofs.Holders.{holder-written, written-holder}
@@ -27,6 +27,7 @@ use Rattle.sky_model.proofs.Lawful.{database-reads, past-behind}
 use Rattle.sky_model.proofs.Resting.{turn-rests}
 use Rattle.sky_model.proofs.DatabaseResting.{history-keeps}
 use Rattle.sky_model.proofs.DaemonTurns.{daemon-ready}
+use Rattle.sky_model.proofs.NodeCalls.{node-ready}
 
 pub holders_have_written : HoldersHaveWritten
 holders_have_written p is table key who = (holder-written p (legal_place p is) table key who, written-holder p (legal_place p is) table key who)
@@ -77,4 +78,5 @@ nothing_is_ready (entered who outside ∷ calls) =
     h = after_all database_part calls
 nothing_is_ready (worked part now ∷ calls) =
     daemon-ready (after_all database_part calls) part now ∙ nothing_is_ready calls
+nothing_is_ready (served call ∷ calls) = node-ready (after_all database_part calls) call ∙ nothing_is_ready calls
 nothing_is_ready (failed who now ∷ calls) = history-rests (after_all database_part calls) now (failing (part_of (after_all database_part calls)) who)

@@ -15,14 +15,14 @@ use Rattle.sky_model.specs.State.{database_of}
 use Rattle.sky_model.specs.StepRotation.{switch_of, switches_by}
 use Rattle.sky_model.specs.Reader.{database_by_history}
 use Rattle.sky_model.specs.Settling.{marked}
-use Rattle.sky_model.specs.DatabaseCalls.{DatabaseCall, stepped, entered, failed as failed_call, worked, database_does}
+use Rattle.sky_model.specs.DatabaseCalls.{DatabaseCall, stepped, entered, failed as failed_call, worked, served, database_does}
 use Rattle.sky_model.specs.LawsOfRetries.{moment_of}
 use Rattle.sky_model.specs.LawsOfRotation.{IsMadeBy, SwitchesAreCommitted}
 use Rattle.sky_model.proofs.Cases.{by_test}
 use Rattle.sky_model.proofs.Good.{same-session}
 use Rattle.sky_model.proofs.StatementMarks.{EachMark, when-true, each-rest, each-map}
 use Rattle.sky_model.proofs.PlainStatements.{may_do}
-use Rattle.sky_model.proofs.SwitchingCalls.{IsOfCalls, each-entered, of_stepped, of_failed, of_worked}
+use Rattle.sky_model.proofs.SwitchingCalls.{IsOfCalls, each-entered, each-served, of_stepped, of_failed, of_worked}
 
 -- ---- marks, each at its place, with those after it
 
@@ -166,3 +166,6 @@ switches_are_committed h (worked work now) earlier later q time = is-made now h 
 switches_are_committed h (entered who alone) earlier later q time =
     λ same. absurd (none-makes earlier later q time (each-map (may_do inside who) makes_none (none-done inside who) (earlier ++ queued (switched q time) ∷ later)
     (subst (EachMark (may_do inside who)) same (each-entered h who alone))))
+switches_are_committed h (served call) earlier later q time =
+    λ same. absurd (none-makes earlier later q time (each-map (may_do inside 0) makes_none (none-done inside 0) (earlier ++ queued (switched q time) ∷ later)
+    (subst (EachMark (may_do inside 0)) same (each-served h call))))

@@ -3,7 +3,7 @@ use Rattle.std.proofs.Common.{◌≡◌, ℕ, ◌+◌, List, [], ◌∷◌, ◌+
 use Rattle.sky_keys.specs.Waits.{released}
 use Rattle.sky_keys.specs.Versions.{forgotten}
 use Rattle.pgq_retry.specs.Retries.{without_sub}
-use Rattle.sky_model.specs.History.{Mark, of_session, of_worker, began, ended, block_begun, repeats, looked, block_failed, block_ended, connected, disconnected, tabled, wrote, queued, QueueMark, made, raised, put, ticked, registered, moved, unregistered, opened, closed, asked, returned, switching, switched, second_step, configured, dropped, traced, History, Fact, appeared, founded, entered, left, within, clock_at, daemon_on, daemon_off, Past}
+use Rattle.sky_model.specs.History.{Mark, of_session, of_worker, began, ended, block_begun, repeats, looked, block_failed, block_ended, connected, disconnected, tabled, wrote, queued, QueueMark, made, raised, put, ticked, registered, moved, unregistered, opened, closed, asked, returned, switching, switched, second_step, configured, dropped, traced, untraced, noded, History, Fact, appeared, founded, entered, left, within, clock_at, daemon_on, daemon_off, node_made, Past}
 use Rattle.sky_model.specs.Config.{default_config}
 use Rattle.pgq_tables.specs.Tables as tables_of
 use Rattle.pgq_tables.specs.Tables.{new_tables, with_stored, with_pending, with_second_step, no_tables}
@@ -120,6 +120,7 @@ database_of-queue_mark h (dropped q) = λ i. record (database_of h) {
   }) i;
 }
 database_of-queue_mark h (traced table name trigger) = refl
+database_of-queue_mark h (untraced table) = refl
 
 -- a mark changes transactions, sessions and tables as `after_part` says
 pub part_of-mark : (h : History) (mark : Mark) → part_of (mark ∷ h) ≡ after_part (part_of h) mark
@@ -156,6 +157,7 @@ part_of-mark h _ = refl
 pub database_of-mark : (h : History) (mark : Mark) → database_of (mark ∷ h) ≡ after_mark (database_of h) mark
 database_of-mark h (ended who t false) = λ i. record (database_of h) { part = part_of-mark h (ended who t false) i; queue = λ n. record (queue_of h n) { tables = without_transaction t (queue_of h n).tables } }
 database_of-mark h (queued mark) = database_of-queue_mark h mark
+database_of-mark h (noded mark) = refl
 database_of-mark h mark = λ i. record (database_of h) { part = part_of-mark h mark i }
 
 -- and so do marks one after another
@@ -176,6 +178,7 @@ world_of-fact past (left who) = refl
 world_of-fact past (clock_at moment) = refl
 world_of-fact past (daemon_on d) = refl
 world_of-fact past (daemon_off d) = refl
+world_of-fact past (node_made d) = refl
 world_of-fact past (within d mark) = λ i. record (world_of past) { database = λ n. within_at (d == n) (history_in past n) mark i }
 
 -- and so do facts one after another

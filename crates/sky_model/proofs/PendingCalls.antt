@@ -12,7 +12,7 @@ use Rattle.sky_model.specs.StepRotation.{switch_of, switches_by}
 use Rattle.sky_model.specs.Reader.{part_by_history, database_by_history}
 use Rattle.sky_model.specs.Settling.{marked}
 use Rattle.sky_model.specs.Promises.{after_all}
-use Rattle.sky_model.specs.DatabaseCalls.{DatabaseCall, stepped, entered, failed as failed_call, worked, database_does, database_part}
+use Rattle.sky_model.specs.DatabaseCalls.{DatabaseCall, stepped, entered, failed as failed_call, worked, served, database_does, database_part}
 use Rattle.sky_model.proofs.Resting.{behind-append}
 use Rattle.sky_model.proofs.Cases.{by_test, by_same}
 use Rattle.sky_model.proofs.Legal.{IsAmong, IsQueue, Legal}
@@ -21,7 +21,7 @@ use Rattle.sky_model.proofs.Good.{same-session}
 use Rattle.sky_model.proofs.QueuesInUse.{IsBare, bare}
 use Rattle.sky_model.proofs.PendingOwners.{Unpending, Held, held-both, Keeps, legal-before, keeps-mark}
 use Rattle.sky_model.proofs.PlainStatements.{keeps-each}
-use Rattle.sky_model.proofs.SwitchingCalls.{IsOfCalls, of_stepped, of_failed, of_worked, of_entered}
+use Rattle.sky_model.proofs.SwitchingCalls.{IsOfCalls, of_stepped, of_failed, of_worked, of_entered, of_served}
 
 stays : (h : History) → Keeps h []
 stays h l r = r
@@ -98,6 +98,7 @@ keeps-does : (h : History) (call : DatabaseCall) → Keeps h (database_does data
 keeps-does h (stepped who stmt now) = of_stepped now Keeps (all-keep now) h who stmt
 keeps-does h (entered who alone) = of_entered (pos 0) Keeps (all-keep (pos 0)) h who alone
 keeps-does h (worked work now) = of_worked now Keeps (all-keep now) h work
+keeps-does h (served call) = of_served (pos 0) Keeps (all-keep (pos 0)) h call
 keeps-does h (failed_call who now) = of_failed now Keeps (all-keep now) h who
 
 -- so it is after calls

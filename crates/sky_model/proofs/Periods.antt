@@ -11,12 +11,12 @@ use Rattle.sky_model.specs.State.{Queue, Database, queue_of, database_of}
 use Rattle.sky_model.specs.StepRotation.{period_ends, held_back, held_by_period, held_by_second_step, switch_of, switches_by}
 use Rattle.sky_model.specs.Reader.{database_by_history}
 use Rattle.sky_model.specs.Settling.{marked}
-use Rattle.sky_model.specs.DatabaseCalls.{stepped, entered, failed as failed_call, worked, database_does}
+use Rattle.sky_model.specs.DatabaseCalls.{stepped, entered, failed as failed_call, worked, served, database_does}
 use Rattle.sky_model.specs.LawsOfRotation.{IsOver, SwitchesBeginAfterPeriods}
 use Rattle.sky_model.proofs.Cases.{by_test}
 use Rattle.sky_model.proofs.StatementMarks.{when-true, EachMark, each-rest, each-map}
 use Rattle.sky_model.proofs.PlainStatements.{may_do}
-use Rattle.sky_model.proofs.SwitchingCalls.{IsOfCalls, each-entered, of_stepped, of_failed, of_worked}
+use Rattle.sky_model.proofs.SwitchingCalls.{IsOfCalls, each-entered, each-served, of_stepped, of_failed, of_worked}
 
 -- ---- marks, each at its place
 
@@ -121,3 +121,6 @@ switches_begin_after_periods h (worked work now) earlier later q t =
 switches_begin_after_periods h (entered who alone) earlier later q t =
     λ same. absurd (none-begins earlier later q t (each-map (may_do inside who) begins_none (none-done inside who) (earlier ++ queued (switching q t) ∷ later)
     (subst (EachMark (may_do inside who)) same (each-entered h who alone))))
+switches_begin_after_periods h (served call) earlier later q t =
+    λ same. absurd (none-begins earlier later q t (each-map (may_do inside 0) begins_none (none-done inside 0) (earlier ++ queued (switching q t) ∷ later)
+    (subst (EachMark (may_do inside 0)) same (each-served h call))))

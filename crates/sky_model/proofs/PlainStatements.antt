@@ -8,7 +8,7 @@ use Rattle.sky_model.specs.declared.stmt.Attempt.TheVariants.{Insertion, Changes
 use Rattle.sky_model.specs.declared.stmt.RowStmt.{RowStmt}
 use Rattle.sky_model.specs.declared.stmt.RowStmt.TheVariants.{OpenDb, Close, Cancel, Begin, BeginRepeatableRead, Commit, Rollback, TxidCurrent, TxidCurrentSnapshot, TxidVisibleInSnapshot, CreateTable, Insert, Update, Delete, Get, Scan}
 use Rattle.sky_model.specs.declared.stmt.Stmt.{Stmt}
-use Rattle.sky_model.specs.declared.stmt.Stmt.TheVariants.{Row, CreateQueue, DropQueue, SetQueueConfig, QueueInfo, InsertEvent, Ticker, ForceTick, RegisterConsumer, RegisterConsumerAt, UnregisterConsumer, NextBatch, GetBatchEvents, GetBatchInfo, EventRetry, FinishBatch, MaintRetryEvents, MaintRotateStep1, MaintRotateStep2, ConsumerInfo, AddTrigger, Clock, PgqdOn, PgqdOff}
+use Rattle.sky_model.specs.declared.stmt.Stmt.TheVariants.{Row, CreateQueue, DropQueue, SetQueueConfig, QueueInfo, InsertEvent, Ticker, ForceTick, RegisterConsumer, RegisterConsumerAt, UnregisterConsumer, NextBatch, GetBatchEvents, GetBatchInfo, EventRetry, FinishBatch, MaintRetryEvents, MaintRotateStep1, MaintRotateStep2, ConsumerInfo, AddTrigger, CreateRoot, Node, Clock, PgqdOn, PgqdOff}
 use Rattle.sky_model.specs.declared.reply.Refusal.{Refusal}
 use Rattle.sky_model.specs.declared.reply.Refusal.TheVariants.{Canceled}
 use Rattle.sky_model.specs.History.{Batch, Mark, of_session, of_worker, ended, block_begun, block_failed, block_ended, tabled, wrote, queued, switching, switched, History}
@@ -165,9 +165,9 @@ module _ (who : ℕ) where
   does-row_form d shown TxidCurrentSnapshot e = (tt, tt)
   does-row_form d shown (TxidVisibleInSnapshot txid snapshot) e = search (checked)
   does-row_form d shown (CreateTable name columns) e = search (after)
-  does-row_form d shown (Insert name row) e = search (checked, after, does-attempts)
-  does-row_form d shown (Update name key sets) e = search (checked, after, does-attempts)
-  does-row_form d shown (Delete name key) e = search (checked, after, does-attempts)
+  does-row_form d shown (Insert name row) e = search (checked, after, does-attempts) depth 8
+  does-row_form d shown (Update name key sets) e = search (checked, after, does-attempts) depth 8
+  does-row_form d shown (Delete name key) e = search (checked, after, does-attempts) depth 8
   does-row_form d shown (Get name key) e = search (checked, after, does-row_or_none)
   does-row_form d shown (Scan name) e = search (checked)
 
@@ -232,9 +232,9 @@ module _ (who : ℕ) where
   does-ends_switches b d (q ∷ queues) =
       checked AnyReply _ (next_id d.part) _ (λ t. (tt, each-append (may_do b who) (second_steps t (q ∷ queues)) (ended of_worker t true ∷ []) (does-seconds b t (q ∷ queues)) tt))
 
-  does-finishes : (b : Block) (o : Option Batch) → Does b (finishes o)
-  does-finishes b None = (tt, tt)
-  does-finishes b (Some batch) = (tt, tt)
+  does-finishes : (b : Block) (d : Database) (o : Option Batch) → Does b (finishes d o)
+  does-finishes b d None = (tt, tt)
+  does-finishes b d (Some batch) = search (after)
 
   pub does-tick : (b : Block) (d : Database) (now : ℤ) (q : ℕ) → Does b (next_tick d now q)
   does-tick b d now q = search (either, after) depth 8
@@ -247,7 +247,7 @@ module _ (who : ℕ) where
   does-form d shown now (DropQueue name) e = search (checked, after) depth 8
   does-form d shown now (SetQueueConfig name param value) e = search (checked) depth 8
   does-form d shown now (QueueInfo name) e = search (checked)
-  does-form d shown now (InsertEvent name ev_type ev_data extra) e = search (checked, does-written) depth 8
+  does-form d shown now (InsertEvent name ev_type ev_data extra) e = search (checked, after, does-written) depth 10
   does-form d shown now (Ticker name) e = checked AnyReply _ (queue_called name d) _ (does-tick (d.part.session who).block d now)
   does-form d shown now (ForceTick name) e = search (checked, after)
   does-form d shown now (RegisterConsumer name consumer) e = search (checked, after, either) depth 8
@@ -256,13 +256,15 @@ module _ (who : ℕ) where
   does-form d shown now (NextBatch name consumer) e = search (checked, after, does-takes) depth 8
   does-form d shown now (GetBatchEvents batch) e = search (checked)
   does-form d shown now (GetBatchInfo batch) e = search (checked)
-  does-form d shown now (EventRetry batch event seconds) e = search (checked, either) depth 10
-  does-form d shown now (FinishBatch batch) e = does-finishes (d.part.session who).block (d.batch batch)
+  does-form d shown now (EventRetry batch event seconds) e = search (checked, after, either) depth 12
+  does-form d shown now (FinishBatch batch) e = does-finishes (d.part.session who).block d (d.batch batch)
   does-form d shown now MaintRetryEvents e = does-brings (d.part.session who).block d now (due_now now most_back d.retries)
   does-form d shown now (MaintRotateStep1 name) e = absurd (cc)
   does-form d shown now MaintRotateStep2 e = does-ends_switches (d.part.session who).block d (lack_second_step d)
   does-form d shown now (ConsumerInfo name consumer) e = search (checked) depth 8
-  does-form d shown now (AddTrigger name table queue backup ignored) e = search (checked, after) depth 8
+  does-form d shown now (AddTrigger name table queue backup ignored) e = search (checked, after) depth 10
+  does-form d shown now (CreateRoot name queue) e = search (after, checked, each-append, does-written) depth 10
+  does-form d shown now (Node stmt) e = (tt, tt)
   does-form d shown now (Clock time) e = (tt, tt)
   does-form d shown now PgqdOn e = (tt, tt)
   does-form d shown now PgqdOff e = (tt, tt)

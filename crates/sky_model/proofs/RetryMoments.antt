@@ -23,11 +23,12 @@ use Rattle.sky_model.specs.Reader.{Shown, shown_in, database_by_history, within_
 use Rattle.sky_model.specs.Settling.{Turn, turn_of, behind_marks, settling, with_settling}
 use Rattle.sky_model.specs.Calls.{form, making, statement}
 use Rattle.sky_model.specs.SessionMarks.{look_of, entry_place, enters, failing}
-use Rattle.sky_model.specs.DatabaseCalls.{stepped, entered, failed, worked, database_does}
+use Rattle.sky_model.specs.DatabaseCalls.{stepped, entered, failed, worked, served, database_does}
 use Rattle.sky_model.specs.LawsOfRetries.{IsBackAt, RetriesComeBackAtCalls}
 use Rattle.sky_model.proofs.StatementMarks.{EachMark, each-append, each-rest, when-true, AnyReply, Gives, gives-map, given-runs, gives-tells, Kinds, no_more, is_no_return, may_leave, attempt_kinds, kinds, gives-form, each-failure, settling-gives}
 use Rattle.sky_model.proofs.DaemonTurns.{each-brings, each-ends_switches, each-daemon_does}
 use Rattle.sky_model.proofs.WorkersRest.{rows-no_work}
+use Rattle.sky_model.proofs.NodeCalls.{node-back}
 
 -- a retry comes back at this moment, or none does
 abbrev is_back_at : ℤ → Mark → Bool
@@ -106,3 +107,4 @@ retries_come_back_at_calls h (failed who now) =
 retries_come_back_at_calls h (worked part now) =
     back-marks now (database_does database_by_history h (worked part now)).marks
     (each-daemon_does (is_back_at now) now (others-back now) (same-back now) (λ t. refl) (λ t. refl) database_by_history h part)
+retries_come_back_at_calls h (served call) = node-back (database_of h) call

@@ -1,5 +1,5 @@
 -- From what the world shows to what has happened.
-use Rattle.std.proofs.Common.{◌≡◌, ℕ, zero, suc, ◌+◌, ℤ, ◌+ℤ◌, ◌-ℤ◌, int_lt, unsigned_abs, List, [], ◌∷◌, Bool, true, false, nat_le, length, Option, Some, None, refl, sym, ◌∙◌, ap, if◌then◌else◌}
+use Rattle.std.proofs.Common.{◌≡◌, ℕ, zero, suc, ◌+◌, ℤ, ◌+ℤ◌, ◌-ℤ◌, int_lt, unsigned_abs, List, [], ◌∷◌, Bool, true, false, ◌&&◌, is_some, nat_le, length, Option, Some, None, refl, sym, ◌∙◌, ap, if◌then◌else◌}
 use Rattle.sky_model.specs.declared.stmt.Stmt.{Stmt}
 use Rattle.sky_model.specs.declared.reply.Reply.{Reply}
 use Rattle.sky_model.specs.declared.reply.Refusal.TheVariants.{TooMany}
@@ -10,12 +10,13 @@ use Rattle.sky_model.specs.World.{World, world_of, session_names, database_names
 use Rattle.sky_model.specs.Reader.{within_database, by_past, by_world, Deed, answers_with, refuses, appears, founds, idles, joined, followed}
 use Rattle.sky_model.specs.declared.daemon.DaemonPart.{DaemonPart}
 use Rattle.sky_model.specs.declared.daemon.DaemonPart.TheVariants.{Tick, Retry, Maintain}
-use Rattle.sky_model.specs.declared.stmt.Stmt.TheVariants.{Clock}
+use Rattle.sky_model.specs.declared.stmt.Stmt.TheVariants.{CreateRoot, Node, Clock}
 use Rattle.sky_model.specs.declared.reply.Reply.TheVariants.{Moment}
-use Rattle.sky_model.specs.declared.reply.Refusal.TheVariants.{ClockSpent}
+use Rattle.sky_model.specs.declared.reply.Refusal.TheVariants.{ClockSpent, NodeExists}
 use Rattle.sky_model.specs.Daemon.{is_due_at, next_due}
 use Rattle.sky_model.specs.Clock.{deed_in, part_works, daemon_works, daemons_work, at_moment, goes_to, through, last_moment, clock, waits_at}
-use Rattle.sky_model.specs.Calls.{database_turn, opening, opens_in, opens, outside_does, beside, session_does, turn, Call, called, does, after, world_part, past_of, answers_of}
+use Rattle.sky_model.specs.NodesOfWorld.{node_called, node_form}
+use Rattle.sky_model.specs.Calls.{may_make, database_turn, opening, opens_in, opens, outside_does, beside, world_does, roots_in, does_at, session_does, turn, Call, called, does, after, world_part, past_of, answers_of}
 use Rattle.sky_model.specs.Steps.{IsCallInForm, Steps, deed_at, answers_at, after_call}
 use Rattle.sky_model.proofs.Marks.{world_of-fact, world_of-facts}
 use Rattle.sky_model.proofs.DaemonTurns.{same-daemon_does}
@@ -50,10 +51,18 @@ same-outside : (past : Past) → AllLegal past → (who : ℕ) (stmt : Stmt) (na
 same-outside past all who stmt None = refl
 same-outside past all who stmt (Some name) = same-opens past all who stmt name (place_of name (database_names past))
 
+same-at : (past : Past) → AllLegal past → (who : ℕ) (stmt : Stmt) (d : ℕ) → does_at by_past past who stmt d ≡ does_at by_world (world_of past) who stmt d
+same-at past all who (Node stmt) d =
+    ap (λ turn. if may_make ((world_of past).database d) who (Node stmt) then world_does who (node_form (world_of past) d stmt) else deed_in d [] turn)
+    (same-database_turn past all d (world_of past).now who (Node stmt))
+same-at past all who (CreateRoot name queue) d =
+    ap (λ turn. if may_make ((world_of past).database d) who (CreateRoot name queue) && is_some (node_called (world_of past) name) then refuses who (NodeExists name) else roots_in d turn)
+    (same-database_turn past all d (world_of past).now who (CreateRoot name queue))
+same-at past all who stmt d = ap (deed_in d (beside (world_of past) who stmt d)) (same-database_turn past all d (world_of past).now who stmt)
+
 same-session : (past : Past) → AllLegal past → (who : ℕ) (stmt : Stmt) (at : Option ℕ) → session_does by_past past who stmt at ≡ session_does by_world (world_of past) who stmt at
 same-session past all who stmt None = same-outside past all who stmt (opening stmt)
-same-session past all who stmt (Some d) =
-    ap (deed_in d (beside (world_of past) who stmt d)) (same-database_turn past all d (world_of past).now who stmt)
+same-session past all who stmt (Some d) = same-at past all who stmt d
 
 -- ---- the clock
 

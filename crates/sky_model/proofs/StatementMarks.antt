@@ -9,7 +9,7 @@ use Rattle.sky_model.specs.declared.stmt.Attempt.TheVariants.{Insertion, Changes
 use Rattle.sky_model.specs.declared.stmt.RowStmt.{RowStmt}
 use Rattle.sky_model.specs.declared.stmt.RowStmt.TheVariants.{OpenDb, Close, Cancel, Begin, BeginRepeatableRead, Commit, Rollback, TxidCurrent, TxidCurrentSnapshot, TxidVisibleInSnapshot, CreateTable, Insert, Update, Delete, Get, Scan}
 use Rattle.sky_model.specs.declared.stmt.Stmt.{Stmt}
-use Rattle.sky_model.specs.declared.stmt.Stmt.TheVariants.{Row, CreateQueue, DropQueue, SetQueueConfig, QueueInfo, InsertEvent, Ticker, ForceTick, RegisterConsumer, RegisterConsumerAt, UnregisterConsumer, NextBatch, GetBatchEvents, GetBatchInfo, EventRetry, FinishBatch, MaintRetryEvents, MaintRotateStep1, MaintRotateStep2, ConsumerInfo, AddTrigger, Clock, PgqdOn, PgqdOff}
+use Rattle.sky_model.specs.declared.stmt.Stmt.TheVariants.{Row, CreateQueue, DropQueue, SetQueueConfig, QueueInfo, InsertEvent, Ticker, ForceTick, RegisterConsumer, RegisterConsumerAt, UnregisterConsumer, NextBatch, GetBatchEvents, GetBatchInfo, EventRetry, FinishBatch, MaintRetryEvents, MaintRotateStep1, MaintRotateStep2, ConsumerInfo, AddTrigger, CreateRoot, Node, Clock, PgqdOn, PgqdOff}
 use Rattle.sky_model.specs.declared.stmt.Where.{Where}
 use Rattle.sky_model.specs.declared.reply.Reply.{Reply}
 use Rattle.sky_model.specs.declared.reply.Reply.TheVariants.{Refused}
@@ -280,9 +280,9 @@ module _ (who : ℕ) where
   gives-row_form d shown TxidCurrentSnapshot = (tt, tt)
   gives-row_form d shown (TxidVisibleInSnapshot txid snapshot) = search (checked)
   gives-row_form d shown (CreateTable name columns) = search (after)
-  gives-row_form d shown (Insert name row) = search (checked, after, gives-attempt)
-  gives-row_form d shown (Update name key sets) = search (checked, after, gives-attempt)
-  gives-row_form d shown (Delete name key) = search (checked, after, gives-attempt)
+  gives-row_form d shown (Insert name row) = search (checked, after, gives-attempt) depth 8
+  gives-row_form d shown (Update name key sets) = search (checked, after, gives-attempt) depth 8
+  gives-row_form d shown (Delete name key) = search (checked, after, gives-attempt) depth 8
   gives-row_form d shown (Get name key) = search (checked, after, gives-row_or_none)
   gives-row_form d shown (Scan name) = search (checked)
 
@@ -441,9 +441,9 @@ module _ (who : ℕ) where
   gives-ends_switches d (q ∷ queues) =
       checked AnyReply _ (next_id d.part) _ (λ t. (tt, each-append (may_leave (record no_more { queues = true; works = true }) who) (second_steps t (q ∷ queues)) (ended of_worker t true ∷ []) (each-second_steps (may_leave (record no_more { queues = true; works = true }) who) (others-left (record no_more { queues = true; works = true }) refl who) t (q ∷ queues)) tt))
 
-  gives-finishes : (o : Option Batch) → QueueGives (finishes o)
-  gives-finishes None = (tt, tt)
-  gives-finishes (Some batch) = (tt, tt)
+  gives-finishes : (d : Database) (o : Option Batch) → QueueGives (finishes d o)
+  gives-finishes d None = (tt, tt)
+  gives-finishes d (Some batch) = search (after)
 
   -- any statement
   pub gives-form : (d : Database) (shown : Shown) (now : ℤ) (stmt : Stmt) → Gives AnyReply (may_leave (kinds (d.part.session who).is_open stmt) who) (form d shown now who stmt)
@@ -463,7 +463,7 @@ module _ (who : ℕ) where
   gives-form d shown now (DropQueue name) = search (checked, after) depth 8
   gives-form d shown now (SetQueueConfig name param value) = search (checked) depth 8
   gives-form d shown now (QueueInfo name) = search (checked)
-  gives-form d shown now (InsertEvent name ev_type ev_data extra) = search (checked, left-written) depth 8
+  gives-form d shown now (InsertEvent name ev_type ev_data extra) = search (checked, after, left-written) depth 10
   gives-form d shown now (Ticker name) = checked AnyReply _ (queue_called name d) _ (gives-tick (may_leave (record no_more { queues = true }) who) (others-left (record no_more { queues = true }) refl who) d now)
   gives-form d shown now (ForceTick name) = search (checked, after)
   gives-form d shown now (RegisterConsumer name consumer) = search (checked, after, either) depth 8
@@ -472,13 +472,15 @@ module _ (who : ℕ) where
   gives-form d shown now (NextBatch name consumer) = search (checked, after, gives-takes) depth 8
   gives-form d shown now (GetBatchEvents batch) = search (checked)
   gives-form d shown now (GetBatchInfo batch) = search (checked)
-  gives-form d shown now (EventRetry batch event seconds) = search (checked, either) depth 10
-  gives-form d shown now (FinishBatch batch) = gives-finishes (d.batch batch)
+  gives-form d shown now (EventRetry batch event seconds) = search (checked, after, either) depth 12
+  gives-form d shown now (FinishBatch batch) = gives-finishes d (d.batch batch)
   gives-form d shown now MaintRetryEvents = gives-brings d now (due_now now most_back d.retries)
   gives-form d shown now (MaintRotateStep1 name) = checked AnyReply _ (queue_called name d) _ (λ q. gives-rotates d now q (held_back now (d.queue q)))
   gives-form d shown now MaintRotateStep2 = gives-ends_switches d (lack_second_step d)
   gives-form d shown now (ConsumerInfo name consumer) = search (checked) depth 8
-  gives-form d shown now (AddTrigger name table queue backup ignored) = search (checked, after) depth 8
+  gives-form d shown now (AddTrigger name table queue backup ignored) = search (checked, after) depth 10
+  gives-form d shown now (CreateRoot name queue) = search (after, checked, each-append, left-written) depth 10
+  gives-form d shown now (Node stmt) = (tt, tt)
   gives-form d shown now (Clock time) = (tt, tt)
   gives-form d shown now PgqdOn = (tt, tt)
   gives-form d shown now PgqdOff = (tt, tt)

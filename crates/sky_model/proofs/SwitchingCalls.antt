@@ -13,7 +13,7 @@ use Rattle.sky_model.specs.declared.stmt.Stmt.TheVariants.{Row, MaintRotateStep1
 use Rattle.sky_model.specs.declared.stmt.Where.TheVariants.{WhenReading}
 use Rattle.sky_model.specs.declared.daemon.DaemonPart.{DaemonPart}
 use Rattle.sky_model.specs.declared.daemon.DaemonPart.TheVariants as part
-use Rattle.sky_model.specs.History.{Mark, of_session, of_worker, began, ended, block_begun, repeats, block_ended, looked, tabled, waited, queued, switching, switched, History}
+use Rattle.sky_model.specs.History.{Mark, of_session, of_worker, began, ended, block_begun, repeats, block_ended, looked, tabled, waited, read_only, queued, registered, unregistered, opened, closed, traced, untraced, switching, switched, noded, History}
 use Rattle.sky_model.specs.Transactions.{next_txid}
 use Rattle.sky_model.specs.Sessions.{Block, outside, inside, failed, session, has_open, block, own_txid}
 use Rattle.sky_model.specs.Locks.{waiting, attempt}
@@ -36,7 +36,9 @@ use Rattle.sky_model.specs.Settling.{Turn, turn_of, behind_marks, marked, and_th
 use Rattle.sky_model.specs.Daemon.{quietly, ticks_of, moved_by, again_if, retries_of, first_steps_of, second_step_of_all, daemon_does}
 use Rattle.sky_model.specs.Calls.{form, making, statement}
 use Rattle.sky_model.specs.SessionMarks.{look_of, failure, entry_place, enters, failing}
-use Rattle.sky_model.specs.DatabaseCalls.{stepped, entered, failed as failed_call, worked, database_does}
+use Rattle.sky_model.specs.DatabaseCalls.{stepped, entered, failed as failed_call, worked, served, database_does}
+use Rattle.sky_model.specs.StepNode.{NodeCall}
+use Rattle.sky_model.proofs.NodeCalls.{is_for_nodes, each-node}
 use Rattle.sky_model.proofs.Lawful.{database-reads, past-behind}
 use Rattle.sky_model.proofs.Cases.{by_block}
 use Rattle.sky_model.proofs.Good.{same-session, MayStand}
@@ -66,6 +68,21 @@ each-enters who sight (Err refusal) = tt
 
 pub each-entered : (h : History) (who : ℕ) (alone : Bool) → EachMark (may_do inside who) (database_does database_by_history h (entered who alone)).marks
 each-entered h who alone = each-enters who (takes_sight (entry_place alone) (session h who).sight) (allowed (is_waiting who (waiting h)) (has_open who h) (block who h) (entry_place alone))
+
+-- and so does a call for a node
+for-nodes : (mark : Mark) → is_for_nodes mark ≡ true → may_do inside 0 mark ≡ true
+for-nodes (queued (registered q name sub tick)) e = refl
+for-nodes (queued (unregistered q name sub)) e = refl
+for-nodes (queued (opened batch)) e = refl
+for-nodes (queued (closed batch)) e = refl
+for-nodes (queued (traced table name trigger)) e = refl
+for-nodes (queued (untraced table)) e = refl
+for-nodes (tabled (read_only table on)) e = refl
+for-nodes (noded mark) e = refl
+for-nodes _ e = absurd (cc)
+
+pub each-served : (h : History) (call : NodeCall) → EachMark (may_do inside 0) (database_does database_by_history h (served call)).marks
+each-served h call = each-node (may_do inside 0) for-nodes (database_of h) call
 
 module _ (now : ℤ) (K : History → List Mark → Type 0) (is : IsOfCalls now K) where
   -- of a session that isn't outside blocks, or of a worker
@@ -234,3 +251,6 @@ module _ (now : ℤ) (K : History → List Mark → Type 0) (is : IsOfCalls now 
 
   pub of_entered : (h : History) (who : ℕ) (alone : Bool) → K h (database_does database_by_history h (entered who alone)).marks
   of_entered h who alone = within h who (database_does database_by_history h (entered who alone)).marks (each-entered h who alone)
+
+  pub of_served : (h : History) (call : NodeCall) → K h (database_does database_by_history h (served call)).marks
+  of_served h call = within h 0 (database_does database_by_history h (served call)).marks (each-served h call)

@@ -39,7 +39,9 @@ use Rattle.sky_model.specs.Daemon.{quietly, ticks_of, moved_by, again_if, retrie
 use Rattle.sky_model.specs.Calls.{form, making, statement}
 use Rattle.sky_model.specs.SessionMarks.{look_of, failure, entry_place, enters, failing}
 use Rattle.sky_model.specs.Promises.{after_all}
-use Rattle.sky_model.specs.DatabaseCalls.{DatabaseCall, stepped, entered, failed as failed_call, worked, database_does, database_part}
+use Rattle.sky_model.specs.StepNode.{node_does}
+use Rattle.sky_model.proofs.NodeCalls.{is_for_nodes, each-node}
+use Rattle.sky_model.specs.DatabaseCalls.{DatabaseCall, stepped, entered, failed as failed_call, worked, served, database_does, database_part}
 use Rattle.sky_model.proofs.Lawful.{database-reads, past-behind, maint_may}
 use Rattle.sky_model.specs.LawsOfRetries.{IsRetry}
 use Rattle.sky_model.proofs.Resting.{behind-append}
@@ -351,11 +353,18 @@ rests-enters h r who true (Ok _) = rests-mark h (looked who) tt r
 rests-enters h r who false (Ok _) = r
 rests-enters h r who sight (Err refusal) = r
 
+for-nodes : (mark : Mark) → is_for_nodes mark ≡ true → is_no_work mark ≡ true
+for-nodes (began of_worker t) e = absurd (cc)
+for-nodes (ended of_worker t committed) e = absurd (cc)
+for-nodes (queued (returned retry moment)) e = absurd (cc)
+for-nodes _ e = refl
+
 rests-does : (h : History) → Legal h → Rests h → (call : DatabaseCall) → Rests (marked h (database_does database_by_history h call).marks)
 rests-does h l r (stepped who stmt now) = rests-settling now h (turn_of who (statement database_by_history h now who stmt)) (rests-statement h l r now who stmt)
 rests-does h l r (entered who alone) =
     rests-enters h r who (takes_sight (entry_place alone) (session h who).sight) (allowed (is_waiting who (waiting h)) (has_open who h) (block who h) (entry_place alone))
 rests-does h l r (worked work now) = rests-daemon h l r work now
+rests-does h l r (served call) = rests-marks h (marks_of (node_does (database_of h) call)) (each-node is_no_work for-nodes (database_of h) call) r
 rests-does h l r (failed_call who now) =
     rests-settling now h (failing (part_of h) who)
     (rests-marks h (failure who (own_txid who h) (block who h)) (each-failure AnyReply is_no_work (λ _. tt) (no_work-if no_more refl) who (own_txid who h) (block who h)) r)

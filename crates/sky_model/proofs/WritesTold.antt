@@ -10,7 +10,7 @@ use Rattle.sky_model.specs.Sessions.{Session, session, has_open, block, own_txid
 use Rattle.sky_model.specs.Locks.{waiting}
 use Rattle.sky_model.specs.State.{part_of, database_of, after_mark, after_marks}
 use Rattle.sky_model.specs.ShownRows.{rows_in}
-use Rattle.sky_model.specs.Outcome.{Outcome, Checked, ◌>>=◌, does_marks, abort, settled}
+use Rattle.sky_model.specs.Outcome.{Outcome, Checked, ◌>>=◌, does_marks, marks_of, abort, settled}
 use Rattle.sky_model.specs.Allowed.{where_of, allowed}
 use Rattle.sky_model.specs.Made.{takes_sight, looking, runs_if}
 use Rattle.sky_model.specs.StepRows.{attempts}
@@ -20,7 +20,9 @@ use Rattle.sky_model.specs.Settling.{Turn, turn_of, behind_marks, marked, and_th
 use Rattle.sky_model.specs.Calls.{row_form, form, making, statement, turn}
 use Rattle.sky_model.specs.SessionMarks.{look_of, failure, entry_place, enters, failing}
 use Rattle.sky_model.specs.Promises.{after_all}
-use Rattle.sky_model.specs.DatabaseCalls.{DatabaseCall, stepped, entered, failed as failed_call, worked, database_does, database_part}
+use Rattle.sky_model.specs.StepNode.{node_does}
+use Rattle.sky_model.proofs.NodeCalls.{is_for_nodes, each-node}
+use Rattle.sky_model.specs.DatabaseCalls.{DatabaseCall, stepped, entered, failed as failed_call, worked, served, database_does, database_part}
 use Rattle.sky_model.specs.LawsOfWrites.{IsTold, WritesAreTold}
 use Rattle.sky_model.proofs.Marks.{database_of-mark, database_of-marks}
 use Rattle.sky_model.proofs.Lawful.{database-reads, past-behind}
@@ -188,12 +190,17 @@ enters-told h told who true (Ok _) = plain-told h (looked who ∷ []) tt told
 enters-told h told who false (Ok _) = told
 enters-told h told who sight (Err refusal) = told
 
+for-nodes : (mark : Mark) → is_for_nodes mark ≡ true → is_no_write mark ≡ true
+for-nodes (tabled (wrote whose t table key old new)) e = absurd (cc)
+for-nodes _ e = refl
+
 does-told : (h : History) → AllTold h → (call : DatabaseCall) → AllTold (marked h (database_does database_by_history h call).marks)
 does-told h told (stepped who stmt now) = with_settling-told now h (turn_of who (statement database_by_history h now who stmt)) (statement-told h told now who stmt)
 does-told h told (entered who alone) =
     enters-told h told who (takes_sight (entry_place alone) (session h who).sight) (allowed (is_waiting who (waiting h)) (has_open who h) (block who h) (entry_place alone))
 does-told h told (worked part now) =
     plain-told h (daemon_does database_by_history h part now).marks (each-daemon_does is_no_write now (λ mark _. refl) (λ r. refl) (λ t. refl) (λ t. refl) database_by_history h part) told
+does-told h told (served call) = plain-told h (marks_of (node_does (database_of h) call)) (each-node is_no_write for-nodes (database_of h) call) told
 does-told h told (failed_call who now) =
     with_settling-told now h (failing (part_of h) who) (plain-told h (failure who (own_txid who h) (block who h)) (each-failure AnyReply is_no_write (λ _. tt) (plain-if no_more refl) who (own_txid who h) (block who h)) told)
 

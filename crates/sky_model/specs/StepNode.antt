@@ -1,5 +1,5 @@
 -- What is done to the node of a database, and by it. Each reads the database `d` as it is.
-use Rattle.std.specs.Prelude.{ℕ, ℤ, ◌+◌, List, [], ◌∷◌, ◌++◌, false, true, Option, Some, None, option_map, is_some, nat_le, length, Ok, if◌then◌else◌}
+use Rattle.std.specs.Prelude.{ℕ, ℤ, ◌+◌, List, [], ◌∷◌, ◌++◌, false, true, Option, Some, None, option_map, is_some, nat_le, length, Ok}
 use Rattle.std.specs.Option.{option_and_then}
 use Rattle.sky_urlenc.specs.RowEvents.{Trigger}
 use Rattle.sky_names.specs.Places.{place_of}
@@ -113,8 +113,7 @@ node_does d (parting consumer) = if_there (set_queue d) (λ queue. parts queue c
 node_does d (fetching consumer) =
     if_there (set_queue d) (λ queue. if_there ((d.queue queue).sub consumer) (λ sub. takes_batch d queue consumer sub sub.active))
 node_does d (finishing batch) = if_there (d.batch batch) closes
-node_does d (making_leaf name provider tick) =
-    if is_some d.node then answers Null else does_marks Done (noded (leaf_made name provider tick) ∷ [])
+node_does d (making_leaf name provider tick) = does_marks Done (noded (leaf_made name provider tick) ∷ [])
 node_does d (adding name) = if_there (table_number d name) (λ table. adds d table name)
 node_does d (removing name) = if_there (table_number d name) (λ table. removes table name)
 node_does d (moving table state) = does_marks Done (noded (state_set table state) ∷ [])

@@ -25,6 +25,7 @@ pub use reply::{
     Refusal, Replies, Reply, Rows, Waiters,
 };
 pub use stmt::{
-    Attempt, BoxedExtra, Change, ColumnNames, Columns, Extra, NodeStmt, RowStmt, Set, Sets, Stmt, Where,
+    Attempt, BoxedExtra, Change, ColumnNames, Columns, Extra, NodeStmt, RowStmt, Set, Sets, Stmt,
+    Where,
 };
 pub use stop::Stop;

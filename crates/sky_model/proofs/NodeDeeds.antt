@@ -1,0 +1,143 @@
+-- What a statement on nodes does in the world: calls for nodes in databases, one after another.
+use Rattle.std.proofs.Common.{◌≡◌, ℕ, List, [], ◌∷◌, ◌++◌, Bool, true, false, not, ◌&&◌, ◌||◌, map, find, Option, Some, None, Ok, Err, IfOk, is_some, option_map, refl, sym, ◌∙◌, ap, subst, if◌then◌else◌}
+use Rattle.sky_names.specs.Places.{place_of}
+use Rattle.londiste_state.specs.Nodes.{Node, of_root, of_leaf, Root, Leaf, table_of, tables_of, is_among}
+use Rattle.sky_model.specs.declared.stmt.Stmt.TheVariants as stmt
+use Rattle.sky_model.specs.declared.stmt.NodeStmt.{NodeStmt}
+use Rattle.sky_model.specs.declared.stmt.NodeStmt.TheVariants.{CreateLeaf, AddTable, RemoveTable, TableState}
+use Rattle.sky_model.specs.declared.reply.Reply.{Reply}
+use Rattle.sky_model.specs.declared.reply.Reply.TheVariants.{Done}
+use Rattle.sky_model.specs.declared.reply.Refusal.{Refusal}
+use Rattle.sky_model.specs.declared.reply.Refusal.TheVariants.{AlreadyInSet, NodeExists, NoNode, NoTable, NotInSet, NotLeaf, NotProvider, SchemaDiffers, TableInUse}
+use Rattle.sky_model.specs.History.{Mark, Fact, within, noded, leaf_made, node_made, Past}
+use Rattle.sky_model.specs.State.{Database, database_of}
+use Rattle.sky_model.specs.World.{World, world_of, history_in, home, on_top}
+use Rattle.sky_model.specs.Outcome.{Outcome, Checked, ◌>>=◌, ◌>>◌, refused_if, refused_by, found_or, marks_of}
+use Rattle.sky_model.specs.Reader.{by_past, within_database, Deed}
+use Rattle.sky_model.specs.Clock.{deed_in}
+use Rattle.sky_model.specs.StepQueue.{newest_id}
+use Rattle.sky_model.specs.StepNode.{set_queue, joins, lists, unlists, adds, removes, NodeCall, joining, making_leaf, adding, removing, listing, unlisting, if_there, table_number, node_does}
+use Rattle.sky_model.specs.NodesOfWorld.{WorldOutcome, Located, node_called, done_in, leaf_of, create_leaf, provides, are_columns, columns_called, adds_to, add_table, first_user, removes_from, remove_table, shows_state, table_state, node_form}
+use Rattle.sky_model.specs.Calls.{may_make, database_turn, node_if, world_does, does_at}
+use Rattle.sky_model.proofs.PastHistories.{on_top-append, AreQuiet}
+
+-- a database that gets its node changes no history, and no session's home
+pub node-quiet : (b : Bool) (d : ℕ) → AreQuiet (node_if b d)
+node-quiet true d = record { histories = λ past n. refl; homes = λ past who. refl }
+node-quiet false d = record { histories = λ past n. refl; homes = λ past who. refl }
+
+-- what a call for a node leaves in a database
+abbrev call_facts : Past → ℕ → NodeCall → List Fact
+call_facts past d call = map (within d) (marks_of (node_does (database_of (history_in past d)) call))
+
+-- facts that calls leave, one after another, and databases that get their nodes
+data Serves : Past → List Fact → Type 0 where
+  none : (past : Past) → Serves past []
+  last : (past : Past) (d : ℕ) (call : NodeCall) → Serves past (call_facts past d call)
+  first : (past : Past) (d : ℕ) (call : NodeCall) (rest : List Fact) → Serves (on_top past (call_facts past d call)) rest → Serves past (call_facts past d call ++ rest)
+  gets : (past : Past) (d : ℕ) (rest : List Fact) → Serves (node_made d ∷ past) rest → Serves past (node_made d ∷ rest)
+
+-- what each of these keeps, they keep
+module _ (Q : Past → Type 0) (made : (past : Past) (d : ℕ) → Q past → Q (node_made d ∷ past)) (called : (past : Past) (d : ℕ) (call : NodeCall) → Q past → Q (on_top past (call_facts past d call))) where
+  after-serves : (past : Past) (facts : List Fact) → Serves past facts → Q past → Q (on_top past facts)
+  after-serves past _ (none _) q = q
+  after-serves past _ (last _ d call) q = called past d call q
+  after-serves past _ (first _ d call rest also) q =
+      subst Q (sym (on_top-append past (call_facts past d call) rest)) (after-serves (on_top past (call_facts past d call)) rest also (called past d call q))
+  after-serves past _ (gets _ d rest also) q = after-serves (node_made d ∷ past) rest also (made past d q)
+
+-- ---- the statements
+
+module _ (past : Past) where
+  abbrev w : World
+  w = world_of past
+
+  abbrev ServesIfOk : Checked WorldOutcome → Type 0
+  ServesIfOk c = IfOk c (λ o. Serves past o.facts)
+
+  if-test : (b : Bool) (refusal : Refusal) (c : Checked WorldOutcome) → ServesIfOk c → ServesIfOk (refused_if b refusal >> c)
+  if-test true refusal c serves = tt
+  if-test false refusal c serves = serves
+
+  if-refused : (o : Option Refusal) (c : Checked WorldOutcome) → ServesIfOk c → ServesIfOk (refused_by o >> c)
+  if-refused None c serves = serves
+  if-refused (Some refusal) c serves = tt
+
+  if-found : {A : Type 0} (o : Option A) (refusal : Refusal) (next : A → Checked WorldOutcome) → ((a : A) → o ≡ Some a → ServesIfOk (next a)) → ServesIfOk (found_or o refusal >>= next)
+  if-found None refusal next serves = tt
+  if-found (Some a) refusal next serves = serves a refl
+
+  -- what is done in a database is what a call does there
+  serves-done : (d : ℕ) (reply : Reply) (c : Checked Outcome) (call : NodeCall) → c ≡ node_does (database_of (history_in past d)) call → ServesIfOk (done_in d reply c)
+  serves-done d reply c call same = subst (λ x. ServesIfOk (done_in d reply x)) (sym same) (of (node_does (database_of (history_in past d)) call) refl)
+    where
+      of : (x : Checked Outcome) → node_does (database_of (history_in past d)) call ≡ x → ServesIfOk (done_in d reply x)
+      of (Ok outcome) is = subst (λ x. Serves past (map (within d) (marks_of x))) is (last past d call)
+      of (Err refusal) is = tt
+
+  serves-leaf : (d p : ℕ) (name provider : List ℕ) (tick queue : ℕ) (c : Checked Outcome) → c ≡ node_does (database_of (history_in past p)) (joining name)
+      → ServesIfOk (leaf_of d p name provider tick c)
+  serves-leaf d p name provider tick queue (Err refusal) same = tt
+  serves-leaf d p name provider tick queue (Ok joined) same =
+      subst (λ x. Serves past (map (within p) (marks_of x) ++ within d (noded (leaf_made name provider tick)) ∷ node_made d ∷ [])) (sym same)
+      (first past p (joining name) (within d (noded (leaf_made name provider tick)) ∷ node_made d ∷ [])
+      (first (on_top past (call_facts past p (joining name))) d (making_leaf name provider tick) (node_made d ∷ [])
+      (gets _ d [] (none _))))
+
+  serves-create_leaf : (d : ℕ) (name provider : List ℕ) → ServesIfOk (create_leaf w d name provider)
+  serves-create_leaf d name provider =
+      if-test (is_some (node_called w name) || is_some (w.database d).node) (NodeExists name) _
+      (if-found (node_called w provider) (NoNode provider) _ (λ p _.
+      if-found (set_queue (w.database p.database)) (NotProvider provider) _ (λ queue is.
+      serves-leaf d p.database name provider (newest_id ((w.database p.database).queue queue)) queue (joins (w.database p.database) queue name)
+      (sym (ap (λ o. if_there o (λ q. joins (w.database p.database) q name)) is)))))
+
+  serves-adds : (d table : ℕ) (name : List ℕ) (n : Node) → place_of name (w.database d).part.tables ≡ Some table → ServesIfOk (adds_to w d table name n)
+  serves-adds d table name (of_root r) there =
+      if-found (set_queue (w.database d)) (NotProvider r.name) _ (λ queue is.
+      serves-done d Done (lists (w.database d) queue table name) (listing name)
+      (sym (ap (λ o. if_there o (λ q. if_there (table_number (w.database d) name) (λ t. lists (w.database d) q t name))) is
+      ∙ ap (λ o. if_there o (λ t. lists (w.database d) queue t name)) there)))
+  serves-adds d table name (of_leaf l) there =
+      if-found (provides name (node_called w l.provider)) (NotInSet name) _ (λ p _.
+      if-test (not (are_columns ((w.database d).part.columns table) (columns_called name (w.database p)))) (SchemaDiffers name) _
+      (serves-done d Done (adds (w.database d) table name) (adding name) (sym (ap (λ o. if_there o (λ t. adds (w.database d) t name)) there))))
+
+  serves-removes : (d table : ℕ) (name : List ℕ) (n : Node) → place_of name (w.database d).part.tables ≡ Some table → ServesIfOk (removes_from w d table name n)
+  serves-removes d table name (of_root r) there =
+      if-refused (option_map TableInUse (first_user w r.name name)) _
+      (serves-done d Done (unlists table name) (unlisting name) (sym (ap (λ o. if_there o (λ t. unlists t name)) there)))
+  serves-removes d table name (of_leaf l) there = serves-done d Done (removes table name) (removing name) (sym (ap (λ o. if_there o (λ t. removes t name)) there))
+
+  serves-state : (name table : List ℕ) (n : Node) → ServesIfOk (shows_state name table n)
+  serves-state name table (of_root r) = tt
+  serves-state name table (of_leaf l) = if-found (table_of table l) (NotInSet table) _ (λ t _. none past)
+
+  serves-form : (d : ℕ) (s : NodeStmt) → ServesIfOk (node_form w d s)
+  serves-form d (CreateLeaf name provider) = serves-create_leaf d name provider
+  serves-form d (AddTable name table_name) =
+      if-found (node_called w name) (NoNode name) _ (λ n _.
+      if-found (place_of table_name (w.database n.database).part.tables) (NoTable table_name) _ (λ table there.
+      if-test (is_among table_name (tables_of n.node)) (AlreadyInSet table_name) _ (serves-adds n.database table table_name n.node there)))
+  serves-form d (RemoveTable name table_name) =
+      if-found (node_called w name) (NoNode name) _ (λ n _.
+      if-test (not (is_among table_name (tables_of n.node))) (NotInSet table_name) _
+      (if-found (place_of table_name (w.database n.database).part.tables) (NoTable table_name) _ (λ table there. serves-removes n.database table table_name n.node there)))
+  serves-form d (TableState name table) = if-found (node_called w name) (NoNode name) _ (λ n _. serves-state name table n.node)
+
+-- what each of these keeps, a statement on nodes keeps, if it is kept where its session may not make it
+pub after-node_does : (Q : Past → Type 0) → ((past : Past) (d : ℕ) → Q past → Q (node_made d ∷ past))
+    → ((past : Past) (d : ℕ) (call : NodeCall) → Q past → Q (on_top past (map (within d) (marks_of (node_does (database_of (history_in past d)) call)))))
+    → (past : Past) (who : ℕ) (s : NodeStmt) (d : ℕ)
+    → Q (on_top past (deed_in d [] (database_turn (within_database by_past d) past (world_of past).now who (stmt.Node s))).facts)
+    → Q past → Q (on_top past (does_at by_past past who (stmt.Node s) d).facts)
+after-node_does Q made called past who s d refused q = of (may_make ((world_of past).database d) who (stmt.Node s))
+  where
+    does : (c : Checked WorldOutcome) → IfOk c (λ o. Serves past o.facts) → Q (on_top past (world_does who c).facts)
+    does (Ok o) serves = after-serves Q made called past o.facts serves q
+    does (Err refusal) serves = q
+
+    of : (b : Bool) → Q (on_top past (if b then world_does who (node_form (world_of past) d s)
+        else deed_in d [] (database_turn (within_database by_past d) past (world_of past).now who (stmt.Node s))).facts)
+    of true = does (node_form (world_of past) d s) (serves-form past d s)
+    of false = refused
