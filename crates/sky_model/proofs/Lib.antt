@@ -7,6 +7,7 @@ mod WorkedDrops
 mod WorkedConsumers
 mod WorkedRetries
 mod WorkedRotations
+mod WorkedNodes
 mod WorkedOpening
 mod WorkedRows
 mod WorkedBatches
