@@ -4,13 +4,13 @@ use Rattle.std.specs.Prelude.{int_le, unwrap_or}
 use Rattle.std.specs.List.{All}
 use Rattle.std.proofs.lemmas.List.Elements.{All-cons, All-head, All-tail, All-filter, All-weaker}
 use Rattle.sky_model.specs.Retries.{brought_by}
-use Rattle.sky_model.specs.State.{RowPart, Database, changed_at, with_tables, after_marks}
+use Rattle.sky_model.specs.State.{Database, changed_at, with_tables, after_marks}
 use Rattle.sky_model.specs.StepRetry.{back}
 use Rattle.pgq_retry.specs.declared.retry.Retry.{Retry}
 use Rattle.pgq_retry.specs.Retries.{is_event, put_by, sorted_by, by_due, is_due, due_now, without}
 use Rattle.pgq_retry.proofs.TakingDue.{taken_are}
 use Rattle.pgq_queues.specs.Views.{QueueView, QueuesView}
-use Rattle.pgq_queues.specs.Seen.{no_queue, seen_queue, queue_at, seen_with}
+use Rattle.pgq_queues.specs.Seen.{no_queue, seen_queue, queue_at, seen_with, Beside}
 use Rattle.pgq_tables.specs.Tables.{Stored, with_stored}
 use Rattle.pgq_queues.specs.Rotated.{retabled}
 use Rattle.pgq_queues.specs.Retried.{RetriedAtMost, IsWaiting, RetriedWithin}
@@ -42,11 +42,11 @@ within-left {rounds} sub ev_id queues rs left is within = record { waiting = all
 -- one is back in its queue, and waits no more
 pub brought-as : (v now : QueuesView) (r : Retry) (t : ℕ) (moment : ℤ) (old new : QueueView) (left : List Retry) → v ≡ now → r.queue < length v.queues → old ≡ get_or v.queues r.queue old
     → new ≡ retabled (with_stored (brought_by t r.event)) old → left ≡ without r.sub r.event.ev_id v.retries
-    → (part : RowPart) → seen_with part (record v { queues = slice_set v.queues r.queue new; retries = left }) ≡ after_marks (seen_with part now) (back moment t (r ∷ []))
-brought-as v now r t moment old new left same lt at is less part =
+    → (beside : Beside) → seen_with beside (record v { queues = slice_set v.queues r.queue new; retries = left }) ≡ after_marks (seen_with beside now) (back moment t (r ∷ []))
+brought-as v now r t moment old new left same lt at is less beside =
     ap (λ (d : Database). record d { retries = left })
-    (queues-set v now r.queue old new (with_tables (with_stored (brought_by t r.event))) same lt at (ap seen_queue is) (ap QueueView.subs is) part)
-    ∙ ap (λ rs. record (seen_with part now) { queue = changed_at r.queue (with_tables (with_stored (brought_by t r.event))) (queue_at now); retries = rs })
+    (queues-set v now r.queue old new (with_tables (with_stored (brought_by t r.event))) same lt at (ap seen_queue is) (ap QueueView.subs is) beside)
+    ∙ ap (λ rs. record (seen_with beside now) { queue = changed_at r.queue (with_tables (with_stored (brought_by t r.event))) (queue_at now); retries = rs })
     (less ∙ ap (λ (w : QueuesView). without r.sub r.event.ev_id w.retries) same)
 
 -- the first of so many
@@ -64,13 +64,13 @@ brought-then d e f count t moment r rs left some first one rest =
 
 pub bring-marks : {A E : Type 0} → (o : Result A E) (v now new : QueuesView) (r : Retry) (t count : ℕ) (old q : QueueView) (left : List Retry) → v ≡ now → r.queue < length v.queues → old ≡ get_or v.queues r.queue old
     → q ≡ retabled (with_stored (brought_by t r.event)) old → left ≡ without r.sub r.event.ev_id v.retries → (count ≡ 0 → ⊥) → by_due v.retries ≡ r ∷ by_due left
-    → OnOk o ((moment : ℤ) (part : RowPart) → seen_with part new
-    ≡ after_marks (seen_with part (record v { queues = slice_set v.queues r.queue q; retries = left })) (back moment t (take (count - 1) (by_due left))))
-    → OnOk o ((moment : ℤ) (part : RowPart) → seen_with part new ≡ after_marks (seen_with part now) (back moment t (take count (by_due now.retries))))
+    → OnOk o ((moment : ℤ) (beside : Beside) → seen_with beside new
+    ≡ after_marks (seen_with beside (record v { queues = slice_set v.queues r.queue q; retries = left })) (back moment t (take (count - 1) (by_due left))))
+    → OnOk o ((moment : ℤ) (beside : Beside) → seen_with beside new ≡ after_marks (seen_with beside now) (back moment t (take count (by_due now.retries))))
 bring-marks (Err e) v now new r t count old q left same lt at is less some first marks = tt
-bring-marks (Ok a) v now new r t count old q left same lt at is less some first marks = λ moment part.
-    brought-then (seen_with part now) (seen_with part (record v { queues = slice_set v.queues r.queue q; retries = left })) (seen_with part new) count t moment r now.retries left some
-    (ap (λ (w : QueuesView). by_due w.retries) (sym same) ∙ first) (brought-as v now r t moment old q left same lt at is less part) (marks moment part)
+bring-marks (Ok a) v now new r t count old q left same lt at is less some first marks = λ moment beside.
+    brought-then (seen_with beside now) (seen_with beside (record v { queues = slice_set v.queues r.queue q; retries = left })) (seen_with beside new) count t moment r now.retries left some
+    (ap (λ (w : QueuesView). by_due w.retries) (sym same) ∙ first) (brought-as v now r t moment old q left same lt at is less beside) (marks moment beside)
 
 -- those that come back at a time are the first ones
 fewer : (p : Retry → Bool) (rs : List Retry) → length (filter p rs) ≤ length rs
@@ -107,10 +107,10 @@ all-most queues rs within k d lt = (within.waiting k d lt).most
 
 -- all that are due have come back
 pub back-marks : (v now new : QueuesView) (more t count : ℕ) (moment : ℤ) (most : ℕ) → v ≡ now → count ≡ length (due_now moment most now.retries)
-    → ((m : ℤ) (part : RowPart) → seen_with part new ≡ after_marks (seen_with part (record v { rounds = more })) (back m t (take count (by_due v.retries))))
-    → (part : RowPart) → seen_with part new ≡ after_marks (seen_with part now) (back moment t (due_now moment most now.retries))
-back-marks v now new more t count moment most same is marks part =
-    marks moment part
-    ∙ ap (λ (w : QueuesView). after_marks (seen_with part w) (back moment t (take count (by_due w.retries)))) same
-    ∙ ap (λ n. after_marks (seen_with part now) (back moment t (take n (by_due now.retries)))) is
-    ∙ ap (λ rs. after_marks (seen_with part now) (back moment t rs)) (due-taken moment most now.retries)
+    → ((m : ℤ) (beside : Beside) → seen_with beside new ≡ after_marks (seen_with beside (record v { rounds = more })) (back m t (take count (by_due v.retries))))
+    → (beside : Beside) → seen_with beside new ≡ after_marks (seen_with beside now) (back moment t (due_now moment most now.retries))
+back-marks v now new more t count moment most same is marks beside =
+    marks moment beside
+    ∙ ap (λ (w : QueuesView). after_marks (seen_with beside w) (back moment t (take count (by_due w.retries)))) same
+    ∙ ap (λ n. after_marks (seen_with beside now) (back moment t (take n (by_due now.retries)))) is
+    ∙ ap (λ rs. after_marks (seen_with beside now) (back moment t rs)) (due-taken moment most now.retries)

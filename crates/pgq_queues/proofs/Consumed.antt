@@ -9,7 +9,7 @@ use Rattle.sky_model.specs.History as model
 use Rattle.sky_model.specs.History.{queued, registered, moved, unregistered, opened, closed}
 use Rattle.sky_model.specs.Consumers.{all_but, Subscription, of_another}
 use Rattle.sky_model.specs.Triggers.{TableTrigger}
-use Rattle.sky_model.specs.State.{Queue, RowPart, Database, changed_at, changed_for, with_batch, at_position, after_mark}
+use Rattle.sky_model.specs.State.{Queue, Database, changed_at, changed_for, with_batch, at_position, after_mark}
 use Rattle.pgq_retry.specs.declared.retry.Retry.{Retry}
 use Rattle.pgq_retry.specs.Retries.{without_sub}
 use Rattle.pgq_sub.specs.declared.sub.OpenBatch.{OpenBatch}
@@ -17,7 +17,7 @@ use Rattle.pgq_sub.specs.Views.{SubView, seen_sub, with_open, at_tick, after_bat
 use Rattle.pgq_sub.specs.Seen.{SubsSeen, seen_subs, shown, with_member, with_sub, without_member}
 use Rattle.pgq_queues.specs.declared.batch.Place.{Place}
 use Rattle.pgq_queues.specs.Views.{QueueView, TracedTableView, QueuesView}
-use Rattle.pgq_queues.specs.Seen.{no_queue, seen_queue, sub_at, batch_of, batch_by, batch_at, kept, queue_at, seen_with, Stands}
+use Rattle.pgq_queues.specs.Seen.{no_queue, seen_queue, sub_at, batch_of, batch_by, batch_at, kept, queue_at, seen_with, Stands, Beside}
 use Rattle.pgq_queues.specs.Batches.{open_id, but_of, AreIndexed, BatchesWithin}
 use Rattle.pgq_queues.specs.Numbers.{AreNumbers}
 use Rattle.pgq_queues.specs.Traced.{TracedWithin}
@@ -71,10 +71,10 @@ sub-here queues i old name lt at = ap (λ (q : QueueView). value_of name q.subs)
 -- what is shown after a queue and the batches have changed
 pub shown-after : (v now : QueuesView) (i : ℕ) (old new : QueueView) (f : Queue → Queue) (places : List (ℕ × Place)) (shows : QueuesView → ℕ → Option model.Batch) → v ≡ now → i < length v.queues → old ≡ get_or v.queues i old
     → seen_queue new ≡ f (seen_queue old) → ((id : ℕ) → batches_of (slice_set v.queues i new) places id ≡ shows v id)
-    → (part : RowPart) → seen_with part (record v { queues = slice_set v.queues i new; batches = places }) ≡ record (seen_with part now) { queue = changed_at i f (queue_at now); batch = shows now }
-shown-after v now i old new f places shows same lt at is batches part =
-    (λ j. record (seen_with part v) { queues_made = length-set v.queues i new j; queue = one-set v i old new f lt at is j; batch = λ id. batches id j })
-    ∙ ap (λ (w : QueuesView). record (seen_with part w) { queue = changed_at i f (queue_at w); batch = shows w }) same
+    → (beside : Beside) → seen_with beside (record v { queues = slice_set v.queues i new; batches = places }) ≡ record (seen_with beside now) { queue = changed_at i f (queue_at now); batch = shows now }
+shown-after v now i old new f places shows same lt at is batches beside =
+    (λ j. record (seen_with beside v) { queues_made = length-set v.queues i new j; queue = one-set v i old new f lt at is j; batch = λ id. batches id j })
+    ∙ ap (λ (w : QueuesView). record (seen_with beside w) { queue = changed_at i f (queue_at w); batch = shows w }) same
 
 -- what holds of all still holds
 pub within-subs : {last next : ℕ} → (numbers : NamedView ℕ) (queues : List QueueView) (i : ℕ) (old new : QueueView) (batches more : List (ℕ × Place)) (triggers : List TableTrigger) (all : List (ℕ × TracedTableView))
@@ -127,8 +127,8 @@ within-come {last} numbers queues i id tick name old new batches triggers all lt
 
 pub registered-as : (v now : QueuesView) (i id tick : ℕ) (name : List ℕ) (old new : QueueView) → v ≡ now → i < length v.queues → old ≡ get_or v.queues i old → new ≡ record old { subs = new.subs }
     → seen_subs new.subs ≡ with_member name id tick (seen_subs old.subs) → id ≡ now.last_sub_id + 1 → (queue_at now i).sub name ≡ None
-    → (part : RowPart) → seen_with part (record v { last_sub_id = id; queues = slice_set v.queues i new }) ≡ after_mark (seen_with part now) (queued (registered i name (now.last_sub_id + 1) tick))
-registered-as v now i id tick name old new same lt at but is next none part =
+    → (beside : Beside) → seen_with beside (record v { last_sub_id = id; queues = slice_set v.queues i new }) ≡ after_mark (seen_with beside now) (queued (registered i name (now.last_sub_id + 1) tick))
+registered-as v now i id tick name old new same lt at but is next none beside =
     ap (λ (d : Database). record d { last_sub_id = id })
     (shown-after v now i old new (λ q. record q { members = q.members ++ name ∷ []; sub = changed_for name (λ _. Some (record { id = id; position = tick; active = None })) q.sub }) v.batches batch_at same lt at
     (subs-changed old new _ but is
@@ -137,8 +137,8 @@ registered-as v now i id tick name old new same lt at but is next none part =
       sub = shown-changed name (λ _. Some (record { id = id; position = tick; active = None })) (λ _. Some (record { id = id; position = tick; active = None })) (seen_subs old.subs).kept refl j;
     }))
     (batches-come i name (record { id = id; position = tick; active = None }) (sub_at v.queues) (sub_at (slice_set v.queues i new)) (kept v.batches) (not-kept v now i name same none) refl
-    (subs-set v.queues i old new name (λ _. Some (record { id = id; position = tick; active = None })) lt at (becomes name (λ _. Some (record { id = id; position = tick; active = None })) old new _ is))) part)
-    ∙ (λ j. after_mark (seen_with part now) (queued (registered i name (next j) tick)))
+    (subs-set v.queues i old new name (λ _. Some (record { id = id; position = tick; active = None })) lt at (becomes name (λ _. Some (record { id = id; position = tick; active = None })) old new _ is))) beside)
+    ∙ (λ j. after_mark (seen_with beside now) (queued (registered i name (next j) tick)))
 
 -- ---- a consumer was moved, or has left
 
@@ -162,24 +162,24 @@ without-batch v last i name f gone old new rest lt at is one less are id =
 pub moved-as : (v now : QueuesView) (last i tick : ℕ) (name : List ℕ) (gone : Option ℕ) (old new : QueueView) (rest : List (ℕ × Place)) → v ≡ now → i < length v.queues → old ≡ get_or v.queues i old
     → new ≡ record old { subs = new.subs } → seen_subs new.subs ≡ with_sub name (at_tick tick) (seen_subs old.subs) → gone ≡ open_id (value_of name old.subs)
     → ((id : ℕ) → kept rest id ≡ but_of gone id (kept v.batches id)) → AreIndexed last (sub_at v.queues) (kept v.batches)
-    → (part : RowPart) → seen_with part (record v { queues = slice_set v.queues i new; batches = rest }) ≡ after_mark (seen_with part now) (queued (moved i name tick))
-moved-as v now last i tick name gone old new rest same lt at but is one less are part =
+    → (beside : Beside) → seen_with beside (record v { queues = slice_set v.queues i new; batches = rest }) ≡ after_mark (seen_with beside now) (queued (moved i name tick))
+moved-as v now last i tick name gone old new rest same lt at but is one less are beside =
     shown-after v now i old new (λ q. record q { sub = changed_for name (option_map (at_position tick)) q.sub }) rest (λ w id. of_another i name (batch_at w id)) same lt at
     (subs-changed old new _ but is
     ∙ (λ j. record (seen_queue old) { sub = shown-changed name (option_map (at_tick tick)) (option_map (at_position tick)) (seen_subs old.subs).kept (seen-tick tick (value_of name old.subs)) j }))
-    (without-batch v last i name (option_map (at_tick tick)) gone old new rest lt at (becomes name (option_map (at_tick tick)) old new _ is) one less are) part
+    (without-batch v last i name (option_map (at_tick tick)) gone old new rest lt at (becomes name (option_map (at_tick tick)) old new _ is) one less are) beside
 
 pub unregistered-as : (v now : QueuesView) (last i sub : ℕ) (name : List ℕ) (gone : Option ℕ) (old new : QueueView) (rest : List (ℕ × Place)) (left : List Retry) → v ≡ now → i < length v.queues → old ≡ get_or v.queues i old
     → new ≡ record old { subs = new.subs } → seen_subs new.subs ≡ without_member name (seen_subs old.subs) → gone ≡ open_id (value_of name old.subs)
     → ((id : ℕ) → kept rest id ≡ but_of gone id (kept v.batches id)) → AreIndexed last (sub_at v.queues) (kept v.batches) → left ≡ without_sub sub v.retries
-    → (part : RowPart) → seen_with part (record v { queues = slice_set v.queues i new; batches = rest; retries = left }) ≡ after_mark (seen_with part now) (queued (unregistered i name sub))
-unregistered-as v now last i sub name gone old new rest left same lt at but is one less are fewer part =
+    → (beside : Beside) → seen_with beside (record v { queues = slice_set v.queues i new; batches = rest; retries = left }) ≡ after_mark (seen_with beside now) (queued (unregistered i name sub))
+unregistered-as v now last i sub name gone old new rest left same lt at but is one less are fewer beside =
     ap (λ (d : Database). record d { retries = left })
     (shown-after v now i old new (λ q. record q { members = all_but name q.members; sub = changed_for name (λ _. None) q.sub }) rest (λ w id. of_another i name (batch_at w id)) same lt at
     (subs-changed old new _ but is
     ∙ (λ j. record (seen_queue old) { members = all_but name (seen_queue old).members; sub = shown-changed name (λ _. None) (λ _. None) (seen_subs old.subs).kept refl j }))
-    (without-batch v last i name (λ _. None) gone old new rest lt at (becomes name (λ _. None) old new _ is) one less are) part)
-    ∙ ap (λ rs. record (after_mark (seen_with part now) (queued (unregistered i name sub))) { retries = rs }) (fewer ∙ ap (λ (w : QueuesView). without_sub sub w.retries) same)
+    (without-batch v last i name (λ _. None) gone old new rest lt at (becomes name (λ _. None) old new _ is) one less are) beside)
+    ∙ ap (λ rs. record (after_mark (seen_with beside now) (queued (unregistered i name sub))) { retries = rs }) (fewer ∙ ap (λ (w : QueuesView). without_sub sub w.retries) same)
 
 -- ---- a batch is finished
 
@@ -200,7 +200,7 @@ pub closed-as : (v now : QueuesView) (last id : ℕ) (p : Place) (old new : Queu
     → new ≡ record old { subs = new.subs } → seen_subs new.subs ≡ with_sub p.consumer finished (seen_subs old.subs) → Some p ≡ kept v.batches id
     → ((n : ℕ) → kept rest n ≡ but_of (Some id) n (kept v.batches n)) → AreIndexed last (sub_at v.queues) (kept v.batches)
     → (batch : model.Batch) × (batch_at now id ≡ Some batch)
-    × ((part : RowPart) → seen_with part (record v { queues = slice_set v.queues p.queue new; batches = rest }) ≡ after_mark (seen_with part now) (queued (closed batch)))
+    × ((beside : Beside) → seen_with beside (record v { queues = slice_set v.queues p.queue new; batches = rest }) ≡ after_mark (seen_with beside now) (queued (closed batch)))
 closed-as v now last id p old new rest same lt at but is found less are = by (open-parts (sub_at v.queues p.queue p.consumer) id (are.there id p (sym found)))
   where
     here : sub_at v.queues p.queue p.consumer ≡ value_of p.consumer old.subs
@@ -208,14 +208,14 @@ closed-as v now last id p old new rest same lt at but is found less are = by (op
 
     by : (s : SubView) × (cur : ℕ) × (sub_at v.queues p.queue p.consumer ≡ Some s) × (s.active ≡ Some (record { id = id; cur = cur }))
         → (batch : model.Batch) × (batch_at now id ≡ Some batch)
-        × ((part : RowPart) → seen_with part (record v { queues = slice_set v.queues p.queue new; batches = rest }) ≡ after_mark (seen_with part now) (queued (closed batch)))
+        × ((beside : Beside) → seen_with beside (record v { queues = slice_set v.queues p.queue new; batches = rest }) ≡ after_mark (seen_with beside now) (queued (closed batch)))
     by (s, cur, there, has) = (
       record { id = id; queue = p.queue; consumer = p.consumer; sub = s.id; prev = s.position; cur = cur },
       ap (λ (w : QueuesView). batch_at w id) (sym same)
           ∙ ap (batch_by (sub_at v.queues) id) (sym found)
           ∙ ap (option_and_then (batch_of id p)) there
           ∙ ap (option_map (λ (b : OpenBatch). record { id = id; queue = p.queue; consumer = p.consumer; sub = s.id; prev = s.position; cur = b.cur })) has,
-      λ part.
+      λ beside.
           shown-after v now p.queue old new (λ q. record q { sub = changed_for p.consumer (option_map (at_position cur)) q.sub }) rest (λ w. changed_at id (λ _. None) (batch_at w)) same lt at
           (subs-changed old new _ but is
           ∙ (λ j. record (seen_queue old) {
@@ -223,7 +223,7 @@ closed-as v now last id p old new rest same lt at but is found less are = by (op
                 (seen-finished (value_of p.consumer old.subs) s (record { id = id; cur = cur }) (sym here ∙ there) has) j;
           }))
           (batches-less last p.queue p.consumer (option_map finished) (Some id) (sub_at v.queues) (sub_at (slice_set v.queues p.queue new)) (kept v.batches) (kept rest) (sym (are.there id p (sym found)))
-          (subs-set v.queues p.queue old new p.consumer (option_map finished) lt at (becomes p.consumer (option_map finished) old new _ is)) less are) part,
+          (subs-set v.queues p.queue old new p.consumer (option_map finished) lt at (becomes p.consumer (option_map finished) old new _ is)) less are) beside,
     )
 
 -- ---- a consumer has a new batch
@@ -261,13 +261,13 @@ within-more {last} numbers queues cur id p old new batches more triggers all lt 
 pub opened-as : (v now : QueuesView) (cur id : ℕ) (p : Place) (old new : QueueView) (more : List (ℕ × Place)) → v ≡ now → p.queue < length v.queues → old ≡ get_or v.queues p.queue old → new ≡ record old { subs = new.subs }
     → seen_subs new.subs ≡ with_sub p.consumer (with_open (record { id = id; cur = cur })) (seen_subs old.subs) → id ≡ v.last_batch_id + 1 → option_map Subscription.active ((queue_at now p.queue).sub p.consumer) ≡ Some None
     → ((n : ℕ) → kept more n ≡ and_at id p n (kept v.batches n)) → AreIndexed v.last_batch_id (sub_at v.queues) (kept v.batches)
-    → (part : RowPart) (sub : Subscription) → (queue_at now p.queue).sub p.consumer ≡ Some sub
-    → seen_with part (record v { last_batch_id = id; queues = slice_set v.queues p.queue new; batches = more })
-    ≡ after_mark (seen_with part now) (queued (opened (record { id = now.last_batch_id + 1; queue = p.queue; consumer = p.consumer; sub = sub.id; prev = sub.position; cur = cur })))
-opened-as v now cur id p old new more same lt at but is next free adds are part sub its = by (is-free v now p.queue p.consumer same free)
+    → (beside : Beside) (sub : Subscription) → (queue_at now p.queue).sub p.consumer ≡ Some sub
+    → seen_with beside (record v { last_batch_id = id; queues = slice_set v.queues p.queue new; batches = more })
+    ≡ after_mark (seen_with beside now) (queued (opened (record { id = now.last_batch_id + 1; queue = p.queue; consumer = p.consumer; sub = sub.id; prev = sub.position; cur = cur })))
+opened-as v now cur id p old new more same lt at but is next free adds are beside sub its = by (is-free v now p.queue p.consumer same free)
   where
-    by : (s : SubView) × (sub_at v.queues p.queue p.consumer ≡ Some s) × (s.active ≡ None) → seen_with part (record v { last_batch_id = id; queues = slice_set v.queues p.queue new; batches = more })
-        ≡ after_mark (seen_with part now) (queued (opened (record { id = now.last_batch_id + 1; queue = p.queue; consumer = p.consumer; sub = sub.id; prev = sub.position; cur = cur })))
+    by : (s : SubView) × (sub_at v.queues p.queue p.consumer ≡ Some s) × (s.active ≡ None) → seen_with beside (record v { last_batch_id = id; queues = slice_set v.queues p.queue new; batches = more })
+        ≡ after_mark (seen_with beside now) (queued (opened (record { id = now.last_batch_id + 1; queue = p.queue; consumer = p.consumer; sub = sub.id; prev = sub.position; cur = cur })))
     by (s, has, none) =
         let seen : seen_sub s ≡ sub = same_Some _ _ (ap (option_map seen_sub) (sym has) ∙ ap (λ (w : QueuesView). (queue_at w p.queue).sub p.consumer) same ∙ its) in
         let whole : id ≡ now.last_batch_id + 1 = next ∙ ap (λ (w : QueuesView). w.last_batch_id + 1) same in
@@ -276,8 +276,8 @@ opened-as v now cur id p old new more same lt at but is next free adds are part 
         (λ w. changed_at id (λ _. Some (record { id = id; queue = p.queue; consumer = p.consumer; sub = s.id; prev = s.position; cur = cur })) (batch_at w)) same lt at
         (subs-changed old new _ but is
         ∙ (λ j. record (seen_queue old) { sub = shown-changed p.consumer (option_map (with_open (record { id = id; cur = cur }))) (option_map (with_batch id)) (seen_subs old.subs).kept (opens (value_of p.consumer old.subs)) j }))
-        shows part)
-        ∙ (λ j. after_mark (seen_with part now) (queued (opened (record { id = whole j; queue = p.queue; consumer = p.consumer; sub = (seen j).id; prev = (seen j).position; cur = cur }))))
+        shows beside)
+        ∙ (λ j. after_mark (seen_with beside now) (queued (opened (record { id = whole j; queue = p.queue; consumer = p.consumer; sub = (seen j).id; prev = (seen j).position; cur = cur }))))
       where
         opens : (o : Option SubView) → option_map seen_sub (option_map (with_open (record { id = id; cur = cur })) o) ≡ option_map (with_batch id) (option_map seen_sub o)
         opens None = refl

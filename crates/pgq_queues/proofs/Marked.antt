@@ -23,7 +23,7 @@ use Rattle.pgq_queues.specs.declared.batch.Place.{Place}
 use Rattle.pgq_sub.specs.Views.{SubView}
 use Rattle.pgq_sub.specs.Seen.{SubsSeen, seen_subs, shown, no_subs}
 use Rattle.pgq_queues.specs.Views.{QueueView, TracedTableView, QueuesView}
-use Rattle.pgq_queues.specs.Seen.{seen_queue, no_queue, batch_by, sub_at, kept, numbered, queue_at, seen_with}
+use Rattle.pgq_queues.specs.Seen.{seen_queue, no_queue, batch_by, sub_at, kept, numbered, queue_at, seen_with, Beside}
 use Rattle.pgq_queues.specs.Traced.{AreTables}
 use Rattle.pgq_queues.specs.Numbers.{Rise}
 use Rattle.pgq_queues.proofs.NumberedQueues.{numbered-more, others-removed}
@@ -112,14 +112,14 @@ pub batches-same : (old new : List QueueView) (batches : List (ℕ × Place)) �
 batches-same old new batches same = λ j id. batch_by (λ n c. same n c j) id (kept batches id)
 
 pub queues-set : (v now : QueuesView) (i : ℕ) (old new : QueueView) (f : Queue → Queue) → v ≡ now → i < length v.queues → old ≡ get_or v.queues i old → seen_queue new ≡ f (seen_queue old) → new.subs ≡ old.subs
-    → (part : RowPart) → seen_with part (record v { queues = slice_set v.queues i new }) ≡ record (seen_with part now) { queue = changed_at i f (queue_at now) }
-queues-set v now i old new f same lt at is subs part =
-    (λ j. record (seen_with part v) {
+    → (beside : Beside) → seen_with beside (record v { queues = slice_set v.queues i new }) ≡ record (seen_with beside now) { queue = changed_at i f (queue_at now) }
+queues-set v now i old new f same lt at is subs beside =
+    (λ j. record (seen_with beside v) {
       queues_made = length-set v.queues i new j;
       queue = one-set v i old new f lt at is j;
       batch = batches-same v.queues (slice_set v.queues i new) v.batches (sub_at-set v.queues i old new lt at subs) j;
     })
-    ∙ ap (λ (w : QueuesView). record (seen_with part w) { queue = changed_at i f (queue_at w) }) same
+    ∙ ap (λ (w : QueuesView). record (seen_with beside w) { queue = changed_at i f (queue_at w) }) same
 
 -- the queue at a place is what is shown there
 pub queue-at : (v now : QueuesView) (i : ℕ) (q : QueueView) → v ≡ now → i < length v.queues → q ≡ get_or v.queues i q → seen_queue q ≡ queue_at now i
@@ -130,17 +130,17 @@ queue-at v now i q same lt at =
 -- a tick that is stored is one with the snapshot as it was and with the value of the sequence
 pub ticked-as : (v now : QueuesView) (i id : ℕ) (time : ℤ) (snapshot : SnapshotView) (old new : QueueView) → v ≡ now → i < length v.queues → old ≡ get_or v.queues i old
     → new ≡ record old { ticks = old.ticks ++ record { id = id; time = time; snapshot = snapshot; seq = old.seq } ∷ [] }
-    → (part : RowPart) → snapshot ≡ snapshot_now part → seen_with part (record v { queues = slice_set v.queues i new }) ≡ after_mark (seen_with part now) (queued (ticked i id time (queue_at now i).seq))
-ticked-as v now i id time snapshot old new same lt at is part snap =
-    queues-set v now i old new (λ q. record q { tick_list = q.tick_list ++ record { id = id; time = time; snapshot = snapshot; seq = old.seq } ∷ [] }) same lt at (ap seen_queue is) (ap QueueView.subs is) part
-    ∙ (λ j. record (seen_with part now) {
+    → (beside : Beside) → snapshot ≡ snapshot_now beside.part → seen_with beside (record v { queues = slice_set v.queues i new }) ≡ after_mark (seen_with beside now) (queued (ticked i id time (queue_at now i).seq))
+ticked-as v now i id time snapshot old new same lt at is beside snap =
+    queues-set v now i old new (λ q. record q { tick_list = q.tick_list ++ record { id = id; time = time; snapshot = snapshot; seq = old.seq } ∷ [] }) same lt at (ap seen_queue is) (ap QueueView.subs is) beside
+    ∙ (λ j. record (seen_with beside now) {
       queue = changed_at i (λ q. record q { tick_list = q.tick_list ++ record { id = id; time = time; snapshot = snap j; seq = (queue-at v now i old same lt at j).seq } ∷ [] }) (queue_at now);
     })
 
 -- nothing changes if a queue stays as it was
-pub queue-kept : (v now : QueuesView) (i : ℕ) (old new : QueueView) → v ≡ now → old ≡ get_or v.queues i old → new ≡ old → (part : RowPart) → seen_with part (record v { queues = slice_set v.queues i new }) ≡ seen_with part now
-queue-kept v now i old new same at is part =
-    ap (λ (qs : List QueueView). seen_with part (record v { queues = qs })) (ap (slice_set v.queues i) (is ∙ at) ∙ set-get_or v.queues i old) ∙ ap (seen_with part) same
+pub queue-kept : (v now : QueuesView) (i : ℕ) (old new : QueueView) → v ≡ now → old ≡ get_or v.queues i old → new ≡ old → (beside : Beside) → seen_with beside (record v { queues = slice_set v.queues i new }) ≡ seen_with beside now
+queue-kept v now i old new same at is beside =
+    ap (λ (qs : List QueueView). seen_with beside (record v { queues = qs })) (ap (slice_set v.queues i) (is ∙ at) ∙ set-get_or v.queues i old) ∙ ap (seen_with beside) same
 
 -- a queue without subscriptions was made, or dropped
 pub sub_at-more : (queues : List QueueView) (q : QueueView) → q.subs ≡ no_subs → (n : ℕ) (consumer : List ℕ) → sub_at (queues ++ q ∷ []) n consumer ≡ sub_at queues n consumer
@@ -164,10 +164,10 @@ sub_at-gone queues i lt none n consumer = ap (λ (q : QueueView). value_of consu
 pub made-as : (v now : QueuesView) (names : NamedView ℕ) (queues : List QueueView) (q : QueueView) (name : List ℕ) (number txid : ℕ) (t : Tick) → v ≡ now
     → names ≡ record { names = v.names.names ++ name ∷ []; values = v.names.values ++ number ∷ [] } → number ≡ length v.queues → queues ≡ v.queues ++ q ∷ []
     → q ≡ record { config = default_config; seq = 0; tables = record { tables = new_tables txid t.time; reads = 0 }; ticks = t ∷ []; subs = no_subs } → length v.names.values ≡ length v.names.names
-    → t.id ≡ 1 → t.seq ≡ 0 → (part : RowPart) → t.snapshot ≡ snapshot_now part
-    → seen_with part (record v { names = names; queues = queues }) ≡ after_mark (seen_with part now) (queued (made name txid t.time))
-made-as v now names queues q name number txid t same more next one new count id seq part snap =
-    (λ i. record (seen_with part v) {
+    → t.id ≡ 1 → t.seq ≡ 0 → (beside : Beside) → t.snapshot ≡ snapshot_now beside.part
+    → seen_with beside (record v { names = names; queues = queues }) ≡ after_mark (seen_with beside now) (queued (made name txid t.time))
+made-as v now names queues q name number txid t same more next one new count id seq beside snap =
+    (λ i. record (seen_with beside v) {
       queues_made = (ap length one ∙ length-append v.queues (q ∷ [])) i;
       queues = (ap (λ (n : NamedView ℕ). numbered n.names n.values) more
           ∙ numbered-more v.names.names v.names.values name number count
@@ -177,18 +177,18 @@ made-as v now names queues q name number txid t same more next one new count id 
           ∙ queues-made v.queues t (new_tables txid t.time) (length v.queues) refl) i;
       batch = batches-same v.queues queues v.batches (λ m c. ap (λ qs. sub_at qs m c) one ∙ sub_at-more v.queues q (ap QueueView.subs new) m c) i;
     })
-    ∙ ap (λ (w : QueuesView). record (seen_with part w) {
+    ∙ ap (λ (w : QueuesView). record (seen_with beside w) {
       queues_made = length w.queues + 1;
       queues = numbered w.names.names w.names.values ++ record { number = length w.queues; name = name } ∷ [];
       queue = changed_at (length w.queues) (λ x. record x { tables = new_tables txid t.time; tick_list = x.tick_list ++ t ∷ [] }) (queue_at w);
     }) same
-    ∙ ap (λ (x : Tick). record (seen_with part now) {
+    ∙ ap (λ (x : Tick). record (seen_with beside now) {
       queues_made = length now.queues + 1;
       queues = numbered now.names.names now.names.values ++ record { number = length now.queues; name = name } ∷ [];
       queue = changed_at (length now.queues) (λ y. record y { tables = new_tables txid t.time; tick_list = y.tick_list ++ x ∷ [] }) (queue_at now);
     }) is
   where
-    is : t ≡ record { id = 1; time = t.time; snapshot = snapshot_now part; seq = 0 }
+    is : t ≡ record { id = 1; time = t.time; snapshot = snapshot_now beside.part; seq = 0 }
     is = λ i. record { id = id i; time = t.time; snapshot = snap i; seq = seq i }
 
 -- a queue that is dropped has nothing, once it had no consumers
@@ -200,15 +200,15 @@ emptied-as q none = ap (λ (s : SubsSeen). record { config = default_config; seq
 
 pub dropped-as : (v now : QueuesView) (names : NamedView ℕ) (queues : List QueueView) (n place : ℕ) → v ≡ now → names ≡ record { names = remove v.names.names place; values = remove v.names.values place }
     → queues ≡ slice_set v.queues n no_queue → length v.names.values ≡ length v.names.names → Rise 0 v.names.values → slice_get v.names.values place ≡ Some n → n < length v.queues
-    → (queue_at now n).members ≡ [] → (part : RowPart) → seen_with part (record v { names = names; queues = queues }) ≡ after_mark (seen_with part now) (queued (dropped n))
-dropped-as v now names queues n place same gone empty count rise at low none part =
-    (λ i. record (seen_with part v) {
+    → (queue_at now n).members ≡ [] → (beside : Beside) → seen_with beside (record v { names = names; queues = queues }) ≡ after_mark (seen_with beside now) (queued (dropped n))
+dropped-as v now names queues n place same gone empty count rise at low none beside =
+    (λ i. record (seen_with beside v) {
       queues_made = (ap length empty ∙ length-set v.queues n no_queue) i;
       queues = (ap (λ (x : NamedView ℕ). numbered x.names x.values) gone ∙ sym (others-removed n 0 place v.names.names v.names.values count rise at)) i;
       queue = (ap (λ qs. λ m. seen_queue (get_or qs m no_queue)) empty ∙ (λ j m. pointwise m j)) i;
       batch = batches-same v.queues queues v.batches (λ m c. ap (λ qs. sub_at qs m c) empty ∙ sub_at-gone v.queues n low there m c) i;
     })
-    ∙ ap (λ (w : QueuesView). after_mark (seen_with part w) (queued (dropped n))) same
+    ∙ ap (λ (w : QueuesView). after_mark (seen_with beside w) (queued (dropped n))) same
   where
     there : (seen_queue (get_or v.queues n no_queue)).members ≡ []
     there = ap (λ (w : QueuesView). (queue_at w n).members) same ∙ none
@@ -224,18 +224,18 @@ dropped-as v now names queues n place same gone empty count rise at low none par
 
 -- one more trigger
 pub traced-as : (v now : QueuesView) (more : List TableTrigger) (tables : List (ℕ × TracedTableView)) (x : TableTrigger) → v ≡ now → more ≡ v.triggers ++ x ∷ []
-    → (part : RowPart) → seen_with part (record v { triggers = more; traced = tables }) ≡ after_mark (seen_with part now) (queued (traced x.table x.name x.trigger))
-traced-as v now more tables x same is part =
-    (λ i. record (seen_with part v) { triggers = is i })
-    ∙ ap (λ (w : QueuesView). after_mark (seen_with part w) (queued (traced x.table x.name x.trigger))) same
+    → (beside : Beside) → seen_with beside (record v { triggers = more; traced = tables }) ≡ after_mark (seen_with beside now) (queued (traced x.table x.name x.trigger))
+traced-as v now more tables x same is beside =
+    (λ i. record (seen_with beside v) { triggers = is i })
+    ∙ ap (λ (w : QueuesView). after_mark (seen_with beside w) (queued (traced x.table x.name x.trigger))) same
 
 -- what is kept of tables stays true if neither they nor the triggers change
 pub tables-kept : (v now : QueuesView) → v ≡ now → (part : RowPart) → AreTables part now → AreTables part v
 tables-kept v now same part are = subst (AreTables part) (sym same) are
 
 -- what is shown is what is kept
-pub shown-as : (v now : QueuesView) → v ≡ now → (part : RowPart) → seen_with part v ≡ seen_with part now
-shown-as v now same part = ap (seen_with part) same
+pub shown-as : (v now : QueuesView) → v ≡ now → (beside : Beside) → seen_with beside v ≡ seen_with beside now
+shown-as v now same beside = ap (seen_with beside) same
 
 -- what holds anyway holds of a result that is refused
 pub on-err : {A E : Type 0} (r : Result A E) (P : Type 0) → P → OnErr r P
@@ -253,10 +253,10 @@ if-ok-then (Err e) P Q next is = tt
 -- a queue has other settings
 pub configured-as : {A E : Type 0} (r : Result A E) (v now : QueuesView) (i : ℕ) (old new : QueueView) (set : Config → Result Config E) → v ≡ now → i < length v.queues → old ≡ get_or v.queues i old → new ≡ record old { config = new.config }
     → OnOk r (set old.config ≡ Ok new.config)
-    → OnOk r ((part : RowPart) (config : Config) → set (queue_at now i).config ≡ Ok config → seen_with part (record v { queues = slice_set v.queues i new }) ≡ after_mark (seen_with part now) (queued (configured i config)))
+    → OnOk r ((beside : Beside) (config : Config) → set (queue_at now i).config ≡ Ok config → seen_with beside (record v { queues = slice_set v.queues i new }) ≡ after_mark (seen_with beside now) (queued (configured i config)))
 configured-as (Err e) v now i old new set same lt at but ok = tt
-configured-as (Ok a) v now i old new set same lt at but ok = λ part config is.
+configured-as (Ok a) v now i old new set same lt at but ok = λ beside config is.
     let both : Ok new.config ≡ Ok config = sym ok ∙ ap (λ (q : Queue). set q.config) (queue-at v now i old same lt at) ∙ is in
     let one : new.config ≡ config = cc in
-    queues-set v now i old new (λ q. record q { config = new.config }) same lt at (ap seen_queue but) (ap QueueView.subs but) part
-    ∙ (λ j. record (seen_with part now) { queue = changed_at i (λ q. record q { config = one j }) (queue_at now) })
+    queues-set v now i old new (λ q. record q { config = new.config }) same lt at (ap seen_queue but) (ap QueueView.subs but) beside
+    ∙ (λ j. record (seen_with beside now) { queue = changed_at i (λ q. record q { config = one j }) (queue_at now) })

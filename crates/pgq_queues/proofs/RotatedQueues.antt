@@ -10,10 +10,10 @@ use Rattle.pgq_retry.specs.declared.retry.Retry.{Retry}
 use Rattle.sky_names.specs.Named.{NamedView, value_of}
 use Rattle.sky_model.specs.History.{Mark, QueueMark, queued, switched, second_step}
 use Rattle.sky_model.specs.Queues.{NamedQueue, is_pending, without_transaction}
-use Rattle.sky_model.specs.State.{Queue, RowPart, Database, changed_at, with_tables, after_switch, after_mark, after_marks}
+use Rattle.sky_model.specs.State.{Queue, Database, changed_at, with_tables, after_switch, after_mark, after_marks}
 use Rattle.sky_model.specs.StepRotation.{switches_by, second_steps, lack_second_step}
 use Rattle.pgq_queues.specs.Views.{QueueView, QueuesView}
-use Rattle.pgq_queues.specs.Seen.{no_queue, seen_queue, numbered, unnamed, queues_of, queue_at, seen_with, Stands}
+use Rattle.pgq_queues.specs.Seen.{no_queue, seen_queue, numbered, unnamed, queues_of, queue_at, seen_with, Stands, Beside}
 use Rattle.pgq_queues.specs.Numbers.{Rise, AreNumbers}
 use Rattle.pgq_queues.specs.Batches.{StillStand}
 use Rattle.pgq_queues.specs.Retried.{RetriedAtMost, RetriedWithin}
@@ -44,14 +44,14 @@ undone-retried {rounds} queues new t rs is within =
     (λ all n. subst (λ (q : QueueView). AllStored (RetriedAtMost rounds) q.tables.tables) (sym (ap (λ qs. get_or qs n no_queue) is ∙ undone-get t queues n)) (stored-without (RetriedAtMost rounds) t (get_or queues n no_queue).tables.tables (all n))) within
 
 pub undone-as : (v now : QueuesView) (queues : List QueueView) (t : ℕ) → v ≡ now → queues ≡ map (undone_in t) v.queues
-    → (part : RowPart) → seen_with part (record v { queues = queues }) ≡ record (seen_with part now) { queue = λ n. with_tables (without_transaction t) (queue_at now n) }
-undone-as v now queues t same is part =
-    (λ i. record (seen_with part v) {
+    → (beside : Beside) → seen_with beside (record v { queues = queues }) ≡ record (seen_with beside now) { queue = λ n. with_tables (without_transaction t) (queue_at now n) }
+undone-as v now queues t same is beside =
+    (λ i. record (seen_with beside v) {
       queues_made = (ap length is ∙ undone-length t v.queues) i;
       queue = λ n. ap seen_queue (ap (λ qs. get_or qs n no_queue) is ∙ undone-get t v.queues n) i;
       batch = batches-same v.queues queues v.batches (undone-stand v.queues queues t is).subs i;
     })
-    ∙ ap (λ (w : QueuesView). record (seen_with part w) { queue = λ n. with_tables (without_transaction t) (queue_at w n) }) same
+    ∙ ap (λ (w : QueuesView). record (seen_with beside w) { queue = λ n. with_tables (without_transaction t) (queue_at w n) }) same
 
 pub undone-whole : (v now : QueuesView) (queues : List QueueView) (t : ℕ) → v ≡ now → queues ≡ map (undone_in t) v.queues → record v { queues = queues } ≡ record now { queues = map (undone_in t) now.queues }
 undone-whole v now queues t same is = (λ i. record v { queues = is i }) ∙ ap (λ (w : QueuesView). record w { queues = map (undone_in t) w.queues }) same
@@ -143,14 +143,14 @@ record IsMarked (f : QueueView → QueueView) (p : Queue → Bool) (g : Queue �
   marks : (d : Database) (n : ℕ) → record d { queue = changed_at n g d.queue } ≡ after_mark d (queued (mark n))
 
 -- the first by number, and then the others, which it leaves as they were
-each-marked : (f : QueueView → QueueView) (p : Queue → Bool) (g : Queue → Queue) (mark : ℕ → QueueMark) → IsMarked f p g mark → (part : RowPart) (at : ℕ → Queue) (low : ℕ) (names : List (List ℕ)) (values : List ℕ) (w : QueuesView)
+each-marked : (f : QueueView → QueueView) (p : Queue → Bool) (g : Queue → Queue) (mark : ℕ → QueueMark) → IsMarked f p g mark → (beside : Beside) (at : ℕ → Queue) (low : ℕ) (names : List (List ℕ)) (values : List ℕ) (w : QueuesView)
     → length values ≡ length names → Rise low values → ((k d : ℕ) → k < length values → get_or values k d < length w.queues) → ((n : ℕ) → low ≤ n → queue_at w n ≡ at n)
-    → seen_with part (record w { queues = each_changed f values w.queues }) ≡ after_marks (seen_with part w) (marks_for p mark at (numbered names values))
-each-marked f p g mark is part at low [] [] w same rise inside those = refl
-each-marked f p g mark is part at low [] (n ∷ ns) w same rise inside those = absurd (omega (arith, same))
-each-marked f p g mark is part at low (x ∷ xs) [] w same rise inside those = refl
-each-marked f p g mark is part at low (x ∷ xs) (n ∷ ns) w same rise inside those =
-    each-marked f p g mark is part at (suc n) xs ns next (omega (arith, same)) rise.1 still others ∙ by (p (at n)) refl
+    → seen_with beside (record w { queues = each_changed f values w.queues }) ≡ after_marks (seen_with beside w) (marks_for p mark at (numbered names values))
+each-marked f p g mark is beside at low [] [] w same rise inside those = refl
+each-marked f p g mark is beside at low [] (n ∷ ns) w same rise inside those = absurd (omega (arith, same))
+each-marked f p g mark is beside at low (x ∷ xs) [] w same rise inside those = refl
+each-marked f p g mark is beside at low (x ∷ xs) (n ∷ ns) w same rise inside those =
+    each-marked f p g mark is beside at (suc n) xs ns next (omega (arith, same)) rise.1 still others ∙ by (p (at n)) refl
   where
     first : low ≤ n
     first = rise.0
@@ -175,20 +175,20 @@ each-marked f p g mark is part at low (x ∷ xs) (n ∷ ns) w same rise inside t
     still : (k d : ℕ) → k < length ns → get_or ns k d < length next.queues
     still k d low = let was : get_or ns k d < length w.queues = inside (suc k) d (omega (arith, low)) in let size = length-set w.queues n (f old) in omega (arith, was, size)
 
-    by : (b : Bool) → p (at n) ≡ b → after_marks (seen_with part next) (marks_for p mark at (numbered xs ns))
-        ≡ after_marks (seen_with part w) (if b then queued (mark n) ∷ marks_for p mark at (numbered xs ns) else marks_for p mark at (numbered xs ns))
+    by : (b : Bool) → p (at n) ≡ b → after_marks (seen_with beside next) (marks_for p mark at (numbered xs ns))
+        ≡ after_marks (seen_with beside w) (if b then queued (mark n) ∷ marks_for p mark at (numbered xs ns) else marks_for p mark at (numbered xs ns))
     by true e =
         ap (λ d. after_marks d (marks_for p mark at (numbered xs ns)))
-        (queues-set w w n old (f old) g refl lt here (is.yes old (ap p (those n first) ∙ e)) (is.subs old) part ∙ is.marks (seen_with part w) n)
-    by false e = ap (λ d. after_marks d (marks_for p mark at (numbered xs ns))) (queue-kept w w n old (f old) refl here (is.no old (ap p (those n first) ∙ e)) part)
+        (queues-set w w n old (f old) g refl lt here (is.yes old (ap p (those n first) ∙ e)) (is.subs old) beside ∙ is.marks (seen_with beside w) n)
+    by false e = ap (λ d. after_marks d (marks_for p mark at (numbered xs ns))) (queue-kept w w n old (f old) refl here (is.no old (ap p (those n first) ∙ e)) beside)
 
 -- so it is with all that stand
 each-as : (f : QueueView → QueueView) (p : Queue → Bool) (g : Queue → Queue) (mark : ℕ → QueueMark) → IsMarked f p g mark → (v now : QueuesView) (queues : List QueueView) → v ≡ now → AreNumbers v.names v.queues
-    → queues ≡ each_changed f v.names.values v.queues → (part : RowPart) → seen_with part (record v { queues = queues }) ≡ after_marks (seen_with part now) (marks_for p mark (queue_at now) (queues_of now))
-each-as f p g mark is v now queues same are changed part =
-    ap (λ (qs : List QueueView). seen_with part (record v { queues = qs })) changed
-    ∙ each-marked f p g mark is part (queue_at v) 0 v.names.names v.names.values v are.each are.rise (λ k d lt. there v.queues (get_or v.names.values k d) (are.stand k d lt)) (λ n low. refl)
-    ∙ ap (λ (w : QueuesView). after_marks (seen_with part w) (marks_for p mark (queue_at w) (queues_of w))) same
+    → queues ≡ each_changed f v.names.values v.queues → (beside : Beside) → seen_with beside (record v { queues = queues }) ≡ after_marks (seen_with beside now) (marks_for p mark (queue_at now) (queues_of now))
+each-as f p g mark is v now queues same are changed beside =
+    ap (λ (qs : List QueueView). seen_with beside (record v { queues = qs })) changed
+    ∙ each-marked f p g mark is beside (queue_at v) 0 v.names.names v.names.values v are.each are.rise (λ k d lt. there v.queues (get_or v.names.values k d) (are.stand k d lt)) (λ n low. refl)
+    ∙ ap (λ (w : QueuesView). after_marks (seen_with beside w) (marks_for p mark (queue_at w) (queues_of w))) same
 
 -- ---- the switches that a commit makes
 
@@ -223,10 +223,10 @@ settled-retried {rounds} t now ns queues new rs still is within = each-retried (
     by q false all = all
 
 pub settled-as : (v now : QueuesView) (queues : List QueueView) (t : ℕ) (time : ℤ) → v ≡ now → AreNumbers v.names v.queues → queues ≡ each_changed (settled_in t time) v.names.values v.queues
-    → (part : RowPart) → seen_with part (record v { queues = queues }) ≡ after_marks (seen_with part now) (switches_by (seen_with part now) time t (queues_of now))
-settled-as v now queues t time same are is part =
-    each-as (settled_in t time) (λ q. is_pending t q.tables) (after_switch time) (λ n. switched n time) (settles t time) v now queues same are is part
-    ∙ ap (after_marks (seen_with part now)) (settled-marks (seen_with part now) time t (queues_of now))
+    → (beside : Beside) → seen_with beside (record v { queues = queues }) ≡ after_marks (seen_with beside now) (switches_by (seen_with beside now) time t (queues_of now))
+settled-as v now queues t time same are is beside =
+    each-as (settled_in t time) (λ q. is_pending t q.tables) (after_switch time) (λ n. switched n time) (settles t time) v now queues same are is beside
+    ∙ ap (after_marks (seen_with beside now)) (settled-marks (seen_with beside now) time t (queues_of now))
 
 -- ---- second steps
 
@@ -268,10 +268,10 @@ ended-retried {rounds} t ns queues new rs still is within = each-retried (ended_
     by q false all = all
 
 pub ended-as : (v now : QueuesView) (queues : List QueueView) (t : ℕ) → v ≡ now → AreNumbers v.names v.queues → queues ≡ each_changed (ended_in t) v.names.values v.queues
-    → (part : RowPart) → seen_with part (record v { queues = queues }) ≡ after_marks (seen_with part now) (second_steps t (lack_second_step (seen_with part now)))
-ended-as v now queues t same are is part =
-    each-as (ended_in t) (λ q. is_none q.tables.second_step) (with_tables (with_second_step t)) (λ n. second_step n t) (ends t) v now queues same are is part
-    ∙ ap (after_marks (seen_with part now)) (ended-marks (queue_at now) t (queues_of now))
+    → (beside : Beside) → seen_with beside (record v { queues = queues }) ≡ after_marks (seen_with beside now) (second_steps t (lack_second_step (seen_with beside now)))
+ended-as v now queues t same are is beside =
+    each-as (ended_in t) (λ q. is_none q.tables.second_step) (with_tables (with_second_step t)) (λ n. second_step n t) (ends t) v now queues same are is beside
+    ∙ ap (after_marks (seen_with beside now)) (ended-marks (queue_at now) t (queues_of now))
 
 -- ---- how many lack the second step
 

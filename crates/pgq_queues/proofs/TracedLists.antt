@@ -227,7 +227,7 @@ table-there part n ts was o at is = subst (IsTraced part n ts) (sym at) is
 
 pub tables-more : (v now : QueuesView) (more : List TableTrigger) (new : List (ℕ × TracedTableView)) (n : ℕ) (x : TableTrigger) (t was : TracedTableView) → v ≡ now → more ≡ v.triggers ++ x ∷ [] → x.table ≡ n
     → Updated v.traced new n (Some t) → Some was ≡ kept v.traced n → t.name ≡ was.name → t.columns ≡ was.columns → (part : RowPart) → AreTables part now → (m : ℕ) → IsTraced part m more (kept new m)
-tables-more v now more new n x t was same is its updates at named of_columns part are =
+tables-more v now more new n x t was same is its updates at named of_columns beside are =
     tables-where v more new n t updates alike part (here.0 ∙ ap Some (sym named), here.1 ∙ sym of_columns) before
   where
     before : AreTables part v

@@ -3,6 +3,7 @@ use Rattle.std.specs.Prelude.{ℕ, pos, ◌<◌, List, [], ◌∷◌, length, Op
 use Rattle.std.specs.Ordering.{nat_cmp}
 use Rattle.std.specs.BTreeMap.{is_at}
 use Rattle.std.specs.Map.{lookup}
+use Rattle.londiste_state.specs.Nodes.{Node}
 use Rattle.sky_model.specs.History as model
 use Rattle.sky_model.specs.Queues.{NamedQueue}
 use Rattle.pgq_tables.specs.Tables.{no_tables}
@@ -84,10 +85,15 @@ queue_at q n = seen_queue (slice_index_or q.queues n no_queue)
 abbrev pub batch_at : QueuesView → ℕ → Option model.Batch
 batch_at q id = batch_by (sub_at q.queues) id (kept q.batches id)
 
--- the database that these are the queues of, with its row part
-abbrev pub seen_with : RowPart → QueuesView → Database
-seen_with part q = record {
-  part = part;
+-- what a database has beside its queues: its row part, and its node, if it has one
+pub record Beside : Type 0 where
+  pub part : RowPart
+  pub node : Option Node
+
+-- the database that these are the queues of
+abbrev pub seen_with : Beside → QueuesView → Database
+seen_with beside q = record {
+  part = beside.part;
   last_batch_id = q.last_batch_id;
   last_sub_id = q.last_sub_id;
   queues_made = length q.queues;
@@ -96,6 +102,7 @@ seen_with part q = record {
   batch = batch_at q;
   triggers = q.triggers;
   retries = q.retries;
+  node = beside.node;
 }
 
 -- the queues of a database in which nothing has happened

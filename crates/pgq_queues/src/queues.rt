@@ -14,7 +14,7 @@ ghost use Rattle.sky_model.specs.StepConsumer.{batch_info_of};
 ghost use Rattle.sky_model.specs.StepQueue.{newest_id};
 ghost use Rattle.sky_model.specs.StepTrigger.{has_trigger};
 ghost use Rattle.sky_model.specs.Triggers.{triggers_of};
-ghost use Rattle.pgq_queues.specs.Seen.{kept, seen_with, seen_queue, seen_batch, seen_span, reads_at, unnamed, queues_of, queue_at, batch_at, no_queues, Stands};
+ghost use Rattle.pgq_queues.specs.Seen.{kept, seen_with, seen_queue, seen_batch, seen_span, reads_at, unnamed, queues_of, queue_at, batch_at, no_queues, Stands, Beside};
 ghost use Rattle.pgq_queues.specs.Batches.{StillStand, but_of};
 ghost use Rattle.pgq_queues.specs.Looked.{most_in};
 ghost use Rattle.pgq_sub.specs.declared.sub.OpenBatch.{OpenBatch};
@@ -196,9 +196,9 @@ impl Queues {
     /// The events of a batch; none if one of its ticks isn't kept.
     pub fn batch_events(&mut self, span: Span) -> Result<Vec<Event>, NoMemory>
         requires { Stands self.old.queues span.queue }
-        ensures events { (part : RowPart) → IfOk result (λ events. events.items ≡ selected (seen_with part self.old) (seen_span span)) }
+        ensures events { (beside : Beside) → IfOk result (λ events. events.items ≡ selected (seen_with beside self.old) (seen_span span)) }
         ensures moments { IfOk result (λ events. EventsHaveMoments events.items) }
-        ensures same { (part : RowPart) → seen_with part self.new ≡ seen_with part self.old }
+        ensures same { (beside : Beside) → seen_with beside self.new ≡ seen_with beside self.old }
         ensures stand { StillStand self.old.queues self.new.queues }
         ensures rest { KeepsRest self.old self.new }
 
@@ -215,7 +215,7 @@ impl Queues {
     /// What is shown of a batch.
     pub fn batch_info(&self, batch: &Batch<'_>) -> Result<BatchInfo, NoMemory>
         requires { Stands self.now.queues batch.now.queue }
-        ensures { (part : RowPart) → IfOk result (λ info. info ≡ batch_info_of (seen_with part self.now) (seen_batch batch.now)) }
+        ensures { (beside : Beside) → IfOk result (λ info. info ≡ batch_info_of (seen_with beside self.now) (seen_batch batch.now)) }
     {
         let queue = match self.name(batch.queue) {
             Some(name) => name.copy(self.alloc)?,
@@ -281,8 +281,8 @@ impl Queues {
         requires new { queue_number name (queues_of self.old) ≡ None }
         requires room { length (queues_of self.old) < 64 }
         requires time { IsTime now }
-        ensures mark { OnOk result ((part : RowPart) → snapshot ≡ snapshot_now part → seen_with part self.new
-            ≡ after_mark (seen_with part self.old) (queued (made name txid now))) }
+        ensures mark { OnOk result ((beside : Beside) → snapshot ≡ snapshot_now beside.part → seen_with beside self.new
+            ≡ after_mark (seen_with beside self.old) (queued (made name txid now))) }
         ensures err { OnErr result (self.new ≡ self.old) }
         ensures rest { KeepsRest self.old self.new }
     {
@@ -303,7 +303,7 @@ impl Queues {
         requires found { queue_number name.now (queues_of self.old) ≡ Some number }
         requires consumers { (queue_at self.old number).members ≡ [] }
         requires triggers { All (λ t. (t.trigger.queue == number) ≡ false) self.old.triggers }
-        ensures mark { (part : RowPart) → seen_with part self.new ≡ after_mark (seen_with part self.old) (queued (dropped number)) }
+        ensures mark { (beside : Beside) → seen_with beside self.new ≡ after_mark (seen_with beside self.old) (queued (dropped number)) }
         ensures rest { KeepsRest self.old self.new }
     {
         match self.names.number(name) {
@@ -316,7 +316,7 @@ impl Queues {
     /// The sequence of a queue has this value from now on.
     pub fn raise(&mut self, queue: usize, value: u64)
         requires { Stands self.old.queues queue }
-        ensures mark { (part : RowPart) → seen_with part self.new ≡ after_mark (seen_with part self.old) (queued (raised queue value)) }
+        ensures mark { (beside : Beside) → seen_with beside self.new ≡ after_mark (seen_with beside self.old) (queued (raised queue value)) }
         ensures stand { StillStand self.old.queues self.new.queues }
         ensures rest { KeepsRest self.old self.new }
     {
@@ -326,11 +326,11 @@ impl Queues {
     /// The parameter of this name of a queue has the value that a text writes from now on.
     pub fn configure(&mut self, queue: usize, param: &[u8], value: &[u8]) -> Result<(), ConfigFault>
         requires { Stands self.old.queues queue }
-        ensures mark { OnOk result ((part : RowPart) (config : Config) → set_to (queue_at self.old queue).config (param_of param.now) value.now ≡ Ok config
-            → seen_with part self.new ≡ after_mark (seen_with part self.old) (queued (configured queue config))) }
+        ensures mark { OnOk result ((beside : Beside) (config : Config) → set_to (queue_at self.old queue).config (param_of param.now) value.now ≡ Ok config
+            → seen_with beside self.new ≡ after_mark (seen_with beside self.old) (queued (configured queue config))) }
         ensures set { OnOk result (is_ok (set_to (queue_at self.old queue).config (param_of param.now) value.now) ≡ true) }
         ensures fault { IfErr result (λ fault. set_to (queue_at self.old queue).config (param_of param.now) value.now ≡ Err fault) }
-        ensures err { OnErr result ((part : RowPart) → seen_with part self.new ≡ seen_with part self.old) }
+        ensures err { OnErr result ((beside : Beside) → seen_with beside self.new ≡ seen_with beside self.old) }
         ensures rest { KeepsRest self.old self.new }
     {
         self.slots.get_mut(queue).configure(param, value)
@@ -341,9 +341,9 @@ impl Queues {
         requires queue { Stands self.old.queues queue }
         requires time { HasMoment event.ev_time }
         requires rounds { RetriedAtMost self.old.rounds event }
-        ensures mark { OnOk result ((part : RowPart) → seen_with part self.new ≡ after_mark (seen_with part self.old) (queued (put queue event))) }
+        ensures mark { OnOk result ((beside : Beside) → seen_with beside self.new ≡ after_mark (seen_with beside self.old) (queued (put queue event))) }
         ensures stand { StillStand self.old.queues self.new.queues }
-        ensures err { OnErr result ((part : RowPart) → seen_with part self.new ≡ seen_with part self.old) }
+        ensures err { OnErr result ((beside : Beside) → seen_with beside self.new ≡ seen_with beside self.old) }
         ensures rest { KeepsRest self.old self.new }
     {
         self.slots.get_mut(queue).put(event)?;
@@ -355,10 +355,10 @@ impl Queues {
         requires queue { Stands self.old.queues queue }
         requires time { IsTime now }
         ensures id { IfOk result (λ id. id ≡ newest_id (queue_at self.old queue) + 1) }
-        ensures mark { IfOk result (λ id. (part : RowPart) → snapshot ≡ snapshot_now part → seen_with part self.new
-            ≡ after_mark (seen_with part self.old) (queued (ticked queue id now (queue_at self.old queue).seq))) }
+        ensures mark { IfOk result (λ id. (beside : Beside) → snapshot ≡ snapshot_now beside.part → seen_with beside self.new
+            ≡ after_mark (seen_with beside self.old) (queued (ticked queue id now (queue_at self.old queue).seq))) }
         ensures spent { (result ≡ Err TickFault.IdsSpent) ↔ (2 ^ 64 ≤ newest_id (queue_at self.old queue) + 1) }
-        ensures err { OnErr result ((part : RowPart) → seen_with part self.new ≡ seen_with part self.old) }
+        ensures err { OnErr result ((beside : Beside) → seen_with beside self.new ≡ seen_with beside self.old) }
         ensures rest { KeepsRest self.old self.new }
     {
         self.slots.get_mut(queue).tick(now, snapshot)
@@ -370,9 +370,9 @@ impl Queues {
         requires new { (queue_at self.old queue).sub consumer.now ≡ None }
         requires room { length (queue_at self.old queue).members < 256 }
         requires id { self.old.last_sub_id + 1 < 2 ^ 64 }
-        ensures mark { OnOk result ((part : RowPart) → seen_with part self.new
-            ≡ after_mark (seen_with part self.old) (queued (registered queue consumer.now (self.old.last_sub_id + 1) tick))) }
-        ensures err { OnErr result ((part : RowPart) → seen_with part self.new ≡ seen_with part self.old) }
+        ensures mark { OnOk result ((beside : Beside) → seen_with beside self.new
+            ≡ after_mark (seen_with beside self.old) (queued (registered queue consumer.now (self.old.last_sub_id + 1) tick))) }
+        ensures err { OnErr result ((beside : Beside) → seen_with beside self.new ≡ seen_with beside self.old) }
         ensures rest { KeepsRest self.old self.new }
     {
         let id = self.last_sub_id + 1;
@@ -386,7 +386,7 @@ impl Queues {
     /// A consumer is at this tick from now on. Its batch, if it had one, is given up.
     pub fn move_to(&mut self, queue: usize, consumer: &Text, tick: u64)
         requires { Stands self.old.queues queue }
-        ensures mark { (part : RowPart) → seen_with part self.new ≡ after_mark (seen_with part self.old) (queued (moved queue consumer.now tick)) }
+        ensures mark { (beside : Beside) → seen_with beside self.new ≡ after_mark (seen_with beside self.old) (queued (moved queue consumer.now tick)) }
         ensures rest { KeepsRest self.old self.new }
     {
         let given_up = self.slots.get_mut(queue).move_to(consumer, tick);
@@ -398,9 +398,9 @@ impl Queues {
     pub fn unregister(&mut self, queue: usize, consumer: &Text) -> Option<u64>
         requires { Stands self.old.queues queue }
         ensures was { result ≡ option_map Subscription.id ((queue_at self.old queue).sub consumer.now) }
-        ensures mark { IfSome result (λ sub. (part : RowPart) → seen_with part self.new
-            ≡ after_mark (seen_with part self.old) (queued (unregistered queue consumer.now sub))) }
-        ensures none { IfNone result ((part : RowPart) → seen_with part self.new ≡ seen_with part self.old) }
+        ensures mark { IfSome result (λ sub. (beside : Beside) → seen_with beside self.new
+            ≡ after_mark (seen_with beside self.old) (queued (unregistered queue consumer.now sub))) }
+        ensures none { IfNone result ((beside : Beside) → seen_with beside self.new ≡ seen_with beside self.old) }
         ensures rest { KeepsRest self.old self.new }
     {
         let sub = self.slots.get_mut(queue).unregister(consumer)?;
@@ -415,10 +415,10 @@ impl Queues {
         requires queue { Stands self.old.queues queue }
         requires free { option_map Subscription.active ((queue_at self.old queue).sub consumer.now) ≡ Some None }
         requires id { self.old.last_batch_id + 1 < 2 ^ 64 }
-        ensures mark { OnOk result ((part : RowPart) (sub : Subscription) → (queue_at self.old queue).sub consumer.now ≡ Some sub → seen_with part self.new
-            ≡ after_mark (seen_with part self.old) (queued (opened
+        ensures mark { OnOk result ((beside : Beside) (sub : Subscription) → (queue_at self.old queue).sub consumer.now ≡ Some sub → seen_with beside self.new
+            ≡ after_mark (seen_with beside self.old) (queued (opened
             (record { id = self.old.last_batch_id + 1; queue = queue; consumer = consumer.now; sub = sub.id; prev = sub.position; cur = cur })))) }
-        ensures err { OnErr result ((part : RowPart) → seen_with part self.new ≡ seen_with part self.old) }
+        ensures err { OnErr result ((beside : Beside) → seen_with beside self.new ≡ seen_with beside self.old) }
         ensures rest { KeepsRest self.old self.new }
     {
         let id = self.last_batch_id + 1;
@@ -437,8 +437,8 @@ impl Queues {
     /// The batch of this id is no longer active, and its consumer is at its closing tick; false if there is none.
     pub fn close_batch(&mut self, id: u64) -> bool
         ensures found { result ≡ is_some (batch_at self.old id) }
-        ensures mark { IfSome (batch_at self.old id) (λ batch. (part : RowPart) → seen_with part self.new ≡ after_mark (seen_with part self.old) (queued (closed batch))) }
-        ensures none { IfNone (batch_at self.old id) ((part : RowPart) → seen_with part self.new ≡ seen_with part self.old) }
+        ensures mark { IfSome (batch_at self.old id) (λ batch. (beside : Beside) → seen_with beside self.new ≡ after_mark (seen_with beside self.old) (queued (closed batch))) }
+        ensures none { IfNone (batch_at self.old id) ((beside : Beside) → seen_with beside self.new ≡ seen_with beside self.old) }
         ensures rest { KeepsRest self.old self.new }
     {
         let Some(place) = self.batches.remove(&id) else {
@@ -456,9 +456,9 @@ impl Queues {
         trigger: TableTrigger,
     ) -> Result<(), NoMemory>
         requires { Stands self.old.queues trigger.trigger.queue }
-        ensures ok { OnOk result ((part : RowPart) → seen_with part self.new
-            ≡ after_mark (seen_with part self.old) (queued (traced trigger.table trigger.name trigger.trigger))) }
-        ensures err { OnErr result ((part : RowPart) → seen_with part self.new ≡ seen_with part self.old) }
+        ensures ok { OnOk result ((beside : Beside) → seen_with beside self.new
+            ≡ after_mark (seen_with beside self.old) (queued (traced trigger.table trigger.name trigger.trigger))) }
+        ensures err { OnErr result ((beside : Beside) → seen_with beside self.new ≡ seen_with beside self.old) }
         ensures tables { (part : RowPart) → IsTable part trigger.table name.now schema.now → AreTables part self.old → AreTables part self.new }
         ensures rounds { self.new.rounds ≡ self.old.rounds }
     {
@@ -469,7 +469,7 @@ impl Queues {
 
     /// Keeps what events say of a table, if that isn't kept yet.
     fn keep_table(&mut self, name: &Text, schema: &Schema, number: u32) -> Result<(), NoMemory>
-        ensures same { (part : RowPart) → seen_with part self.new ≡ seen_with part self.old }
+        ensures same { (beside : Beside) → seen_with beside self.new ≡ seen_with beside self.old }
         ensures stand { StillStand self.old.queues self.new.queues }
         ensures kept { OnOk result (is_some (kept self.new.traced number) ≡ true) }
         ensures tables { (part : RowPart) → IsTable part number name.now schema.now → AreTables part self.old → AreTables part self.new }
@@ -487,9 +487,9 @@ impl Queues {
     fn store_trigger(&mut self, trigger: TableTrigger) -> Result<(), NoMemory>
         requires table { is_some (kept self.old.traced trigger.table) ≡ true }
         requires queue { Stands self.old.queues trigger.trigger.queue }
-        ensures ok { OnOk result ((part : RowPart) → seen_with part self.new
-            ≡ after_mark (seen_with part self.old) (queued (traced trigger.table trigger.name trigger.trigger))) }
-        ensures err { OnErr result ((part : RowPart) → seen_with part self.new ≡ seen_with part self.old) }
+        ensures ok { OnOk result ((beside : Beside) → seen_with beside self.new
+            ≡ after_mark (seen_with beside self.old) (queued (traced trigger.table trigger.name trigger.trigger))) }
+        ensures err { OnErr result ((beside : Beside) → seen_with beside self.new ≡ seen_with beside self.old) }
         ensures tables { (part : RowPart) → AreTables part self.old → AreTables part self.new }
         ensures rounds { self.new.rounds ≡ self.old.rounds }
     {

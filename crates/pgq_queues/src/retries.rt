@@ -6,9 +6,9 @@ ghost use Rattle.pgq_retry.specs.Retries.{is_asked, count_of, by_due, due_now};
 ghost use Rattle.sky_model.specs.History.{queued, asked};
 ghost use Rattle.sky_model.specs.Moment.{HasMoment};
 ghost use Rattle.sky_model.specs.Selection.{selected};
-ghost use Rattle.sky_model.specs.State.{RowPart, after_mark, after_marks};
+ghost use Rattle.sky_model.specs.State.{after_mark, after_marks};
 ghost use Rattle.sky_model.specs.StepRetry.{back, most_back};
-ghost use Rattle.pgq_queues.specs.Seen.{seen_with, seen_span, queue_at, reads_at, Stands};
+ghost use Rattle.pgq_queues.specs.Seen.{seen_with, seen_span, queue_at, reads_at, Stands, Beside};
 ghost use Rattle.pgq_queues.specs.Batches.{StillStand};
 ghost use Rattle.pgq_queues.specs.Looked.{most_in};
 ghost use Rattle.pgq_queues.specs.Traced.{KeepsRest};
@@ -40,11 +40,11 @@ impl Queues {
     /// Of a batch's events the first with an id. No other is copied.
     pub fn event_in(&mut self, span: Span, id: u64) -> Result<Option<Event>, NoMemory>
         requires { Stands self.old.queues span.queue }
-        ensures found { (part : RowPart) → IfOk result (λ found. found
-            ≡ find (λ e. e.ev_id == id) (selected (seen_with part self.old) (seen_span span))) }
+        ensures found { (beside : Beside) → IfOk result (λ found. found
+            ≡ find (λ e. e.ev_id == id) (selected (seen_with beside self.old) (seen_span span))) }
         ensures moment { IfOk result (λ found. IfSome found (λ e. HasMoment e.ev_time)) }
         ensures rounds { IfOk result (λ found. IfSome found (λ e. RetriedAtMost self.old.rounds e)) }
-        ensures same { (part : RowPart) → seen_with part self.new ≡ seen_with part self.old }
+        ensures same { (beside : Beside) → seen_with beside self.new ≡ seen_with beside self.old }
         ensures stand { StillStand self.old.queues self.new.queues }
         ensures rest { KeepsRest self.old self.new }
         ensures others { (n : ℕ) → (span.queue == n) ≡ false → reads_at self.new.queues n ≡ reads_at self.old.queues n }
@@ -61,9 +61,9 @@ impl Queues {
         requires time { HasMoment retry.event.ev_time }
         requires rounds { RetriedAtMost (self.old.rounds + 1) retry.event }
         ensures fresh { IfOk result (λ fresh. fresh ≡ not (is_asked retry.sub retry.event.ev_id self.old.retries)) }
-        ensures mark { IfOk result (λ fresh. (part : RowPart) → seen_with part self.new
-            ≡ (if fresh then after_mark (seen_with part self.old) (queued (asked retry)) else seen_with part self.old)) }
-        ensures err { OnErr result ((part : RowPart) → seen_with part self.new ≡ seen_with part self.old) }
+        ensures mark { IfOk result (λ fresh. (beside : Beside) → seen_with beside self.new
+            ≡ (if fresh then after_mark (seen_with beside self.old) (queued (asked retry)) else seen_with beside self.old)) }
+        ensures err { OnErr result ((beside : Beside) → seen_with beside self.new ≡ seen_with beside self.old) }
         ensures queues { self.new.queues ≡ self.old.queues }
         ensures rest { KeepsRest self.old self.new }
     {
@@ -75,8 +75,8 @@ impl Queues {
     pub fn bring_back(&mut self, now: i64, txid: u64) -> Result<usize, NoMemory>
         requires { self.old.rounds + 1 < 2 ^ 64 }
         ensures count { IfOk result (λ n. n ≡ length (due_now now most_back self.old.retries)) }
-        ensures marks { OnOk result ((part : RowPart) → seen_with part self.new
-            ≡ after_marks (seen_with part self.old) (back now txid (due_now now most_back self.old.retries))) }
+        ensures marks { OnOk result ((beside : Beside) → seen_with beside self.new
+            ≡ after_marks (seen_with beside self.old) (back now txid (due_now now most_back self.old.retries))) }
         ensures rest { KeepsRest (record self.old { rounds = self.old.rounds + 1 }) self.new }
     {
         let count = self.due_count(now);
@@ -88,8 +88,8 @@ impl Queues {
     /// So many come back, the first by due moment.
     fn bring(&mut self, txid: u64, count: usize) -> Result<(), NoMemory>
         requires { All (λ (r : Retry). RetriedAtMost self.old.rounds r.event) self.old.retries }
-        ensures marks { OnOk result ((now : ℤ) (part : RowPart) → seen_with part self.new
-            ≡ after_marks (seen_with part self.old) (back now txid (take count (by_due self.old.retries)))) }
+        ensures marks { OnOk result ((now : ℤ) (beside : Beside) → seen_with beside self.new
+            ≡ after_marks (seen_with beside self.old) (back now txid (take count (by_due self.old.retries)))) }
         ensures rest { KeepsRest self.old self.new }
     {
         if count == 0 {

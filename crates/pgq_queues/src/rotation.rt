@@ -4,9 +4,9 @@ ghost use Rattle.std.specs.Prelude.{◌≡◌, ◌≤◌, true, None, Some, IfOk
 ghost use Rattle.std.specs.List.{All};
 ghost use Rattle.sky_model.specs.History.{queued, switching, switched};
 ghost use Rattle.sky_model.specs.Moment.{IsTime};
-ghost use Rattle.sky_model.specs.State.{RowPart, after_mark, after_marks};
+ghost use Rattle.sky_model.specs.State.{after_mark, after_marks};
 ghost use Rattle.sky_model.specs.StepRotation.{held_back, lack_second_step, second_steps, switches_of};
-ghost use Rattle.pgq_queues.specs.Seen.{seen_with, queue_at, Stands};
+ghost use Rattle.pgq_queues.specs.Seen.{seen_with, queue_at, Stands, Beside};
 ghost use Rattle.pgq_queues.specs.Batches.{StillStand};
 ghost use Rattle.pgq_queues.specs.Held.{IsPrinted};
 ghost use Rattle.pgq_queues.specs.Rotated.{settled_in, ended_in, each_changed};
@@ -33,7 +33,7 @@ impl Queues {
     pub fn begin_switch(&mut self, queue: usize, txid: u64)
         requires stands { Stands self.old.queues queue }
         requires none { (queue_at self.old queue).tables.pending ≡ None }
-        ensures mark { (part : RowPart) → seen_with part self.new ≡ after_mark (seen_with part self.old) (queued (switching queue txid)) }
+        ensures mark { (beside : Beside) → seen_with beside self.new ≡ after_mark (seen_with beside self.old) (queued (switching queue txid)) }
         ensures stand { StillStand self.old.queues self.new.queues }
         ensures rest { KeepsRest self.old self.new }
     {
@@ -45,7 +45,7 @@ impl Queues {
         requires stands { Stands self.old.queues queue }
         requires time { IsTime now }
         requires pending { is_some (queue_at self.old queue).tables.pending ≡ true }
-        ensures mark { (part : RowPart) → seen_with part self.new ≡ after_mark (seen_with part self.old) (queued (switched queue now)) }
+        ensures mark { (beside : Beside) → seen_with beside self.new ≡ after_mark (seen_with beside self.old) (queued (switched queue now)) }
         ensures stand { StillStand self.old.queues self.new.queues }
         ensures rest { KeepsRest self.old self.new }
     {
@@ -55,8 +55,8 @@ impl Queues {
     /// A transaction commits: the switches that it has pending are made.
     pub fn switch_tables(&mut self, txid: u64, now: i64)
         requires { IsTime now }
-        ensures marks { (part : RowPart) → seen_with part self.new
-            ≡ after_marks (seen_with part self.old) (switches_of (seen_with part self.old) now (Some txid)) }
+        ensures marks { (beside : Beside) → seen_with beside self.new
+            ≡ after_marks (seen_with beside self.old) (switches_of (seen_with beside self.old) now (Some txid)) }
         ensures stand { StillStand self.old.queues self.new.queues }
         ensures rest { KeepsRest self.old self.new }
     {
@@ -65,7 +65,7 @@ impl Queues {
 
     /// How many queues lack the second step of their last switch.
     pub fn unfinished(&self) -> usize
-        ensures { (part : RowPart) → result ≡ length (lack_second_step (seen_with part self.now)) }
+        ensures { (beside : Beside) → result ≡ length (lack_second_step (seen_with beside self.now)) }
     {
         let mut count = 0;
         for place in 0..self.count() {
@@ -78,8 +78,8 @@ impl Queues {
 
     /// A transaction makes the second step of each switch that lacks it.
     pub fn end_switches(&mut self, txid: u64)
-        ensures marks { (part : RowPart) → seen_with part self.new
-            ≡ after_marks (seen_with part self.old) (second_steps txid (lack_second_step (seen_with part self.old))) }
+        ensures marks { (beside : Beside) → seen_with beside self.new
+            ≡ after_marks (seen_with beside self.old) (second_steps txid (lack_second_step (seen_with beside self.old))) }
         ensures stand { StillStand self.old.queues self.new.queues }
         ensures rest { KeepsRest self.old self.new }
     {

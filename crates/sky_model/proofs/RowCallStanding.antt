@@ -5,7 +5,7 @@ use Rattle.sky_keys.specs.Waits.{is_waiting}
 use Rattle.sky_model.specs.declared.stmt.RowStmt.{RowStmt}
 use Rattle.sky_model.specs.declared.reply.Refusal.{Refusal}
 use Rattle.sky_model.specs.declared.reply.Refusal.TheVariants.{TxidsSpent}
-use Rattle.sky_model.specs.History.{History, of_worker, began, ended}
+use Rattle.sky_model.specs.History.{History, of_worker, began, ended, tabled, read_only}
 use Rattle.sky_model.specs.Transactions.{next_txid, workers}
 use Rattle.sky_model.specs.Sessions.{Block, outside, has_open, block, own_txid, session}
 use Rattle.sky_model.specs.Locks.{waiting}
@@ -20,11 +20,11 @@ use Rattle.sky_model.specs.Rooms.{any_room, room_of, room_gate}
 use Rattle.sky_model.specs.Settling.{Turn, rests, settling, with_settling}
 use Rattle.sky_model.specs.Calls.{row_turn}
 use Rattle.sky_model.specs.SessionMarks.{single_end, Enters, entry_place, entry, failing, takes_id, taking, ending}
-use Rattle.sky_model.specs.WorkerMarks.{begins_with, beginning, ending_work}
+use Rattle.sky_model.specs.WorkerMarks.{begins_with, beginning, ending_work, guarding}
 use Rattle.sky_model.specs.Promises.{after_all}
-use Rattle.sky_model.specs.RowCalls.{RowCall, row_stepped, row_entered, row_failed, row_settled, txid_taken, single_ended, rolled_back, IsRowCallInForm, row_does, row_part, worker_begun, worker_ended}
+use Rattle.sky_model.specs.RowCalls.{RowCall, row_stepped, row_entered, row_failed, row_settled, txid_taken, single_ended, rolled_back, IsRowCallInForm, row_does, row_part, worker_begun, worker_ended, row_guarded}
 use Rattle.sky_model.specs.RowSteps.{RowSteps}
-use Rattle.sky_model.proofs.Legal.{begins, ends, Chain, done, more, Legal, start, begins_work, ends_work}
+use Rattle.sky_model.proofs.Legal.{begins, ends, Chain, done, more, Legal, start, begins_work, ends_work, guards}
 use Rattle.sky_model.proofs.Good.{good_failure}
 use Rattle.sky_model.proofs.LawfulTelling.{legal_behind}
 use Rattle.sky_model.proofs.Histories.{good_enters}
@@ -79,6 +79,7 @@ good_row_does h l (txid_taken who) = good_taking h who
 good_row_does h l (single_ended who) = good_ending h who
 good_row_does h l (rolled_back who) = good_failure h who
 good_row_does h l worker_begun = good_beginning h
+good_row_does h l (row_guarded table on) = more (guards table on) done
 good_row_does h l (worker_ended t committed) = good_ending_work h t committed
 
 -- so the history that calls make is legal
@@ -101,6 +102,7 @@ same-row_does h l (single_ended who) = refl
 same-row_does h l (rolled_back who) = refl
 same-row_does h l worker_begun = refl
 same-row_does h l (worker_ended t committed) = refl
+same-row_does h l (row_guarded table on) = refl
 
 -- the part after a call
 behind-row_does : (h : History) → Legal h → (call : RowCall)
@@ -187,3 +189,7 @@ pub end_worker_from_exact : (old new : RowPart) (t : ℕ) (committed : Bool) →
 end_worker_from_exact old new t committed runs changed =
     row_call_from_exact old new (worker_ended t committed) (ending_work old t committed) refl
     (changed ∙ sym (ap (λ b. after_part_marks old (if b then record { answers = []; marks = ended of_worker t committed ∷ [] } else rests).marks) runs))
+
+-- sessions may not write a table from then on, or may again
+pub guard_from_exact : (old new : RowPart) (table : ℕ) (on : Bool) → new ≡ after_part old (tabled (read_only table on)) → RowSteps old new (row_guarded table on) (guarding table on)
+guard_from_exact old new table on = row_call_from_exact old new (row_guarded table on) (guarding table on) refl

@@ -10,7 +10,7 @@ use Rattle.sky_model.specs.Rooms.{Room, room_gate}
 use Rattle.sky_model.specs.Settling.{Turn, marked, settling, with_settling}
 use Rattle.sky_model.specs.Calls.{row_turn}
 use Rattle.sky_model.specs.SessionMarks.{entry_place, entry, failing, taking, ending}
-use Rattle.sky_model.specs.WorkerMarks.{beginning, ending_work}
+use Rattle.sky_model.specs.WorkerMarks.{beginning, ending_work, guarding}
 use Rattle.sky_model.specs.Promises.{Part}
 
 pub data RowCall : Type 0 where
@@ -32,6 +32,8 @@ pub data RowCall : Type 0 where
   worker_begun : RowCall
   -- a worker's transaction ended
   worker_ended : (t : ℕ) (committed : Bool) → RowCall
+  -- sessions may not write a table from then on, or may again
+  row_guarded : (table : ℕ) (on : Bool) → RowCall
 
 -- its statement is in form
 abbrev pub IsRowCallInForm : RowCall → Type 0
@@ -44,6 +46,7 @@ IsRowCallInForm (single_ended who) = ⊤
 IsRowCallInForm (rolled_back who) = ⊤
 IsRowCallInForm worker_begun = ⊤
 IsRowCallInForm (worker_ended t committed) = ⊤
+IsRowCallInForm (row_guarded table on) = ⊤
 
 -- what a call does at a place
 abbrev pub row_does : {P : Type 0} → PartReader P → P → RowCall → Turn
@@ -56,6 +59,7 @@ row_does r p (single_ended who) = ending (r.part p) who
 row_does r p (rolled_back who) = failing (r.part p) who
 row_does r p worker_begun = beginning (r.part p)
 row_does r p (worker_ended t committed) = ending_work (r.part p) t committed
+row_does r p (row_guarded table on) = guarding table on
 
 -- a row part, as its calls change it
 abbrev pub row_part : Part RowCall History RowPart Turn

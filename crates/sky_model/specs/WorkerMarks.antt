@@ -1,7 +1,7 @@
--- What calls do with workers' transactions, which are of no session.
+-- What calls do with workers' transactions, which are of no session, and with tables that workers alone write.
 use Rattle.std.specs.Prelude.{ℕ, Bool, [], ◌∷◌, Ok, Err, if◌then◌else◌}
 use Rattle.sky_txid.specs.Ids.{contains}
-use Rattle.sky_model.specs.History.{of_worker, began, ended}
+use Rattle.sky_model.specs.History.{of_worker, began, ended, tabled, read_only}
 use Rattle.sky_model.specs.State.{RowPart}
 use Rattle.sky_model.specs.Outcome.{Checked}
 use Rattle.sky_model.specs.OwnTransaction.{next_id}
@@ -19,3 +19,7 @@ beginning d = begins_with (next_id d)
 -- a running one ends; for any other id nothing happens
 abbrev pub ending_work : RowPart → ℕ → Bool → Turn
 ending_work d t committed = if contains t d.workers then record { answers = []; marks = ended of_worker t committed ∷ [] } else rests
+
+-- sessions may not write a table from now on, or may again
+abbrev pub guarding : ℕ → Bool → Turn
+guarding table on = record { answers = []; marks = tabled (read_only table on) ∷ [] }

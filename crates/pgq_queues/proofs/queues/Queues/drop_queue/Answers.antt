@@ -32,7 +32,7 @@ invariant_of-self c =
     )
 
 pub returns-clause-mark : goal.returns-clause-mark
-returns-clause-mark c = λ part.
+returns-clause-mark c = λ beside.
     let at = number-there _ _ c.args.name.now c.in-Some.place c.args.number c.self.view_is c.self.invariant.1.0.each c.in-Some.ensures.number c.requires.found in
     let low = there c.self.inside.slots c.args.number (stands-there c.self.inside.names c.self.inside.slots c.in-Some.place c.args.number c.self.invariant.1.0 at) in
-    dropped-as _ _ c.remove.new.self c.remove-2.new.self c.args.number c.in-Some.place c.self.view_is c.remove.ensures c.remove-2.ensures c.self.invariant.1.0.each c.self.invariant.1.0.rise at low c.requires.consumers part
+    dropped-as _ _ c.remove.new.self c.remove-2.new.self c.args.number c.in-Some.place c.self.view_is c.remove.ensures c.remove-2.ensures c.self.invariant.1.0.each c.self.invariant.1.0.rise at low c.requires.consumers beside
