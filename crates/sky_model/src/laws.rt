@@ -6,7 +6,7 @@ ghost use Rattle.sky_model.specs.LawsOfHistories.{HistoriesAreMadeByOwnCalls, Ho
 ghost use Rattle.sky_model.specs.LawsOfLines.{BadWordIsLeast, LinesAreInForm};
 ghost use Rattle.sky_model.specs.LawsOfLocks.{DeadlocksAreRings, HoldersHaveWritten, NothingIsReady, WritersHaveWritten};
 ghost use Rattle.sky_model.specs.LawsOfQueues.{BusyQueuesStand, NewQueuesAreOthers, OtherQueuesKeepNothing, ProducersHaveWork, QueuesOfConsumersStand, QueuesOfTriggersStand};
-ghost use Rattle.sky_model.specs.LawsOfRetries.{EventsComeOnce, RetriesAreCopies, RetriesAreForTheirSubscription, RetriesAreListed, RetriesAreOfActiveBatches, RetriesComeBackAtCalls, RetriesComeBackDue, RetriesWaitOnce};
+ghost use Rattle.sky_model.specs.LawsOfRetries.{EventsComeOnce, RetriesAreCopies, RetriesAreForTheirSubscription, RetriesAreListed, RetriesAreOfActiveBatches, RetriesComeBackAtCalls, RetriesComeBackDue, OwnedEventsComeBack, RetriesWaitOnce};
 ghost use Rattle.sky_model.specs.LawsOfRotation.{ActiveBatchesAreStored, NeededEventsAreStored, NewestTicksAreKept, PendingSwitchesRun, PositionsAreKept, SwitchesAreCommitted, SwitchesBeginAfterPeriods, SwitchesBeginFree, SwitchesDropTicks, SwitchesWerePending, TablesHoldWhatWasPut};
 ghost use Rattle.sky_model.specs.LawsOfRows.{RowsAreReadUnderSnapshots};
 ghost use Rattle.sky_model.specs.LawsOfSnapshots.{BatchesAreSelectedBySnapshots, SnapshotsSeeWhatHasEnded};
@@ -118,6 +118,7 @@ pub fn retries_come_back_once()
     ensures listed { RetriesAreOfActiveBatches }
     ensures once { RetriesWaitOnce }
     ensures due { RetriesComeBackDue }
+    ensures puts { OwnedEventsComeBack }
     ensures moment { RetriesComeBackAtCalls }
     ensures in_batches { RetriesAreListed }
     ensures listed_once { EventsComeOnce }
