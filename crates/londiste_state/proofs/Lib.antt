@@ -1,0 +1,4 @@
+pub mod Ticks
+pub mod StateTexts
+pub mod TableLists
+mod Worked

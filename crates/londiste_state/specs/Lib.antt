@@ -1,0 +1,4 @@
+pub mod StateText
+pub mod Moves
+pub mod Kinds
+pub mod Nodes
