@@ -263,6 +263,8 @@ fn append_refused(
 }
 
 // What comes before a line of the session of this name.
+// Always inlined: each line begins with it, and a call takes as many steps as its work.
+#[inline(always)]
 fn append_name(name: &[u8], into: &mut Vec<u8>) -> Result<(), NoMemory>
     ensures ok { OnOk result (into.new.items ≡ into.old.items ++ (name.now ++ codes ": ")) }
     ensures kept { OnErr result (Keeps into.old.items into.new.items) }
