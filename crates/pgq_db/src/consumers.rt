@@ -214,13 +214,15 @@ impl Db {
     ) -> Result<(), Stop>
         ensures { Ran self.old self.new replies.old replies.new who result (finish_batch (seen_database self.old) id) }
     {
-        if let Some(batch) = self.queues.batch(id) {
-            if self.is_nodes_of(batch.queue, batch.consumer) {
-                return Err(Stop::Refused(Refusal::NodeConsumer));
-            }
+        let Some(batch) = self.queues.batch(id) else {
+            replies.push(who, Reply::Number(0))?;
+            return Ok(());
+        };
+        if self.is_nodes_of(batch.queue, batch.consumer) {
+            return Err(Stop::Refused(Refusal::NodeConsumer));
         }
-        let count = u64::from(self.queues.close_batch(id));
-        replies.push(who, Reply::Number(count))?;
+        self.queues.close_batch(id);
+        replies.push(who, Reply::Number(1))?;
         Ok(())
     }
 
