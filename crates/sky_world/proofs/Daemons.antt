@@ -119,12 +119,21 @@ stays-by w d who PgqdOn switches = refl
 stays-by w d who PgqdOff switches = refl
 stays-by w d who _ other = absurd (cc)
 
+-- no other database has a part in it
+pgqd-there : (w : World) (d who : ℕ) (stmt : Stmt) → is_pgqd stmt ≡ true
+    → deed_in d (beside w who stmt d) (database_turn (within_database by_world d) w w.now who stmt) ≡ session_does by_world w who stmt (Some d)
+pgqd-there w d who PgqdOn switches = refl
+pgqd-there w d who PgqdOff switches = refl
+pgqd-there w d who _ other = absurd (cc)
+
 -- and the daemon is then on or off
 pub adds-pgqd : (old s new : WorldView) (d who own : ℕ) (stmt : Stmt) (done : Bool) (before after : List (ℕ × Reply)) → is_pgqd stmt ≡ true → own ≡ length before → done ≡ is_done_at after own
     → AddsDeed old s before after (deed_in d [] (database_turn (within_database by_world d) (seen_world old) (seen_world old).now who stmt))
     → seen_world new ≡ after_facts (seen_world s) (of_daemon_if done d ((seen_world s).daemons d) stmt) → new.sessions.names ≡ s.sessions.names
     → AddsDeed old new before after (session_does by_world (seen_world old) who stmt (Some d))
-adds-pgqd old s new d who own stmt done before after switches at is adds shows same = subst (λ facts. AddsDeed old new before after (deed_in d facts turn)) (sym (stays-by (seen_world old) d who stmt switches)) (record {
+adds-pgqd old s new d who own stmt done before after switches at is adds shows same =
+    subst (AddsDeed old new before after) (pgqd-there (seen_world old) d who stmt switches)
+    (subst (λ facts. AddsDeed old new before after (deed_in d facts turn)) (sym (stays-by (seen_world old) d who stmt switches)) (record {
   answered = adds.answered;
   known = adds.known;
   moments = adds.moments;
@@ -134,7 +143,7 @@ adds-pgqd old s new d who own stmt done before after switches at is adds shows s
       ∙ ap (λ w. after_facts w facts) by_marks
       ∙ sym (after_facts-append (seen_world old) (map (within d) turn.marks) facts);
   sessions = same ∙ adds.sessions;
-})
+}))
   where
     turn : Turn
     turn = database_turn (within_database by_world d) (seen_world old) (seen_world old).now who stmt

@@ -1,3 +1,4 @@
 pub mod Worlds
 pub mod Daemons
 pub mod Clocks
+pub mod ServedNodes

@@ -8,7 +8,7 @@ use Rattle.sky_names.specs.Places.{place_of}
 use Rattle.sky_names.specs.Named.{NamedView, with_value}
 use Rattle.sky_keys.specs.Waits.{is_waiting, Waiting}
 use Rattle.sky_model.specs.declared.stmt.Stmt.{Stmt}
-use Rattle.sky_model.specs.declared.stmt.Stmt.TheVariants.{PgqdOn, PgqdOff}
+use Rattle.sky_model.specs.declared.stmt.Stmt.TheVariants.{CreateRoot, Node, PgqdOn, PgqdOff}
 use Rattle.sky_model.specs.declared.reply.Refusal.TheVariants.{TooMany}
 use Rattle.sky_model.specs.declared.reply.Limit.TheVariants.{Sessions, Databases}
 use Rattle.sky_model.specs.declared.reply.Reply.{Reply}
@@ -30,10 +30,10 @@ use Rattle.pgq_db.specs.Gives.{Adds}
 use Rattle.pgq_db.proofs.Empty.{no_database-is}
 use Rattle.sky_world.specs.Views.{WorldView}
 use Rattle.sky_world.specs.Seen.{seen_world}
-use Rattle.sky_world.specs.Homes.{HomesWithin}
+use Rattle.sky_world.specs.Homes.{HomesWithin, NodesWithin}
 use Rattle.sky_world.specs.Waiters.{AllWaitersWithin}
 use Rattle.sky_world.specs.Adds.{AddsDeed, AddsCall}
-use Rattle.sky_world.specs.Works.{is_pgqd}
+use Rattle.sky_world.specs.Works.{is_pgqd, is_on_nodes}
 
 -- marks in a database change that database alone
 pub after_facts-within : (w : World) (d : ℕ) (marks : List Mark) → after_facts w (map (within d) marks) ≡ record w { database = changed_at d (λ x. after_marks x marks) w.database }
@@ -67,6 +67,10 @@ homes-more count more homes le all = All-weaker (IsHome count) (IsHome more) wea
     weaker None lt = tt
     weaker (Some d) lt = omega (arith, lt, le)
 
+-- the same of the databases that have a node
+pub nodes-more : (count more : ℕ) (nodes : List ℕ) → count ≤ more → NodesWithin count nodes → NodesWithin more nodes
+nodes-more count more nodes le all = All-weaker (λ d. d < count) (λ d. d < more) (λ d lt. omega (arith, lt, le)) nodes all
+
 -- a session opens one of them, or none
 pub homes-set : (v now : WorldView) (who : ℕ) (home : Option ℕ) → v ≡ now → HomesWithin (length v.databases.names) v.sessions.values → IfSome home (λ d. d < length now.databases.names)
     → HomesWithin (length v.databases.names) (slice_set v.sessions.values who home)
@@ -85,10 +89,10 @@ homes-at v now who home same all lt is =
 none-there : {A : Type 0} (n : ℕ) (d : A) → get_or [] n d ≡ d
 none-there n d = get_or_past [] n d (omega arith)
 
-pub world-new : (sessions : NamedView (Option ℕ)) (databases : NamedView DbView) (daemons : List (ℕ × ℤ)) → sessions ≡ record { names = []; values = [] } → databases ≡ record { names = []; values = [] }
-    → daemons ≡ [] → seen_world (record { now = pos 0; sessions = sessions; databases = databases; daemons = daemons; has_failed = false }) ≡ world_of []
-world-new sessions databases daemons nobody nothing none =
-    (λ i. seen_world (record { now = pos 0; sessions = nobody i; databases = nothing i; daemons = none i; has_failed = false }))
+pub world-new : (sessions : NamedView (Option ℕ)) (databases : NamedView DbView) (daemons : List (ℕ × ℤ)) (nodes : List ℕ) → sessions ≡ record { names = []; values = [] } → databases ≡ record { names = []; values = [] }
+    → daemons ≡ [] → nodes ≡ [] → seen_world (record { now = pos 0; sessions = sessions; databases = databases; daemons = daemons; nodes = nodes; has_failed = false }) ≡ world_of []
+world-new sessions databases daemons nodes nobody nothing none no_node =
+    (λ i. seen_world (record { now = pos 0; sessions = nobody i; databases = nothing i; daemons = none i; nodes = no_node i; has_failed = false }))
     ∙ (λ i. record (world_of []) { homes = λ who. none-there who None i; database = λ d. (ap seen_database (none-there d no_database) ∙ no_database-is) i })
 
 -- appending an entry that is read as those past the end changes nothing that is shown
@@ -229,6 +233,13 @@ of_daemon-none true d (Some start) PgqdOff other = absurd (cc)
 of_daemon-none true d None _ other = refl
 of_daemon-none true d (Some start) _ other = refl
 
+-- a statement that isn't on nodes is run in its database alone
+does-there : (w : World) (who : ℕ) (stmt : Stmt) (d : ℕ) → is_on_nodes stmt ≡ false
+    → deed_in d (beside w who stmt d) (database_turn (within_database by_world d) w w.now who stmt) ≡ session_does by_world w who stmt (Some d)
+does-there w who (CreateRoot name queue) d other = absurd (cc)
+does-there w who (Node s) d other = absurd (cc)
+does-there w who _ d other = refl
+
 beside-leaving : (w : World) (who : ℕ) (stmt : Stmt) (d : ℕ) (leaving : Bool) → is_pgqd stmt ≡ false → leaving ≡ is_leaving (is_waiting who (w.database d).part.waiting) stmt → left_if who leaving ≡ beside w who stmt d
 beside-leaving w who stmt d leaving other is =
     ap (left_if who) is
@@ -236,26 +247,28 @@ beside-leaving w who stmt d leaving other is =
     ∙ ap (λ facts. left_if who (is_leaving (is_waiting who (w.database d).part.waiting) stmt) ++ facts) (sym (of_daemon-none (may_make (w.database d) who stmt) d (w.daemons d) stmt other))
 
 -- a statement by which its session leaves
-pub adds-left : (old s new : WorldView) (d who : ℕ) (stmt : Stmt) (leaving : Bool) (before after : List (ℕ × Reply)) → is_pgqd stmt ≡ false
+pub adds-left : (old s new : WorldView) (d who : ℕ) (stmt : Stmt) (leaving : Bool) (before after : List (ℕ × Reply)) → is_pgqd stmt ≡ false → is_on_nodes stmt ≡ false
     → leaving ≡ is_leaving (is_waiting who ((seen_world old).database d).part.waiting) stmt → leaving ≡ true
     → AddsDeed old s before after (deed_in d [] (database_turn (within_database by_world d) (seen_world old) (seen_world old).now who stmt))
     → seen_world new ≡ after_fact (seen_world s) (left who) → new.sessions.names ≡ s.sessions.names → AddsDeed old new before after (session_does by_world (seen_world old) who stmt (Some d))
-adds-left old s new d who stmt leaving before after other is leaves adds shows same =
-    subst (λ facts. AddsDeed old new before after (deed_in d facts turn))
+adds-left old s new d who stmt leaving before after other nodes is leaves adds shows same =
+    subst (AddsDeed old new before after) (does-there (seen_world old) who stmt d nodes)
+    (subst (λ facts. AddsDeed old new before after (deed_in d facts turn))
     (ap (left_if who) (sym leaves) ∙ beside-leaving (seen_world old) who stmt d leaving other is)
-    (adds-moved old s new d (left who) before after turn adds shows same)
+    (adds-moved old s new d (left who) before after turn adds shows same))
   where
     turn : Turn
     turn = database_turn (within_database by_world d) (seen_world old) (seen_world old).now who stmt
 
 -- or stays
-pub adds-stayed : (old new : WorldView) (d who : ℕ) (stmt : Stmt) (leaving : Bool) (before after : List (ℕ × Reply)) → is_pgqd stmt ≡ false
+pub adds-stayed : (old new : WorldView) (d who : ℕ) (stmt : Stmt) (leaving : Bool) (before after : List (ℕ × Reply)) → is_pgqd stmt ≡ false → is_on_nodes stmt ≡ false
     → leaving ≡ is_leaving (is_waiting who ((seen_world old).database d).part.waiting) stmt → leaving ≡ false
     → AddsDeed old new before after (deed_in d [] (database_turn (within_database by_world d) (seen_world old) (seen_world old).now who stmt))
     → AddsDeed old new before after (session_does by_world (seen_world old) who stmt (Some d))
-adds-stayed old new d who stmt leaving before after other is stays adds =
-    subst (λ facts. AddsDeed old new before after (deed_in d facts (database_turn (within_database by_world d) (seen_world old) (seen_world old).now who stmt)))
-    (ap (left_if who) (sym stays) ∙ beside-leaving (seen_world old) who stmt d leaving other is) adds
+adds-stayed old new d who stmt leaving before after other nodes is stays adds =
+    subst (AddsDeed old new before after) (does-there (seen_world old) who stmt d nodes)
+    (subst (λ facts. AddsDeed old new before after (deed_in d facts (database_turn (within_database by_world d) (seen_world old) (seen_world old).now who stmt)))
+    (ap (left_if who) (sym stays) ∙ beside-leaving (seen_world old) who stmt d leaving other is) adds)
 
 -- `open` of a database that it creates
 pub opens-new : (old s new : WorldView) (who number : ℕ) (stmt : Stmt) (name : List ℕ) (before after : List (ℕ × Reply)) → length old.databases.names < 16 → number ≡ length old.databases.names

@@ -5,3 +5,4 @@ pub mod Daemons
 pub mod Works
 pub mod Waiters
 pub mod Adds
+pub mod Nodes

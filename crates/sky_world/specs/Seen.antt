@@ -15,4 +15,5 @@ seen_world w = record {
   homes = λ who. slice_index_or w.sessions.values who None;
   database = λ d. seen_database (slice_index_or w.databases.values d no_database);
   daemons = λ d. lookup (is_at (nat_cmp d)) w.daemons;
+  nodes = w.nodes;
 }

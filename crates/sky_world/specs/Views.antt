@@ -10,5 +10,7 @@ pub record WorldView : Type 0 where
   pub databases : NamedView DbView
   -- the databases whose daemon is on, each with the moment at which it was started
   pub daemons : List (ℕ × ℤ)
+  -- the databases that have a node, in the order in which they got it
+  pub nodes : List ℕ
   -- whether memory ran out once
   pub has_failed : Bool

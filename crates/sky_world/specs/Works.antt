@@ -1,7 +1,7 @@
--- What a method of the world does that answers nothing, by what the world showed; and which statements are on the daemon.
+-- What a method of the world does that answers nothing, by what the world showed; and which statements are on the daemon, or on nodes.
 use Rattle.std.specs.Prelude.{◌≡◌, ℕ, Bool, true, false, List, Option, Some, None, slice_get}
 use Rattle.sky_model.specs.declared.stmt.Stmt.{Stmt}
-use Rattle.sky_model.specs.declared.stmt.Stmt.TheVariants.{PgqdOn, PgqdOff}
+use Rattle.sky_model.specs.declared.stmt.Stmt.TheVariants.{CreateRoot, Node, PgqdOn, PgqdOff}
 use Rattle.sky_model.specs.declared.reply.Reply.{Reply}
 use Rattle.sky_model.specs.declared.reply.Reply.TheVariants.{Done}
 use Rattle.sky_model.specs.World.{after_facts}
@@ -14,6 +14,12 @@ abbrev pub is_pgqd : Stmt → Bool
 is_pgqd PgqdOn = true
 is_pgqd PgqdOff = true
 is_pgqd _ = false
+
+-- whether a statement is one on nodes, `create_root` too
+abbrev pub is_on_nodes : Stmt → Bool
+is_on_nodes (CreateRoot name queue) = true
+is_on_nodes (Node stmt) = true
+is_on_nodes _ = false
 
 -- whether an answer is `ok`
 abbrev pub is_done : Option (ℕ × Reply) → Bool

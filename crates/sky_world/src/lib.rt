@@ -7,6 +7,7 @@
 #![tactic(auto)]
 
 mod clock;
+mod nodes;
 mod world;
 
 pub use world::{World, WorldFault};

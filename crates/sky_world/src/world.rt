@@ -14,7 +14,7 @@ ghost use Rattle.pgq_db.specs.Seen.{seen_database};
 ghost use Rattle.pgq_db.specs.Gives.{is_clock};
 ghost use Rattle.sky_world.specs.Seen.{seen_world};
 ghost use Rattle.sky_world.specs.Adds.{AddsDeed, AddsCall};
-ghost use Rattle.sky_world.specs.Works.{is_pgqd, is_done_at};
+ghost use Rattle.sky_world.specs.Works.{is_pgqd, is_on_nodes, is_done_at};
 
 use pgq_db::Db;
 use sky_model::{Limit, Refusal, Replies, Reply, RowStmt, Stmt};
@@ -38,13 +38,15 @@ pub enum WorldFault {
 /// The sessions and databases of a script, and the clock.
 #[derive(Drop)]
 pub struct World {
-    alloc: Global,
+    pub(crate) alloc: Global,
     pub(crate) clock: i64,
     // The database that each session has open.
     sessions: Named<Option<usize>>,
     pub(crate) databases: Named<Db>,
     // The databases whose daemon is on, each with the moment at which it was started.
     pub(crate) daemons: BTreeMap<usize, i64>,
+    // The databases that have a node, in the order in which they got it.
+    pub(crate) nodes: Vec<usize>,
     // Whether memory ran out once. Then it isn't known who waits in a database, so no further statement is run.
     pub(crate) has_failed: bool,
 }
@@ -53,16 +55,16 @@ impl Model for World {
     ghost use Rattle.std.specs.Prelude.{◌≡◌, false, length};
     ghost use Rattle.sky_world.specs.Views.{WorldView};
     ghost use Rattle.sky_model.specs.Moment.{IsTime};
-    ghost use Rattle.sky_world.specs.Homes.{HomesWithin};
+    ghost use Rattle.sky_world.specs.Homes.{HomesWithin, NodesWithin};
     ghost use Rattle.sky_world.specs.Daemons.{StartedBy};
     ghost use Rattle.sky_world.specs.Waiters.{AllWaitersWithin};
 
     ghost Value = { WorldView };
 
-    ghost view = { λ w. record { now = w.clock; sessions = w.sessions; databases = w.databases; daemons = w.daemons.entries; has_failed = w.has_failed } };
+    ghost view = { λ w. record { now = w.clock; sessions = w.sessions; databases = w.databases; daemons = w.daemons.entries; nodes = w.nodes.items; has_failed = w.has_failed } };
 
     ghost invariant = { λ w. IsTime w.clock × HomesWithin (length w.databases.names) w.sessions.values × StartedBy w.clock w.daemons.entries
-        × (w.has_failed ≡ false → AllWaitersWithin (length w.sessions.names) w.databases.values) };
+        × (w.has_failed ≡ false → AllWaitersWithin (length w.sessions.names) w.databases.values) × NodesWithin (length w.databases.names) w.nodes.items };
 }
 
 impl World {
@@ -77,6 +79,7 @@ impl World {
             sessions: Named::new(alloc),
             databases: Named::new(alloc),
             daemons: BTreeMap::new(alloc),
+            nodes: Vec::new(alloc),
             has_failed: false,
         }
     }
@@ -269,12 +272,14 @@ impl World {
         ensures failed { OnOk result (self.new.has_failed ≡ self.old.has_failed) }
     {
         match stmt {
+            Stmt::CreateRoot { name, .. } => self.run_root(database, who, stmt, name, replies),
+            Stmt::Node(form) => self.run_node(database, who, stmt, form, replies),
             Stmt::PgqdOn | Stmt::PgqdOff => self.run_pgqd(database, who, stmt, replies),
             _ => self.run_or_leave(database, who, stmt, replies),
         }
     }
 
-    /// Runs a statement that leaves the database's daemon as it is.
+    /// Runs a statement that is neither on the daemon nor on nodes.
     fn run_or_leave(
         &mut self,
         database: usize,
@@ -287,6 +292,7 @@ impl World {
         requires form { IsInForm stmt.now }
         requires clock { is_clock stmt.now ≡ false }
         requires daemon { is_pgqd stmt.now ≡ false }
+        requires nodes { is_on_nodes stmt.now ≡ false }
         ensures adds { OnOk result (AddsDeed self.old self.new replies.old replies.new (session_does by_world (seen_world self.old) who stmt.now (Some database))) }
         ensures failed { OnOk result (self.new.has_failed ≡ self.old.has_failed) }
     {
@@ -361,7 +367,7 @@ impl World {
     }
 
     /// Runs a statement in a database.
-    fn run_there(
+    pub(crate) fn run_there(
         &mut self,
         database: usize,
         who: SessionId,
@@ -546,7 +552,7 @@ fn unopened(stmt: &Stmt) -> Reply
 }
 
 /// Whether the answer at a place is `ok`.
-fn is_done(replies: &Replies, place: usize) -> bool
+pub(crate) fn is_done(replies: &Replies, place: usize) -> bool
     ensures { result ≡ is_done_at replies.now place }
 {
     matches!(replies.as_slice().get(place), Some((_, Reply::Done)))

@@ -17,6 +17,7 @@ invariant_of-self-2 c =
       homes-push _ c.self.inside.sessions.values _ (ap (λ (n : NamedView (Option ℕ)). n.values) longer) c.self.invariant.1,
       c.self.invariant.2,
       (λ whole. waiters-more _ _ c.self.inside.databases.values (omega (arith, ap (λ (n : NamedView (Option ℕ)). length n.names) longer, length-append c.self.inside.sessions.names (c.in_ok-copied.copied ∷ []))) (c.self.invariant.3 whole)),
+      c.self.invariant.4,
     )
 
 pub returns-clause-fact : goal.returns-clause-fact

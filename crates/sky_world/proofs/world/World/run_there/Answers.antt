@@ -10,6 +10,7 @@ invariant_of-self c = (
   c.self.invariant.2,
   (λ whole. (known-within _ _ c.args.database c.args.who c.get_mut-store.result.now c.step_into.new.self _ c.self.view_is c.get_mut-store.ensures.within c.get_mut-store.ensures.value
       c.requires.who (c.self.invariant.3 whole) c.in-Ok.ensures.within).1),
+  c.self.invariant.4,
 )
 
 pub returns-in-Ok-clause-adds : goal.returns-in-Ok-clause-adds

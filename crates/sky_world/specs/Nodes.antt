@@ -1,0 +1,89 @@
+-- What the world's methods on nodes give, by what the world showed.
+use Rattle.std.specs.Prelude.{◌≡◌, ℕ, List, [], Bool, true, not, map, Option, Some, None, option_map, Result, Ok, Err, is_ok}
+use Rattle.sky_val.specs.declared.column.Column.{Column}
+use Rattle.sky_keys.specs.Waits.{is_waiting}
+use Rattle.londiste_state.specs.Nodes.{Leaf}
+use Rattle.sky_model.specs.declared.stmt.Stmt.{Stmt}
+use Rattle.sky_model.specs.declared.stmt.Stmt.TheVariants.{CreateRoot}
+use Rattle.sky_model.specs.declared.stmt.Where.TheVariants.{WhenOutside}
+use Rattle.sky_model.specs.declared.reply.Reply.{Reply}
+use Rattle.sky_model.specs.declared.reply.Refusal.TheVariants.{NotInSet, NotProvider, SchemaDiffers}
+use Rattle.sky_model.specs.declared.stop.Stop.{Stop}
+use Rattle.sky_model.specs.declared.stop.Stop.TheVariants.{Refused, NoMemory}
+use Rattle.sky_model.specs.History.{Fact, within}
+use Rattle.sky_model.specs.State.{Database}
+use Rattle.sky_model.specs.World.{World, after_facts}
+use Rattle.sky_model.specs.Outcome.{Checked, marks_of, ◌>>=◌, ◌>>◌, refused_if, found_or}
+use Rattle.sky_model.specs.Printed.{ReplyHasMoments}
+use Rattle.sky_model.specs.Allowed.{allowed}
+use Rattle.sky_model.specs.StepQueue.{newest_id}
+use Rattle.sky_model.specs.StepNode.{set_queue, joins, NodeCall, joining, node_does}
+use Rattle.sky_model.specs.NodesOfWorld.{WorldOutcome, node_called, provides, are_columns, columns_called, leaf_of}
+use Rattle.sky_world.specs.Views.{WorldView}
+use Rattle.sky_world.specs.Seen.{seen_world}
+
+-- whether a session may make a statement that is allowed only outside blocks
+abbrev pub may_outside : Database → ℕ → Bool
+may_outside d who = is_ok (allowed (is_waiting who d.part.waiting) (d.part.session who).is_open (d.part.session who).block WhenOutside)
+
+-- the name of the root that a statement is to make
+abbrev pub root_name : Stmt → Option (List ℕ)
+root_name (CreateRoot name queue) = Some name
+root_name _ = None
+
+-- the world shows what it showed, and has failed if it had
+pub record Stays (old new : WorldView) : Type 0 where
+  pub shown : seen_world new ≡ seen_world old
+  pub failed : new.has_failed ≡ old.has_failed
+
+-- the world is then as after these facts, with the same sessions and databases
+pub record Happened (old new : WorldView) (facts : List Fact) : Type 0 where
+  pub changed : seen_world new ≡ after_facts (seen_world old) facts
+  pub sessions : new.sessions.names ≡ old.sessions.names
+  pub databases : new.databases.names ≡ old.databases.names
+  pub failed : new.has_failed ≡ old.has_failed
+
+-- a statement on nodes did what its definition says, with this answer
+pub record Does (old new : WorldView) (reply : Reply) (checked : Checked WorldOutcome) : Type 0 where
+  pub facts : List Fact
+  pub outcome : checked ≡ Ok (record { reply = reply; facts = facts })
+  pub moments : ReplyHasMoments reply
+  pub happened : Happened old new facts
+
+-- a statement on nodes was run: it does what its definition says, or is refused as it says, and then changes nothing
+abbrev pub Ran : (old new : WorldView) → Result Reply Stop → Checked WorldOutcome → Type 0
+Ran old new (Ok reply) checked = Does old new reply checked
+Ran old new (Err (Refused refusal)) checked = (checked ≡ Err refusal) × Stays old new
+Ran old new (Err NoMemory) checked = Unit {0}
+
+-- what a call for a node changes in its database, in the world
+abbrev pub call_facts : World → ℕ → NodeCall → List Fact
+call_facts w database call = map (within database) (marks_of (node_does (w.database database) call))
+
+-- the newest tick of the queue of a database's set
+abbrev pub set_tick : Database → Option ℕ
+set_tick d = option_map (λ queue. newest_id (d.queue queue)) (set_queue d)
+
+-- a consumer joined the queue of a set, at this tick
+pub record Joins (old new : WorldView) (database tick : ℕ) (consumer : List ℕ) : Type 0 where
+  pub newest : set_tick ((seen_world old).database database) ≡ Some tick
+  pub accepted : is_ok (node_does ((seen_world old).database database) (joining consumer)) ≡ true
+  pub happened : Happened old new (call_facts (seen_world old) database (joining consumer))
+
+-- it joined, or didn't, as its definition says, and then nothing is changed
+abbrev pub Joined : (old new : WorldView) → ℕ → Result ℕ Stop → List ℕ → Type 0
+Joined old new database (Ok tick) consumer = Joins old new database tick consumer
+Joined old new database (Err (Refused refusal)) consumer = (node_does ((seen_world old).database database) (joining consumer) ≡ Err refusal) × Stays old new
+Joined old new database (Err NoMemory) consumer = Unit {0}
+
+-- a leaf of a provider of this name, in this database
+abbrev pub leaf_from : World → ℕ → (name provider : List ℕ) → (from : ℕ) → Checked WorldOutcome
+leaf_from w d name provider from = do
+  queue ← found_or (set_queue (w.database from)) (NotProvider provider)
+  leaf_of d from name provider (newest_id ((w.database from).queue queue)) (joins (w.database from) queue name)
+
+-- why a table with these columns may not join a leaf: its provider doesn't have it, or with other columns
+abbrev pub provided_as : World → List Column → List ℕ → Leaf → Checked (Unit {0})
+provided_as w columns table l = do
+  p ← found_or (provides table (node_called w l.provider)) (NotInSet table)
+  refused_if (not (are_columns columns (columns_called table (w.database p)))) (SchemaDiffers table)

@@ -1,0 +1,494 @@
+//! The nodes of sets: `create_root`, and the statements that concern two databases, or the one of a node's name.
+
+ghost use Rattle.std.specs.Prelude.{◌≡◌, ◌<◌, ◌&&◌, ◌∷◌, [], true, false, Some, None, Ok, IfOk, IfErr, OnOk, IfSome, MatchOption, length, option_copied, option_map, is_some};
+ghost use Rattle.sky_model.specs.declared.reply.Reply.TheVariants.{Done};
+ghost use Rattle.sky_model.specs.declared.reply.Refusal.TheVariants.{NotProvider, TableInUse};
+ghost use Rattle.sky_model.specs.Outcome.{found_or, refused_by};
+ghost use Rattle.sky_model.specs.InForm.{IsInForm};
+ghost use Rattle.sky_model.specs.History.{within, node_made, noded, leaf_made};
+ghost use Rattle.sky_model.specs.Stops.{StopsAs};
+ghost use Rattle.sky_model.specs.World.{after_fact};
+ghost use Rattle.sky_model.specs.Reader.{within_database, by_world};
+ghost use Rattle.sky_model.specs.StepNode.{set_queue, node_does, adding, removing, listing, unlisting};
+ghost use Rattle.sky_model.specs.NodesOfWorld.{node_called, done_in, provides, same_columns, uses, first_user, create_leaf, add_table, remove_table, table_state, node_form};
+ghost use Rattle.sky_model.specs.Calls.{database_turn, world_does, node_does as does_on_nodes, roots_in, session_does};
+ghost use Rattle.pgq_db.specs.Gives.{is_clock};
+ghost use Rattle.sky_world.specs.Seen.{seen_world};
+ghost use Rattle.sky_world.specs.Adds.{AddsDeed};
+ghost use Rattle.sky_world.specs.Nodes.{may_outside, root_name, Stays, Happened, Does, Ran, Joined, leaf_from, provided_as};
+
+use crate::world::{World, is_done};
+use londiste_state::{Leaf, Node};
+use pgq_db::{JoinFault, RootFault};
+use sky_model::{Limit, NodeStmt, Refusal, Replies, Reply, Stmt, Stop};
+use sky_val::{Column, NoMemory, SessionId, Text};
+use std::alloc::AllocError;
+
+impl World {
+    /// Runs `create_root`. It is refused if there is a node of the name, be it in another database. Unless it is refused
+    /// in its own, this has a node from then on.
+    pub(crate) fn run_root(
+        &mut self,
+        database: usize,
+        who: SessionId,
+        stmt: &Stmt,
+        name: &Text,
+        replies: &mut Replies,
+    ) -> Result<(), NoMemory>
+        requires who { who < length self.old.sessions.names }
+        requires database { database < length self.old.databases.names }
+        requires form { IsInForm stmt.now }
+        requires root { root_name stmt.now ≡ Some name.now }
+        ensures adds { OnOk result (AddsDeed self.old self.new replies.old replies.new (session_does by_world (seen_world self.old) who stmt.now (Some database))) }
+        ensures failed { OnOk result (self.new.has_failed ≡ self.old.has_failed) }
+    {
+        if self.is_taken(database, who, name)? {
+            let name = name.copy(self.alloc)?;
+            replies.push(who, Reply::Refused(Refusal::NodeExists(name)))?;
+            return Ok(());
+        }
+        self.make_root(database, who, stmt, replies)?;
+        Ok(())
+    }
+
+    /// Whether a session may make a root, and there is a node of its name.
+    fn is_taken(&mut self, database: usize, who: SessionId, name: &Text) -> Result<bool, NoMemory>
+        requires { database < length self.old.databases.names }
+        ensures taken { IfOk result (λ taken. taken ≡ (may_outside ((seen_world self.old).database database) who && is_some (node_called (seen_world self.old) name.now))) }
+        ensures stays { OnOk result (Stays self.old self.new) }
+    {
+        let allowed = self.may_outside(database, who)?;
+        Ok(allowed && self.find_node(name).is_some())
+    }
+
+    /// Runs `create_root` in its database, which has a node then if it did so.
+    fn make_root(
+        &mut self,
+        database: usize,
+        who: SessionId,
+        stmt: &Stmt,
+        replies: &mut Replies,
+    ) -> Result<(), NoMemory>
+        requires who { who < length self.old.sessions.names }
+        requires database { database < length self.old.databases.names }
+        requires form { IsInForm stmt.now }
+        requires clock { is_clock stmt.now ≡ false }
+        ensures adds { OnOk result (AddsDeed self.old self.new replies.old replies.new
+            (roots_in database (database_turn (within_database by_world database) (seen_world self.old) (seen_world self.old).now who stmt.now))) }
+        ensures failed { OnOk result (self.new.has_failed ≡ self.old.has_failed) }
+    {
+        let own = replies.as_slice().len();
+        self.run_there(database, who, stmt, replies)?;
+        if is_done(replies, own) {
+            self.gets_node(database)?;
+        }
+        Ok(())
+    }
+
+    /// Runs a statement on nodes. If its session may not make it, it is refused in its database.
+    pub(crate) fn run_node(
+        &mut self,
+        database: usize,
+        who: SessionId,
+        stmt: &Stmt,
+        form: &NodeStmt,
+        replies: &mut Replies,
+    ) -> Result<(), NoMemory>
+        requires who { who < length self.old.sessions.names }
+        requires database { database < length self.old.databases.names }
+        requires form { IsInForm stmt.now }
+        requires node { stmt.now ≡ Stmt.Node form.now }
+        ensures adds { OnOk result (AddsDeed self.old self.new replies.old replies.new (does_on_nodes by_world (seen_world self.old) who form.now database)) }
+        ensures failed { OnOk result (self.new.has_failed ≡ self.old.has_failed) }
+    {
+        if !self.may_outside(database, who)? {
+            self.run_there(database, who, stmt, replies)?;
+            return Ok(());
+        }
+        self.serve(database, who, form, replies)?;
+        Ok(())
+    }
+
+    /// Runs a statement on nodes that its session may make.
+    fn serve(
+        &mut self,
+        database: usize,
+        who: SessionId,
+        form: &NodeStmt,
+        replies: &mut Replies,
+    ) -> Result<(), NoMemory>
+        requires who { who < length self.old.sessions.names }
+        requires database { database < length self.old.databases.names }
+        ensures adds { OnOk result (AddsDeed self.old self.new replies.old replies.new (world_does who (node_form (seen_world self.old) database form.now))) }
+        ensures failed { OnOk result (self.new.has_failed ≡ self.old.has_failed) }
+    {
+        match self.run_form(database, form) {
+            Ok(reply) => {
+                replies.push(who, reply)?;
+                Ok(())
+            }
+            Err(Stop::Refused(refusal)) => {
+                replies.push(who, Reply::Refused(refusal))?;
+                Ok(())
+            }
+            Err(Stop::NoMemory) => Err(AllocError),
+        }
+    }
+
+    fn run_form(&mut self, database: usize, form: &NodeStmt) -> Result<Reply, Stop>
+        requires { database < length self.old.databases.names }
+        ensures { Ran self.old self.new result (node_form (seen_world self.old) database form.now) }
+    {
+        match form {
+            NodeStmt::CreateLeaf { name, provider } => self.create_leaf(database, name, provider),
+            NodeStmt::AddTable { name, table } => self.add_table(name, table),
+            NodeStmt::RemoveTable { name, table } => self.remove_table(name, table),
+            NodeStmt::TableState { name, table } => self.table_state(name, table),
+        }
+    }
+
+    /// Runs `create_leaf`: the leaf's consumer joins the queue of the provider, whose newest tick becomes the leaf's.
+    fn create_leaf(
+        &mut self,
+        database: usize,
+        name: &Text,
+        provider: &Text,
+    ) -> Result<Reply, Stop>
+        requires { database < length self.old.databases.names }
+        ensures { Ran self.old self.new result (create_leaf (seen_world self.old) database name.now provider.now) }
+    {
+        let from = self.provider_for(database, name, provider)?;
+        let tick = self.join(from, name)?;
+        self.make_leaf(database, name, provider, tick)?;
+        Ok(Reply::Done)
+    }
+
+    /// The database of the provider of a leaf that may be made.
+    fn provider_for(&self, database: usize, name: &Text, provider: &Text) -> Result<usize, Stop>
+        requires { database < length self.now.databases.names }
+        ensures ok { IfOk result (λ from. create_leaf (seen_world self.now) database name.now provider.now ≡ leaf_from (seen_world self.now) database name.now provider.now from) }
+        ensures err { IfErr result (λ stop. StopsAs stop (create_leaf (seen_world self.now) database name.now provider.now)) }
+        ensures within { IfOk result (λ from. from < length self.now.databases.names) }
+        ensures free { OnOk result (((seen_world self.now).database database).node ≡ None) }
+        ensures provides { IfOk result (λ from. is_some (set_queue ((seen_world self.now).database from)) ≡ true) }
+    {
+        if self.find_node(name).is_some() || self.store(database).node().is_some() {
+            let name = name.copy(self.alloc)?;
+            return Err(Stop::Refused(Refusal::NodeExists(name)));
+        }
+        let Some((from, _)) = self.find_node(provider) else {
+            let provider = provider.copy(self.alloc)?;
+            return Err(Stop::Refused(Refusal::NoNode(provider)));
+        };
+        self.check_provider(from, provider)?;
+        Ok(from)
+    }
+
+    /// Whether the node of a database has a queue of a set.
+    fn check_provider(&self, database: usize, name: &Text) -> Result<(), Stop>
+        requires { database < length self.now.databases.names }
+        ensures ok { OnOk result (is_some (set_queue ((seen_world self.now).database database)) ≡ true) }
+        ensures err { IfErr result (λ stop. StopsAs stop (found_or (set_queue ((seen_world self.now).database database)) (NotProvider name.now))) }
+    {
+        if !self.store(database).is_provider() {
+            let name = name.copy(self.alloc)?;
+            return Err(Stop::Refused(Refusal::NotProvider(name)));
+        }
+        Ok(())
+    }
+
+    /// A leaf's consumer joins the queue of the set in a database. The answer is the newest tick.
+    fn join(&mut self, database: usize, consumer: &Text) -> Result<u64, Stop>
+        requires database { database < length self.old.databases.names }
+        requires provider { is_some (set_queue ((seen_world self.old).database database)) ≡ true }
+        ensures { Joined self.old self.new database result consumer.now }
+    {
+        let alloc = self.alloc;
+        let store = self.databases.get_mut(database);
+        match store.join(consumer) {
+            Ok(tick) => Ok(tick),
+            Err(JoinFault::ConsumerExists) => {
+                let consumer = consumer.copy(alloc)?;
+                Err(Stop::Refused(Refusal::ConsumerExists(consumer)))
+            }
+            Err(JoinFault::TooManyConsumers) => {
+                Err(Stop::Refused(Refusal::TooMany(Limit::Consumers)))
+            }
+            Err(JoinFault::IdsSpent) => Err(Stop::Refused(Refusal::IdsSpent)),
+            Err(JoinFault::NoMemory) => {
+                self.has_failed = true;
+                Err(Stop::NoMemory)
+            }
+        }
+    }
+
+    /// A leaf in a database that has no node.
+    fn make_leaf(
+        &mut self,
+        database: usize,
+        name: &Text,
+        provider: &Text,
+        tick: u64,
+    ) -> Result<(), NoMemory>
+        requires database { database < length self.old.databases.names }
+        requires free { ((seen_world self.old).database database).node ≡ None }
+        ensures { OnOk result (Happened self.old self.new (within database (noded (leaf_made name.now provider.now tick)) ∷ node_made database ∷ [])) }
+    {
+        let store = self.databases.get_mut(database);
+        match store.make_leaf(name, provider, tick) {
+            Ok(()) => {
+                self.gets_node(database)?;
+                Ok(())
+            }
+            Err(fault) => {
+                self.has_failed = true;
+                Err(fault)
+            }
+        }
+    }
+
+    /// A database has a node from now on.
+    fn gets_node(&mut self, database: usize) -> Result<(), NoMemory>
+        requires { database < length self.old.databases.names }
+        ensures { OnOk result (Happened self.old self.new (node_made database ∷ [])) }
+    {
+        self.nodes.push(database)?;
+        Ok(())
+    }
+
+    /// Runs `add_table`.
+    fn add_table(&mut self, name: &Text, table: &Text) -> Result<Reply, Stop>
+        ensures { Ran self.old self.new result (add_table (seen_world self.old) name.now table.now) }
+    {
+        let Some((database, node)) = self.find_node(name) else {
+            let name = name.copy(self.alloc)?;
+            return Err(Stop::Refused(Refusal::NoNode(name)));
+        };
+        let Some(schema) = self.store(database).schema(table) else {
+            let table = table.copy(self.alloc)?;
+            return Err(Stop::Refused(Refusal::NoTable(table)));
+        };
+        if node.has_table(table) {
+            let table = table.copy(self.alloc)?;
+            return Err(Stop::Refused(Refusal::AlreadyInSet(table)));
+        }
+        match node {
+            Node::Root(root) => {
+                self.check_provider(database, root.name())?;
+                self.add_to_root(database, table)
+            }
+            Node::Leaf(leaf) => {
+                self.check_provided(schema.columns(), leaf, table)?;
+                self.add_to_leaf(database, table)
+            }
+        }
+    }
+
+    /// Whether a session may make a statement that is allowed only outside blocks.
+    fn may_outside(&mut self, database: usize, who: SessionId) -> Result<bool, NoMemory>
+        requires { database < length self.old.databases.names }
+        ensures may { IfOk result (λ may. may ≡ may_outside ((seen_world self.old).database database) who) }
+        ensures stays { OnOk result (Stays self.old self.new) }
+    {
+        let store = self.databases.get_mut(database);
+        let refusal = store.enter(who, true)?;
+        Ok(refusal.is_none())
+    }
+
+    /// The node of a name, and the number of its database.
+    fn find_node(&self, name: &Text) -> Option<(usize, &Node)>
+        ensures node { MatchOption result (node_called (seen_world self.now) name.now ≡ None)
+            (λ found. node_called (seen_world self.now) name.now ≡ Some (record { database = found.0; node = found.1.now })) }
+        ensures there { IfSome result (λ found. ((seen_world self.now).database found.0).node ≡ Some found.1.now) }
+        ensures within { IfSome result (λ found. found.0 < length self.now.databases.names) }
+    {
+        for database in &self.nodes {
+            if let Some(node) = self.store(*database).node()
+                && *name == *node.name()
+            {
+                return Some((*database, node));
+            }
+        }
+        None
+    }
+
+    /// Whether a table may join a leaf: its provider has it, with these columns.
+    fn check_provided(&self, columns: &[Column], leaf: &Leaf, table: &Text) -> Result<(), Stop>
+        ensures ok { OnOk result (provided_as (seen_world self.now) columns.now table.now leaf.now ≡ Ok tt) }
+        ensures err { IfErr result (λ stop. StopsAs stop (provided_as (seen_world self.now) columns.now table.now leaf.now)) }
+    {
+        let Some(provider) = self.provides(leaf.provider(), table) else {
+            let table = table.copy(self.alloc)?;
+            return Err(Stop::Refused(Refusal::NotInSet(table)));
+        };
+        match self.store(provider).schema(table) {
+            Some(schema) if same_columns(columns, schema.columns()) => Ok(()),
+            _ => {
+                let table = table.copy(self.alloc)?;
+                Err(Stop::Refused(Refusal::SchemaDiffers(table)))
+            }
+        }
+    }
+
+    /// The database of the node of a name, if it has a table.
+    fn provides(&self, name: &Text, table: &Text) -> Option<usize>
+        ensures database { result ≡ provides table.now (node_called (seen_world self.now) name.now) }
+        ensures within { IfSome result (λ database. database < length self.now.databases.names) }
+    {
+        let (database, node) = self.find_node(name)?;
+        if node.has_table(table) {
+            Some(database)
+        } else {
+            None
+        }
+    }
+
+    /// A table joins the root of a database.
+    fn add_to_root(&mut self, database: usize, table: &Text) -> Result<Reply, Stop>
+        requires database { database < length self.old.databases.names }
+        requires provider { is_some (set_queue ((seen_world self.old).database database)) ≡ true }
+        ensures { Ran self.old self.new result (done_in database Done (node_does ((seen_world self.old).database database) (listing table.now))) }
+    {
+        let store = self.databases.get_mut(database);
+        match store.root_add(table) {
+            Ok(None) => Ok(Reply::Done),
+            Ok(Some(writer)) => Err(Stop::Refused(Refusal::TableBusy(writer))),
+            Err(RootFault::TooManyTriggers) => {
+                Err(Stop::Refused(Refusal::TooMany(Limit::Triggers)))
+            }
+            Err(RootFault::NoMemory) => {
+                self.has_failed = true;
+                Err(Stop::NoMemory)
+            }
+        }
+    }
+
+    /// A table joins the leaf of a database.
+    fn add_to_leaf(&mut self, database: usize, table: &Text) -> Result<Reply, Stop>
+        requires database { database < length self.old.databases.names }
+        ensures { Ran self.old self.new result (done_in database Done (node_does ((seen_world self.old).database database) (adding table.now))) }
+    {
+        let store = self.databases.get_mut(database);
+        match store.leaf_add(table) {
+            Ok(None) => Ok(Reply::Done),
+            Ok(Some(writer)) => Err(Stop::Refused(Refusal::TableBusy(writer))),
+            Err(_) => {
+                self.has_failed = true;
+                Err(Stop::NoMemory)
+            }
+        }
+    }
+
+    /// Runs `remove_table`.
+    fn remove_table(&mut self, name: &Text, table: &Text) -> Result<Reply, Stop>
+        ensures { Ran self.old self.new result (remove_table (seen_world self.old) name.now table.now) }
+    {
+        let Some((database, node)) = self.find_node(name) else {
+            let name = name.copy(self.alloc)?;
+            return Err(Stop::Refused(Refusal::NoNode(name)));
+        };
+        if !node.has_table(table) {
+            let table = table.copy(self.alloc)?;
+            return Err(Stop::Refused(Refusal::NotInSet(table)));
+        }
+        if self.store(database).schema(table).is_none() {
+            let table = table.copy(self.alloc)?;
+            return Err(Stop::Refused(Refusal::NoTable(table)));
+        }
+        match node {
+            Node::Root(root) => {
+                self.check_unused(root.name(), table)?;
+                Ok(self.drop_from_root(database, table))
+            }
+            Node::Leaf(_) => Ok(self.drop_from_leaf(database, table)),
+        }
+    }
+
+    /// Whether no leaf of a provider has a table.
+    fn check_unused(&self, provider: &Text, table: &Text) -> Result<(), Stop>
+        ensures ok { OnOk result (refused_by (option_map TableInUse (first_user (seen_world self.now) provider.now table.now)) ≡ Ok tt) }
+        ensures err { IfErr result (λ stop. StopsAs stop (refused_by (option_map TableInUse (first_user (seen_world self.now) provider.now table.now)))) }
+    {
+        match self.first_user(provider, table) {
+            Some(leaf) => {
+                let leaf = leaf.copy(self.alloc)?;
+                Err(Stop::Refused(Refusal::TableInUse(leaf)))
+            }
+            None => Ok(()),
+        }
+    }
+
+    /// The name of the first leaf of a provider that has a table.
+    fn first_user(&self, provider: &Text, table: &Text) -> Option<&Text>
+        ensures { option_copied result ≡ first_user (seen_world self.now) provider.now table.now }
+    {
+        for database in &self.nodes {
+            if let Some(node) = self.store(*database).node()
+                && uses(node, provider, table)
+            {
+                return Some(node.name());
+            }
+        }
+        None
+    }
+
+    /// A table leaves the root of a database.
+    fn drop_from_root(&mut self, database: usize, table: &Text) -> Reply
+        requires { database < length self.old.databases.names }
+        ensures { Does self.old self.new result (done_in database Done (node_does ((seen_world self.old).database database) (unlisting table.now))) }
+    {
+        let store = self.databases.get_mut(database);
+        store.root_drop(table);
+        Reply::Done
+    }
+
+    /// A table leaves the leaf of a database.
+    fn drop_from_leaf(&mut self, database: usize, table: &Text) -> Reply
+        requires { database < length self.old.databases.names }
+        ensures { Does self.old self.new result (done_in database Done (node_does ((seen_world self.old).database database) (removing table.now))) }
+    {
+        let store = self.databases.get_mut(database);
+        store.leaf_drop(table);
+        Reply::Done
+    }
+
+    /// Runs `table_state`.
+    fn table_state(&self, name: &Text, table: &Text) -> Result<Reply, Stop>
+        ensures { Ran self.now self.now result (table_state (seen_world self.now) name.now table.now) }
+    {
+        match self.find_node(name) {
+            Some((_, Node::Leaf(leaf))) => match leaf.table(table) {
+                Some(table) => Ok(Reply::State(table.state())),
+                None => {
+                    let table = table.copy(self.alloc)?;
+                    Err(Stop::Refused(Refusal::NotInSet(table)))
+                }
+            },
+            Some((_, Node::Root(_))) => {
+                let name = name.copy(self.alloc)?;
+                Err(Stop::Refused(Refusal::NotLeaf(name)))
+            }
+            None => {
+                let name = name.copy(self.alloc)?;
+                Err(Stop::Refused(Refusal::NoNode(name)))
+            }
+        }
+    }
+}
+
+/// Whether a node is a leaf of a provider that has a table.
+fn uses(node: &Node, provider: &Text, table: &Text) -> bool
+    ensures { result ≡ uses provider.now table.now (Some node.now) }
+{
+    match node {
+        Node::Root(_) => false,
+        Node::Leaf(leaf) => *provider == *leaf.provider() && leaf.has_table(table),
+    }
+}
+
+/// Whether columns are the same, in order: by name, kind, and whether they are part of the key.
+fn same_columns(columns: &[Column], others: &[Column]) -> bool
+    ensures { result ≡ same_columns columns.now others.now }
+{
+    *columns == *others
+}
