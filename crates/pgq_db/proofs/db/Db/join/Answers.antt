@@ -1,4 +1,6 @@
 use Rattle.std.proofs.Common.{◌≡◌, ℕ, ◌+◌, ◌<◌, ◌≤◌, ◌^◌, length, refl, sym, ap, ◌∙◌, arith, subst}
+use Rattle.sky_model.specs.History.{joined}
+use Rattle.sky_model.specs.Nodes.{after_node}
 use Rattle.sky_model.specs.State.{Queue}
 use Rattle.sky_model.specs.StepNode.{joining}
 use Rattle.pgq_queues.specs.Seen.{queue_at}
@@ -52,7 +54,19 @@ returns-clause-serves c =
     (known-as _ _ c.in-Some.queue _ c.args.consumer.now _ _ c.self.view_is c.queue.ensures c.has_consumer.ensures c.if-has_consumer.false) c.consumer_count.result
     (c.consumer_count.ensures ∙ ap (λ (q : Queue). length q.members) c.queue-2.ensures ∙ ap (λ (v : DbView). length (queue_at v.queues c.in-Some.queue).members) c.self.view_is) few
     c.last_sub.result (c.last_sub.ensures ∙ ap (λ (v : DbView). v.queues.last_sub_id) c.self.view_is) left)
-    (joined-as _ _ c.register.new.self c.add_consumer.new.node c.in-Some.queue c.id-newest.result _ c.args.consumer.now c.self.view_is c.in_ok-register.ensures.mark ? (newest-as _ _ c.in-Some.queue _ _ _ _ c.self.view_is c.queue-3.ensures c.ticks.ensures c.newest.ensures.newest c.id-newest.ensures))
+    (joined-as _ _ c.register.new.self c.add_consumer.new.node c.in-Some.queue c.id-newest.result _ c.args.consumer.now c.self.view_is c.in_ok-register.ensures.mark
+    (c.in_ok-add_consumer.ensures ∙ ap (λ n. after_node (joined n) c.self.inside.node) c.in_ok-name.ensures) (newest-as _ _ c.in-Some.queue _ _ _ _ c.self.view_is c.queue-3.ensures c.ticks.ensures c.newest.ensures.newest c.id-newest.ensures))
 
 pub returns-clause-steps : goal.returns-clause-steps
-returns-clause-steps c = ?
+returns-clause-steps c =
+    let d = seen_database c.args.self.now in
+    let few : c.consumer_count.result < 256 = omega (arith, c.most.ensures, c.if-consumer_count-most.false) in
+    let left : c.last_sub.result + 1 < 2 ^ 64 = omega (arith, c.if-last_sub.false) in
+    serves-steps d _ (joining c.args.consumer.now)
+    (serves-by d _ (joining c.args.consumer.now) _
+    (join-does d c.in-Some.queue c.args.consumer.now (sym c.in-Some.ensures.queue)
+    (known-as _ _ c.in-Some.queue _ c.args.consumer.now _ _ c.self.view_is c.queue.ensures c.has_consumer.ensures c.if-has_consumer.false) c.consumer_count.result
+    (c.consumer_count.ensures ∙ ap (λ (q : Queue). length q.members) c.queue-2.ensures ∙ ap (λ (v : DbView). length (queue_at v.queues c.in-Some.queue).members) c.self.view_is) few
+    c.last_sub.result (c.last_sub.ensures ∙ ap (λ (v : DbView). v.queues.last_sub_id) c.self.view_is) left)
+    (joined-as _ _ c.register.new.self c.add_consumer.new.node c.in-Some.queue c.id-newest.result _ c.args.consumer.now c.self.view_is c.in_ok-register.ensures.mark
+    (c.in_ok-add_consumer.ensures ∙ ap (λ n. after_node (joined n) c.self.inside.node) c.in_ok-name.ensures) (newest-as _ _ c.in-Some.queue _ _ _ _ c.self.view_is c.queue-3.ensures c.ticks.ensures c.newest.ensures.newest c.id-newest.ensures)))
