@@ -3,6 +3,7 @@ use Rattle.std.proofs.Common.{◌≡◌, ℕ, ℤ, ◌+◌, ◌<◌, ◌≤◌, 
 use Rattle.std.specs.List.{All}
 use Rattle.std.proofs.lemmas.Bool.Decides.{nat_tests}
 use Rattle.std.specs.declared.alloc.AllocError.{AllocError}
+use Rattle.londiste_state.specs.Nodes.{Node}
 use Rattle.sky_model.specs.declared.reply.Refusal.{Refusal}
 use Rattle.sky_model.specs.declared.reply.Refusal.TheVariants.{TxidsSpent}
 use Rattle.sky_model.specs.declared.stmt.Where.{Where}
@@ -19,6 +20,7 @@ use Rattle.pgq_queues.specs.Seen.{seen_with, no_queues}
 use Rattle.pgq_queues.specs.Traced.{AreTables, KeepsRest}
 use Rattle.pgq_queues.specs.EventRule.{event_rule}
 use Rattle.pgq_db.specs.Agreeing.{Agree}
+use Rattle.pgq_db.specs.Seen.{with_node}
 use Rattle.pgq_db.proofs.Tables.{tables-behind, tables-stay}
 use Rattle.pgq_db.proofs.EventsAlike.{Alike, tables-behind_turn}
 
@@ -109,13 +111,14 @@ agree-passed old new was left marks part_is left_is are =
     agree-then old new marks left part_is (subst (Agree old) (sym left_is) (agree-stay old was (passed_all event_rule was marks) (keeps-all was marks) are))
 
 -- after a turn, from where the queues got a time
-pub agree-behind_turn : (now at : ℤ) (p after : RowPart) (was q left : QueuesView) (gated told : Turn) → (Alike now (seen_with p was) p q → SameTold event_rule (Alike now) (seen_with p was) p q gated told)
+pub agree-behind_turn : (now : ℤ) (node : Option Node) (at : ℤ) (p after : RowPart) (was q left : QueuesView) (gated told : Turn)
+    → (Alike now node (seen_with (with_node node p) was) p q → SameTold event_rule (Alike now node) (seen_with (with_node node p) was) p q gated told)
     → q ≡ record was { time = at } → at ≡ now → Agree p was → All (λ t. t.trigger.queue < length q.queues) q.triggers → after ≡ after_part_marks p gated.marks → left ≡ passed_all event_rule q gated.marks → Agree after left
-agree-behind_turn now at p after was q left gated told tells is time are within part_is left_is =
+agree-behind_turn now node at p after was q left gated told tells is time are within part_is left_is =
     let more = next-then p after gated.marks part_is in
     let same : left.rounds ≡ was.rounds = ap QueuesView.rounds left_is ∙ (keeps-all q gated.marks).rounds ∙ ap QueuesView.rounds is in
     record {
-      tables = tables-behind_turn now at p after was q left gated told tells is time are.tables within part_is left_is;
+      tables = tables-behind_turn now node at p after was q left gated told tells is time are.tables within part_is left_is;
       given = omega (arith, more, same, are.given);
       few = omega (arith, same, are.few);
     }

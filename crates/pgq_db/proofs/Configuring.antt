@@ -18,9 +18,9 @@ use Rattle.pgq_db.specs.Configured.{refusal_for, configured_as, Configures}
 use Rattle.sky_model.specs.Stops.{Refuses}
 use Rattle.sky_state.specs.Seen.{seen}
 use Rattle.pgq_queues.specs.Views.{QueuesView}
-use Rattle.pgq_queues.specs.Seen.{queue_at, seen_with}
+use Rattle.pgq_queues.specs.Seen.{queue_at, seen_with, Beside}
 use Rattle.pgq_db.specs.Views.{DbView}
-use Rattle.pgq_db.specs.Seen.{seen_database}
+use Rattle.pgq_db.specs.Seen.{with_node, seen_database}
 
 -- a parameter is set as it is by the queue's settings
 abbrev as_checked : List ℕ → Result Config ConfigFault → Checked Config
@@ -76,23 +76,23 @@ gives-config d s who name param value q before after is set pushed =
 -- the same of a database by its queues
 pub configures-as : (v now : DbView) (queues : QueuesView) (queue : ℕ) (param value p w : List ℕ) → v ≡ now → p ≡ param → w ≡ value
     → is_ok (set_to (queue_at v.queues queue).config (param_of p) w) ≡ true
-    → ((part : RowPart) (config : Config) → set_to (queue_at v.queues queue).config (param_of p) w ≡ Ok config → seen_with part queues ≡ after_mark (seen_with part v.queues) (queued (configured queue config)))
+    → ((beside : Beside) (config : Config) → set_to (queue_at v.queues queue).config (param_of p) w ≡ Ok config → seen_with beside queues ≡ after_mark (seen_with beside v.queues) (queued (configured queue config)))
     → Configures (seen_database now) (seen_database (record v { queues = queues })) queue (configured_as (queue_at now.queues queue).config param value)
 configures-as v now queues queue param value p w same one two done marked =
     subst (λ (x : DbView). Configures (seen_database x) (seen_database (record v { queues = queues })) queue (configured_as (queue_at x.queues queue).config param value)) same
     (set-done c (seen_database v) (seen_database (record v { queues = queues })) queue param value ((λ i. is_ok (set_to c (param_of (sym one i)) (sym two i))) ∙ done)
-    (λ config is. marked (seen v.rows) config ((λ i. set_to c (param_of (one i)) (two i)) ∙ is)))
+    (λ config is. marked (with_node v.node (seen v.rows)) config ((λ i. set_to c (param_of (one i)) (two i)) ∙ is)))
   where
     c : Config
     c = (queue_at v.queues queue).config
 
 pub refuses-as : (v now : DbView) (queues : QueuesView) (queue : ℕ) (param value p w : List ℕ) (fault : ConfigFault) (refusal : Refusal) → v ≡ now → p ≡ param → w ≡ value
-    → set_to (queue_at v.queues queue).config (param_of p) w ≡ Err fault → ((part : RowPart) → seen_with part queues ≡ seen_with part v.queues) → refusal ≡ refusal_for param fault
+    → set_to (queue_at v.queues queue).config (param_of p) w ≡ Err fault → ((beside : Beside) → seen_with beside queues ≡ seen_with beside v.queues) → refusal ≡ refusal_for param fault
     → Refuses (seen_database now) (seen_database (record v { queues = queues })) refusal (configured_as (queue_at now.queues queue).config param value)
 refuses-as v now queues queue param value p w fault refusal same one two is kept why =
     let c : Config = (queue_at v.queues queue).config in
     record {
       refused = ap (λ (x : DbView). configured_as (queue_at x.queues queue).config param value) (sym same)
           ∙ set-refused c param value fault ((λ i. set_to c (param_of (sym one i)) (sym two i)) ∙ is) ∙ ap (λ r. Err r) (sym why);
-      same = kept (seen v.rows) ∙ ap seen_database same;
+      same = kept (with_node v.node (seen v.rows)) ∙ ap seen_database same;
     }

@@ -18,11 +18,11 @@ use Rattle.sky_model.specs.Outcome.{Outcome, Checked, ◌>>=◌, ◌>>◌, refus
 use Rattle.sky_model.specs.Reader.{shown_by}
 use Rattle.sky_model.specs.StepQueue.{queue_called, newest_id}
 use Rattle.sky_model.specs.Queues.{id_of}
-use Rattle.sky_model.specs.StepConsumer.{has_dot, registers, register_consumer, register_consumer_at, leaves, unregister_consumer, opens_batch, floor, get_batch_events, batch_info_of, get_batch_info, finishes, finish_batch}
+use Rattle.sky_model.specs.StepConsumer.{is_nodes, is_nodes_batch, registers, register_consumer, register_consumer_at, leaves, unregister_consumer, opens_batch, floor, get_batch_events, batch_info_of, get_batch_info, finishes, finish_batch}
 use Rattle.sky_state.specs.Seen.{seen}
 use Rattle.pgq_queues.specs.declared.batch.Batch as read
 use Rattle.pgq_queues.specs.Views.{QueuesView}
-use Rattle.pgq_queues.specs.Seen.{seen_batch, queue_at, batch_at, seen_with}
+use Rattle.pgq_queues.specs.Seen.{seen_batch, queue_at, batch_at, seen_with, Beside}
 use Rattle.pgq_db.specs.Views.{DbView}
 use Rattle.pgq_db.specs.Seen.{seen_database}
 use Rattle.pgq_db.proofs.Databases.{Runs, marked-as, unmarked-as}
@@ -56,10 +56,10 @@ counted count b found is e = is ∙ of b ∙ ap (λ x. if x then 1 else 0) e
     of true = refl
     of false = refl
 
--- once the queue is found and the name is one of a consumer
-module _ (d : Database) (name consumer : List ℕ) (q : ℕ) (found : queue_called name d ≡ Ok q) (undotted : has_dot consumer ≡ false) where
-  behind : (rest : ℕ → Checked Outcome) → (queue_called name d >>= (λ n. refused_if (has_dot consumer) NodeConsumer >> rest n)) ≡ rest q
-  behind rest = ap (λ c. c >>= (λ n. refused_if (has_dot consumer) NodeConsumer >> rest n)) found ∙ ap (λ b. refused_if b NodeConsumer >> rest q) undotted
+-- once the queue is found, and the consumer is no node's
+module _ (d : Database) (name consumer : List ℕ) (q : ℕ) (found : queue_called name d ≡ Ok q) (foreign : is_nodes d name consumer ≡ false) where
+  behind : (rest : ℕ → Checked Outcome) → (queue_called name d >>= (λ n. refused_if (is_nodes d name consumer) NodeConsumer >> rest n)) ≡ rest q
+  behind rest = ap (λ c. c >>= (λ n. refused_if (is_nodes d name consumer) NodeConsumer >> rest n)) found ∙ ap (λ b. refused_if b NodeConsumer >> rest q) foreign
 
   anew : (b : Bool) → is_some ((d.queue q).sub consumer) ≡ b → register_consumer d name consumer ≡ (if b then answers (Number 0) else registers d q consumer (newest_id (d.queue q)))
   anew b is =
@@ -130,14 +130,14 @@ module _ (d : Database) (name consumer : List ℕ) (q : ℕ) (found : queue_call
       of None (Some id) e over nothing n = absurd (cc)
       of (Some sub) None e over nothing n = absurd (cc)
 
--- what holds of all row parts, of what is there
+-- what holds with all that there is beside queues, of what is there
 pub marked-if : (v now : DbView) (queues : QueuesView) (o : Option ℕ) (mark : ℕ → QueueMark) → v ≡ now
-    → IfSome o (λ n. (part : RowPart) → seen_with part queues ≡ after_mark (seen_with part v.queues) (queued (mark n)))
+    → IfSome o (λ n. (beside : Beside) → seen_with beside queues ≡ after_mark (seen_with beside v.queues) (queued (mark n)))
     → IfSome o (λ n. seen_database (record v { queues = queues }) ≡ after_mark (seen_database now) (queued (mark n)))
 marked-if v now queues None mark same is = tt
 marked-if v now queues (Some n) mark same is = marked-as v now queues (λ _. mark n) same is
 
-pub unmarked-if : (v now : DbView) (queues : QueuesView) (o : Option ℕ) → v ≡ now → IfNone o ((part : RowPart) → seen_with part queues ≡ seen_with part v.queues)
+pub unmarked-if : (v now : DbView) (queues : QueuesView) (o : Option ℕ) → v ≡ now → IfNone o ((beside : Beside) → seen_with beside queues ≡ seen_with beside v.queues)
     → IfNone o (seen_database (record v { queues = queues }) ≡ seen_database now)
 unmarked-if v now queues None same is = unmarked-as v now queues same is
 unmarked-if v now queues (Some n) same is = tt
@@ -184,23 +184,19 @@ pub next-as : (v now : DbView) (q at position : ℕ) (queue : Queue) (ticks : Li
 next-as v now q at position queue ticks next same there are is stands =
     is ∙ ap (λ n. tick (n + 1) ticks) stands ∙ ap (tick (position + 1)) (are ∙ ap Queue.tick_list there) ∙ ap (λ (w : DbView). tick (position + 1) (queue_at w.queues q).tick_list) same
 
--- one that is finished, and one that there isn't
-pub gives-finish : (v now : DbView) (queues : QueuesView) (who id count : ℕ) (before after : List (ℕ × Reply)) → v ≡ now
-    → IfSome (batch_at v.queues id) (λ batch. (part : RowPart) → seen_with part queues ≡ after_mark (seen_with part v.queues) (queued (closed batch)))
-    → IfNone (batch_at v.queues id) ((part : RowPart) → seen_with part queues ≡ seen_with part v.queues)
-    → after ≡ before ++ (who, Number count) ∷ [] → count ≡ (if is_some (batch_at v.queues id) then 1 else 0)
-    → Runs (seen_database now) (seen_database (record v { queues = queues })) before after who (finish_batch (seen_database now) id)
-gives-finish v now queues who id count before after same over nothing pushed is =
-    subst (λ (w : DbView). Runs (seen_database w) left before after who (finish_batch (seen_database w) id)) same (of (batch_at v.queues id) over nothing is)
-  where
-    left : Database
-    left = seen_database (record v { queues = queues })
+-- one that is finished
+pub closed-as : (v now : DbView) (queues : QueuesView) (id : ℕ) (b : Batch) → v ≡ now → Some b ≡ batch_at v.queues id
+    → IfSome (batch_at v.queues id) (λ batch. (beside : Beside) → seen_with beside queues ≡ after_mark (seen_with beside v.queues) (queued (closed batch)))
+    → seen_database (record v { queues = queues }) ≡ after_mark (seen_database now) (queued (closed b))
+closed-as v now queues id b same there over =
+    marked-as v now queues (λ _. closed b) same
+    (subst (λ o. IfSome o (λ batch. (beside : Beside) → seen_with beside queues ≡ after_mark (seen_with beside v.queues) (queued (closed batch)))) (sym there) over)
 
-    of : (o : Option Batch) → IfSome o (λ batch. (part : RowPart) → seen_with part queues ≡ after_mark (seen_with part v.queues) (queued (closed batch)))
-        → IfNone o ((part : RowPart) → seen_with part queues ≡ seen_with part v.queues) → count ≡ (if is_some o then 1 else 0)
-        → Runs (seen_database v) left before after who (finishes o)
-    of None over nothing is = (record { accepted = refl; replied = pushed ∙ ap (λ n. before ++ (who, Number n) ∷ []) is; changed = nothing (seen v.rows) }, tt)
-    of (Some batch) over nothing is = (record { accepted = refl; replied = pushed ∙ ap (λ n. before ++ (who, Number n) ∷ []) is; changed = over (seen v.rows) }, tt)
+pub gives-finish : (d s : Database) (who id : ℕ) (b : Batch) (before after : List (ℕ × Reply)) → Some b ≡ d.batch id → is_nodes_batch d b ≡ false
+    → s ≡ after_mark d (queued (closed b)) → after ≡ before ++ (who, Number 1) ∷ [] → Runs d s before after who (finish_batch d id)
+gives-finish d s who id b before after there foreign changed pushed =
+    subst (Runs d s before after who) (sym (ap (finishes d) (sym there) ∙ ap (λ x. refused_if x NodeConsumer >> does_marks (Number 1) (queued (closed b) ∷ [])) foreign))
+    (record { accepted = refl; replied = pushed; changed = changed }, tt)
 
 -- its events
 pub gives-events : (d s : Database) (who id : ℕ) (batch : read.Batch) (events : List Event) (before after : List (ℕ × Reply)) → Some (seen_batch batch) ≡ d.batch id

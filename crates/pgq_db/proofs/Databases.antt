@@ -6,25 +6,26 @@ use Rattle.sky_txid.specs.Snapshot.{SnapshotView}
 use Rattle.sky_names.specs.Places.{place_of}
 use Rattle.sky_model.specs.declared.stmt.Extra.{Extra}
 use Rattle.sky_model.specs.declared.reply.Reply.{Reply}
-use Rattle.std.specs.Prelude.{find, not}
+use Rattle.std.specs.Prelude.{find, not, ◌&&◌}
 use Rattle.sky_model.specs.ShownRows.{least_writer}
 use Rattle.sky_model.specs.StepTrigger.{has_trigger, may_ignore, add_trigger}
 use Rattle.sky_model.specs.declared.reply.Reply.TheVariants.{Done, Number, Refused}
 use Rattle.sky_model.specs.declared.reply.Limit.TheVariants.{Queues, Triggers}
 use Rattle.sky_model.specs.declared.reply.Refusal.{Refusal}
-use Rattle.sky_model.specs.declared.reply.Refusal.TheVariants.{BadColumn, HasConsumers, HasTriggers, NoTable, QueueBusy, TableBusy, TooMany, TriggerExists, EventIdsSpent, IdsSpent}
+use Rattle.sky_model.specs.declared.reply.Refusal.TheVariants.{BadColumn, HasConsumers, HasTriggers, NoTable, QueueBusy, ReservedType, SetQueue, TableBusy, TooMany, TriggerExists, EventIdsSpent, IdsSpent}
 use Rattle.sky_model.specs.declared.stmt.Stmt.{Stmt}
 use Rattle.sky_model.specs.declared.stmt.Where.{Where}
 use Rattle.sky_model.specs.History.{Mark, looked, block_failed, queued, QueueMark, made, raised, put, dropped, traced}
 use Rattle.sky_model.specs.Sessions.{Block, outside, inside}
 use Rattle.sky_model.specs.Queues.{queue_number}
+use Rattle.sky_model.specs.Nodes.{is_set_queue}
 use Rattle.sky_model.specs.Triggers.{TableTrigger, triggers_of}
 use Rattle.sky_model.specs.Printed.{ReplyHasMoments}
 use Rattle.sky_model.specs.State.{RowPart, after_part_marks, Database, after_mark, after_marks}
 use Rattle.sky_model.specs.ShownRows.{snapshot_now}
 use Rattle.sky_model.specs.Outcome.{Outcome, Checked, ◌>>=◌, ◌>>◌, refused_if, refused_by, found_or, answers, does_marks, reply_of, end_of, aborts, abort, settled}
 use Rattle.sky_model.specs.OwnTransaction.{txid_for, begin_of, commit_of, written}
-use Rattle.sky_model.specs.StepQueue.{create_queue, drop_queue, first_trigger_into, shown_name, least_producer, insert_event, queue_called, next_event_id, made_event}
+use Rattle.sky_model.specs.StepQueue.{create_queue, drop_queue, first_trigger_into, shown_name, least_producer, insert_event, tells_of_rows, queue_called, next_event_id, made_event}
 use Rattle.sky_model.specs.Allowed.{where_of}
 use Rattle.sky_model.specs.Made.{Making, takes_sight, runs, looking, runs_if}
 use Rattle.sky_model.specs.Reader.{database_by_itself, within_part, shown_by}
@@ -37,9 +38,9 @@ use Rattle.sky_model.specs.SessionMarks.{look_of, failure, Enters, entry, entry_
 use Rattle.sky_state.specs.Views.{RowStateView}
 use Rattle.sky_state.specs.Seen.{seen}
 use Rattle.pgq_queues.specs.Views.{QueuesView}
-use Rattle.pgq_queues.specs.Seen.{seen_with}
+use Rattle.pgq_queues.specs.Seen.{seen_with, Beside}
 use Rattle.pgq_db.specs.Views.{DbView}
-use Rattle.pgq_db.specs.Seen.{seen_database}
+use Rattle.pgq_db.specs.Seen.{with_node, seen_database}
 use Rattle.pgq_db.specs.Gives.{Gives, Adds, Answers, Does}
 use Rattle.sky_model.specs.Stops.{Refuses, Stops}
 use Rattle.sky_model.specs.declared.stop.Stop.{Stop}
@@ -49,16 +50,16 @@ use Rattle.pgq_tick.specs.Faults.{stop_of}
 use Rattle.std.specs.Result.{IfErr, IsErrAnd}
 
 -- marks of the queues are marks of the database
-pub marked-as : (v now : DbView) (queues : QueuesView) (mark : QueuesView → QueueMark) → v ≡ now → ((part : RowPart) → seen_with part queues ≡ after_mark (seen_with part v.queues) (queued (mark v.queues)))
+pub marked-as : (v now : DbView) (queues : QueuesView) (mark : QueuesView → QueueMark) → v ≡ now → ((beside : Beside) → seen_with beside queues ≡ after_mark (seen_with beside v.queues) (queued (mark v.queues)))
     → seen_database (record v { queues = queues }) ≡ after_mark (seen_database now) (queued (mark now.queues))
-marked-as v now queues mark same is = is (seen v.rows) ∙ ap (λ (w : DbView). after_mark (seen_database w) (queued (mark w.queues))) same
+marked-as v now queues mark same is = is (with_node v.node (seen v.rows)) ∙ ap (λ (w : DbView). after_mark (seen_database w) (queued (mark w.queues))) same
 
 -- of those with a snapshot if it is that of the row part
 pub ticked-as : (v now : DbView) (queues : QueuesView) (snapshot : SnapshotView) (marks : QueuesView → List Mark) → v ≡ now → snapshot ≡ snapshot_now (seen now.rows)
-    → ((part : RowPart) → snapshot ≡ snapshot_now part → seen_with part queues ≡ after_marks (seen_with part v.queues) (marks v.queues))
+    → ((beside : Beside) → snapshot ≡ snapshot_now beside.part → seen_with beside queues ≡ after_marks (seen_with beside v.queues) (marks v.queues))
     → seen_database (record v { queues = queues }) ≡ after_marks (seen_database now) (marks now.queues)
 ticked-as v now queues snapshot marks same snap is =
-    is (seen v.rows) (snap ∙ ap (λ (w : DbView). snapshot_now (seen w.rows)) (sym same)) ∙ ap (λ (w : DbView). after_marks (seen_database w) (marks w.queues)) same
+    is (with_node v.node (seen v.rows)) (snap ∙ ap (λ (w : DbView). snapshot_now (seen w.rows)) (sym same)) ∙ ap (λ (w : DbView). after_marks (seen_database w) (marks w.queues)) same
 
 -- what holds of an error holds of it as it is given on
 pub err-and : {T E : Type 0} {P Q : E → Type 0} (r : Result T E) → IsErrAnd r P → ((e : E) → P e → Q e) → IfErr r Q
@@ -75,8 +76,8 @@ tick-stops r tick.IdsSpent stop old new n m is same spent kept to =
 tick-stops r tick.NoMemory stop old new n m is same spent kept to = subst (λ s. Stops s old new (refused_if (nat_le (2 ^ 64) m) IdsSpent)) (sym to) tt
 
 -- and where there is none it is as it was
-pub unmarked-as : (v now : DbView) (queues : QueuesView) → v ≡ now → ((part : RowPart) → seen_with part queues ≡ seen_with part v.queues) → seen_database (record v { queues = queues }) ≡ seen_database now
-unmarked-as v now queues same is = is (seen v.rows) ∙ ap seen_database same
+pub unmarked-as : (v now : DbView) (queues : QueuesView) → v ≡ now → ((beside : Beside) → seen_with beside queues ≡ seen_with beside v.queues) → seen_database (record v { queues = queues }) ≡ seen_database now
+unmarked-as v now queues same is = is (with_node v.node (seen v.rows)) ∙ ap seen_database same
 
 pub none-from : (found : Option ℕ) (place : Option ℕ) → found ≡ place → is_some found ≡ false → place ≡ None
 none-from None place is e = sym is
@@ -94,14 +95,20 @@ event-written d who t _ _ q id event = refl
 abbrev pub Runs : Database → Database → (before after : List (ℕ × Reply)) → ℕ → Checked Outcome → Type 0
 Runs old new before after who checked = Does old new before after who checked × ReplyHasMoments (reply_of checked)
 
+-- once the queue of an event is found, and may have it
+behind-queue : (d : Database) (name : List ℕ) (ev_type : Option (List ℕ)) (q : ℕ) → queue_called name d ≡ Ok q → (is_set_queue name d.node && tells_of_rows ev_type) ≡ false
+    → (rest : ℕ → Checked Outcome) → (queue_called name d >>= (λ n. refused_if (is_set_queue name d.node && tells_of_rows ev_type) ReservedType >> rest n)) ≡ rest q
+behind-queue d name ev_type q place plain rest =
+    ap (λ c. c >>= (λ n. refused_if (is_set_queue name d.node && tells_of_rows ev_type) ReservedType >> rest n)) place ∙ ap (λ b. refused_if b ReservedType >> rest q) plain
+
 -- what an inserted event gives
 pub gives-event : (d s1 s2 s3 : Database) (now time : ℤ) (who : ℕ) (name : List ℕ) (ev_type ev_data : Option (List ℕ)) (extra : Option Extra) (q seq t : ℕ) (event : Event) (before after : List (ℕ × Reply))
-    → queue_called name d ≡ Ok q → txid_for d.part who ≡ Ok t → seq ≡ (d.queue q).seq → seq + 1 < 2 ^ 62 → time ≡ now
+    → queue_called name d ≡ Ok q → (is_set_queue name d.node && tells_of_rows ev_type) ≡ false → txid_for d.part who ≡ Ok t → seq ≡ (d.queue q).seq → seq + 1 < 2 ^ 62 → time ≡ now
     → event ≡ made_event (seq + 1) time t ev_type ev_data extra
     → s1 ≡ after_marks d (begin_of who t (d.part.session who).txid ++ commit_of who t (d.part.session who).block)
     → s2 ≡ after_mark s1 (queued (raised q (seq + 1))) → s3 ≡ after_mark s2 (queued (put q event))
     → after ≡ before ++ (who, Number (seq + 1)) ∷ [] → Runs d s3 before after who (insert_event d now who name ev_type ev_data extra)
-gives-event d s1 s2 s3 now time who name ev_type ev_data extra q seq t event before after place txid is room at made_is m1 m2 m3 pushed =
+gives-event d s1 s2 s3 now time who name ev_type ev_data extra q seq t event before after place plain txid is room at made_is m1 m2 m3 pushed =
     subst (Runs d s3 before after who) (sym whole) (
       record {
         accepted = refl;
@@ -122,8 +129,8 @@ gives-event d s1 s2 s3 now time who name ev_type ev_data extra q seq t event bef
 
     whole : insert_event d now who name ev_type ev_data extra ≡ result (seq + 1)
     whole =
-        ap (λ c. c >>= (λ n. txid_for d.part who >>= (λ x. next_event_id (d.queue n) >>= (λ id.
-        does_marks (Number id) (written who x (d.part.session who) (queued (raised n id) ∷ queued (put n (made_event id now x ev_type ev_data extra)) ∷ [])))))) place
+        behind-queue d name ev_type q place plain (λ n. txid_for d.part who >>= (λ x. next_event_id (d.queue n) >>= (λ id.
+        does_marks (Number id) (written who x (d.part.session who) (queued (raised n id) ∷ queued (put n (made_event id now x ev_type ev_data extra)) ∷ [])))))
         ∙ ap (λ c. c >>= (λ x. next_event_id (d.queue q) >>= (λ id.
         does_marks (Number id) (written who x (d.part.session who) (queued (raised q id) ∷ queued (put q (made_event id now x ev_type ev_data extra)) ∷ []))))) txid
         ∙ ap (λ b. (refused_if b EventIdsSpent >> Ok ((d.queue q).seq + 1)) >>= result) unspent
@@ -167,7 +174,7 @@ gives-queue d s now who t name before after new room txid is pushed = subst (Run
 
 -- ---- a queue that is dropped, and why one isn't
 
-module _ (d : Database) (name : List ℕ) (q : ℕ) (found : queue_called name d ≡ Ok q) where
+module _ (d : Database) (name : List ℕ) (q : ℕ) (found : queue_called name d ≡ Ok q) (unset : is_set_queue name d.node ≡ false) where
   -- what is left once its number is known
   abbrev untested : Checked Outcome
   untested = refused_by (option_map (λ t. HasTriggers (shown_name t)) (first_trigger_into q d.triggers)) >> (refused_by (option_map QueueBusy (least_producer d q)) >> does_marks (Number 1) (queued (dropped q) ∷ []))
@@ -178,7 +185,9 @@ module _ (d : Database) (name : List ℕ) (q : ℕ) (found : queue_called name d
       >> (refused_by (option_map (λ t. HasTriggers (shown_name t)) (first_trigger_into n d.triggers)) >> (refused_by (option_map QueueBusy (least_producer d n)) >> does_marks (Number 1) (queued (dropped n) ∷ [])))
 
   tested : (b : Bool) → (length (d.queue q).members == 0) ≡ b → drop_queue d name ≡ (refused_if (not b) (HasConsumers (length (d.queue q).members)) >> untested)
-  tested b is = ap (λ c. c >>= of_number) found ∙ ap (λ x. refused_if (not x) (HasConsumers (length (d.queue q).members)) >> untested) is
+  tested b is =
+      ap (λ c. c >>= (λ n. refused_if (is_set_queue name d.node) SetQueue >> of_number n)) found ∙ ap (λ x. refused_if x SetQueue >> of_number q) unset
+      ∙ ap (λ x. refused_if (not x) (HasConsumers (length (d.queue q).members)) >> untested) is
 
   pub drop-consumers : (n : ℕ) → n ≡ length (d.queue q).members → 0 < n → drop_queue d name ≡ Err (HasConsumers n)
   drop-consumers n is some =
@@ -323,10 +332,10 @@ gives-added d s before after turn none adds = record { replied = adds.replied �
 
 -- ids that are spent keep an event from being made
 pub spent-events : (d : Database) (now : ℤ) (who : ℕ) (name : List ℕ) (ev_type ev_data : Option (List ℕ)) (extra : Option Extra) (q seq : ℕ) → queue_called name d ≡ Ok q
-    → is_ok (txid_for d.part who) ≡ true → seq ≡ (d.queue q).seq → 2 ^ 62 ≤ seq + 1 → insert_event d now who name ev_type ev_data extra ≡ Err EventIdsSpent
-spent-events d now who name ev_type ev_data extra q seq place left is over =
-    ap (λ c. c >>= (λ n. txid_for d.part who >>= (λ x. next_event_id (d.queue n) >>= (λ id.
-    does_marks (Number id) (written who x (d.part.session who) (queued (raised n id) ∷ queued (put n (made_event id now x ev_type ev_data extra)) ∷ [])))))) place
+    → (is_set_queue name d.node && tells_of_rows ev_type) ≡ false → is_ok (txid_for d.part who) ≡ true → seq ≡ (d.queue q).seq → 2 ^ 62 ≤ seq + 1 → insert_event d now who name ev_type ev_data extra ≡ Err EventIdsSpent
+spent-events d now who name ev_type ev_data extra q seq place plain left is over =
+    behind-queue d name ev_type q place plain (λ n. txid_for d.part who >>= (λ x. next_event_id (d.queue n) >>= (λ id.
+    does_marks (Number id) (written who x (d.part.session who) (queued (raised n id) ∷ queued (put n (made_event id now x ev_type ev_data extra)) ∷ [])))))
     ∙ of (txid_for d.part who) left
   where
     spent : nat_le (2 ^ 62) ((d.queue q).seq + 1) ≡ true
@@ -358,16 +367,17 @@ entered-steps d s who alone (Err e) enters but = tt
 pub table-there : (v now : DbView) (table : List ℕ) (n : ℕ) → v ≡ now → place_of table (seen v.rows).tables ≡ Some n → place_of table (seen_database now).part.tables ≡ Some n
 table-there v now table n same there = subst (λ (w : DbView). place_of table (seen w.rows).tables ≡ Some n) same there
 
-pub queue-known : (v now : DbView) (queue : List ℕ) (q : ℕ) → v ≡ now → ((part : RowPart) → queue_called queue (seen_with part v.queues) ≡ Ok q) → queue_called queue (seen_database now) ≡ Ok q
-queue-known v now queue q same known = subst (λ (w : DbView). queue_called queue (seen_database w) ≡ Ok q) same (known (seen v.rows))
+pub queue-known : (v now : DbView) (queue : List ℕ) (q : ℕ) → v ≡ now → ((beside : Beside) → queue_called queue (seen_with beside v.queues) ≡ Ok q) → queue_called queue (seen_database now) ≡ Ok q
+queue-known v now queue q same known = subst (λ (w : DbView). queue_called queue (seen_database w) ≡ Ok q) same (known (with_node v.node (seen v.rows)))
 
 -- a trigger that is to ignore a column that it may not
 pub bad-column : (d : Database) (name table queue : List ℕ) (backup : Bool) (ignored : List (List ℕ)) (n q : ℕ) (column : List ℕ) → place_of table d.part.tables ≡ Some n → queue_called queue d ≡ Ok q
-    → has_trigger name (triggers_of n d.triggers) ≡ false → length (triggers_of n d.triggers) < 8 → find (λ x. not (may_ignore (d.part.columns n) x)) ignored ≡ Some column
+    → is_set_queue queue d.node ≡ false → has_trigger name (triggers_of n d.triggers) ≡ false → length (triggers_of n d.triggers) < 8 → find (λ x. not (may_ignore (d.part.columns n) x)) ignored ≡ Some column
     → add_trigger d name table queue backup ignored ≡ Err (BadColumn column)
-bad-column d name table queue backup ignored n q column there known new few bad =
-    ap (λ o. found_or o (NoTable table) >>= (λ t. queue_called queue d >>= (λ x. rest t x (has_trigger name (triggers_of t d.triggers)) (nat_le 8 (length (triggers_of t d.triggers))) (find (λ y. not (may_ignore (d.part.columns t) y)) ignored)))) there
-    ∙ ap (λ c. c >>= (λ x. rest n x (has_trigger name (triggers_of n d.triggers)) (nat_le 8 (length (triggers_of n d.triggers))) (find (λ y. not (may_ignore (d.part.columns n) y)) ignored))) known
+bad-column d name table queue backup ignored n q column there known unset new few bad =
+    ap (λ o. found_or o (NoTable table) >>= (λ t. queue_called queue d >>= (λ x. refused_if (is_set_queue queue d.node) SetQueue >> rest t x (has_trigger name (triggers_of t d.triggers)) (nat_le 8 (length (triggers_of t d.triggers))) (find (λ y. not (may_ignore (d.part.columns t) y)) ignored)))) there
+    ∙ ap (λ c. c >>= (λ x. refused_if (is_set_queue queue d.node) SetQueue >> rest n x (has_trigger name (triggers_of n d.triggers)) (nat_le 8 (length (triggers_of n d.triggers))) (find (λ y. not (may_ignore (d.part.columns n) y)) ignored))) known
+    ∙ ap (λ b. refused_if b SetQueue >> rest n q (has_trigger name (triggers_of n d.triggers)) (nat_le 8 (length (triggers_of n d.triggers))) (find (λ y. not (may_ignore (d.part.columns n) y)) ignored)) unset
     ∙ (λ i. rest n q (new i) (free i) (bad i))
   where
     rest : ℕ → ℕ → Bool → Bool → Option (List ℕ) → Checked Outcome

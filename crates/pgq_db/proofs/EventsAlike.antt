@@ -10,6 +10,7 @@ use Rattle.sky_val.specs.declared.event.Event.{Event}
 use Rattle.sky_names.specs.Named.{value_of}
 use Rattle.sky_urlenc.specs.RowEvents.{RowEvent, Trigger, events_of, event_of}
 use Rattle.sky_model.specs.declared.reply.Refusal.TheVariants.{EventIdsSpent}
+use Rattle.londiste_state.specs.Nodes.{Node}
 use Rattle.sky_model.specs.History.{Mark, Whose, of_session, ended, tabled, wrote, queued}
 use Rattle.sky_model.specs.Triggers.{TableTrigger, triggers_of}
 use Rattle.sky_model.specs.State.{Queue, RowPart, after_part, after_part_marks, Database, changed_at, with_tables, after_mark, after_marks}
@@ -37,6 +38,7 @@ use Rattle.pgq_queues.proofs.Telling.{telling-length}
 use Rattle.pgq_queues.proofs.RotatedQueues.{undone-as}
 use Rattle.pgq_queues.specs.Rotated.{undone_in}
 use Rattle.pgq_tables.specs.Tables.{with_stored}
+use Rattle.pgq_db.specs.Seen.{with_node}
 use Rattle.pgq_db.specs.Switches.{first_switches}
 use Rattle.pgq_db.proofs.Switched.{turn-first}
 use Rattle.pgq_db.proofs.Tables.{tables-kept}
@@ -166,23 +168,24 @@ subs-told (e ∷ es) queues now t within = subs-told es (slice_set queues e.queu
         ap (λ (q : QueueView). value_of consumer q.subs) (get_or-slice_set queues e.queue n one (within 0 e (omega arith))) ∙ by n consumer (e.queue == n) refl
 
 -- a rollback leaves what the queues show after it
-undone-shown : (p : RowPart) (q : QueuesView) (whose : Whose) (t : ℕ) → after_mark (seen_with p q) (ended whose t false) ≡ seen_with (after_part p (ended whose t false)) (event_rule.undone q t)
-undone-shown p q whose t = sym (undone-as q q (map (undone_in t) q.queues) t refl refl (after_part p (ended whose t false)))
+undone-shown : (node : Option Node) (p : RowPart) (q : QueuesView) (whose : Whose) (t : ℕ)
+    → after_mark (seen_with (with_node node p) q) (ended whose t false) ≡ seen_with (with_node node (after_part p (ended whose t false))) (event_rule.undone q t)
+undone-shown node p q whose t = sym (undone-as q q (map (undone_in t) q.queues) t refl refl (with_node node (after_part p (ended whose t false))))
 
--- ---- a database, its row part, and its queues
+-- ---- a database, its node, its row part, and its queues
 
--- a database, its row part and its queues at a time
-pub record Alike (now : ℤ) (d : Database) (p : RowPart) (q : QueuesView) : Type 0 where
-  pub whole : d ≡ seen_with p q
+-- a database, its node, its row part and its queues at a time
+pub record Alike (now : ℤ) (node : Option Node) (d : Database) (p : RowPart) (q : QueuesView) : Type 0 where
+  pub whole : d ≡ seen_with (with_node node p) q
   pub time : q.time ≡ now
   pub tables : AreTables p q
   pub within : All (λ t. t.trigger.queue < length q.queues) q.triggers
 
-module _ (now : ℤ) where
+module _ (now : ℤ) (node : Option Node) where
   abbrev Here : Database → RowPart → QueuesView → Type 0
-  Here d p q = Alike now d p q
+  Here d p q = Alike now node d p q
 
-  whole-other : (d : Database) (p : RowPart) (q : QueuesView) (mark : Mark) → IsOther mark → d ≡ seen_with p q → after_mark d mark ≡ seen_with (after_part p mark) q
+  whole-other : (d : Database) (p : RowPart) (q : QueuesView) (mark : Mark) → IsOther mark → d ≡ seen_with (with_node node p) q → after_mark d mark ≡ seen_with (with_node node (after_part p mark)) q
   whole-other d p q (ended who t true) other is = ap (λ x. after_mark x (ended who t true)) is
   whole-other d p q (ended who t false) other is = absurd other
   whole-other d p q (queued mark) other is = absurd other
@@ -194,7 +197,7 @@ module _ (now : ℤ) where
   -- a rollback
   undone-alike : (d : Database) (p : RowPart) (q : QueuesView) (whose : Whose) (t : ℕ) → Here d p q → Here (after_mark d (ended whose t false)) (after_part p (ended whose t false)) (event_rule.undone q t)
   undone-alike d p q whose t is = record {
-    whole = ap (λ x. after_mark x (ended whose t false)) is.whole ∙ undone-shown p q whose t;
+    whole = ap (λ x. after_mark x (ended whose t false)) is.whole ∙ undone-shown node p q whose t;
     time = is.time;
     tables = tables-kept p (ended whose t false) (event_rule.undone q t) is.tables;
     within = λ k x lt. subst (λ n. (get_or q.triggers k x).trigger.queue < n) (sym (length-map q.queues (undone_in t))) (is.within k x lt);
@@ -279,8 +282,8 @@ module _ (now : ℤ) where
 
   -- after a turn the row part and the queues show the database
   pub told-changed : (d : Database) (p after : RowPart) (q left : QueuesView) (gated told : Turn) → SameTold event_rule Here d p q gated told
-      → after ≡ after_part_marks p gated.marks → left ≡ passed_all event_rule q gated.marks → seen_with after left ≡ after_marks d told.marks
-  told-changed d p after q left gated told same part_is left_is = (λ i. seen_with (part_is i) (left_is i)) ∙ sym same.stands.whole
+      → after ≡ after_part_marks p gated.marks → left ≡ passed_all event_rule q gated.marks → seen_with (with_node node after) left ≡ after_marks d told.marks
+  told-changed d p after q left gated told same part_is left_is = (λ i. seen_with (with_node node (part_is i)) (left_is i)) ∙ sym same.stands.whole
 
   -- and what is kept of tables is true
   pub told-tables : (d : Database) (p after : RowPart) (q left : QueuesView) (gated told : Turn) → SameTold event_rule Here d p q gated told
@@ -288,15 +291,16 @@ module _ (now : ℤ) where
   told-tables d p after q left gated told same part_is left_is = subst (AreTables after) (sym left_is) (subst (λ x. AreTables x (passed_all event_rule q gated.marks)) (sym part_is) same.stands.tables)
 
 -- queues to which a time was given
-pub alike-at : (now at : ℤ) (p : RowPart) (was q : QueuesView) → q ≡ record was { time = at } → at ≡ now → AreTables p was → All (λ t. t.trigger.queue < length q.queues) q.triggers
-    → Alike now (seen_with p was) p q
-alike-at now at p was q is time tables within = record { whole = λ i. seen_with p (sym is i); time = ap QueuesView.time is ∙ time; tables = subst (AreTables p) (sym is) tables; within = within }
+pub alike-at : (now : ℤ) (node : Option Node) (at : ℤ) (p : RowPart) (was q : QueuesView) → q ≡ record was { time = at } → at ≡ now → AreTables p was → All (λ t. t.trigger.queue < length q.queues) q.triggers
+    → Alike now node (seen_with (with_node node p) was) p q
+alike-at now node at p was q is time tables within = record { whole = λ i. seen_with (with_node node p) (sym is i); time = ap QueuesView.time is ∙ time; tables = subst (AreTables p) (sym is) tables; within = within }
 
 -- after a turn from there what is kept of tables is true
-pub tables-behind_turn : (now at : ℤ) (p after : RowPart) (was q left : QueuesView) (gated told : Turn) → (Alike now (seen_with p was) p q → SameTold event_rule (Alike now) (seen_with p was) p q gated told)
+pub tables-behind_turn : (now : ℤ) (node : Option Node) (at : ℤ) (p after : RowPart) (was q left : QueuesView) (gated told : Turn)
+    → (Alike now node (seen_with (with_node node p) was) p q → SameTold event_rule (Alike now node) (seen_with (with_node node p) was) p q gated told)
     → q ≡ record was { time = at } → at ≡ now → AreTables p was → All (λ t. t.trigger.queue < length q.queues) q.triggers → after ≡ after_part_marks p gated.marks → left ≡ passed_all event_rule q gated.marks → AreTables after left
-tables-behind_turn now at p after was q left gated told tells is time tables within =
-    told-tables now (seen_with p was) p after q left gated told (tells (alike-at now at p was q is time tables within))
+tables-behind_turn now node at p after was q left gated told tells is time tables within =
+    told-tables now node (seen_with (with_node node p) was) p after q left gated told (tells (alike-at now node at p was q is time tables within))
 
 -- ---- a statement on rows, after the switches that it makes
 
@@ -305,48 +309,50 @@ pub record Stepped (now : ℤ) (d s : Database) (who : ℕ) (stmt : RowStmt) (ga
   pub answers : (database_turn database_by_itself d now who (Row stmt)).answers ≡ gated.answers
   pub changed : s ≡ after_marks d (database_turn database_by_itself d now who (Row stmt)).marks
 
-pub stepped : (now at : ℤ) (p after : RowPart) (old was q left : QueuesView) (who : ℕ) (stmt : RowStmt) → seen_with p was ≡ after_marks (seen_with p old) (first_switches (seen_with p old) at who stmt)
+pub stepped : (now : ℤ) (node : Option Node) (at : ℤ) (p after : RowPart) (old was q left : QueuesView) (who : ℕ) (stmt : RowStmt)
+    → seen_with (with_node node p) was ≡ after_marks (seen_with (with_node node p) old) (first_switches (seen_with (with_node node p) old) at who stmt)
     → q ≡ record was { time = at } → at ≡ now → AreTables p was → All (λ t. t.trigger.queue < length q.queues) q.triggers
     → after ≡ after_part_marks p (row_turn (by_gate event_rule part_by_itself) (p, q) who stmt).marks → left ≡ passed_all event_rule q (row_turn (by_gate event_rule part_by_itself) (p, q) who stmt).marks
-    → Stepped now (seen_with p old) (seen_with after left) who stmt (row_turn (by_gate event_rule part_by_itself) (p, q) who stmt)
-stepped now at p after old was q left who stmt first is time tables within part_is left_is =
+    → Stepped now (seen_with (with_node node p) old) (seen_with (with_node node after) left) who stmt (row_turn (by_gate event_rule part_by_itself) (p, q) who stmt)
+stepped now node at p after old was q left who stmt first is time tables within part_is left_is =
     record {
       answers = ap Turn.answers (turn-first d now who stmt) ∙ same.answers;
       changed = changed ∙ ap (λ (t : Turn). after_marks d t.marks) (sym (turn-first d now who stmt));
     }
   where
     d : Database
-    d = seen_with p old
+    d = seen_with (with_node node p) old
 
     gated : Turn
     gated = row_turn (by_gate event_rule part_by_itself) (p, q) who stmt
 
-    made : seen_with p was ≡ after_marks d (first_switches d now who stmt)
+    made : seen_with (with_node node p) was ≡ after_marks d (first_switches d now who stmt)
     made = first ∙ ap (λ n. after_marks d (first_switches d n who stmt)) time
 
-    same : SameTold event_rule (Alike now) (after_marks d (first_switches d now who stmt)) p q gated (row_turn (within_part database_by_itself now) (after_marks d (first_switches d now who stmt)) who stmt)
-    same = subst (λ x. SameTold event_rule (Alike now) x p q gated (row_turn (within_part database_by_itself now) x who stmt)) made
-        (step-told now (seen_with p was) p q who stmt (alike-at now at p was q is time tables within))
+    same : SameTold event_rule (Alike now node) (after_marks d (first_switches d now who stmt)) p q gated (row_turn (within_part database_by_itself now) (after_marks d (first_switches d now who stmt)) who stmt)
+    same = subst (λ x. SameTold event_rule (Alike now node) x p q gated (row_turn (within_part database_by_itself now) x who stmt)) made
+        (step-told now node (seen_with (with_node node p) was) p q who stmt (alike-at now node at p was q is time tables within))
 
-    changed : seen_with after left ≡ after_marks d (first_switches d now who stmt ++ (row_turn (within_part database_by_itself now) (after_marks d (first_switches d now who stmt)) who stmt).marks)
-    changed = told-changed now (after_marks d (first_switches d now who stmt)) p after q left gated _ same part_is left_is ∙ sym (after_marks-append d (first_switches d now who stmt) _)
+    changed : seen_with (with_node node after) left ≡ after_marks d (first_switches d now who stmt ++ (row_turn (within_part database_by_itself now) (after_marks d (first_switches d now who stmt)) who stmt).marks)
+    changed = told-changed now node (after_marks d (first_switches d now who stmt)) p after q left gated _ same part_is left_is ∙ sym (after_marks-append d (first_switches d now who stmt) _)
 
 -- ---- a block that is rolled back
 
 -- marks of rows among which there is no write
-pub unwritten : (p : RowPart) (q : QueuesView) (marks : List Mark) → RowMarks marks → WritesNone marks → seen_with (after_part_marks p marks) (passed_all event_rule q marks) ≡ after_marks (seen_with p q) marks
-unwritten p q [] rows plain = refl
-unwritten p q (queued mark ∷ marks) rows plain = absurd rows
-unwritten p q (tabled (wrote who t table key old new) ∷ marks) rows plain = absurd plain
-unwritten p q (ended whose t false ∷ marks) rows plain =
-    unwritten (after_part p (ended whose t false)) (event_rule.undone q t) marks rows plain ∙ ap (λ x. after_marks x marks) (sym (undone-shown p q whose t))
-unwritten p q (ended whose t true ∷ marks) rows plain = unwritten (after_part p (ended whose t true)) q marks rows plain
-unwritten p q (mark ∷ marks) rows plain = unwritten (after_part p mark) q marks rows plain
+pub unwritten : (node : Option Node) (p : RowPart) (q : QueuesView) (marks : List Mark) → RowMarks marks → WritesNone marks
+    → seen_with (with_node node (after_part_marks p marks)) (passed_all event_rule q marks) ≡ after_marks (seen_with (with_node node p) q) marks
+unwritten node p q [] rows plain = refl
+unwritten node p q (queued mark ∷ marks) rows plain = absurd rows
+unwritten node p q (tabled (wrote who t table key old new) ∷ marks) rows plain = absurd plain
+unwritten node p q (ended whose t false ∷ marks) rows plain =
+    unwritten node (after_part p (ended whose t false)) (event_rule.undone q t) marks rows plain ∙ ap (λ x. after_marks x marks) (sym (undone-shown node p q whose t))
+unwritten node p q (ended whose t true ∷ marks) rows plain = unwritten node (after_part p (ended whose t true)) q marks rows plain
+unwritten node p q (mark ∷ marks) rows plain = unwritten node (after_part p mark) q marks rows plain
 
-pub failure-unwritten : (p : RowPart) (q : QueuesView) (who : ℕ) (o : Option ℕ) (b : Block)
-    → seen_with (after_part_marks p (failure who o b)) (passed_all event_rule q (failure who o b)) ≡ after_marks (seen_with p q) (failure who o b)
-failure-unwritten p q who o b =
-    unwritten p q (failure who o b) (failure-rows who o b) (each-failure AnyReply is_no_write (λ _. tt) (plain-if no_more refl) who o b)
+pub failure-unwritten : (node : Option Node) (p : RowPart) (q : QueuesView) (who : ℕ) (o : Option ℕ) (b : Block)
+    → seen_with (with_node node (after_part_marks p (failure who o b))) (passed_all event_rule q (failure who o b)) ≡ after_marks (seen_with (with_node node p) q) (failure who o b)
+failure-unwritten node p q who o b =
+    unwritten node p q (failure who o b) (failure-rows who o b) (each-failure AnyReply is_no_write (λ _. tt) (plain-if no_more refl) who o b)
 
 -- the turns of rows do marks of rows, and list no event
 pub step-rows : (p : RowPart) (q : QueuesView) (who : ℕ) (stmt : RowStmt) → TurnOfRows (row_turn (by_gate event_rule part_by_itself) (p, q) who stmt)

@@ -8,25 +8,27 @@ use Rattle.pgq_retry.specs.declared.retry.Retry.{Retry}
 use Rattle.pgq_retry.specs.Retries.{is_asked, due_now}
 use Rattle.sky_model.specs.declared.reply.Reply.{Reply}
 use Rattle.sky_model.specs.declared.reply.Reply.TheVariants.{Number}
-use Rattle.sky_model.specs.declared.reply.Refusal.TheVariants.{NoBatch, NoEvent}
+use Rattle.sky_model.specs.declared.reply.Refusal.TheVariants.{NoBatch, NodeConsumer, NoEvent}
 use Rattle.sky_model.specs.History as model
 use Rattle.sky_model.specs.History.{Mark, of_worker, began, ended, queued, put, asked, returned}
 use Rattle.sky_model.specs.Selection.{selected}
 use Rattle.sky_model.specs.State.{RowPart, after_part_marks, Database, after_mark, after_marks}
-use Rattle.sky_model.specs.Outcome.{marks_of, ◌>>=◌, found_or, answers, does_marks}
+use Rattle.sky_model.specs.Outcome.{marks_of, ◌>>=◌, ◌>>◌, refused_if, found_or, answers, does_marks}
 use Rattle.sky_model.specs.OwnTransaction.{next_id}
 use Rattle.sky_model.specs.Reader.{shown_by}
 use Rattle.sky_model.specs.Retries.{brought_by}
+use Rattle.sky_model.specs.StepConsumer.{is_nodes_batch}
 use Rattle.sky_model.specs.StepRetry.{retry_of, asks_for, event_retry, back, brings, most_back, maint_retry_events}
 use Rattle.pgq_db.proofs.Databases.{Runs}
 
 -- ---- a subscription asks for an event
 
-module _ (d : Database) (now : ℤ) (id event seconds : ℕ) (b : model.Batch) (there : Some b ≡ d.batch id) where
+module _ (d : Database) (now : ℤ) (id event seconds : ℕ) (b : model.Batch) (there : Some b ≡ d.batch id) (foreign : is_nodes_batch d b ≡ false) where
   -- once the batch is found
   within : (o : Option Event) → find (λ e. e.ev_id == event) (selected d b) ≡ o → event_retry d (shown_by d).events now id event seconds ≡ (found_or o NoEvent >>= (λ e. asks_for d (retry_of now seconds b e)))
   within o is =
-      ap (λ found. found_or (option_map (selected d) found) NoBatch >>= (λ events. found_or found NoBatch >>= (λ batch. found_or (find (λ e. e.ev_id == event) events) NoEvent >>= (λ e. asks_for d (retry_of now seconds batch e))))) (sym there)
+      ap (λ found. found_or (option_map (selected d) found) NoBatch >>= (λ events. found_or found NoBatch >>= (λ batch. refused_if (is_nodes_batch d batch) NodeConsumer >> found_or (find (λ e. e.ev_id == event) events) NoEvent >>= (λ e. asks_for d (retry_of now seconds batch e))))) (sym there)
+      ∙ ap (λ x. refused_if x NodeConsumer >> found_or (find (λ e. e.ev_id == event) (selected d b)) NoEvent >>= (λ e. asks_for d (retry_of now seconds b e))) foreign
       ∙ ap (λ x. found_or x NoEvent >>= (λ e. asks_for d (retry_of now seconds b e))) is
 
   pub no-event : None ≡ find (λ e. e.ev_id == event) (selected d b) → event_retry d (shown_by d).events now id event seconds ≡ Err NoEvent

@@ -6,3 +6,4 @@ pub mod Agreeing
 pub mod Gives
 pub mod Configured
 pub mod Waiters
+pub mod Served

@@ -2,7 +2,7 @@
 
 ghost use Rattle.std.specs.Prelude.{◌≡◌, ◌+◌, false, None, Some, OnOk, is_some};
 ghost use Rattle.sky_model.specs.Queues.{tick};
-ghost use Rattle.sky_model.specs.StepConsumer.{has_dot, registers, register_consumer, register_consumer_at, unregister_consumer, opens_batch, next_batch, get_batch_events, get_batch_info, finish_batch, consumer_info};
+ghost use Rattle.sky_model.specs.StepConsumer.{registers, register_consumer, register_consumer_at, unregister_consumer, opens_batch, next_batch, get_batch_events, get_batch_info, finish_batch, consumer_info};
 ghost use Rattle.sky_model.specs.Outcome.{reply_of};
 ghost use Rattle.sky_model.specs.Reader.{shown_by};
 ghost use Rattle.pgq_sub.specs.Views.{seen_sub};
@@ -28,7 +28,7 @@ impl Db {
         ensures { Ran self.old self.new replies.old replies.new who result (register_consumer (seen_database self.old) name.now consumer.now) }
     {
         let queue = self.queue_called(name)?;
-        if has_dot(consumer) {
+        if self.is_nodes(name, consumer) {
             return Err(Stop::Refused(Refusal::NodeConsumer));
         }
         if self.queues.queue(queue).has_consumer(consumer) {
@@ -51,7 +51,7 @@ impl Db {
         ensures { Ran self.old self.new replies.old replies.new who result (register_consumer_at (seen_database self.old) name.now consumer.now tick) }
     {
         let queue = self.queue_called(name)?;
-        if has_dot(consumer) {
+        if self.is_nodes(name, consumer) {
             return Err(Stop::Refused(Refusal::NodeConsumer));
         }
         let newest = self.queues.queue(queue).ticks().newest().id();
@@ -105,7 +105,7 @@ impl Db {
         ensures { Ran self.old self.new replies.old replies.new who result (unregister_consumer (seen_database self.old) name.now consumer.now) }
     {
         let queue = self.queue_called(name)?;
-        if has_dot(consumer) {
+        if self.is_nodes(name, consumer) {
             return Err(Stop::Refused(Refusal::NodeConsumer));
         }
         let count = u64::from(self.queues.unregister(queue, consumer).is_some());
@@ -124,7 +124,7 @@ impl Db {
         ensures { Ran self.old self.new replies.old replies.new who result (next_batch (seen_database self.old) name.now consumer.now) }
     {
         let queue = self.queue_called(name)?;
-        if has_dot(consumer) {
+        if self.is_nodes(name, consumer) {
             return Err(Stop::Refused(Refusal::NodeConsumer));
         }
         let Some(sub) = self.subscription(queue, consumer) else {
@@ -214,8 +214,15 @@ impl Db {
     ) -> Result<(), Stop>
         ensures { Ran self.old self.new replies.old replies.new who result (finish_batch (seen_database self.old) id) }
     {
-        let count = u64::from(self.queues.close_batch(id));
-        replies.push(who, Reply::Number(count))?;
+        let Some(batch) = self.queues.batch(id) else {
+            replies.push(who, Reply::Number(0))?;
+            return Ok(());
+        };
+        if self.is_nodes_of(batch.queue, batch.consumer) {
+            return Err(Stop::Refused(Refusal::NodeConsumer));
+        }
+        self.queues.close_batch(id);
+        replies.push(who, Reply::Number(1))?;
         Ok(())
     }
 
@@ -243,10 +250,4 @@ impl Db {
         replies.push(who, Reply::ConsumerInfo(info))?;
         Ok(())
     }
-}
-
-fn has_dot(name: &Text) -> bool
-    ensures { result ≡ has_dot name.now }
-{
-    name.bytes().contains(&b'.')
 }

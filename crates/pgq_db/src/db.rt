@@ -28,6 +28,7 @@ ghost use Rattle.pgq_db.specs.Looks.{ReadsNone};
 ghost use Rattle.pgq_db.specs.Configured.{refusal_for, configured_as, Configures};
 
 use crate::rotation::switch_before;
+use londiste_state::Node;
 use pgq_queues::Queues;
 use pgq_sub::Sub;
 use pgq_tick::ConfigFault;
@@ -38,13 +39,14 @@ use std::alloc::{AllocError, Global};
 use std::marker::Model;
 use std::mem;
 
-/// One database: its transactions, sessions, tables and rows; and its queues. Once memory has run out in `step` or
+/// One database: its transactions, sessions, tables and rows; its queues; and its node, if it has one. Once memory has run out in `step` or
 /// `fail` nothing is said of it.
 #[derive(Drop)]
 pub struct Db {
     pub(crate) alloc: Global,
     pub(crate) rows: RowDb,
     pub(crate) queues: Queues,
+    pub(crate) node: Option<Node>,
     // What the row part does in one call.
     step: RowStep,
     // Whether memory ran out during a statement on rows. What its tables are, and how often its events were
@@ -60,7 +62,7 @@ impl Model for Db {
 
     ghost Value = { DbView };
 
-    ghost view = { λ d. record { rows = d.rows; queues = d.queues } };
+    ghost view = { λ d. record { rows = d.rows; queues = d.queues; node = d.node } };
 
     ghost invariant = { λ d. d.is_cut ≡ false → Agree (seen d.rows) d.queues };
 }
@@ -74,6 +76,7 @@ impl Db {
             alloc,
             rows: RowDb::new(alloc),
             queues: Queues::new(alloc),
+            node: None,
             step: RowStep::ends(alloc),
             is_cut: false,
         }

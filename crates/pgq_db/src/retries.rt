@@ -48,6 +48,9 @@ impl Db {
         let Some(batch) = self.queues.batch(id) else {
             return Err(Stop::Refused(Refusal::NoBatch));
         };
+        if self.is_nodes_of(batch.queue, batch.consumer) {
+            return Err(Stop::Refused(Refusal::NodeConsumer));
+        }
         let span = batch.span();
         let Some(found) = self.queues.event_in(span, event)? else {
             return Err(Stop::Refused(Refusal::NoEvent));

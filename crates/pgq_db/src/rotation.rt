@@ -1,20 +1,21 @@
 //! How the event tables of queues are rotated: the statements of both steps, the switches that a `commit` makes, and
 //! what the daemon does of it.
 
-ghost use Rattle.std.specs.Prelude.{◌≡◌, [], None, IfOk, IfErr, OnOk, if◌then◌else◌};
+ghost use Rattle.std.specs.Prelude.{◌≡◌, [], Option, None, IfOk, IfErr, OnOk, if◌then◌else◌};
+ghost use Rattle.londiste_state.specs.Nodes.{Node};
 ghost use Rattle.sky_model.specs.Moment.{IsTime};
 ghost use Rattle.sky_model.specs.Outcome.{reply_of, marks_of};
 ghost use Rattle.sky_model.specs.Sessions.{outside, inside};
-ghost use Rattle.sky_model.specs.State.{RowPart, after_marks};
+ghost use Rattle.sky_model.specs.State.{after_marks};
 ghost use Rattle.sky_model.specs.StepRotation.{switch_of, maint_rotate_step1, rotates_by_itself, maint_rotate_step2};
 ghost use Rattle.sky_model.specs.Stops.{Stops};
 ghost use Rattle.sky_model.specs.declared.reply.Reply.TheVariants.{Number};
 ghost use Rattle.sky_state.specs.Seen.{seen};
 ghost use Rattle.pgq_queues.specs.Batches.{StillStand};
-ghost use Rattle.pgq_queues.specs.Seen.{seen_with, queue_at, Stands};
+ghost use Rattle.pgq_queues.specs.Seen.{Beside, seen_with, queue_at, Stands};
 ghost use Rattle.pgq_queues.specs.Traced.{KeepsRest};
 ghost use Rattle.pgq_db.specs.Gives.{Ran};
-ghost use Rattle.pgq_db.specs.Seen.{seen_database};
+ghost use Rattle.pgq_db.specs.Seen.{with_node, seen_database};
 ghost use Rattle.pgq_db.specs.Switches.{first_switches};
 
 use crate::db::Db;
@@ -102,8 +103,8 @@ fn switch(queues: &mut Queues, queue: usize, txid: u64, is_alone: bool, now: i64
     requires stands { Stands queues.old.queues queue }
     requires time { IsTime now }
     requires none { (queue_at queues.old queue).tables.pending ≡ None }
-    ensures marks { (part : RowPart) → seen_with part queues.new
-        ≡ after_marks (seen_with part queues.old) (switch_of queue txid now (if is_alone then outside else inside)) }
+    ensures marks { (beside : Beside) → seen_with beside queues.new
+        ≡ after_marks (seen_with beside queues.old) (switch_of queue txid now (if is_alone then outside else inside)) }
     ensures stand { StillStand queues.old.queues queues.new.queues }
     ensures rest { KeepsRest queues.old queues.new }
 {
@@ -122,8 +123,8 @@ pub(crate) fn switch_before(
     stmt: &RowStmt,
 )
     requires { IsTime now }
-    ensures marks { seen_with (seen rows.now) queues.new
-        ≡ after_marks (seen_with (seen rows.now) queues.old) (first_switches (seen_with (seen rows.now) queues.old) now who stmt.now) }
+    ensures marks { (node : Option Node) → seen_with (with_node node (seen rows.now)) queues.new
+        ≡ after_marks (seen_with (with_node node (seen rows.now)) queues.old) (first_switches (seen_with (with_node node (seen rows.now)) queues.old) now who stmt.now) }
     ensures rest { KeepsRest queues.old queues.new }
 {
     if !matches!(stmt, RowStmt::Commit) {

@@ -5,11 +5,11 @@ ghost use Rattle.std.specs.Prelude.{◌≡◌, ◌+◌, ◌<◌, find, not, opti
 ghost use Rattle.sky_model.specs.declared.stmt.Where.TheVariants.{WhenReading, WhenOutside};
 ghost use Rattle.sky_model.specs.Queues.{queue_number};
 ghost use Rattle.sky_model.specs.History.{queued, made};
-ghost use Rattle.sky_model.specs.State.{RowPart, after_marks};
+ghost use Rattle.sky_model.specs.State.{after_marks};
 ghost use Rattle.sky_model.specs.Outcome.{reply_of, settled};
 ghost use Rattle.sky_model.specs.Printed.{HaveMoments};
 ghost use Rattle.sky_model.specs.OwnTransaction.{txid_for, written};
-ghost use Rattle.sky_model.specs.StepQueue.{queue_called, create_queue, drop_queue, shown_name, set_queue_config, queue_info, insert_event, ticker, force_tick, made_event};
+ghost use Rattle.sky_model.specs.StepQueue.{queue_called, create_queue, drop_queue, shown_name, set_queue_config, queue_info, insert_event, ticker, force_tick, begins_with, tells_of_rows, made_event};
 ghost use Rattle.sky_model.specs.StepTrigger.{may_ignore, add_trigger};
 ghost use Rattle.sky_model.specs.InForm.{IsInForm};
 ghost use Rattle.sky_model.specs.Allowed.{where_of};
@@ -19,7 +19,7 @@ ghost use Rattle.sky_model.specs.Calls.{form, statement, database_turn};
 ghost use Rattle.sky_model.specs.DatabaseCalls.{stepped};
 ghost use Rattle.sky_model.specs.DatabaseSteps.{DatabaseSteps};
 ghost use Rattle.sky_model.specs.Moment.{IsTime};
-ghost use Rattle.pgq_queues.specs.Seen.{seen_with, Stands};
+ghost use Rattle.pgq_queues.specs.Seen.{Beside, seen_with, Stands};
 ghost use Rattle.pgq_db.specs.Seen.{seen_database};
 ghost use Rattle.pgq_db.specs.Waiters.{StaysWithin};
 ghost use Rattle.pgq_db.specs.Looks.{LooksWithin, RanWithin, ListsLooked, ReadsNone};
@@ -266,8 +266,9 @@ impl Db {
                 backup,
                 ignored,
             } => self.add_trigger(who, name, table, queue, *backup, ignored, replies),
-            // The world keeps whether the daemon is on.
-            Stmt::PgqdOn | Stmt::PgqdOff => {
+            Stmt::CreateRoot { name, queue } => self.create_root(now, who, name, queue, replies),
+            // The world keeps whether the daemon is on, and makes the statements on nodes.
+            Stmt::Node(_) | Stmt::PgqdOn | Stmt::PgqdOff => {
                 replies.push(who, Reply::Done)?;
                 Ok(())
             }
@@ -307,7 +308,7 @@ impl Db {
         Ok(())
     }
 
-    fn new_queue(
+    pub(crate) fn new_queue(
         &mut self,
         now: i64,
         who: SessionId,
@@ -334,6 +335,9 @@ impl Db {
         ensures { Ran self.old self.new replies.old replies.new who result (drop_queue (seen_database self.old) name.now) }
     {
         let queue = self.queue_called(name)?;
+        if self.is_set_queue(name) {
+            return Err(Stop::Refused(Refusal::SetQueue));
+        }
         let consumers = self.queues.queue(queue).consumer_count();
         if consumers > 0 {
             return Err(Stop::Refused(Refusal::HasConsumers(consumers as u64)));
@@ -365,6 +369,9 @@ impl Db {
         ensures { Ran self.old self.new replies.old replies.new who result (insert_event (seen_database self.old) now who name.now ev_type.now ev_data.now extra.now) }
     {
         let queue = self.queue_called(name)?;
+        if self.is_set_queue(name) && tells_of_rows(ev_type) {
+            return Err(Stop::Refused(Refusal::ReservedType));
+        }
         let txid = self.next_txid(who)?;
         let seq = self.queues.queue(queue).seq();
         if seq >= EVENT_ID_END - 1 {
@@ -459,7 +466,10 @@ impl Db {
         let Some((number, schema)) = self.rows.table(table) else {
             return Err(Stop::Refused(Refusal::NoTable(table.copy(self.alloc)?)));
         };
-        let queue = queue_called(self.alloc, &self.queues, queue)?;
+        let number_of_queue = queue_called(self.alloc, &self.queues, queue)?;
+        if self.is_set_queue(queue) {
+            return Err(Stop::Refused(Refusal::SetQueue));
+        }
         if self.queues.has_trigger(number, name) {
             let name = name.copy(self.alloc)?;
             return Err(Stop::Refused(Refusal::TriggerExists(name)));
@@ -474,7 +484,7 @@ impl Db {
         if let Some(txid) = self.rows.least_writer(number) {
             return Err(Stop::Refused(Refusal::TableBusy(txid)));
         }
-        let trigger = new_trigger(self.alloc, number, name, queue, backup, ignored.as_slice())?;
+        let trigger = new_trigger(self.alloc, number, name, number_of_queue, backup, ignored.as_slice())?;
         self.queues.trace(table, schema, trigger)?;
         replies.push(who, Reply::Done)?;
         Ok(())
@@ -500,9 +510,9 @@ fn may_ignore(schema: &Schema, name: &Text) -> bool
 
 /// The same, of the queues alone: `add_trigger` holds a table meanwhile.
 fn queue_called(alloc: Global, queues: &Queues, queue: &Text) -> Result<usize, Stop>
-    ensures ok { (part : RowPart) → IfOk result (λ number. queue_called queue.now (seen_with part queues.now) ≡ Ok number) }
+    ensures ok { (beside : Beside) → IfOk result (λ number. queue_called queue.now (seen_with beside queues.now) ≡ Ok number) }
     ensures stands { IfOk result (λ number. Stands queues.now.queues number) }
-    ensures err { (part : RowPart) → IfErr result (λ stop. StopsAs stop (queue_called queue.now (seen_with part queues.now))) }
+    ensures err { (beside : Beside) → IfErr result (λ stop. StopsAs stop (queue_called queue.now (seen_with beside queues.now))) }
 {
     match queues.number(queue) {
         Some(number) => Ok(number),
@@ -540,6 +550,26 @@ fn shown_name(alloc: Global, trigger: &TableTrigger) -> Result<Text, NoMemory>
         Some(name) => name.copy(alloc),
         None => Text::from_str(alloc, ""),
     }
+}
+
+/// Whether events of a type tell of rows.
+fn tells_of_rows(ev_type: &Option<Text>) -> bool
+    ensures { result ≡ tells_of_rows ev_type.now }
+{
+    match ev_type {
+        Some(text) => {
+            let bytes = text.bytes();
+            begins_with(b'I', bytes) || begins_with(b'U', bytes) || begins_with(b'D', bytes)
+        }
+        None => false,
+    }
+}
+
+/// Whether a text begins with this byte and a colon.
+fn begins_with(byte: u8, text: &[u8]) -> bool
+    ensures { result ≡ begins_with byte text.now }
+{
+    text.starts_with(&[byte, b':'])
 }
 
 /// An event without an owner.

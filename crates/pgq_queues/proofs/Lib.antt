@@ -2,6 +2,7 @@ pub mod NumberedQueues
 pub mod Slotted
 pub mod AllStored
 pub mod Marked
+pub mod Places
 pub mod TracedLists
 pub mod Indexed
 pub mod Consumed

@@ -1,20 +1,22 @@
 -- The tables with triggers that a database keeps, after one of them changed.
-use Rattle.std.proofs.lemmas.List.{map-append, append-nil, get_or_read}
-use Rattle.std.proofs.Common.{◌≡◌, ℕ, zero, suc, ◌<◌, length-append, Bool, true, false, ◌==◌, List, [], ◌∷◌, ◌++◌, Option, Some, None, Result, Ok, Err, IfOk, OnErr, is_some, length, get_or, slice_set, get_or-set_other, get_or-set_same, option_map, nat_cmp, cond, refl, sym, ◌∙◌, ap, subst, arith, if◌then◌else◌}
+use Rattle.std.proofs.lemmas.List.{append-nil, get_or_read}
+use Rattle.std.proofs.Common.{◌≡◌, ℕ, zero, suc, ◌<◌, length-append, Bool, true, false, ◌==◌, List, [], ◌∷◌, ◌++◌, Option, Some, None, Result, Ok, Err, IfOk, OnErr, is_some, length, map, get_or, slice_set, get_or-set_other, get_or-set_same, option_map, nat_cmp, cond, refl, sym, ◌∙◌, ap, subst, arith, if◌then◌else◌}
 use Rattle.std.proofs.lemmas.Bool.Decides.{nat_tests}
 use Rattle.std.proofs.lemmas.List.Elements.{All-cons, All-append, filter-append}
+use Rattle.std.proofs.lemmas.Map.Made.{lookup-map_values}
 use Rattle.std.proofs.Math.ListN.{get_or-append}
 use Rattle.std.proofs.Math.Seq.{get_or-append_seam}
-use Rattle.std.specs.List.{All, remove}
-use Rattle.std.specs.Prelude.{slice_get, IfSome, ◌||◌, ◌-◌, ℤ}
+use Rattle.std.specs.List.{All, remove, position}
+use Rattle.std.specs.Prelude.{slice_get, IfSome, IfNone, ◌||◌, ◌-◌, ℤ}
 use Rattle.std.specs.BTreeMap.{is_at}
 use Rattle.std.specs.Map.{lookup}
 use Rattle.sky_val.specs.declared.column.Column.{Column}
-use Rattle.sky_model.specs.Triggers.{TableTrigger, triggers_of}
-use Rattle.sky_model.specs.State.{RowPart}
+use Rattle.sky_model.specs.History.{queued, untraced}
+use Rattle.sky_model.specs.Triggers.{TableTrigger, is_sets, but_sets, triggers_of}
+use Rattle.sky_model.specs.State.{RowPart, after_mark}
 use Rattle.pgq_queues.specs.Views.{QueueView, TracedTableView, TracedView, QueuesView}
-use Rattle.pgq_queues.specs.Seen.{no_queue, seen_queue, sub_at, Stands, kept}
-use Rattle.pgq_queues.specs.Traced.{no_trigger, triggers_at, traced_by, traced_at, places_of, ArePlaced, TracedWithin, IsTable, IsTraced, AreTables}
+use Rattle.pgq_queues.specs.Seen.{no_queue, seen_queue, sub_at, Stands, kept, seen_with, Beside}
+use Rattle.pgq_queues.specs.Traced.{no_trigger, triggers_at, traced_by, traced_at, places_without, places_of, ArePlaced, TracedWithin, IsTable, IsTraced, AreTables}
 use Rattle.pgq_queues.specs.declared.batch.Place.{Place}
 use Rattle.sky_names.specs.Named.{NamedView}
 use Rattle.pgq_sub.specs.Seen.{no_subs}
@@ -24,6 +26,7 @@ use Rattle.pgq_queues.specs.Rotated.{switched_in}
 use Rattle.pgq_queues.specs.Batches.{StillStand, open_id, AreIndexed, BatchesWithin}
 use Rattle.pgq_queues.specs.Numbers.{AreNumbers}
 use Rattle.pgq_queues.proofs.NumberedQueues.{numbers-more, numbers-removed, stands-there}
+use Rattle.pgq_queues.proofs.Places.{places-own, places-within, places-more, places-removed, sets-removed, none-left, none-removed, all-removed}
 use Rattle.pgq_queues.proofs.Marked.{kept-updated, get_or-slice_set, sub_at-set, sub_at-more, no-subs, sub_at-gone}
 
 -- what is under one number has changed
@@ -95,39 +98,14 @@ numbers-on old new names on gone are = record { each = are.each; rise = are.rise
 
 -- ---- the places of a table's triggers
 
--- places that are there show what they showed, once there is one more trigger
-at-more : (ts : List TableTrigger) (x : TableTrigger) (places : List ℕ) → All (λ place. place < length ts) places → triggers_at (ts ++ x ∷ []) places ≡ triggers_at ts places
-at-more ts x [] within = refl
-at-more ts x (p ∷ ps) within =
-    let low : p < length ts = within 0 0 (omega arith) in
-    λ i. get_or-append ts (x ∷ []) no_trigger p low i ∷ at-more ts x ps (λ k d lt. within (suc k) d (omega (arith, lt))) i
-
-within-next : (ts : List TableTrigger) (x : TableTrigger) (places : List ℕ) → All (λ place. place < length ts) places → All (λ place. place < length (ts ++ x ∷ [])) places
-within-next ts x places within k d lt = let low = within k d lt in omega (arith, low, length-append ts (x ∷ []))
-
 triggers_of-more : (n : ℕ) (ts : List TableTrigger) (x : TableTrigger) → triggers_of n (ts ++ x ∷ []) ≡ triggers_of n ts ++ (if x.table == n then x ∷ [] else [])
 triggers_of-more n ts x = filter-append (λ (t : TableTrigger). t.table == n) ts (x ∷ [])
 
--- one more trigger of the table
-placed-own : (n : ℕ) (ts : List TableTrigger) (x : TableTrigger) (places : List ℕ) → (x.table == n) ≡ true → ArePlaced ts n places → ArePlaced (ts ++ x ∷ []) n (places ++ length ts ∷ [])
-placed-own n ts x places own are = record {
-  within = All-append (λ place. place < length (ts ++ x ∷ [])) places (length ts ∷ []) (within-next ts x places are.within)
-      (All-cons (λ place. place < length (ts ++ x ∷ [])) (length ts) [] (omega (arith, length-append ts (x ∷ []))) (λ k d low. absurd (omega arith)));
-  own = map-append (λ place. get_or (ts ++ x ∷ []) place no_trigger) places (length ts ∷ [])
-      ∙ (λ i. (at-more ts x places are.within ∙ are.own) i ++ get_or-append_seam ts x [] no_trigger i ∷ [])
-      ∙ ap (λ b. triggers_of n ts ++ (if b then x ∷ [] else [])) (sym own)
-      ∙ sym (triggers_of-more n ts x);
-}
-
--- and one of another
-placed-other : (n : ℕ) (ts : List TableTrigger) (x : TableTrigger) (places : List ℕ) → (x.table == n) ≡ false → ArePlaced ts n places → ArePlaced (ts ++ x ∷ []) n places
-placed-other n ts x places other are = record {
-  within = within-next ts x places are.within;
-  own = at-more ts x places are.within ∙ are.own
-      ∙ sym (append-nil (triggers_of n ts))
-      ∙ ap (λ b. triggers_of n ts ++ (if b then x ∷ [] else [])) (sym other)
-      ∙ sym (triggers_of-more n ts x);
-}
+-- one more trigger, of the table or of another
+placed-more : (n : ℕ) (ts : List TableTrigger) (x : TableTrigger) (places : List ℕ) (b : Bool) → (x.table == n) ≡ b → ArePlaced ts n places
+    → ArePlaced (ts ++ x ∷ []) n (places ++ (if b then length ts ∷ [] else []))
+placed-more n ts x places b own are =
+    (λ i. are i ++ (if sym own i then length ts ∷ [] else [])) ∙ sym (places-more 0 n ts x (length ts) (omega arith))
 
 -- what is kept of a table may change but for its places
 pub places-kept : (triggers : List TableTrigger) (old new : List (ℕ × TracedTableView)) (n : ℕ) (t : TracedTableView) → Updated old new n (Some t) → t.places ≡ places_of (kept old n)
@@ -139,22 +117,31 @@ places-kept triggers old new n t updates same placed m = subst (ArePlaced trigge
     by false e = refl
 
 -- or have the place of one more trigger
-pub places-more : (ts : List TableTrigger) (x : TableTrigger) (old new : List (ℕ × TracedTableView)) (n : ℕ) (t : TracedTableView) → Updated old new n (Some t) → x.table ≡ n
+pub placed-trigger : (ts : List TableTrigger) (x : TableTrigger) (old new : List (ℕ × TracedTableView)) (n : ℕ) (t : TracedTableView) → Updated old new n (Some t) → x.table ≡ n
     → t.places ≡ places_of (kept old n) ++ length ts ∷ []
     → ((m : ℕ) → ArePlaced ts m (places_of (kept old m))) → (m : ℕ) → ArePlaced (ts ++ x ∷ []) m (places_of (kept new m))
-places-more ts x old new n t updates its more placed m = subst (λ o. ArePlaced (ts ++ x ∷ []) m (places_of o)) (sym (kept-updated old new n (Some t) updates m)) (by (n == m) refl)
+placed-trigger ts x old new n t updates its more placed m = subst (λ o. ArePlaced (ts ++ x ∷ []) m (places_of o)) (sym (kept-updated old new n (Some t) updates m)) (by (n == m) refl)
   where
     by : (b : Bool) → (n == m) ≡ b → ArePlaced (ts ++ x ∷ []) m (places_of (if b then Some t else kept old m))
     by true e =
         let one : n ≡ m = grind (arith, nat_tests) in
         subst (ArePlaced (ts ++ x ∷ []) m) (sym (more ∙ ap (λ k. places_of (kept old k) ++ length ts ∷ []) one))
-        (placed-own m ts x (places_of (kept old m)) (grind (arith, nat_tests)) (placed m))
-    by false e = placed-other m ts x (places_of (kept old m)) (grind (arith, nat_tests)) (placed m)
+        (placed-more m ts x (places_of (kept old m)) true (grind (arith, nat_tests)) (placed m))
+    by false e =
+        subst (ArePlaced (ts ++ x ∷ []) m) (append-nil (places_of (kept old m)))
+        (placed-more m ts x (places_of (kept old m)) false (grind (arith, nat_tests)) (placed m))
 
 -- the places that are kept of a table are its own
 pub placed-at : (ts : List TableTrigger) (all : List (ℕ × TracedTableView)) (n : ℕ) (o : Option TracedTableView) → o ≡ kept all n → ((m : ℕ) → ArePlaced ts m (places_of (kept all m)))
     → ArePlaced ts n (places_of o)
 placed-at ts all n o is placed = subst (λ x. ArePlaced ts n (places_of x)) (sym is) (placed n)
+
+-- they are there, and at them are its triggers
+pub placed-within : (ts : List TableTrigger) (n : ℕ) (places : List ℕ) → ArePlaced ts n places → All (λ place. place < length ts) places
+placed-within ts n places are = subst (All (λ place. place < length ts)) (sym are) (λ k d lt. let low = places-within 0 n ts k d lt in omega (arith, low))
+
+placed-own : (ts : List TableTrigger) (n : ℕ) (places : List ℕ) → ArePlaced ts n places → triggers_at ts places ≡ triggers_of n ts
+placed-own ts n places are = ap (triggers_at ts) are ∙ places-own n ts
 
 -- the queues of triggers are there, and so are those of a table's
 pub at-queues : (queues : List QueueView) (ts : List TableTrigger) (places : List ℕ) → All (λ (t : TableTrigger). Stands queues t.trigger.queue) ts → All (λ place. place < length ts) places
@@ -197,7 +184,7 @@ pub traced-more : (queues : List QueueView) (triggers ts more : List TableTrigge
 traced-more queues triggers ts more x old new n place t was same is updates its at with at_end low within =
     subst (λ xs. TracedWithin queues xs new) (sym (is ∙ ap (λ xs. xs ++ x ∷ []) same)) (record {
       stand = queues-more queues triggers x within.stand low;
-      places = places-more triggers x old new n t updates its (ap TracedTableView.places with ∙ (λ i. places_of (at i) ++ (at_end ∙ ap length same) i ∷ [])) within.places;
+      places = placed-trigger triggers x old new n t updates its (ap TracedTableView.places with ∙ (λ i. places_of (at i) ++ (at_end ∙ ap length same) i ∷ [])) within.places;
     })
 
 -- ---- that names and columns are kept of tables
@@ -227,7 +214,7 @@ table-there part n ts was o at is = subst (IsTraced part n ts) (sym at) is
 
 pub tables-more : (v now : QueuesView) (more : List TableTrigger) (new : List (ℕ × TracedTableView)) (n : ℕ) (x : TableTrigger) (t was : TracedTableView) → v ≡ now → more ≡ v.triggers ++ x ∷ [] → x.table ≡ n
     → Updated v.traced new n (Some t) → Some was ≡ kept v.traced n → t.name ≡ was.name → t.columns ≡ was.columns → (part : RowPart) → AreTables part now → (m : ℕ) → IsTraced part m more (kept new m)
-tables-more v now more new n x t was same is its updates at named of_columns beside are =
+tables-more v now more new n x t was same is its updates at named of_columns part are =
     tables-where v more new n t updates alike part (here.0 ∙ ap Some (sym named), here.1 ∙ sym of_columns) before
   where
     before : AreTables part v
@@ -251,7 +238,7 @@ pub traced-found : (v now : QueuesView) (n : ℕ) (slice : List TableTrigger) (t
 traced-found v now n slice t found same all at is placed =
     ap Some is
     ∙ ap (λ ts. Some (traced_by (triggers_at ts t.places) t)) all
-    ∙ ap (λ own. Some (traced_by own t)) (placed-at v.triggers v.traced n (Some t) at placed).own
+    ∙ ap (λ own. Some (traced_by own t)) (placed-own v.triggers n t.places (placed-at v.triggers v.traced n (Some t) at placed))
     ∙ ap (option_map (traced_by (triggers_of n v.triggers))) at
     ∙ ap (λ (w : QueuesView). traced_at w n) same
 
@@ -261,14 +248,18 @@ pub found-within : (v now : QueuesView) (n : ℕ) (slice : List TableTrigger) (t
 found-within v now n slice t found same all at is within =
     subst (λ (w : QueuesView). All (λ (x : TableTrigger). Stands w.queues x.trigger.queue) found.triggers) same
     (subst (All (λ (x : TableTrigger). Stands v.queues x.trigger.queue)) (sym (ap TracedView.triggers is ∙ ap (λ ts. triggers_at ts t.places) all))
-    (at-queues v.queues v.triggers t.places within.stand (placed-at v.triggers v.traced n (Some t) at within.places).within))
+    (at-queues v.queues v.triggers t.places within.stand (placed-within v.triggers n t.places (placed-at v.triggers v.traced n (Some t) at within.places))))
 
 -- one of which nothing is kept has none
 pub none-found : (v now : QueuesView) (n : ℕ) (o : Option TracedTableView) → v ≡ now → o ≡ kept v.traced n → o ≡ None → ((m : ℕ) → ArePlaced v.triggers m (places_of (kept v.traced m)))
     → triggers_of n now.triggers ≡ []
 none-found v now n o same at none placed =
     ap (λ (w : QueuesView). triggers_of n w.triggers) (sym same)
-    ∙ sym (placed-at v.triggers v.traced n o at placed).own ∙ ap (λ x. triggers_at v.triggers (places_of x)) none
+    ∙ sym (placed-own v.triggers n (places_of o) (placed-at v.triggers v.traced n o at placed)) ∙ ap (λ x. triggers_at v.triggers (places_of x)) none
+
+pub if-none : {A : Type 0} → (o : Option A) (P : Type 0) → P → IfNone o P
+if-none None P is = is
+if-none (Some a) P is = tt
 
 -- ---- what holds of all queues, when one of them changes
 
@@ -386,3 +377,60 @@ within-dropped {last} names n place old new less batches triggers all named empt
     apart m consumer id has same =
         let nothing : open_id (sub_at old m consumer) ≡ None = ap (λ k. open_id (sub_at old k consumer)) (sym same) ∙ ap open_id (no-subs (get_or old n no_queue).subs consumer none) in
         absurd (cc)
+
+-- ---- a trigger that is gone
+
+-- what is kept of tables once the trigger at a place is gone
+abbrev pub moved : ℕ → TracedTableView → TracedTableView
+moved gone t = record t { places = places_without gone t.places }
+
+pub kept-moved : (gone : ℕ) (old new : List (ℕ × TracedTableView)) → new ≡ map (λ e. (e.0, moved gone e.1)) old → (n : ℕ) → kept new n ≡ option_map (moved gone) (kept old n)
+kept-moved gone old new is n = ap (λ es. kept es n) is ∙ lookup-map_values (moved gone) (is_at (nat_cmp n)) old
+
+places-moved : (gone : ℕ) (o : Option TracedTableView) → places_of (option_map (moved gone) o) ≡ places_without gone (places_of o)
+places-moved gone None = refl
+places-moved gone (Some t) = refl
+
+pub traced-removed : (queues : List QueueView) (ts less : List TableTrigger) (place : ℕ) (old new : List (ℕ × TracedTableView)) → less ≡ remove ts place → place < length ts
+    → new ≡ map (λ e. (e.0, moved place e.1)) old → TracedWithin queues ts old → TracedWithin queues less new
+traced-removed queues ts less place old new is lt moves within =
+    subst (λ xs. TracedWithin queues xs new) (sym is) (record {
+      stand = all-removed (λ (t : TableTrigger). Stands queues t.trigger.queue) ts place within.stand;
+      places = λ n. ap places_of (kept-moved place old new moves n) ∙ places-moved place (kept old n) ∙ ap (places_without place) (within.places n)
+          ∙ places-removed place 0 n place ts (omega arith) lt;
+    })
+
+pub tables-removed : (v now : QueuesView) (less : List TableTrigger) (place : ℕ) (new : List (ℕ × TracedTableView)) → v ≡ now → less ≡ remove v.triggers place
+    → new ≡ map (λ e. (e.0, moved place e.1)) v.traced → (part : RowPart) → AreTables part now → (n : ℕ) → IsTraced part n less (kept new n)
+tables-removed v now less place new same is moves part are n =
+    subst (λ ts. IsTraced part n ts (kept new n)) (sym is) (subst (IsTraced part n (remove v.triggers place)) (sym (kept-moved place v.traced new moves n)) (of (kept v.traced n) (before n)))
+  where
+    before : AreTables part v
+    before = subst (AreTables part) (sym same) are
+
+    of : (o : Option TracedTableView) → IsTraced part n v.triggers o → IsTraced part n (remove v.triggers place) (option_map (moved place) o)
+    of None none = none-removed n place v.triggers none
+    of (Some t) there = there
+
+-- triggers of a set on a table are removed, one after another
+pub record Untracing (table : ℕ) (old new : QueuesView) : Type 0 where
+  pub rest : new ≡ record old { triggers = new.triggers; traced = new.traced }
+  pub left : but_sets table new.triggers ≡ but_sets table old.triggers
+  pub tables : (part : RowPart) → AreTables part old → AreTables part new
+
+pub untracing-first : (table : ℕ) (v : QueuesView) → Untracing table v v
+untracing-first table v = record { rest = refl; left = refl; tables = λ part are. are }
+
+pub untracing-next : (table place : ℕ) (old cur next : QueuesView) → Some place ≡ position (is_sets table) cur.triggers → next.triggers ≡ remove cur.triggers place
+    → next ≡ record cur { triggers = next.triggers; traced = next.traced } → ((part : RowPart) → AreTables part cur → AreTables part next) → Untracing table old cur → Untracing table old next
+untracing-next table place old cur next found removed rest tables is = record {
+  rest = rest ∙ ap (λ (v : QueuesView). record v { triggers = next.triggers; traced = next.traced }) is.rest;
+  left = ap (but_sets table) removed ∙ sets-removed table place cur.triggers (sym found) ∙ is.left;
+  tables = λ part are. tables part (is.tables part are);
+}
+
+-- there is none any more
+pub untraced-as : (table : ℕ) (old now : QueuesView) → None ≡ position (is_sets table) now.triggers → Untracing table old now
+    → (beside : Beside) → seen_with beside now ≡ after_mark (seen_with beside old) (queued (untraced table))
+untraced-as table old now none is beside =
+    ap (seen_with beside) is.rest ∙ (λ i. record (seen_with beside old) { triggers = (sym (none-left table now.triggers (sym none)) ∙ is.left) i })

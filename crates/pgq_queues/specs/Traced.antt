@@ -1,5 +1,5 @@
 -- What is kept of triggers, and of tables with triggers.
-use Rattle.std.specs.Prelude.{◌≡◌, ℕ, ◌<◌, false, List, [], Option, Some, None, option_map, length, map, slice_get, slice_index_or}
+use Rattle.std.specs.Prelude.{◌≡◌, ℕ, suc, ◌-◌, nat_lt, ◌==◌, false, not, List, [], ◌∷◌, Option, Some, None, option_map, map, filter, slice_get, slice_index_or, if◌then◌else◌}
 use Rattle.std.specs.List.{All}
 use Rattle.sky_val.specs.declared.column.Column.{Column}
 use Rattle.sky_model.specs.Triggers.{TableTrigger, triggers_of}
@@ -23,15 +23,26 @@ traced_by triggers t = record { name = t.name; columns = t.columns; triggers = t
 abbrev pub traced_at : QueuesView → ℕ → Option TracedView
 traced_at q n = option_map (traced_by (triggers_of n q.triggers)) (kept q.traced n)
 
+-- the places of a table's triggers, if the first of all is at this one
+abbrev pub places_from : (first table : ℕ) → List TableTrigger → List ℕ
+places_from first table [] = []
+places_from first table (t ∷ ts) = if t.table == table then first ∷ places_from (suc first) table ts else places_from (suc first) table ts
+
+-- places once one of them is gone: those behind it have moved
+abbrev pub place_after : (gone place : ℕ) → ℕ
+place_after gone place = if nat_lt gone place then place - 1 else place
+
+abbrev pub places_without : (gone : ℕ) → List ℕ → List ℕ
+places_without gone places = map (place_after gone) (filter (λ p. not (p == gone)) places)
+
 -- the places of a table, which has none if nothing is kept of it
 abbrev pub places_of : Option TracedTableView → List ℕ
 places_of None = []
 places_of (Some t) = t.places
 
--- there are these places, and at them are a table's triggers
-pub record ArePlaced (triggers : List TableTrigger) (table : ℕ) (places : List ℕ) : Type 0 where
-  pub within : All (λ place. place < length triggers) places
-  pub own : triggers_at triggers places ≡ triggers_of table triggers
+-- these are the places of a table's triggers
+abbrev pub ArePlaced : List TableTrigger → (table : ℕ) → (places : List ℕ) → Type 0
+ArePlaced triggers table places = places ≡ places_from 0 table triggers
 
 -- each trigger's events go to a queue that stands, and what is kept of a table are the places of its own
 pub record TracedWithin (queues : List QueueView) (triggers : List TableTrigger) (traced : List (ℕ × TracedTableView)) : Type 0 where

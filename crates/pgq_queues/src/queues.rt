@@ -1,19 +1,19 @@
-ghost use Rattle.std.specs.Prelude.{◌≡◌, ℕ, ◌+◌, ◌-◌, ◌<◌, ◌^◌, [], ◌==◌, true, Some, None, is_ok, Ok, IfOk, IfErr, OnOk, OnErr, IfSome, IfNone, option_copied, option_map, length, is_some, ◌↔◌, ◌≤◌, Err, find, slice_index_or, false};
-ghost use Rattle.std.specs.List.{All};
+ghost use Rattle.std.specs.Prelude.{◌≡◌, ℕ, ◌+◌, ◌-◌, ◌<◌, ◌^◌, [], ◌==◌, true, Some, None, is_ok, Ok, IfOk, IfErr, OnOk, OnErr, IfSome, IfNone, option_copied, option_map, length, is_some, ◌↔◌, ◌≤◌, Err, find, slice_index_or, false, bytes_eq};
+ghost use Rattle.std.specs.List.{All, position, remove};
 ghost use Rattle.sky_model.specs.Config.{Config, param_of};
 ghost use Rattle.sky_model.specs.Consumers.{Subscription};
-ghost use Rattle.sky_model.specs.History.{queued, made, raised, put, ticked, registered, moved, unregistered, opened, closed, configured, dropped, traced};
+ghost use Rattle.sky_model.specs.History.{queued, made, raised, put, ticked, registered, moved, unregistered, opened, closed, configured, dropped, traced, untraced};
 ghost use Rattle.pgq_tick.specs.Config.{set_to};
 ghost use Rattle.sky_model.specs.Moment.{HasMoment, IsTime};
 ghost use Rattle.sky_model.specs.Printed.{EventsHaveMoments};
-ghost use Rattle.sky_model.specs.Queues.{NamedQueue, queue_number};
+ghost use Rattle.sky_model.specs.Queues.{NamedQueue, queue_number, queue_name};
 ghost use Rattle.sky_model.specs.Selection.{selected};
 ghost use Rattle.sky_model.specs.ShownRows.{snapshot_now};
 ghost use Rattle.sky_model.specs.State.{RowPart, after_mark};
 ghost use Rattle.sky_model.specs.StepConsumer.{batch_info_of};
 ghost use Rattle.sky_model.specs.StepQueue.{newest_id};
 ghost use Rattle.sky_model.specs.StepTrigger.{has_trigger};
-ghost use Rattle.sky_model.specs.Triggers.{triggers_of};
+ghost use Rattle.sky_model.specs.Triggers.{is_sets, triggers_of};
 ghost use Rattle.pgq_queues.specs.Seen.{kept, seen_with, seen_queue, seen_batch, seen_span, reads_at, unnamed, queues_of, queue_at, batch_at, no_queues, Stands, Beside};
 ghost use Rattle.pgq_queues.specs.Batches.{StillStand, but_of};
 ghost use Rattle.pgq_queues.specs.Looked.{most_in};
@@ -150,6 +150,16 @@ impl Queues {
             }
         }
         None
+    }
+
+    /// Whether the queue of this number has this name. One that doesn't stand has the empty name.
+    pub fn has_name(&self, number: usize, name: &Text) -> bool
+        ensures { result ≡ bytes_eq (queue_name number (queues_of self.now)) name.now }
+    {
+        match self.name(number) {
+            Some(own) => *own == *name,
+            None => name.bytes().is_empty(),
+        }
     }
 
     /// The queue of this number.
@@ -465,6 +475,41 @@ impl Queues {
         self.keep_table(name, schema, trigger.table)?;
         self.store_trigger(trigger)?;
         Ok(())
+    }
+
+    /// The table has no trigger of a set any more.
+    pub fn untrace(&mut self, table: u32)
+        ensures mark { (beside : Beside) → seen_with beside self.new ≡ after_mark (seen_with beside self.old) (queued (untraced table)) }
+        ensures stand { StillStand self.old.queues self.new.queues }
+        ensures tables { (part : RowPart) → AreTables part self.old → AreTables part self.new }
+        ensures rounds { self.new.rounds ≡ self.old.rounds }
+    {
+        while let Some(place) = self.set_trigger(table) {
+            self.remove_trigger(place);
+        }
+    }
+
+    /// The place of the first trigger of a set on a table.
+    fn set_trigger(&self, table: u32) -> Option<usize>
+        ensures { result ≡ position (is_sets table) self.now.triggers }
+    {
+        self.triggers
+            .iter()
+            .position(|trigger| trigger.is_sets(table))
+    }
+
+    /// Removes the trigger at a place. Those behind it move.
+    fn remove_trigger(&mut self, place: usize)
+        requires { place < length self.old.triggers }
+        ensures triggers { self.new.triggers ≡ remove self.old.triggers place }
+        ensures rest { self.new ≡ record self.old { triggers = self.new.triggers; traced = self.new.traced } }
+        ensures tables { (part : RowPart) → AreTables part self.old → AreTables part self.new }
+    {
+        self.triggers.remove(place);
+        self.traced.retain(|_, table| {
+            table.close_gap(place);
+            true
+        });
     }
 
     /// Keeps what events say of a table, if that isn't kept yet.

@@ -1,7 +1,8 @@
 ghost use Rattle.std.specs.Prelude.{◌≡◌, ◌<◌, [], ◌∷◌, ◌++◌, OnOk, OnErr, length, slice_index_or};
 ghost use Rattle.std.specs.List.{All};
 ghost use Rattle.sky_model.specs.StepTrigger.{has_name, has_trigger};
-ghost use Rattle.pgq_queues.specs.Traced.{no_trigger, triggers_at, traced_by};
+ghost use Rattle.sky_model.specs.Triggers.{is_sets};
+ghost use Rattle.pgq_queues.specs.Traced.{no_trigger, triggers_at, traced_by, place_after, places_without};
 
 use sky_urlenc::Trigger;
 use sky_val::{NoMemory, Schema, Text};
@@ -33,6 +34,13 @@ impl TableTrigger {
             Some(own) => *own == *name,
             None => false,
         }
+    }
+
+    /// Whether it is that of a set on a table.
+    pub(crate) fn is_sets(&self, table: u32) -> bool
+        ensures { result ≡ is_sets table self.now }
+    {
+        self.table == table && self.name.is_none()
     }
 }
 
@@ -79,6 +87,16 @@ impl TracedTable {
     {
         self.places.push(place)?;
         Ok(())
+    }
+
+    /// The trigger at a place is gone, and those behind it have moved.
+    pub(crate) fn close_gap(&mut self, gone: usize)
+        ensures { self.new ≡ record self.old { places = places_without gone self.old.places } }
+    {
+        self.places.retain(|place| *place != gone);
+        for place in self.places.iter_mut() {
+            *place = place_after(gone, *place);
+        }
     }
 }
 
@@ -161,4 +179,11 @@ impl<'a> Traced<'a> {
         }
         false
     }
+}
+
+/// Where what was at a place is once the place before it is gone, if that is before it.
+fn place_after(gone: usize, place: usize) -> usize
+    ensures { result ≡ place_after gone place }
+{
+    if place > gone { place - 1 } else { place }
 }

@@ -1,21 +1,24 @@
-ghost use Rattle.std.specs.Prelude.{◌≡◌, ◌↔◌, ◌≢◌, [], true, false, None, Some, Ok, Err, IfOk, OnOk, OnErr, MatchOption, IsTrue, is_ok};
+ghost use Rattle.std.specs.Prelude.{◌≡◌, ◌↔◌, ◌≢◌, [], true, false, None, Some, Ok, Err, IfOk, OnOk, OnErr, MatchOption, IsTrue, IsSome, Option, List, ◌<◌, is_ok, length, map, take};
+ghost use Rattle.std.specs.Option.{option_copied};
+ghost use Rattle.sky_val.specs.declared.val.Val.{Val};
+ghost use Rattle.sky_keys.specs.Versions.{above, newest_but, read, rows_read, version_of, versions_at};
 ghost use Rattle.sky_keys.specs.Waits.{is_waiting};
 ghost use Rattle.sky_txid.specs.Ids.{contains};
 ghost use Rattle.sky_names.specs.Places.{place_of};
 ghost use Rattle.sky_model.specs.declared.reply.Refusal.TheVariants.{TxidsSpent};
 ghost use Rattle.sky_model.specs.InForm.{IsRowInForm};
-ghost use Rattle.sky_model.specs.History.{of_worker, began, ended};
+ghost use Rattle.sky_model.specs.History.{of_worker, began, ended, tabled, read_only, wrote};
 ghost use Rattle.sky_model.specs.Sessions.{outside};
 ghost use Rattle.sky_model.specs.State.{part_of, after_part, after_part_marks};
 ghost use Rattle.sky_model.specs.ShownRows.{snapshot_now, snapshot_for, least_writer};
 ghost use Rattle.sky_model.specs.OwnTransaction.{next_id, txid_for, begin_of, written};
 ghost use Rattle.sky_model.specs.SessionMarks.{Enters, entry, entry_place, failing, taking, ending};
-ghost use Rattle.sky_model.specs.WorkerMarks.{beginning, ending_work};
+ghost use Rattle.sky_model.specs.WorkerMarks.{beginning, ending_work, guarding};
 ghost use Rattle.sky_model.specs.Reader.{part_by_itself};
 ghost use Rattle.sky_model.specs.Gates.{by_gate, passed_all};
 ghost use Rattle.sky_model.specs.Rooms.{any_room, room_of};
 ghost use Rattle.sky_model.specs.Calls.{row_turn};
-ghost use Rattle.sky_model.specs.RowCalls.{row_stepped, row_entered, row_failed, row_settled, rolled_back, txid_taken, single_ended, worker_begun, worker_ended};
+ghost use Rattle.sky_model.specs.RowCalls.{row_stepped, row_entered, row_failed, row_settled, rolled_back, txid_taken, single_ended, worker_begun, worker_ended, row_guarded};
 ghost use Rattle.sky_model.specs.RowSteps.{RowSteps};
 ghost use Rattle.sky_model.specs.Settling.{ready, settling, with_settling};
 ghost use Rattle.sky_session.specs.Committing.{commits_of};
@@ -33,7 +36,7 @@ use sky_model::{OpenGate, Refusal, RowStmt, Where, WriteGate};
 use sky_state::RowState;
 use sky_trans::TransFault;
 use sky_txid::Snapshot;
-use sky_val::{NoMemory, Schema, SessionId, Text};
+use sky_val::{Key, NoMemory, Row, Schema, SessionId, Text};
 use std::alloc::Global;
 use std::marker::Model;
 
@@ -337,5 +340,59 @@ impl RowDb {
         } else {
             self.state.aborted_work(txid);
         }
+    }
+
+    /// One write of a worker's transaction, which may have written the key before, if nobody else has since. No trigger
+    /// fires and no lock is taken. No clause says yet what `RowSteps` says of the other calls.
+    pub fn worker_write(
+        &mut self,
+        txid: u64,
+        table: u32,
+        key: Key,
+        row: Option<Row>,
+    ) -> Result<(), NoMemory>
+        requires within { table < length (seen self.old).tables }
+        requires running { contains txid (seen self.old).workers ≡ true }
+        requires free { (seen self.old).holder table key ≡ None }
+        requires last { let versions = versions_at key ((seen self.old).versions table) in
+            IsSome (version_of txid versions) → newest_but None versions ≡ version_of txid versions }
+        ensures mark { (old : Option (List Val)) → OnOk result (seen self.new ≡ after_part (seen self.old) (tabled (wrote of_worker txid table key old row))) }
+        ensures same { OnErr result (seen self.new ≡ seen self.old) }
+    {
+        self.state.wrote_work(txid, table, key, row)?;
+        Ok(())
+    }
+
+    /// The key's row as the worker's transaction left it, or else in the snapshot.
+    pub fn worker_row(&self, txid: u64, snapshot: &Snapshot, table: u32, key: &Key) -> Option<&Row>
+        requires { table < length (seen self.now).tables }
+        ensures { option_copied result ≡ read snapshot.now (Some txid) (versions_at key.now ((seen self.now).versions table)) }
+    {
+        self.state.row_of_work(txid, snapshot, table, key)
+    }
+
+    /// The first `most` rows by key above `after`, or above none, in the snapshot. To find `after` takes time in the
+    /// logarithm of the table's keys, and the rest in the keys that are looked at until there are `most` rows.
+    pub fn rows_under(
+        &self,
+        snapshot: &Snapshot,
+        table: u32,
+        after: Option<&Key>,
+        most: usize,
+    ) -> Result<Vec<Row>, NoMemory>
+        requires { table < length (seen self.now).tables }
+        ensures { let later = above (option_copied after.entry) ((seen self.now).versions table) in
+            IfOk result (λ rows. rows.items ≡ take most (map (λ e. e.1) (rows_read snapshot.now None later))) }
+    {
+        self.state.rows_under(snapshot, table, after, most)
+    }
+
+    /// Sessions may not write the table from now on, or may again.
+    pub fn set_read_only(&mut self, table: u32, on: bool)
+        requires { table < length (seen self.old).tables }
+        ensures mark { seen self.new ≡ after_part (seen self.old) (tabled (read_only table on)) }
+        ensures steps { RowSteps (seen self.old) (seen self.new) (row_guarded table on) (guarding table on) }
+    {
+        self.state.set_read_only(table, on);
     }
 }

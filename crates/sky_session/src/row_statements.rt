@@ -1,16 +1,17 @@
 //! The statements on tables and rows. A refusal changes nothing here, so all tests come before the first change.
 //!
-//! The tests come in one order, which decides what is refused. The table has to exist; the values, the key and the
-//! changes have to fit its columns. Then `locking` looks at the key's row and its holder. Last there has to be an id
+//! The tests come in one order, which decides what is refused. The table has to exist, and sessions
+//! have to be allowed to write it; the values, the key and the changes have to fit its columns. Then `locking` looks at the key's row and its holder. Last there has to be an id
 //! for the transaction, and room in the gate.
 
 ghost use Rattle.std.specs.Prelude.{◌≡◌, ◌<◌, ℕ, List, [], ◌∷◌, ◌++◌, Option, false, None, Some, Ok, Err, IfOk, IfErr, OnOk, length};
 ghost use Rattle.sky_val.specs.Schemas.{AreNamed};
 ghost use Rattle.sky_keys.specs.Waits.{other_holder, is_waiting};
 ghost use Rattle.sky_model.specs.State.{after_part_marks};
-ghost use Rattle.sky_model.specs.Outcome.{does_marks, marks_of};
+ghost use Rattle.sky_model.specs.Outcome.{refused_if, does_marks, marks_of};
 ghost use Rattle.sky_model.specs.OwnTransaction.{txid_for, written};
 ghost use Rattle.sky_model.specs.declared.reply.Reply.TheVariants.{Number};
+ghost use Rattle.sky_model.specs.declared.reply.Refusal.TheVariants.{ReadOnly};
 ghost use Rattle.std.specs.Option.{option_copied};
 ghost use Rattle.sky_model.specs.ShownRows.{snapshot_now, rows_by};
 ghost use Rattle.sky_model.specs.StepRows.{table_called, is_seen, writes_key, create_table, insert, update, delete, get, scan};
@@ -66,6 +67,18 @@ fn table_called(state: &RowState, name: &Text) -> Result<u32, Stop>
         Some(table) => Ok(table),
         None => Err(Stop::Refused(Refusal::NoTable(name.copy(state.alloc())?))),
     }
+}
+
+/// Refuses a write of a table that sessions may not write.
+fn check_writable(state: &RowState, table: u32) -> Result<(), Refusal>
+    requires { table < length (seen state.now).tables }
+    ensures ok { OnOk result (refused_if ((seen state.now).is_read_only table) ReadOnly ≡ Ok tt) }
+    ensures err { IfErr result (λ refusal. refused_if ((seen state.now).is_read_only table) ReadOnly ≡ Err refusal) }
+{
+    if state.is_read_only(table) {
+        return Err(Refusal::ReadOnly);
+    }
+    Ok(())
 }
 
 /// Refuses a change of a row if a write of its key was committed that the session's snapshot doesn't see, unless its
@@ -206,6 +219,7 @@ pub(crate) fn insert<G: WriteGate>(
     ensures { Writes G.rule (state.old, gate.old) (state.new, gate.new) step.old step.new who result (insert (seen state.old) (rows_by (seen state.old)) who table.now row.now) }
 {
     let table = table_called(state, table)?;
+    check_writable(state, table)?;
     let schema = state.schema(table);
     row_fits(state.alloc(), schema.columns(), row)?;
     let key = schema.key_of(row)?;
@@ -226,6 +240,7 @@ pub(crate) fn update<G: WriteGate>(
     ensures { Writes G.rule (state.old, gate.old) (state.new, gate.new) step.old step.new who result (update (seen state.old) (rows_by (seen state.old)) who table.now key.now sets.now) }
 {
     let table = table_called(state, table)?;
+    check_writable(state, table)?;
     let columns = state.schema(table).columns();
     key_fits(state.alloc(), columns, key)?;
     sets_fit(state.alloc(), columns, sets.as_slice())?;
@@ -247,6 +262,7 @@ pub(crate) fn delete<G: WriteGate>(
     ensures { Writes G.rule (state.old, gate.old) (state.new, gate.new) step.old step.new who result (delete (seen state.old) (rows_by (seen state.old)) who table.now key.now) }
 {
     let table = table_called(state, table)?;
+    check_writable(state, table)?;
     key_fits(state.alloc(), state.schema(table).columns(), key)?;
     let key = key.copy(state.alloc())?;
     delete_key(state, who, LockKey { table, key }, gate, step)

@@ -1,5 +1,5 @@
 -- What a database in which nothing has happened shows.
-use Rattle.std.proofs.Common.{◌≡◌, ℕ, [], get_or, arith}
+use Rattle.std.proofs.Common.{◌≡◌, ℕ, [], false, get_or, arith}
 use Rattle.std.proofs.lemmas.List.{get_or_past}
 use Rattle.sky_model.specs.declared.stmt.Attempt.TheVariants.{Deletion}
 use Rattle.sky_model.specs.State.{part_of}
@@ -11,6 +11,7 @@ seen-no_rows = λ i. record (part_of []) {
   session = λ who. seen_session (none who rest i);
   columns = λ n. (none n no_table i).columns;
   versions = λ n. (none n no_table i).versions;
+  is_read_only = λ n. none n false i;
   attempt = λ who. none who Deletion i;
 }
   where

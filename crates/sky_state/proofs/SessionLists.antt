@@ -16,7 +16,7 @@ use Rattle.sky_model.specs.History.{of_session, ended, tabled, table_made, wrote
 use Rattle.sky_model.specs.State.{changed_at, with_txid, after_part}
 use Rattle.sky_state.specs.Views.{RowStateView}
 use Rattle.sky_state.specs.declared.session.Session.{Session}
-use Rattle.sky_state.specs.Seen.{seen_session, rest, session_of, no_table, table_of, columns_of, versions_of, wrote_in, seen}
+use Rattle.sky_state.specs.Seen.{seen_session, rest, session_of, no_table, table_of, columns_of, versions_of, wrote_in, is_read_only, seen}
 
 -- an item in place of another
 pub set-at : {A : Type 0} → (xs : List A) (i n : ℕ) (x d : A) → i < length xs → get_or (slice_set xs i x) n d ≡ (if i == n then x else get_or xs n d)
@@ -124,15 +124,16 @@ versions-made tables columns = λ i n. (ap (λ (v : TableView). v.versions) (rea
     by n false e = refl
 
 -- a table that is made has its columns, and no row
-pub made-as : (v now : RowStateView) (tables : NamedView TableView) (table : TableView) (name : List ℕ) (columns : List Column) → v ≡ now
-    → tables ≡ record { names = v.tables.names ++ name ∷ []; values = v.tables.values ++ table ∷ [] } → table ≡ made columns → length v.tables.values ≡ length v.tables.names
-    → seen (record v { tables = tables }) ≡ after_part (seen now) (tabled (table_made name columns))
-made-as v now tables table name columns same more new count =
-    ap (λ (ts : NamedView TableView). seen (record v { tables = ts })) (more ∙ ap (λ t. record { names = v.tables.names ++ name ∷ []; values = v.tables.values ++ t ∷ [] }) new)
+pub made-as : (v now : RowStateView) (tables : NamedView TableView) (guards : List Bool) (table : TableView) (name : List ℕ) (columns : List Column) → v ≡ now
+    → tables ≡ record { names = v.tables.names ++ name ∷ []; values = v.tables.values ++ table ∷ [] } → guards ≡ v.read_only ++ false ∷ [] → table ≡ made columns
+    → length v.tables.values ≡ length v.tables.names → seen (record v { tables = tables; read_only = guards }) ≡ after_part (seen now) (tabled (table_made name columns))
+made-as v now tables guards table name columns same more writable new count =
+    ap (λ (ts : NamedView TableView). seen (record v { tables = ts; read_only = guards })) (more ∙ ap (λ t. record { names = v.tables.names ++ name ∷ []; values = v.tables.values ++ t ∷ [] }) new)
     ∙ (λ i. record (seen v) {
       tables = v.tables.names ++ name ∷ [];
       columns = (columns-made v.tables.values columns ∙ ap (λ n. changed_at n (λ _. columns) (columns_of v.tables.values)) count) i;
       versions = versions-made v.tables.values columns i;
+      is_read_only = (ap is_read_only writable ∙ (λ j n. read-padded v.read_only n false j)) i;
     })
     ∙ ap (λ (w : RowStateView). after_part (seen w) (tabled (table_made name columns))) same
 

@@ -1,11 +1,12 @@
 -- The marks of workers' transactions, in what the code keeps.
-use Rattle.std.proofs.Common.{◌≡◌, ℕ, ◌+◌, List, [], ◌∷◌, ◌++◌, true, false, not, ◌&&◌, ◌==◌, filter, ap, ◌∙◌}
+use Rattle.std.proofs.Common.{◌≡◌, ℕ, ◌+◌, List, [], ◌∷◌, ◌++◌, true, false, not, ◌&&◌, ◌||◌, ◌==◌, Option, filter, ap, ◌∙◌}
 use Rattle.sky_names.specs.Named.{NamedView}
-use Rattle.sky_keys.specs.Versions.{forgotten}
+use Rattle.sky_val.specs.declared.val.Val.{Val}
+use Rattle.sky_keys.specs.Versions.{written, forgotten}
 use Rattle.sky_trans.specs.Trans.{TransView}
 use Rattle.sky_rows.specs.Table.{TableView}
-use Rattle.sky_model.specs.History.{of_worker, began, ended}
-use Rattle.sky_model.specs.State.{after_part}
+use Rattle.sky_model.specs.History.{of_worker, began, ended, tabled, wrote}
+use Rattle.sky_model.specs.State.{changed_at, after_part}
 use Rattle.sky_state.specs.Views.{RowStateView}
 use Rattle.sky_state.specs.Seen.{columns_of, versions_of, wrote_in, seen}
 
@@ -16,6 +17,15 @@ pub work_begun-as : (v now : RowStateView) (trans : TransView) (workers : List �
 work_begun-as v now trans workers t same more one =
     (λ i. record (seen v) { next = (more i).next; running_ids = (more i).running; workers = one i })
     ∙ ap (λ (w : RowStateView). after_part (seen w) (began of_worker t)) same
+
+-- a write counts its transaction as a writer of the table, and takes no key
+pub work_wrote-as : (v now : RowStateView) (tables : List TableView) (writers : List (ℕ × ℕ)) (t table : ℕ) (key : List Val) (old row : Option (List Val)) → v ≡ now
+    → columns_of tables ≡ columns_of v.tables.values → versions_of tables ≡ changed_at table (written t key row) (versions_of v.tables.values)
+    → wrote_in writers ≡ (λ n u. (table == n && t == u) || wrote_in v.writers n u)
+    → seen (record v { tables = record v.tables { values = tables }; writers = writers }) ≡ after_part (seen now) (tabled (wrote of_worker t table key old row))
+work_wrote-as v now tables writers t table key old row same columns versions writes =
+    (λ i. record (seen v) { columns = columns i; versions = versions i; wrote_in = writes i })
+    ∙ ap (λ (w : RowStateView). after_part (seen w) (tabled (wrote of_worker t table key old row))) same
 
 -- one that has committed doesn't
 pub work_committed-as : (v now : RowStateView) (trans : TransView) (workers : List ℕ) (writers : List (ℕ × ℕ)) (t : ℕ) → v ≡ now

@@ -1,13 +1,15 @@
 -- The bits that record which transactions have written in a table.
-use Rattle.std.proofs.Common.{◌≡◌, ℕ, zero, suc, ◌<◌, ◌≤◌, ◌^◌, List, Bool, true, false, cond, bit_or, unwrap_or, Option, Some, None, refl, sym, ◌∙◌, ap, arith}
+use Rattle.std.proofs.Common.{◌≡◌, ℕ, zero, suc, ◌<◌, ◌≤◌, ◌^◌, List, Bool, true, false, cond, bit_or, unwrap_or, Option, Some, None, refl, sym, IsSome, subst, ◌∙◌, ap, arith}
 use Rattle.std.specs.Prelude.{◌||◌, ◌&&◌, ◌==◌}
 use Prim.Native.Nat.{max}
 use Rattle.std.specs.Int.{bit_at}
-use Rattle.std.specs.Map.{lookup}
+use Rattle.std.specs.Map.{lookup, set_value}
 use Rattle.std.specs.BTreeMap.{is_at}
 use Rattle.std.specs.Ordering.{nat_cmp}
 use Rattle.std.specs.Option.{option_map_or}
-use Rattle.std.specs.Cmp.{unsigned_tied}
+use Rattle.std.specs.Cmp.{unsigned_tied, IsEquivalence}
+use Rattle.std.proofs.lemmas.Cmp.{nat_eq_equiv}
+use Rattle.std.proofs.lemmas.Map.{lookup-set_value}
 use Rattle.std.proofs.lemmas.Bool.Decides.{nat_tests}
 use Rattle.std.proofs.lemmas.Nat.Bits.{bit_at_or, bit_at-pow_same, bit_at-pow_other, bit_at-zero, bit_at-lt, bit_at_above}
 use Rattle.sky_state.specs.Seen.{wrote_in}
@@ -61,3 +63,17 @@ added old new table txid bits bit had one is n t =
     of true e false f = ap (λ m. bit_at (bit_or bits m) n == 1) one ∙ more-set bits table n ∙ ap (λ b. b || (bit_at bits n == 1)) f ∙ sym (here old txid bits n t had e)
     of false e true f = refl
     of false e false f = refl
+
+-- what is found after the value of a key that is there was set
+pub found-set : (k bits : ℕ) (es : List (ℕ × ℕ)) → IsSome (lookup (is_at (nat_cmp k)) es) → (t : ℕ)
+    → lookup (is_at (nat_cmp t)) (set_value (is_at (nat_cmp k)) es bits) ≡ cond (is_at (nat_cmp k) t) (Some bits) (lookup (is_at (nat_cmp t)) es)
+found-set k bits es there t = lookup-set_value laws (is_at (nat_cmp k)) alike t bits es there
+  where
+    laws : IsEquivalence (λ x y. is_at (nat_cmp x) y)
+    laws = subst IsEquivalence (λ i x y. sym (unsigned_tied x y) i) nat_eq_equiv
+
+    alike : (x y : ℕ) → is_at (nat_cmp k) x ≡ true → is_at (nat_cmp k) y ≡ is_at (nat_cmp x) y
+    alike x y hit =
+        let tied : (k == x) ≡ true = sym (unsigned_tied k x) ∙ hit in
+        let same : k ≡ x = grind (arith, nat_tests) in
+        ap (λ m. is_at (nat_cmp m) y) same

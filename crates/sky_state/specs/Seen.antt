@@ -56,6 +56,10 @@ versions_of tables n = (table_of tables n).versions
 abbrev pub wrote_in : List (ℕ × ℕ) → (table t : ℕ) → Bool
 wrote_in writers table t = option_map_or (λ tables. bit_at tables table == 1) (lookup (is_at (nat_cmp t)) writers) false
 
+-- whether sessions may not write a table
+abbrev pub is_read_only : List Bool → ℕ → Bool
+is_read_only tables n = slice_index_or tables n false
+
 -- what a session that waits attempts
 abbrev pub attempt_of : List Attempt → ℕ → Attempt
 attempt_of attempts who = slice_index_or attempts who Deletion
@@ -70,6 +74,7 @@ seen d = record {
   columns = columns_of d.tables.values;
   versions = versions_of d.tables.values;
   wrote_in = wrote_in d.writers;
+  is_read_only = is_read_only d.read_only;
   holder = holder d.locks;
   waiting = d.locks.waiting;
   attempt = attempt_of d.attempts;

@@ -1,5 +1,5 @@
 -- What contracts see of the transactions, sessions, tables and locks of a database, as the code keeps them.
-use Rattle.std.specs.Prelude.{ℕ, List, []}
+use Rattle.std.specs.Prelude.{ℕ, Bool, List, []}
 use Rattle.sky_names.specs.Named.{NamedView}
 use Rattle.sky_trans.specs.Trans.{TransView}
 use Rattle.sky_rows.specs.Table.{TableView}
@@ -14,6 +14,8 @@ pub record RowStateView : Type 0 where
   -- each session at its number; further ones are at rest
   pub sessions : List Session
   pub tables : NamedView TableView
+  -- whether sessions may not write a table, at its number
+  pub read_only : List Bool
   -- the transactions that have written, each with a number whose bit at a table's number says whether it wrote there
   pub writers : List (ℕ × ℕ)
   pub locks : LocksView
@@ -22,4 +24,4 @@ pub record RowStateView : Type 0 where
 
 -- those of a database in which nothing has happened
 abbrev pub no_rows : RowStateView
-no_rows = record { trans = record { next = 3; running = [] }; workers = []; sessions = []; tables = record { names = []; values = [] }; writers = []; locks = record { held = []; waiting = [] }; attempts = [] }
+no_rows = record { trans = record { next = 3; running = [] }; workers = []; sessions = []; tables = record { names = []; values = [] }; read_only = []; writers = []; locks = record { held = []; waiting = [] }; attempts = [] }

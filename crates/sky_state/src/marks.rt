@@ -4,7 +4,7 @@
 ghost use Rattle.std.specs.Prelude.{◌≡◌, ◌+◌, ◌-◌, ◌<◌, ◌^◌, [], ◌∷◌, true, false, None, Some, IfOk, OnOk, OnErr, length};
 ghost use Rattle.sky_keys.specs.Waits.{other_holder, is_waiting};
 ghost use Rattle.sky_names.specs.Places.{place_of};
-ghost use Rattle.sky_model.specs.History.{of_session, began, ended, block_begun, repeats, looked, block_failed, block_ended, connected, disconnected, tabled, table_made, wrote, waited};
+ghost use Rattle.sky_model.specs.History.{of_session, began, ended, block_begun, repeats, looked, block_failed, block_ended, connected, disconnected, tabled, table_made, wrote, waited, read_only};
 ghost use Rattle.sky_model.specs.State.{after_part, after_part_marks};
 ghost use Rattle.sky_keys.specs.Versions.{written, forgotten};
 ghost use Rattle.sky_state.specs.Seen.{seen, columns_of, versions_of};
@@ -118,7 +118,9 @@ impl RowState {
         ensures { OnOk result (seen self.new ≡ after_part (seen self.old) (tabled (table_made name schema))) }
     {
         let table = Table::new(self.alloc, schema);
+        self.read_only.reserve(1)?;
         self.tables.add(name, table)?;
+        self.read_only.push_reserved(false);
         Ok(())
     }
 
@@ -188,6 +190,14 @@ impl RowState {
         let txid = self.trans.spend();
         self.writers.end(txid);
         self.locks.release(who);
+    }
+
+    /// Sessions may not write the table from now on, or may again.
+    pub fn set_read_only(&mut self, table: u32, on: bool)
+        requires { table < length (seen self.old).tables }
+        ensures { seen self.new ≡ after_part (seen self.old) (tabled (read_only table on)) }
+    {
+        self.read_only[table as usize] = on;
     }
 
     /// The session no longer waits. The answer is what it attempted.

@@ -31,22 +31,24 @@ pub struct RowState {
     pub(crate) workers: Vec<u64>,
     pub(crate) sessions: Sessions,
     pub(crate) tables: Named<Table>,
+    // Whether sessions may not write the table of each number.
+    pub(crate) read_only: Vec<bool>,
     pub(crate) writers: Writers,
     pub(crate) locks: Locks,
     pub(crate) attempts: Attempts,
 }
 
 impl Model for RowState {
-    ghost use Rattle.std.specs.Prelude.{◌≤◌, length};
+    ghost use Rattle.std.specs.Prelude.{◌≡◌, ◌≤◌, length};
     ghost use Rattle.sky_state.specs.Views.{RowStateView};
     ghost use Rattle.sky_state.specs.Seen.{session_of};
     ghost use Rattle.sky_state.specs.Owned.{AreOwned, AreWithin};
 
     ghost Value = { RowStateView };
 
-    ghost view = { λ d. record { trans = d.trans; workers = d.workers.items; sessions = d.sessions; tables = d.tables; writers = d.writers; locks = d.locks; attempts = d.attempts } };
+    ghost view = { λ d. record { trans = d.trans; workers = d.workers.items; sessions = d.sessions; tables = d.tables; read_only = d.read_only.items; writers = d.writers; locks = d.locks; attempts = d.attempts } };
 
-    ghost invariant = { λ d. (length d.tables.names ≤ 64) × (AreOwned (session_of d.sessions) d.trans.running d.workers.items × AreWithin (length d.tables.names) d.locks.waiting) };
+    ghost invariant = { λ d. ((length d.tables.names ≤ 64) × (length d.read_only.items ≡ length d.tables.names)) × (AreOwned (session_of d.sessions) d.trans.running d.workers.items × AreWithin (length d.tables.names) d.locks.waiting) };
 }
 
 impl RowState {
@@ -60,6 +62,7 @@ impl RowState {
             workers: Vec::new(alloc),
             sessions: Sessions::new(alloc),
             tables: Named::new(alloc),
+            read_only: Vec::new(alloc),
             writers: Writers::new(alloc),
             locks: Locks::new(alloc),
             attempts: Attempts::new(alloc),
@@ -168,6 +171,14 @@ impl RowState {
         ensures versions { result.now.versions ≡ (seen self.now).versions number }
     {
         self.tables.get(number as usize)
+    }
+
+    /// Whether sessions may not write the table.
+    pub fn is_read_only(&self, table: u32) -> bool
+        requires { table < length (seen self.now).tables }
+        ensures { result ≡ (seen self.now).is_read_only table }
+    {
+        self.read_only[table as usize]
     }
 
     /// The least running transaction that has written a row of the table.

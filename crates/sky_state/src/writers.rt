@@ -1,5 +1,8 @@
 ghost use Rattle.std.specs.Int.{bit_at};
-ghost use Rattle.std.specs.Prelude.{◌≡◌, ◌<◌, ◌==◌, ◌&&◌, ◌||◌, not, find, [], OnOk, OnErr};
+ghost use Rattle.std.specs.Prelude.{◌≡◌, ◌<◌, ◌==◌, ◌&&◌, ◌||◌, not, find, [], IsSome, OnOk, OnErr};
+ghost use Rattle.std.specs.Map.{lookup};
+ghost use Rattle.std.specs.BTreeMap.{is_at};
+ghost use Rattle.std.specs.Ordering.{nat_cmp};
 ghost use Rattle.sky_state.specs.Seen.{wrote_in};
 
 use sky_val::NoMemory;
@@ -61,6 +64,29 @@ impl Writers {
         }
         self.tables.insert(txid, tables | 1 << table)?;
         Ok(())
+    }
+
+    /// Makes a place for the transaction, so that `note` takes no memory for it.
+    pub(crate) fn make_room(&mut self, txid: u64) -> Result<(), NoMemory>
+        ensures room { OnOk result (IsSome (lookup (is_at (nat_cmp txid)) self.new)) }
+        ensures same { wrote_in self.new ≡ wrote_in self.old }
+    {
+        if self.tables.get(&txid).is_none() {
+            self.tables.insert(txid, 0)?;
+        }
+        Ok(())
+    }
+
+    /// The transaction, which has a place, has written in the table.
+    pub(crate) fn note(&mut self, table: u32, txid: u64)
+        requires table { table < 64 }
+        requires room { IsSome (lookup (is_at (nat_cmp txid)) self.old) }
+        ensures { wrote_in self.new ≡ (λ n t. (table == n && txid == t) || wrote_in self.old n t) }
+    {
+        let Some(tables) = self.tables.get_mut(&txid) else {
+            unreachable!()
+        };
+        *tables |= 1 << table;
     }
 
     /// The transaction has ended.

@@ -5,43 +5,43 @@ use Rattle.sky_model.specs.StepTrigger.{has_trigger, may_ignore}
 use Rattle.sky_model.specs.Triggers.{TableTrigger, triggers_of}
 use Rattle.sky_state.specs.Seen.{seen}
 use Rattle.pgq_db.specs.Views.{DbView}
-use Rattle.pgq_db.specs.Seen.{seen_database}
+use Rattle.pgq_db.specs.Seen.{with_node, seen_database}
 use Rattle.pgq_db.proofs.Databases.{marked-as, table-there, queue-known, bad-column}
 use Rattle.pgq_db.proofs.Tables.{is-table}
 use Rattle.pgq_db.proofs.Agreeing.{agree-traced}
 use Rattle.pgq_db.proofs.db.Db.add_trigger.Goals as goal
 
-pub returns-in_err-queue : goal.returns-in_err-queue
-returns-in_err-queue c =
+pub returns-in_err-number_of_queue : goal.returns-in_err-number_of_queue
+returns-in_err-number_of_queue c =
     let there = table-there _ _ c.args.table.now c.in-Some.number c.self.view_is c.in-Some.ensures.0 in
-    let stops = c.in_err-queue.ensures.err (seen c.self.inside.rows) in
+    let stops = c.in_err-number_of_queue.ensures.err (with_node c.self.inside.node (seen c.self.inside.rows)) in
     search (rules, there, stops)
 
 pub returns-then-has_trigger : goal.returns-then-has_trigger
 returns-then-has_trigger c =
     let there = table-there _ _ c.args.table.now c.in-Some.number c.self.view_is c.in-Some.ensures.0 in
-    let known = queue-known _ _ c.args.queue.now c.in_ok-queue.queue c.self.view_is c.in_ok-queue.ensures.ok in
+    let known = queue-known _ _ c.args.queue.now c.in_ok-number_of_queue.number_of_queue c.self.view_is c.in_ok-number_of_queue.ensures.ok in
     search (rules, there, known)
 
 pub returns-then-trigger_count-most : goal.returns-then-trigger_count-most
 returns-then-trigger_count-most c =
     let there = table-there _ _ c.args.table.now c.in-Some.number c.self.view_is c.in-Some.ensures.0 in
-    let known = queue-known _ _ c.args.queue.now c.in_ok-queue.queue c.self.view_is c.in_ok-queue.ensures.ok in
+    let known = queue-known _ _ c.args.queue.now c.in_ok-number_of_queue.number_of_queue c.self.view_is c.in_ok-number_of_queue.ensures.ok in
     search (rules, there, known)
 
 pub returns-in-Some-least_writer : goal.returns-in-Some-least_writer
 returns-in-Some-least_writer c =
     let there = table-there _ _ c.args.table.now c.in-Some.number c.self.view_is c.in-Some.ensures.0 in
-    let known = queue-known _ _ c.args.queue.now c.in_ok-queue.queue c.self.view_is c.in_ok-queue.ensures.ok in
+    let known = queue-known _ _ c.args.queue.now c.in_ok-number_of_queue.number_of_queue c.self.view_is c.in_ok-number_of_queue.ensures.ok in
     search (rules, there, known)
 
 pub returns-in-Some-first_bad : goal.returns-in-Some-first_bad
 returns-in-Some-first_bad c =
     let n = c.in-Some.number in (
       record {
-        refused = bad-column (seen_database c.args.self.now) c.args.name.now c.args.table.now c.args.queue.now c.args.backup c.args.ignored.now n c.in_ok-queue.queue c.in_ok-column.column
-            (table-there _ _ c.args.table.now n c.self.view_is c.in-Some.ensures.0) (queue-known _ _ c.args.queue.now c.in_ok-queue.queue c.self.view_is c.in_ok-queue.ensures.ok)
-            (ap (λ (v : DbView). has_trigger c.args.name.now (triggers_of n v.queues.triggers)) (sym c.self.view_is) ∙ sym c.has_trigger.ensures ∙ c.if-has_trigger.false)
+        refused = bad-column (seen_database c.args.self.now) c.args.name.now c.args.table.now c.args.queue.now c.args.backup c.args.ignored.now n c.in_ok-number_of_queue.number_of_queue c.in_ok-column.column
+            (table-there _ _ c.args.table.now n c.self.view_is c.in-Some.ensures.0) (queue-known _ _ c.args.queue.now c.in_ok-number_of_queue.number_of_queue c.self.view_is c.in_ok-number_of_queue.ensures.ok)
+            (sym c.is_set_queue.ensures ∙ c.if-is_set_queue.false) (ap (λ (v : DbView). has_trigger c.args.name.now (triggers_of n v.queues.triggers)) (sym c.self.view_is) ∙ sym c.has_trigger.ensures ∙ c.if-has_trigger.false)
             (subst (λ m. m < 8) (c.trigger_count.ensures ∙ ap (λ (v : DbView). length (triggers_of n v.queues.triggers)) c.self.view_is) (subst (λ m. c.trigger_count.result < m) c.most.ensures c.if-trigger_count-most.false))
             (ap (λ schema. find (λ x. not (may_ignore schema x)) c.args.ignored.now) (sym (c.in-Some.ensures.1 ∙ ap (λ (v : DbView). (seen v.rows).columns n) c.self.view_is))
             ∙ ap (find (λ x. not (may_ignore c.in-Some.schema.now x))) (sym c.as_slice.ensures) ∙ sym c.in-Some-first_bad.ensures ∙ ap Some (sym c.in_ok-column.ensures));
@@ -74,6 +74,6 @@ invariant_of-self-2 c =
 pub returns : goal.returns
 returns c =
     let there = table-there _ _ c.args.table.now c.in-Some.number c.self.view_is c.in-Some.ensures.0 in
-    let known = queue-known _ _ c.args.queue.now c.in_ok-queue.queue c.self.view_is c.in_ok-queue.ensures.ok in
+    let known = queue-known _ _ c.args.queue.now c.in_ok-number_of_queue.number_of_queue c.self.view_is c.in_ok-number_of_queue.ensures.ok in
     let mark = marked-as _ _ c.trace.new.self (λ _. traced c.in_ok-trigger.trigger.table c.in_ok-trigger.trigger.name c.in_ok-trigger.trigger.trigger) c.self.view_is c.in_ok-trace.ensures.ok in
     search (rules, there, known, mark)

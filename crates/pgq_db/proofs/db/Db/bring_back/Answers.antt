@@ -6,7 +6,7 @@ use Rattle.sky_model.specs.State.{Database, after_marks}
 use Rattle.sky_state.specs.Seen.{seen}
 use Rattle.pgq_queues.specs.Seen.{seen_with}
 use Rattle.pgq_db.specs.Views.{DbView}
-use Rattle.pgq_db.specs.Seen.{seen_database}
+use Rattle.pgq_db.specs.Seen.{with_node, seen_database}
 use Rattle.pgq_db.proofs.Agreeing.{agree-back}
 use Rattle.pgq_db.proofs.RetrySteps.{brought-back}
 use Rattle.pgq_db.proofs.db.Db.bring_back.Goals as goal
@@ -23,8 +23,8 @@ invariant_of-self-2 c = λ e.
 
 pub returns-clause-changed : goal.returns-clause-changed
 returns-clause-changed c =
-    let left : Database = seen_with (seen c.work_alone.new.rows) c.bring_back.new.self in
+    let left : Database = seen_with (with_node c.self.inside.node (seen c.work_alone.new.rows)) c.bring_back.new.self in
     subst (λ (now : ℤ). left ≡ after_marks (seen_database c.args.self.now) (marks_of (maint_retry_events (seen_database c.args.self.now) now))) (to_z-of_z w64 c.args.now c.ranges.now)
     (subst (λ (v : DbView). left ≡ after_marks (seen_database v) (marks_of (maint_retry_events (seen_database v) (to_z w64 (of_z w64 c.args.now))))) c.self.view_is
-    (brought-back (seen_with (seen c.self.inside.rows) c.self.inside.queues) left (seen c.work_alone.new.rows) (to_z w64 (of_z w64 c.args.now)) c.in_ok-txid.txid c.due_count.result
-    c.in_ok-txid.ensures.id c.due_count.ensures c.if-due_count-eq0.false c.in_ok-txid.ensures.marks (c.in_ok-count.ensures.marks (seen c.work_alone.new.rows))))
+    (brought-back (seen_with (with_node c.self.inside.node (seen c.self.inside.rows)) c.self.inside.queues) left (seen c.work_alone.new.rows) (to_z w64 (of_z w64 c.args.now)) c.in_ok-txid.txid c.due_count.result
+    c.in_ok-txid.ensures.id c.due_count.ensures c.if-due_count-eq0.false c.in_ok-txid.ensures.marks (c.in_ok-count.ensures.marks (with_node c.self.inside.node (seen c.work_alone.new.rows)))))

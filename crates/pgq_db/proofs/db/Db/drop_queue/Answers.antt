@@ -18,7 +18,7 @@ returns-in-Some c =
     c.consumer_count-consumers.ensures ∙ ap (λ (q : Queue). length q.members) c.queue.ensures ∙ ap (λ (v : DbView). length (queue_at v.queues c.in_ok-queue.queue).members) c.self.view_is in
     let none : length (d.queue c.in_ok-queue.queue).members ≡ 0 = omega (arith, count, c.if-consumers-gt0.false) in (
       record {
-        refused = drop-triggers d c.args.name.now c.in_ok-queue.queue c.in_ok-queue.ensures.ok c.in-Some.trigger.now c.in_ok-name.name none
+        refused = drop-triggers d c.args.name.now c.in_ok-queue.queue c.in_ok-queue.ensures.ok (sym c.is_set_queue.ensures ∙ c.if-is_set_queue.false) c.in-Some.trigger.now c.in_ok-name.name none
             (c.in-Some.ensures ∙ ap (λ (v : DbView). find (λ (t : TableTrigger). t.trigger.queue == c.in_ok-queue.queue) v.queues.triggers) c.self.view_is) c.in_ok-name.ensures;
         same = refl;
       },

@@ -5,7 +5,7 @@ use Rattle.sky_model.specs.StepRotation.{maint_rotate_step2}
 use Rattle.sky_state.specs.Seen.{seen}
 use Rattle.pgq_queues.specs.Seen.{seen_with}
 use Rattle.pgq_db.specs.Views.{DbView}
-use Rattle.pgq_db.specs.Seen.{seen_database}
+use Rattle.pgq_db.specs.Seen.{with_node, seen_database}
 use Rattle.pgq_db.proofs.Agreeing.{agree-worked}
 use Rattle.pgq_db.proofs.RotationSteps.{steps-made}
 use Rattle.pgq_db.proofs.db.Db.end_switches.Goals as goal
@@ -18,7 +18,7 @@ pub returns-clause-changed : goal.returns-clause-changed
 returns-clause-changed c =
     let p : RowPart = seen c.self.inside.rows in
     let after : RowPart = seen c.work_alone.new.rows in
-    let d : Database = seen_with p c.self.inside.queues in
-    let left : Database = seen_with after c.end_switches.new.self in
+    let d : Database = seen_with (with_node c.self.inside.node p) c.self.inside.queues in
+    let left : Database = seen_with (with_node c.self.inside.node after) c.end_switches.new.self in
     subst (λ (v : DbView). left ≡ after_marks (seen_database v) (marks_of (maint_rotate_step2 (seen_database v)))) c.self.view_is
-    (steps-made d c.unfinished-count.result (c.unfinished-count.ensures p) left after c.in_ok-txid.txid c.if-count-eq0.false c.in_ok-txid.ensures.id c.in_ok-txid.ensures.marks (c.end_switches.ensures.marks after))
+    (steps-made d c.unfinished-count.result (c.unfinished-count.ensures (with_node c.self.inside.node p)) left after c.in_ok-txid.txid c.if-count-eq0.false c.in_ok-txid.ensures.id c.in_ok-txid.ensures.marks (c.end_switches.ensures.marks (with_node c.self.inside.node after)))

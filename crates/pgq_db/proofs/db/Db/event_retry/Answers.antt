@@ -1,4 +1,4 @@
-use Rattle.std.proofs.Common.{◌≡◌, ◌≤◌, ◌+◌, List, ◌*◌, ◌^◌, ◌<◌, pos, ◌+ℤ◌, w64, to_z, of_z, arith, refl, sym, ◌∙◌, ap, subst, not}
+use Rattle.std.proofs.Common.{◌≡◌, ◌≤◌, ◌+◌, List, ◌*◌, ◌^◌, ◌<◌, pos, ◌+ℤ◌, w64, to_z, of_z, arith, false, refl, sym, ◌∙◌, ap, subst, not}
 use Rattle.std.specs.Prelude.{find, ◌==◌}
 use Rattle.std.proofs.lemmas.Int.{ints, to_z-of_z, to_z_pos}
 use Rattle.sky_val.specs.declared.event.Event.{Event}
@@ -7,12 +7,13 @@ use Rattle.sky_model.specs.Reader.{shown_by}
 use Rattle.sky_model.specs.Retries.{retried}
 use Rattle.sky_model.specs.Selection.{selected}
 use Rattle.sky_model.specs.State.{RowPart, Database}
+use Rattle.sky_model.specs.StepConsumer.{is_nodes_batch}
 use Rattle.sky_model.specs.StepRetry.{event_retry}
 use Rattle.sky_state.specs.Seen.{seen}
 use Rattle.pgq_queues.specs.declared.batch.Span.{Span}
 use Rattle.pgq_queues.specs.Seen.{seen_with, seen_batch, seen_span, batch_at, queue_at, reads_at}
 use Rattle.pgq_db.specs.Views.{DbView}
-use Rattle.pgq_db.specs.Seen.{seen_database}
+use Rattle.pgq_db.specs.Seen.{with_node, seen_database}
 use Rattle.pgq_db.proofs.Databases.{Runs}
 use Rattle.pgq_db.proofs.RetrySteps.{no-event, gives-retry, asked-as}
 use Rattle.pgq_db.proofs.Agreeing.{agree-stay}
@@ -25,12 +26,12 @@ use Rattle.pgq_db.proofs.db.Db.event_retry.Goals as goal
 pub returns-in_default-2-clause-ran : goal.returns-in_default-2-clause-ran
 returns-in_default-2-clause-ran c =
     let p : RowPart = seen c.self.inside.rows in
-    let was : Database = seen_with p c.self.inside.queues in (
+    let was : Database = seen_with (with_node c.self.inside.node p) c.self.inside.queues in (
       record {
-        refused = no-event (seen_database c.args.self.now) c.args.now c.args.id c.args.event c.args.seconds (seen_batch c.in-Some.batch) (c.in-Some.ensures.batch ∙ ap (λ (v : DbView). batch_at v.queues c.args.id) c.self.view_is)
-            (sym c.in_default-2.is ∙ c.in_ok-found.ensures.found p ∙ ap (λ (s : Span). find (λ (e : Event). e.ev_id == c.args.event) (selected was (seen_span s))) c.span-span.ensures
+        refused = no-event (seen_database c.args.self.now) c.args.now c.args.id c.args.event c.args.seconds (seen_batch c.in-Some.batch) (c.in-Some.ensures.batch ∙ ap (λ (v : DbView). batch_at v.queues c.args.id) c.self.view_is) (sym c.is_nodes_of.ensures ∙ c.if-is_nodes_of.false)
+            (sym c.in_default-2.is ∙ c.in_ok-found.ensures.found (with_node c.self.inside.node p) ∙ ap (λ (s : Span). find (λ (e : Event). e.ev_id == c.args.event) (selected was (seen_span s))) c.span-span.ensures
             ∙ ap (λ (v : DbView). find (λ (e : Event). e.ev_id == c.args.event) (selected (seen_database v) (seen_batch c.in-Some.batch))) c.self.view_is);
-        same = c.event_in.ensures.same p ∙ ap seen_database c.self.view_is;
+        same = c.event_in.ensures.same (with_node c.self.inside.node p) ∙ ap seen_database c.self.view_is;
       },
       refl,
     )
@@ -38,8 +39,8 @@ returns-in_default-2-clause-ran c =
 pub returns-clause-ran : goal.returns-clause-ran
 returns-clause-ran c =
     let p : RowPart = seen c.self.inside.rows in
-    let was : Database = seen_with p c.self.inside.queues in
-    let left : Database = seen_with p c.retry.new.self in
+    let was : Database = seen_with (with_node c.self.inside.node p) c.self.inside.queues in
+    let left : Database = seen_with (with_node c.self.inside.node p) c.retry.new.self in
     let b = seen_batch c.in-Some.batch in
     let low : 1_000_000 * c.args.seconds < 2 ^ 63 = omega (arith, c.requires.seconds) in
     let sum : to_z w64 (of_z w64 c.args.now) +ℤ to_z w64 (1_000_000 * c.args.seconds) ≡ c.args.now +ℤ pos (1_000_000 * c.args.seconds) = λ i.
@@ -47,11 +48,11 @@ returns-clause-ran c =
     let due = ap (λ z. to_z w64 (of_z w64 z)) sum ∙ to_z-of_z w64 (c.args.now +ℤ pos (1_000_000 * c.args.seconds)) (omega (arith, ints, c.requires.time.0, c.requires.time.1, c.requires.seconds)) in
     let event = c.retried.ensures ∙ ap (λ (s : Span). retried s.sub c.in-Some-2.found) c.span-span.ensures in
     subst (λ (v : DbView). Runs (seen_database v) left c.args.replies.now c.push.new.self c.args.who (event_retry (seen_database v) (shown_by (seen_database v)).events c.args.now c.args.id c.args.event c.args.seconds)) c.self.view_is
-    (gives-retry was c.args.now c.args.id c.args.event c.args.seconds b c.in-Some.ensures.batch left c.args.who c.from-count.result c.in-Some-2.found _ c.in_ok-retry.field-0 _ _
-    (sym c.in-Some-2.is ∙ c.in_ok-found.ensures.found p ∙ ap (λ (s : Span). find (λ (e : Event). e.ev_id == c.args.event) (selected was (seen_span s))) c.span-span.ensures)
+    (gives-retry was c.args.now c.args.id c.args.event c.args.seconds b c.in-Some.ensures.batch (subst (λ (v : DbView). is_nodes_batch (seen_database v) b ≡ false) (sym c.self.view_is) (sym c.is_nodes_of.ensures ∙ c.if-is_nodes_of.false)) left c.args.who c.from-count.result c.in-Some-2.found _ c.in_ok-retry.field-0 _ _
+    (sym c.in-Some-2.is ∙ c.in_ok-found.ensures.found (with_node c.self.inside.node p) ∙ ap (λ (s : Span). find (λ (e : Event). e.ev_id == c.args.event) (selected was (seen_span s))) c.span-span.ensures)
     (λ i. record { queue = (c.span-span.ensures i).queue; sub = (c.span-span.ensures i).sub; due = due i; event = event i })
-    (c.in_ok-retry.ensures.fresh ∙ ap (λ (x : Database). not (is_asked c.span-span.result.sub c.retried.result.ev_id x.retries)) (c.event_in.ensures.same p))
-    (asked-as _ _ _ _ _ (c.in_ok-retry.ensures.mark p) (c.event_in.ensures.same p)) c.from-count.ensures
+    (c.in_ok-retry.ensures.fresh ∙ ap (λ (x : Database). not (is_asked c.span-span.result.sub c.retried.result.ev_id x.retries)) (c.event_in.ensures.same (with_node c.self.inside.node p)))
+    (asked-as _ _ _ _ _ (c.in_ok-retry.ensures.mark (with_node c.self.inside.node p)) (c.event_in.ensures.same (with_node c.self.inside.node p))) c.from-count.ensures
     c.in_ok-push.ensures.ok)
 
 pub invariant_of-self-in_err-push : goal.invariant_of-self-in_err-push

@@ -7,7 +7,7 @@ use Rattle.sky_model.specs.StepRotation.{held_back, switch_of, rotates_by_itself
 use Rattle.sky_state.specs.Seen.{seen}
 use Rattle.pgq_queues.specs.Seen.{seen_with, queue_at}
 use Rattle.pgq_db.specs.Views.{DbView}
-use Rattle.pgq_db.specs.Seen.{seen_database}
+use Rattle.pgq_db.specs.Seen.{with_node, seen_database}
 use Rattle.pgq_db.proofs.Agreeing.{agree-worked}
 use Rattle.pgq_db.proofs.RotationSteps.{absent, switched-alone}
 use Rattle.pgq_db.proofs.db.Db.rotate_alone.Goals as goal
@@ -20,10 +20,10 @@ pub returns-clause-changed : goal.returns-clause-changed
 returns-clause-changed c =
     let p : RowPart = seen c.self.inside.rows in
     let after : RowPart = seen c.work_alone.new.rows in
-    let d : Database = seen_with p c.self.inside.queues in
-    let left : Database = seen_with after c.switch.new.queues in
+    let d : Database = seen_with (with_node c.self.inside.node p) c.self.inside.queues in
+    let left : Database = seen_with (with_node c.self.inside.node after) c.switch.new.queues in
     let none : None ≡ held_back c.args.now (d.queue c.args.queue) =
     absent _ (sym c.is_some.ensures ∙ c.if-is_some.false) ∙ c.in_ok-held_back.ensures.held ∙ ap (λ (now : ℤ). held_back now (queue_at c.self.inside.queues c.args.queue)) (to_z-of_z w64 c.args.now c.ranges.now) in
     subst (λ (v : DbView). left ≡ after_marks (seen_database v) (marks_of (rotates_by_itself (seen_database v) c.args.now c.args.queue))) c.self.view_is
     (switched-alone d left after c.args.now c.args.queue c.in_ok-txid.txid none c.in_ok-txid.ensures.id c.in_ok-txid.ensures.marks
-    (c.switch.ensures.marks after ∙ ap (λ (now : ℤ). after_marks (seen_with after c.self.inside.queues) (switch_of c.args.queue c.in_ok-txid.txid now outside)) (to_z-of_z w64 c.args.now c.ranges.now)))
+    (c.switch.ensures.marks (with_node c.self.inside.node after) ∙ ap (λ (now : ℤ). after_marks (seen_with (with_node c.self.inside.node after) c.self.inside.queues) (switch_of c.args.queue c.in_ok-txid.txid now outside)) (to_z-of_z w64 c.args.now c.ranges.now)))

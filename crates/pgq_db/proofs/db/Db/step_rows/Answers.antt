@@ -12,7 +12,7 @@ use Rattle.pgq_queues.specs.Views.{QueuesView}
 use Rattle.pgq_queues.specs.Seen.{seen_with}
 use Rattle.pgq_queues.specs.EventRule.{event_rule}
 use Rattle.pgq_db.specs.Views.{DbView}
-use Rattle.pgq_db.specs.Seen.{seen_database}
+use Rattle.pgq_db.specs.Seen.{with_node, seen_database}
 use Rattle.pgq_db.specs.Gives.{Adds}
 use Rattle.pgq_db.proofs.EventsAlike.{Stepped, stepped, step-told, step-rows}
 use Rattle.pgq_db.proofs.Moments.{same-moments}
@@ -22,24 +22,26 @@ use Rattle.pgq_db.proofs.db.Db.step_rows.Goals as goal
 
 pub invariant_of-self : goal.invariant_of-self
 invariant_of-self c = λ e.
+    let node = c.self.inside.node in
     let was : QueuesView = c.switch_before.new.queues in
     let p : RowPart = seen c.self.inside.rows in
-    agree-behind_turn c.args.now _ p _ was c.set_time.new.self _ _ _ (λ alike. step-told c.args.now (seen_with p was) p c.set_time.new.self c.args.who c.args.stmt.now alike) c.set_time.ensures.time
+    agree-behind_turn c.args.now node _ p _ was c.set_time.new.self _ _ _ (λ alike. step-told c.args.now node (seen_with (with_node node p) was) p c.set_time.new.self c.args.who c.args.stmt.now alike) c.set_time.ensures.time
     (to_z-of_z w64 c.args.now c.ranges.now) (agree-stay p c.self.inside.queues was c.switch_before.ensures.rest (c.self.invariant c.if-self.false)) c.set_time.ensures.within c.in-Ok.ensures.exact.changed c.in-Ok.ensures.exact.passed
 
 pub returns-in-Ok-clause-adds : goal.returns-in-Ok-clause-adds
 returns-in-Ok-clause-adds c =
     let old : QueuesView = c.self.inside.queues in
+    let node = c.self.inside.node in
     let was : QueuesView = c.switch_before.new.queues in
     let p : RowPart = seen c.self.inside.rows in
-    let d : Database = seen_with p old in
+    let d : Database = seen_with (with_node node p) old in
     let q : QueuesView = c.set_time.new.self in
     let after : RowPart = seen c.step_into-stepped.new.self in
     let turn : Turn = row_turn (by_gate event_rule part_by_itself) (p, q) c.args.who c.args.stmt.now in
-    let same : Stepped c.args.now d (seen_with after c.step_into-stepped.new.gate) c.args.who c.args.stmt.now turn =
-    stepped c.args.now (to_z w64 (of_z w64 c.args.now)) p after old was q c.step_into-stepped.new.gate c.args.who c.args.stmt.now c.switch_before.ensures.marks c.set_time.ensures.time
+    let same : Stepped c.args.now d (seen_with (with_node node after) c.step_into-stepped.new.gate) c.args.who c.args.stmt.now turn =
+    stepped c.args.now node (to_z w64 (of_z w64 c.args.now)) p after old was q c.step_into-stepped.new.gate c.args.who c.args.stmt.now (c.switch_before.ensures.marks node) c.set_time.ensures.time
     (to_z-of_z w64 c.args.now c.ranges.now) (tables-stay p old was c.switch_before.ensures.rest (c.self.invariant c.if-self.false).tables) c.set_time.ensures.within c.in-Ok.ensures.exact.changed c.in-Ok.ensures.exact.passed in
-    subst (λ (v : DbView). Adds (seen_database v) (seen_with after c.step_into-stepped.new.gate) c.args.replies.now c.swap-2.new.y (database_turn database_by_itself (seen_database v) c.args.now c.args.who (Row c.args.stmt.now))) c.self.view_is (record {
+    subst (λ (v : DbView). Adds (seen_database v) (seen_with (with_node node after) c.step_into-stepped.new.gate) c.args.replies.now c.swap-2.new.y (database_turn database_by_itself (seen_database v) c.args.now c.args.who (Row c.args.stmt.now))) c.self.view_is (record {
       replied = c.swap-2.ensures.y_after ∙ c.in-Ok.ensures.exact.replied ∙ ap (λ before. before ++ turn.answers) c.swap.ensures.x_after ∙ ap (λ answers. c.args.replies.now ++ answers) (sym same.answers);
       changed = same.changed;
     })
@@ -47,13 +49,14 @@ returns-in-Ok-clause-adds c =
 pub returns-in-Ok-clause-moments : goal.returns-in-Ok-clause-moments
 returns-in-Ok-clause-moments c =
     let old : QueuesView = c.self.inside.queues in
+    let node = c.self.inside.node in
     let was : QueuesView = c.switch_before.new.queues in
     let p : RowPart = seen c.self.inside.rows in
     let q : QueuesView = c.set_time.new.self in
     let after : RowPart = seen c.step_into-stepped.new.self in
     let turn : Turn = row_turn (by_gate event_rule part_by_itself) (p, q) c.args.who c.args.stmt.now in
-    let same : Stepped c.args.now (seen_with p old) (seen_with after c.step_into-stepped.new.gate) c.args.who c.args.stmt.now turn =
-    stepped c.args.now (to_z w64 (of_z w64 c.args.now)) p after old was q c.step_into-stepped.new.gate c.args.who c.args.stmt.now c.switch_before.ensures.marks c.set_time.ensures.time
+    let same : Stepped c.args.now (seen_with (with_node node p) old) (seen_with (with_node node after) c.step_into-stepped.new.gate) c.args.who c.args.stmt.now turn =
+    stepped c.args.now node (to_z w64 (of_z w64 c.args.now)) p after old was q c.step_into-stepped.new.gate c.args.who c.args.stmt.now (c.switch_before.ensures.marks node) c.set_time.ensures.time
     (to_z-of_z w64 c.args.now c.ranges.now) (tables-stay p old was c.switch_before.ensures.rest (c.self.invariant c.if-self.false).tables) c.set_time.ensures.within c.in-Ok.ensures.exact.changed c.in-Ok.ensures.exact.passed in
     subst (λ (v : DbView). HaveMoments (database_turn database_by_itself (seen_database v) c.args.now c.args.who (Row c.args.stmt.now)).answers) c.self.view_is
     (same-moments _ _ same.answers (step-rows p q c.args.who c.args.stmt.now).moments)

@@ -10,7 +10,7 @@ use Rattle.pgq_db.proofs.db.Db.take_txid.Goals as goal
 
 pub returns-clause-marks : goal.returns-clause-marks
 returns-clause-marks c =
-    let left : DbView = record { rows = c.write_elsewhere.new.self; queues = c.self.inside.queues } in
+    let left : DbView = record { rows = c.write_elsewhere.new.self; queues = c.self.inside.queues; node = c.self.inside.node } in
     let begun : DbView = record left { rows = c.self.inside.rows } in
     subst (λ (v : DbView). seen_database left ≡ after_marks (seen_database v)
     (begin_of c.args.who c.args.txid ((seen_database v).part.session c.args.who).txid ++ commit_of c.args.who c.args.txid ((seen_database v).part.session c.args.who).block)) c.self.view_is

@@ -5,7 +5,7 @@ use Rattle.sky_model.specs.Triggers.{TableTrigger}
 use Rattle.pgq_queues.specs.Seen.{Stands}
 use Rattle.pgq_queues.specs.Views.{QueuesView}
 use Rattle.pgq_queues.specs.EventRule.{table_events, events_at, sequences, ids_left}
-use Rattle.pgq_queues.proofs.TracedLists.{placed-at, traced-found, found-within, within-still}
+use Rattle.pgq_queues.proofs.TracedLists.{placed-at, placed-within, traced-found, found-within, within-still}
 use Rattle.pgq_queues.proofs.Telling.{wrote-as}
 use Rattle.pgq_queues.proofs.Waiting.{retried-told}
 use Rattle.pgq_queues.proofs.gate.QueuesWriteGate.wrote.Goals as goal
@@ -13,7 +13,8 @@ use Rattle.pgq_queues.proofs.gate.QueuesWriteGate.wrote.Goals as goal
 pub new-traced-requires : goal.new-traced-requires
 new-traced-requires c =
     subst (λ (ts : List TableTrigger). All (λ place. place < length ts) c.in-Some.table.now.places) (sym c.as_slice.ensures.value)
-    (placed-at c.self.inside.triggers.items c.self.inside.traced.entries c.args.table (Some c.in-Some.table.now) c.in-Some.ensures.value c.self.invariant.1.1.1.places).within
+    (placed-within c.self.inside.triggers.items c.args.table c.in-Some.table.now.places
+    (placed-at c.self.inside.triggers.items c.self.inside.traced.entries c.args.table (Some c.in-Some.table.now) c.in-Some.ensures.value c.self.invariant.1.1.1.places))
 
 pub tell-requires-clause-within : goal.tell-requires-clause-within
 tell-requires-clause-within c =

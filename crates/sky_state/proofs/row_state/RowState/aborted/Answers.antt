@@ -8,7 +8,7 @@ use Rattle.sky_state.proofs.row_state.RowState.aborted.Goals as goal
 
 pub invariant_of-self : goal.invariant_of-self
 invariant_of-self c = (
-  subst (λ names. length names ≤ 64) (sym c.forget_all.ensures.names) c.self.invariant.0,
+  subst (λ names. (length names ≤ 64) × (length c.self.inside.read_only.items ≡ length names)) (sym c.forget_all.ensures.names) c.self.invariant.0,
   (
     owned-end _ _ _ _ c.args.who c.args.txid c.end_txid.ensures (ap (λ (v : TransView). v.running) c.abort.ensures)
         (subst (λ (d : RowStateView). ((seen d).session c.args.who).txid ≡ Some c.args.txid) (sym c.self.view_is) c.requires) c.self.invariant.1.0,

@@ -14,7 +14,7 @@ pub invariant_of-self : goal.invariant_of-self
 invariant_of-self c =
     let kept = filter_same _ (λ u. not (u == c.args.txid)) _ (λ t b f' called. search rules) _ _ c.retain.ensures.filtered in
     let listed = subst (λ (v : RowStateView). contains c.args.txid v.workers ≡ true) (sym c.self.view_is) c.requires in (
-      subst (λ names. length names ≤ 64) (sym c.forget_all.ensures.names) c.self.invariant.0,
+      subst (λ names. (length names ≤ 64) × (length c.self.inside.read_only.items ≡ length names)) (sym c.forget_all.ensures.names) c.self.invariant.0,
       (
         owned-work_end _ _ _ _ _ c.args.txid (ap (λ (v : TransView). v.running) c.abort.ensures) kept listed c.self.invariant.1.0,
         within-kept _ _ _ _ (ap length c.forget_all.ensures.names) refl c.self.invariant.1.1,

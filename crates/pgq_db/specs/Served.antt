@@ -1,0 +1,35 @@
+-- What a database does for a node, its own or another's.
+use Rattle.std.specs.Prelude.{◌≡◌, ℕ, Bool, true, false, List, Option, Some, None, is_ok}
+use Rattle.londiste_state.specs.Nodes.{Node, of_root, of_leaf}
+use Rattle.sky_model.specs.declared.reply.Limit.TheVariants.{Consumers, Triggers}
+use Rattle.sky_model.specs.declared.reply.Refusal.TheVariants as refusal
+use Rattle.sky_model.specs.State.{Database, after_marks}
+use Rattle.sky_model.specs.Outcome.{marks_of}
+use Rattle.sky_model.specs.StepNode.{NodeCall, joining, listing, node_does}
+use Rattle.sky_model.specs.Stops.{Refuses}
+use Rattle.pgq_db.specs.declared.faults.JoinFault.{JoinFault}
+use Rattle.pgq_db.specs.declared.faults.JoinFault.TheVariants as join
+use Rattle.pgq_db.specs.declared.faults.RootFault.{RootFault}
+use Rattle.pgq_db.specs.declared.faults.RootFault.TheVariants as root
+
+-- it did what the call's definition says, which isn't refused
+pub record Serves (old new : Database) (call : NodeCall) : Type 0 where
+  pub accepted : is_ok (node_does old call) ≡ true
+  pub changed : new ≡ after_marks old (marks_of (node_does old call))
+
+-- a consumer didn't join, as its call's definition says, and nothing has changed; or memory ran out
+abbrev pub JoinRefused : JoinFault → (old new : Database) → (consumer : List ℕ) → Type 0
+JoinRefused join.ConsumerExists old new consumer = Refuses old new (refusal.ConsumerExists consumer) (node_does old (joining consumer))
+JoinRefused join.TooManyConsumers old new consumer = Refuses old new (refusal.TooMany Consumers) (node_does old (joining consumer))
+JoinRefused join.IdsSpent old new consumer = Refuses old new refusal.IdsSpent (node_does old (joining consumer))
+JoinRefused join.NoMemory old new consumer = Unit {0}
+
+-- a table didn't join a set, as its call's definition says, and nothing has changed; or memory ran out
+abbrev pub RootRefused : RootFault → (old new : Database) → (table : List ℕ) → Type 0
+RootRefused root.TooManyTriggers old new table = Refuses old new (refusal.TooMany Triggers) (node_does old (listing table))
+RootRefused root.NoMemory old new table = Unit {0}
+
+-- a table joined, or a running transaction has written it, and nothing has changed
+abbrev pub ServesUnlessBusy : Option ℕ → (old new : Database) → NodeCall → Type 0
+ServesUnlessBusy None old new call = Serves old new call
+ServesUnlessBusy (Some txid) old new call = Refuses old new (refusal.TableBusy txid) (node_does old call)

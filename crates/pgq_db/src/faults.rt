@@ -1,0 +1,48 @@
+//! Why a database refuses a call for a node.
+
+use std::alloc::AllocError;
+use thiserror::Error;
+
+/// Why the consumer of a leaf doesn't join the queue of a set.
+#[derive(Clone, Copy, Debug, PartialEq, Eq, Error)]
+pub enum JoinFault {
+    #[error("the consumer is registered")]
+    ConsumerExists,
+    #[error("the queue has as many consumers as it may")]
+    TooManyConsumers,
+    #[error("the last subscription id was given")]
+    IdsSpent,
+    #[error("out of memory")]
+    NoMemory,
+}
+
+impl From<AllocError> for JoinFault {
+    ghost use Rattle.std.specs.Prelude.{◌≡◌};
+    ghost use Rattle.pgq_db.specs.declared.faults.JoinFault.TheVariants.{NoMemory};
+
+    ghost from_gives = { λ _ fault. fault ≡ NoMemory };
+
+    fn from(_: AllocError) -> JoinFault {
+        JoinFault::NoMemory
+    }
+}
+
+/// Why a table doesn't join a set.
+#[derive(Clone, Copy, Debug, PartialEq, Eq, Error)]
+pub enum RootFault {
+    #[error("the table has as many triggers as it may")]
+    TooManyTriggers,
+    #[error("out of memory")]
+    NoMemory,
+}
+
+impl From<AllocError> for RootFault {
+    ghost use Rattle.std.specs.Prelude.{◌≡◌};
+    ghost use Rattle.pgq_db.specs.declared.faults.RootFault.TheVariants.{NoMemory};
+
+    ghost from_gives = { λ _ fault. fault ≡ NoMemory };
+
+    fn from(_: AllocError) -> RootFault {
+        RootFault::NoMemory
+    }
+}

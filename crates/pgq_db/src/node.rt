@@ -1,0 +1,313 @@
+//! The root or leaf that a database is in a set of replicated tables, and what a database does for nodes: its own and
+//! those of other databases. A caller decides which of these calls a statement makes, and in which databases.
+
+ghost use Rattle.std.specs.Prelude.{◌≡◌, ◌++◌, [], ◌∷◌, true, None, Some, Ok, IfOk, IfErr, IfSome, OnOk, is_some, option_copied, option_map};
+ghost use Rattle.londiste_state.specs.declared.node.Node.TheVariants as node;
+ghost use Rattle.sky_model.specs.History.{noded, NodeMark, root_made, listed, unlisted, joined, leaf_made, leaf_added, leaf_removed};
+ghost use Rattle.sky_model.specs.Moment.{IsTime};
+ghost use Rattle.sky_model.specs.Nodes.{after_node, is_set_queue, is_leafs};
+ghost use Rattle.sky_model.specs.NodesOfWorld.{columns_called};
+ghost use Rattle.sky_model.specs.Queues.{queue_name};
+ghost use Rattle.sky_model.specs.Daemon.{quietly};
+ghost use Rattle.sky_model.specs.DatabaseCalls.{served};
+ghost use Rattle.sky_model.specs.DatabaseSteps.{DatabaseSteps};
+ghost use Rattle.sky_model.specs.StepConsumer.{has_dot, is_nodes};
+ghost use Rattle.sky_model.specs.StepQueue.{newest_id};
+ghost use Rattle.sky_model.specs.StepNode.{set_queue, set_trigger, create_root, joining, making_leaf, adding, removing, listing, unlisting, node_does};
+ghost use Rattle.pgq_queues.specs.Seen.{Stands};
+ghost use Rattle.pgq_db.specs.Gives.{Ran};
+ghost use Rattle.pgq_db.specs.Seen.{seen_database};
+ghost use Rattle.pgq_db.specs.Served.{Serves, JoinRefused, RootRefused, ServesUnlessBusy};
+
+use crate::db::Db;
+use crate::faults::{JoinFault, RootFault};
+use londiste_state::{Leaf, Node, Root};
+use pgq_queues::TableTrigger;
+use sky_model::{Limit, Refusal, Replies, Reply, Stop};
+use sky_urlenc::Trigger;
+use sky_val::{NoMemory, Schema, SessionId, Text};
+use std::alloc::Global;
+
+impl Db {
+    /// The database's node, if it has one.
+    pub fn node(&self) -> Option<&Node>
+        ensures { option_copied result ≡ (seen_database self.now).node }
+    {
+        self.node.as_ref()
+    }
+
+    /// Whether the node is a root whose queue stands.
+    pub fn is_provider(&self) -> bool
+        ensures { result ≡ is_some (set_queue (seen_database self.now)) }
+    {
+        self.set_queue().is_some()
+    }
+
+    /// The columns of the table of this name, if there is one.
+    pub fn schema(&self, table: &Text) -> Option<&Schema>
+        ensures { option_copied result ≡ columns_called table.now (seen_database self.now) }
+    {
+        let (_, schema) = self.rows.table(table)?;
+        Some(schema)
+    }
+
+    /// A leaf's consumer joins the queue of the set, at the queue's newest tick, which is the answer.
+    pub fn join(&mut self, consumer: &Text) -> Result<u64, JoinFault>
+        requires { is_some (set_queue (seen_database self.old)) ≡ true }
+        ensures tick { IfOk result (λ tick. option_map (λ queue. newest_id ((seen_database self.old).queue queue)) (set_queue (seen_database self.old)) ≡ Some tick) }
+        ensures serves { OnOk result (Serves (seen_database self.old) (seen_database self.new) (joining consumer.now)) }
+        ensures fault { IfErr result (λ fault. JoinRefused fault (seen_database self.old) (seen_database self.new) consumer.now) }
+        ensures steps { OnOk result (DatabaseSteps (seen_database self.old) (seen_database self.new) (served (joining consumer.now)) (quietly (node_does (seen_database self.old) (joining consumer.now)))) }
+    {
+        let Some(queue) = self.set_queue() else {
+            unreachable!()
+        };
+        if self.queues.queue(queue).has_consumer(consumer) {
+            return Err(JoinFault::ConsumerExists);
+        }
+        if self.queues.queue(queue).consumer_count() >= Limit::Consumers.most() {
+            return Err(JoinFault::TooManyConsumers);
+        }
+        if self.queues.last_sub() == u64::MAX {
+            return Err(JoinFault::IdsSpent);
+        }
+        let newest = self.queues.queue(queue).ticks().newest().id();
+        let name = consumer.copy(self.alloc)?;
+        self.queues.register(queue, consumer, newest)?;
+        add_consumer(&mut self.node, name)?;
+        Ok(newest)
+    }
+
+    /// The database gets a leaf of the root of this name, at a tick of the root's queue.
+    pub fn make_leaf(&mut self, name: &Text, provider: &Text, tick: u64) -> Result<(), NoMemory>
+        requires { (seen_database self.old).node ≡ None }
+        ensures serves { OnOk result (Serves (seen_database self.old) (seen_database self.new) (making_leaf name.now provider.now tick)) }
+        ensures steps { OnOk result (DatabaseSteps (seen_database self.old) (seen_database self.new) (served (making_leaf name.now provider.now tick)) (quietly (node_does (seen_database self.old) (making_leaf name.now provider.now tick)))) }
+    {
+        let name = name.copy(self.alloc)?;
+        let provider = provider.copy(self.alloc)?;
+        let leaf = Leaf::new(self.alloc, name, provider, tick);
+        self.node = Some(Node::Leaf(leaf));
+        Ok(())
+    }
+
+    /// A table joins the leaf, and sessions may not write it from now on. If a running transaction has written it,
+    /// nothing changes, and the answer is that transaction's id.
+    pub fn leaf_add(&mut self, table: &Text) -> Result<Option<u64>, NoMemory>
+        ensures serves { IfOk result (λ busy. ServesUnlessBusy busy (seen_database self.old) (seen_database self.new) (adding table.now)) }
+        ensures steps { OnOk result (DatabaseSteps (seen_database self.old) (seen_database self.new) (served (adding table.now)) (quietly (node_does (seen_database self.old) (adding table.now)))) }
+    {
+        let Some((number, _)) = self.rows.table(table) else {
+            return Ok(None);
+        };
+        if let Some(txid) = self.rows.least_writer(number) {
+            return Ok(Some(txid));
+        }
+        let name = table.copy(self.alloc)?;
+        add_leaf_table(&mut self.node, name)?;
+        self.rows.set_read_only(number, true);
+        Ok(None)
+    }
+
+    /// A table leaves the leaf, and sessions may write it again.
+    pub fn leaf_drop(&mut self, table: &Text)
+        ensures serves { Serves (seen_database self.old) (seen_database self.new) (removing table.now) }
+        ensures steps { DatabaseSteps (seen_database self.old) (seen_database self.new) (served (removing table.now)) (quietly (node_does (seen_database self.old) (removing table.now))) }
+    {
+        let Some((number, _)) = self.rows.table(table) else {
+            return;
+        };
+        remove_leaf_table(&mut self.node, table);
+        self.rows.set_read_only(number, false);
+    }
+
+    /// A table joins the set, whose queue gets the events of its writes from now on. If a running transaction has
+    /// written it, nothing changes, and the answer is that transaction's id.
+    pub fn root_add(&mut self, table: &Text) -> Result<Option<u64>, RootFault>
+        ensures serves { IfOk result (λ busy. ServesUnlessBusy busy (seen_database self.old) (seen_database self.new) (listing table.now)) }
+        ensures fault { IfErr result (λ fault. RootRefused fault (seen_database self.old) (seen_database self.new) table.now) }
+        ensures steps { OnOk result (DatabaseSteps (seen_database self.old) (seen_database self.new) (served (listing table.now)) (quietly (node_does (seen_database self.old) (listing table.now)))) }
+    {
+        let Some(queue) = self.set_queue() else {
+            return Ok(None);
+        };
+        let Some((number, schema)) = self.rows.table(table) else {
+            return Ok(None);
+        };
+        if self.queues.trigger_count(number) >= Limit::Triggers.most() {
+            return Err(RootFault::TooManyTriggers);
+        }
+        if let Some(txid) = self.rows.least_writer(number) {
+            return Ok(Some(txid));
+        }
+        let name = table.copy(self.alloc)?;
+        self.queues
+            .trace(table, schema, set_trigger(self.alloc, number, queue))?;
+        add_root_table(&mut self.node, name)?;
+        Ok(None)
+    }
+
+    /// A table leaves the set, and its events no longer go to the set's queue.
+    pub fn root_drop(&mut self, table: &Text)
+        ensures serves { Serves (seen_database self.old) (seen_database self.new) (unlisting table.now) }
+        ensures steps { DatabaseSteps (seen_database self.old) (seen_database self.new) (served (unlisting table.now)) (quietly (node_does (seen_database self.old) (unlisting table.now))) }
+    {
+        let Some((number, _)) = self.rows.table(table) else {
+            return;
+        };
+        remove_root_table(&mut self.node, table);
+        self.queues.untrace(number);
+    }
+
+    /// `create_root NAME NAME`: the root of a set, with the set's queue, which is made as by `create_queue`.
+    pub(crate) fn create_root(
+        &mut self,
+        now: i64,
+        who: SessionId,
+        name: &Text,
+        queue: &Text,
+        replies: &mut Replies,
+    ) -> Result<(), Stop>
+        requires { IsTime now }
+        ensures { Ran self.old self.new replies.old replies.new who result (create_root (seen_database self.old) now who name.now queue.now) }
+    {
+        if self.node.is_some() {
+            let name = name.copy(self.alloc)?;
+            return Err(Stop::Refused(Refusal::NodeExists(name)));
+        }
+        if self.queues.number(queue).is_some() {
+            let queue = queue.copy(self.alloc)?;
+            return Err(Stop::Refused(Refusal::QueueExists(queue)));
+        }
+        if self.queues.count() >= Limit::Queues.most() {
+            return Err(Stop::Refused(Refusal::TooMany(Limit::Queues)));
+        }
+        let txid = self.next_txid(who)?;
+        self.new_queue(now, who, txid, queue)?;
+        self.make_root(name, queue)?;
+        replies.push(who, Reply::Done)?;
+        Ok(())
+    }
+
+    fn make_root(&mut self, name: &Text, queue: &Text) -> Result<(), NoMemory>
+        ensures { OnOk result (seen_database self.new ≡ record (seen_database self.old) { node = after_node (root_made name.now queue.now) (seen_database self.old).node }) }
+    {
+        let name = name.copy(self.alloc)?;
+        let queue = queue.copy(self.alloc)?;
+        let root = Root::new(self.alloc, name, queue);
+        self.node = Some(Node::Root(root));
+        Ok(())
+    }
+
+    /// The queue of the set of which the node is the root.
+    fn set_queue(&self) -> Option<usize>
+        ensures queue { result ≡ set_queue (seen_database self.now) }
+        ensures stands { IfSome result (λ queue. Stands self.now.queues.queues queue) }
+    {
+        match &self.node {
+            Some(Node::Root(root)) => self.queues.number(root.queue()),
+            _ => None,
+        }
+    }
+
+    /// Whether a queue of this name is a set's.
+    pub(crate) fn is_set_queue(&self, queue: &Text) -> bool
+        ensures { result ≡ is_set_queue queue.now (seen_database self.now).node }
+    {
+        match &self.node {
+            Some(Node::Root(root)) => *queue == *root.queue(),
+            _ => false,
+        }
+    }
+
+    /// Whether a consumer of the queue of this name is a node's, so that no session may use it.
+    pub(crate) fn is_nodes(&self, queue: &Text, consumer: &Text) -> bool
+        ensures { result ≡ is_nodes (seen_database self.now) queue.now consumer.now }
+    {
+        if has_dot(consumer) {
+            return true;
+        }
+        match &self.node {
+            Some(Node::Root(root)) => *queue == *root.queue() && root.has_consumer(consumer),
+            _ => false,
+        }
+    }
+
+    /// The same of the queue of a number.
+    pub(crate) fn is_nodes_of(&self, queue: usize, consumer: &Text) -> bool
+        ensures { result ≡ is_nodes (seen_database self.now) (queue_name queue (seen_database self.now).queues) consumer.now }
+    {
+        if has_dot(consumer) {
+            return true;
+        }
+        match &self.node {
+            Some(Node::Root(root)) => {
+                self.queues.has_name(queue, root.queue()) && root.has_consumer(consumer)
+            }
+            _ => false,
+        }
+    }
+}
+
+fn has_dot(name: &Text) -> bool
+    ensures { result ≡ has_dot name.now }
+{
+    name.bytes().contains(&b'.')
+}
+
+/// The trigger of a set on a table, whose events go to the set's queue.
+fn set_trigger(alloc: Global, table: u32, queue: usize) -> TableTrigger
+    ensures { result ≡ record { table = table; name = None; trigger = set_trigger queue } }
+{
+    TableTrigger {
+        table,
+        name: None,
+        trigger: Trigger::new(queue, false, Vec::new(alloc)),
+    }
+}
+
+/// A consumer is a leaf's from now on, if the node is a root.
+fn add_consumer(node: &mut Option<Node>, consumer: Text) -> Result<(), NoMemory>
+    ensures { OnOk result (node.new ≡ after_node (joined consumer) node.old) }
+{
+    if let Some(Node::Root(root)) = node {
+        root.add_consumer(consumer)?;
+    }
+    Ok(())
+}
+
+/// A table is in the set from now on, if the node is a root.
+fn add_root_table(node: &mut Option<Node>, table: Text) -> Result<(), NoMemory>
+    ensures { OnOk result (node.new ≡ after_node (listed table) node.old) }
+{
+    if let Some(Node::Root(root)) = node {
+        root.add_table(table)?;
+    }
+    Ok(())
+}
+
+fn remove_root_table(node: &mut Option<Node>, table: &Text)
+    ensures { node.new ≡ after_node (unlisted table.now) node.old }
+{
+    if let Some(Node::Root(root)) = node {
+        root.remove_table(table);
+    }
+}
+
+/// A table is in the leaf from now on, if the node is one.
+fn add_leaf_table(node: &mut Option<Node>, table: Text) -> Result<(), NoMemory>
+    ensures { OnOk result (node.new ≡ after_node (leaf_added table) node.old) }
+{
+    if let Some(Node::Leaf(leaf)) = node {
+        leaf.add_table(table)?;
+    }
+    Ok(())
+}
+
+fn remove_leaf_table(node: &mut Option<Node>, table: &Text)
+    ensures { node.new ≡ after_node (leaf_removed table.now) node.old }
+{
+    if let Some(Node::Leaf(leaf)) = node {
+        leaf.remove_table(table);
+    }
+}
