@@ -1,10 +1,10 @@
 //! What the daemon of a database does, part by part. It answers nothing, and what would be refused isn't done.
 
-ghost use Rattle.std.specs.Prelude.{◌≡◌, nat_le, length, IfOk, OnOk};
+ghost use Rattle.std.specs.Prelude.{◌≡◌, true, nat_le, length, IfOk, OnOk};
 ghost use Rattle.sky_model.specs.Moment.{IsTime};
 ghost use Rattle.sky_model.specs.State.{after_marks};
 ghost use Rattle.sky_model.specs.Reader.{database_by_itself};
-ghost use Rattle.sky_model.specs.StepQueue.{next_tick};
+ghost use Rattle.sky_model.specs.StepQueue.{is_due, next_tick};
 ghost use Rattle.sky_model.specs.Outcome.{reply_of};
 ghost use Rattle.sky_model.specs.StepRetry.{most_back, maint_retry_events};
 ghost use Rattle.sky_model.specs.Daemon.{quietly, ticks_of, moved_by, retries_of, first_steps_of, daemon_does};
@@ -60,6 +60,17 @@ impl Db {
         if !self.queues.queue(queue).is_due(now) {
             return Ok(());
         }
+        self.make_due(queue, now)
+    }
+
+    /// The same, of a tick that is due. Few are, so the code for one stays out of the look at each queue.
+    #[inline(never)]
+    fn make_due(&mut self, queue: usize, now: i64) -> Result<(), NoMemory>
+        requires queue { Stands self.old.queues.queues queue }
+        requires time { IsTime now }
+        requires due { is_due now ((seen_database self.old).queue queue) ≡ true }
+        ensures { OnOk result (seen_database self.new ≡ after_marks (seen_database self.old) (quietly (next_tick (seen_database self.old) now queue)).marks) }
+    {
         match self.tick(queue, now) {
             Ok(_) => Ok(()),
             Err(Stop::Refused(_)) => Ok(()),
@@ -68,6 +79,7 @@ impl Db {
     }
 
     /// Rotates the queues: the first step of each, and then the second.
+    #[inline(never)]
     fn rotate(&mut self, now: i64) -> Result<(), NoMemory>
         requires { IsTime now }
         ensures { OnOk result (seen_database self.new ≡ after_marks (seen_database self.old) (daemon_does database_by_itself (seen_database self.old) Maintain now).marks) }
@@ -115,6 +127,7 @@ impl Db {
     }
 
     /// Events that are due to be retried come back, again until fewer do than may at a time.
+    #[inline(never)]
     fn retry_events(&mut self, now: i64) -> Result<(), NoMemory>
         ensures { OnOk result (seen_database self.new
             ≡ after_marks (seen_database self.old) (retries_of database_by_itself now (length (seen_database self.old).retries) (seen_database self.old)).marks) }

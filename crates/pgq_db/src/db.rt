@@ -1,4 +1,4 @@
-ghost use Rattle.std.specs.Prelude.{◌≡◌, ◌↔◌, ◌≢◌, ◌+◌, ◌^◌, [], ◌++◌, true, None, Some, Ok, Err, IfOk, IfErr, OnOk, OnErr, IsTrue, option_map, not, nat_le, false};
+ghost use Rattle.std.specs.Prelude.{◌≡◌, ◌↔◌, ◌≢◌, ◌+◌, ◌^◌, [], ◌++◌, true, None, Some, Ok, Err, IfOk, IfErr, OnOk, OnErr, IsTrue, option_map, nat_le, false};
 ghost use Rattle.sky_keys.specs.Waits.{is_waiting};
 ghost use Rattle.sky_model.specs.InForm.{IsRowInForm};
 ghost use Rattle.sky_model.specs.History.{queued, ticked};
@@ -39,8 +39,8 @@ use std::alloc::{AllocError, Global};
 use std::marker::Model;
 use std::mem;
 
-/// One database: its transactions, sessions, tables and rows; its queues; and its node, if it has one. Once memory has run out in `step` or
-/// `fail` nothing is said of it.
+/// One database: its transactions, sessions, tables and rows; its queues; and its node, if it has one. Once memory has
+/// run out in `step`, `fail` or `daemon` nothing is said of it.
 #[derive(Drop)]
 pub struct Db {
     pub(crate) alloc: Global,

@@ -1,7 +1,7 @@
 //! How the event tables of queues are rotated: the statements of both steps, the switches that a `commit` makes, and
 //! what the daemon does of it.
 
-ghost use Rattle.std.specs.Prelude.{◌≡◌, [], Option, None, IfOk, IfErr, OnOk, if◌then◌else◌};
+ghost use Rattle.std.specs.Prelude.{◌≡◌, Option, None, IfOk, IfErr, OnOk, if◌then◌else◌};
 ghost use Rattle.londiste_state.specs.Nodes.{Node};
 ghost use Rattle.sky_model.specs.Moment.{IsTime};
 ghost use Rattle.sky_model.specs.Outcome.{reply_of, marks_of};
@@ -59,7 +59,7 @@ impl Db {
         ensures changed { OnOk result (seen_database self.new ≡ after_marks (seen_database self.old) (marks_of (rotates_by_itself (seen_database self.old) now queue))) }
         ensures stops { IfErr result (λ stop. Stops stop (seen_database self.old) (seen_database self.new) (rotates_by_itself (seen_database self.old) now queue)) }
     {
-        if self.queues.held_back(queue, now)?.is_some() {
+        if self.queues.is_held_back(queue, now) {
             return Ok(());
         }
         let txid = work_alone(&mut self.rows)?;

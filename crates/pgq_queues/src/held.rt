@@ -1,6 +1,6 @@
 //! What holds a switch of a queue's event tables back, and from which tick on consumers may register.
 
-ghost use Rattle.std.specs.Prelude.{◌≡◌, ℕ, List, Some, ◌<◌, IfOk, IfSome, length, slice_get, option_map, option_copied};
+ghost use Rattle.std.specs.Prelude.{◌≡◌, ℕ, List, Some, ◌<◌, IfOk, IfSome, is_some, length, slice_get, option_map, option_copied};
 ghost use Rattle.sky_model.specs.declared.reply.HeldBack.TheVariants.{Consumer};
 ghost use Rattle.sky_model.specs.Moment.{IsTime, HasMoment};
 ghost use Rattle.sky_model.specs.StepConsumer.{floor};
@@ -32,6 +32,32 @@ impl Queue {
             Some(txid) => self.held_by_step2(alloc, txid),
             None => Ok(Some(HeldBack::SecondStep(self.tables.step1_id()))),
         }
+    }
+
+    /// Whether anything does. No memory is taken.
+    pub fn is_held_back(&self, now: i64) -> bool
+        requires { IsTime now }
+        ensures { result ≡ is_some (held_back now (seen_queue self.now)) }
+    {
+        if self.tables.pending().is_some() || now < self.period_ends() {
+            return true;
+        }
+        match self.tables.step2_id() {
+            Some(txid) => self.has_too_old(txid) || self.held_by_newest(txid).is_some(),
+            None => true,
+        }
+    }
+
+    /// Whether the position of a consumer isn't above a transaction.
+    fn has_too_old(&self, txid: u64) -> bool
+        ensures { result ≡ is_some (held_by_consumers txid (seen_queue self.now) (seen_queue self.now).members) }
+    {
+        for place in 0..self.subs.len() {
+            if self.too_old(place, txid).is_some() {
+                return true;
+            }
+        }
+        false
     }
 
     /// The moment at which the rotation period ends.

@@ -29,6 +29,15 @@ impl Queues {
         self.queue(queue).held_back(self.alloc, now)
     }
 
+    /// Whether anything holds a switch of a queue back. No memory is taken.
+    pub fn is_held_back(&self, queue: usize, now: i64) -> bool
+        requires stands { Stands self.now.queues queue }
+        requires time { IsTime now }
+        ensures { result ≡ is_some (held_back now (queue_at self.now queue)) }
+    {
+        self.queue(queue).is_held_back(now)
+    }
+
     /// A switch of a queue is pending, which the commit of a transaction makes.
     pub fn begin_switch(&mut self, queue: usize, txid: u64)
         requires stands { Stands self.old.queues queue }

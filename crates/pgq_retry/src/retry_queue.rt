@@ -1,6 +1,4 @@
-ghost use Rattle.std.specs.Prelude.{◌≡◌, ◌++◌, ◌∷◌, [], not, if◌then◌else◌, IfOk, OnErr};
 ghost use Rattle.std.specs.List.{list_any};
-ghost use Rattle.pgq_retry.specs.Retries.{is_asked, count_of, is_due, due_now, left_by, without_sub};
 ghost use Rattle.std.specs.Prelude.{◌≡◌, ◌++◌, ◌∷◌, [], not, if◌then◌else◌, length, IfOk, OnErr, IfSome, IfNone};
 ghost use Rattle.pgq_retry.specs.Retries.{is_asked, count_of, is_due, by_due, due_now, left_by, without, without_sub};
 

@@ -1,5 +1,6 @@
 ghost use Rattle.std.specs.Prelude.{◌≡◌, ℕ, ◌<◌, ◌≤◌, length};
-ghost use Rattle.std.specs.List.{list_any};
+ghost use Rattle.std.specs.List.{list_any, insert};
+ghost use Rattle.std.specs.Vec.{vec_len, vec_capacity};
 ghost use Rattle.pgq_tables.specs.Kept.{txid_at, AreInOrder};
 
 /// The place of an event in its table, with the transaction that inserted it.
@@ -52,4 +53,20 @@ pub(crate) fn count_below(places: &[Placed], txid: u64) -> usize
         return 0;
     }
     count_up_to(places, txid - 1)
+}
+
+/// Puts one more into the places, for which there is room. Mostly it comes behind all others.
+pub(crate) fn insert_reserved(places: &mut Vec<Placed>, at: usize, placed: Placed)
+    requires at { at ≤ length places.old.items }
+    requires room { vec_len places.old < vec_capacity places.old }
+    ensures { places.new.items ≡ insert places.old.items at placed }
+{
+    if at == places.len() {
+        places.push_reserved(placed);
+        return;
+    }
+    match places.insert(at, placed) {
+        Ok(()) => {}
+        Err(_) => unreachable!(),
+    }
 }

@@ -4,7 +4,7 @@ ghost use Rattle.sky_val.specs.declared.event.Event.{Event};
 ghost use Rattle.pgq_tables.specs.Tables.{Stored, marked_dead};
 ghost use Rattle.pgq_tables.specs.Order.{by_txid};
 
-use crate::index::{Placed, count_below, count_up_to};
+use crate::index::{Placed, count_below, count_up_to, insert_reserved};
 use crate::stored::Stored;
 use sky_val::{Event, NoMemory};
 use std::alloc::Global;
@@ -60,10 +60,9 @@ impl Table {
         let place = self.events.len();
         let at = count_up_to(&self.places, txid);
         let placed = Placed { txid, place };
-        match (self.places.insert(at, placed), self.events.push(stored)) {
-            (Ok(()), Ok(())) => Ok(()),
-            _ => unreachable!(),
-        }
+        insert_reserved(&mut self.places, at, placed);
+        self.events.push_reserved(stored);
+        Ok(())
     }
 
     /// Takes the last event back, if there is one.

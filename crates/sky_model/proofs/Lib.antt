@@ -64,6 +64,7 @@ pub mod Tripled
 pub mod PendingOwners
 pub mod PlainStatements
 pub mod SwitchingCalls
+mod OwnedPuts
 pub mod PendingCalls
 pub mod PendingSwitches
 pub mod Periods

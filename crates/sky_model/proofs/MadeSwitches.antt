@@ -9,6 +9,8 @@ use Rattle.pgq_tables.specs.Tables.{with_pending}
 use Rattle.sky_model.specs.History.{Mark, of_session, ended, block_ended, queued, switching, switched, History}
 use Rattle.sky_model.specs.Transactions.{has_committed}
 use Rattle.sky_model.specs.Sessions.{Block, outside, inside, failed}
+use Rattle.sky_model.specs.Outcome.{marks_of}
+use Rattle.sky_model.specs.StepRetry.{brings}
 use Rattle.sky_model.specs.Queues.{NamedQueue, queues, is_pending, tables}
 use Rattle.sky_model.specs.OwnTransaction.{commit_of}
 use Rattle.sky_model.specs.State.{database_of}
@@ -20,8 +22,8 @@ use Rattle.sky_model.specs.LawsOfRetries.{moment_of}
 use Rattle.sky_model.specs.LawsOfRotation.{IsMadeBy, SwitchesAreCommitted}
 use Rattle.sky_model.proofs.Cases.{by_test}
 use Rattle.sky_model.proofs.Good.{same-session}
-use Rattle.sky_model.proofs.StatementMarks.{EachMark, when-true, each-rest, each-map}
-use Rattle.sky_model.proofs.PlainStatements.{may_do}
+use Rattle.sky_model.proofs.StatementMarks.{EachMark, when-true, each-rest, each-map, each-given, AnyReply}
+use Rattle.sky_model.proofs.PlainStatements.{may_keep, may_do, keeps-too, does-brings}
 use Rattle.sky_model.proofs.SwitchingCalls.{IsOfCalls, each-entered, each-served, of_stepped, of_failed, of_worked}
 
 -- ---- marks, each at its place, with those after it
@@ -81,7 +83,7 @@ none-makes : (earlier later : List Mark) (q : ℕ) (time : ℤ) → EachMark mak
 none-makes [] later q time each = each
 none-makes (mark ∷ earlier) later q time each = none-makes earlier later q time (each-rest makes_none mark (earlier ++ queued (switched q time) ∷ later) each)
 
-none-done : (b : Block) (who : ℕ) (mark : Mark) → may_do b who mark ≡ true → makes_none mark ≡ true
+none-done : (b : Block) (who : ℕ) (mark : Mark) → may_keep b who mark ≡ true → makes_none mark ≡ true
 none-done b who (queued (switched q time)) e = absurd (cc)
 none-done b who _ e = refl
 
@@ -127,10 +129,13 @@ made-switches h now t (q ∷ qs) g rest left commits last =
 are-made : (now : ℤ) → IsOfCalls now (Made now)
 are-made now = record {
   joined = made-append now;
-  plain = λ b who h marks out each. made-none now h marks (each-map (may_do b who) makes_none (none-done b who) marks each);
+  plain = λ b who h marks out each. made-none now h marks (each-map (may_do b who) makes_none (λ mark e. none-done b who mark (keeps-too b who mark e)) marks each);
   begins = λ h who. (tt, tt);
   switches = λ h who q t b mine is sound free. made-switch now h who q t b;
   switches_alone = λ h q t free. (tt, ((refl, commits-now h q t), (tt, tt)));
+  brings_back = λ h rs.
+      made-none now h (marks_of (brings (database_of h) now rs)) (each-map (may_keep inside 0) makes_none (none-done inside 0) (marks_of (brings (database_of h) now rs))
+      (each-given AnyReply (may_keep inside 0) (brings (database_of h) now rs) (does-brings 0 inside (database_of h) now rs)));
   commits = λ h who t. made-switches h now t (queues h) h (ended (of_session who) t true ∷ block_ended who ∷ []) (λ q u pends. pends) (ap (λ b. b || false) (same-session t)) (λ f. (tt, (tt, tt)));
 }
 
@@ -164,8 +169,8 @@ switches_are_committed h (stepped who stmt now) earlier later q time = is-made n
 switches_are_committed h (failed_call who now) earlier later q time = is-made now h (failed_call who now) earlier later q time refl (of_failed now (Made now) (are-made now) h who)
 switches_are_committed h (worked work now) earlier later q time = is-made now h (worked work now) earlier later q time refl (of_worked now (Made now) (are-made now) h work)
 switches_are_committed h (entered who alone) earlier later q time =
-    λ same. absurd (none-makes earlier later q time (each-map (may_do inside who) makes_none (none-done inside who) (earlier ++ queued (switched q time) ∷ later)
+    λ same. absurd (none-makes earlier later q time (each-map (may_do inside who) makes_none (λ mark e. none-done inside who mark (keeps-too inside who mark e)) (earlier ++ queued (switched q time) ∷ later)
     (subst (EachMark (may_do inside who)) same (each-entered h who alone))))
 switches_are_committed h (served call) earlier later q time =
-    λ same. absurd (none-makes earlier later q time (each-map (may_do inside 0) makes_none (none-done inside 0) (earlier ++ queued (switched q time) ∷ later)
+    λ same. absurd (none-makes earlier later q time (each-map (may_do inside 0) makes_none (λ mark e. none-done inside 0 mark (keeps-too inside 0 mark e)) (earlier ++ queued (switched q time) ∷ later)
     (subst (EachMark (may_do inside 0)) same (each-served h call))))

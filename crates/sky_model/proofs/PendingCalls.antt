@@ -8,6 +8,9 @@ use Rattle.sky_model.specs.Sessions.{Block, outside, inside, failed, block, own_
 use Rattle.sky_model.specs.Queues.{NamedQueue, queues, is_pending, tables}
 use Rattle.sky_model.specs.OwnTransaction.{commit_of}
 use Rattle.sky_model.specs.State.{database_of}
+use Rattle.sky_model.specs.Outcome.{marks_of}
+use Rattle.sky_model.specs.StepRetry.{brings}
+use Rattle.sky_model.proofs.StatementMarks.{each-map, each-given, AnyReply}
 use Rattle.sky_model.specs.StepRotation.{switch_of, switches_by}
 use Rattle.sky_model.specs.Reader.{part_by_history, database_by_history}
 use Rattle.sky_model.specs.Settling.{marked}
@@ -20,7 +23,7 @@ use Rattle.sky_model.proofs.Histories.{legal_calls}
 use Rattle.sky_model.proofs.Good.{same-session}
 use Rattle.sky_model.proofs.QueuesInUse.{IsBare, bare}
 use Rattle.sky_model.proofs.PendingOwners.{Unpending, Held, held-both, Keeps, legal-before, keeps-mark}
-use Rattle.sky_model.proofs.PlainStatements.{keeps-each}
+use Rattle.sky_model.proofs.PlainStatements.{may_keep, may_do, keeps-too, keeps-each, does-brings}
 use Rattle.sky_model.proofs.SwitchingCalls.{IsOfCalls, of_stepped, of_failed, of_worked, of_entered, of_served}
 
 stays : (h : History) → Keeps h []
@@ -87,10 +90,13 @@ keeps-alone now h q t = λ l r.
 all-keep : (now : ℤ) → IsOfCalls now Keeps
 all-keep now = record {
   joined = keeps-append;
-  plain = keeps-each;
+  plain = λ b who h marks out each. keeps-each b who h marks out (each-map (may_do b who) (may_keep b who) (keeps-too b who) marks each);
   begins = λ h who. keeps-mark h (block_begun who) [] tt (stays (block_begun who ∷ h));
   switches = λ h who q t b mine is sound free. keeps-switch h now who q t b mine is sound;
   switches_alone = λ h q t free. keeps-alone now h q t;
+  brings_back = λ h rs.
+      keeps-each inside 0 h (marks_of (brings (database_of h) now rs)) (λ e _. absurd (cc))
+      (each-given AnyReply (may_keep inside 0) (brings (database_of h) now rs) (does-brings 0 inside (database_of h) now rs));
   commits = keeps-commits now;
 }
 

@@ -5,6 +5,8 @@ use Rattle.std.proofs.lemmas.Int.{ints}
 use Rattle.sky_model.specs.declared.reply.HeldBack.TheVariants.{Pending, Period}
 use Rattle.sky_model.specs.History.{Mark, of_session, ended, block_ended, queued, switching, switched, History}
 use Rattle.sky_model.specs.Sessions.{Block, outside, inside, failed}
+use Rattle.sky_model.specs.Outcome.{marks_of}
+use Rattle.sky_model.specs.StepRetry.{brings}
 use Rattle.sky_model.specs.Queues.{NamedQueue, queues, is_pending}
 use Rattle.sky_model.specs.OwnTransaction.{commit_of}
 use Rattle.sky_model.specs.State.{Queue, Database, queue_of, database_of}
@@ -14,8 +16,8 @@ use Rattle.sky_model.specs.Settling.{marked}
 use Rattle.sky_model.specs.DatabaseCalls.{stepped, entered, failed as failed_call, worked, served, database_does}
 use Rattle.sky_model.specs.LawsOfRotation.{IsOver, SwitchesBeginAfterPeriods}
 use Rattle.sky_model.proofs.Cases.{by_test}
-use Rattle.sky_model.proofs.StatementMarks.{when-true, EachMark, each-rest, each-map}
-use Rattle.sky_model.proofs.PlainStatements.{may_do}
+use Rattle.sky_model.proofs.StatementMarks.{when-true, EachMark, each-rest, each-map, each-given, AnyReply}
+use Rattle.sky_model.proofs.PlainStatements.{may_keep, may_do, keeps-too, does-brings}
 use Rattle.sky_model.proofs.SwitchingCalls.{IsOfCalls, each-entered, each-served, of_stepped, of_failed, of_worked}
 
 -- ---- marks, each at its place
@@ -57,12 +59,12 @@ none-begins [] later q t each = each
 none-begins (mark ∷ earlier) later q t each = none-begins earlier later q t (each-rest begins_none mark (earlier ++ queued (switching q t) ∷ later) each)
 
 -- what statements do that make no first step of a rotation
-none-done : (b : Block) (who : ℕ) (mark : Mark) → may_do b who mark ≡ true → begins_none mark ≡ true
+none-done : (b : Block) (who : ℕ) (mark : Mark) → may_keep b who mark ≡ true → begins_none mark ≡ true
 none-done b who (queued (switching q t)) e = absurd (cc)
 none-done b who _ e = refl
 
 over-done : (now : ℤ) (h : History) (b : Block) (who : ℕ) (marks : List Mark) → EachMark (may_do b who) marks → Over now h marks
-over-done now h b who marks each = over-none now h marks (each-map (may_do b who) begins_none (none-done b who) marks each)
+over-done now h b who marks each = over-none now h marks (each-map (may_do b who) begins_none (λ mark e. none-done b who mark (keeps-too b who mark e)) marks each)
 
 -- ---- what isn't held back
 
@@ -103,6 +105,9 @@ are-over now = record {
   begins = λ h who. (tt, tt);
   switches = λ h who q t b mine is sound free. over-switch now h who q t b (free-over now (queue_of h q) free);
   switches_alone = λ h q t free. (free-over now (queue_of h q) free, (tt, (tt, tt)));
+  brings_back = λ h rs.
+      over-none now h (marks_of (brings (database_of h) now rs)) (each-map (may_keep inside 0) begins_none (none-done inside 0) (marks_of (brings (database_of h) now rs))
+      (each-given AnyReply (may_keep inside 0) (brings (database_of h) now rs) (does-brings 0 inside (database_of h) now rs)));
   commits = λ h who t. over-none now h (switches_by (database_of h) now t (queues h) ++ ended (of_session who) t true ∷ block_ended who ∷ [])
       (none-switches (database_of h) now t (queues h) (ended (of_session who) t true ∷ block_ended who ∷ []) tt);
 }
@@ -119,8 +124,8 @@ switches_begin_after_periods h (failed_call who now) earlier later q t =
 switches_begin_after_periods h (worked work now) earlier later q t =
     is-over now h (database_does database_by_history h (worked work now)).marks earlier later q t (of_worked now (Over now) (are-over now) h work)
 switches_begin_after_periods h (entered who alone) earlier later q t =
-    λ same. absurd (none-begins earlier later q t (each-map (may_do inside who) begins_none (none-done inside who) (earlier ++ queued (switching q t) ∷ later)
+    λ same. absurd (none-begins earlier later q t (each-map (may_do inside who) begins_none (λ mark e. none-done inside who mark (keeps-too inside who mark e)) (earlier ++ queued (switching q t) ∷ later)
     (subst (EachMark (may_do inside who)) same (each-entered h who alone))))
 switches_begin_after_periods h (served call) earlier later q t =
-    λ same. absurd (none-begins earlier later q t (each-map (may_do inside 0) begins_none (none-done inside 0) (earlier ++ queued (switching q t) ∷ later)
+    λ same. absurd (none-begins earlier later q t (each-map (may_do inside 0) begins_none (λ mark e. none-done inside 0 mark (keeps-too inside 0 mark e)) (earlier ++ queued (switching q t) ∷ later)
     (subst (EachMark (may_do inside 0)) same (each-served h call))))

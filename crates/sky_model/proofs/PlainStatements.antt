@@ -1,5 +1,5 @@
 -- Which marks of a statement keep pending switches those of sessions in blocks.
-use Rattle.std.proofs.Common.{◌≡◌, ℕ, ℤ, ◌+◌, List, [], ◌∷◌, ◌++◌, Bool, true, false, ◌==◌, Option, Some, None, Ok, Err, IfOk, sym, ◌∙◌, ap, subst, arith, if◌then◌else◌, ◌&&◌}
+use Rattle.std.proofs.Common.{◌≡◌, ℕ, ℤ, ◌+◌, List, [], ◌∷◌, ◌++◌, Bool, true, false, ◌==◌, Option, Some, None, is_none, Ok, Err, IfOk, refl, sym, ◌∙◌, ap, subst, arith, if◌then◌else◌, ◌&&◌}
 use Rattle.sky_val.specs.declared.val.Val.{Val}
 use Rattle.sky_keys.specs.Waits.{is_waiting}
 use Rattle.sky_urlenc.specs.RowEvents.{RowEvent}
@@ -11,7 +11,7 @@ use Rattle.sky_model.specs.declared.stmt.Stmt.{Stmt}
 use Rattle.sky_model.specs.declared.stmt.Stmt.TheVariants.{Row, CreateQueue, DropQueue, SetQueueConfig, QueueInfo, InsertEvent, Ticker, ForceTick, RegisterConsumer, RegisterConsumerAt, UnregisterConsumer, NextBatch, GetBatchEvents, GetBatchInfo, EventRetry, FinishBatch, MaintRetryEvents, MaintRotateStep1, MaintRotateStep2, ConsumerInfo, AddTrigger, CreateRoot, Node, Clock, PgqdOn, PgqdOff}
 use Rattle.sky_model.specs.declared.reply.Refusal.{Refusal}
 use Rattle.sky_model.specs.declared.reply.Refusal.TheVariants.{Canceled}
-use Rattle.sky_model.specs.History.{Batch, Mark, of_session, of_worker, ended, block_begun, block_failed, block_ended, tabled, wrote, queued, switching, switched, History}
+use Rattle.sky_model.specs.History.{Batch, Mark, of_session, of_worker, ended, block_begun, block_failed, block_ended, tabled, wrote, queued, put, switching, switched, History}
 use Rattle.sky_model.specs.Queues.{NamedQueue, Tick, tick}
 use Rattle.sky_model.specs.StepRotation.{second_steps, lack_second_step, ends_switches}
 use Rattle.sky_model.specs.Consumers.{Subscription}
@@ -26,9 +26,8 @@ use Rattle.sky_model.specs.StepRows.{writes_key, changes, attempts, row_or_none}
 use Rattle.sky_model.specs.StepQueue.{queue_called, next_event_id, next_tick}
 use Rattle.sky_model.specs.StepConsumer.{leaves as leaves_queue, opens_batch, takes_batch, finishes}
 use Rattle.pgq_retry.specs.declared.retry.Retry.{Retry}
-use Rattle.pgq_retry.specs.Retries.{due_now}
 use Rattle.sky_model.specs.OwnTransaction.{next_id}
-use Rattle.sky_model.specs.StepRetry.{back, brings, most_back}
+use Rattle.sky_model.specs.StepRetry.{back, brings}
 use Rattle.sky_model.specs.Telling.{events_in, told_event, event_marks, told_by, told_of, with_told, tells}
 use Rattle.sky_model.specs.Reader.{Shown}
 use Rattle.sky_model.specs.Calls.{row_form, form}
@@ -47,23 +46,36 @@ is_outside outside = true
 is_outside _ = false
 
 -- a session in such a block may leave such a mark: it commits outside a block alone, begins none, and no switch is pending or made by it
+abbrev pub may_keep : Block → ℕ → Mark → Bool
+may_keep b who (ended (of_session v) t true) = is_outside b && v == who
+may_keep b who (block_begun v) = false
+may_keep b who (queued (switching q t)) = false
+may_keep b who (queued (switched q time)) = false
+may_keep b who _ = true
+
+-- and puts no event with an owner
 abbrev pub may_do : Block → ℕ → Mark → Bool
 may_do b who (ended (of_session v) t true) = is_outside b && v == who
 may_do b who (block_begun v) = false
 may_do b who (queued (switching q t)) = false
 may_do b who (queued (switched q time)) = false
+may_do b who (queued (put q e)) = is_none e.ev_owner
 may_do b who _ = true
+
+pub keeps-too : (b : Block) (who : ℕ) (mark : Mark) → may_do b who mark ≡ true → may_keep b who mark ≡ true
+keeps-too b who (queued (put q e)) is = refl
+keeps-too b who _ is = is
 
 abbrev pub IsOut : Block → ℕ → History → Type 0
 IsOut b who h = is_outside b ≡ true → block who h ≡ inside → ⊥
 
-pub keeps-each : (b : Block) (who : ℕ) (h : History) (marks : List Mark) → IsOut b who h → EachMark (may_do b who) marks → Keeps h marks
+pub keeps-each : (b : Block) (who : ℕ) (h : History) (marks : List Mark) → IsOut b who h → EachMark (may_keep b who) marks → Keeps h marks
 keeps-each b who h [] out all = λ l r. r
 keeps-each b who h (mark ∷ marks) out all =
-    let may : may_do b who mark ≡ true = when-true (EachMark (may_do b who) marks) (may_do b who mark) all in
-    keeps-mark h mark marks (plain mark may) (keeps-each b who (mark ∷ h) marks (still mark may) (each-rest (may_do b who) mark marks all))
+    let may : may_keep b who mark ≡ true = when-true (EachMark (may_keep b who) marks) (may_keep b who mark) all in
+    keeps-mark h mark marks (plain mark may) (keeps-each b who (mark ∷ h) marks (still mark may) (each-rest (may_keep b who) mark marks all))
   where
-    plain : (m : Mark) → may_do b who m ≡ true → PlainAt h m
+    plain : (m : Mark) → may_keep b who m ≡ true → PlainAt h m
     plain (queued (switching q t)) e = absurd (cc)
     plain (ended (of_session v) t true) e =
         let both = and_parts (is_outside b) (v == who) e in
@@ -71,7 +83,7 @@ keeps-each b who h (mark ∷ marks) out all =
         λ within. absurd (out both.0 (ap (λ x. block x h) (sym same) ∙ within))
     plain _ e = tt
 
-    still : (m : Mark) → may_do b who m ≡ true → IsOut b who (m ∷ h)
+    still : (m : Mark) → may_keep b who m ≡ true → IsOut b who (m ∷ h)
     still (block_begun v) e = absurd (cc)
     still (block_failed v) e = λ o. by_test (λ x. (if x then failed else block who h) ≡ inside → ⊥) (v == who) (λ _ is. absurd (cc)) (λ _. out o)
     still (block_ended v) e = λ o. by_test (λ x. (if x then outside else block who h) ≡ inside → ⊥) (v == who) (λ _ is. absurd (cc)) (λ _. out o)
@@ -93,7 +105,7 @@ abort-plain b who inside txid refusal = by (aborts refusal) txid
     by false o = tt
 abort-plain b who failed txid refusal = tt
 
--- the statements that leave such marks alone: all but those that begin a block or commit, or make the first step of a rotation
+-- the statements that leave such marks alone: all but those that begin a block or commit, make the first step of a rotation, or bring retries back
 abbrev is_plain_row : RowStmt → Bool
 is_plain_row Begin = false
 is_plain_row BeginRepeatableRead = false
@@ -103,6 +115,7 @@ is_plain_row _ = true
 abbrev pub is_plain : Stmt → Bool
 is_plain (Row stmt) = is_plain_row stmt
 is_plain (MaintRotateStep1 name) = false
+is_plain MaintRetryEvents = false
 is_plain _ = true
 
 module _ (who : ℕ) where
@@ -214,14 +227,14 @@ module _ (who : ℕ) where
   does-leaves_queue b q consumer None = (tt, tt)
   does-leaves_queue b q consumer (Some sub) = (tt, tt)
 
-  does-back : (b : Block) (now : ℤ) (t : ℕ) (rs : List Retry) → EachMark (may_do b who) (back now t rs)
+  does-back : (b : Block) (now : ℤ) (t : ℕ) (rs : List Retry) → EachMark (may_keep b who) (back now t rs)
   does-back b now t [] = tt
   does-back b now t (r ∷ rs) = does-back b now t rs
 
-  pub does-brings : (b : Block) (d : Database) (now : ℤ) (rs : List Retry) → Does b (brings d now rs)
+  pub does-brings : (b : Block) (d : Database) (now : ℤ) (rs : List Retry) → Gives AnyReply (may_keep b who) (brings d now rs)
   does-brings b d now [] = (tt, tt)
   does-brings b d now (r ∷ rs) =
-      checked AnyReply _ (next_id d.part) _ (λ t. (tt, each-append (may_do b who) (back now t (r ∷ rs)) (ended of_worker t true ∷ []) (does-back b now t (r ∷ rs)) tt))
+      checked AnyReply _ (next_id d.part) _ (λ t. (tt, each-append (may_keep b who) (back now t (r ∷ rs)) (ended of_worker t true ∷ []) (does-back b now t (r ∷ rs)) tt))
 
   does-seconds : (b : Block) (t : ℕ) (queues : List NamedQueue) → EachMark (may_do b who) (second_steps t queues)
   does-seconds b t [] = tt
@@ -258,7 +271,7 @@ module _ (who : ℕ) where
   does-form d shown now (GetBatchInfo batch) e = search (checked)
   does-form d shown now (EventRetry batch event seconds) e = search (checked, after, either) depth 12
   does-form d shown now (FinishBatch batch) e = does-finishes (d.part.session who).block d (d.batch batch)
-  does-form d shown now MaintRetryEvents e = does-brings (d.part.session who).block d now (due_now now most_back d.retries)
+  does-form d shown now MaintRetryEvents e = absurd (cc)
   does-form d shown now (MaintRotateStep1 name) e = absurd (cc)
   does-form d shown now MaintRotateStep2 e = does-ends_switches (d.part.session who).block d (lack_second_step d)
   does-form d shown now (ConsumerInfo name consumer) e = search (checked) depth 8

@@ -2,6 +2,7 @@
 use Rattle.std.proofs.Common.{◌≡◌, ℕ, zero, suc, ℤ, List, [], ◌∷◌, ◌++◌, Bool, true, false, Option, Some, None, Ok, Err, is_ok, length, nat_le, refl, sym, ap, subst, ◌^◌, if◌then◌else◌}
 use Rattle.std.proofs.lemmas.Bool.{cond_both}
 use Rattle.sky_keys.specs.Waits.{Waiting, is_waiting}
+use Rattle.pgq_retry.specs.declared.retry.Retry.{Retry}
 use Rattle.pgq_retry.specs.Retries.{due_now}
 use Rattle.sky_model.specs.declared.reply.HeldBack.{HeldBack}
 use Rattle.sky_model.specs.declared.reply.Reply.TheVariants.{Number}
@@ -9,7 +10,7 @@ use Rattle.sky_model.specs.declared.reply.Refusal.{Refusal}
 use Rattle.sky_model.specs.declared.reply.Refusal.TheVariants.{TxidsSpent, NoQueue, Canceled}
 use Rattle.sky_model.specs.declared.stmt.Stmt.{Stmt}
 use Rattle.sky_model.specs.declared.stmt.RowStmt.TheVariants.{Begin, BeginRepeatableRead, Commit}
-use Rattle.sky_model.specs.declared.stmt.Stmt.TheVariants.{Row, MaintRotateStep1}
+use Rattle.sky_model.specs.declared.stmt.Stmt.TheVariants.{Row, MaintRetryEvents, MaintRotateStep1}
 use Rattle.sky_model.specs.declared.stmt.Where.TheVariants.{WhenReading}
 use Rattle.sky_model.specs.declared.daemon.DaemonPart.{DaemonPart}
 use Rattle.sky_model.specs.declared.daemon.DaemonPart.TheVariants as part
@@ -26,7 +27,7 @@ use Rattle.sky_model.specs.Allowed.{where_of, allowed}
 use Rattle.sky_model.specs.Made.{takes_sight, looking, runs_if}
 use Rattle.sky_model.specs.ShownRows.{rows_in}
 use Rattle.sky_model.specs.StepQueue.{next_tick}
-use Rattle.sky_model.specs.StepRetry.{most_back, maint_retry_events}
+use Rattle.sky_model.specs.StepRetry.{brings, most_back, maint_retry_events}
 use Rattle.sky_model.specs.StepRotation.{held_back, switch_of, rotates, rotates_alone, rotates_by_itself, lack_second_step, maint_rotate_step2, switches_by, switches_of, committed_by}
 use Rattle.sky_model.specs.StepRows.{attempts}
 use Rattle.sky_model.specs.StepSession.{begin, begin_repeatable_read, commit}
@@ -43,7 +44,7 @@ use Rattle.sky_model.proofs.Lawful.{database-reads, past-behind}
 use Rattle.sky_model.proofs.Cases.{by_block}
 use Rattle.sky_model.proofs.Good.{same-session, MayStand}
 use Rattle.sky_model.proofs.StatementMarks.{EachMark, each-given, AnyReply, Gives}
-use Rattle.sky_model.proofs.PlainStatements.{IsOut, out-here, may_do, abort-plain, does-attempts, does-tells, does-brings, does-ends_switches, does-tick, does-form}
+use Rattle.sky_model.proofs.PlainStatements.{IsOut, out-here, may_do, abort-plain, does-attempts, does-tells, does-ends_switches, does-tick, does-form}
 
 -- a property of marks at their place that what calls leave has, at a moment
 pub record IsOfCalls (now : ℤ) (K : History → List Mark → Type 0) : Type 0 where
@@ -53,6 +54,7 @@ pub record IsOfCalls (now : ℤ) (K : History → List Mark → Type 0) : Type 0
   pub switches : (h : History) (who q t : ℕ) (b : Block) → own_txid who h ≡ Some t → block who h ≡ b → (b ≡ failed → ⊥) → held_back now (queue_of h q) ≡ None
       → K h (switch_of q t now b ++ commit_of who t b)
   pub switches_alone : (h : History) (q t : ℕ) → held_back now (queue_of h q) ≡ None → K h (queued (switching q t) ∷ queued (switched q now) ∷ ended of_worker t true ∷ [])
+  pub brings_back : (h : History) (rs : List Retry) → K h (marks_of (brings (database_of h) now rs))
   pub commits : (h : History) (who t : ℕ) → K h (switches_by (database_of h) now t (queues h) ++ ended (of_session who) t true ∷ block_ended who ∷ [])
 
 may-fail : (waits is_open : Bool) → is_ok (allowed waits is_open failed WhenReading) ≡ true → ⊥
@@ -154,6 +156,7 @@ module _ (now : ℤ) (K : History → List Mark → Type 0) (is : IsOfCalls now 
       (is.joined h (block_begun who ∷ []) (repeats who ∷ []) (is.begins h who) (within (block_begun who ∷ h) who (repeats who ∷ []) tt)) (none h) (none h) (block who h)
   of-form h who (Row Commit) may = of-commit h who (block who h) (own_txid who h)
   of-form h who (MaintRotateStep1 name) may = of-step1 h who name may (queue_number name (queues h))
+  of-form h who MaintRetryEvents may = of-settled h who (maint_retry_events (database_of h) now) (is.brings_back h (due_now now most_back (retries h)))
   of-form h who stmt may = of-plain h who (form (database_of h) (shown_in h) now who stmt) (does-form who (database_of h) (shown_in h) now stmt refl)
 
   of-runs : (h : History) (who : ℕ) (stmt : Stmt) (may : Checked (Unit {0})) → allowed (is_waiting who (waiting h)) (has_open who h) (block who h) (where_of stmt) ≡ may
@@ -213,7 +216,7 @@ module _ (now : ℤ) (K : History → List Mark → Type 0) (is : IsOfCalls now 
   of-retries (suc n) h =
       let c : Checked Outcome = maint_retry_events (database_of h) now in
       let full : Bool = nat_le most_back (moved_by (reply_of c)) in
-      of-then h (quietly c) (again_if full (retries_of database_by_history now n)) (of-idle h c (does-brings 0 inside (database_of h) now (due_now now most_back (retries h))))
+      of-then h (quietly c) (again_if full (retries_of database_by_history now n)) (is.brings_back h (due_now now most_back (retries h)))
       (λ g. of-again (retries_of database_by_history now n) g (of-retries n g) full)
 
   of-alone : (h : History) (q : ℕ) (why : Option HeldBack) → held_back now (queue_of h q) ≡ why → K h (marks_of (rotates_alone (database_of h) now q why))

@@ -1,5 +1,5 @@
 -- The laws on events that are retried, at each place of each history that calls make.
-use Rattle.std.specs.Prelude.{◌≡◌, ℕ, ◌+◌, ◌≤◌, ℤ, ◌≤ℤ◌, List, ◌∷◌, ◌++◌, ◌==◌, is_some, true, false, ⊤, Option, Some, None, unwrap_or, All, Contains, length, filter}
+use Rattle.std.specs.Prelude.{◌≡◌, ℕ, ◌+◌, ◌≤◌, ℤ, ◌≤ℤ◌, List, [], ◌∷◌, ◌++◌, ◌==◌, is_some, true, false, ⊤, Option, Some, None, unwrap_or, All, Contains, length, filter}
 use Rattle.sky_val.specs.declared.event.Event.{Event}
 use Rattle.pgq_retry.specs.declared.retry.Retry.{Retry}
 use Rattle.pgq_retry.specs.Retries.{is_event, is_asked}
@@ -12,7 +12,8 @@ use Rattle.sky_model.specs.Batches.{batch_events}
 use Rattle.sky_model.specs.Retries.{retries, retried}
 use Rattle.sky_model.specs.LawsOfBatches.{stands_in}
 use Rattle.sky_model.specs.Reader.{database_by_history}
-use Rattle.sky_model.specs.DatabaseCalls.{DatabaseCall, stepped, entered, failed, worked, served, database_does}
+use Rattle.sky_model.specs.DatabaseCalls.{DatabaseCall, stepped, entered, failed, worked, served, database_does, database_part}
+use Rattle.sky_model.specs.Promises.{after_all}
 use Rattle.sky_model.specs.HistoryPlaces.{IsPlace}
 
 -- an event is a copy of another one: all fields are the same except transaction, owner and number of retries
@@ -80,6 +81,18 @@ pub record ComesBack (p : History) (retry : Retry) (moment : ℤ) : Type 0 where
 -- so it is with each that comes back
 abbrev pub RetriesComeBackDue : Type 0
 RetriesComeBackDue = (p : History) (retry : Retry) (moment : ℤ) → IsPlace (queued (returned retry moment) ∷ p) → ComesBack p retry moment
+
+-- some marks begin with that of a retry that comes back
+pub record BeginsBack (later : List Mark) : Type 0 where
+  pub rest : List Mark
+  pub retry : Retry
+  pub moment : ℤ
+  pub first : later ≡ rest ++ queued (returned retry moment) ∷ []
+
+-- an event with an owner is put by a retry that comes back, and by nothing else: the next mark is that of the retry
+abbrev pub OwnedEventsComeBack : Type 0
+OwnedEventsComeBack = (calls : List DatabaseCall) (later : List Mark) (p : History) (queue : ℕ) (event : Event) (sub : ℕ)
+    → after_all database_part calls ≡ later ++ queued (put queue event) ∷ p → event.ev_owner ≡ Some sub → BeginsBack later
 
 -- the opening tick of a batch was made at a place, and its closing tick later, up to another place
 pub record IsAcross (later place : History) (b : Batch) : Type 0 where

@@ -6,7 +6,7 @@ ghost use Rattle.sky_model.specs.LawsOfHistories.{HistoriesAreMadeByOwnCalls, Ho
 ghost use Rattle.sky_model.specs.LawsOfLines.{BadWordIsLeast, LinesAreInForm};
 ghost use Rattle.sky_model.specs.LawsOfLocks.{DeadlocksAreRings, HoldersHaveWritten, NothingIsReady, WritersHaveWritten};
 ghost use Rattle.sky_model.specs.LawsOfQueues.{BusyQueuesStand, NewQueuesAreOthers, OtherQueuesKeepNothing, ProducersHaveWork, QueuesOfConsumersStand, QueuesOfTriggersStand};
-ghost use Rattle.sky_model.specs.LawsOfRetries.{EventsComeOnce, RetriesAreCopies, RetriesAreForTheirSubscription, RetriesAreListed, RetriesAreOfActiveBatches, RetriesComeBackAtCalls, RetriesComeBackDue, RetriesWaitOnce};
+ghost use Rattle.sky_model.specs.LawsOfRetries.{EventsComeOnce, RetriesAreCopies, RetriesAreForTheirSubscription, RetriesAreListed, RetriesAreOfActiveBatches, RetriesComeBackAtCalls, RetriesComeBackDue, OwnedEventsComeBack, RetriesWaitOnce};
 ghost use Rattle.sky_model.specs.LawsOfRotation.{ActiveBatchesAreStored, NeededEventsAreStored, NewestTicksAreKept, PendingSwitchesRun, PositionsAreKept, SwitchesAreCommitted, SwitchesBeginAfterPeriods, SwitchesBeginFree, SwitchesDropTicks, SwitchesWerePending, TablesHoldWhatWasPut};
 ghost use Rattle.sky_model.specs.LawsOfRows.{RowsAreReadUnderSnapshots};
 ghost use Rattle.sky_model.specs.LawsOfSnapshots.{BatchesAreSelectedBySnapshots, SnapshotsSeeWhatHasEnded};
@@ -109,15 +109,16 @@ pub fn subscriptions_are_given_once()
 /// there, with the subscription as its owner and one retry more; it was asked for of an active batch of this
 /// subscription, which lists that event; and for each event id of a subscription at most one waits. One that comes back
 /// waited and is due, its event was put just before, of a transaction that hadn't ended, and it waits no more; it comes
-/// back at the moment of the call that brings it. Its event is in each batch of its subscription whose opening tick was
-/// made before, and whose closing tick is made later, and in no other batch across that place; and a batch lists at
-/// most one event of an id and a transaction, so it lists this one once. And an event with an owner is in no batch of
-/// another subscription.
+/// back at the moment of the call that brings it, and no event with an owner is put in another way. Its event is in each
+/// batch of its subscription whose opening tick was made before, and whose closing tick is made later, and in no other
+/// batch across that place; and a batch lists at most one event of an id and a transaction, so it lists this one once.
+/// And an event with an owner is in no batch of another subscription.
 pub fn retries_come_back_once()
     ensures copies { RetriesAreCopies }
     ensures listed { RetriesAreOfActiveBatches }
     ensures once { RetriesWaitOnce }
     ensures due { RetriesComeBackDue }
+    ensures puts { OwnedEventsComeBack }
     ensures moment { RetriesComeBackAtCalls }
     ensures in_batches { RetriesAreListed }
     ensures listed_once { EventsComeOnce }

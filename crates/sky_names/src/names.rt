@@ -110,14 +110,19 @@ impl Names {
     }
 }
 
-/// The place of a name's bytes among the hints.
-#[inline(never)]
+/// The place of a name among the hints, by its length, its first byte and its last three: most names differ there, and a
+/// long name takes no more steps than a short one.
 fn hint_place(name: &[u8]) -> usize
     ensures { result < 512 }
 {
-    let mut sum: usize = 0;
-    for byte in name {
-        sum = sum.wrapping_mul(31).wrapping_add(*byte as usize);
-    }
-    sum % HINTS
+    let len = name.len();
+    let sum = match len {
+        0 => 0,
+        1 | 2 => 17 * name[0] as usize + name[len - 1] as usize,
+        _ => {
+            let tail = 100 * name[len - 3] as usize + 10 * name[len - 2] as usize;
+            tail + name[len - 1] as usize + 7 * name[0] as usize
+        }
+    };
+    len.wrapping_mul(64).wrapping_add(sum) % HINTS
 }

@@ -3,6 +3,7 @@ ghost use Rattle.std.specs.Fmt.{decimal};
 ghost use Rattle.sky_model.specs.Moment.{moment, HasMoment};
 ghost use Rattle.sky_model.specs.Printed.{event_text, row_text, count_text, queue_text, batch_text, consumer_text, held_text, name_at, refusal_text, line_text, reply_text, printed, HaveNames, EventsHaveMoments, ReplyHasMoments, HaveMoments};
 ghost use Rattle.sky_txid.specs.SnapshotText.{snapshot_text};
+ghost use Rattle.londiste_state.specs.StateText.{state_text};
 ghost use Rattle.sky_print.specs.Kept.{Keeps};
 
 use crate::event::append_event;
@@ -12,6 +13,7 @@ use crate::queue::{append_batch_info, append_consumer_info, append_queue};
 use crate::refusal::append_refusal;
 use crate::row::append_row;
 use itoa::Buffer;
+use londiste_state::TableState;
 use sky_model::{BatchInfo, ConsumerInfo, HeldBack, QueueInfo, Refusal, Replies, Reply};
 use sky_txid::Snapshot;
 use sky_val::{Event, NoMemory, Row, SessionId, Text, Val};
@@ -87,6 +89,7 @@ fn append_reply(
         Reply::BatchInfo(batch) => append_batch_line(name, batch.as_info(), into),
         Reply::ConsumerInfo(consumer) => append_consumer_line(name, consumer, into),
         Reply::HeldBack(held) => append_held_line(name, held, into),
+        Reply::State(state) => append_state(name, *state, into),
         Reply::Refused(refusal) => append_refused(names, name, refusal, into),
     }
 }
@@ -245,6 +248,17 @@ fn append_held_line(name: &[u8], held: &HeldBack, into: &mut Vec<u8>) -> Result<
     Ok(())
 }
 
+fn append_state(name: &[u8], state: TableState, into: &mut Vec<u8>) -> Result<(), NoMemory>
+    ensures ok { OnOk result
+        (into.new.items ≡ into.old.items ++ line_text name.now (state_text state)) }
+    ensures kept { OnErr result (Keeps into.old.items into.new.items) }
+{
+    append_name(name, into)?;
+    state.print(into)?;
+    into.push(b'\n')?;
+    Ok(())
+}
+
 fn append_refused(
     names: &[Text],
     name: &[u8],
@@ -263,6 +277,8 @@ fn append_refused(
 }
 
 // What comes before a line of the session of this name.
+// Always inlined: each line begins with it, and a call takes as many steps as its work.
+#[inline(always)]
 fn append_name(name: &[u8], into: &mut Vec<u8>) -> Result<(), NoMemory>
     ensures ok { OnOk result (into.new.items ≡ into.old.items ++ (name.now ++ codes ": ")) }
     ensures kept { OnErr result (Keeps into.old.items into.new.items) }

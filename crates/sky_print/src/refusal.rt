@@ -1,7 +1,7 @@
-ghost use Rattle.std.specs.Prelude.{◌≡◌, true, ℕ, List, ◌∷◌, ◌++◌, map, codes, OnOk, OnErr};
+ghost use Rattle.std.specs.Prelude.{◌≡◌, true, ◌||◌, ℕ, List, ◌∷◌, ◌++◌, map, codes, OnOk, OnErr};
 ghost use Rattle.std.specs.Fmt.{decimal};
 ghost use Rattle.sky_model.specs.Printed.{spaced, limit_name, limit_text, bad_row_text, name_at, refusal_text};
-ghost use Rattle.sky_print.specs.Fields.{has_no_field};
+ghost use Rattle.sky_print.specs.Fields.{has_no_field, is_on_node};
 ghost use Rattle.sky_print.specs.Kept.{Keeps};
 
 use crate::event::append_number_word;
@@ -42,6 +42,27 @@ pub(crate) fn append_refusal(
         Refusal::TooMany(limit) => append_limit(*limit, into),
         Refusal::TriggerExists(name) => append_named(b"TriggerExists ", name.bytes(), into),
         Refusal::TwiceNamed(column) => append_named(b"TwiceNamed ", column.bytes(), into),
+        _ => append_on_node(refusal, into),
+    }
+}
+
+// One on nodes with the name after it, or one of which nothing else is printed.
+fn append_on_node(refusal: &Refusal, into: &mut Vec<u8>) -> Result<(), NoMemory>
+    requires { (is_on_node refusal.now || has_no_field refusal.now) ≡ true }
+    ensures ok { (names : List (List ℕ)) → OnOk result (into.new.items ≡ into.old.items ++ refusal_text names refusal.now) }
+    ensures kept { OnErr result (Keeps into.old.items into.new.items) }
+{
+    match refusal {
+        Refusal::AlreadyInSet(table) => append_named(b"AlreadyInSet ", table.bytes(), into),
+        Refusal::ConsumerExists(name) => append_named(b"ConsumerExists ", name.bytes(), into),
+        Refusal::NodeExists(name) => append_named(b"NodeExists ", name.bytes(), into),
+        Refusal::NoNode(name) => append_named(b"NoNode ", name.bytes(), into),
+        Refusal::NotInSet(table) => append_named(b"NotInSet ", table.bytes(), into),
+        Refusal::NotLeaf(name) => append_named(b"NotLeaf ", name.bytes(), into),
+        Refusal::NotProvider(name) => append_named(b"NotProvider ", name.bytes(), into),
+        Refusal::QueueExists(name) => append_named(b"QueueExists ", name.bytes(), into),
+        Refusal::SchemaDiffers(table) => append_named(b"SchemaDiffers ", table.bytes(), into),
+        Refusal::TableInUse(node) => append_named(b"TableInUse ", node.bytes(), into),
         _ => into.extend_from_slice(name_alone(refusal)),
     }
 }
@@ -67,6 +88,9 @@ fn name_alone(refusal: &Refusal) -> &'static [u8]
         Refusal::NodeConsumer => b"NodeConsumer",
         Refusal::NoKey => b"NoKey",
         Refusal::NotOpen => b"NotOpen",
+        Refusal::ReadOnly => b"ReadOnly",
+        Refusal::ReservedType => b"ReservedType",
+        Refusal::SetQueue => b"SetQueue",
         Refusal::TxidsSpent => b"TxidsSpent",
         _ => unreachable!(),
     }

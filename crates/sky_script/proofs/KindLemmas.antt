@@ -101,7 +101,7 @@ unquotes_plain inside text false from i is order within no_quote no_feed no_zero
     rw longer (unquotes_byte inside (text ++ front) false i within refl no_quote no_feed no_zero so)
 
 -- bytes that stand for themselves, up to the closing quote, are the text
-as_written : (text : List ℕ) → list_all (λ b. not (b == 39) && is_text_byte b) text ≡ true → text_from false (text ++ 39 ∷ []) ≡ Some text
+pub as_written : (text : List ℕ) → list_all (λ b. not (b == 39) && is_text_byte b) text ≡ true → text_from false (text ++ 39 ∷ []) ≡ Some text
 as_written [] all = refl
 as_written (b ∷ bs) all =
     let here = and_parts (not (b == 39) && is_text_byte b) (list_all (λ b. not (b == 39) && is_text_byte b) bs) all in

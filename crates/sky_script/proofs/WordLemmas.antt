@@ -1,8 +1,12 @@
 -- Going over the bytes of a line up to the space that ends its first word.
-use Rattle.std.proofs.Common.{◌≡◌, ℕ, ◌+◌, ◌<◌, ◌≤◌, Bool, true, false, cond, List, [], ◌∷◌, ◌++◌, length, take, drop, get_or, refl, sym, ap, ◌∙◌, append_assoc}
-use Rattle.std.proofs.lemmas.List.{drop_more, take_more, take_all, append-nil}
+use Rattle.std.proofs.Common.{◌≡◌, ◌==◌, ◌&&◌, not, ℕ, ◌+◌, ◌<◌, ◌≤◌, Bool, true, false, cond, List, [], ◌∷◌, ◌++◌, length, take, drop, get_or, refl, sym, ap, ◌∙◌, append_assoc, arith}
+use Rattle.std.proofs.lemmas.Bool.{and_parts, not-true}
+use Rattle.std.proofs.lemmas.List.{drop_more, take_more, take_all, append-nil, take-append-drop}
 use Rattle.std.proofs.Math.ListN.{drop_of_length-le}
+use Rattle.std.specs.List.{list_all, slice_range}
+use Rattle.sky_model.specs.Kinds.{is_text_byte}
 use Rattle.sky_model.specs.Words.{is_parting, quoted_after, with_first, pieces, words}
+use Rattle.sky_script.specs.Unread.{in_quotes}
 
 -- pieces with these bytes in front of the first
 abbrev pub behind : List ℕ → List (List ℕ) → List (List ℕ)
@@ -49,3 +53,38 @@ reaches_end bytes quoted i inside ends so =
 pub reaches_all : (bytes : List ℕ) (quoted : Bool) (i : ℕ) → length bytes ≤ i → Reaches bytes quoted i → words bytes ≡ bytes ∷ []
 reaches_all bytes quoted i done so =
     so.so_far ∙ ap (λ front. behind front (pieces quoted (drop i bytes))) (take_all i bytes done) ∙ ap (λ bs. behind bytes (pieces quoted bs)) (drop_of_length-le bytes done) ∙ ap (λ front. front ∷ []) (append-nil bytes)
+
+-- a text without a quote, from after its opening quote on: its closing quote is in the same word
+pieces_in_quotes : (text tail : List ℕ) (rest : List (List ℕ)) → list_all (λ b. not (b == 39) && is_text_byte b) text ≡ true → pieces false tail ≡ [] ∷ rest
+    → pieces true (text ++ 39 ∷ tail) ≡ (text ++ 39 ∷ []) ∷ rest
+pieces_in_quotes [] tail rest all ends = ap (with_first 39) ends
+pieces_in_quotes (b ∷ bs) tail rest all ends =
+    let here = and_parts (not (b == 39) && is_text_byte b) (list_all (λ b. not (b == 39) && is_text_byte b) bs) all in
+    let no_quote : (b == 39) ≡ false = not-true (b == 39) (and_parts (not (b == 39)) (is_text_byte b) here.0).0 in
+    rw no_quote (ap (with_first b) (pieces_in_quotes bs tail rest here.1 ends))
+
+-- a text in quotes, of bytes that stand for themselves, is the first word if its closing quote is the last byte or a space follows it
+pub first_in_quotes : (line inside : List ℕ) (end : ℕ) (rest : List (List ℕ)) → line ≡ 39 ∷ inside → list_all (λ b. not (b == 39) && is_text_byte b) (take end inside) ≡ true
+    → end < length inside → get_or inside end 0 ≡ 39 → pieces false (drop (end + 1) inside) ≡ [] ∷ rest → words line ≡ in_quotes (take end inside) ∷ rest
+first_in_quotes line inside end rest begins all within closes ends =
+    let parts : inside ≡ take end inside ++ 39 ∷ drop (end + 1) inside =
+    sym (take-append-drop end inside) ∙ ap (λ bs. take end inside ++ bs) (drop_more inside end 0 within ∙ ap (λ b. b ∷ drop (end + 1) inside) closes) in
+    let same : line ≡ 39 ∷ (take end inside ++ 39 ∷ drop (end + 1) inside) = begins ∙ ap (λ bs. 39 ∷ bs) parts in
+    ap words same ∙ ap (with_first 39) (pieces_in_quotes (take end inside) (drop (end + 1) inside) rest all ends)
+
+-- what follows the closing quote: nothing, or a space and the further words
+pub ends_line : (bs : List ℕ) (end : ℕ) → length bs ≤ end → pieces false (drop end bs) ≡ [] ∷ []
+ends_line bs end none = ap (pieces false) (drop_of_length-le bs none)
+
+pub ends_word : (bs : List ℕ) (end next : ℕ) → end + 1 ≡ next → end < length bs → get_or bs end 0 ≡ 32 → pieces false (drop end bs) ≡ [] ∷ words (drop next bs)
+ends_word bs end next is within space = ap (pieces false) (drop_more bs end 0 within ∙ ap (λ b. b ∷ drop (end + 1) bs) space) ∙ ap (λ n. [] ∷ words (drop n bs)) is
+
+-- a part from the start on is the first bytes
+pub slice_front : (xs : List ℕ) (n : ℕ) → slice_range xs 0 n ≡ take n xs
+slice_front xs n = ap (λ m. take m xs) (omega arith)
+
+-- what follows the first byte
+pub after_first : (line rest inside : List ℕ) (b first : ℕ) → line ≡ b ∷ rest → b ≡ first → inside ≡ drop 1 line → line ≡ first ∷ inside
+after_first line rest inside b first begins opens behind =
+    let same : inside ≡ rest = behind ∙ ap (drop 1) begins in
+    begins ∙ ap (λ c. c ∷ rest) opens ∙ ap (λ bs. first ∷ bs) (sym same)

@@ -1,5 +1,5 @@
 -- What is left of a line while it is read.
-use Rattle.std.specs.Prelude.{◌≡◌, ℕ, ◌+◌, ◌<◌, ◌≤◌, List, [], ◌∷◌, Option, Some, None, length, take, drop, slice_index}
+use Rattle.std.specs.Prelude.{◌≡◌, ℕ, ◌+◌, ◌<◌, ◌≤◌, List, [], ◌∷◌, ◌++◌, Option, Some, None, length, take, drop, slice_index}
 use Rattle.sky_model.specs.Words.{words}
 
 -- the words that are left, and the number of the first of them
@@ -23,3 +23,7 @@ pub record EndsWord (place : ℕ) (bytes : List ℕ) : Type 0 where
   pub space : place < length bytes → slice_index bytes place ≡ 32
   pub parted : place < length bytes → words bytes ≡ take place bytes ∷ words (drop (place + 1) bytes)
   pub whole : place ≡ length bytes → words bytes ≡ bytes ∷ []
+
+-- a text between quotes
+abbrev pub in_quotes : List ℕ → List ℕ
+in_quotes text = 39 ∷ (text ++ 39 ∷ [])

@@ -5,6 +5,7 @@ ghost use Rattle.sky_script.specs.Reading.{AnswersAmong, of_six, of_twelve, of_s
 
 use crate::cause::LineCause;
 use crate::clock_forms::{clock, pgqd};
+use crate::node_forms::{add_table, create_leaf, create_root, remove_table, table_state};
 use crate::queue_forms::{
     consumer_info, create_queue, drop_queue, event_retry, finish_batch, force_tick,
     get_batch_events, get_batch_info, insert_event, maint_retry_events, maint_rotate_step1,
@@ -79,6 +80,9 @@ fn read_twelve(alloc: Global, first: &[u8], words: &mut Words) -> Result<Stmt, L
     if first == b"create_queue".as_slice() {
         return create_queue(alloc, words);
     }
+    if first == b"remove_table".as_slice() {
+        return remove_table(alloc, words);
+    }
     Err(words.refused())
 }
 
@@ -136,6 +140,18 @@ fn read_middle(alloc: Global, first: &[u8], words: &mut Words) -> Result<Stmt, L
     }
     if first == b"event_retry".as_slice() {
         return event_retry(words);
+    }
+    if first == b"create_root".as_slice() {
+        return create_root(alloc, words);
+    }
+    if first == b"create_leaf".as_slice() {
+        return create_leaf(alloc, words);
+    }
+    if first == b"add_table".as_slice() {
+        return add_table(alloc, words);
+    }
+    if first == b"table_state".as_slice() {
+        return table_state(alloc, words);
     }
     Err(words.refused())
 }

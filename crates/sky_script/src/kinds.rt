@@ -1,6 +1,6 @@
 //! The tests of single words.
 
-ghost use Rattle.std.specs.Prelude.{◌≡◌, ◌==◌, ◌&&◌, not, false, Some, IfOk, IfSome, option_map, string_bytes};
+ghost use Rattle.std.specs.Prelude.{◌≡◌, ◌≤◌, ◌==◌, ◌&&◌, not, true, false, Some, IfOk, IfSome, length, take, option_map, string_bytes};
 ghost use Rattle.std.specs.List.{list_all};
 ghost use Rattle.sky_model.specs.Kinds as kind;
 
@@ -100,6 +100,20 @@ fn stands_for_itself(byte: u8) -> bool
 {
     // Most bytes are above a quote, so that they take one comparison.
     byte > b'\'' || (byte != b'\'' && byte != b'\n' && byte != 0)
+}
+
+/// A place before which each byte stands for itself: of the first byte that doesn't, or of the end.
+#[inline(never)]
+pub(crate) fn text_end(bytes: &[u8]) -> usize
+    ensures within { result ≤ length bytes.now }
+    ensures before { list_all (λ b. not (b == 39) && kind.is_text_byte b) (take result bytes.now) ≡ true }
+{
+    for (i, byte) in bytes.iter().enumerate() {
+        if !stands_for_itself(*byte) {
+            return i;
+        }
+    }
+    bytes.len()
 }
 
 #[inline(never)]

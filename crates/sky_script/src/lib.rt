@@ -11,6 +11,7 @@ mod clock_forms;
 mod forms;
 mod kinds;
 mod lists;
+mod node_forms;
 mod parse;
 mod queue_forms;
 mod row_forms;

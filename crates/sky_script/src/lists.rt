@@ -36,8 +36,19 @@ pub(crate) fn row(alloc: Global, words: &mut Words) -> Result<Row, LineCause>
 pub(crate) fn key(alloc: Global, words: &mut Words) -> Result<Key, LineCause>
     ensures { MatchResult result (λ key. GoesLast kind.Value key words.old) (λ cause. StopsLast kind.Value cause words.old) }
 {
-    let values = values(alloc, words)?;
-    Ok(Key::new(values))
+    // Most keys have one value, for which no list is made.
+    let first = words.value(alloc)?;
+    if words.at_end() {
+        return Ok(Key::one(first));
+    }
+    let mut values = Vec::new(alloc);
+    values.push(first)?;
+    loop {
+        values.push(words.value(alloc)?)?;
+        if words.at_end() {
+            return Ok(Key::new(values));
+        }
+    }
 }
 
 /// A key's values, and the word `set` after them.

@@ -6,11 +6,11 @@ ghost use Rattle.sky_model.specs.Words.{words};
 ghost use Rattle.sky_model.specs.Kinds.{Kind, Name, Dotted, Number, OptText, Raw, Of, value};
 ghost use Rattle.sky_model.specs.Kinds as kind;
 ghost use Rattle.sky_model.specs.Grammar.{Row, stop, literal, either, many, next, optional, text_of, some_until, line_of_words, run_of, statement_of};
-ghost use Rattle.sky_script.specs.Unread.{words_in, EndsWord};
+ghost use Rattle.sky_script.specs.Unread.{words_in, in_quotes, EndsWord};
 ghost use Rattle.sky_script.specs.Reading.{Answers, IsAnswer, Reads};
 
 use crate::cause::LineCause;
-use crate::kinds::{advance_of, is_bare_word, is_dotted, is_name, quoted_text};
+use crate::kinds::{advance_of, is_bare_word, is_dotted, is_name, quoted_text, text_end};
 use crate::row_words::{column_of, ignore_of, set_of, value_of};
 use sky_model::{ColumnNames, Fixed, Set};
 use sky_val::{Column, Text, Val, number_of};
@@ -88,6 +88,31 @@ fn split_word(text: &str) -> (&str, Option<&str>)
         return (text, None);
     }
     (&text[..end], Some(&text[end + 1..]))
+}
+
+/// What is between the quotes of the word that a text begins with, and what follows the space that ends the word: only if
+/// each byte between them stands for itself. Most texts are so, and each byte of these is compared once.
+fn split_text(text: &str) -> Option<(&str, Option<&str>)>
+    ensures split { IfSome result (λ found. words text.now ≡ in_quotes found.0.now ∷ words_in (option_copied found.1)) }
+    ensures text { IfSome result (λ found. kind.quoted_text (in_quotes found.0.now) ≡ Some found.0.now) }
+    ensures shorter { IfSome result (λ found. IfSome found.1 (λ rest. length rest.now < length text.now)) }
+{
+    let Some((b'\'', _)) = text.as_bytes().split_first() else {
+        return None;
+    };
+    let inside = &text[1..];
+    let bytes = inside.as_bytes();
+    let end = text_end(bytes);
+    if end == bytes.len() || bytes[end] != b'\'' {
+        return None;
+    }
+    if end + 1 == bytes.len() {
+        return Some((&inside[..end], None));
+    }
+    if bytes[end + 1] != b' ' {
+        return None;
+    }
+    Some((&inside[..end], Some(&inside[end + 2..])))
 }
 
 fn fixed_text(fixed: Fixed) -> &'static str
@@ -267,7 +292,30 @@ impl<'a> Words<'a> {
         number_of(word.as_bytes(), most).ok_or(self.refused())
     }
 
+    /// Takes a word in quotes, if one comes next whose bytes each stand for themselves, and gives what is between them.
+    fn plain_text(&mut self) -> Option<&'a str>
+        ensures text { IfSome result (λ text. kind.quoted_text (in_quotes text.now) ≡ Some text.now) }
+        ensures word { IfSome result (λ text. (self.old.left ≡ in_quotes text.now ∷ self.new.left) × (self.new.number ≡ self.old.number + 1)) }
+        ensures none { IfNone result (self.new ≡ self.old) }
+    {
+        let (text, rest) = split_text(self.rest?)?;
+        self.rest = rest;
+        self.taken += 1;
+        Some(text)
+    }
+
     pub(crate) fn opt_text(&mut self, alloc: Global) -> Result<Option<Text>, LineCause>
+        ensures { Reads OptText result self.old self.new }
+    {
+        match self.plain_text() {
+            Some(text) => Ok(Some(Text::from_str(alloc, text)?)),
+            None => self.null_or_text(alloc),
+        }
+    }
+
+    // Never inlined, so that the text above is made where it is wanted.
+    #[inline(never)]
+    fn null_or_text(&mut self, alloc: Global) -> Result<Option<Text>, LineCause>
         ensures { Reads OptText result self.old self.new }
     {
         let word = self.word()?;

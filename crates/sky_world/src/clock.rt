@@ -118,34 +118,48 @@ impl World {
         Ok(())
     }
 
-    /// The daemon of a database does those parts of its work that are due, in their order.
+    /// The daemon of a database, if it is on, does those parts of its work that are due, in their order.
     fn work_in(&mut self, database: usize) -> Result<(), NoMemory>
         requires { database < length self.old.databases.names }
         ensures works { OnOk result (Works self.old self.new (daemon_works by_world database (seen_world self.old))) }
         ensures failed { OnOk result (self.new.has_failed ≡ self.old.has_failed) }
     {
-        self.work_part(database, DaemonPart::Tick)?;
-        self.work_part(database, DaemonPart::Retry)?;
-        self.work_part(database, DaemonPart::Maintain)?;
+        let Some(start) = self.daemons.get(&database) else {
+            return Ok(());
+        };
+        let start = *start;
+        self.work_part(database, DaemonPart::Tick, start)?;
+        self.work_part(database, DaemonPart::Retry, start)?;
+        self.work_part(database, DaemonPart::Maintain, start)?;
         Ok(())
     }
 
-    /// The daemon of a database does a part of its work, if that is due.
-    fn work_part(&mut self, database: usize, part: DaemonPart) -> Result<(), NoMemory>
-        requires { database < length self.old.databases.names }
+    /// The daemon of a database, which was started at a moment, does a part of its work, if that is due.
+    fn work_part(
+        &mut self,
+        database: usize,
+        part: DaemonPart,
+        start: i64,
+    ) -> Result<(), NoMemory>
+        requires database { database < length self.old.databases.names }
+        requires started { (seen_world self.old).daemons database ≡ Some start }
+        requires time { IsTime start }
         ensures works { OnOk result (Works self.old self.new (part_works by_world database part (seen_world self.old))) }
+        ensures daemons { OnOk result (self.new.daemons ≡ self.old.daemons) }
         ensures failed { OnOk result (self.new.has_failed ≡ self.old.has_failed) }
     {
-        match self.daemons.get(&database) {
-            Some(start) if is_due(self.clock, part, *start) => self.do_part(database, part),
-            _ => Ok(()),
+        if !is_due(self.clock, part, start) {
+            return Ok(());
         }
+        self.do_part(database, part)?;
+        Ok(())
     }
 
     fn do_part(&mut self, database: usize, part: DaemonPart) -> Result<(), NoMemory>
         requires database { database < length self.old.databases.names }
         requires due { is_due_at self.old.now part ((seen_world self.old).daemons database) ≡ true }
         ensures works { OnOk result (Works self.old self.new (part_works by_world database part (seen_world self.old))) }
+        ensures daemons { OnOk result (self.new.daemons ≡ self.old.daemons) }
         ensures failed { OnOk result (self.new.has_failed ≡ self.old.has_failed) }
     {
         let store = self.databases.get_mut(database);

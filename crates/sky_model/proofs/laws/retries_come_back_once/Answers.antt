@@ -1,4 +1,5 @@
 use Rattle.sky_model.proofs.RetryLaws as law
+use Rattle.sky_model.proofs.OwnedPuts as owned_puts
 use Rattle.sky_model.proofs.RetryMoments as moments
 use Rattle.sky_model.proofs.RetriesListed as listed
 use Rattle.sky_model.proofs.ListedOnce as listed_once
@@ -15,6 +16,9 @@ returns-clause-once c = law.retries_wait_once
 
 pub returns-clause-due : goal.returns-clause-due
 returns-clause-due c = law.retries_come_back_due
+
+pub returns-clause-puts : goal.returns-clause-puts
+returns-clause-puts c = owned_puts.owned_events_come_back
 
 pub returns-clause-moment : goal.returns-clause-moment
 returns-clause-moment c = moments.retries_come_back_at_calls

@@ -1,4 +1,33 @@
+use Rattle.std.proofs.Common.{rules}
+use Rattle.sky_model.specs.Kinds.{Value}
+use Rattle.sky_model.specs.Grammar.{stop}
+use Rattle.sky_script.proofs.ListLemmas.{so_far_none, last_more, last_ends, last_stops, last_memory}
 use Rattle.sky_script.proofs.lists.key.Goals as goal
 
-pub returns : goal.returns
-returns c = rw c.new.ensures c.in_ok-values.ensures
+pub returns-then-at_end : goal.returns-then-at_end
+returns-then-at_end c =
+    rw c.one.ensures (last_ends _ _ _ _ _ _ (so_far_none stop Value c.args.words.now) c.in_ok-first.ensures (c.at_end.ensures.none c.if-at_end.true))
+
+pub returns-in_err-push : goal.returns-in_err-push
+returns-in_err-push c = search (rules, last_memory)
+
+pub loop-values-init : goal.loop-values-init
+loop-values-init c =
+    rw (c.in_ok-push.ensures.items, c.new-values.ensures.items)
+    (last_more _ _ _ _ _ _ (so_far_none stop Value c.args.words.now) c.in_ok-first.ensures (c.at_end.ensures.some c.if-at_end.false))
+
+pub returns-in_err-value : goal.returns-in_err-value
+returns-in_err-value c =
+    let stops = last_stops _ _ _ _ _ c.loop-values.invariant c.in_err-value.ensures in
+    search (rules, stops)
+
+pub returns-in_err-push-2 : goal.returns-in_err-push-2
+returns-in_err-push-2 c = search (rules, last_memory)
+
+pub returns-then-at_end-2 : goal.returns-then-at_end-2
+returns-then-at_end-2 c =
+    rw (c.new.ensures, c.in_ok-push-2.ensures.items) (last_ends _ _ _ _ _ _ c.loop-values.invariant c.in_ok-value.ensures (c.at_end-in-loop-values.ensures.none c.if-at_end-2.true))
+
+pub loop-values-preserved : goal.loop-values-preserved
+loop-values-preserved c =
+    rw c.in_ok-push-2.ensures.items (last_more _ _ _ _ _ _ c.loop-values.invariant c.in_ok-value.ensures (c.at_end-in-loop-values.ensures.some c.if-at_end-2.false))

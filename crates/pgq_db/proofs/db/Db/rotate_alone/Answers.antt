@@ -23,7 +23,7 @@ returns-clause-changed c =
     let d : Database = seen_with (with_node c.self.inside.node p) c.self.inside.queues in
     let left : Database = seen_with (with_node c.self.inside.node after) c.switch.new.queues in
     let none : None ≡ held_back c.args.now (d.queue c.args.queue) =
-    absent _ (sym c.is_some.ensures ∙ c.if-is_some.false) ∙ c.in_ok-held_back.ensures.held ∙ ap (λ (now : ℤ). held_back now (queue_at c.self.inside.queues c.args.queue)) (to_z-of_z w64 c.args.now c.ranges.now) in
+    absent _ (sym c.is_held_back.ensures ∙ c.if-is_held_back.false) ∙ ap (λ (now : ℤ). held_back now (queue_at c.self.inside.queues c.args.queue)) (to_z-of_z w64 c.args.now c.ranges.now) in
     subst (λ (v : DbView). left ≡ after_marks (seen_database v) (marks_of (rotates_by_itself (seen_database v) c.args.now c.args.queue))) c.self.view_is
     (switched-alone d left after c.args.now c.args.queue c.in_ok-txid.txid none c.in_ok-txid.ensures.id c.in_ok-txid.ensures.marks
     (c.switch.ensures.marks (with_node c.self.inside.node after) ∙ ap (λ (now : ℤ). after_marks (seen_with (with_node c.self.inside.node after) c.self.inside.queues) (switch_of c.args.queue c.in_ok-txid.txid now outside)) (to_z-of_z w64 c.args.now c.ranges.now)))

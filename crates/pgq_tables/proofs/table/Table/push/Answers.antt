@@ -17,8 +17,8 @@ invariant_of-self-2 c =
     let counts : Counts c.args.event.ev_txid c.self.inside.places.items c.count_up_to-at.result =
     subst (λ ps. Counts c.args.event.ev_txid ps c.count_up_to-at.result) (c.deref.ensures.value ∙ places_are) (c.count_up_to-at.ensures.within, c.count_up_to-at.ensures.below, c.count_up_to-at.ensures.above) in
     let at_end = pushed c.self.inside.events.items c.self.inside.places.items c.in_ok-stored.stored c.count_up_to-at.result c.self.invariant (subst (λ t. Counts t c.self.inside.places.items c.count_up_to-at.result) (sym txid) counts) in
-    let inserted : c.insert.new.self.items ≡ insert c.reserve-2.new.self.items c.count_up_to-at.result (record { txid = c.args.event.ev_txid; place = c.len-place.result }) = c.in-Ok-Ok.ensures.items in
-    let appended : c.push.new.self.items ≡ c.reserve.new.self.items ++ c.in_ok-stored.stored ∷ [] = c.in-Ok-Ok.ensures'.items in
+    let inserted : c.insert_reserved.new.places.items ≡ insert c.reserve-2.new.self.items c.count_up_to-at.result (record { txid = c.args.event.ev_txid; place = c.len-place.result }) = c.insert_reserved.ensures in
+    let appended : c.push_reserved.new.self.items ≡ c.reserve.new.self.items ++ c.in_ok-stored.stored ∷ [] = c.push_reserved.ensures.items in
     inserted
     ∙ (λ i. insert (places_are i) c.count_up_to-at.result (record { txid = sym txid i; place = place i }))
     ∙ at_end

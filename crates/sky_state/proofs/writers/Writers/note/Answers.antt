@@ -1,4 +1,4 @@
-use Rattle.std.proofs.Common.{◌≡◌, ℕ, List, Some, sym, unwrap_or, IsSome, bit_or, refl, subst, ◌∙◌, ap}
+use Rattle.std.proofs.Common.{ℕ, List, unwrap_or, IsSome, refl, subst, ◌∙◌, ap}
 use Rattle.std.specs.Prelude.{◌||◌, ◌&&◌, ◌==◌}
 use Rattle.std.specs.Map.{lookup}
 use Rattle.std.specs.BTreeMap.{is_at}

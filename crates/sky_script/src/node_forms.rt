@@ -1,0 +1,60 @@
+//! The statement forms on nodes of sets: of each, what follows its first word.
+
+ghost use Rattle.sky_model.specs.declared.stmt.NodeStmt.TheVariants as node;
+ghost use Rattle.sky_model.specs.Kinds.{Name, Dotted};
+ghost use Rattle.sky_model.specs.Grammar.{one, last};
+ghost use Rattle.sky_script.specs.Reading.{Answers};
+
+use crate::cause::LineCause;
+use crate::words::Words;
+use sky_model::{NodeStmt, Stmt};
+use std::alloc::Global;
+
+pub(crate) fn create_root(alloc: Global, words: &mut Words) -> Result<Stmt, LineCause>
+    ensures { Answers result (one Name (λ name. last Name (λ queue. Stmt.CreateRoot name queue))) words.old }
+{
+    let name = words.name(alloc)?;
+    let queue = words.name(alloc)?;
+    words.end()?;
+    Ok(Stmt::CreateRoot { name, queue })
+}
+
+pub(crate) fn create_leaf(alloc: Global, words: &mut Words) -> Result<Stmt, LineCause>
+    ensures { let row = one Name (λ name. last Name (λ provider. Stmt.Node (node.CreateLeaf name provider))) in
+        Answers result row words.old }
+{
+    let name = words.name(alloc)?;
+    let provider = words.name(alloc)?;
+    words.end()?;
+    Ok(Stmt::Node(NodeStmt::CreateLeaf { name, provider }))
+}
+
+pub(crate) fn add_table(alloc: Global, words: &mut Words) -> Result<Stmt, LineCause>
+    ensures { let row = one Name (λ name. last Dotted (λ table. Stmt.Node (node.AddTable name table))) in
+        Answers result row words.old }
+{
+    let name = words.name(alloc)?;
+    let table = words.dotted(alloc)?;
+    words.end()?;
+    Ok(Stmt::Node(NodeStmt::AddTable { name, table }))
+}
+
+pub(crate) fn remove_table(alloc: Global, words: &mut Words) -> Result<Stmt, LineCause>
+    ensures { let row = one Name (λ name. last Dotted (λ table. Stmt.Node (node.RemoveTable name table))) in
+        Answers result row words.old }
+{
+    let name = words.name(alloc)?;
+    let table = words.dotted(alloc)?;
+    words.end()?;
+    Ok(Stmt::Node(NodeStmt::RemoveTable { name, table }))
+}
+
+pub(crate) fn table_state(alloc: Global, words: &mut Words) -> Result<Stmt, LineCause>
+    ensures { let row = one Name (λ name. last Dotted (λ table. Stmt.Node (node.TableState name table))) in
+        Answers result row words.old }
+{
+    let name = words.name(alloc)?;
+    let table = words.dotted(alloc)?;
+    words.end()?;
+    Ok(Stmt::Node(NodeStmt::TableState { name, table }))
+}
