@@ -3,7 +3,7 @@ use Rattle.std.proofs.Common.{◌≡◌, ℕ, zero, suc, ℤ, ◌+◌, ◌<◌, 
 use Rattle.sky_model.specs.declared.reply.Reply.TheVariants.{Number, Null}
 use Rattle.sky_model.specs.declared.reply.Refusal.TheVariants.{IdsSpent}
 use Rattle.sky_model.specs.declared.daemon.DaemonPart.{DaemonPart}
-use Rattle.sky_model.specs.History.{Mark, QueueMark, of_worker, began, ended, queued, ticked, made, raised, put, registered, moved, unregistered, opened, closed, asked, returned, switching, switched, second_step, configured, dropped, traced}
+use Rattle.sky_model.specs.History.{Mark, QueueMark, of_worker, began, ended, queued, ticked, made, raised, put, registered, moved, unregistered, opened, closed, asked, returned, switching, switched, second_step, configured, dropped, traced, untraced}
 use Rattle.sky_model.proofs.StatementMarks.{EachMark}
 use Rattle.sky_model.proofs.DaemonTurns.{each-daemon_does}
 use Rattle.sky_model.specs.Queues.{NamedQueue}
@@ -224,6 +224,7 @@ queue-waits d (second_step q t) = refl
 queue-waits d (configured q config) = refl
 queue-waits d (dropped q) = refl
 queue-waits d (traced table name trigger) = refl
+queue-waits d (untraced table) = refl
 
 waits-stay : (d : Database) (marks : List Mark) → EachMark leaves_waits marks → (after_marks d marks).part.waiting ≡ d.part.waiting
 waits-stay d [] all = refl

@@ -11,7 +11,7 @@ use Rattle.sky_names.specs.Named.{value_of}
 use Rattle.sky_urlenc.specs.RowEvents.{RowEvent, Trigger, events_of, event_of}
 use Rattle.sky_model.specs.declared.reply.Refusal.TheVariants.{EventIdsSpent}
 use Rattle.londiste_state.specs.Nodes.{Node}
-use Rattle.sky_model.specs.History.{Mark, Whose, of_session, ended, tabled, wrote, queued}
+use Rattle.sky_model.specs.History.{Mark, Whose, of_session, ended, tabled, wrote, queued, noded}
 use Rattle.sky_model.specs.Triggers.{TableTrigger, triggers_of}
 use Rattle.sky_model.specs.State.{Queue, RowPart, after_part, after_part_marks, Database, changed_at, with_tables, after_mark, after_marks}
 use Rattle.sky_model.specs.Outcome.{Checked, ◌>>=◌, ◌>>◌, refused_if}
@@ -189,6 +189,7 @@ module _ (now : ℤ) (node : Option Node) where
   whole-other d p q (ended who t true) other is = ap (λ x. after_mark x (ended who t true)) is
   whole-other d p q (ended who t false) other is = absurd other
   whole-other d p q (queued mark) other is = absurd other
+  whole-other d p q (noded mark) other is = absurd other
   whole-other d p q mark other is = ap (λ x. after_mark x mark) is
 
   other-alike : (d : Database) (p : RowPart) (q : QueuesView) (mark : Mark) → IsOther mark → Here d p q → Here (after_mark d mark) (after_part p mark) q
@@ -343,6 +344,7 @@ pub unwritten : (node : Option Node) (p : RowPart) (q : QueuesView) (marks : Lis
     → seen_with (with_node node (after_part_marks p marks)) (passed_all event_rule q marks) ≡ after_marks (seen_with (with_node node p) q) marks
 unwritten node p q [] rows plain = refl
 unwritten node p q (queued mark ∷ marks) rows plain = absurd rows
+unwritten node p q (noded mark ∷ marks) rows plain = absurd rows
 unwritten node p q (tabled (wrote who t table key old new) ∷ marks) rows plain = absurd plain
 unwritten node p q (ended whose t false ∷ marks) rows plain =
     unwritten node (after_part p (ended whose t false)) (event_rule.undone q t) marks rows plain ∙ ap (λ x. after_marks x marks) (sym (undone-shown node p q whose t))

@@ -12,3 +12,4 @@ pub mod RetrySteps
 pub mod Switched
 pub mod RotationSteps
 pub mod Looking
+pub mod NodeSteps

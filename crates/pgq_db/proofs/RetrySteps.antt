@@ -27,8 +27,8 @@ module _ (d : Database) (now : ℤ) (id event seconds : ℕ) (b : model.Batch) (
   -- once the batch is found
   within : (o : Option Event) → find (λ e. e.ev_id == event) (selected d b) ≡ o → event_retry d (shown_by d).events now id event seconds ≡ (found_or o NoEvent >>= (λ e. asks_for d (retry_of now seconds b e)))
   within o is =
-      ap (λ found. found_or (option_map (selected d) found) NoBatch >>= (λ events. found_or found NoBatch >>= (λ batch. refused_if (is_nodes_batch d batch) NodeConsumer >> found_or (find (λ e. e.ev_id == event) events) NoEvent >>= (λ e. asks_for d (retry_of now seconds batch e))))) (sym there)
-      ∙ ap (λ x. refused_if x NodeConsumer >> found_or (find (λ e. e.ev_id == event) (selected d b)) NoEvent >>= (λ e. asks_for d (retry_of now seconds b e))) foreign
+      ap (λ found. found_or (option_map (selected d) found) NoBatch >>= (λ events. found_or found NoBatch >>= (λ batch. refused_if (is_nodes_batch d batch) NodeConsumer >> (found_or (find (λ e. e.ev_id == event) events) NoEvent >>= (λ e. asks_for d (retry_of now seconds batch e)))))) (sym there)
+      ∙ ap (λ x. refused_if x NodeConsumer >> (found_or (find (λ e. e.ev_id == event) (selected d b)) NoEvent >>= (λ e. asks_for d (retry_of now seconds b e)))) foreign
       ∙ ap (λ x. found_or x NoEvent >>= (λ e. asks_for d (retry_of now seconds b e))) is
 
   pub no-event : None ≡ find (λ e. e.ev_id == event) (selected d b) → event_retry d (shown_by d).events now id event seconds ≡ Err NoEvent

@@ -214,10 +214,7 @@ impl Db {
     pub(crate) fn is_set_queue(&self, queue: &Text) -> bool
         ensures { result ≡ is_set_queue queue.now (seen_database self.now).node }
     {
-        match &self.node {
-            Some(Node::Root(root)) => *queue == *root.queue(),
-            _ => false,
-        }
+        is_set_queue(&self.node, queue)
     }
 
     /// Whether a consumer of the queue of this name is a node's, so that no session may use it.
@@ -246,6 +243,16 @@ impl Db {
             }
             _ => false,
         }
+    }
+}
+
+/// The same, of a node: `add_trigger` holds a table meanwhile.
+pub(crate) fn is_set_queue(node: &Option<Node>, queue: &Text) -> bool
+    ensures { result ≡ is_set_queue queue.now node.now }
+{
+    match node {
+        Some(Node::Root(root)) => *queue == *root.queue(),
+        _ => false,
     }
 }
 

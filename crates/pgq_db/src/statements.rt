@@ -1,8 +1,9 @@
 //! The statements, each in the database that its session has open. A refusal changes nothing there but
 //! that it may abort the session's block.
 
-ghost use Rattle.std.specs.Prelude.{◌≡◌, ◌+◌, ◌<◌, find, not, option_copied, [], ◌∷◌, ◌++◌, true, false, if◌then◌else◌, None, Some, Ok, Err, IfOk, IfErr, OnOk, length};
+ghost use Rattle.std.specs.Prelude.{◌≡◌, ◌&&◌, ◌+◌, ◌<◌, find, not, option_copied, [], ◌∷◌, ◌++◌, true, false, if◌then◌else◌, None, Some, Ok, Err, IfOk, IfErr, OnOk, length};
 ghost use Rattle.sky_model.specs.declared.stmt.Where.TheVariants.{WhenReading, WhenOutside};
+ghost use Rattle.sky_model.specs.Nodes.{is_set_queue};
 ghost use Rattle.sky_model.specs.Queues.{queue_number};
 ghost use Rattle.sky_model.specs.History.{queued, made};
 ghost use Rattle.sky_model.specs.State.{after_marks};
@@ -27,6 +28,7 @@ ghost use Rattle.pgq_db.specs.Gives.{is_clock, is_on_queues, Gives, Adds, Answer
 ghost use Rattle.sky_model.specs.Stops.{StopsAs};
 
 use crate::db::Db;
+use crate::node::is_set_queue;
 use pgq_queues::{EVENT_ID_END, Queues, TableTrigger};
 use sky_model::{BoxedExtra, ColumnNames, Limit, Refusal, Replies, Reply, Stmt, Stop};
 use sky_urlenc::Trigger;
@@ -369,7 +371,7 @@ impl Db {
         ensures { Ran self.old self.new replies.old replies.new who result (insert_event (seen_database self.old) now who name.now ev_type.now ev_data.now extra.now) }
     {
         let queue = self.queue_called(name)?;
-        if self.is_set_queue(name) && tells_of_rows(ev_type) {
+        if self.is_reserved(name, ev_type) {
             return Err(Stop::Refused(Refusal::ReservedType));
         }
         let txid = self.next_txid(who)?;
@@ -384,6 +386,13 @@ impl Db {
         self.queues.put(queue, event)?;
         replies.push(who, Reply::Number(id))?;
         Ok(())
+    }
+
+    /// Whether events of a type are a set's in a queue of this name.
+    fn is_reserved(&self, queue: &Text, ev_type: &Option<Text>) -> bool
+        ensures { result ≡ (is_set_queue queue.now (seen_database self.now).node && tells_of_rows ev_type.now) }
+    {
+        self.is_set_queue(queue) && tells_of_rows(ev_type)
     }
 
     /// `set_queue_config NAME RAW RAW`
@@ -467,7 +476,7 @@ impl Db {
             return Err(Stop::Refused(Refusal::NoTable(table.copy(self.alloc)?)));
         };
         let number_of_queue = queue_called(self.alloc, &self.queues, queue)?;
-        if self.is_set_queue(queue) {
+        if is_set_queue(&self.node, queue) {
             return Err(Stop::Refused(Refusal::SetQueue));
         }
         if self.queues.has_trigger(number, name) {

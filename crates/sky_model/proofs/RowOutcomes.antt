@@ -7,7 +7,7 @@ use Rattle.sky_model.specs.declared.stmt.RowStmt.TheVariants.{OpenDb}
 use Rattle.sky_model.specs.declared.stmt.Attempt.{Attempt}
 use Rattle.sky_model.specs.declared.reply.Refusal.{Refusal}
 use Rattle.std.proofs.lemmas.Bool.{and_parts}
-use Rattle.sky_model.specs.History.{Mark, looked, queued, returned}
+use Rattle.sky_model.specs.History.{Mark, looked, queued, noded, returned}
 use Rattle.sky_model.specs.Sessions.{Block}
 use Rattle.sky_model.specs.State.{RowPart}
 use Rattle.sky_model.specs.ShownRows.{KeyShown, RowsShown}
@@ -24,9 +24,10 @@ use Rattle.sky_model.proofs.StatementMarks.{EachMark, Gives, gives-map, Kinds, n
 
 abbrev pub is_of_rows : Mark → Bool
 is_of_rows (queued mark) = false
+is_of_rows (noded mark) = false
 is_of_rows _ = true
 
--- none of the marks is a queue's
+-- none of the marks is a queue's or the node's
 abbrev pub RowMarks : List Mark → Type 0
 RowMarks marks = EachMark is_of_rows marks
 
@@ -41,6 +42,7 @@ TurnOfRows turn = TurnGives is_of_rows turn
 rows-if : (k : Kinds) → k.queues ≡ false → (who : ℕ) (mark : Mark) → may_leave k who mark ≡ true → is_of_rows mark ≡ true
 rows-if k none who (queued (returned retry moment)) e = absurd (cc (sym (and_parts k.queues k.works e).0 ∙ none))
 rows-if k none who (queued mark) e = absurd (cc)
+rows-if k none who (noded mark) e = absurd (cc)
 rows-if k none who _ e = refl
 
 -- an attempt with a key

@@ -15,7 +15,7 @@ use Rattle.sky_model.specs.declared.reply.Reply.{Reply}
 use Rattle.sky_model.specs.declared.reply.Reply.TheVariants.{Refused}
 use Rattle.sky_model.specs.declared.reply.Refusal.{Refusal}
 use Rattle.sky_model.specs.declared.reply.Refusal.TheVariants.{Canceled, IdsSpent}
-use Rattle.sky_model.specs.History.{Batch, Mark, QueueMark, of_session, of_worker, began, ended, connected, disconnected, looked, block_failed, tabled, wrote, waits, waited, queued, raised, put, ticked, switching, switched, second_step, returned}
+use Rattle.sky_model.specs.History.{Batch, Mark, QueueMark, of_session, of_worker, began, ended, connected, disconnected, looked, block_failed, tabled, wrote, waits, waited, queued, noded, raised, put, ticked, switching, switched, second_step, returned}
 use Rattle.sky_model.specs.declared.reply.HeldBack.{HeldBack}
 use Rattle.sky_model.specs.Queues.{NamedQueue, Tick, tick, is_pending}
 use Rattle.sky_model.specs.StepRotation.{held_back, switch_of, rotates, second_steps, lack_second_step, ends_switches, switches_by, switches_of, committed_by}
@@ -157,6 +157,7 @@ may_leave k who (tabled (waits v table key attempt)) = k.blocks && v == who
 may_leave k who (tabled (waited v)) = k.wakes
 may_leave k who (queued (returned retry moment)) = k.queues && k.works
 may_leave k who (queued mark) = k.queues
+may_leave k who (noded mark) = k.queues
 may_leave k who (began of_worker t) = k.works
 may_leave k who (ended of_worker t committed) = k.works
 may_leave k who _ = true
@@ -458,6 +459,7 @@ module _ (who : ℕ) where
       also : (mark : Mark) → may_leave (row_kinds is_open stmt) who mark ≡ true → may_leave (kinds is_open (Row stmt)) who mark ≡ true
       also (queued (returned retry moment)) e = (and_parts (row_kinds is_open stmt).queues (row_kinds is_open stmt).works e).1
       also (queued mark) e = refl
+      also (noded mark) e = refl
       also _ e = e
   gives-form d shown now (CreateQueue name) = search (either, after, checked, each-append, left-written) depth 8
   gives-form d shown now (DropQueue name) = search (checked, after) depth 8

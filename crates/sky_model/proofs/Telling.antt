@@ -7,7 +7,7 @@ use Rattle.sky_model.specs.declared.stmt.RowStmt.{RowStmt}
 use Rattle.sky_model.specs.declared.reply.Reply.TheVariants.{Refused}
 use Rattle.sky_model.specs.declared.reply.Refusal.{Refusal}
 use Rattle.sky_model.specs.declared.reply.Refusal.TheVariants.{EventIdsSpent}
-use Rattle.sky_model.specs.History.{Mark, Whose, ended, looked, of_session, tabled, wrote, waited, queued}
+use Rattle.sky_model.specs.History.{Mark, Whose, ended, looked, of_session, tabled, wrote, waited, queued, noded}
 use Rattle.sky_model.specs.Sessions.{Session}
 use Rattle.sky_model.specs.State.{RowPart, after_part, after_part_marks, Database, after_mark, after_marks}
 use Rattle.sky_model.specs.ShownRows.{rows_by}
@@ -26,10 +26,11 @@ use Rattle.sky_model.proofs.DatabaseStanding.{after_marks-append, behind-all}
 use Rattle.sky_model.proofs.Inserted.{Inserted, none, kept, with_raised, with_put, inserted-same, inserted-append}
 use Rattle.sky_model.proofs.Cases.{by_test}
 
--- a mark that is neither a session's write nor a queue's, and rolls no transaction back
+-- a mark that is neither a session's write nor a queue's or the node's, and rolls no transaction back
 abbrev pub IsOther : Mark → Type 0
 IsOther (tabled (wrote (of_session who) t table key old new)) = ⊥
 IsOther (queued mark) = ⊥
+IsOther (noded mark) = ⊥
 IsOther (ended whose t false) = ⊥
 IsOther _ = Unit {0}
 
@@ -98,6 +99,7 @@ module _ {G : Type 0} (gate : Gate G) (now : ℤ) (related : Database → RowPar
       → related (after_marks d marks) (after_part_marks p marks) (passed_all gate g marks)
   others [] rows plain d p g is = is
   others (queued mark ∷ marks) rows plain d p g is = absurd rows
+  others (noded mark ∷ marks) rows plain d p g is = absurd rows
   others (tabled (wrote who t table key old new) ∷ marks) rows plain d p g is = absurd plain
   others (ended whose t false ∷ marks) rows plain d p g is =
       others marks rows plain (after_mark d (ended whose t false)) (after_part p (ended whose t false)) (gate.undone g t) (alike.undone d p g whose t is)
@@ -110,6 +112,7 @@ module _ {G : Type 0} (gate : Gate G) (now : ℤ) (related : Database → RowPar
   told-mark : (mark : Mark) (marks : List Mark) → RowMarks (mark ∷ marks) → (d : Database) (p : RowPart) (g : G) → related d p g
       → ToldMark d p g mark (takes gate g mark) (told_of (after_mark d mark) now mark)
   told-mark (queued mark) marks rows d p g is = absurd rows
+  told-mark (noded mark) marks rows d p g is = absurd rows
   told-mark (tabled (wrote (of_session who) t table key old new)) marks rows d p g is =
       of (takes gate g write) (told_of (after_mark d write) now write) refl (alike.room d p g who t table key old new is)
       (told_by-events (after_mark d write) now t (events_in (after_mark d write) table old new))

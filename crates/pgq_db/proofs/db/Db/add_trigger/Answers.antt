@@ -1,6 +1,7 @@
-use Rattle.std.proofs.Common.{◌<◌, length, rules, Some, refl, sym, subst, ap, ◌∙◌}
+use Rattle.std.proofs.Common.{◌≡◌, ◌<◌, false, length, rules, Some, refl, sym, subst, ap, ◌∙◌}
 use Rattle.std.specs.Prelude.{find, not}
 use Rattle.sky_model.specs.History.{traced}
+use Rattle.sky_model.specs.Nodes.{is_set_queue}
 use Rattle.sky_model.specs.StepTrigger.{has_trigger, may_ignore}
 use Rattle.sky_model.specs.Triggers.{TableTrigger, triggers_of}
 use Rattle.sky_state.specs.Seen.{seen}
@@ -41,7 +42,7 @@ returns-in-Some-first_bad c =
       record {
         refused = bad-column (seen_database c.args.self.now) c.args.name.now c.args.table.now c.args.queue.now c.args.backup c.args.ignored.now n c.in_ok-number_of_queue.number_of_queue c.in_ok-column.column
             (table-there _ _ c.args.table.now n c.self.view_is c.in-Some.ensures.0) (queue-known _ _ c.args.queue.now c.in_ok-number_of_queue.number_of_queue c.self.view_is c.in_ok-number_of_queue.ensures.ok)
-            (sym c.is_set_queue.ensures ∙ c.if-is_set_queue.false) (ap (λ (v : DbView). has_trigger c.args.name.now (triggers_of n v.queues.triggers)) (sym c.self.view_is) ∙ sym c.has_trigger.ensures ∙ c.if-has_trigger.false)
+            (subst (λ (v : DbView). is_set_queue c.args.queue.now v.node ≡ false) c.self.view_is (sym c.is_set_queue.ensures ∙ c.if-is_set_queue.false)) (ap (λ (v : DbView). has_trigger c.args.name.now (triggers_of n v.queues.triggers)) (sym c.self.view_is) ∙ sym c.has_trigger.ensures ∙ c.if-has_trigger.false)
             (subst (λ m. m < 8) (c.trigger_count.ensures ∙ ap (λ (v : DbView). length (triggers_of n v.queues.triggers)) c.self.view_is) (subst (λ m. c.trigger_count.result < m) c.most.ensures c.if-trigger_count-most.false))
             (ap (λ schema. find (λ x. not (may_ignore schema x)) c.args.ignored.now) (sym (c.in-Some.ensures.1 ∙ ap (λ (v : DbView). (seen v.rows).columns n) c.self.view_is))
             ∙ ap (find (λ x. not (may_ignore c.in-Some.schema.now x))) (sym c.as_slice.ensures) ∙ sym c.in-Some-first_bad.ensures ∙ ap Some (sym c.in_ok-column.ensures));

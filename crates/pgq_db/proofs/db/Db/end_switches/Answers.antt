@@ -1,4 +1,4 @@
-use Rattle.std.proofs.Common.{◌≡◌, subst}
+use Rattle.std.proofs.Common.{rules, ◌≡◌, subst}
 use Rattle.sky_model.specs.Outcome.{marks_of}
 use Rattle.sky_model.specs.State.{RowPart, Database, after_marks}
 use Rattle.sky_model.specs.StepRotation.{maint_rotate_step2}
@@ -22,3 +22,23 @@ returns-clause-changed c =
     let left : Database = seen_with (with_node c.self.inside.node after) c.end_switches.new.self in
     subst (λ (v : DbView). left ≡ after_marks (seen_database v) (marks_of (maint_rotate_step2 (seen_database v)))) c.self.view_is
     (steps-made d c.unfinished-count.result (c.unfinished-count.ensures (with_node c.self.inside.node p)) left after c.in_ok-txid.txid c.if-count-eq0.false c.in_ok-txid.ensures.id c.in_ok-txid.ensures.marks (c.end_switches.ensures.marks (with_node c.self.inside.node after)))
+
+pub returns-then-count-eq0-clause-count : goal.returns-then-count-eq0-clause-count
+returns-then-count-eq0-clause-count c =
+    let count = c.unfinished-count.ensures (with_node c.self.inside.node (seen c.self.inside.rows)) in
+    search (rules, count)
+
+pub returns-then-count-eq0-clause-changed : goal.returns-then-count-eq0-clause-changed
+returns-then-count-eq0-clause-changed c =
+    let count = c.unfinished-count.ensures (with_node c.self.inside.node (seen c.self.inside.rows)) in
+    search (rules, count)
+
+pub returns-in_err-txid-clause-stops : goal.returns-in_err-txid-clause-stops
+returns-in_err-txid-clause-stops c =
+    let count = c.unfinished-count.ensures (with_node c.self.inside.node (seen c.self.inside.rows)) in
+    search (rules, count)
+
+pub returns-clause-count : goal.returns-clause-count
+returns-clause-count c =
+    let count = c.unfinished-count.ensures (with_node c.self.inside.node (seen c.self.inside.rows)) in
+    search (rules, count)

@@ -60,6 +60,11 @@ invariant_of-self-in_err-push c = λ e.
     let p : RowPart = seen c.self.inside.rows in
     agree-stay p c.event_in.new.self c.retry.new.self c.retry.ensures.rest (agree-stay p c.self.inside.queues c.event_in.new.self c.event_in.ensures.rest (c.self.invariant e))
 
+pub invariant_of-self-in_err-retry : goal.invariant_of-self-in_err-retry
+invariant_of-self-in_err-retry c = λ e.
+    let p : RowPart = seen c.self.inside.rows in
+    agree-stay p c.event_in.new.self c.retry.new.self c.retry.ensures.rest (agree-stay p c.self.inside.queues c.event_in.new.self c.event_in.ensures.rest (c.self.invariant e))
+
 pub invariant_of-self-2 : goal.invariant_of-self-2
 invariant_of-self-2 c = λ e.
     let p : RowPart = seen c.self.inside.rows in

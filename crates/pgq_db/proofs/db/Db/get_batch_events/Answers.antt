@@ -30,5 +30,5 @@ returns-clause-looks c =
 pub returns-clause-lists : goal.returns-clause-lists
 returns-clause-lists c =
     subst (λ (v : DbView). ListsFrom v.queues c.batch_events.new.self c.args.id (reply_of (get_batch_events (shown_by (seen_database v)).events c.args.id))) c.self.view_is
-    (lists-for (record { rows = c.self.inside.rows; queues = c.self.inside.queues }) c.batch_events.new.self c.args.id c.in-Some.batch c.span-span.result _
+    (lists-for (record { rows = c.self.inside.rows; queues = c.self.inside.queues; node = c.self.inside.node }) c.batch_events.new.self c.args.id c.in-Some.batch c.span-span.result _
     c.in-Some.ensures.batch c.span-span.ensures (c.in_ok-batch_events.ensures.events (with_node c.self.inside.node (seen c.self.inside.rows))) c.in_ok-batch_events.ensures.lower)

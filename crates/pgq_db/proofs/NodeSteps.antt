@@ -1,0 +1,167 @@
+-- What calls for nodes give.
+use Rattle.std.proofs.Common.{◌≡◌, ℕ, ◌+◌, ◌<◌, ◌^◌, List, [], ◌∷◌, ◌++◌, Bool, true, false, nat_le, Option, Some, None, Result, Ok, Err, IfOk, OnOk, is_ok, is_some, length, option_map, refl, sym, ◌∙◌, ap, subst, arith}
+use Rattle.std.proofs.lemmas.Bool.Decides.{nat_tests}
+use Rattle.sky_names.specs.Places.{place_of}
+use Rattle.londiste_state.specs.Nodes.{Node}
+use Rattle.sky_model.specs.declared.reply.Reply.{Reply}
+use Rattle.sky_model.specs.declared.reply.Reply.TheVariants.{Done, Number}
+use Rattle.sky_model.specs.declared.reply.Limit.TheVariants.{Consumers, Queues, Triggers}
+use Rattle.sky_model.specs.declared.reply.Refusal.TheVariants.{ConsumerExists, IdsSpent, NodeExists, QueueExists, TableBusy, TooMany}
+use Rattle.sky_model.specs.History.{Mark, tabled, read_only, queued, registered, traced, untraced, made, noded, root_made, listed, unlisted, joined, leaf_made, leaf_added, leaf_removed}
+use Rattle.sky_model.specs.Nodes.{after_node}
+use Rattle.sky_model.specs.Queues.{queue_number}
+use Rattle.sky_model.specs.Triggers.{triggers_of}
+use Rattle.sky_model.specs.State.{RowPart, after_part, Database, after_mark, after_marks}
+use Rattle.sky_model.specs.ShownRows.{least_writer}
+use Rattle.sky_model.specs.OwnTransaction.{txid_for, written}
+use Rattle.sky_model.specs.Outcome.{Outcome, Checked, ◌>>=◌, ◌>>◌, refused_if, refused_by, does_marks, marks_of}
+use Rattle.sky_model.specs.StepQueue.{newest_id}
+use Rattle.sky_model.specs.StepConsumer.{registers}
+use Rattle.sky_model.specs.StepNode.{set_queue, set_trigger, joins, lists, unlists, adds, removes, create_root, NodeCall, joining, making_leaf, adding, removing, listing, unlisting, if_there, table_number, node_does}
+use Rattle.sky_model.specs.Daemon.{quietly}
+use Rattle.sky_model.specs.DatabaseCalls.{served}
+use Rattle.sky_model.specs.DatabaseSteps.{DatabaseSteps}
+use Rattle.sky_model.specs.Stops.{Refuses}
+use Rattle.sky_model.proofs.DatabaseStanding.{after_marks-append, database_steps_from_exact}
+use Rattle.sky_state.specs.Views.{RowStateView}
+use Rattle.sky_state.specs.Seen.{seen}
+use Rattle.pgq_queues.specs.Views.{QueuesView}
+use Rattle.pgq_queues.specs.Seen.{seen_with, Beside}
+use Rattle.pgq_db.specs.Views.{DbView}
+use Rattle.pgq_db.specs.Seen.{with_node, seen_database}
+use Rattle.pgq_db.specs.Served.{Serves, ServesUnlessBusy}
+use Rattle.pgq_db.proofs.Databases.{Runs}
+
+-- what a call's definition says was done
+pub serves-by : (old new : Database) (call : NodeCall) (o : Outcome) → node_does old call ≡ Ok o → new ≡ after_marks old o.marks → Serves old new call
+serves-by old new call o does changed = record { accepted = ap is_ok does; changed = changed ∙ ap (λ c. after_marks old (marks_of c)) (sym does) }
+
+pub refuses-by : (old new : Database) (call : NodeCall) (c : Checked Outcome) → node_does old call ≡ c → new ≡ old → (refusal : _) → c ≡ Err refusal → Refuses old new refusal (node_does old call)
+refuses-by old new call c does same refusal is = record { refused = does ∙ is; same = same }
+
+-- so its promise is kept
+pub serves-steps : (old new : Database) (call : NodeCall) → Serves old new call → DatabaseSteps old new (served call) (quietly (node_does old call))
+serves-steps old new call serves = database_steps_from_exact old new (served call) serves.changed
+
+pub steps-if : {A E : Type 0} → (r : Result A E) (old new : Database) (call : NodeCall) → OnOk r (Serves old new call) → OnOk r (DatabaseSteps old new (served call) (quietly (node_does old call)))
+steps-if (Ok a) old new call serves = serves-steps old new call serves
+steps-if (Err e) old new call serves = tt
+
+pub steps-unless : (old new : Database) (call : NodeCall) (busy : Option ℕ) → ServesUnlessBusy busy old new call → DatabaseSteps old new (served call) (quietly (node_does old call))
+steps-unless old new call None serves = serves-steps old new call serves
+steps-unless old new call (Some txid) refuses =
+    database_steps_from_exact old new (served call) (refuses.same ∙ ap (λ c. after_marks old (marks_of c)) (sym refuses.refused))
+
+pub steps-unless-if : {E : Type 0} → (r : Result (Option ℕ) E) (old new : Database) (call : NodeCall) → IfOk r (λ busy. ServesUnlessBusy busy old new call)
+    → OnOk r (DatabaseSteps old new (served call) (quietly (node_does old call)))
+steps-unless-if (Ok busy) old new call serves = steps-unless old new call busy serves
+steps-unless-if (Err e) old new call serves = tt
+
+-- ---- a leaf's consumer joins
+
+module _ (d : Database) (q : ℕ) (consumer : List ℕ) (set : set_queue d ≡ Some q) where
+  joins-there : (b : Bool) → is_some ((d.queue q).sub consumer) ≡ b → node_does d (joining consumer) ≡ (refused_if b (ConsumerExists consumer) >> (registers d q consumer (newest_id (d.queue q))
+      >>= (λ registering. does_marks (Number (newest_id (d.queue q))) (registering.marks ++ noded (joined consumer) ∷ []))))
+  joins-there b is =
+      ap (λ o. if_there o (λ queue. joins d queue consumer)) set
+      ∙ ap (λ x. refused_if x (ConsumerExists consumer) >> (registers d q consumer (newest_id (d.queue q))
+      >>= (λ registering. does_marks (Number (newest_id (d.queue q))) (registering.marks ++ noded (joined consumer) ∷ [])))) is
+
+  registers-by : (full spent : Bool) → nat_le 256 (length (d.queue q).members) ≡ full → nat_le (2 ^ 64) (d.last_sub_id + 1) ≡ spent
+      → registers d q consumer (newest_id (d.queue q)) ≡ (refused_if full (TooMany Consumers) >> (refused_if spent IdsSpent
+      >> does_marks (Number 1) (queued (registered q consumer (d.last_sub_id + 1) (newest_id (d.queue q))) ∷ [])))
+  registers-by full spent f s = λ i. refused_if (f i) (TooMany Consumers) >> (refused_if (s i) IdsSpent
+      >> does_marks (Number 1) (queued (registered q consumer (d.last_sub_id + 1) (newest_id (d.queue q))) ∷ []))
+
+  pub join-exists : is_some ((d.queue q).sub consumer) ≡ true → node_does d (joining consumer) ≡ Err (ConsumerExists consumer)
+  join-exists there = joins-there true there
+
+  pub join-full : is_some ((d.queue q).sub consumer) ≡ false → (n : ℕ) → n ≡ length (d.queue q).members → 256 ≤ n → node_does d (joining consumer) ≡ Err (TooMany Consumers)
+  join-full new n is many =
+      let full : nat_le 256 (length (d.queue q).members) ≡ true = grind (arith, nat_tests) in
+      joins-there false new ∙ ap (λ c. c >>= (λ registering. does_marks (Number (newest_id (d.queue q))) (registering.marks ++ noded (joined consumer) ∷ []))) (registers-by true _ full refl)
+
+  pub join-spent : is_some ((d.queue q).sub consumer) ≡ false → (n : ℕ) → n ≡ length (d.queue q).members → n < 256 → (last : ℕ) → last ≡ d.last_sub_id → 2 ^ 64 ≤ last + 1
+      → node_does d (joining consumer) ≡ Err IdsSpent
+  join-spent new n is few last at spent =
+      let room : nat_le 256 (length (d.queue q).members) ≡ false = grind (arith, nat_tests) in
+      let over : nat_le (2 ^ 64) (d.last_sub_id + 1) ≡ true = grind (arith, nat_tests) in
+      joins-there false new ∙ ap (λ c. c >>= (λ registering. does_marks (Number (newest_id (d.queue q))) (registering.marks ++ noded (joined consumer) ∷ []))) (registers-by false true room over)
+
+  pub join-does : is_some ((d.queue q).sub consumer) ≡ false → (n : ℕ) → n ≡ length (d.queue q).members → n < 256 → (last : ℕ) → last ≡ d.last_sub_id → last + 1 < 2 ^ 64
+      → node_does d (joining consumer) ≡ does_marks (Number (newest_id (d.queue q))) (queued (registered q consumer (d.last_sub_id + 1) (newest_id (d.queue q))) ∷ noded (joined consumer) ∷ [])
+  join-does new n is few last at left =
+      let room : nat_le 256 (length (d.queue q).members) ≡ false = grind (arith, nat_tests) in
+      let unspent : nat_le (2 ^ 64) (d.last_sub_id + 1) ≡ false = grind (arith, nat_tests) in
+      joins-there false new ∙ ap (λ c. c >>= (λ registering. does_marks (Number (newest_id (d.queue q))) (registering.marks ++ noded (joined consumer) ∷ []))) (registers-by false false room unspent)
+
+-- the queues have a consumer more, and the node too
+pub joined-as : (v now : DbView) (queues : QueuesView) (node : Option Node) (q tick newest : ℕ) (consumer : List ℕ) → v ≡ now
+    → ((beside : Beside) → seen_with beside queues ≡ after_mark (seen_with beside v.queues) (queued (registered q consumer (v.queues.last_sub_id + 1) tick)))
+    → node ≡ after_node (joined consumer) v.node → tick ≡ newest
+    → seen_database (record v { queues = queues; node = node }) ≡ after_marks (seen_database now) (queued (registered q consumer ((seen_database now).last_sub_id + 1) newest) ∷ noded (joined consumer) ∷ [])
+joined-as v now queues node q tick newest consumer same mark noding at =
+    mark (with_node node (seen v.rows))
+    ∙ (λ i. after_mark (seen_with (with_node (noding i) (seen v.rows)) v.queues) (queued (registered q consumer (v.queues.last_sub_id + 1) (at i))))
+    ∙ ap (λ (w : DbView). after_marks (seen_database w) (queued (registered q consumer ((seen_database w).last_sub_id + 1) newest) ∷ noded (joined consumer) ∷ [])) same
+
+-- ---- a table joins a leaf, or leaves it
+
+pub adding-there : (d : Database) (name : List ℕ) (table : ℕ) (o : Option ℕ) → place_of name d.part.tables ≡ Some table → least_writer d.part table ≡ o
+    → node_does d (adding name) ≡ (refused_by (option_map TableBusy o) >> does_marks Done (noded (leaf_added name) ∷ tabled (read_only table true) ∷ []))
+adding-there d name table o there busy =
+    ap (λ x. if_there x (λ t. adds d t name)) there ∙ ap (λ x. refused_by (option_map TableBusy x) >> does_marks Done (noded (leaf_added name) ∷ tabled (read_only table true) ∷ [])) busy
+
+pub removing-there : (d : Database) (name : List ℕ) (table : ℕ) → place_of name d.part.tables ≡ Some table
+    → node_does d (removing name) ≡ does_marks Done (noded (leaf_removed name) ∷ tabled (read_only table false) ∷ [])
+removing-there d name table there = ap (λ x. if_there x (λ t. removes t name)) there
+
+-- ---- a table joins a set, or leaves it
+
+module _ (d : Database) (q : ℕ) (name : List ℕ) (table : ℕ) (set : set_queue d ≡ Some q) (there : place_of name d.part.tables ≡ Some table) where
+  listing-there : (b : Bool) (o : Option ℕ) → nat_le 8 (length (triggers_of table d.triggers)) ≡ b → least_writer d.part table ≡ o
+      → node_does d (listing name) ≡ (refused_if b (TooMany Triggers) >> (refused_by (option_map TableBusy o) >> does_marks Done (noded (listed name) ∷ queued (traced table None (set_trigger q)) ∷ [])))
+  listing-there b o full busy =
+      ap (λ x. if_there x (λ queue. if_there (table_number d name) (λ t. lists d queue t name))) set ∙ ap (λ x. if_there x (λ t. lists d q t name)) there
+      ∙ (λ i. refused_if (full i) (TooMany Triggers) >> (refused_by (option_map TableBusy (busy i)) >> does_marks Done (noded (listed name) ∷ queued (traced table None (set_trigger q)) ∷ [])))
+
+  pub list-full : (n : ℕ) → n ≡ length (triggers_of table d.triggers) → 8 ≤ n → node_does d (listing name) ≡ Err (TooMany Triggers)
+  list-full n is many = let full : nat_le 8 (length (triggers_of table d.triggers)) ≡ true = grind (arith, nat_tests) in listing-there true _ full refl
+
+  pub list-busy : (n txid : ℕ) → n ≡ length (triggers_of table d.triggers) → n < 8 → Some txid ≡ least_writer d.part table → node_does d (listing name) ≡ Err (TableBusy txid)
+  list-busy n txid is few busy = let room : nat_le 8 (length (triggers_of table d.triggers)) ≡ false = grind (arith, nat_tests) in listing-there false (Some txid) room (sym busy)
+
+  pub list-does : (n : ℕ) → n ≡ length (triggers_of table d.triggers) → n < 8 → None ≡ least_writer d.part table
+      → node_does d (listing name) ≡ does_marks Done (noded (listed name) ∷ queued (traced table None (set_trigger q)) ∷ [])
+  list-does n is few free = let room : nat_le 8 (length (triggers_of table d.triggers)) ≡ false = grind (arith, nat_tests) in listing-there false None room (sym free)
+
+pub unlisting-there : (d : Database) (name : List ℕ) (table : ℕ) → place_of name d.part.tables ≡ Some table
+    → node_does d (unlisting name) ≡ does_marks Done (noded (unlisted name) ∷ queued (untraced table) ∷ [])
+unlisting-there d name table there = ap (λ x. if_there x (λ t. unlists t name)) there
+
+pub listed-as : (v now : DbView) (queues : QueuesView) (node : Option Node) (q table : ℕ) (name : List ℕ) → v ≡ now
+    → ((beside : Beside) → seen_with beside queues ≡ after_mark (seen_with beside v.queues) (queued (traced table None (set_trigger q))))
+    → node ≡ after_node (listed name) v.node
+    → seen_database (record v { queues = queues; node = node }) ≡ after_marks (seen_database now) (noded (listed name) ∷ queued (traced table None (set_trigger q)) ∷ [])
+listed-as v now queues node q table name same mark noding =
+    mark (with_node node (seen v.rows))
+    ∙ (λ i. after_mark (seen_with (with_node (noding i) (seen v.rows)) v.queues) (queued (traced table None (set_trigger q))))
+    ∙ ap (λ (w : DbView). after_marks (seen_database w) (noded (listed name) ∷ queued (traced table None (set_trigger q)) ∷ [])) same
+
+pub unlisted-as : (v now : DbView) (queues : QueuesView) (node : Option Node) (table : ℕ) (name : List ℕ) → v ≡ now
+    → ((beside : Beside) → seen_with beside queues ≡ after_mark (seen_with beside v.queues) (queued (untraced table)))
+    → node ≡ after_node (unlisted name) v.node
+    → seen_database (record v { queues = queues; node = node }) ≡ after_marks (seen_database now) (noded (unlisted name) ∷ queued (untraced table) ∷ [])
+unlisted-as v now queues node table name same mark noding =
+    mark (with_node node (seen v.rows))
+    ∙ (λ i. after_mark (seen_with (with_node (noding i) (seen v.rows)) v.queues) (queued (untraced table)))
+    ∙ ap (λ (w : DbView). after_marks (seen_database w) (noded (unlisted name) ∷ queued (untraced table) ∷ [])) same
+
+-- sessions may not write a table of a leaf, or may again
+pub guarded-as : (v now : DbView) (rows : RowStateView) (node : Option Node) (table : ℕ) (on : Bool) (mark : Mark) → v ≡ now → seen rows ≡ after_part (seen v.rows) (tabled (read_only table on))
+    → (change : Option Node → Option Node) → ((d : Database) → after_mark d mark ≡ record d { node = change d.node }) → node ≡ change v.node
+    → seen_database (record v { rows = rows; node = node }) ≡ after_marks (seen_database now) (mark ∷ tabled (read_only table on) ∷ [])
+guarded-as v now rows node table on mark same guarding change marks noding =
+    (λ i. seen_with (with_node (noding i) (guarding i)) v.queues)
+    ∙ ap (λ d. after_mark d (tabled (read_only table on))) (sym (marks (seen_database v)))
+    ∙ ap (λ (w : DbView). after_marks (seen_database w) (mark ∷ tabled (read_only table on) ∷ [])) same
