@@ -493,7 +493,14 @@ impl Db {
         if let Some(txid) = self.rows.least_writer(number) {
             return Err(Stop::Refused(Refusal::TableBusy(txid)));
         }
-        let trigger = new_trigger(self.alloc, number, name, number_of_queue, backup, ignored.as_slice())?;
+        let trigger = new_trigger(
+            self.alloc,
+            number,
+            name,
+            number_of_queue,
+            backup,
+            ignored.as_slice(),
+        )?;
         self.queues.trace(table, schema, trigger)?;
         replies.push(who, Reply::Done)?;
         Ok(())

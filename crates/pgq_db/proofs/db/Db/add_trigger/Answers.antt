@@ -1,4 +1,4 @@
-use Rattle.std.proofs.Common.{◌≡◌, ◌<◌, false, length, rules, Some, refl, sym, subst, ap, ◌∙◌}
+use Rattle.std.proofs.Common.{◌≡◌, ◌<◌, true, false, length, rules, Some, refl, sym, subst, ap, ◌∙◌}
 use Rattle.std.specs.Prelude.{find, not}
 use Rattle.sky_model.specs.History.{traced}
 use Rattle.sky_model.specs.Nodes.{is_set_queue}
@@ -17,6 +17,13 @@ returns-in_err-number_of_queue c =
     let there = table-there _ _ c.args.table.now c.in-Some.number c.self.view_is c.in-Some.ensures.0 in
     let stops = c.in_err-number_of_queue.ensures.err (with_node c.self.inside.node (seen c.self.inside.rows)) in
     search (rules, there, stops)
+
+pub returns-then-is_set_queue : goal.returns-then-is_set_queue
+returns-then-is_set_queue c =
+    let there = table-there _ _ c.args.table.now c.in-Some.number c.self.view_is c.in-Some.ensures.0 in
+    let known = queue-known _ _ c.args.queue.now c.in_ok-number_of_queue.number_of_queue c.self.view_is c.in_ok-number_of_queue.ensures.ok in
+    let set = subst (λ (v : DbView). is_set_queue c.args.queue.now v.node ≡ true) c.self.view_is (sym c.is_set_queue.ensures ∙ c.if-is_set_queue.true) in
+    search (rules, there, known, set)
 
 pub returns-then-has_trigger : goal.returns-then-has_trigger
 returns-then-has_trigger c =

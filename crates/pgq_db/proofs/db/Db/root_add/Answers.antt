@@ -1,0 +1,79 @@
+use Rattle.std.proofs.Common.{◌<◌, Some, length, refl, sym, ap, ◌∙◌, arith}
+use Rattle.sky_model.specs.History.{queued, traced, listed}
+use Rattle.sky_model.specs.Nodes.{after_node}
+use Rattle.sky_model.specs.ShownRows.{least_writer}
+use Rattle.sky_model.specs.State.{after_mark}
+use Rattle.sky_model.specs.StepNode.{listing}
+use Rattle.sky_model.specs.Triggers.{TableTrigger, triggers_of}
+use Rattle.sky_state.specs.Seen.{seen}
+use Rattle.pgq_queues.specs.Seen.{seen_with}
+use Rattle.pgq_db.specs.Views.{DbView}
+use Rattle.pgq_db.specs.Seen.{seen_database}
+use Rattle.pgq_db.proofs.Databases.{table-there}
+use Rattle.pgq_db.proofs.Tables.{is-table}
+use Rattle.pgq_db.proofs.Agreeing.{agree-traced}
+use Rattle.pgq_db.proofs.NodeSteps.{serves-by, serves-steps, steps-unless, list-busy, list-does, listed-as}
+use Rattle.pgq_db.proofs.db.Db.root_add.Goals as goal
+
+pub returns-in-Some-least_writer-clause-steps : goal.returns-in-Some-least_writer-clause-steps
+returns-in-Some-least_writer-clause-steps c =
+    let d = seen_database c.args.self.now in
+    let name = c.args.table.now in
+    let number = c.in-Some-table.number in
+    let there = table-there _ _ name number c.self.view_is c.in-Some-table.ensures.0 in
+    let count = c.trigger_count.ensures ∙ ap (λ (v : DbView). length (triggers_of number v.queues.triggers)) c.self.view_is in
+    let few : c.trigger_count.result < 8 = omega (arith, c.most.ensures, c.if-trigger_count-most.false) in
+    steps-unless d d (listing name) (Some c.in-Some-least_writer.txid) (record {
+      refused = list-busy d c.in-Some.queue name number (sym c.in-Some.ensures.queue) there c.trigger_count.result c.in-Some-least_writer.txid count few
+          (c.in-Some-least_writer.ensures ∙ ap (λ (v : DbView). least_writer (seen v.rows) number) c.self.view_is);
+      same = refl;
+    })
+
+pub invariant_of-self : goal.invariant_of-self
+invariant_of-self c = λ e.
+    let at = c.in-Some-table.ensures.0 ∙ ap Some (sym (ap TableTrigger.table c.set_trigger.ensures)) in
+    agree-traced (seen c.self.inside.rows) c.self.inside.queues c.trace.new.self c.trace.ensures.rounds
+    (c.trace.ensures.tables (seen c.self.inside.rows) (is-table (seen c.self.inside.rows) c.args.table.now c.set_trigger.result.table _ _ at c.in-Some-table.ensures.0 c.in-Some-table.ensures.1) (c.self.invariant e).tables) (c.self.invariant e)
+
+pub invariant_of-self-in_err-add_root_table : goal.invariant_of-self-in_err-add_root_table
+invariant_of-self-in_err-add_root_table c = λ e.
+    let at = c.in-Some-table.ensures.0 ∙ ap Some (sym (ap TableTrigger.table c.set_trigger.ensures)) in
+    agree-traced (seen c.self.inside.rows) c.self.inside.queues c.trace.new.self c.trace.ensures.rounds
+    (c.trace.ensures.tables (seen c.self.inside.rows) (is-table (seen c.self.inside.rows) c.args.table.now c.set_trigger.result.table _ _ at c.in-Some-table.ensures.0 c.in-Some-table.ensures.1) (c.self.invariant e).tables) (c.self.invariant e)
+
+pub invariant_of-self-2 : goal.invariant_of-self-2
+invariant_of-self-2 c = λ e.
+    let at = c.in-Some-table.ensures.0 ∙ ap Some (sym (ap TableTrigger.table c.set_trigger.ensures)) in
+    agree-traced (seen c.self.inside.rows) c.self.inside.queues c.trace.new.self c.trace.ensures.rounds
+    (c.trace.ensures.tables (seen c.self.inside.rows) (is-table (seen c.self.inside.rows) c.args.table.now c.set_trigger.result.table _ _ at c.in-Some-table.ensures.0 c.in-Some-table.ensures.1) (c.self.invariant e).tables) (c.self.invariant e)
+
+pub returns-clause-serves : goal.returns-clause-serves
+returns-clause-serves c =
+    let d = seen_database c.args.self.now in
+    let name = c.args.table.now in
+    let number = c.in-Some-table.number in
+    let there = table-there _ _ name number c.self.view_is c.in-Some-table.ensures.0 in
+    let count = c.trigger_count.ensures ∙ ap (λ (v : DbView). length (triggers_of number v.queues.triggers)) c.self.view_is in
+    let few : c.trigger_count.result < 8 = omega (arith, c.most.ensures, c.if-trigger_count-most.false) in
+    serves-by d _ (listing name) _
+    (list-does d c.in-Some.queue name number (sym c.in-Some.ensures.queue) there c.trigger_count.result count few
+    (c.in_default-least_writer.ensures ∙ ap (λ (v : DbView). least_writer (seen v.rows) number) c.self.view_is))
+    (listed-as _ _ c.trace.new.self c.add_root_table.new.node c.in-Some.queue number name c.self.view_is
+    (λ beside. c.in_ok-trace.ensures.ok beside ∙ ap (λ (t : TableTrigger). after_mark (seen_with beside c.self.inside.queues) (queued (traced t.table t.name t.trigger))) c.set_trigger.ensures)
+    (c.in_ok-add_root_table.ensures ∙ ap (λ n. after_node (listed n) c.self.inside.node) c.in_ok-name.ensures))
+
+pub returns-clause-steps : goal.returns-clause-steps
+returns-clause-steps c =
+    let d = seen_database c.args.self.now in
+    let name = c.args.table.now in
+    let number = c.in-Some-table.number in
+    let there = table-there _ _ name number c.self.view_is c.in-Some-table.ensures.0 in
+    let count = c.trigger_count.ensures ∙ ap (λ (v : DbView). length (triggers_of number v.queues.triggers)) c.self.view_is in
+    let few : c.trigger_count.result < 8 = omega (arith, c.most.ensures, c.if-trigger_count-most.false) in
+    serves-steps d _ (listing name)
+    (serves-by d _ (listing name) _
+    (list-does d c.in-Some.queue name number (sym c.in-Some.ensures.queue) there c.trigger_count.result count few
+    (c.in_default-least_writer.ensures ∙ ap (λ (v : DbView). least_writer (seen v.rows) number) c.self.view_is))
+    (listed-as _ _ c.trace.new.self c.add_root_table.new.node c.in-Some.queue number name c.self.view_is
+    (λ beside. c.in_ok-trace.ensures.ok beside ∙ ap (λ (t : TableTrigger). after_mark (seen_with beside c.self.inside.queues) (queued (traced t.table t.name t.trigger))) c.set_trigger.ensures)
+    (c.in_ok-add_root_table.ensures ∙ ap (λ n. after_node (listed n) c.self.inside.node) c.in_ok-name.ensures)))
