@@ -134,16 +134,16 @@ pub adds-pgqd : (old s new : WorldView) (d who own : ℕ) (stmt : Stmt) (done : 
 adds-pgqd old s new d who own stmt done before after switches at is adds shows same =
     subst (AddsDeed old new before after) (pgqd-there (seen_world old) d who stmt switches)
     (subst (λ facts. AddsDeed old new before after (deed_in d facts turn)) (sym (stays-by (seen_world old) d who stmt switches)) (record {
-  answered = adds.answered;
-  known = adds.known;
-  moments = adds.moments;
-  changed = shows
-      ∙ ap (λ b. after_facts (seen_world s) (of_daemon_if b d ((seen_world s).daemons d) stmt)) may
-      ∙ ap (λ (w : World). after_facts (seen_world s) (of_daemon_if (may_make ((seen_world old).database d) who stmt) d (w.daemons d) stmt)) (by_marks ∙ after_facts-within (seen_world old) d turn.marks)
-      ∙ ap (λ w. after_facts w facts) by_marks
-      ∙ sym (after_facts-append (seen_world old) (map (within d) turn.marks) facts);
-  sessions = same ∙ adds.sessions;
-}))
+      answered = adds.answered;
+      known = adds.known;
+      moments = adds.moments;
+      changed = shows
+          ∙ ap (λ b. after_facts (seen_world s) (of_daemon_if b d ((seen_world s).daemons d) stmt)) may
+          ∙ ap (λ (w : World). after_facts (seen_world s) (of_daemon_if (may_make ((seen_world old).database d) who stmt) d (w.daemons d) stmt)) (by_marks ∙ after_facts-within (seen_world old) d turn.marks)
+          ∙ ap (λ w. after_facts w facts) by_marks
+          ∙ sym (after_facts-append (seen_world old) (map (within d) turn.marks) facts);
+      sessions = same ∙ adds.sessions;
+    }))
   where
     turn : Turn
     turn = database_turn (within_database by_world d) (seen_world old) (seen_world old).now who stmt

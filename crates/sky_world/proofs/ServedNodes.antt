@@ -240,7 +240,7 @@ pub node-allowed : (old s new : WorldView) (d who : ℕ) (stmt : NodeStmt) (may 
     → AddsDeed s new before after (world_does who (node_form (seen_world s) d stmt)) → AddsDeed old new before after (does_on_nodes by_world (seen_world old) who stmt d)
 node-allowed old s new d who stmt may before after is holds stays adds =
     subst (λ b. AddsDeed old new before after (if b then world_does who (node_form (seen_world old) d stmt)
-        else deed_in d [] (database_turn (within_database by_world d) (seen_world old) (seen_world old).now who (stmts.Node stmt)))) (sym holds ∙ is)
+    else deed_in d [] (database_turn (within_database by_world d) (seen_world old) (seen_world old).now who (stmts.Node stmt)))) (sym holds ∙ is)
     (adds-after old s new (λ w. world_does who (node_form w d stmt)) before after stays adds)
 
 -- or may not
@@ -250,7 +250,7 @@ pub node-refused : (old s new : WorldView) (d who : ℕ) (stmt : NodeStmt) (whol
     → AddsDeed old new before after (does_on_nodes by_world (seen_world old) who stmt d)
 node-refused old s new d who stmt whole may before after node is not_so stays adds =
     subst (λ b. AddsDeed old new before after (if b then world_does who (node_form (seen_world old) d stmt)
-        else deed_in d [] (database_turn (within_database by_world d) (seen_world old) (seen_world old).now who (stmts.Node stmt)))) (sym not_so ∙ is)
+    else deed_in d [] (database_turn (within_database by_world d) (seen_world old) (seen_world old).now who (stmts.Node stmt)))) (sym not_so ∙ is)
     (adds-after old s new (λ w. deed_in d [] (database_turn (within_database by_world d) w w.now who (stmts.Node stmt))) before after stays
     (subst (λ x. AddsDeed s new before after (deed_in d [] (database_turn (within_database by_world d) (seen_world s) (seen_world s).now who x))) node adds))
 
@@ -397,9 +397,9 @@ add-to_leaf w name table d l columns there has new =
 
     by : (o : Option ℕ) → Some columns ≡ option_map (w.database d).part.columns o → (p : Option ℕ)
         → (found_or o (NoTable table) >>= (λ t. found_or p (NotInSet table) >>= (λ q. refused_if (not (are_columns ((w.database d).part.columns t) (columns_called table (w.database q)))) (SchemaDiffers table)
-            >> done_in d Done (adds (w.database d) t table))))
+        >> done_in d Done (adds (w.database d) t table))))
         ≡ ((found_or p (NotInSet table) >>= (λ q. refused_if (not (are_columns columns (columns_called table (w.database q)))) (SchemaDiffers table)))
-            >>= (λ _. done_in d Done (if_there o (λ t. adds (w.database d) t table))))
+        >>= (λ _. done_in d Done (if_there o (λ t. adds (w.database d) t table))))
     by None e p = absurd (cc)
     by (Some t) e None = refl
     by (Some t) e (Some q) =

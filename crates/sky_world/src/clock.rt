@@ -135,12 +135,7 @@ impl World {
     }
 
     /// The daemon of a database, which was started at a moment, does a part of its work, if that is due.
-    fn work_part(
-        &mut self,
-        database: usize,
-        part: DaemonPart,
-        start: i64,
-    ) -> Result<(), NoMemory>
+    fn work_part(&mut self, database: usize, part: DaemonPart, start: i64) -> Result<(), NoMemory>
         requires database { database < length self.old.databases.names }
         requires started { (seen_world self.old).daemons database ≡ Some start }
         requires time { IsTime start }

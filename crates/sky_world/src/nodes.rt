@@ -148,12 +148,7 @@ impl World {
     }
 
     /// Runs `create_leaf`: the leaf's consumer joins the queue of the provider, whose newest tick becomes the leaf's.
-    fn create_leaf(
-        &mut self,
-        database: usize,
-        name: &Text,
-        provider: &Text,
-    ) -> Result<Reply, Stop>
+    fn create_leaf(&mut self, database: usize, name: &Text, provider: &Text) -> Result<Reply, Stop>
         requires { database < length self.old.databases.names }
         ensures { Ran self.old self.new result (create_leaf (seen_world self.old) database name.now provider.now) }
     {
