@@ -4,6 +4,8 @@ from dataclasses import dataclass, field
 # The refusals that leave a block as it is; all others abort it.
 LEAVES_BLOCK = ('AlreadyOpen', 'Busy', 'ClockSpent')
 WRITES = ('insert', 'update', 'delete')
+# The statements whose last word is a queue, with the answer if they make it.
+MAKES_QUEUE = (('create_queue', '1'), ('create_root', 'ok'))
 
 
 @dataclass
@@ -124,8 +126,12 @@ class Teller:
     @staticmethod
     def is_single(form, row):
         """Whether the row is the answer of a statement that took a transaction id outside blocks."""
-        if form in WRITES or form == 'create_queue':
+        if form in WRITES or form in ('create_queue', 'maint_rotate_step1'):
             return row.reply == '1'
+        if form == 'create_root':
+            return row.reply == 'ok'
+        if form in ('maint_retry_events', 'maint_rotate_step2'):
+            return row.reply.isdecimal() and row.reply != '0'
         return form in ('insert_event', 'txid_current') and row.reply.isdecimal()
 
     @staticmethod
@@ -135,9 +141,10 @@ class Teller:
     def queue(self, place, row):
         """Notes a queue that is made, with its first tick, and a tick that `ticker` makes."""
         words, home = row.words(), self.home.get(row.session)
-        if words[0] == 'create_queue' and row.reply == '1':
-            self.made[home, words[1]] = self.made.get((home, words[1]), 0) + 1
-            self.story.ticks.append(Tick(place, home, words[1], '1'))
+        if (words[0], row.reply) in MAKES_QUEUE:
+            queue = words[-1]
+            self.made[home, queue] = self.made.get((home, queue), 0) + 1
+            self.story.ticks.append(Tick(place, home, queue, '1'))
         elif words[0] == 'ticker' and row.reply.isdecimal():
             self.story.ticks.append(Tick(place, home, words[1], row.reply))
 

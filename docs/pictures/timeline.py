@@ -74,7 +74,7 @@ class Timeline:
             self.arrow(unblocker, place)
         for place, row in enumerate(self.story.rows):
             if row.reply.startswith('error Deadlock '):
-                self.ring(place, row)
+                self.deadlock(place, row)
             self.mark(place, row)
             self.texts(place, row)
         height = self.legend(self.places.bottom + 20)
@@ -160,7 +160,7 @@ class Timeline:
         holder = self.places.middle[wait.holder]
         self.pointer(x, y, holder + (width if x > holder else -width) / 2, y, 'dashed')
 
-    def ring(self, place, row):
+    def deadlock(self, place, row):
         """The wait that a deadlock has refused: an arrow to the holder, the second of the cycle."""
         x, y = self.places.middle[row.session], self.places.y(place)
         holder = self.places.middle[row.reply.split(' ')[3]]

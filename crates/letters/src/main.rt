@@ -1,7 +1,7 @@
 //! The crates as a library: a world of one's own, which runs statements and gives their answers as values.
 //!
 //! Three letters are put into a queue, and a worker sends those of each batch. One can't be sent at first; the worker
-//! asks for it once more, half a minute later, and the daemon brings it back.
+//! asks for a retry half a minute later, and the daemon brings it back.
 #![tactic(auto)]
 
 mod post;
@@ -22,7 +22,7 @@ const LINES: [&str; 10] = [
     "w: open d",
 ];
 
-/// How often the worker looks for a batch, ten seconds after each other.
+/// How many times the worker looks for a batch, ten seconds apart.
 const TURNS: u32 = 12;
 
 fn main(rt: HostRuntime) -> anyhow::Result<()> {

@@ -20,8 +20,8 @@ impl Post {
         }
     }
 
-    /// Runs a statement, which is written as in a script, with the name of its session in front. The answers are its own
-    /// and those of the statements that resume.
+    /// Runs a statement, which is written as in a script, with the name of its session in front. The answers are its
+    /// own and those of the statements that resume.
     pub fn run(&mut self, line: &str) -> anyhow::Result<Replies> {
         // What is parsed is in form, as `World::step` requires. A program may make a `Stmt` itself, too.
         match &parse_line(self.alloc, line.as_bytes())? {
@@ -40,7 +40,7 @@ impl Post {
         }
     }
 
-    /// Sends the letters of a batch, and asks for those once more that can't be sent.
+    /// Sends the letters of a batch, and asks for a retry of each that can't be sent.
     pub fn send(&mut self, rt: &(impl Print + AllocGlobal), batch: u64) -> anyhow::Result<()> {
         let line = format!(in self.alloc; "w: get_batch_events {batch}")?;
         let replies = self.run(line.as_str())?;

@@ -163,7 +163,7 @@ impl Root {
         Ok(())
     }
 
-    /// A consumer is a leaf's no more.
+    /// A consumer is no longer a leaf's.
     pub fn remove_consumer(&mut self, name: &Text)
         ensures { self.new ≡ nodes.without_consumer name.now self.old }
     {

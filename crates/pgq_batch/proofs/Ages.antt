@@ -11,7 +11,7 @@ use Rattle.pgq_tables.specs.Tables.{Stored, Tables, by_age}
 use Rattle.pgq_tables.specs.Order.{by_txid}
 use Rattle.pgq_tables.specs.ById.{by_id}
 use Rattle.pgq_batch.specs.Bound.{is_between, looks_for_ends, most_looks}
-use Rattle.pgq_batch.specs.Placed.{placed, by_place}
+use Rattle.pgq_batch.specs.Placed.{with_place, by_place}
 use Rattle.pgq_batch.proofs.Keyed.{length-in_order_by}
 use Rattle.pgq_batch.proofs.ByTxid.{passing-by_txid, placed-in_order, without_places}
 use Rattle.pgq_batch.proofs.Sorted.{by_id-is, by_place-is, equal_ids_stay}
@@ -50,9 +50,9 @@ length-ages ts =
 -- ---- events are collected
 
 -- a table's events, once they are in order of their places and without these
-pub sorted_out : (q : Stored → Bool) (list : List Stored) → map (λ x. x.1) (by_place (map placed (filter (λ x. q x.1) (by_txid list)))) ≡ map Stored.event (filter q list)
+pub sorted_out : (q : Stored → Bool) (list : List Stored) → map (λ x. x.1) (by_place (map with_place (filter (λ x. q x.1) (by_txid list)))) ≡ map Stored.event (filter q list)
 sorted_out q list =
-    ap (map (λ x. x.1)) (by_place-is (map placed (filter (λ x. q x.1) (by_txid list))) ∙ placed-in_order Stored.event q list) ∙ without_places Stored.event q 0 list
+    ap (map (λ x. x.1)) (by_place-is (map with_place (filter (λ x. q x.1) (by_txid list))) ∙ placed-in_order Stored.event q list) ∙ without_places Stored.event q 0 list
 
 pub one_more_table : (q : Stored → Bool) (list : List Stored) (left rest : List (List Stored)) (before now all : List Event) → left ≡ list ∷ rest → now ≡ before ++ map Stored.event (filter q list)
     → before ++ passing_of q left ≡ all → now ++ passing_of q rest ≡ all
@@ -65,8 +65,8 @@ one_more_table q list left rest before now all next is so_far =
 pub all_tables : (q : Stored → Bool) (lists : List (List Stored)) (turn : ℕ) (now : List Event) → length lists ≤ turn → now ++ passing_of q (drop turn lists) ≡ passing_of q lists → now ≡ passing_of q lists
 all_tables q lists turn now past all = sym (append-nil now) ∙ ap (λ ls. now ++ passing_of q ls) (sym (drop_all turn lists past)) ∙ all
 
-pub as_many : (q : Stored → Bool) (list : List Stored) → length (map placed (filter (λ x. q x.1) (by_txid list))) ≡ length (map Stored.event (filter q list))
-as_many q list = length-map (filter (λ x. q x.1) (by_txid list)) placed ∙ passing-by_txid q list ∙ sym (length-map (filter q list) Stored.event)
+pub as_many : (q : Stored → Bool) (list : List Stored) → length (map with_place (filter (λ x. q x.1) (by_txid list))) ≡ length (map Stored.event (filter q list))
+as_many q list = length-map (filter (λ x. q x.1) (by_txid list)) with_place ∙ passing-by_txid q list ∙ sym (length-map (filter q list) Stored.event)
 
 pub length-by_id : (es : List Event) → length (by_id es) ≡ length es
 length-by_id es = ap length (by_id-is es) ∙ length-in_order_by Event.ev_id es

@@ -17,8 +17,8 @@ digits n = halvings n n
 abbrev pub is_between : (from to : SnapshotView) → Stored → Bool
 is_between from to s = nat_le from.xmin s.event.ev_txid && nat_lt s.event.ev_txid to.xmax
 
--- to find where events of a table begin takes a look for each binary digit of the number of its events at most, and as many to find where they end; and
--- two looks are left over
+-- to find where the events of a table begin takes at most a look for each binary digit of the number of events, and as many to find where they
+-- end; two more are allowed, of which finding one event by its id takes one
 abbrev pub looks_for_ends : List Stored → ℕ
 looks_for_ends list = 2 * digits (length list) + 2
 

@@ -17,8 +17,8 @@ abbrev pub by_place : List (ℕ × Event) → List (ℕ × Event)
 by_place xs = by_place_onto [] xs
 
 -- a stored event as it is collected, with its place
-abbrev pub placed : ℕ × Stored → ℕ × Event
-placed x = (x.0, x.1.event)
+abbrev pub with_place : ℕ × Stored → ℕ × Event
+with_place x = (x.0, x.1.event)
 
 -- whether a place is before that of another, if there is another; this has its place and its index by transaction
 abbrev pub is_before : ℕ → Option (ℕ × ℕ) → Bool

@@ -58,7 +58,7 @@ pub fn find(
     Ok(None)
 }
 
-/// The number of the table that is the oldest but for so many.
+/// The number of a table by its age: at `turn` 0 the oldest one, at the last the current one.
 fn table_by_age(tables: &EventTables, turn: usize) -> usize
     requires { turn < length tables.now.tables.lists }
     ensures within { result < length tables.now.tables.lists }

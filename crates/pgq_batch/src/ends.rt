@@ -27,7 +27,7 @@ pub(crate) fn ends_between(
     (first, end)
 }
 
-/// How many events of a table have a transaction below this one. In order of transactions, they are the first so many.
+/// How many events of a table have a transaction below this one. In order of transactions, these come first.
 fn count_below(tables: &mut EventTables, table: usize, txid: u64) -> usize
     requires { table < length tables.old.tables.lists }
     ensures count { result ≡ length (filter (λ s. nat_lt s.event.ev_txid txid) (slice_index_or tables.old.tables.lists table [])) }

@@ -3,7 +3,7 @@ ghost use Rattle.pgq_tables.specs.Tables.{Stored};
 ghost use Rattle.pgq_tables.specs.Order.{by_txid};
 ghost use Rattle.pgq_tables.specs.Listed.{is_listed};
 ghost use Rattle.pgq_batch.specs.Bound.{is_between, looks_for_ends};
-ghost use Rattle.pgq_batch.specs.Placed.{placed, is_before};
+ghost use Rattle.pgq_batch.specs.Placed.{with_place, is_before};
 
 use crate::ends::ends_between;
 use crate::listed::is_listed;
@@ -24,7 +24,7 @@ pub(crate) fn collect(
 ) -> Result<(), NoMemory>
     requires { table < length tables.old.tables.lists }
     ensures found { OnOk result (found.new.items
-        ≡ found.old.items ++ map placed (filter (λ x. is_listed prev.now cur.now sub x.1) (by_txid (slice_index_or tables.old.tables.lists table [])))) }
+        ≡ found.old.items ++ map with_place (filter (λ x. is_listed prev.now cur.now sub x.1) (by_txid (slice_index_or tables.old.tables.lists table [])))) }
     ensures same { tables.new.tables ≡ tables.old.tables }
     ensures upper { OnOk result (tables.new.reads ≤ tables.old.reads
         + (length (filter (is_between prev.now cur.now) (slice_index_or tables.old.tables.lists table [])) + looks_for_ends (slice_index_or tables.old.tables.lists table []))) }

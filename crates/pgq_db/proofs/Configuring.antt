@@ -7,7 +7,7 @@ use Rattle.sky_model.specs.declared.reply.Refusal.{Refusal}
 use Rattle.sky_model.specs.declared.reply.Refusal.TheVariants.{NoParam, BadValue}
 use Rattle.sky_model.specs.Config.{Config, Param, param_of, configured_by}
 use Rattle.sky_model.specs.History.{queued, configured}
-use Rattle.sky_model.specs.State.{RowPart, Database, after_mark}
+use Rattle.sky_model.specs.State.{Database, after_mark}
 use Rattle.sky_model.specs.Outcome.{Outcome, Checked, ◌>>=◌, found_or, does_marks}
 use Rattle.sky_model.specs.StepQueue.{queue_called, set_queue_config}
 use Rattle.pgq_tick.specs.declared.config.ConfigFault.{ConfigFault}

@@ -13,13 +13,12 @@ use Rattle.sky_model.specs.Queues.{Tick, tick, newest_tick}
 use Rattle.sky_model.specs.Consumers.{Subscription}
 use Rattle.sky_model.specs.Selection.{selected}
 use Rattle.sky_model.specs.Printed.{EventsHaveMoments}
-use Rattle.sky_model.specs.State.{RowPart, Queue, Database, after_mark}
+use Rattle.sky_model.specs.State.{Queue, Database, after_mark}
 use Rattle.sky_model.specs.Outcome.{Outcome, Checked, ◌>>=◌, ◌>>◌, refused_if, found_or, answers, does_marks}
 use Rattle.sky_model.specs.Reader.{shown_by}
 use Rattle.sky_model.specs.StepQueue.{queue_called, newest_id}
 use Rattle.sky_model.specs.Queues.{id_of}
 use Rattle.sky_model.specs.StepConsumer.{is_nodes, is_nodes_batch, registers, register_consumer, register_consumer_at, leaves, unregister_consumer, opens_batch, floor, get_batch_events, batch_info_of, get_batch_info, finishes, finish_batch}
-use Rattle.sky_state.specs.Seen.{seen}
 use Rattle.pgq_queues.specs.declared.batch.Batch as read
 use Rattle.pgq_queues.specs.Views.{QueuesView}
 use Rattle.pgq_queues.specs.Seen.{seen_batch, queue_at, batch_at, seen_with, Beside}
@@ -178,9 +177,9 @@ gives-batch d s who q n consumer sub next before after there left changed is pus
     result = does_marks (Number (d.last_batch_id + 1))
         (queued (opened (record { id = d.last_batch_id + 1; queue = q; consumer = consumer; sub = sub.id; prev = sub.position; cur = next.id })) ∷ [])
 
--- the tick after a position, as the queue says
-pub next-as : (v now : DbView) (q at position : ℕ) (queue : Queue) (ticks : List Tick) (next : Tick) → v ≡ now → queue ≡ queue_at v.queues q → ticks ≡ queue.tick_list
-    → Some next ≡ tick (at + 1) ticks → at ≡ position → Some next ≡ tick (position + 1) ((seen_database now).queue q).tick_list
+-- the tick after a position, if there is one, as the queue says
+pub next-as : (v now : DbView) (q at position : ℕ) (queue : Queue) (ticks : List Tick) (next : Option Tick) → v ≡ now → queue ≡ queue_at v.queues q → ticks ≡ queue.tick_list
+    → next ≡ tick (at + 1) ticks → at ≡ position → next ≡ tick (position + 1) ((seen_database now).queue q).tick_list
 next-as v now q at position queue ticks next same there are is stands =
     is ∙ ap (λ n. tick (n + 1) ticks) stands ∙ ap (tick (position + 1)) (are ∙ ap Queue.tick_list there) ∙ ap (λ (w : DbView). tick (position + 1) (queue_at w.queues q).tick_list) same
 
@@ -199,11 +198,16 @@ gives-finish d s who id b before after there foreign changed pushed =
     (record { accepted = refl; replied = pushed; changed = changed }, tt)
 
 -- its events
-pub gives-events : (d s : Database) (who id : ℕ) (batch : read.Batch) (events : List Event) (before after : List (ℕ × Reply)) → Some (seen_batch batch) ≡ d.batch id
-    → events ≡ selected d (seen_batch batch) → EventsHaveMoments events → s ≡ d → after ≡ before ++ (who, Events events) ∷ [] → Runs d s before after who (get_batch_events (shown_by d).events id)
-gives-events d s who id batch events before after there is have same pushed =
-    subst (λ found. Runs d s before after who (found_or (option_map (selected d) found) NoBatch >>= (λ es. answers (Events es)))) there
-    (record { accepted = refl; replied = pushed ∙ ap (λ es. before ++ (who, Events es) ∷ []) is; changed = same }, subst EventsHaveMoments is have)
+pub events-as : (d : Database) (id : ℕ) (batch : read.Batch) (events : List Event) → Some (seen_batch batch) ≡ d.batch id → events ≡ selected d (seen_batch batch) → Some events ≡ (shown_by d).events id
+events-as d id batch events there are = ap Some are ∙ ap (option_map (selected d)) there
+
+pub no-events : (events_of : ℕ → Option (List Event)) (id : ℕ) → None ≡ events_of id → get_batch_events events_of id ≡ Err NoBatch
+no-events events_of id none = ap (λ found. found_or found NoBatch >>= (λ es. answers (Events es))) (sym none)
+
+pub gives-events : (d s : Database) (who id : ℕ) (events : List Event) (before after : List (ℕ × Reply)) → Some events ≡ (shown_by d).events id → EventsHaveMoments events → s ≡ d
+    → after ≡ before ++ (who, Events events) ∷ [] → Runs d s before after who (get_batch_events (shown_by d).events id)
+gives-events d s who id events before after are have same pushed =
+    subst (λ found. Runs d s before after who (found_or found NoBatch >>= (λ es. answers (Events es)))) are (record { accepted = refl; replied = pushed; changed = same }, have)
 
 -- what is shown of it
 pub gives-info : (d : Database) (who id : ℕ) (batch : read.Batch) (info : shown_batch.BatchInfo) (before after : List (ℕ × Reply)) → Some (seen_batch batch) ≡ d.batch id

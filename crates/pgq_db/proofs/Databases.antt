@@ -23,8 +23,8 @@ use Rattle.sky_model.specs.Triggers.{TableTrigger, triggers_of}
 use Rattle.sky_model.specs.Printed.{ReplyHasMoments}
 use Rattle.sky_model.specs.State.{RowPart, after_part_marks, Database, after_mark, after_marks}
 use Rattle.sky_model.specs.ShownRows.{snapshot_now}
-use Rattle.sky_model.specs.Outcome.{Outcome, Checked, ◌>>=◌, ◌>>◌, refused_if, refused_by, found_or, answers, does_marks, reply_of, end_of, aborts, abort, settled}
-use Rattle.sky_model.specs.OwnTransaction.{txid_for, begin_of, commit_of, written}
+use Rattle.sky_model.specs.Outcome.{Outcome, Checked, ◌>>=◌, ◌>>◌, refused_if, refused_by, found_or, answers, does_marks, reply_of, end_of, aborts, abort, or_refused}
+use Rattle.sky_model.specs.OwnTransaction.{txid_for, begin_of, commit_of, in_own}
 use Rattle.sky_model.specs.StepQueue.{create_queue, drop_queue, first_trigger_into, shown_name, least_producer, insert_event, tells_of_rows, queue_called, next_event_id, made_event}
 use Rattle.sky_model.specs.Allowed.{where_of}
 use Rattle.sky_model.specs.Made.{Making, takes_sight, runs, looking, runs_if}
@@ -115,7 +115,7 @@ gives-event d s1 s2 s3 now time who name ev_type ev_data extra q seq t event bef
         replied = pushed;
         changed = m3 ∙ ap (λ s. after_mark s (queued (put q event))) (m2 ∙ ap (λ s. after_mark s (queued (raised q (seq + 1)))) m1)
             ∙ event-written d who t (d.part.session who).txid (d.part.session who).block q (seq + 1) event
-            ∙ ap (λ e. after_marks d (written who t (d.part.session who) (queued (raised q (seq + 1)) ∷ queued (put q e) ∷ [])))
+            ∙ ap (λ e. after_marks d (in_own who t (d.part.session who) (queued (raised q (seq + 1)) ∷ queued (put q e) ∷ [])))
             (made_is ∙ ap (λ x. made_event (seq + 1) x t ev_type ev_data extra) at);
       },
       tt,
@@ -125,14 +125,14 @@ gives-event d s1 s2 s3 now time who name ev_type ev_data extra q seq t event bef
     unspent = grind (arith, nat_tests)
 
     result : ℕ → Checked Outcome
-    result id = does_marks (Number id) (written who t (d.part.session who) (queued (raised q id) ∷ queued (put q (made_event id now t ev_type ev_data extra)) ∷ []))
+    result id = does_marks (Number id) (in_own who t (d.part.session who) (queued (raised q id) ∷ queued (put q (made_event id now t ev_type ev_data extra)) ∷ []))
 
     whole : insert_event d now who name ev_type ev_data extra ≡ result (seq + 1)
     whole =
         behind-queue d name ev_type q place plain (λ n. txid_for d.part who >>= (λ x. next_event_id (d.queue n) >>= (λ id.
-        does_marks (Number id) (written who x (d.part.session who) (queued (raised n id) ∷ queued (put n (made_event id now x ev_type ev_data extra)) ∷ [])))))
+        does_marks (Number id) (in_own who x (d.part.session who) (queued (raised n id) ∷ queued (put n (made_event id now x ev_type ev_data extra)) ∷ [])))))
         ∙ ap (λ c. c >>= (λ x. next_event_id (d.queue q) >>= (λ id.
-        does_marks (Number id) (written who x (d.part.session who) (queued (raised q id) ∷ queued (put q (made_event id now x ev_type ev_data extra)) ∷ []))))) txid
+        does_marks (Number id) (in_own who x (d.part.session who) (queued (raised q id) ∷ queued (put q (made_event id now x ev_type ev_data extra)) ∷ []))))) txid
         ∙ ap (λ b. (refused_if b EventIdsSpent >> Ok ((d.queue q).seq + 1)) >>= result) unspent
         ∙ ap (λ n. result (n + 1)) (sym is)
 
@@ -147,16 +147,16 @@ queue-written d who t _ _ name time = refl
 pub made-queue : (d s1 s2 : Database) (now time : ℤ) (who t : ℕ) (name copied : List ℕ) → copied ≡ name → time ≡ now
     → s1 ≡ after_marks d (begin_of who t (d.part.session who).txid ++ commit_of who t (d.part.session who).block)
     → s2 ≡ after_mark s1 (queued (made copied t time))
-    → s2 ≡ after_marks d (written who t (d.part.session who) [] ++ queued (made name t now) ∷ [])
+    → s2 ≡ after_marks d (in_own who t (d.part.session who) [] ++ queued (made name t now) ∷ [])
 made-queue d s1 s2 now time who t name copied same at m1 m2 =
     m2 ∙ ap (λ s. after_mark s (queued (made copied t time))) m1
     ∙ queue-written d who t (d.part.session who).txid (d.part.session who).block copied time
-    ∙ ap (λ n. after_marks d (written who t (d.part.session who) [] ++ queued (made n t time) ∷ [])) same
-    ∙ ap (λ x. after_marks d (written who t (d.part.session who) [] ++ queued (made name t x) ∷ [])) at
+    ∙ ap (λ n. after_marks d (in_own who t (d.part.session who) [] ++ queued (made n t time) ∷ [])) same
+    ∙ ap (λ x. after_marks d (in_own who t (d.part.session who) [] ++ queued (made name t x) ∷ [])) at
 
 -- what a queue that is made gives
 pub gives-queue : (d s : Database) (now : ℤ) (who t : ℕ) (name : List ℕ) (before after : List (ℕ × Reply)) → queue_number name d.queues ≡ None → length d.queues < 64 → txid_for d.part who ≡ Ok t
-    → s ≡ after_marks d (written who t (d.part.session who) [] ++ queued (made name t now) ∷ [])
+    → s ≡ after_marks d (in_own who t (d.part.session who) [] ++ queued (made name t now) ∷ [])
     → after ≡ before ++ (who, Number 1) ∷ [] → Runs d s before after who (create_queue d now who name)
 gives-queue d s now who t name before after new room txid is pushed = subst (Runs d s before after who) (sym whole) (record { accepted = refl; replied = pushed; changed = is }, tt)
   where
@@ -164,7 +164,7 @@ gives-queue d s now who t name before after new room txid is pushed = subst (Run
     few = grind (arith, nat_tests)
 
     result : ℕ → Checked Outcome
-    result x = does_marks (Number 1) (written who x (d.part.session who) [] ++ queued (made name x now) ∷ [])
+    result x = does_marks (Number 1) (in_own who x (d.part.session who) [] ++ queued (made name x now) ∷ [])
 
     whole : create_queue d now who name ≡ result t
     whole =
@@ -232,7 +232,7 @@ abort-nothing who txid _ refusal is = refl
 -- what a statement answers that came in
 pub answers-entered : (d s1 s2 : Database) (time now : ℤ) (who : ℕ) (stmt : Stmt) (place : Where) (before after : List (ℕ × Reply)) → time ≡ now → place ≡ where_of stmt
     → Enters d.part s1.part who place None → s1 ≡ record d { part = s1.part }
-    → Answers s1 s2 before after who (settled who (s1.part.session who) (form s1 (shown_by s1) time who stmt))
+    → Answers s1 s2 before after who (or_refused who (s1.part.session who) (form s1 (shown_by s1) time who stmt))
     → Answers d s2 before after who (statement database_by_itself d now who stmt)
 answers-entered d s1 s2 time now who stmt place before after at is enters but gives =
     subst (Answers d s2 before after who) (sym whole) (of (takes_sight (where_of stmt) (d.part.session who).sight) behind)
@@ -249,10 +249,10 @@ answers-entered d s1 s2 time now who stmt place before after at is enters but gi
     behind : s1 ≡ record d { part = after_part_marks d.part (look_of who (takes_sight (where_of stmt) (d.part.session who).sight)) }
     behind = but ∙ ap (λ part. record d { part = part }) entered.1
 
-    there : (x : Database) → s1 ≡ x → Answers x s2 before after who (settled who (x.part.session who) (form x (shown_by x) now who stmt))
+    there : (x : Database) → s1 ≡ x → Answers x s2 before after who (or_refused who (x.part.session who) (form x (shown_by x) now who stmt))
     there x e =
-        subst (λ (y : Database). Answers y s2 before after who (settled who (y.part.session who) (form y (shown_by y) now who stmt))) e
-        (subst (λ t. Answers s1 s2 before after who (settled who (s1.part.session who) (form s1 (shown_by s1) t who stmt))) at gives)
+        subst (λ (y : Database). Answers y s2 before after who (or_refused who (y.part.session who) (form y (shown_by y) now who stmt))) e
+        (subst (λ t. Answers s1 s2 before after who (or_refused who (s1.part.session who) (form s1 (shown_by s1) t who stmt))) at gives)
 
     of : (b : Bool) → s1 ≡ record d { part = after_part_marks d.part (look_of who b) }
         → Answers d s2 before after who (if b then looking who (runs m who (after_mark d (looked who))) else runs m who d)
@@ -262,17 +262,17 @@ answers-entered d s1 s2 time now who stmt place before after at is enters but gi
 -- and one that was refused at the door
 pub answers-turned_away : (d s1 s2 : Database) (now : ℤ) (who : ℕ) (stmt : Stmt) (place : Where) (before after : List (ℕ × Reply)) (refusal : Refusal) → place ≡ where_of stmt
     → Enters d.part s1.part who place (Some refusal) → s1 ≡ record d { part = s1.part }
-    → Answers s1 s2 before after who (settled who (s1.part.session who) (Err refusal)) → Answers d s2 before after who (statement database_by_itself d now who stmt)
+    → Answers s1 s2 before after who (or_refused who (s1.part.session who) (Err refusal)) → Answers d s2 before after who (statement database_by_itself d now who stmt)
 answers-turned_away d s1 s2 now who stmt place before after refusal is enters but answers =
     subst (Answers d s2 before after who) (sym (ap (runs_if (making database_by_itself now who stmt) (where_of stmt) who d) turned.0))
-    (subst (λ (x : Database). Answers x s2 before after who (settled who (x.part.session who) (Err refusal))) (but ∙ ap (λ part. record d { part = part }) turned.1) answers)
+    (subst (λ (x : Database). Answers x s2 before after who (or_refused who (x.part.session who) (Err refusal))) (but ∙ ap (λ part. record d { part = part }) turned.1) answers)
   where
     turned : Enters d.part s1.part who (where_of stmt) (Some refusal)
     turned = subst (λ p. Enters d.part s1.part who p (Some refusal)) is enters
 
 -- the reply alone
 pub reply-entered : (d s1 : Database) (now : ℤ) (who : ℕ) (stmt : Stmt) (place : Where) → place ≡ where_of stmt → Enters d.part s1.part who place None → s1 ≡ record d { part = s1.part }
-    → (statement database_by_itself d now who stmt).reply ≡ (settled who (s1.part.session who) (form s1 (shown_by s1) now who stmt)).reply
+    → (statement database_by_itself d now who stmt).reply ≡ (or_refused who (s1.part.session who) (form s1 (shown_by s1) now who stmt)).reply
 reply-entered d s1 now who stmt place is enters but =
     ap (λ o. (runs_if m (where_of stmt) who d o).reply) entered.0
     ∙ of (takes_sight (where_of stmt) (d.part.session who).sight) (but ∙ ap (λ part. record d { part = part }) entered.1)
@@ -284,9 +284,9 @@ reply-entered d s1 now who stmt place is enters but =
     entered = subst (λ p. Enters d.part s1.part who p None) is enters
 
     of : (b : Bool) → s1 ≡ record d { part = after_part_marks d.part (look_of who b) }
-        → (if b then looking who (runs m who (after_mark d (looked who))) else runs m who d).reply ≡ (settled who (s1.part.session who) (form s1 (shown_by s1) now who stmt)).reply
-    of true e = ap (λ (x : Database). (settled who (x.part.session who) (form x (shown_by x) now who stmt)).reply) (sym e)
-    of false e = ap (λ (x : Database). (settled who (x.part.session who) (form x (shown_by x) now who stmt)).reply) (sym e)
+        → (if b then looking who (runs m who (after_mark d (looked who))) else runs m who d).reply ≡ (or_refused who (s1.part.session who) (form s1 (shown_by s1) now who stmt)).reply
+    of true e = ap (λ (x : Database). (or_refused who (x.part.session who) (form x (shown_by x) now who stmt)).reply) (sym e)
+    of false e = ap (λ (x : Database). (or_refused who (x.part.session who) (form x (shown_by x) now who stmt)).reply) (sym e)
 
 pub reply-turned_away : (d s1 : Database) (now : ℤ) (who : ℕ) (stmt : Stmt) (place : Where) (refusal : Refusal) → place ≡ where_of stmt → Enters d.part s1.part who place (Some refusal)
     → (statement database_by_itself d now who stmt).reply ≡ Refused refusal
@@ -295,16 +295,16 @@ reply-turned_away d s1 now who stmt place refusal is enters =
 
 -- what a statement answers that isn't refused, and one that is
 pub answers-done : (d s : Database) (before after : List (ℕ × Reply)) (who : ℕ) (checked : Checked Outcome) → Runs d s before after who checked
-    → Answers d s before after who (settled who (d.part.session who) checked)
+    → Answers d s before after who (or_refused who (d.part.session who) checked)
 answers-done d s before after who (Ok outcome) runs = (record { replied = runs.0.replied; changed = runs.0.changed }, runs.1)
 answers-done d s before after who (Err refusal) runs = (let accepted = runs.0.accepted in absurd (cc))
 
 pub answers-refused : (d s1 s2 : Database) (before between after : List (ℕ × Reply)) (who : ℕ) (refusal : Refusal) (checked : Checked Outcome) → Refuses d s1 refusal checked → between ≡ before
-    → Answers s1 s2 between after who (settled who (s1.part.session who) (Err refusal)) → Answers d s2 before after who (settled who (d.part.session who) checked)
+    → Answers s1 s2 between after who (or_refused who (s1.part.session who) (Err refusal)) → Answers d s2 before after who (or_refused who (d.part.session who) checked)
 answers-refused d s1 s2 before between after who refusal checked refuses kept answers =
-    subst (λ c. Answers d s2 before after who (settled who (d.part.session who) c)) (sym refuses.refused)
-    (subst (λ (x : Database). Answers x s2 before after who (settled who (x.part.session who) (Err refusal))) refuses.same
-    (subst (λ xs. Answers s1 s2 xs after who (settled who (s1.part.session who) (Err refusal))) kept answers))
+    subst (λ c. Answers d s2 before after who (or_refused who (d.part.session who) c)) (sym refuses.refused)
+    (subst (λ (x : Database). Answers x s2 before after who (or_refused who (x.part.session who) (Err refusal))) refuses.same
+    (subst (λ xs. Answers s1 s2 xs after who (or_refused who (s1.part.session who) (Err refusal))) kept answers))
 
 -- what was done, and then what is done by the statements that resume
 pub adds-then : (now : ℤ) (d s1 s2 : Database) (turn : Turn) (before between after : List (ℕ × Reply)) → Adds d s1 before between turn
@@ -335,20 +335,20 @@ pub spent-events : (d : Database) (now : ℤ) (who : ℕ) (name : List ℕ) (ev_
     → (is_set_queue name d.node && tells_of_rows ev_type) ≡ false → is_ok (txid_for d.part who) ≡ true → seq ≡ (d.queue q).seq → 2 ^ 62 ≤ seq + 1 → insert_event d now who name ev_type ev_data extra ≡ Err EventIdsSpent
 spent-events d now who name ev_type ev_data extra q seq place plain left is over =
     behind-queue d name ev_type q place plain (λ n. txid_for d.part who >>= (λ x. next_event_id (d.queue n) >>= (λ id.
-    does_marks (Number id) (written who x (d.part.session who) (queued (raised n id) ∷ queued (put n (made_event id now x ev_type ev_data extra)) ∷ [])))))
+    does_marks (Number id) (in_own who x (d.part.session who) (queued (raised n id) ∷ queued (put n (made_event id now x ev_type ev_data extra)) ∷ [])))))
     ∙ of (txid_for d.part who) left
   where
     spent : nat_le (2 ^ 62) ((d.queue q).seq + 1) ≡ true
     spent = grind (arith, nat_tests)
 
     of : (c : Checked ℕ) → is_ok c ≡ true → (c >>= (λ x. next_event_id (d.queue q) >>= (λ id.
-        does_marks (Number id) (written who x (d.part.session who) (queued (raised q id) ∷ queued (put q (made_event id now x ev_type ev_data extra)) ∷ []))))) ≡ Err EventIdsSpent
+        does_marks (Number id) (in_own who x (d.part.session who) (queued (raised q id) ∷ queued (put q (made_event id now x ev_type ev_data extra)) ∷ []))))) ≡ Err EventIdsSpent
     of (Ok x) e = ap (λ b. (refused_if b EventIdsSpent >> Ok ((d.queue q).seq + 1)) >>= (λ id.
-        does_marks (Number id) (written who x (d.part.session who) (queued (raised q id) ∷ queued (put q (made_event id now x ev_type ev_data extra)) ∷ [])))) spent
+        does_marks (Number id) (in_own who x (d.part.session who) (queued (raised q id) ∷ queued (put q (made_event id now x ev_type ev_data extra)) ∷ [])))) spent
     of (Err refusal) e = absurd (cc)
 
 -- a transaction that got its id, and ended if it is in no block
-pub took : (d : Database) (left : RowPart) (who t : ℕ) → left ≡ after_part_marks d.part (written who t (d.part.session who) [])
+pub took : (d : Database) (left : RowPart) (who t : ℕ) → left ≡ after_part_marks d.part (in_own who t (d.part.session who) [])
     → record d { part = left } ≡ after_marks d (begin_of who t (d.part.session who).txid ++ commit_of who t (d.part.session who).block)
 took d left who t is = ap (λ part. record d { part = part }) is ∙ joined (d.part.session who).txid (d.part.session who).block
   where

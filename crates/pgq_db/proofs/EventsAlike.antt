@@ -11,7 +11,7 @@ use Rattle.sky_names.specs.Named.{value_of}
 use Rattle.sky_urlenc.specs.RowEvents.{RowEvent, Trigger, events_of, event_of}
 use Rattle.sky_model.specs.declared.reply.Refusal.TheVariants.{EventIdsSpent}
 use Rattle.londiste_state.specs.Nodes.{Node}
-use Rattle.sky_model.specs.History.{Mark, Whose, of_session, ended, tabled, wrote, queued, noded}
+use Rattle.sky_model.specs.History.{Mark, Whose, of_session, ended, tabled, wrote, read_only, queued, noded}
 use Rattle.sky_model.specs.Triggers.{TableTrigger, triggers_of}
 use Rattle.sky_model.specs.State.{Queue, RowPart, after_part, after_part_marks, Database, changed_at, with_tables, after_mark, after_marks}
 use Rattle.sky_model.specs.Outcome.{Checked, ◌>>=◌, ◌>>◌, refused_if}
@@ -346,6 +346,7 @@ unwritten node p q [] rows plain = refl
 unwritten node p q (queued mark ∷ marks) rows plain = absurd rows
 unwritten node p q (noded mark ∷ marks) rows plain = absurd rows
 unwritten node p q (tabled (wrote who t table key old new) ∷ marks) rows plain = absurd plain
+unwritten node p q (tabled (read_only table on) ∷ marks) rows plain = absurd rows
 unwritten node p q (ended whose t false ∷ marks) rows plain =
     unwritten node (after_part p (ended whose t false)) (event_rule.undone q t) marks rows plain ∙ ap (λ x. after_marks x marks) (sym (undone-shown node p q whose t))
 unwritten node p q (ended whose t true ∷ marks) rows plain = unwritten node (after_part p (ended whose t true)) q marks rows plain

@@ -13,3 +13,4 @@ pub mod Switched
 pub mod RotationSteps
 pub mod Looking
 pub mod NodeSteps
+pub mod ProviderSteps

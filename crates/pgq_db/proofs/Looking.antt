@@ -1,5 +1,5 @@
 -- How many stored events a statement looks at: what changes queues otherwise looks at none.
-use Rattle.std.proofs.Common.{◌≡◌, ℕ, zero, suc, ℤ, ◌+◌, ◌-◌, ◌^◌, ◌<◌, ◌≤◌, Bool, true, false, ◌==◌, List, [], ◌∷◌, length, option_map, Option, None, Some, Ok, Err, get_or, slice_set, refl, sym, ◌∙◌, ap, subst, arith, if◌then◌else◌}
+use Rattle.std.proofs.Common.{◌≡◌, ℕ, zero, suc, ℤ, ◌+◌, ◌-◌, ◌^◌, ◌<◌, ◌≤◌, Bool, true, false, ◌==◌, List, [], ◌∷◌, length, Option, None, Some, Ok, Err, get_or, slice_set, refl, sym, ◌∙◌, ap, subst, arith, if◌then◌else◌}
 use Rattle.std.proofs.lemmas.Bool.Decides.{nat_tests}
 use Rattle.sky_val.specs.declared.event.Event.{Event}
 use Rattle.sky_urlenc.specs.RowEvents.{RowEvent}
@@ -9,11 +9,8 @@ use Rattle.sky_model.specs.declared.reply.Refusal.{Refusal}
 use Rattle.sky_model.specs.declared.reply.Refusal.TheVariants.{NoBatch}
 use Rattle.sky_model.specs.declared.reply.Reply.{Reply}
 use Rattle.sky_model.specs.declared.reply.Reply.TheVariants as answer
-use Rattle.sky_model.specs.Outcome.{Checked, Outcome, ◌>>=◌, found_or, answers, reply_of, settled}
-use Rattle.sky_model.specs.Reader.{shown_by}
-use Rattle.sky_model.specs.Selection.{selected}
+use Rattle.sky_model.specs.Outcome.{Checked, Outcome, ◌>>=◌, found_or, answers, reply_of, or_refused}
 use Rattle.sky_model.specs.Sessions.{Session}
-use Rattle.sky_model.specs.State.{Database}
 use Rattle.sky_model.specs.StepConsumer.{get_batch_events}
 use Rattle.sky_model.specs.declared.stmt.Stmt.{Stmt}
 use Rattle.sky_model.specs.declared.stmt.Stmt.TheVariants.{GetBatchEvents, EventRetry}
@@ -26,8 +23,6 @@ use Rattle.pgq_queues.specs.Seen.{no_queue, seen_batch, seen_span, queue_at, bat
 use Rattle.pgq_queues.specs.Traced.{traced_at}
 use Rattle.pgq_queues.specs.Views.{QueueView, QueuesView}
 use Rattle.pgq_queues.proofs.Slotted.{undone-get}
-use Rattle.pgq_db.specs.Views.{DbView}
-use Rattle.pgq_db.specs.Seen.{seen_database}
 use Rattle.pgq_db.specs.Looks.{most_for, LooksFor, LooksWithin, RanWithin, LooksFrom, ListsFrom, ListsLooked, ReadsNone}
 
 -- ---- the queues as the gate
@@ -96,21 +91,18 @@ looks-refused old mid new _ refusal looks none = tt
 
 -- ---- the events that are listed
 
-pub lists-for : (v : DbView) (new : QueuesView) (id : ℕ) (batch : read.Batch) (span : Span) (events : List Event) → Some (seen_batch batch) ≡ batch_at v.queues id
-    → span ≡ record { queue = batch.queue; sub = batch.sub; prev = batch.prev; cur = batch.cur } → events ≡ selected (seen_database v) (seen_span span)
-    → (reads_at new.queues span.queue < 2 ^ 64 - 1 → length events + reads_at v.queues.queues span.queue ≤ reads_at new.queues span.queue)
-    → ListsFrom v.queues new id (reply_of (get_batch_events (shown_by (seen_database v)).events id))
-lists-for v new id batch span events there is are lower =
-    subst (λ found. ListsFrom v.queues new id (reply_of (found_or (option_map (selected d) found) NoBatch >>= (λ es. answers (answer.Events es))))) there
-    (subst (LooksFrom v.queues new (selected d (seen_batch batch))) there
-    (subst (λ (es : List Event). reads_at new.queues batch.queue < 2 ^ 64 - 1 → length es + reads_at v.queues.queues batch.queue ≤ reads_at new.queues batch.queue)
-    (are ∙ ap (λ (s : Span). selected d (seen_span s)) is)
-    (subst (λ (s : Span). reads_at new.queues s.queue < 2 ^ 64 - 1 → length events + reads_at v.queues.queues s.queue ≤ reads_at new.queues s.queue) is lower)))
-  where
-    d : Database
-    d = seen_database v
+pub lists-for : (old new : QueuesView) (id : ℕ) (batch : read.Batch) (span : Span) (events : List Event) → Some (seen_batch batch) ≡ batch_at old id
+    → span ≡ record { queue = batch.queue; sub = batch.sub; prev = batch.prev; cur = batch.cur }
+    → (reads_at new.queues span.queue < 2 ^ 64 - 1 → length events + reads_at old.queues span.queue ≤ reads_at new.queues span.queue) → LooksFrom old new events (batch_at old id)
+lists-for old new id batch span events there is lower =
+    subst (LooksFrom old new events) there
+    (subst (λ (s : Span). reads_at new.queues s.queue < 2 ^ 64 - 1 → length events + reads_at old.queues s.queue ≤ reads_at new.queues s.queue) is lower)
 
-pub lists-done : (old new : QueuesView) (stmt : Stmt) (who : ℕ) (s : Session) (checked : Checked Outcome) → ListsLooked old new stmt (reply_of checked) → ListsLooked old new stmt (settled who s checked).reply
+pub lists-reply : (old new : QueuesView) (id : ℕ) (events_of : ℕ → Option (List Event)) (events : List Event) → Some events ≡ events_of id → LooksFrom old new events (batch_at old id)
+    → ListsFrom old new id (reply_of (get_batch_events events_of id))
+lists-reply old new id events_of events are lists = subst (λ found. ListsFrom old new id (reply_of (found_or found NoBatch >>= (λ es. answers (answer.Events es))))) are lists
+
+pub lists-done : (old new : QueuesView) (stmt : Stmt) (who : ℕ) (s : Session) (checked : Checked Outcome) → ListsLooked old new stmt (reply_of checked) → ListsLooked old new stmt (or_refused who s checked).reply
 lists-done old new stmt who s (Ok outcome) lists = lists
 lists-done old new stmt who s (Err refusal) lists = lists
 

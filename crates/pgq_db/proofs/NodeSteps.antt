@@ -1,28 +1,27 @@
 -- What calls for nodes give.
-use Rattle.std.proofs.Common.{◌≡◌, ℕ, ◌+◌, ◌<◌, ◌≤◌, ◌^◌, List, [], ◌∷◌, ◌++◌, Bool, true, false, nat_le, Option, Some, None, Result, Ok, Err, IfOk, OnOk, is_ok, is_some, length, option_map, refl, sym, ◌∙◌, ap, subst, arith}
+use Rattle.std.proofs.Common.{◌≡◌, ℕ, ◌+◌, ◌<◌, ◌≤◌, ◌^◌, List, [], ◌∷◌, ◌++◌, Bool, true, false, nat_le, Option, Some, None, Result, Ok, Err, IfOk, OnOk, is_ok, is_some, is_none, length, option_map, refl, sym, ◌∙◌, ap, subst, arith}
 use Rattle.std.proofs.lemmas.Bool.Decides.{nat_tests}
 use Rattle.sky_names.specs.Places.{place_of}
-use Rattle.londiste_state.specs.Nodes.{Node}
-use Rattle.sky_model.specs.declared.reply.Reply.{Reply}
-use Rattle.sky_model.specs.declared.reply.Reply.TheVariants.{Done, Number}
-use Rattle.sky_model.specs.declared.reply.Limit.TheVariants.{Consumers, Queues, Triggers}
-use Rattle.sky_model.specs.declared.reply.Refusal.TheVariants.{ConsumerExists, IdsSpent, NodeExists, QueueExists, TableBusy, TooMany}
-use Rattle.sky_model.specs.History.{Mark, tabled, read_only, queued, registered, traced, untraced, made, noded, root_made, listed, unlisted, joined, leaf_made, leaf_added, leaf_removed}
+use Rattle.londiste_state.specs.declared.state.TableState.{TableState}
+use Rattle.londiste_state.specs.Nodes.{Node, Leaf, of_leaf}
+use Rattle.sky_model.specs.declared.reply.Reply.TheVariants.{Done, Number, Null}
+use Rattle.sky_model.specs.declared.reply.Limit.TheVariants.{Consumers, Triggers}
+use Rattle.sky_model.specs.declared.reply.Refusal.TheVariants.{ConsumerExists, IdsSpent, TableBusy, TooMany}
+use Rattle.sky_model.specs.History.{Mark, tabled, read_only, queued, registered, traced, untraced, noded, NodeMark, listed, unlisted, joined, leaf_made, leaf_added, leaf_removed, state_set}
 use Rattle.sky_model.specs.Nodes.{after_node}
-use Rattle.sky_model.specs.Queues.{queue_number}
 use Rattle.sky_model.specs.Triggers.{triggers_of}
-use Rattle.sky_model.specs.State.{RowPart, after_part, Database, after_mark, after_marks}
+use Rattle.sky_model.specs.State.{after_part, Database, after_mark, after_marks}
 use Rattle.sky_model.specs.ShownRows.{least_writer}
-use Rattle.sky_model.specs.OwnTransaction.{txid_for, written}
-use Rattle.sky_model.specs.Outcome.{Outcome, Checked, ◌>>=◌, ◌>>◌, refused_if, refused_by, does_marks, marks_of}
+use Rattle.sky_model.specs.Outcome.{Outcome, Checked, ◌>>=◌, ◌>>◌, refused_if, refused_by, answers, does_marks, marks_of}
 use Rattle.sky_model.specs.StepQueue.{newest_id}
 use Rattle.sky_model.specs.StepConsumer.{registers}
-use Rattle.sky_model.specs.StepNode.{set_queue, set_trigger, joins, lists, unlists, adds, removes, create_root, NodeCall, joining, making_leaf, adding, removing, listing, unlisting, if_there, table_number, node_does}
+use Rattle.sky_model.specs.StepNode.{set_queue, set_trigger, joins, lists, unlists, adds, removes, NodeCall, joining, making_leaf, adding, removing, moving, listing, unlisting, if_there, table_number, may_serve, call_form, node_does}
 use Rattle.sky_model.specs.Daemon.{quietly}
 use Rattle.sky_model.specs.DatabaseCalls.{served}
 use Rattle.sky_model.specs.DatabaseSteps.{DatabaseSteps}
 use Rattle.sky_model.specs.Stops.{Refuses}
-use Rattle.sky_model.proofs.DatabaseStanding.{after_marks-append, database_steps_from_exact}
+use Rattle.sky_model.proofs.DatabaseStanding.{database_steps_from_exact}
+use Rattle.sky_model.proofs.NodeDeeds.{is-served}
 use Rattle.sky_state.specs.Views.{RowStateView}
 use Rattle.sky_state.specs.Seen.{seen}
 use Rattle.pgq_queues.specs.Views.{QueuesView}
@@ -30,7 +29,7 @@ use Rattle.pgq_queues.specs.Seen.{seen_with, Beside}
 use Rattle.pgq_db.specs.Views.{DbView}
 use Rattle.pgq_db.specs.Seen.{with_node, seen_database}
 use Rattle.pgq_db.specs.Served.{Serves, ServesUnlessBusy}
-use Rattle.pgq_db.proofs.Databases.{Runs}
+use Rattle.pgq_db.proofs.Databases.{table-there}
 
 -- what a call's definition says was done
 pub serves-by : (old new : Database) (call : NodeCall) (o : Outcome) → node_does old call ≡ Ok o → new ≡ after_marks old o.marks → Serves old new call
@@ -56,6 +55,32 @@ pub steps-unless-if : {E : Type 0} → (r : Result (Option ℕ) E) (old new : Da
     → OnOk r (DatabaseSteps old new (served call) (quietly (node_does old call)))
 steps-unless-if (Ok busy) old new call serves = steps-unless old new call busy serves
 steps-unless-if (Err e) old new call serves = tt
+
+-- nothing, if what it is about isn't there
+pub served-nothing : (d : Database) (call : NodeCall) → may_serve call d.node ≡ true → call_form d call ≡ answers Null → Serves d d call
+served-nothing d call may none = let same : node_does d call ≡ answers Null = is-served d call may ∙ none in record { accepted = ap is_ok same; changed = sym (ap (λ c. after_marks d (marks_of c)) same) }
+
+table-missing : (v now : DbView) (table : List ℕ) → v ≡ now → place_of table (seen v.rows).tables ≡ None → place_of table (seen_database now).part.tables ≡ None
+table-missing v now table same missing = subst (λ (w : DbView). place_of table (seen w.rows).tables ≡ None) same missing
+
+module _ (v now : DbView) (name : List ℕ) (same : v ≡ now) (missing : place_of name (seen v.rows).tables ≡ None) where
+  pub adding-nothing : may_serve (adding name) (seen_database now).node ≡ true → Serves (seen_database now) (seen_database now) (adding name)
+  adding-nothing may = served-nothing (seen_database now) (adding name) may (ap (λ o. if_there o (λ t. adds (seen_database now) t name)) (table-missing v now name same missing))
+
+  pub removing-nothing : may_serve (removing name) (seen_database now).node ≡ true → Serves (seen_database now) (seen_database now) (removing name)
+  removing-nothing may = served-nothing (seen_database now) (removing name) may (ap (λ o. if_there o (λ t. removes t name)) (table-missing v now name same missing))
+
+  pub unlisting-nothing : may_serve (unlisting name) (seen_database now).node ≡ true → Serves (seen_database now) (seen_database now) (unlisting name)
+  unlisting-nothing may = served-nothing (seen_database now) (unlisting name) may (ap (λ o. if_there o (λ t. unlists t name)) (table-missing v now name same missing))
+
+  pub listing-nothing : (q : ℕ) → may_serve (listing name) (seen_database now).node ≡ true → set_queue (seen_database now) ≡ Some q → Serves (seen_database now) (seen_database now) (listing name)
+  listing-nothing q may set =
+      served-nothing (seen_database now) (listing name) may
+      (ap (λ o. if_there o (λ queue. if_there (table_number (seen_database now) name) (λ t. lists (seen_database now) queue t name))) set
+      ∙ ap (λ o. if_there o (λ t. lists (seen_database now) q t name)) (table-missing v now name same missing))
+
+pub listing-nowhere : (d : Database) (name : List ℕ) → may_serve (listing name) d.node ≡ true → set_queue d ≡ None → Serves d d (listing name)
+listing-nowhere d name may none = served-nothing d (listing name) may (ap (λ o. if_there o (λ queue. if_there (table_number d name) (λ t. lists d queue t name))) none)
 
 -- ---- a leaf's consumer joins
 
@@ -105,24 +130,42 @@ joined-as v now queues node q tick newest consumer same mark noding at =
     ∙ (λ i. after_mark (seen_with (with_node (noding i) (seen v.rows)) v.queues) (queued (registered q consumer (v.queues.last_sub_id + 1) (at i))))
     ∙ ap (λ (w : DbView). after_marks (seen_database w) (queued (registered q consumer ((seen_database w).last_sub_id + 1) newest) ∷ noded (joined consumer) ∷ [])) same
 
+-- ---- the database gets a leaf, or a table of it a state
+
+noded-as : (v now : DbView) (node : Option Node) (mark : NodeMark) → v ≡ now → node ≡ after_node mark v.node → seen_database (record v { node = node }) ≡ after_marks (seen_database now) (noded mark ∷ [])
+noded-as v now node mark same noding = (λ i. seen_with (with_node (noding i) (seen v.rows)) v.queues) ∙ ap (λ (w : DbView). after_marks (seen_database w) (noded mark ∷ [])) same
+
+pub leaf-as : (v now : DbView) (leaf : Leaf) (n p name provider : List ℕ) (tick : ℕ) → v ≡ now → (seen_database now).node ≡ None → leaf ≡ record { name = n; provider = p; tick = tick; tables = [] } → n ≡ name → p ≡ provider
+    → Serves (seen_database now) (seen_database (record v { node = Some (of_leaf leaf) })) (making_leaf name provider tick)
+leaf-as v now leaf n p name provider tick same bare is named from =
+    let may : may_serve (making_leaf name provider tick) (seen_database now).node ≡ true = ap is_none bare in
+    let whole : leaf ≡ record { name = name; provider = provider; tick = tick; tables = [] } = is ∙ (λ i. record { name = named i; provider = from i; tick = tick; tables = [] }) in
+    let made : Some (of_leaf leaf) ≡ after_node (leaf_made name provider tick) v.node = ap (λ (l : Leaf). Some (of_leaf l)) whole in
+    serves-by (seen_database now) _ (making_leaf name provider tick) _ (is-served (seen_database now) (making_leaf name provider tick) may) (noded-as v now (Some (of_leaf leaf)) (leaf_made name provider tick) same made)
+
+pub moved-as : (v now : DbView) (node : Option Node) (table : List ℕ) (state : TableState) → v ≡ now → may_serve (moving table state) (seen_database now).node ≡ true → node ≡ after_node (state_set table state) v.node
+    → Serves (seen_database now) (seen_database (record v { node = node })) (moving table state)
+moved-as v now node table state same may noding =
+    serves-by (seen_database now) _ (moving table state) _ (is-served (seen_database now) (moving table state) may) (noded-as v now node (state_set table state) same noding)
+
 -- ---- a table joins a leaf, or leaves it
 
-pub adding-there : (d : Database) (name : List ℕ) (table : ℕ) (o : Option ℕ) → place_of name d.part.tables ≡ Some table → least_writer d.part table ≡ o
+pub adding-there : (d : Database) (name : List ℕ) (table : ℕ) (o : Option ℕ) → may_serve (adding name) d.node ≡ true → place_of name d.part.tables ≡ Some table → least_writer d.part table ≡ o
     → node_does d (adding name) ≡ (refused_by (option_map TableBusy o) >> does_marks Done (noded (leaf_added name) ∷ tabled (read_only table true) ∷ []))
-adding-there d name table o there busy =
-    ap (λ x. if_there x (λ t. adds d t name)) there ∙ ap (λ x. refused_by (option_map TableBusy x) >> does_marks Done (noded (leaf_added name) ∷ tabled (read_only table true) ∷ [])) busy
+adding-there d name table o may there busy =
+    is-served d (adding name) may ∙ ap (λ x. if_there x (λ t. adds d t name)) there ∙ ap (λ x. refused_by (option_map TableBusy x) >> does_marks Done (noded (leaf_added name) ∷ tabled (read_only table true) ∷ [])) busy
 
-pub removing-there : (d : Database) (name : List ℕ) (table : ℕ) → place_of name d.part.tables ≡ Some table
+pub removing-there : (d : Database) (name : List ℕ) (table : ℕ) → may_serve (removing name) d.node ≡ true → place_of name d.part.tables ≡ Some table
     → node_does d (removing name) ≡ does_marks Done (noded (leaf_removed name) ∷ tabled (read_only table false) ∷ [])
-removing-there d name table there = ap (λ x. if_there x (λ t. removes t name)) there
+removing-there d name table may there = is-served d (removing name) may ∙ ap (λ x. if_there x (λ t. removes t name)) there
 
 -- ---- a table joins a set, or leaves it
 
-module _ (d : Database) (q : ℕ) (name : List ℕ) (table : ℕ) (set : set_queue d ≡ Some q) (there : place_of name d.part.tables ≡ Some table) where
+module _ (d : Database) (q : ℕ) (name : List ℕ) (table : ℕ) (may : may_serve (listing name) d.node ≡ true) (set : set_queue d ≡ Some q) (there : place_of name d.part.tables ≡ Some table) where
   listing-there : (b : Bool) (o : Option ℕ) → nat_le 8 (length (triggers_of table d.triggers)) ≡ b → least_writer d.part table ≡ o
       → node_does d (listing name) ≡ (refused_if b (TooMany Triggers) >> (refused_by (option_map TableBusy o) >> does_marks Done (noded (listed name) ∷ queued (traced table None (set_trigger q)) ∷ [])))
   listing-there b o full busy =
-      ap (λ x. if_there x (λ queue. if_there (table_number d name) (λ t. lists d queue t name))) set ∙ ap (λ x. if_there x (λ t. lists d q t name)) there
+      is-served d (listing name) may ∙ ap (λ x. if_there x (λ queue. if_there (table_number d name) (λ t. lists d queue t name))) set ∙ ap (λ x. if_there x (λ t. lists d q t name)) there
       ∙ (λ i. refused_if (full i) (TooMany Triggers) >> (refused_by (option_map TableBusy (busy i)) >> does_marks Done (noded (listed name) ∷ queued (traced table None (set_trigger q)) ∷ [])))
 
   pub list-full : (n : ℕ) → n ≡ length (triggers_of table d.triggers) → 8 ≤ n → node_does d (listing name) ≡ Err (TooMany Triggers)
@@ -135,9 +178,9 @@ module _ (d : Database) (q : ℕ) (name : List ℕ) (table : ℕ) (set : set_que
       → node_does d (listing name) ≡ does_marks Done (noded (listed name) ∷ queued (traced table None (set_trigger q)) ∷ [])
   list-does n is few free = let room : nat_le 8 (length (triggers_of table d.triggers)) ≡ false = grind (arith, nat_tests) in listing-there false None room (sym free)
 
-pub unlisting-there : (d : Database) (name : List ℕ) (table : ℕ) → place_of name d.part.tables ≡ Some table
+pub unlisting-there : (d : Database) (name : List ℕ) (table : ℕ) → may_serve (unlisting name) d.node ≡ true → place_of name d.part.tables ≡ Some table
     → node_does d (unlisting name) ≡ does_marks Done (noded (unlisted name) ∷ queued (untraced table) ∷ [])
-unlisting-there d name table there = ap (λ x. if_there x (λ t. unlists t name)) there
+unlisting-there d name table may there = is-served d (unlisting name) may ∙ ap (λ x. if_there x (λ t. unlists t name)) there
 
 pub listed-as : (v now : DbView) (queues : QueuesView) (node : Option Node) (q table : ℕ) (name : List ℕ) → v ≡ now
     → ((beside : Beside) → seen_with beside queues ≡ after_mark (seen_with beside v.queues) (queued (traced table None (set_trigger q))))
@@ -165,3 +208,27 @@ guarded-as v now rows node table on mark same guarding change marks noding =
     (λ i. seen_with (with_node (noding i) (guarding i)) v.queues)
     ∙ ap (λ d. after_mark d (tabled (read_only table on))) (sym (marks (seen_database v)))
     ∙ ap (λ (w : DbView). after_marks (seen_database w) (mark ∷ tabled (read_only table on) ∷ [])) same
+
+-- so a table joins a leaf
+module _ (v now : DbView) (name : List ℕ) (table : ℕ) (same : v ≡ now) (may : may_serve (adding name) (seen_database now).node ≡ true) (there : place_of name (seen v.rows).tables ≡ Some table) where
+  adding-with : (o : Option ℕ) → o ≡ least_writer (seen v.rows) table
+      → node_does (seen_database now) (adding name) ≡ (refused_by (option_map TableBusy o) >> does_marks Done (noded (leaf_added name) ∷ tabled (read_only table true) ∷ []))
+  adding-with o busy =
+      adding-there (seen_database now) name table o may (table-there v now name table same there) (ap (λ (w : DbView). least_writer (seen w.rows) table) (sym same) ∙ sym busy)
+
+  -- unless a running transaction has written it
+  pub adding-busy : (txid : ℕ) → Some txid ≡ least_writer (seen v.rows) table → ServesUnlessBusy (Some txid) (seen_database now) (seen_database now) (adding name)
+  adding-busy txid busy = record { refused = adding-with (Some txid) busy; same = refl }
+
+  pub adding-does : (rows : RowStateView) (node : Option Node) → None ≡ least_writer (seen v.rows) table → seen rows ≡ after_part (seen v.rows) (tabled (read_only table true)) → node ≡ after_node (leaf_added name) v.node
+      → Serves (seen_database now) (seen_database (record v { rows = rows; node = node })) (adding name)
+  adding-does rows node free guarding noding =
+      serves-by (seen_database now) _ (adding name) _ (adding-with None free) (guarded-as v now rows node table true (noded (leaf_added name)) same guarding (after_node (leaf_added name)) (λ d. refl) noding)
+
+-- and leaves it
+pub removing-does : (v now : DbView) (name : List ℕ) (table : ℕ) → v ≡ now → may_serve (removing name) (seen_database now).node ≡ true → place_of name (seen v.rows).tables ≡ Some table
+    → (rows : RowStateView) (node : Option Node) → seen rows ≡ after_part (seen v.rows) (tabled (read_only table false)) → node ≡ after_node (leaf_removed name) v.node
+    → Serves (seen_database now) (seen_database (record v { rows = rows; node = node })) (removing name)
+removing-does v now name table same may there rows node guarding noding =
+    serves-by (seen_database now) _ (removing name) _ (removing-there (seen_database now) name table may (table-there v now name table same there))
+    (guarded-as v now rows node table false (noded (leaf_removed name)) same guarding (after_node (leaf_removed name)) (λ d. refl) noding)

@@ -12,7 +12,7 @@ use Rattle.sky_model.specs.declared.reply.Reply.TheVariants as reply
 use Rattle.sky_model.specs.declared.reply.Refusal.{Refusal}
 use Rattle.sky_model.specs.History.{of_worker, began, ended, queued, switching, switched, second_step}
 use Rattle.sky_model.specs.Outcome.{Outcome, Checked, ◌>>=◌, answers, does_marks, reply_of, marks_of}
-use Rattle.sky_model.specs.OwnTransaction.{next_id, txid_for, begin_of, commit_of, written}
+use Rattle.sky_model.specs.OwnTransaction.{next_id, txid_for, begin_of, commit_of, in_own}
 use Rattle.sky_model.specs.Printed.{ReplyHasMoments}
 use Rattle.sky_model.specs.Queues.{NamedQueue}
 use Rattle.sky_model.specs.Sessions.{Block, outside, inside, failed}
@@ -72,7 +72,7 @@ module _ (d : Database) (now : ℤ) (who : ℕ) (name : List ℕ) (q : ℕ) (fou
       subst (Runs d d before after who) (sym (known ∙ ap (rotates d now who q) (sym held))) (record { accepted = refl; replied = pushed; changed = refl }, printed)
 
   abbrev does : ℕ → Checked Outcome
-  does t = does_marks (Number 1) (written who t (d.part.session who) (switch_of q t now (d.part.session who).block))
+  does t = does_marks (Number 1) (in_own who t (d.part.session who) (switch_of q t now (d.part.session who).block))
 
   free : None ≡ held_back now (d.queue q) → maint_rotate_step1 d now who name ≡ (txid_for d.part who >>= does)
   free none = known ∙ ap (rotates d now who q) (sym none)

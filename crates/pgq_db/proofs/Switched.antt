@@ -10,7 +10,7 @@ use Rattle.sky_model.specs.ShownRows.{rows_by}
 use Rattle.sky_model.specs.Calls.{row_form, row_making, making, row_statement, row_turn, statement, database_turn}
 use Rattle.sky_model.specs.History.{Mark, queued, switched}
 use Rattle.sky_model.specs.Made.{runs_if, made_by}
-use Rattle.sky_model.specs.Outcome.{Outcome, Checked, after_marks_of, settled}
+use Rattle.sky_model.specs.Outcome.{Outcome, Checked, after_marks_of, or_refused}
 use Rattle.sky_model.specs.Queues.{NamedQueue, is_pending}
 use Rattle.sky_model.specs.Reader.{PartReader, database_by_itself, within_part}
 use Rattle.sky_model.specs.Sessions.{Block, outside, inside, failed, Session}
@@ -46,8 +46,8 @@ abbrev pub turn_after : List Mark → Turn → Turn
 turn_after marks turn = record turn { marks = marks ++ turn.marks }
 
 commit-does : (d e : Database) (now : ℤ) (who : ℕ) (s : Session) (txid : Option ℕ) (b : Block)
-    → settled who s (after_marks_of (switches_of d now (committed_by b txid)) (tells d now (commit who txid b)))
-    ≡ with_first (switches_of d now (committed_by b txid)) (settled who s (tells e now (commit who txid b)))
+    → or_refused who s (after_marks_of (switches_of d now (committed_by b txid)) (tells d now (commit who txid b)))
+    ≡ with_first (switches_of d now (committed_by b txid)) (or_refused who s (tells e now (commit who txid b)))
 commit-does d e now who s txid outside = refl
 commit-does d e now who s None inside = refl
 commit-does d e now who s (Some t) inside = refl
@@ -68,7 +68,7 @@ module _ (d : Database) (now : ℤ) (who : ℕ) where
   commit-runs (Ok _) =
       let e : Database = after_marks d (switches_if (Ok tt)) in
       commit-does d e now who (d.part.session who) (d.part.session who).txid (d.part.session who).block
-      ∙ ap (λ (x : RowPart). with_first (switches_if (Ok tt)) (settled who (x.session who) (tells e now (commit who (x.session who).txid (x.session who).block))))
+      ∙ ap (λ (x : RowPart). with_first (switches_if (Ok tt)) (or_refused who (x.session who) (tells e now (commit who (x.session who).txid (x.session who).block))))
       (sym (part-of d now (committed_by (d.part.session who).block (d.part.session who).txid)))
 
   abbrev may_commit : RowPart → Checked (Unit {0})

@@ -4,8 +4,8 @@ use Rattle.sky_model.specs.State.{RowPart}
 use Rattle.pgq_queues.specs.Views.{QueuesView}
 use Rattle.pgq_queues.specs.Traced.{AreTables}
 
--- what is kept of tables is what they are; and each time that retries came back, a transaction got its id, of which there are
--- so many
+-- what the queues keep of a table is its name and its columns; the number of times that retries came back is at most the next id, and at most
+-- 2 ^ 62
 pub record Agree (part : RowPart) (q : QueuesView) : Type 0 where
   pub tables : AreTables part q
   pub given : q.rounds ≤ part.next

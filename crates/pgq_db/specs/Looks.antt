@@ -21,7 +21,7 @@ most_for q n (Some b) = if b.queue == n then most_in (queue_at q n) b else 0
 abbrev pub LooksFor : QueuesView → QueuesView → ℕ → Type 0
 LooksFor old new id = (n : ℕ) → reads_at new.queues n ≤ reads_at old.queues n + most_for old n (batch_at old id)
 
--- so it is with `get_batch_events N` and `event_retry N N N`; of other statements nothing is said
+-- this holds of `get_batch_events N` and `event_retry N N N`; of other statements nothing is said
 abbrev pub LooksWithin : QueuesView → QueuesView → Stmt → Type 0
 LooksWithin old new (GetBatchEvents id) = LooksFor old new id
 LooksWithin old new (EventRetry id event seconds) = LooksFor old new id
@@ -52,7 +52,7 @@ abbrev pub ListsFrom : QueuesView → QueuesView → ℕ → Reply → Type 0
 ListsFrom old new id (Events events) = LooksFrom old new events (batch_at old id)
 ListsFrom old new id _ = Unit {0}
 
--- so it is with the answer of `get_batch_events N`; of other statements nothing is said
+-- this holds of the answer of `get_batch_events N`; of other statements nothing is said
 abbrev pub ListsLooked : QueuesView → QueuesView → Stmt → Reply → Type 0
 ListsLooked old new (GetBatchEvents id) reply = ListsFrom old new id reply
 ListsLooked old new _ reply = Unit {0}

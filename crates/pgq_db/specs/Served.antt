@@ -1,16 +1,20 @@
 -- What a database does for a node, its own or another's.
-use Rattle.std.specs.Prelude.{◌≡◌, ℕ, Bool, true, false, List, Option, Some, None, is_ok}
-use Rattle.londiste_state.specs.Nodes.{Node, of_root, of_leaf}
+use Rattle.std.specs.Prelude.{◌≡◌, ℕ, true, List, Option, Some, None, is_ok}
 use Rattle.sky_model.specs.declared.reply.Limit.TheVariants.{Consumers, Triggers}
 use Rattle.sky_model.specs.declared.reply.Refusal.TheVariants as refusal
+use Rattle.sky_model.specs.declared.reply.Reply.TheVariants.{Number, Null}
+use Rattle.sky_model.specs.Consumers.{Subscription}
 use Rattle.sky_model.specs.State.{Database, after_marks}
-use Rattle.sky_model.specs.Outcome.{marks_of}
-use Rattle.sky_model.specs.StepNode.{NodeCall, joining, listing, node_does}
+use Rattle.sky_model.specs.Outcome.{reply_of, marks_of}
+use Rattle.sky_model.specs.StepNode.{set_queue, NodeCall, joining, fetching, listing, node_does}
 use Rattle.sky_model.specs.Stops.{Refuses}
+use Rattle.pgq_db.specs.declared.provider.NodeBatch.{NodeBatch}
 use Rattle.pgq_db.specs.declared.faults.JoinFault.{JoinFault}
 use Rattle.pgq_db.specs.declared.faults.JoinFault.TheVariants as join
 use Rattle.pgq_db.specs.declared.faults.RootFault.{RootFault}
 use Rattle.pgq_db.specs.declared.faults.RootFault.TheVariants as root
+use Rattle.pgq_db.specs.declared.faults.FetchFault.{FetchFault}
+use Rattle.pgq_db.specs.declared.faults.FetchFault.TheVariants as fetch
 
 -- it did what the call's definition says, which isn't refused
 pub record Serves (old new : Database) (call : NodeCall) : Type 0 where
@@ -28,6 +32,27 @@ JoinRefused join.NoMemory old new consumer = Unit {0}
 abbrev pub RootRefused : RootFault → (old new : Database) → (table : List ℕ) → Type 0
 RootRefused root.TooManyTriggers old new table = Refuses old new (refusal.TooMany Triggers) (node_does old (listing table))
 RootRefused root.NoMemory old new table = Unit {0}
+
+-- a consumer gets no batch, as its call's definition says, or memory ran out; either way nothing has changed
+abbrev pub FetchRefused : FetchFault → (old new : Database) → (consumer : List ℕ) → Type 0
+FetchRefused fetch.IdsSpent old new consumer = Refuses old new refusal.IdsSpent (node_does old (fetching consumer))
+FetchRefused fetch.NoMemory old new consumer = new ≡ old
+
+-- a batch that a consumer takes is the one that its call's definition answers. It is active from then on, in the set's queue, from the position of
+-- the consumer's subscription
+pub record Takes (batch : NodeBatch) (old new : Database) (consumer : List ℕ) : Type 0 where
+  pub queue : ℕ
+  pub sub : Subscription
+  pub of_set : set_queue old ≡ Some queue
+  pub registered : (old.queue queue).sub consumer ≡ Some sub
+  pub answered : reply_of (node_does old (fetching consumer)) ≡ Number batch.id
+  pub from : batch.prev ≡ sub.position
+  pub active : new.batch batch.id ≡ Some (record { id = batch.id; queue = queue; consumer = consumer; sub = sub.id; prev = batch.prev; cur = batch.cur })
+
+-- or there is none
+abbrev pub Fetched : Option NodeBatch → (old new : Database) → (consumer : List ℕ) → Type 0
+Fetched None old new consumer = reply_of (node_does old (fetching consumer)) ≡ Null
+Fetched (Some batch) old new consumer = Takes batch old new consumer
 
 -- a table joined, or a running transaction has written it, and nothing has changed
 abbrev pub ServesUnlessBusy : Option ℕ → (old new : Database) → NodeCall → Type 0

@@ -179,12 +179,10 @@ impl Db {
         ensures looks { LooksUnlessCut self.old.queues self.new.queues id result }
         ensures lists { OnOk result (ListsFrom self.old.queues self.new.queues id (reply_of (get_batch_events (shown_by (seen_database self.old)).events id))) }
     {
-        let Some(batch) = self.queues.batch(id) else {
+        let Some(events) = self.events_of(id)? else {
             return Err(Stop::Refused(Refusal::NoBatch));
         };
-        let span = batch.span();
-        let events = Events::new(self.queues.batch_events(span)?);
-        replies.push(who, Reply::Events(events))?;
+        replies.push(who, Reply::Events(Events::new(events)))?;
         Ok(())
     }
 

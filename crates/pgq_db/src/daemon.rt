@@ -63,7 +63,7 @@ impl Db {
         self.make_due(queue, now)
     }
 
-    /// The same, of a tick that is due. Few are, so the code for one stays out of the look at each queue.
+    /// The same, of a tick that is due. Few are, so its code is kept out of the loop over all queues.
     #[inline(never)]
     fn make_due(&mut self, queue: usize, now: i64) -> Result<(), NoMemory>
         requires queue { Stands self.old.queues.queues queue }
@@ -126,7 +126,7 @@ impl Db {
         }
     }
 
-    /// Events that are due to be retried come back, again until fewer do than may at a time.
+    /// Brings back the events that are due to be retried, until a call moves fewer than it may, or is refused.
     #[inline(never)]
     fn retry_events(&mut self, now: i64) -> Result<(), NoMemory>
         ensures { OnOk result (seen_database self.new
@@ -136,7 +136,7 @@ impl Db {
         Ok(())
     }
 
-    /// Events that are due come back, if there is an id for it. The answer is whether as many do as may at a time.
+    /// Brings back events that are due, if there is an id for it. The answer is whether it moved as many as it may.
     fn retry_most(&mut self, now: i64) -> Result<bool, NoMemory>
         ensures most { IfOk result (λ most. most ≡ nat_le most_back (moved_by (reply_of (maint_retry_events (seen_database self.old) now)))) }
         ensures moved { OnOk result (seen_database self.new ≡ after_marks (seen_database self.old) (quietly (maint_retry_events (seen_database self.old) now)).marks) }

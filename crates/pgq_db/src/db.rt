@@ -1,4 +1,4 @@
-ghost use Rattle.std.specs.Prelude.{◌≡◌, ◌↔◌, ◌≢◌, ◌+◌, ◌^◌, [], ◌++◌, true, None, Some, Ok, Err, IfOk, IfErr, OnOk, OnErr, IsTrue, option_map, nat_le, false};
+ghost use Rattle.std.specs.Prelude.{◌≡◌, ◌↔◌, ◌≢◌, ◌+◌, ◌^◌, [], ◌++◌, true, None, Some, Ok, Err, IfOk, IfErr, IfSome, OnOk, OnErr, IsTrue, option_map, nat_le, false};
 ghost use Rattle.sky_keys.specs.Waits.{is_waiting};
 ghost use Rattle.sky_model.specs.InForm.{IsRowInForm};
 ghost use Rattle.sky_model.specs.History.{queued, ticked};
@@ -20,7 +20,7 @@ ghost use Rattle.sky_model.specs.SessionMarks.{Enters, entry, entry_place, faili
 ghost use Rattle.sky_model.specs.DatabaseCalls.{entered, failed};
 ghost use Rattle.sky_model.specs.DatabaseSteps.{DatabaseSteps};
 ghost use Rattle.pgq_sub.specs.Views.{seen_sub};
-ghost use Rattle.pgq_queues.specs.Seen.{Stands};
+ghost use Rattle.pgq_queues.specs.Seen.{Stands, batch_of};
 ghost use Rattle.pgq_db.specs.Seen.{seen_database};
 ghost use Rattle.pgq_db.specs.Waiters.{StaysWithin};
 ghost use Rattle.pgq_db.specs.Gives.{Gives, Adds};
@@ -82,13 +82,14 @@ impl Db {
         }
     }
 
-    /// The subscription of a queue's consumer, if it is registered. It is said of the database, so that what reads it needs
-    /// no proof by hand.
+    /// The subscription of a queue's consumer, if it is registered. Its contract is about the
+    /// database, so that callers need no proof by hand.
     pub(crate) fn subscription(&self, queue: usize, consumer: &Text) -> Option<Sub>
         requires { Stands self.now.queues.queues queue }
-        ensures { option_map seen_sub result ≡ ((seen_database self.now).queue queue).sub consumer.now }
+        ensures sub { option_map seen_sub result ≡ ((seen_database self.now).queue queue).sub consumer.now }
+        ensures batch { IfSome result (λ sub. IfSome sub.active (λ batch. (seen_database self.now).batch batch.id ≡ batch_of batch.id (record { queue = queue; consumer = consumer.now }) sub)) }
     {
-        self.queues.queue(queue).subscription(consumer)
+        self.queues.subscription(queue, consumer)
     }
 
     /// The id of the session's transaction: its own, or the next one. Refused if there is none.
@@ -113,8 +114,8 @@ impl Db {
         Ok(())
     }
 
-    /// Lets the session make a statement that isn't on rows, or refuses it. One that may stand `outside` of blocks alone
-    /// reads nothing; any other takes the sight of a repeatable read block, if that is still to come.
+    /// Lets the session make a statement that isn't on rows, or refuses it. One that is allowed only `outside` blocks
+    /// reads nothing; any other takes the sight of a repeatable read block, if it isn't taken yet.
     pub fn enter(&mut self, who: SessionId, outside: bool) -> Result<Option<Refusal>, NoMemory>
         ensures enters { IfOk result (λ refusal. Enters (seen_database self.old).part (seen_database self.new).part who (entry_place outside) refusal) }
         ensures but { seen_database self.new ≡ record (seen_database self.old) { part = (seen_database self.new).part } }
@@ -140,8 +141,8 @@ impl Db {
         self.rows.in_transaction(who)
     }
 
-    /// Rolls back the session's block, which stays aborted, and runs the statements that this unblocks. If it is in none,
-    /// or that is aborted, nothing is rolled back. The moment is for the events that record what resumes.
+    /// Rolls back the session's block, which stays aborted, and runs the statements that this unblocks. If it is in
+    /// none, or that is aborted, nothing is rolled back. The moment is for the events that record what resumes.
     pub fn fail(&mut self, who: SessionId, now: i64) -> Result<Replies, NoMemory>
         requires { IsTime now }
         ensures exact { let d = seen_database self.old in

@@ -46,3 +46,23 @@ impl From<AllocError> for RootFault {
         RootFault::NoMemory
     }
 }
+
+/// Why a consumer gets no batch.
+#[derive(Clone, Copy, Debug, PartialEq, Eq, Error)]
+pub enum FetchFault {
+    #[error("the last batch id was given")]
+    IdsSpent,
+    #[error("out of memory")]
+    NoMemory,
+}
+
+impl From<AllocError> for FetchFault {
+    ghost use Rattle.std.specs.Prelude.{◌≡◌};
+    ghost use Rattle.pgq_db.specs.declared.faults.FetchFault.TheVariants.{NoMemory};
+
+    ghost from_gives = { λ _ fault. fault ≡ NoMemory };
+
+    fn from(_: AllocError) -> FetchFault {
+        FetchFault::NoMemory
+    }
+}

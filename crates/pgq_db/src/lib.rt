@@ -1,12 +1,13 @@
 //! One database: its transactions, sessions, tables and rows, its queues, and its node in a set of replicated tables.
 //!
 //! `Db::step` runs one statement of one session, and those of other sessions that it unblocks. What a contract sees of
-//! a `Db` is read by `seen_database` as the definitions' database. For every place of every history that calls make where
-//! the database was as it was, the answers are those of the definitions, and the database is then that of the history
-//! with the turn's marks on top. The queues are the gate of the rows: they hear of each write and of each rollback, in
-//! their order, and before a `commit` the switches of event tables are made that its transaction has pending. A statement
-//! that is run elsewhere comes in by `enter`, and if it is refused there, `fail` aborts the block that its session is in.
-//! What a node needs of its own database, or of another, is a call each, in `node`.
+//! a `Db` is read by `seen_database` as the definitions' database. For every place of every history that calls make, if
+//! the database is as it was there, the answers are those of the definitions, and the database is then that of the
+//! history with the turn's marks on top. The queues are the gate of the rows: they are notified of each write and of
+//! each rollback, in their order, and before a `commit` the switches of event tables are made that its transaction has
+//! pending. A statement that is run elsewhere comes in by `enter`, and if it is refused there, `fail` aborts the block
+//! that its session is in.
+//! What a node needs of its own database, or of another, is a call each, in `node` and `provider`.
 //! Nothing here knows a session's name, another database, or a byte of a script.
 #![tactic(auto)]
 
@@ -15,9 +16,11 @@ mod daemon;
 mod db;
 mod faults;
 mod node;
+mod provider;
 mod retries;
 mod rotation;
 mod statements;
 
 pub use db::Db;
-pub use faults::{JoinFault, RootFault};
+pub use faults::{FetchFault, JoinFault, RootFault};
+pub use provider::NodeBatch;

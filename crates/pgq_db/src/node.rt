@@ -3,7 +3,7 @@
 
 ghost use Rattle.std.specs.Prelude.{◌≡◌, ◌++◌, [], ◌∷◌, true, None, Some, Ok, IfOk, IfErr, IfSome, OnOk, is_some, option_copied, option_map};
 ghost use Rattle.londiste_state.specs.declared.node.Node.TheVariants as node;
-ghost use Rattle.sky_model.specs.History.{noded, NodeMark, root_made, listed, unlisted, joined, leaf_made, leaf_added, leaf_removed};
+ghost use Rattle.sky_model.specs.History.{noded, NodeMark, root_made, listed, unlisted, joined, leaf_made, leaf_added, leaf_removed, state_set};
 ghost use Rattle.sky_model.specs.Moment.{IsTime};
 ghost use Rattle.sky_model.specs.Nodes.{after_node, is_set_queue, is_leafs};
 ghost use Rattle.sky_model.specs.NodesOfWorld.{columns_called};
@@ -13,7 +13,7 @@ ghost use Rattle.sky_model.specs.DatabaseCalls.{served};
 ghost use Rattle.sky_model.specs.DatabaseSteps.{DatabaseSteps};
 ghost use Rattle.sky_model.specs.StepConsumer.{has_dot, is_nodes};
 ghost use Rattle.sky_model.specs.StepQueue.{newest_id};
-ghost use Rattle.sky_model.specs.StepNode.{set_queue, set_trigger, create_root, joining, making_leaf, adding, removing, listing, unlisting, node_does};
+ghost use Rattle.sky_model.specs.StepNode.{set_queue, set_trigger, create_root, joining, making_leaf, adding, removing, moving, listing, unlisting, may_serve, node_does};
 ghost use Rattle.pgq_queues.specs.Seen.{Stands};
 ghost use Rattle.pgq_db.specs.Gives.{Ran};
 ghost use Rattle.pgq_db.specs.Seen.{seen_database};
@@ -21,7 +21,7 @@ ghost use Rattle.pgq_db.specs.Served.{Serves, JoinRefused, RootRefused, ServesUn
 
 use crate::db::Db;
 use crate::faults::{JoinFault, RootFault};
-use londiste_state::{Leaf, Node, Root};
+use londiste_state::{Leaf, Node, Root, TableState};
 use pgq_queues::TableTrigger;
 use sky_model::{Limit, Refusal, Replies, Reply, Stop};
 use sky_urlenc::Trigger;
@@ -91,9 +91,10 @@ impl Db {
         Ok(())
     }
 
-    /// A table joins the leaf, and sessions may not write it from now on. If a running transaction has written it,
-    /// nothing changes, and the answer is that transaction's id.
+    /// A table joins the leaf, which doesn't have it yet, and sessions may not write it from now on. If a running
+    /// transaction has written it, nothing changes, and the answer is that transaction's id.
     pub fn leaf_add(&mut self, table: &Text) -> Result<Option<u64>, NoMemory>
+        requires { may_serve (adding table.now) (seen_database self.old).node ≡ true }
         ensures serves { IfOk result (λ busy. ServesUnlessBusy busy (seen_database self.old) (seen_database self.new) (adding table.now)) }
         ensures steps { OnOk result (DatabaseSteps (seen_database self.old) (seen_database self.new) (served (adding table.now)) (quietly (node_does (seen_database self.old) (adding table.now)))) }
     {
@@ -109,8 +110,9 @@ impl Db {
         Ok(None)
     }
 
-    /// A table leaves the leaf, and sessions may write it again.
+    /// A table leaves the leaf, which has it, and sessions may write it again.
     pub fn leaf_drop(&mut self, table: &Text)
+        requires { may_serve (removing table.now) (seen_database self.old).node ≡ true }
         ensures serves { Serves (seen_database self.old) (seen_database self.new) (removing table.now) }
         ensures steps { DatabaseSteps (seen_database self.old) (seen_database self.new) (served (removing table.now)) (quietly (node_does (seen_database self.old) (removing table.now))) }
     {
@@ -121,9 +123,19 @@ impl Db {
         self.rows.set_read_only(number, false);
     }
 
-    /// A table joins the set, whose queue gets the events of its writes from now on. If a running transaction has
-    /// written it, nothing changes, and the answer is that transaction's id.
+    /// A table of the leaf gets this state.
+    pub fn set_state(&mut self, table: &Text, to: TableState)
+        requires allowed { may_serve (moving table.now to) (seen_database self.old).node ≡ true }
+        ensures serves { Serves (seen_database self.old) (seen_database self.new) (moving table.now to) }
+        ensures steps { DatabaseSteps (seen_database self.old) (seen_database self.new) (served (moving table.now to)) (quietly (node_does (seen_database self.old) (moving table.now to))) }
+    {
+        set_leaf_state(&mut self.node, table, to);
+    }
+
+    /// A table that isn't in the set yet joins it, and its queue gets the events of the table's writes from now on. If a
+    /// running transaction has written it, nothing changes, and the answer is that transaction's id.
     pub fn root_add(&mut self, table: &Text) -> Result<Option<u64>, RootFault>
+        requires { may_serve (listing table.now) (seen_database self.old).node ≡ true }
         ensures serves { IfOk result (λ busy. ServesUnlessBusy busy (seen_database self.old) (seen_database self.new) (listing table.now)) }
         ensures fault { IfErr result (λ fault. RootRefused fault (seen_database self.old) (seen_database self.new) table.now) }
         ensures steps { OnOk result (DatabaseSteps (seen_database self.old) (seen_database self.new) (served (listing table.now)) (quietly (node_does (seen_database self.old) (listing table.now)))) }
@@ -147,8 +159,9 @@ impl Db {
         Ok(None)
     }
 
-    /// A table leaves the set, and its events no longer go to the set's queue.
+    /// A table leaves the set, which has it, and its events no longer go to the set's queue.
     pub fn root_drop(&mut self, table: &Text)
+        requires { may_serve (unlisting table.now) (seen_database self.old).node ≡ true }
         ensures serves { Serves (seen_database self.old) (seen_database self.new) (unlisting table.now) }
         ensures steps { DatabaseSteps (seen_database self.old) (seen_database self.new) (served (unlisting table.now)) (quietly (node_does (seen_database self.old) (unlisting table.now))) }
     {
@@ -200,7 +213,7 @@ impl Db {
     }
 
     /// The queue of the set of which the node is the root.
-    fn set_queue(&self) -> Option<usize>
+    pub(crate) fn set_queue(&self) -> Option<usize>
         ensures queue { result ≡ set_queue (seen_database self.now) }
         ensures stands { IfSome result (λ queue. Stands self.now.queues.queues queue) }
     {
@@ -316,5 +329,13 @@ fn remove_leaf_table(node: &mut Option<Node>, table: &Text)
 {
     if let Some(Node::Leaf(leaf)) = node {
         leaf.remove_table(table);
+    }
+}
+
+fn set_leaf_state(node: &mut Option<Node>, table: &Text, to: TableState)
+    ensures { node.new ≡ after_node (state_set table.now to) node.old }
+{
+    if let Some(Node::Leaf(leaf)) = node {
+        leaf.set_state(table, to);
     }
 }

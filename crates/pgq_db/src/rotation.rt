@@ -26,8 +26,8 @@ use sky_session::RowDb;
 use sky_val::{SessionId, Text};
 
 impl Db {
-    /// `maint_rotate_step1 NAME`: the session's transaction switches the event tables of a queue, unless something holds
-    /// that back. Outside a block the switch is made at once, and in one by its `commit`.
+    /// `maint_rotate_step1 NAME`: the session's transaction switches the event tables of a queue, unless something
+    /// holds that back. Outside a block the switch is made at once, and in one by its `commit`.
     pub(crate) fn maint_rotate_step1(
         &mut self,
         now: i64,
@@ -97,8 +97,8 @@ impl Db {
     }
 }
 
-/// A switch of a queue's event tables is pending, by a transaction. If that stands alone, it has committed already, and
-/// the switch is made.
+/// A switch of a queue's event tables is pending, by a transaction. If that is the statement's own, outside a block, it
+/// has committed already, and the switch is made.
 fn switch(queues: &mut Queues, queue: usize, txid: u64, is_alone: bool, now: i64)
     requires stands { Stands queues.old.queues queue }
     requires time { IsTime now }

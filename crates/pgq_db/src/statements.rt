@@ -7,9 +7,9 @@ ghost use Rattle.sky_model.specs.Nodes.{is_set_queue};
 ghost use Rattle.sky_model.specs.Queues.{queue_number};
 ghost use Rattle.sky_model.specs.History.{queued, made};
 ghost use Rattle.sky_model.specs.State.{after_marks};
-ghost use Rattle.sky_model.specs.Outcome.{reply_of, settled};
+ghost use Rattle.sky_model.specs.Outcome.{reply_of, or_refused};
 ghost use Rattle.sky_model.specs.Printed.{HaveMoments};
-ghost use Rattle.sky_model.specs.OwnTransaction.{txid_for, written};
+ghost use Rattle.sky_model.specs.OwnTransaction.{txid_for, in_own};
 ghost use Rattle.sky_model.specs.StepQueue.{queue_called, create_queue, drop_queue, shown_name, set_queue_config, queue_info, insert_event, ticker, force_tick, begins_with, tells_of_rows, made_event};
 ghost use Rattle.sky_model.specs.StepTrigger.{may_ignore, add_trigger};
 ghost use Rattle.sky_model.specs.InForm.{IsInForm};
@@ -36,9 +36,9 @@ use sky_val::{Event, NoMemory, Schema, SessionId, Text, copy_option};
 use std::alloc::{AllocError, Global};
 
 impl Db {
-    /// Runs a statement of a session, and those that it unblocks. For `get_batch_events` and `event_retry` no more stored
-    /// events are looked at than the batch's ticks allow, and for `get_batch_events` no fewer than are listed. Once memory
-    /// has run out nothing is said of the database.
+    /// Runs a statement of a session, and those that it unblocks. For `get_batch_events` and `event_retry` no more
+    /// stored events are looked at than the batch's ticks allow, and for `get_batch_events` no fewer than are listed.
+    /// Once memory has run out nothing is said of the database.
     pub fn step(&mut self, who: SessionId, stmt: &Stmt, now: i64) -> Result<Replies, NoMemory>
         requires time { IsTime now }
         requires form { IsInForm stmt.now }
@@ -81,7 +81,7 @@ impl Db {
         Ok(())
     }
 
-    /// Runs a statement, be it on rows or on queues, and those that it unblocks.
+    /// Runs a statement, on rows or on queues, and those that it unblocks.
     fn run(
         &mut self,
         now: i64,
@@ -172,10 +172,10 @@ impl Db {
         requires form { IsInForm stmt.now }
         requires kind { is_on_queues stmt.now ≡ true }
         ensures answers { OnOk result (Answers (seen_database self.old) (seen_database self.new) replies.old replies.new who
-            (settled who ((seen_database self.old).part.session who) (form (seen_database self.old) (shown_by (seen_database self.old)) now who stmt.now))) }
+            (or_refused who ((seen_database self.old).part.session who) (form (seen_database self.old) (shown_by (seen_database self.old)) now who stmt.now))) }
         ensures looks { OnOk result (LooksWithin self.old.queues self.new.queues stmt.now) }
         ensures lists { OnOk result (ListsLooked self.old.queues self.new.queues stmt.now
-            (settled who ((seen_database self.old).part.session who) (form (seen_database self.old) (shown_by (seen_database self.old)) now who stmt.now)).reply) }
+            (or_refused who ((seen_database self.old).part.session who) (form (seen_database self.old) (shown_by (seen_database self.old)) now who stmt.now)).reply) }
     {
         match self.run_form(now, who, stmt, replies) {
             Ok(()) => Ok(()),
@@ -194,7 +194,7 @@ impl Db {
         refusal: Refusal,
         replies: &mut Replies,
     ) -> Result<(), NoMemory>
-        ensures answers { OnOk result (Answers (seen_database self.old) (seen_database self.new) replies.old replies.new who (settled who ((seen_database self.old).part.session who) (Err refusal))) }
+        ensures answers { OnOk result (Answers (seen_database self.old) (seen_database self.new) replies.old replies.new who (or_refused who ((seen_database self.old).part.session who) (Err refusal))) }
         ensures reads { OnOk result (ReadsNone self.old.queues self.new.queues) }
     {
         if refusal.aborts() {
@@ -322,7 +322,7 @@ impl Db {
         requires room { length (seen_database self.old).queues < 64 }
         requires id { txid_for (seen_database self.old).part who ≡ Ok txid }
         ensures { OnOk result (seen_database self.new ≡ after_marks (seen_database self.old)
-            (written who txid ((seen_database self.old).part.session who) [] ++ queued (made name.now txid now) ∷ [])) }
+            (in_own who txid ((seen_database self.old).part.session who) [] ++ queued (made name.now txid now) ∷ [])) }
     {
         let name = name.copy(self.alloc)?;
         self.take_txid(who, txid)?;
@@ -331,8 +331,8 @@ impl Db {
         Ok(())
     }
 
-    /// `drop_queue NAME`: a queue without consumers, which no trigger writes into, and in which no running transaction has
-    /// an event or a switch that is pending.
+    /// `drop_queue NAME`: a queue without consumers, which no trigger writes into, and in which no running transaction
+    /// has an event or a switch that is pending.
     fn drop_queue(&mut self, who: SessionId, name: &Text, replies: &mut Replies) -> Result<(), Stop>
         ensures { Ran self.old self.new replies.old replies.new who result (drop_queue (seen_database self.old) name.now) }
     {
@@ -568,7 +568,7 @@ fn shown_name(alloc: Global, trigger: &TableTrigger) -> Result<Text, NoMemory>
     }
 }
 
-/// Whether events of a type tell of rows.
+/// Whether events of a type record writes of rows.
 fn tells_of_rows(ev_type: &Option<Text>) -> bool
     ensures { result ≡ tells_of_rows ev_type.now }
 {

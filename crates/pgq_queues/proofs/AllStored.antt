@@ -4,7 +4,7 @@ use Rattle.std.specs.Prelude.{flat_map, find, IfSome, ◌==◌}
 use Rattle.std.specs.List.{All}
 use Rattle.std.proofs.lemmas.List.Elements.{All-nil, All-cons, All-head, All-tail, All-append, All-set, All-push, All-take, All-drop, All-map, All-weaker, All-pop}
 use Rattle.sky_val.specs.declared.event.Event.{Event}
-use Rattle.pgq_tables.specs.Tables.{Stored, Tables, new_tables, with_stored, marked_dead, with_dead, without_pending, switched, next_table, by_age}
+use Rattle.pgq_tables.specs.Tables.{Stored, Tables, new_tables, with_stored, marked_dead, with_dead, without_pending, with_switch, next_table, by_age}
 use Rattle.pgq_tables.specs.Views.{TablesView}
 use Rattle.pgq_tables.specs.Listed.{listed}
 use Rattle.sky_txid.specs.Snapshot.{SnapshotView}
@@ -63,7 +63,7 @@ module _ (P : Event → Type 0) where
       by false = all
 
   -- the next table is emptied
-  pub stored-switched : (time : ℤ) (ts : Tables) → AllStored P ts → AllStored P (switched time ts)
+  pub stored-switched : (time : ℤ) (ts : Tables) → AllStored P ts → AllStored P (with_switch time ts)
   stored-switched time ts all = All-set Holds ts.lists (next_table ts) [] none all
 
   -- of all tables, the oldest first

@@ -301,3 +301,21 @@ if-nothing o x P is = subst (λ y. IfNone y P) (sym is) tt
 pub if-not : {A : Type 0} → (o : Option A) (P : Type 0) → P → IfNone o P
 if-not None P holds = holds
 if-not (Some x) P holds = tt
+
+-- ---- a subscription that is read
+
+pub sub-there : (v now : QueuesView) (i : ℕ) (q : QueueView) (name : List ℕ) (o : Option SubView) → v ≡ now → i < length v.queues → q ≡ get_or v.queues i q → o ≡ value_of name q.subs
+    → sub_at now.queues i name ≡ o
+sub-there v now i q name o same lt at found = ap (λ (w : QueuesView). sub_at w.queues i name) (sym same) ∙ sub-here v.queues i q name lt at ∙ sym found
+
+-- its active batch is the one of the batch's id
+pub open-there : (v now : QueuesView) (i : ℕ) (name : List ℕ) (s : SubView) → v ≡ now → BatchesWithin v.last_batch_id v.queues v.batches → sub_at now.queues i name ≡ Some s
+    → IfSome s.active (λ batch. batch_at now batch.id ≡ batch_of batch.id (record { queue = i; consumer = name }) s)
+open-there v now i name s same within there = of s.active refl
+  where
+    of : (o : Option OpenBatch) → s.active ≡ o → IfSome o (λ batch. batch_at now batch.id ≡ batch_of batch.id (record { queue = i; consumer = name }) s)
+    of None e = tt
+    of (Some b) e =
+        let here : sub_at v.queues i name ≡ Some s = ap (λ (w : QueuesView). sub_at w.queues i name) same ∙ there in
+        let placed = within.indexed.each i name b.id (ap open_id here ∙ ap (option_map OpenBatch.id) e) in
+        ap (λ (w : QueuesView). batch_at w b.id) (sym same) ∙ ap (batch_by (sub_at v.queues) b.id) placed ∙ ap (option_and_then (batch_of b.id (record { queue = i; consumer = name }))) here

@@ -7,7 +7,7 @@ use Rattle.pgq_queues.specs.declared.batch.Place.{Place}
 use Rattle.pgq_queues.specs.Views.{QueueView}
 use Rattle.pgq_queues.specs.Seen.{no_queue, Stands, kept, sub_at}
 
--- the queues that stood stand, no other has come, and the subscriptions are what they were
+-- the queues that existed exist, no other does, and the subscriptions are what they were
 pub record StillStand (old new : List QueueView) : Type 0 where
   pub stands : (n : ℕ) → Stands old n → Stands new n
   pub gone : (n : ℕ) → slice_index_or old n no_queue ≡ no_queue → slice_index_or new n no_queue ≡ no_queue
@@ -28,7 +28,7 @@ pub record AreIndexed (last : ℕ) (subs : ℕ → List ℕ → Option SubView) 
   pub each : (n : ℕ) (consumer : List ℕ) (id : ℕ) → open_id (subs n consumer) ≡ Some id → places id ≡ Some (record { queue = n; consumer = consumer })
   pub past : (id : ℕ) (p : Place) → places id ≡ Some p → id ≤ last
 
--- so it is with the batches, whose queues stand
+-- the batches are so indexed, and their queues exist
 pub record BatchesWithin (last : ℕ) (queues : List QueueView) (batches : List (ℕ × Place)) : Type 0 where
   pub indexed : AreIndexed last (sub_at queues) (kept batches)
   pub stand : (id : ℕ) (p : Place) → kept batches id ≡ Some p → Stands queues p.queue

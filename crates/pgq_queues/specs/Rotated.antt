@@ -16,7 +16,7 @@ undone_in t q = retabled (without_transaction t) q
 
 -- a queue whose pending switch was made at a time
 abbrev pub switched_in : ℤ → QueueView → QueueView
-switched_in now q = record (retabled (tables_of.switched now) q) { ticks = ticks_above (second_step_of q.tables.tables) q.ticks }
+switched_in now q = record (retabled (tables_of.with_switch now) q) { ticks = ticks_above (second_step_of q.tables.tables) q.ticks }
 
 -- one whose pending switch was made if it is this transaction's
 abbrev pub settled_in : ℕ → ℤ → QueueView → QueueView

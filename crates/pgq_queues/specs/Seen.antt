@@ -31,7 +31,7 @@ seen_queue q = record {
 abbrev pub no_queue : QueueView
 no_queue = record { config = default_config; seq = 0; tables = record { tables = no_tables; reads = 0 }; ticks = []; subs = no_subs }
 
--- the queue of a number stands: it has a tick
+-- the queue of a number exists: it has a tick
 abbrev pub Stands : List QueueView → ℕ → Type 0
 Stands queues n = 0 < length (slice_index_or queues n no_queue).ticks
 
@@ -73,7 +73,7 @@ numbered (name ∷ names) (n ∷ numbers) = record { number = n; name = name } �
 abbrev pub unnamed : NamedQueue
 unnamed = record { number = 0; name = [] }
 
--- the queues that stand
+-- the queues that exist
 abbrev pub queues_of : QueuesView → List NamedQueue
 queues_of q = numbered q.names.names q.names.values
 

@@ -28,7 +28,7 @@ abbrev pub places_from : (first table : ℕ) → List TableTrigger → List ℕ
 places_from first table [] = []
 places_from first table (t ∷ ts) = if t.table == table then first ∷ places_from (suc first) table ts else places_from (suc first) table ts
 
--- places once one of them is gone: those behind it have moved
+-- places once one of them is gone: those after it have moved
 abbrev pub place_after : (gone place : ℕ) → ℕ
 place_after gone place = if nat_lt gone place then place - 1 else place
 
@@ -44,7 +44,7 @@ places_of (Some t) = t.places
 abbrev pub ArePlaced : List TableTrigger → (table : ℕ) → (places : List ℕ) → Type 0
 ArePlaced triggers table places = places ≡ places_from 0 table triggers
 
--- each trigger's events go to a queue that stands, and what is kept of a table are the places of its own
+-- each trigger's events go to a queue that exists, and what is kept of a table are the places of its own
 pub record TracedWithin (queues : List QueueView) (triggers : List TableTrigger) (traced : List (ℕ × TracedTableView)) : Type 0 where
   pub stand : All (λ t. Stands queues t.trigger.queue) triggers
   pub places : (n : ℕ) → ArePlaced triggers n (places_of (kept traced n))
@@ -65,6 +65,6 @@ abbrev pub IsTraced : RowPart → ℕ → List TableTrigger → Option TracedTab
 IsTraced part n triggers None = triggers_of n triggers ≡ []
 IsTraced part n triggers (Some t) = IsTable part n t.name t.columns
 
--- so it is with each
+-- this holds of each table
 abbrev pub AreTables : RowPart → QueuesView → Type 0
 AreTables part q = (n : ℕ) → IsTraced part n q.triggers (kept q.traced n)

@@ -36,7 +36,7 @@ pub record QueuesView : Type 0 where
   pub time : ℤ
   pub last_batch_id : ℕ
   pub last_sub_id : ℕ
-  -- the names of the queues that stand, each with the queue's number, in the order of making
+  -- the names of the queues that exist, each with the queue's number, in the order of making
   pub names : NamedView ℕ
   -- the queues by their numbers; one that was dropped is empty
   pub queues : List QueueView

@@ -48,7 +48,7 @@ impl WriteGate for Queues {
     }
 }
 
-/// A transaction was rolled back, in each of the queues of the names from this place on.
+/// A transaction was rolled back: for each queue whose name is at this place or after it.
 fn undo_each(queues: &mut Slots, names: &Named<usize>, place: usize, txid: u64)
     requires place { place ≤ length names.now.values }
     requires stand { All (Stands queues.old) names.now.values }
@@ -60,7 +60,7 @@ fn undo_each(queues: &mut Slots, names: &Named<usize>, place: usize, txid: u64)
     }
 }
 
-/// How many of the first triggers record the write by an event of the queue.
+/// How many of the triggers before this place record the write by an event of the queue.
 fn told_before(
     traced: &Traced<'_>,
     place: usize,

@@ -4,7 +4,7 @@ ghost use Rattle.sky_model.specs.Config.{default_config, param_of};
 ghost use Rattle.pgq_tick.specs.Config.{set_to};
 ghost use Rattle.sky_model.specs.Queues.{newest_tick};
 ghost use Rattle.sky_model.specs.Selection.{selected_in};
-ghost use Rattle.pgq_sub.specs.Views.{with_open, finished, at_tick, seen_sub};
+ghost use Rattle.pgq_sub.specs.Views.{with_open, finished, at_tick};
 ghost use Rattle.pgq_sub.specs.Seen.{seen_subs, open_in, no_subs, with_member, with_sub, without_member};
 ghost use Rattle.sky_model.specs.StepQueue.{is_due, info_of, has_part_in};
 ghost use Rattle.sky_model.specs.Queues.{id_of, tick};
@@ -143,14 +143,6 @@ impl Queue {
     }
 
     /// The subscription of a consumer, if it is registered.
-    pub fn subscription(&self, consumer: &Text) -> Option<Sub>
-        ensures { option_map seen_sub result ≡ (seen_queue self.now).sub consumer.now }
-    {
-        let sub = self.sub(consumer)?;
-        Some(sub.copy())
-    }
-
-    /// The same, as it is kept.
     pub(crate) fn sub(&self, consumer: &Text) -> Option<&Sub>
         ensures { option_copied result ≡ (seen_subs self.now.subs).kept consumer.now }
     {

@@ -14,10 +14,11 @@ ghost use Rattle.sky_model.specs.StepConsumer.{batch_info_of};
 ghost use Rattle.sky_model.specs.StepQueue.{newest_id};
 ghost use Rattle.sky_model.specs.StepTrigger.{has_trigger};
 ghost use Rattle.sky_model.specs.Triggers.{is_sets, triggers_of};
-ghost use Rattle.pgq_queues.specs.Seen.{kept, seen_with, seen_queue, seen_batch, seen_span, reads_at, unnamed, queues_of, queue_at, batch_at, no_queues, Stands, Beside};
+ghost use Rattle.pgq_queues.specs.Seen.{kept, seen_with, seen_queue, seen_batch, seen_span, reads_at, unnamed, queues_of, queue_at, batch_of, batch_at, no_queues, Stands, Beside};
 ghost use Rattle.pgq_queues.specs.Batches.{StillStand, but_of};
 ghost use Rattle.pgq_queues.specs.Looked.{most_in};
 ghost use Rattle.pgq_sub.specs.declared.sub.OpenBatch.{OpenBatch};
+ghost use Rattle.pgq_sub.specs.Views.{seen_sub};
 ghost use Rattle.pgq_queues.specs.Traced.{traced_at, IsTable, AreTables, KeepsRest};
 ghost use Rattle.pgq_queues.specs.Retried.{RetriedAtMost, HasConsumer};
 
@@ -26,7 +27,7 @@ use crate::queue::Queue;
 use crate::slots::Slots;
 use crate::traced::{TableTrigger, Traced, TracedTable};
 use pgq_retry::RetryQueue;
-use pgq_sub::OpenBatch;
+use pgq_sub::{OpenBatch, Sub};
 use pgq_tick::{ConfigFault, TickFault};
 use sky_model::BatchInfo;
 use sky_names::Named;
@@ -44,7 +45,7 @@ pub struct Queues {
     pub(crate) time: i64,
     last_batch_id: u64,
     last_sub_id: u64,
-    // The queues that stand: the number of each under its name, in the order of making.
+    // The queues that exist: the number of each under its name, in the order of making.
     pub(crate) names: Named<usize>,
     pub(crate) slots: Slots,
     // Where each active batch is, under its id. All else of it is in its subscription.
@@ -115,14 +116,14 @@ impl Queues {
         self.time = time;
     }
 
-    /// How many queues stand.
+    /// How many queues there are.
     pub fn count(&self) -> usize
         ensures { result ≡ length (queues_of self.now) }
     {
         self.names.len()
     }
 
-    /// The number of a queue, if one of this name stands.
+    /// The number of the queue of this name, if there is one.
     pub fn number(&self, queue: &Text) -> Option<usize>
         ensures number { result ≡ queue_number queue.now (queues_of self.now) }
         ensures stands { IfSome result (λ n. Stands self.now.queues n) }
@@ -131,7 +132,7 @@ impl Queues {
         Some(*self.names.get(place as usize))
     }
 
-    /// The number of the queue at this place among those that stand, in the order of making.
+    /// The number of the queue at this place among those that exist, in the order of making.
     pub fn number_at(&self, place: usize) -> usize
         requires { place < length (queues_of self.now) }
         ensures number { result ≡ (slice_index_or (queues_of self.now) place unnamed).number }
@@ -140,7 +141,7 @@ impl Queues {
         *self.names.get(place)
     }
 
-    /// The name of the queue of this number, if it stands.
+    /// The name of the queue of this number, if it exists.
     pub fn name(&self, number: usize) -> Option<&Text>
         ensures { option_copied result ≡ option_map NamedQueue.name (find (λ q. q.number == number) (queues_of self.now)) }
     {
@@ -152,7 +153,7 @@ impl Queues {
         None
     }
 
-    /// Whether the queue of this number has this name. One that doesn't stand has the empty name.
+    /// Whether the queue of this number has this name. One that doesn't exist has the empty name.
     pub fn has_name(&self, number: usize, name: &Text) -> bool
         ensures { result ≡ bytes_eq (queue_name number (queues_of self.now)) name.now }
     {
@@ -168,6 +169,18 @@ impl Queues {
         ensures { seen_queue result.now ≡ queue_at self.now number }
     {
         self.slots.get(number)
+    }
+
+    /// The subscription of a queue's consumer, if it is registered.
+    pub fn subscription(&self, number: usize, consumer: &Text) -> Option<Sub>
+        requires { Stands self.now.queues number }
+        ensures sub { option_map seen_sub result ≡ (queue_at self.now number).sub consumer.now }
+
+        // Its active batch is the one that is kept under the batch's id.
+        ensures batch { IfSome result (λ sub. IfSome sub.active (λ batch. batch_at self.now batch.id ≡ batch_of batch.id (record { queue = number; consumer = consumer.now }) sub)) }
+    {
+        let sub = self.slots.get(number).sub(consumer)?;
+        Some(sub.copy())
     }
 
     /// The last subscription id that was given.
@@ -279,8 +292,8 @@ impl Queues {
         self.triggers.iter().find(|t| t.trigger.queue() == queue)
     }
 
-    /// Makes a queue of a new name, by a transaction that has ended, with its first tick, which has the snapshot as it is
-    /// now.
+    /// Makes a queue of a new name, by a transaction that has ended, with its first tick, which has the snapshot as it
+    /// is now.
     pub fn make(
         &mut self,
         name: Text,
@@ -498,7 +511,7 @@ impl Queues {
             .position(|trigger| trigger.is_sets(table))
     }
 
-    /// Removes the trigger at a place. Those behind it move.
+    /// Removes the trigger at a place. Those after it move.
     fn remove_trigger(&mut self, place: usize)
         requires { place < length self.old.triggers }
         ensures triggers { self.new.triggers ≡ remove self.old.triggers place }
@@ -528,7 +541,7 @@ impl Queues {
         Ok(())
     }
 
-    /// Adds a trigger of a table of which is kept what events say of it.
+    /// Adds a trigger of a table that `keep_table` keeps.
     fn store_trigger(&mut self, trigger: TableTrigger) -> Result<(), NoMemory>
         requires table { is_some (kept self.old.traced trigger.table) ≡ true }
         requires queue { Stands self.old.queues trigger.trigger.queue }
@@ -549,7 +562,7 @@ impl Queues {
     }
 }
 
-/// A batch that is given up, if there is one, is no longer anywhere.
+/// Forgets where the batch is that was given up, if one was.
 fn forget(places: &mut BTreeMap<u64, Place>, given_up: Option<OpenBatch>)
     ensures { (id : ℕ) → kept places.new.entries id ≡ but_of (option_map OpenBatch.id given_up) id (kept places.old.entries id) }
 {

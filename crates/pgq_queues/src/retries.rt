@@ -70,8 +70,9 @@ impl Queues {
         self.retries.ask(retry)
     }
 
-    /// Those that are due come back to their queues, at most as many as come back at a time, in a transaction. The
-    /// answer is how many. If memory runs out, those before are back, and the one for which there was none is lost.
+    /// Brings those that are due back to their queues, in a transaction, at most as many as may come back at a time.
+    /// The answer is how many. If memory runs out, those before have come back, and the one for which it ran out is
+    /// lost.
     pub fn bring_back(&mut self, now: i64, txid: u64) -> Result<usize, NoMemory>
         requires { self.old.rounds + 1 < 2 ^ 64 }
         ensures count { IfOk result (λ n. n ≡ length (due_now now most_back self.old.retries)) }
@@ -85,7 +86,7 @@ impl Queues {
         Ok(count)
     }
 
-    /// So many come back, the first by due moment.
+    /// Brings this many back, the earliest due first.
     fn bring(&mut self, txid: u64, count: usize) -> Result<(), NoMemory>
         requires { All (λ (r : Retry). RetriedAtMost self.old.rounds r.event) self.old.retries }
         ensures marks { OnOk result ((now : ℤ) (beside : Beside) → seen_with beside self.new

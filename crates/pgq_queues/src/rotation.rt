@@ -96,7 +96,7 @@ impl Queues {
     }
 }
 
-/// Of the queues of the names from this place on the switches are made that a transaction has pending.
+/// Makes the switches that a transaction has pending, of the queues whose names are at this place or after it.
 fn settle_each(queues: &mut Slots, names: &Named<usize>, place: usize, txid: u64, now: i64)
     requires place { place ≤ length names.now.values }
     requires time { IsTime now }
@@ -110,7 +110,7 @@ fn settle_each(queues: &mut Slots, names: &Named<usize>, place: usize, txid: u64
     }
 }
 
-/// Of the queues of the names from this place on a transaction makes the second steps that are missing.
+/// A transaction makes the missing second steps of the queues whose names are at this place or after it.
 fn end_each(queues: &mut Slots, names: &Named<usize>, place: usize, txid: u64)
     requires place { place ≤ length names.now.values }
     requires stand { All (Stands queues.old) names.now.values }

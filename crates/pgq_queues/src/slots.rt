@@ -8,12 +8,12 @@ use sky_val::NoMemory;
 use std::alloc::Global;
 use std::marker::Model;
 
-/// Queues by their numbers, which are places in the order of making. A number is given once: a queue that was dropped leaves
-/// its place empty.
+/// Queues by their numbers, which are places in the order of making. A number is given once: a queue that was dropped
+/// leaves its place empty.
 #[derive(Drop)]
 pub struct Slots {
-    // Each has its queue alone, or none. That would be an option of a box, but for the checker, which follows a reference
-    // into a vector and none into a box.
+    // Each has one queue or none. An option of a box would do, but the checker follows a reference into a vector, and
+    // none into a box.
     slots: Vec<Vec<Queue>>,
 }
 

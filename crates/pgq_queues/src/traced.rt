@@ -44,8 +44,8 @@ impl TableTrigger {
     }
 }
 
-/// What is kept of a table with triggers: what their events say of it, and the places of its own among the triggers of all
-/// tables, in the order of making.
+/// What is kept of a table with triggers: what their events say of it, and the places of its own among the triggers of
+/// all tables, in the order of making.
 #[derive(Drop)]
 pub struct TracedTable {
     name: Text,
@@ -89,7 +89,7 @@ impl TracedTable {
         Ok(())
     }
 
-    /// The trigger at a place is gone, and those behind it have moved.
+    /// The trigger at a place is gone, and those after it have moved.
     pub(crate) fn close_gap(&mut self, gone: usize)
         ensures { self.new ≡ record self.old { places = places_without gone self.old.places } }
     {
@@ -181,7 +181,7 @@ impl<'a> Traced<'a> {
     }
 }
 
-/// Where what was at a place is once the place before it is gone, if that is before it.
+/// The place of what was at `place` once `gone` is removed: one less, if it came after that.
 fn place_after(gone: usize, place: usize) -> usize
     ensures { result ≡ place_after gone place }
 {

@@ -72,8 +72,8 @@ impl Placed {
         self.line.count_due(now, most)
     }
 
-    /// A place above all others. If none is left, which takes 2^64 to have come while there was
-    /// always one that waited, each gets a new place first.
+    /// A place above all others. If none is left, after 2^64 retries among which one always waited, each gets a new
+    /// place first.
     pub(crate) fn next_place(&mut self) -> Result<u64, NoMemory>
         ensures above { IfOk result (λ place. AreBelow place self.new) }
         ensures same { values_of self.new ≡ values_of self.old }

@@ -7,7 +7,7 @@ use Rattle.std.proofs.lemmas.Option.{slice_get-get_or, slice_get_within, slice_g
 use Rattle.pgq_tables.specs.declared.index.Placed.{Placed}
 use Rattle.pgq_tables.specs.Tables.{Stored, marked_dead}
 use Rattle.pgq_tables.specs.Order.{put_by_txid, by_txid_onto, by_txid}
-use Rattle.pgq_tables.specs.Kept.{placed, places_of, no_place, txid_at}
+use Rattle.pgq_tables.specs.Kept.{as_placed, places_of, no_place, txid_at}
 use Rattle.pgq_tables.proofs.Orders.{txid_of, length-by_txid, there-by_txid, at-place}
 use Rattle.pgq_tables.proofs.Places.{IsEntry, entry_at, txid_entry, same_length, in_order}
 
@@ -31,16 +31,16 @@ module _ (t : ℕ) where
       map-onto (put_by_txid (n, s) sorted) (n + 1) ss
       ∙ ap (λ xs. by_txid_onto xs (n + 1) (map (marked_dead t) ss)) (map-put (n, s) sorted)
 
-  placed_same : (xs : List (ℕ × Stored)) → map placed (map marked_at xs) ≡ map placed xs
+  placed_same : (xs : List (ℕ × Stored)) → map as_placed (map marked_at xs) ≡ map as_placed xs
   placed_same [] = refl
-  placed_same (x ∷ xs) = ap (λ ps. placed x ∷ ps) (placed_same xs)
+  placed_same (x ∷ xs) = ap (λ ps. as_placed x ∷ ps) (placed_same xs)
 
   -- in order of transactions, what is marked is what is marked of the order
   pub by_txid-marked : (list : List Stored) → by_txid (map (marked_dead t) list) ≡ map (λ x. (x.0, marked_dead t x.1)) (by_txid list)
   by_txid-marked list = sym (map-onto [] 0 list)
 
   pub places-marked : (list : List Stored) → places_of (map (marked_dead t) list) ≡ places_of list
-  places-marked list = ap (map placed) (by_txid-marked list) ∙ placed_same (by_txid list)
+  places-marked list = ap (map as_placed) (by_txid-marked list) ∙ placed_same (by_txid list)
 
   -- ---- one event
 

@@ -8,7 +8,7 @@ use Rattle.std.proofs.lemmas.Option.{slice_get_within}
 use Rattle.pgq_tables.specs.declared.index.Placed.{Placed}
 use Rattle.pgq_tables.specs.Tables.{Stored}
 use Rattle.pgq_tables.specs.Order.{put_by_txid, by_txid_onto, by_txid}
-use Rattle.pgq_tables.specs.Kept.{placed, places_of, no_place, txid_at, AreInOrder}
+use Rattle.pgq_tables.specs.Kept.{as_placed, places_of, no_place, txid_at, AreInOrder}
 use Rattle.pgq_tables.proofs.Orders.{txid_of, length-by_txid, there-by_txid, at-place, txids-by_txid}
 
 -- ---- a place and the event there
@@ -18,9 +18,9 @@ pub record IsEntry (events : List Stored) (places : List Placed) (j : ℕ) : Typ
   pub entry : ℕ × Stored
   pub found : slice_get (by_txid events) j ≡ Some entry
   pub stands : slice_get events entry.0 ≡ Some entry.1
-  pub placed_is : get_or places j no_place ≡ placed entry
+  pub placed_is : get_or places j no_place ≡ as_placed entry
 
-entry_of : (events : List Stored) (xs : List (ℕ × Stored)) (j : ℕ) → j < length (map placed xs) → (x : ℕ × Stored) × (slice_get xs j ≡ Some x) × (get_or (map placed xs) j no_place ≡ placed x)
+entry_of : (events : List Stored) (xs : List (ℕ × Stored)) (j : ℕ) → j < length (map as_placed xs) → (x : ℕ × Stored) × (slice_get xs j ≡ Some x) × (get_or (map as_placed xs) j no_place ≡ as_placed x)
 entry_of events [] j within = absurd (omega arith)
 entry_of events (x ∷ xs) zero within = (x, refl, refl)
 entry_of events (x ∷ xs) (suc j) within = entry_of events xs j (omega arith)
@@ -36,7 +36,7 @@ entry_at events places j is within =
     }
 
 pub same_length : (events : List Stored) (places : List Placed) → places ≡ places_of events → length places ≡ length events
-same_length events places is = ap length is ∙ length-map (by_txid events) placed ∙ length-by_txid events
+same_length events places is = ap length is ∙ length-map (by_txid events) as_placed ∙ length-by_txid events
 
 pub txid_entry : (events : List Stored) (places : List Placed) (j : ℕ) (e : IsEntry events places j) → txid_at places j ≡ txid_of e.entry
 txid_entry events places j e = ap (λ (p : Placed). p.txid) e.placed_is
@@ -94,57 +94,57 @@ not_less_is a b other less = grind arith
 never_less : (a : ℕ) → a < a → ⊥
 never_less a less = omega arith
 
-insert-put : (x : ℕ × Stored) (xs : List (ℕ × Stored)) (at : ℕ) → Counts (txid_of x) (map placed xs) at → insert (map placed xs) at (placed x) ≡ map placed (put_by_txid x xs)
+insert-put : (x : ℕ × Stored) (xs : List (ℕ × Stored)) (at : ℕ) → Counts (txid_of x) (map as_placed xs) at → insert (map as_placed xs) at (as_placed x) ≡ map as_placed (put_by_txid x xs)
 insert-put x [] zero counts = refl
 insert-put x [] (suc at) counts = let within = counts.0 in absurd (omega arith)
 insert-put x (y ∷ ys) zero counts =
-    ap (λ t. map placed (cond t (x ∷ y ∷ ys) (y ∷ put_by_txid x ys))) (sym (is_less (txid_of x) (txid_of y) (counts.2 0 (omega arith) (omega arith))))
+    ap (λ t. map as_placed (cond t (x ∷ y ∷ ys) (y ∷ put_by_txid x ys))) (sym (is_less (txid_of x) (txid_of y) (counts.2 0 (omega arith) (omega arith))))
 insert-put x (y ∷ ys) (suc at) counts =
-    ap (λ ps. placed y ∷ ps) (insert-put x ys at (counts_rest (txid_of x) (placed y) (map placed ys) at counts))
-    ∙ ap (λ t. map placed (cond t (x ∷ y ∷ ys) (y ∷ put_by_txid x ys))) (sym (is_not_less (txid_of x) (txid_of y) (counts.1 0 (omega arith))))
+    ap (λ ps. as_placed y ∷ ps) (insert-put x ys at (counts_rest (txid_of x) (as_placed y) (map as_placed ys) at counts))
+    ∙ ap (λ t. map as_placed (cond t (x ∷ y ∷ ys) (y ∷ put_by_txid x ys))) (sym (is_not_less (txid_of x) (txid_of y) (counts.1 0 (omega arith))))
 
 pub pushed : (events : List Stored) (places : List Placed) (s : Stored) (at : ℕ) → places ≡ places_of events → Counts s.event.ev_txid places at
-    → insert places at (placed (length events, s)) ≡ places_of (events ++ s ∷ [])
+    → insert places at (as_placed (length events, s)) ≡ places_of (events ++ s ∷ [])
 pushed events places s at is counts =
-    ap (λ ps. insert ps at (placed (length events, s))) is
+    ap (λ ps. insert ps at (as_placed (length events, s))) is
     ∙ insert-put (length events, s) (by_txid events) at (subst (λ ps. Counts s.event.ev_txid ps at) is counts)
-    ∙ ap (map placed) (sym (by_txid-push events s))
+    ∙ ap (map as_placed) (sym (by_txid-push events s))
 
 -- ---- one event less
 
 pub record IsTaken (x : ℕ × Stored) (xs : List (ℕ × Stored)) (count : ℕ) : Type 0 where
   pub at : ℕ
   pub count_is : count ≡ suc at
-  pub left_is : remove (map placed (put_by_txid x xs)) at ≡ map placed xs
+  pub left_is : remove (map as_placed (put_by_txid x xs)) at ≡ map as_placed xs
 
 -- it is the first one
-taken_first : (x y : ℕ × Stored) (ys : List (ℕ × Stored)) → nat_lt (txid_of x) (txid_of y) ≡ true → (count : ℕ) → Counts (txid_of x) (map placed (x ∷ y ∷ ys)) count → IsTaken x (y ∷ ys) count
+taken_first : (x y : ℕ × Stored) (ys : List (ℕ × Stored)) → nat_lt (txid_of x) (txid_of y) ≡ true → (count : ℕ) → Counts (txid_of x) (map as_placed (x ∷ y ∷ ys)) count → IsTaken x (y ∷ ys) count
 taken_first x y ys less zero counts = absurd (never_less (txid_of x) (counts.2 0 (omega arith) (omega arith)))
 taken_first x y ys less (suc zero) counts = record {
   at = 0;
   count_is = refl;
-  left_is = ap (λ t. remove (map placed (cond t (x ∷ y ∷ ys) (y ∷ put_by_txid x ys))) 0) less;
+  left_is = ap (λ t. remove (map as_placed (cond t (x ∷ y ∷ ys) (y ∷ put_by_txid x ys))) 0) less;
 }
 taken_first x y ys less (suc (suc count)) counts = absurd (less_is (txid_of x) (txid_of y) less (counts.1 1 (omega arith)))
 
 -- it is a later one
-taken_later : (x y : ℕ × Stored) (ys : List (ℕ × Stored)) → nat_lt (txid_of x) (txid_of y) ≡ false → ((count : ℕ) → Counts (txid_of x) (map placed (put_by_txid x ys)) count → IsTaken x ys count)
-    → (count : ℕ) → Counts (txid_of x) (map placed (y ∷ put_by_txid x ys)) count → IsTaken x (y ∷ ys) count
+taken_later : (x y : ℕ × Stored) (ys : List (ℕ × Stored)) → nat_lt (txid_of x) (txid_of y) ≡ false → ((count : ℕ) → Counts (txid_of x) (map as_placed (put_by_txid x ys)) count → IsTaken x ys count)
+    → (count : ℕ) → Counts (txid_of x) (map as_placed (y ∷ put_by_txid x ys)) count → IsTaken x (y ∷ ys) count
 taken_later x y ys other taken zero counts = absurd (not_less_is (txid_of x) (txid_of y) other (counts.2 0 (omega arith) (omega arith)))
 taken_later x y ys other taken (suc count) counts =
-    let rest = taken count (counts_rest (txid_of x) (placed y) (map placed (put_by_txid x ys)) count counts) in
+    let rest = taken count (counts_rest (txid_of x) (as_placed y) (map as_placed (put_by_txid x ys)) count counts) in
     record {
       at = suc rest.at;
       count_is = ap suc rest.count_is;
-      left_is = ap (λ t. remove (map placed (cond t (x ∷ y ∷ ys) (y ∷ put_by_txid x ys))) (suc rest.at)) other ∙ ap (λ ps. placed y ∷ ps) rest.left_is;
+      left_is = ap (λ t. remove (map as_placed (cond t (x ∷ y ∷ ys) (y ∷ put_by_txid x ys))) (suc rest.at)) other ∙ ap (λ ps. as_placed y ∷ ps) rest.left_is;
     }
 
-taken-put : (x : ℕ × Stored) (xs : List (ℕ × Stored)) (count : ℕ) → Counts (txid_of x) (map placed (put_by_txid x xs)) count → IsTaken x xs count
+taken-put : (x : ℕ × Stored) (xs : List (ℕ × Stored)) (count : ℕ) → Counts (txid_of x) (map as_placed (put_by_txid x xs)) count → IsTaken x xs count
 taken-put x [] zero counts = absurd (never_less (txid_of x) (counts.2 0 (omega arith) (omega arith)))
 taken-put x [] (suc zero) counts = record { at = 0; count_is = refl; left_is = refl }
 taken-put x [] (suc (suc count)) counts = let within = counts.0 in absurd (omega arith)
 taken-put x (y ∷ ys) count counts = elim (nat_lt (txid_of x) (txid_of y)) as (λ t.
-    nat_lt (txid_of x) (txid_of y) ≡ t → Counts (txid_of x) (map placed (cond t (x ∷ y ∷ ys) (y ∷ put_by_txid x ys))) count → IsTaken x (y ∷ ys) count) [
+    nat_lt (txid_of x) (txid_of y) ≡ t → Counts (txid_of x) (map as_placed (cond t (x ∷ y ∷ ys) (y ∷ put_by_txid x ys))) count → IsTaken x (y ∷ ys) count) [
       | true ↦ λ less. taken_first x y ys less count
       | false ↦ λ other. taken_later x y ys other (λ count. taken-put x ys count) count
     ] refl counts
@@ -156,7 +156,7 @@ pub record IsTakenBack (events : List Stored) (places : List Placed) (count : �
 
 pub taken_back : (whole events : List Stored) (places : List Placed) (s : Stored) (count : ℕ) → places ≡ places_of whole → whole ≡ events ++ s ∷ [] → Counts s.event.ev_txid places count → IsTakenBack events places count
 taken_back whole events places s count is whole_is counts =
-    let last : places ≡ map placed (put_by_txid (length events, s) (by_txid events)) = is ∙ ap places_of whole_is ∙ ap (map placed) (by_txid-push events s) in
+    let last : places ≡ map as_placed (put_by_txid (length events, s) (by_txid events)) = is ∙ ap places_of whole_is ∙ ap (map as_placed) (by_txid-push events s) in
     let one = taken-put (length events, s) (by_txid events) count (subst (λ ps. Counts s.event.ev_txid ps count) last counts) in
     let at_is : count - 1 ≡ one.at = omega (arith, one.count_is) in
     record {

@@ -5,14 +5,14 @@ use Rattle.pgq_tables.specs.Tables.{Stored}
 use Rattle.pgq_tables.specs.Order.{by_txid}
 
 -- the place of an event, with its transaction
-abbrev pub placed : ℕ × Stored → Placed
-placed x = record { txid = x.1.event.ev_txid; place = x.0 }
+abbrev pub as_placed : ℕ × Stored → Placed
+as_placed x = record { txid = x.1.event.ev_txid; place = x.0 }
 
 -- the places of events in order of their transactions
 abbrev pub places_of : List Stored → List Placed
-places_of events = map placed (by_txid events)
+places_of events = map as_placed (by_txid events)
 
--- what stands for a place that isn't there
+-- in place of a place that isn't there
 abbrev pub no_place : Placed
 no_place = record { txid = 0; place = 0 }
 

@@ -53,8 +53,8 @@ abbrev pub next_table : Tables → ℕ
 next_table ts = (ts.current + 1) % length ts.lists
 
 -- with the pending switch made at a time: the next table is emptied, and is the current one
-abbrev pub switched : ℤ → Tables → Tables
-switched time ts = record {
+abbrev pub with_switch : ℤ → Tables → Tables
+with_switch time ts = record {
   lists = slice_set ts.lists (next_table ts) [];
   current = next_table ts;
   first_step = unwrap_or ts.pending ts.first_step;

@@ -3,7 +3,7 @@ ghost use Rattle.std.specs.Borrow.{sem};
 ghost use Rattle.std.specs.Io.BufRead.{Rests};
 ghost use Rattle.std.specs.List.{list_any};
 ghost use Rattle.sky_val.specs.declared.event.Event.{Event};
-ghost use Rattle.pgq_tables.specs.Tables.{Tables, new_tables, with_stored, with_dead, with_pending, without_pending, switched, with_second_step, next_table, by_age};
+ghost use Rattle.pgq_tables.specs.Tables.{Tables, new_tables, with_stored, with_dead, with_pending, without_pending, with_switch, with_second_step, next_table, by_age};
 ghost use Rattle.pgq_tables.specs.Order.{by_txid};
 ghost use Rattle.pgq_tables.specs.Views.{TablesView, one_more};
 
@@ -106,7 +106,7 @@ impl EventTables {
     /// The pending switch is made: the next table is emptied, gives its memory back, and is the current one.
     pub fn commit_switch(&mut self, now: i64)
         requires { is_some self.old.tables.pending ≡ true }
-        ensures { self.new ≡ record self.old { tables = switched now self.old.tables } }
+        ensures { self.new ≡ record self.old { tables = with_switch now self.old.tables } }
     {
         let next = self.next();
         self.tables[next] = Table::new(self.alloc);
@@ -201,8 +201,8 @@ impl EventTables {
         self.tables[table].len()
     }
 
-    /// The event of a table at an index in order of transactions, with its place there. It counts as one that was looked
-    /// at.
+    /// The event of a table at an index in order of transactions, with its place there. It counts as one that was
+    /// looked at.
     pub fn by_txid(&mut self, table: usize, index: usize) -> (usize, &Stored)
         requires table { table < length self.old.tables.lists }
         requires index { index < length (slice_index_or self.old.tables.lists table []) }

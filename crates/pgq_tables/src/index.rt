@@ -55,7 +55,7 @@ pub(crate) fn count_below(places: &[Placed], txid: u64) -> usize
     count_up_to(places, txid - 1)
 }
 
-/// Puts one more into the places, for which there is room. Mostly it comes behind all others.
+/// Inserts a place, for which there is room. It usually comes after all others.
 pub(crate) fn insert_reserved(places: &mut Vec<Placed>, at: usize, placed: Placed)
     requires at { at ≤ length places.old.items }
     requires room { vec_len places.old < vec_capacity places.old }

@@ -4,8 +4,8 @@ use sky_val::{Event, NoMemory, Text, copy_option};
 use std::alloc::Global;
 use std::marker::Model;
 
-/// An event as a table keeps it, and whether its transaction was rolled back. What most events lack is apart, and takes no
-/// room if it is missing.
+/// An event as a table keeps it, and whether its transaction was rolled back. What most events lack is apart, and takes
+/// no room if it is missing.
 #[derive(Drop)]
 pub struct Stored {
     ev_id: u64,

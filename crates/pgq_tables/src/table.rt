@@ -10,8 +10,8 @@ use sky_val::{Event, NoMemory};
 use std::alloc::Global;
 use std::marker::Model;
 
-/// One table: its events in the order of storing, and their places in order of transactions, those of one transaction in
-/// the order of storing.
+/// One table: its events in the order of storing, and their places in order of transactions, those of one transaction
+/// in the order of storing.
 #[derive(Drop)]
 pub(crate) struct Table {
     events: Vec<Stored>,

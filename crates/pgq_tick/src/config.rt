@@ -100,8 +100,8 @@ impl QueueConfig {
         self.is_paused
     }
 
-    /// Sets the parameter of this name to the value that a text writes. Nothing changes if there is no such parameter, or it
-    /// can't have that value.
+    /// Sets the parameter of this name to the value that a text writes. Nothing changes if there is no such parameter,
+    /// or it can't have that value.
     pub fn set(&mut self, param: &[u8], value: &[u8]) -> Result<(), ConfigFault>
         ensures ok { OnOk result (set_to self.old (param_of param.now) value.now ≡ Ok self.new) }
         ensures fault { IfErr result (λ fault. set_to self.old (param_of param.now) value.now ≡ Err fault) }

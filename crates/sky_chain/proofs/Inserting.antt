@@ -3,7 +3,7 @@ use Rattle.std.proofs.Common.{◌≡◌, ◌≢◌, ℕ, List, [], ◌∷◌, �
 use Rattle.sky_chain.specs.declared.links.Link.{Link}
 use Rattle.sky_chain.specs.Chains.{Lacks}
 use Rattle.sky_chain.specs.Links.{nowhere, first_or, last_or, Links, Chain}
-use Rattle.sky_chain.specs.Joins.{next_set, prev_set, list_set, joined, inserted}
+use Rattle.sky_chain.specs.Joins.{next_set, prev_set, list_set, linked, inserted}
 use Rattle.sky_chain.proofs.Lists.{Distinct, Distinct-left, Distinct-right, Lacks-left, Lacks-right, Lacks-append, Lacks-first, Lacks-last, last_is_apart, first_is_apart, middle_is_apart}
 use Rattle.sky_chain.proofs.Writes.{next_set-there, prev_set-there, next_set-elsewhere, prev_set-elsewhere, list_set-elsewhere, inserted-there}
 use Rattle.sky_chain.proofs.ChainLemmas.{foreign_is_lacked, Chain-distinct, Chain-parts, Chain-append, Chain-without}
@@ -30,12 +30,12 @@ module _ (list : ℕ) where
 
     -- two parts of a chain are joined
     pub Chain-joined : (xs ys : List ℕ) (next prev : ℕ) → Distinct (xs ++ ys) → Chain links list nowhere xs next → Chain links list prev ys nowhere
-        → Chain (joined links (last_or xs nowhere) (first_or ys nowhere)) list nowhere (xs ++ ys) nowhere
+        → Chain (linked links (last_or xs nowhere) (first_or ys nowhere)) list nowhere (xs ++ ys) nowhere
     Chain-joined xs ys next prev distinct left right =
         let before = last_or xs nowhere in
         let after = first_or ys nowhere in
         let first = next_set links before after in
-        let second = joined links before after in
+        let second = linked links before after in
         let after_apart = first_is_apart xs ys nowhere (nowhere_is_lacked nowhere xs next left) distinct in
         let before_apart = last_is_apart xs ys nowhere (nowhere_is_lacked prev ys nowhere right) distinct in
         let front = Chain-lead links nowhere xs next after (Distinct-left xs ys distinct) left in
@@ -79,11 +79,11 @@ module _ (list : ℕ) where
         Chain-append fifth list nowhere xs (node ∷ ys) nowhere front_5 (there, back_5)
 
     -- a node is removed from a chain
-    pub Chain-removed : (new : Links) (xs : List ℕ) (node : ℕ) (ys : List ℕ) → ((z : ℕ) → z ≢ node → new z ≡ joined links (last_or xs nowhere) (first_or ys nowhere) z)
+    pub Chain-removed : (new : Links) (xs : List ℕ) (node : ℕ) (ys : List ℕ) → ((z : ℕ) → z ≢ node → new z ≡ linked links (last_or xs nowhere) (first_or ys nowhere) z)
         → Chain links list nowhere (xs ++ node ∷ ys) nowhere → Chain new list nowhere (xs ++ ys) nowhere
     Chain-removed new xs node ys same chain =
         let apart = middle_is_apart xs node ys (Chain-is_distinct (xs ++ node ∷ ys) chain) in
         let parts = Chain-parts links list nowhere xs (node ∷ ys) nowhere chain in
-        Chain-without (joined links (last_or xs nowhere) (first_or ys nowhere)) new list node same nowhere (xs ++ ys) nowhere
+        Chain-without (linked links (last_or xs nowhere) (first_or ys nowhere)) new list node same nowhere (xs ++ ys) nowhere
         (Lacks-append node xs ys apart.0 apart.1)
         (Chain-joined xs ys node node apart.2 parts.0 parts.1.1)

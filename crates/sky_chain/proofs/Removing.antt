@@ -6,7 +6,7 @@ use Rattle.sky_chain.specs.declared.links.Link.{Link}
 use Rattle.sky_chain.specs.declared.links.Ends.{Ends}
 use Rattle.sky_chain.specs.Chains.{ChainsView, IsBetween, Lacks}
 use Rattle.sky_chain.specs.Links.{nowhere, first_or, last_or, Links, Chain, spare_link, Spares, Keeps, AreKept, list_in}
-use Rattle.sky_chain.specs.Joins.{joined, ends_joined}
+use Rattle.sky_chain.specs.Joins.{linked, ends_joined}
 use Rattle.sky_chain.proofs.Lists.{Distinct}
 use Rattle.sky_chain.proofs.Writes.{joined-elsewhere}
 use Rattle.sky_chain.proofs.ChainLemmas.{Same, Chain-parts, last_is_marked, first_is_marked}
@@ -59,8 +59,8 @@ module _ {links : List Link} {ends : List Ends} {free free_number spare size cap
       (slice_get_within links node _ removed_link, Spares-below links (small_links kept) spares kept.spares_are) in
       omega (arith, fits, kept.spare_is)
 
-  module _ (new : List Link) (same : length new ≡ length links) (at : (z : ℕ) → slice_get new z ≡ joined (slice_get links) (last_or front nowhere) (first_or back nowhere) z) where
-    elsewhere : (z : ℕ) → z ≢ node → slice_get (set new node (spare_link free)) z ≡ joined (slice_get links) (last_or front nowhere) (first_or back nowhere) z
+  module _ (new : List Link) (same : length new ≡ length links) (at : (z : ℕ) → slice_get new z ≡ linked (slice_get links) (last_or front nowhere) (first_or back nowhere) z) where
+    elsewhere : (z : ℕ) → z ≢ node → slice_get (set new node (spare_link free)) z ≡ linked (slice_get links) (last_or front nowhere) (first_or back nowhere) z
     elsewhere z other = slice_get-set_other new node z (spare_link free) other ∙ at z
 
     here : slice_get (set new node (spare_link free)) node ≡ Some (spare_link free)
@@ -131,7 +131,7 @@ module _ {links : List Link} {ends : List Ends} {free free_number spare size cap
     unlink_within = rw link_is (neighbours kept list node front back shown)
 
     pub unlinked_kept : (e now : Ends) (len : ℕ) (new : List Link) → e ≡ get_or ends link.list e → now ≡ ends_joined e link.prev link.next
-        → ((z : ℕ) → slice_get new z ≡ joined (slice_get links) link.prev link.next z) → length new ≡ length links → len ≡ length links
+        → ((z : ℕ) → slice_get new z ≡ linked (slice_get links) link.prev link.next z) → length new ≡ length links → len ≡ length links
         → AreKept (set (take len (new ++ drop (length new) links)) node (spare_link free)) (set ends link.list now) node free_number (suc spare) size capacity
         (λ l. if l == list then Some (front ++ back) else lists l) (node ∷ spares)
     unlinked_kept e now len new e_read now_is at same len_is =

@@ -3,7 +3,7 @@ use Rattle.std.proofs.Common.{◌≡◌, ◌≢◌, ℕ, Some, ◌∙◌, arith}
 use Rattle.std.proofs.lemmas.Bool.Decides.{nat_tests}
 use Rattle.sky_chain.specs.declared.links.Link.{Link}
 use Rattle.sky_chain.specs.Links.{Links}
-use Rattle.sky_chain.specs.Joins.{next_set, prev_set, list_set, joined, inserted}
+use Rattle.sky_chain.specs.Joins.{next_set, prev_set, list_set, linked, inserted}
 
 module _ (links : Links) where
   pub next_set-there : (node next : ℕ) (link : Link) → links node ≡ Some link → next_set links node next node ≡ Some (record { prev = link.prev; next = next; list = link.list })
@@ -25,15 +25,15 @@ module _ (links : Links) where
   list_set-elsewhere node list z other = grind (arith, nat_tests)
 
 module _ (links : Links) where
-  pub joined-elsewhere : (before after z : ℕ) → z ≢ before → z ≢ after → joined links before after z ≡ links z
+  pub joined-elsewhere : (before after z : ℕ) → z ≢ before → z ≢ after → linked links before after z ≡ links z
   joined-elsewhere before after z one other =
       prev_set-elsewhere (next_set links before after) after before z other ∙ next_set-elsewhere links before after z one
 
   -- if a node is neither
   pub inserted-elsewhere : (list node before after z : ℕ) → z ≢ node → z ≢ before → z ≢ after → inserted links list node before after z ≡ links z
   inserted-elsewhere list node before after z here one other =
-      let first = joined links before node in
-      list_set-elsewhere (joined first node after) node list z here
+      let first = linked links before node in
+      list_set-elsewhere (linked first node after) node list z here
       ∙ prev_set-elsewhere (next_set first node after) after node z other
       ∙ next_set-elsewhere first node after z here
       ∙ joined-elsewhere before node z one here

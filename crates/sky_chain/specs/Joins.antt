@@ -18,15 +18,15 @@ abbrev pub list_set : Links → ℕ → ℕ → Links
 list_set links node list z = if z == node then option_map (λ link. record { prev = link.prev; next = link.next; list = list }) (links z) else links z
 
 -- two nodes of a list are neighbours; either may be none
-abbrev pub joined : Links → ℕ → ℕ → Links
-joined links before after = prev_set (next_set links before after) after before
+abbrev pub linked : Links → ℕ → ℕ → Links
+linked links before after = prev_set (next_set links before after) after before
 
 abbrev pub ends_joined : Ends → ℕ → ℕ → Ends
 ends_joined ends before after = record { first = if before == nowhere then after else ends.first; last = if after == nowhere then before else ends.last }
 
 -- a node is inserted into a list, between two neighbours
 abbrev pub inserted : Links → ℕ → ℕ → ℕ → ℕ → Links
-inserted links list node before after = list_set (joined (joined links before node) node after) node list
+inserted links list node before after = list_set (linked (linked links before node) node after) node list
 
 -- the next spare node, whose link is made if no spare node has one
 abbrev pub spare_node : List Link → ℕ → ℕ

@@ -66,7 +66,7 @@ impl Chains {
         self.spare
     }
 
-    /// Reserves memory for pushing `n` nodes, as far as there isn't enough. The lists stay.
+    /// Reserves memory for pushing `n` nodes, if there isn't enough. The lists stay as they are.
     pub fn reserve(&mut self, n: usize) -> Result<(), NoMemory>
         ensures lists { self.new.lists ≡ self.old.lists }
         ensures spare { OnOk result (self.new.spare ≡ max n self.old.spare) }

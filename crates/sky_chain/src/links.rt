@@ -1,7 +1,7 @@
 ghost use Rattle.std.specs.Prelude.{◌≡◌, ◌≢◌, ℕ, ◌<◌, Some, length, slice_get, vec_len, vec_capacity};
 ghost use Rattle.sky_chain.specs.Links.{nowhere, at_place};
 ghost use Rattle.sky_chain.specs.declared.links.Link.{Link};
-ghost use Rattle.sky_chain.specs.Joins.{next_set, joined, ends_joined, inserted, spare_node, with_spare};
+ghost use Rattle.sky_chain.specs.Joins.{next_set, linked, ends_joined, inserted, spare_node, with_spare};
 
 /// No place: what comes before the first node of a list, and after the last.
 pub(crate) const NOWHERE: usize = usize::MAX;
@@ -74,7 +74,7 @@ pub(crate) fn known(place: usize) -> Option<usize>
 pub(crate) fn join(links: &mut [Link], ends: &mut Ends, before: usize, after: usize)
     requires before { before ≢ nowhere → before < length links.old }
     requires after { after ≢ nowhere → after < length links.old }
-    ensures links { (z : ℕ) → slice_get links.new z ≡ joined (slice_get links.old) before after z }
+    ensures links { (z : ℕ) → slice_get links.new z ≡ linked (slice_get links.old) before after z }
     ensures ends { ends.new ≡ ends_joined ends.old before after }
 {
     if before == NOWHERE {

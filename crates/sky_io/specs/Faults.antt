@@ -1,7 +1,7 @@
 -- Counts of 64 bits that never fall and stay at the largest once they reach it.
 use Rattle.std.specs.Prelude.{◌≡◌, ℕ, ◌+◌, ◌-◌, ◌^◌, ◌<◌, ◌⊎◌, min}
 
--- the count rose, or was the largest and stays it
+-- the count rose, or is at the largest, where it stays
 abbrev pub Rose : ℕ → ℕ → Type 0
 Rose old new = (old < new) ⊎ (new ≡ 2 ^ 64 - 1)
 

@@ -3,3 +3,4 @@ pub mod Appends
 pub mod Supply
 pub mod Store
 pub mod Reading
+pub mod Writing

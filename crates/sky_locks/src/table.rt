@@ -90,7 +90,7 @@ impl Table {
         self.slots.first(key)
     }
 
-    /// The first that waits for one of the keys, with this key.
+    /// The first session that waits for one of these keys, with its key.
     pub(crate) fn first_of(&self, keys: &[LockKey]) -> Option<(SessionId, &LockKey)>
         ensures { option_map (λ found. entry found.0 found.1.now) result
             ≡ find (λ w. is_among keys.now (key_of w)) self.now.waiting }

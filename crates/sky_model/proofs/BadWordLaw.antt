@@ -7,7 +7,7 @@ use Rattle.sky_model.specs.declared.stmt.Stmt.{Stmt}
 use Rattle.sky_model.specs.declared.line.Line.{Line}
 use Rattle.sky_model.specs.declared.line.Line.TheVariants.{Blank, Run}
 use Rattle.sky_model.specs.Words.{is_parting, quoted_after, with_first, pieces, words}
-use Rattle.sky_model.specs.Grammar.{Row, goes_on, reads, all_forms, named_form, statement_of, session_of, session_line, run_of, line_of_words, line_of}
+use Rattle.sky_model.specs.Grammar.{GrammarRow, goes_on, reads, all_forms, named_form, statement_of, session_of, session_line, run_of, line_of_words, line_of}
 use Rattle.sky_model.specs.LawsOfLines.{words_of, BeginsALine, IsLeastBadWord, BadWordIsLeast}
 use Rattle.sky_model.proofs.FirstWords.{has_first}
 use Rattle.sky_model.proofs.LeastBadWord.{Begins, bad_within, none_begins, some_begins}
@@ -20,7 +20,7 @@ data Fault (w : List ℕ) (ws : List (List ℕ)) (k : ℕ) : Type 0 where
   no_session : session_of w ≡ None → k ≡ 1 → Fault w ws k
   session_alone : (name : List ℕ) → session_of w ≡ Some name → ws ≡ [] → k ≡ 2 → Fault w ws k
   no_form : (name f : List ℕ) (rest : List (List ℕ)) → session_of w ≡ Some name → ws ≡ f ∷ rest → named_form f all_forms ≡ [] → k ≡ 2 → Fault w ws k
-  in_form : (name f : List ℕ) (rest : List (List ℕ)) (row : Row) (rows : List Row) (j : ℕ) → session_of w ≡ Some name → ws ≡ f ∷ rest → named_form f all_forms ≡ row ∷ rows → reads (row ∷ rows) 3 rest ≡ Err k → k ≡ suc (suc (suc j)) → j ≤ length rest → Fault w ws k
+  in_form : (name f : List ℕ) (rest : List (List ℕ)) (row : GrammarRow) (rows : List GrammarRow) (j : ℕ) → session_of w ≡ Some name → ws ≡ f ∷ rest → named_form f all_forms ≡ row ∷ rows → reads (row ∷ rows) 3 rest ≡ Err k → k ≡ suc (suc (suc j)) → j ≤ length rest → Fault w ws k
 
 run_of-Ok : (session : List ℕ) (r : Result Stmt ℕ) (says : Line) → run_of session r ≡ Ok says → (stmt : Stmt) × (r ≡ Ok stmt)
 run_of-Ok session (Ok stmt) says so = (stmt, refl)
@@ -81,7 +81,7 @@ record BeginsWords (ws : List (List ℕ)) : Type 0 where
   says : Line
   is : line_of_words (ws ++ more) ≡ Ok says
 
-some_begin_in_form : (w name f : List ℕ) (ws rest : List (List ℕ)) (row : Row) (rows : List Row) (k j : ℕ) → session_of w ≡ Some name → ws ≡ f ∷ rest → named_form f all_forms ≡ row ∷ rows → k ≡ suc (suc (suc j)) → Begins (row ∷ rows) 3 (take j rest) → BeginsWords (take (k - 1) (w ∷ ws))
+some_begin_in_form : (w name f : List ℕ) (ws rest : List (List ℕ)) (row : GrammarRow) (rows : List GrammarRow) (k j : ℕ) → session_of w ≡ Some name → ws ≡ f ∷ rest → named_form f all_forms ≡ row ∷ rows → k ≡ suc (suc (suc j)) → Begins (row ∷ rows) 3 (take j rest) → BeginsWords (take (k - 1) (w ∷ ws))
 some_begin_in_form w name f ws rest row rows k j session are form is found =
     let before : k - 1 ≡ suc (suc j) = omega arith in
     record { more = found.0; says = Run name found.1; is = rw (before, are, session, form, found.2) refl }

@@ -10,7 +10,7 @@ use Rattle.sky_txid.specs.Ids.{contains}
 use Rattle.pgq_tables.specs.Tables.{Stored, by_age}
 use Rattle.sky_model.specs.History.{History}
 use Rattle.sky_model.specs.Transactions.{running}
-use Rattle.sky_model.specs.Queues.{events, is_pending, tables}
+use Rattle.sky_model.specs.Queues.{events, is_pending, event_tables}
 use Rattle.sky_model.specs.StepQueue.{has_part_in}
 use Rattle.sky_model.specs.LawsOfRotation.{as_stored}
 use Rattle.sky_model.specs.LawsOfQueues.{has_work_in, ProducersHaveWork}
@@ -25,8 +25,8 @@ any-kept : (keep : Event → Stored) → ((e : Event) → (keep e).event ≡ e) 
 any-kept keep itself t [] = refl
 any-kept keep itself t (e ∷ es) = λ i. (itself e i).ev_txid == t || any-kept keep itself t es i
 
-same-part : (h : History) (l : Legal h) (q : ℕ) → IsQueue h q → (t : ℕ) → contains t (running h) ≡ true → has_part_in (tables q h) t ≡ has_work_in h q t
-same-part h l q is t runs = ap (λ b. b || is_pending t (tables q h)) same
+same-part : (h : History) (l : Legal h) (q : ℕ) → IsQueue h q → (t : ℕ) → contains t (running h) ≡ true → has_part_in (event_tables q h) t ≡ has_work_in h q t
+same-part h l q is t runs = ap (λ b. b || is_pending t (event_tables q h)) same
   where
     s : DoesHold h q
     s = holds h l q is
@@ -48,9 +48,9 @@ same-part h l q is t runs = ap (λ b. b || is_pending t (tables q h)) same
     all : list_any puts (events q h) ≡ list_any puts left
     all = ap (list_any puts) s.whole ∙ list_any-append puts s.gone left ∙ ap (λ b. b || list_any puts left) gone
 
-    same : list_any (λ s. s.event.ev_txid == t) (by_age (tables q h)) ≡ list_any puts (events q h)
+    same : list_any (λ s. s.event.ev_txid == t) (by_age (event_tables q h)) ≡ list_any puts (events q h)
     same =
-        ap (list_any (λ s. s.event.ev_txid == t)) (by_age-left (as_stored h) (cut q h) (tables q h) (events q h) s)
+        ap (list_any (λ s. s.event.ev_txid == t)) (by_age-left (as_stored h) (cut q h) (event_tables q h) (events q h) s)
         ∙ any-kept (as_stored h) (λ e. refl) t left ∙ sym all
 
 same-find : (f g : ℕ → Bool) (ts : List ℕ) → All (λ t. f t ≡ g t) ts → find f ts ≡ find g ts
@@ -67,6 +67,6 @@ all-contained (u ∷ ts) =
 
 pub producers_have_work : ProducersHaveWork
 producers_have_work p place queue is =
-    same-find (has_part_in (tables queue p)) (has_work_in p queue) (running p)
-    (All-weaker (λ t. contains t (running p) ≡ true) (λ t. has_part_in (tables queue p) t ≡ has_work_in p queue t)
+    same-find (has_part_in (event_tables queue p)) (has_work_in p queue) (running p)
+    (All-weaker (λ t. contains t (running p) ≡ true) (λ t. has_part_in (event_tables queue p) t ≡ has_work_in p queue t)
     (λ t runs. same-part p (legal_place p place) queue is t runs) (running p) (all-contained (running p)))

@@ -6,7 +6,7 @@ use Rattle.std.proofs.lemmas.Bool.{eq-eqb, or_right}
 use Rattle.std.proofs.lemmas.List.Elements.{All-nil, All-cons, All-head, All-tail, All-push, All-weaker}
 use Rattle.pgq_tables.specs.Tables as tables_of
 use Rattle.sky_model.specs.History.{Mark, queued, made, switched, dropped, History}
-use Rattle.sky_model.specs.Queues.{NamedQueue, queues_made, queues, others_than, tables, is_pending}
+use Rattle.sky_model.specs.Queues.{NamedQueue, queues_made, queues, others_than, event_tables, is_pending}
 use Rattle.sky_model.specs.State.{Database, database_of}
 use Rattle.sky_model.specs.StepRotation.{switches_by, switches_of}
 use Rattle.sky_model.proofs.Legal.{IsAmong, IsQueue, makes_switch, Chain, more, Legal, next}
@@ -61,7 +61,7 @@ pending-of t (Some u) is = let same : u ≡ t = grind (arith, nat_tests, is) in 
 
 -- each queue that has a switch of this transaction pending in a database still has it at a place, and stands there
 abbrev StillPending : Database → ℕ → History → List NamedQueue → Type 0
-StillPending d t g queues = All (λ q. IsQueue g q.number × (is_pending t (d.queue q.number).tables ≡ true → is_pending t (tables q.number g) ≡ true)) queues
+StillPending d t g queues = All (λ q. IsQueue g q.number × (is_pending t (d.queue q.number).tables ≡ true → is_pending t (event_tables q.number g) ≡ true)) queues
 
 -- the switches may be made one after another, and what may come after them all may come then
 pub good_switches_by : (d : Database) (now : ℤ) (t : ℕ) (queues : List NamedQueue) (g : History) → Legal g → Apart queues → StillPending d t g queues
@@ -72,19 +72,19 @@ good_switches_by d now t (q ∷ queues) g l apart still marks Q here also ends =
     by_test (λ b. is_pending t (d.queue q.number).tables ≡ b → Chain g ((if b then queued (switched q.number now) ∷ switches_by d now t queues else switches_by d now t queues) ++ marks))
     (is_pending t (d.queue q.number).tables)
     (λ _ is.
-    let fine = makes_switch q.number t now first.0 (pending-of t (tables q.number g).pending (first.1 is)) in
+    let fine = makes_switch q.number t now first.0 (pending-of t (event_tables q.number g).pending (first.1 is)) in
     more fine (good_switches_by d now t queues (queued (switched q.number now) ∷ g) (next l fine) apart.1
     (λ k r less.
     let x : NamedQueue = get_or queues k r in
-    ((rest k r less).0, λ waits. subst (λ b. is_pending t (if b then tables_of.switched now (tables x.number g) else tables x.number g) ≡ true) (sym (apart.0 k r less)) ((rest k r less).1 waits)))
+    ((rest k r less).0, λ waits. subst (λ b. is_pending t (if b then tables_of.with_switch now (event_tables x.number g) else event_tables x.number g) ≡ true) (sym (apart.0 k r less)) ((rest k r less).1 waits)))
     marks Q (also g q.number here) also ends))
     (λ _ _. good_switches_by d now t queues g l apart.1 rest marks Q here also ends) refl
   where
-    first : IsQueue g q.number × (is_pending t (d.queue q.number).tables ≡ true → is_pending t (tables q.number g) ≡ true)
-    first = All-head (λ q. IsQueue g q.number × (is_pending t (d.queue q.number).tables ≡ true → is_pending t (tables q.number g) ≡ true)) q queues still
+    first : IsQueue g q.number × (is_pending t (d.queue q.number).tables ≡ true → is_pending t (event_tables q.number g) ≡ true)
+    first = All-head (λ q. IsQueue g q.number × (is_pending t (d.queue q.number).tables ≡ true → is_pending t (event_tables q.number g) ≡ true)) q queues still
 
     rest : StillPending d t g queues
-    rest = All-tail (λ q. IsQueue g q.number × (is_pending t (d.queue q.number).tables ≡ true → is_pending t (tables q.number g) ≡ true)) q queues still
+    rest = All-tail (λ q. IsQueue g q.number × (is_pending t (d.queue q.number).tables ≡ true → is_pending t (event_tables q.number g) ≡ true)) q queues still
 
 -- those of the queues that stand may
 pub good_switches : (h : History) → Legal h → (now : ℤ) (txid : Option ℕ) (marks : List Mark) (Q : History → Type 0) → Q h → ((f : History) (q : ℕ) → Q f → Q (queued (switched q now) ∷ f))
@@ -92,5 +92,5 @@ pub good_switches : (h : History) → Legal h → (now : ℤ) (txid : Option ℕ
 good_switches h l now None marks Q here also ends = ends h l here
 good_switches h l now (Some t) marks Q here also ends =
     good_switches_by (database_of h) now t (queues h) h l (queues-apart h)
-    (All-weaker (λ q. IsQueue h q.number) (λ q. IsQueue h q.number × (is_pending t (tables q.number h) ≡ true → is_pending t (tables q.number h) ≡ true)) (λ q is. (is, λ waits. waits)) (queues h) (all-among (queues h)))
+    (All-weaker (λ q. IsQueue h q.number) (λ q. IsQueue h q.number × (is_pending t (event_tables q.number h) ≡ true → is_pending t (event_tables q.number h) ≡ true)) (λ q is. (is, λ waits. waits)) (queues h) (all-among (queues h)))
     marks Q here also ends

@@ -16,9 +16,9 @@ use Rattle.sky_model.specs.StepQueue.{next_tick}
 use Rattle.sky_model.specs.declared.reply.HeldBack.{HeldBack}
 use Rattle.sky_model.specs.StepRotation.{held_back, rotates_alone, rotates_by_itself, second_steps, lack_second_step, ends_switches, maint_rotate_step2}
 use Rattle.sky_model.specs.Reader.{DatabaseReader, database_by_history, within_part}
-use Rattle.sky_model.specs.Settling.{Turn, behind_marks, marked, joined, and_then, ready}
+use Rattle.sky_model.specs.Settling.{Turn, behind_marks, marked, with_rest, and_then, ready}
 use Rattle.sky_model.specs.Daemon.{quietly, ticks_of, daemon_does, moved_by, again_if, retries_of, first_steps_of, second_step_of_all}
-use Rattle.sky_model.proofs.StatementMarks.{EachMark, each-append, each-given, AnyReply, gives-tick, is_no_return, each-front, each-second_steps}
+use Rattle.sky_model.proofs.StatementMarks.{EachMark, each-append, each-given, AnyReply, gives-tick, is_common, each-front, each-second_steps}
 
 module _ {P Q : Type 0} (r : DatabaseReader P) (s : DatabaseReader Q) (at : P → Q) (same : (p : P) → r.database p ≡ s.database (at p)) (behind : (p : P) (mark : Mark) → at (r.behind p mark) ≡ s.behind (at p) mark) where
   -- a place after marks is read as the other one after them
@@ -30,8 +30,8 @@ module _ {P Q : Type 0} (r : DatabaseReader P) (s : DatabaseReader Q) (at : P �
   same-ticks now [] p = refl
   same-ticks now (q ∷ queues) p =
       let turn : Database → Turn = λ d. quietly (next_tick d now q.number) in
-      ap (joined (turn (r.database p))) (same-ticks now queues (behind_marks (within_part r now) p (turn (r.database p)).marks) ∙ ap (ticks_of s now queues) (at-behind now p (turn (r.database p)).marks))
-      ∙ ap (λ d. joined (turn d) (ticks_of s now queues (behind_marks (within_part s now) (at p) (turn d).marks))) (same p)
+      ap (with_rest (turn (r.database p))) (same-ticks now queues (behind_marks (within_part r now) p (turn (r.database p)).marks) ∙ ap (ticks_of s now queues) (at-behind now p (turn (r.database p)).marks))
+      ∙ ap (λ d. with_rest (turn d) (ticks_of s now queues (behind_marks (within_part s now) (at p) (turn d).marks))) (same p)
 
   same-again : (rest : P → Turn) (other : Q → Turn) → ((q : P) → rest q ≡ other (at q)) → (b : Bool) (q : P) → again_if b rest q ≡ again_if b other (at q)
   same-again rest other same true q = same q
@@ -43,15 +43,15 @@ module _ {P Q : Type 0} (r : DatabaseReader P) (s : DatabaseReader Q) (at : P �
       let c : Database → Checked Outcome = λ d. maint_retry_events d now in
       let full : Database → Bool = λ d. nat_le most_back (moved_by (reply_of (c d))) in
       let marks : List Mark = (quietly (c (r.database p))).marks in
-      ap (joined (quietly (c (r.database p)))) (same-again (retries_of r now n) (retries_of s now n) (same-retries now n) (full (r.database p)) (behind_marks (within_part r now) p marks) ∙ ap (again_if (full (r.database p)) (retries_of s now n)) (at-behind now p marks))
-      ∙ ap (λ d. joined (quietly (c d)) (again_if (full d) (retries_of s now n) (behind_marks (within_part s now) (at p) (quietly (c d)).marks))) (same p)
+      ap (with_rest (quietly (c (r.database p)))) (same-again (retries_of r now n) (retries_of s now n) (same-retries now n) (full (r.database p)) (behind_marks (within_part r now) p marks) ∙ ap (again_if (full (r.database p)) (retries_of s now n)) (at-behind now p marks))
+      ∙ ap (λ d. with_rest (quietly (c d)) (again_if (full d) (retries_of s now n) (behind_marks (within_part s now) (at p) (quietly (c d)).marks))) (same p)
 
   same-first_steps : (now : ℤ) (queues : List NamedQueue) (p : P) → first_steps_of r now queues p ≡ first_steps_of s now queues (at p)
   same-first_steps now [] p = refl
   same-first_steps now (q ∷ queues) p =
       let turn : Database → Turn = λ d. quietly (rotates_by_itself d now q.number) in
-      ap (joined (turn (r.database p))) (same-first_steps now queues (behind_marks (within_part r now) p (turn (r.database p)).marks) ∙ ap (first_steps_of s now queues) (at-behind now p (turn (r.database p)).marks))
-      ∙ ap (λ d. joined (turn d) (first_steps_of s now queues (behind_marks (within_part s now) (at p) (turn d).marks))) (same p)
+      ap (with_rest (turn (r.database p))) (same-first_steps now queues (behind_marks (within_part r now) p (turn (r.database p)).marks) ∙ ap (first_steps_of s now queues) (at-behind now p (turn (r.database p)).marks))
+      ∙ ap (λ d. with_rest (turn d) (first_steps_of s now queues (behind_marks (within_part s now) (at p) (turn d).marks))) (same p)
 
   same-second_step : (p : P) → second_step_of_all r p ≡ second_step_of_all s (at p)
   same-second_step p = ap (λ d. quietly (maint_rotate_step2 d)) (same p)
@@ -60,8 +60,8 @@ module _ {P Q : Type 0} (r : DatabaseReader P) (s : DatabaseReader Q) (at : P �
       → and_then (within_part r now) p (first_steps_of r now queues p) (second_step_of_all r) ≡ and_then (within_part s now) (at p) (first_steps_of s now queues (at p)) (second_step_of_all s)
   same-maintains now queues p =
       let first : Turn = first_steps_of r now queues p in
-      ap (joined first) (same-second_step (behind_marks (within_part r now) p first.marks) ∙ ap (second_step_of_all s) (at-behind now p first.marks))
-      ∙ ap (λ (t : Turn). joined t (second_step_of_all s (behind_marks (within_part s now) (at p) t.marks))) (same-first_steps now queues p)
+      ap (with_rest first) (same-second_step (behind_marks (within_part r now) p first.marks) ∙ ap (second_step_of_all s) (at-behind now p first.marks))
+      ∙ ap (λ (t : Turn). with_rest t (second_step_of_all s (behind_marks (within_part s now) (at p) t.marks))) (same-first_steps now queues p)
 
   pub same-daemon_does : (p : P) (part : DaemonPart) (now : ℤ) → daemon_does r p part now ≡ daemon_does s (at p) part now
   same-daemon_does p Tick now = same-ticks now (r.database p).queues p ∙ ap (λ (d : Database). ticks_of s now d.queues (at p)) (same p)
@@ -71,7 +71,7 @@ module _ {P Q : Type 0} (r : DatabaseReader P) (s : DatabaseReader Q) (at : P �
       ∙ ap (λ (d : Database). and_then (within_part s now) (at p) (first_steps_of s now d.queues (at p)) (second_step_of_all s)) (same p)
 
 -- each mark of it is one of queues, or of a worker's transaction, which commits
-module _ (p : Mark → Bool) (now : ℤ) (of_queues : (mark : QueueMark) → is_no_return mark ≡ true → p (queued mark) ≡ true) (returns : (retry : retry.Retry) → p (queued (returned retry now)) ≡ true)
+module _ (p : Mark → Bool) (now : ℤ) (of_queues : (mark : QueueMark) → is_common mark ≡ true → p (queued mark) ≡ true) (returns : (retry : retry.Retry) → p (queued (returned retry now)) ≡ true)
     (begins : (t : ℕ) → p (began of_worker t) ≡ true) (ends : (t : ℕ) → p (ended of_worker t true) ≡ true) where
   each-ticks : {P : Type 0} (r : DatabaseReader P) (queues : List NamedQueue) (x : P) → EachMark p (ticks_of r now queues x).marks
   each-ticks r [] x = tt

@@ -1,5 +1,6 @@
 -- A statement of a database: from what the database keeps to its history.
 use Rattle.std.proofs.Common.{◌≡◌, ℕ, ℤ, Bool, true, false, List, [], ◌∷◌, ◌++◌, Option, Some, None, option_map, Ok, Err, refl, sym, ◌∙◌, ap}
+use Rattle.sky_val.specs.declared.event.Event.{Event}
 use Rattle.sky_model.specs.declared.stmt.Stmt.{Stmt}
 use Rattle.sky_model.specs.declared.reply.Refusal.{Refusal}
 use Rattle.sky_keys.specs.Waits.{is_waiting}
@@ -13,14 +14,14 @@ use Rattle.sky_model.specs.Allowed.{where_of, allowed}
 use Rattle.sky_model.specs.Outcome.{Checked}
 use Rattle.sky_model.specs.Made.{takes_sight}
 use Rattle.sky_model.specs.Telling.{tells}
-use Rattle.sky_model.specs.Reader.{shown_in, shown_by, database_by_history, database_by_itself, within_part}
+use Rattle.sky_model.specs.Reader.{Shown, shown_in, shown_by, database_by_history, database_by_itself, within_part}
 use Rattle.sky_model.specs.Settling.{Turn, turn_of, behind_marks, with_settling}
 use Rattle.sky_model.proofs.DaemonTurns.{same-daemon_does}
 use Rattle.sky_model.specs.Calls.{form, making, statement, database_turn}
 use Rattle.sky_model.specs.SessionMarks.{look_of, Enters, entry_place, enters, entry, failing}
 use Rattle.sky_model.specs.Promises.{after_all}
 use Rattle.sky_model.specs.DatabaseCalls.{DatabaseCall, stepped, entered, failed, worked, served, IsDatabaseCallInForm, database_does, database_part}
-use Rattle.sky_model.specs.DatabaseSteps.{DatabaseSteps}
+use Rattle.sky_model.specs.DatabaseSteps.{DatabaseSteps, ShowsEvents}
 use Rattle.sky_model.proofs.Legal.{Fine, looks, Chain, Legal, next}
 use Rattle.sky_model.proofs.Marks.{database_of-mark}
 pub use Rattle.sky_model.proofs.Marks.{database_of-marks}
@@ -29,7 +30,7 @@ use Rattle.sky_model.proofs.RowSights.{same-rows}
 use Rattle.sky_model.proofs.MadeAt.{same-made_by}
 use Rattle.sky_model.proofs.Turns.{ReadAlike, same-with_settling}
 use Rattle.sky_model.proofs.Lawful.{database-reads, good_turn}
-use Rattle.sky_model.proofs.Histories.{good_does, legal_calls}
+use Rattle.sky_model.proofs.Histories.{good_fails, legal_calls}
 use Rattle.sky_model.proofs.Promised.{promised}
 use Rattle.sky_model.proofs.Entering.{entered-part}
 use Rattle.sky_model.proofs.GatedStanding.{each-past}
@@ -96,7 +97,7 @@ same-database_does h l (stepped who stmt now) = sym (same-turn_at h l now who st
 same-database_does h l (entered who outside) = refl
 same-database_does h l (worked part now) = sym (same-daemon_does database_by_history database_by_itself database_of (λ g. refl) database_of-mark h part now)
 same-database_does h l (served call) = refl
-same-database_does h l (failed who now) = sym (settling-kept h l now (failing (part_of h) who) (failing (part_of h) who) refl (good_does h l (failed who now)))
+same-database_does h l (failed who now) = sym (settling-kept h l now (failing (part_of h) who) (failing (part_of h) who) refl (good_fails h l who now))
 
 -- the database after a call
 behind-does : (h : History) → Legal h → (call : DatabaseCall)
@@ -127,3 +128,8 @@ database_enter_from_exact old new who outside refusal enters but =
     database_steps_from_exact old new (entered who outside)
     (but ∙ ap (λ part. record old { part = part }) (entered-part old.part new.part who (entry_place outside) refusal enters)
     ∙ enters-within old who (takes_sight (entry_place outside) (old.part.session who).sight) (allowed (is_waiting who old.part.waiting) (old.part.session who).is_open (old.part.session who).block (entry_place outside)))
+
+-- the events of an active batch, by what the database keeps, are those of every such history
+pub shows-events : (d : Database) (batch : ℕ) (events : List Event) → (shown_by d).events batch ≡ Some events → ShowsEvents d batch events
+shows-events d batch events are calls in_form is =
+    ap (λ (shown : Shown). shown.events batch) (same-shown (after_all database_part calls) (legal_calls calls)) ∙ ap (λ x. (shown_by x).events batch) (sym is) ∙ are

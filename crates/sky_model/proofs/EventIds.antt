@@ -4,8 +4,8 @@ use Rattle.sky_val.specs.declared.event.Event.{Event}
 use Rattle.sky_model.specs.History.{queued, put, History}
 use Rattle.sky_model.specs.Queues.{events}
 use Rattle.sky_model.specs.LawsOfWrites.{EventIdsRise}
-use Rattle.sky_model.proofs.Legal.{Fine, puts, puts_back, Legal}
-use Rattle.sky_model.proofs.SnapshotLaws.{legal-below_mark, fine_mark, legal_place}
+use Rattle.sky_model.proofs.Legal.{Fine, puts, puts_back, Legal, legal-below_mark, fine_mark}
+use Rattle.sky_model.proofs.SnapshotLaws.{legal_place}
 use Rattle.sky_model.proofs.RetryCopies.{owned}
 
 put-newest : {h : History} {queue : ℕ} {event : Event} → Legal h → Fine h (queued (put queue event)) → event.ev_owner ≡ None → All (λ e. e.ev_id < event.ev_id) (events queue h)

@@ -8,7 +8,7 @@ use Rattle.sky_model.specs.History.{block_failed, History}
 use Rattle.sky_model.specs.Locks.{waiting}
 use Rattle.sky_model.specs.Allowed.{allowed}
 use Rattle.sky_model.specs.Sessions.{Block, outside, inside, has_open, block, own_txid, session}
-use Rattle.sky_model.specs.Outcome.{Outcome, Checked, ◌>>=◌, ◌>>◌, refused_if, refused_by, found_or, end_of, aborts, abort, settled}
+use Rattle.sky_model.specs.Outcome.{Outcome, Checked, ◌>>=◌, ◌>>◌, refused_if, refused_by, found_or, end_of, aborts, abort, or_refused}
 use Rattle.sky_model.specs.OwnTransaction.{commit_of}
 use Rattle.sky_model.specs.SessionMarks.{failure}
 use Rattle.sky_model.proofs.Legal.{ends, fails_block, Chain, done, more}
@@ -25,7 +25,7 @@ MayStand h who place = is_ok (allowed (is_waiting who (waiting h)) (has_open who
 
 -- the marks of an answer, or of a refusal, may come next
 abbrev pub Good : History → ℕ → Checked Outcome → Type 0
-Good h who c = Chain h (settled who (session h who) c).marks
+Good h who c = Chain h (or_refused who (session h who) c).marks
 
 -- those of a block may that is rolled back, and stays aborted
 good_rolled_back : (h : History) (who : ℕ) → block who h ≡ inside → Chain h (end_of false who (own_txid who h) ++ block_failed who ∷ [])

@@ -35,7 +35,12 @@ use Rattle.sky_model.proofs.DaemonTurns.{same-daemon_does}
 use Rattle.sky_model.proofs.ClockSteps.{after-clock}
 use Rattle.sky_model.specs.StepNode.{NodeCall, node_does}
 use Rattle.sky_model.specs.NodesOfWorld.{node_called}
-use Rattle.sky_model.proofs.NodeCalls.{node-chain}
+use Rattle.sky_model.proofs.NodeCalls.{IsBetween, node-chain}
+use Rattle.sky_model.proofs.NodesStanding.{NodeStands, stands-start, stands-does}
+use Rattle.sky_model.proofs.CallsRest.{calls-rest}
+use Rattle.sky_model.specs.Nodes.{node, leaf_tables}
+use Rattle.sky_model.specs.Rows.{table_names}
+use Rattle.sky_model.specs.LawsOfNodes.{is_one_of}
 use Rattle.sky_model.proofs.NodeDeeds.{node-quiet, after-node_does}
 use Rattle.sky_model.specs.Calls.{may_make, database_turn, opening, opens, outside_does, beside, begins_with_ok, node_if, does_at, session_does, turn, Call, called, past_of}
 use Rattle.sky_model.specs.SessionMarks.{look_of, entry_place, enters, failing}
@@ -44,7 +49,7 @@ use Rattle.sky_model.specs.DatabaseCalls.{DatabaseCall, stepped, entered, failed
 use Rattle.sky_model.specs.HistoryPlaces.{IsPlace}
 use Rattle.sky_model.specs.Steps.{IsCallInForm}
 use Rattle.sky_model.specs.LawsOfHistories.{HistoriesAreMadeByOwnCalls}
-use Rattle.sky_model.proofs.Legal.{IsAmong, IsQueue, Fine, looks, ticks_next, Chain, done, more, Legal, start, next}
+use Rattle.sky_model.proofs.Legal.{IsAmong, IsQueue, AllWritable, Fine, looks, ticks_next, Chain, done, more, Legal, start, next}
 use Rattle.sky_model.proofs.Good.{same-session, good_failure}
 use Rattle.sky_model.proofs.LawfulTelling.{good_append, legal_behind}
 use Rattle.sky_model.proofs.Turns.{same-turn_read}
@@ -129,20 +134,41 @@ good_daemon_does h l Maintain now =
     good_then (within_part database_by_history now) (λ g. g) (database-reads now) h l (first_steps_of database_by_history now (queues h) h) (second_step_of_all database_by_history)
     (good_first_steps now (queues h) h l (all-among (queues h))) (λ g legal. may_end_switches g legal)
 
--- and so may what a call does
-pub good_does : (h : History) → Legal h → (call : DatabaseCall) → Chain h (database_does database_by_history h call).marks
-good_does h l (stepped who stmt now) = good_turn h l now who stmt
-good_does h l (entered who outside) = good_enters h who (takes_sight (entry_place outside) (session h who).sight) (allowed (is_waiting who (waiting h)) (has_open who h) (block who h) (entry_place outside))
-good_does h l (worked part now) = good_daemon_does h l part now
-good_does h l (served call) = node-chain h l call
-good_does h l (failed who now) = good_with_settling-by (within_part database_by_history now) (λ g. g) (database-reads now) h l (failing (part_of h) who) (good_failure h who)
+-- and what a failure does
+pub good_fails : (h : History) → Legal h → (who : ℕ) (now : ℤ) → Chain h (database_does database_by_history h (failed who now)).marks
+good_fails h l who now = good_with_settling-by (within_part database_by_history now) (λ g. g) (database-reads now) h l (failing (part_of h) who) (good_failure h who)
 
--- so the history that calls make is legal
+-- and so may what a call does
+pub good_does : (h : History) → Legal h → IsBetween h → (call : DatabaseCall) → Chain h (database_does database_by_history h call).marks
+good_does h l between (stepped who stmt now) = good_turn h l now who stmt
+good_does h l between (entered who outside) = good_enters h who (takes_sight (entry_place outside) (session h who).sight) (allowed (is_waiting who (waiting h)) (has_open who h) (block who h) (entry_place outside))
+good_does h l between (worked part now) = good_daemon_does h l part now
+good_does h l between (served call) = node-chain h l between call
+good_does h l between (failed who now) = good_fails h l who now
+
+-- the history that calls make is legal, and its node is
+record IsLawful (h : History) : Type 0 where
+  legal : Legal h
+  stands : NodeStands h
+
+-- so a database without a node has no read-only table
+bare-writable : (h : History) → NodeStands h → node h ≡ None → AllWritable h
+bare-writable h stands bare table = stands.guarding table ∙ ap (λ n. is_one_of (table_names h) (leaf_tables n) table) bare
+
+lawful_calls : (calls : List DatabaseCall) → IsLawful (after_all database_part calls)
+lawful_calls [] = record { legal = start; stands = stands-start }
+lawful_calls (call ∷ calls) =
+    let h : History = after_all database_part calls in
+    let before : IsLawful h = lawful_calls calls in
+    let chain : Chain h (database_does database_by_history h call).marks =
+    good_does h before.legal (record { rests = calls-rest calls; writable = bare-writable h before.stands }) call in
+    record { legal = legal_behind h (database_does database_by_history h call).marks before.legal chain; stands = stands-does h before.legal before.stands call chain }
+
 pub legal_calls : (calls : List DatabaseCall) → Legal (after_all database_part calls)
-legal_calls [] = start
-legal_calls (call ∷ calls) =
-    legal_behind (after_all database_part calls) (database_does database_by_history (after_all database_part calls) call).marks (legal_calls calls)
-    (good_does (after_all database_part calls) (legal_calls calls) call)
+legal_calls calls = (lawful_calls calls).legal
+
+pub stands_calls : (calls : List DatabaseCall) → NodeStands (after_all database_part calls)
+stands_calls calls = (lawful_calls calls).stands
 
 -- ---- calls of the world
 

@@ -15,7 +15,7 @@ use Rattle.sky_model.specs.Sessions.{Block, outside, inside, failed, has_open, b
 use Rattle.sky_model.specs.Locks.{waiting}
 use Rattle.sky_model.specs.State.{database_of}
 use Rattle.sky_model.specs.World.{home, history_in, session_names, database_names, on_top, world_of}
-use Rattle.sky_model.specs.Outcome.{Outcome, Checked, settled, after_marks_of, marks_of}
+use Rattle.sky_model.specs.Outcome.{Outcome, Checked, or_refused, after_marks_of, marks_of}
 use Rattle.sky_model.specs.StepNode.{node_does}
 use Rattle.sky_model.specs.NodesOfWorld.{node_called}
 use Rattle.sky_model.specs.Allowed.{where_of, allowed}
@@ -113,7 +113,7 @@ closes h now who quiet is =
     subst (λ may. Opens h (made h now who (Row Close) may).marks who false) (sym ((λ i. allowed (quiet i) (is i) (block who h) WhenOpen) ∙ allowed-close (block who h)))
     (of (block who h) (own_txid who h))
   where
-    of : (b : Block) (o : Option ℕ) → Opens h (settled who (session h who) (after_marks_of [] (tells (database_of h) now (close who o b)))).marks who false
+    of : (b : Block) (o : Option ℕ) → Opens h (or_refused who (session h who) (after_marks_of [] (tells (database_of h) now (close who o b)))).marks who false
     of outside o v = refl
     of inside None v = refl
     of inside (Some t) v = refl
@@ -125,7 +125,7 @@ opens-here : (h : History) (now : ℤ) (who : ℕ) (name : List ℕ) → is_wait
     → Opens h (statement database_by_history h now who (Row (OpenDb name))).marks who true
 opens-here h now who name quiet is =
     subst (λ may. Opens h (made h now who (Row (OpenDb name)) may).marks who true) (λ i. allowed (sym quiet i) (sym is i) (block who h) Anywhere)
-    (subst (λ o. Opens h (settled who (session h who) (after_marks_of [] (tells (database_of h) now (open_db who o)))).marks who true) (sym is) (λ v. refl))
+    (subst (λ o. Opens h (or_refused who (session h who) (after_marks_of [] (tells (database_of h) now (open_db who o)))).marks who true) (sym is) (λ v. refl))
 
 -- ---- homes
 

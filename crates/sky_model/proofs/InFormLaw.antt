@@ -13,7 +13,7 @@ use Rattle.sky_model.specs.declared.line.Fixed.{Fixed}
 use Rattle.sky_model.specs.declared.line.Fixed.TheVariants as fixed
 use Rattle.sky_model.specs.Words.{words}
 use Rattle.sky_model.specs.Kinds.{Kind, Name, Column, Value, Set, Of, value, is_name}
-use Rattle.sky_model.specs.Grammar.{Row, stop, literal, one, either, many, text_of, all_forms, named_form, when, next, all_next, or_else, ended, all_ended, or_bad, goes_on, reads, statement_of, session_of, session_line, run_of, line_of_words, line_of}
+use Rattle.sky_model.specs.Grammar.{GrammarRow, stop, literal, one, either, many, text_of, all_forms, named_form, when, next, all_next, or_else, ended, all_ended, or_bad, goes_on, reads, statement_of, session_of, session_line, run_of, line_of_words, line_of}
 use Rattle.sky_model.specs.InForm.{IsOf, AreOf, IsInForm, IsLineInForm}
 use Rattle.sky_model.specs.LawsOfLines.{LinesAreInForm}
 use Rattle.sky_model.proofs.WholeWords.{whole, AllWhole, whole-last}
@@ -23,14 +23,14 @@ use Rattle.sky_model.proofs.WordsInForm.{IsWhole, worth}
 -- ---- rows that end with statements in form
 
 -- whatever words of its kinds a row takes, its statement is in form
-abbrev EndsInForm : Row → Type 0
+abbrev EndsInForm : GrammarRow → Type 0
 EndsInForm (stop stmt) = IsInForm stmt
 EndsInForm (literal fixed row) = EndsInForm row
 EndsInForm (one k f) = (v : Of k) → IsOf k v → EndsInForm (f v)
 EndsInForm (either a b) = EndsInForm a × EndsInForm b
 EndsInForm (many k f) = (vs : List (Of k)) → All (IsOf k) vs → EndsInForm (f vs)
 
-abbrev FormsEndInForm : List (List ℕ × Row) → Type 0
+abbrev FormsEndInForm : List (List ℕ × GrammarRow) → Type 0
 FormsEndInForm [] = Unit {0}
 FormsEndInForm (form ∷ forms) = EndsInForm form.1 × FormsEndInForm forms
 
@@ -95,20 +95,20 @@ forms_end =
 -- ---- after a word
 
 -- these rows end so, and the word that they are left after is whole
-abbrev EndBehind : List ℕ → List Row → Type 0
+abbrev EndBehind : List ℕ → List GrammarRow → Type 0
 EndBehind w [] = Unit {0}
 EndBehind w (row ∷ rows) = (IsWhole w × EndsInForm row) × EndBehind w rows
 
-both_end : (w : List ℕ) (front back : List Row) → EndBehind w front → EndBehind w back → EndBehind w (front ++ back)
+both_end : (w : List ℕ) (front back : List GrammarRow) → EndBehind w front → EndBehind w back → EndBehind w (front ++ back)
 both_end w [] back here there = there
 both_end w (row ∷ rows) back here there = (here.0, both_end w rows back here.1 there)
 
-when_ends : (k : Kind) (w : List ℕ) (f : Of k → Row) (o : Option (Of k)) → IfSome o (λ v. IsWhole w × IsOf k v) → ((v : Of k) → IsOf k v → EndsInForm (f v)) → EndBehind w (when o f)
+when_ends : (k : Kind) (w : List ℕ) (f : Of k → GrammarRow) (o : Option (Of k)) → IfSome o (λ v. IsWhole w × IsOf k v) → ((v : Of k) → IsOf k v → EndsInForm (f v)) → EndBehind w (when o f)
 when_ends k w f None known ends = tt
 when_ends k w f (Some v) known ends = ((known.0, ends v known.1), tt)
 
 -- after a fixed word
-text_ends : (w text : List ℕ) (row : Row) (rest : List Row) → IsWhole text → EndsInForm row → EndBehind w rest → EndBehind w (cond (bytes_eq w text) (row ∷ []) rest)
+text_ends : (w text : List ℕ) (row : GrammarRow) (rest : List GrammarRow) → IsWhole text → EndsInForm row → EndBehind w rest → EndBehind w (cond (bytes_eq w text) (row ∷ []) rest)
 text_ends w text row rest text_so ends also =
     cond_both (bytes_eq w text) (row ∷ []) rest (EndBehind w) (λ is. ((ap (whole false) ((bytes_eq-Decides w text).0 is) ∙ text_so, ends), tt)) (λ _. also)
 
@@ -116,7 +116,7 @@ whole-text_of : (f : Fixed) → IsWhole (text_of f)
 whole-text_of fixed.Repeatable = refl
 whole-text_of _ = refl
 
-next_ends : (row : Row) (w : List ℕ) → EndsInForm row → EndBehind w (next row w)
+next_ends : (row : GrammarRow) (w : List ℕ) → EndsInForm row → EndBehind w (next row w)
 next_ends (stop stmt) w ends = tt
 next_ends (literal fixed row) w ends = text_ends w (text_of fixed) row [] (whole-text_of fixed) ends tt
 next_ends (one k f) w ends = when_ends k w f (value k w) (worth k w) ends
@@ -125,7 +125,7 @@ next_ends (many k f) w ends =
     both_end w (next (f []) w) _ (next_ends (f []) w (ends [] (All-nil (IsOf k))))
     (when_ends k w (λ v. many k (λ vs. f (v ∷ vs))) (value k w) (worth k w) (λ v is vs are. ends (v ∷ vs) (All-cons (IsOf k) v vs is are)))
 
-all_next_end : (v w : List ℕ) (rows : List Row) → EndBehind v rows → EndBehind w (all_next rows w)
+all_next_end : (v w : List ℕ) (rows : List GrammarRow) → EndBehind v rows → EndBehind w (all_next rows w)
 all_next_end v w [] ends = tt
 all_next_end v w (row ∷ rows) ends = both_end w (next row w) (all_next rows w) (next_ends row w ends.0.1) (all_next_end v w rows ends.1)
 
@@ -135,14 +135,14 @@ or_else_ends : (first other : Option Stmt) → IfSome first IsInForm → IfSome 
 or_else_ends None other here there = there
 or_else_ends (Some stmt) other here there = here
 
-ended_ends : (row : Row) → EndsInForm row → IfSome (ended row) IsInForm
+ended_ends : (row : GrammarRow) → EndsInForm row → IfSome (ended row) IsInForm
 ended_ends (stop stmt) ends = ends
 ended_ends (literal fixed row) ends = tt
 ended_ends (one k f) ends = tt
 ended_ends (either a b) ends = or_else_ends (ended a) (ended b) (ended_ends a ends.0) (ended_ends b ends.1)
 ended_ends (many k f) ends = ended_ends (f []) (ends [] (All-nil (IsOf k)))
 
-all_ended_end : (w : List ℕ) (rows : List Row) → EndBehind w rows → IfSome (all_ended rows) IsInForm
+all_ended_end : (w : List ℕ) (rows : List GrammarRow) → EndBehind w rows → IfSome (all_ended rows) IsInForm
 all_ended_end w [] ends = tt
 all_ended_end w (row ∷ rows) ends = or_else_ends (ended row) (all_ended rows) (ended_ends row ends.0.1) (all_ended_end w rows ends.1)
 
@@ -156,16 +156,16 @@ or_bad_ends : (n : ℕ) (o : Option Stmt) → IfSome o IsInForm → Reads (Unit 
 or_bad_ends n None ends = tt
 or_bad_ends n (Some stmt) ends = (tt, ends)
 
-goes_on_ends : (T : Type 0) (w : List ℕ) (rows : List Row) (n : ℕ) (read : List Row → Result Stmt ℕ) → ((rows : List Row) → EndBehind w rows → Reads T (read rows)) → EndBehind w rows
+goes_on_ends : (T : Type 0) (w : List ℕ) (rows : List GrammarRow) (n : ℕ) (read : List GrammarRow → Result Stmt ℕ) → ((rows : List GrammarRow) → EndBehind w rows → Reads T (read rows)) → EndBehind w rows
     → Reads (IsWhole w × T) (goes_on rows n read)
 goes_on_ends T w [] n read each ends = tt
 goes_on_ends T w (row ∷ rows) n read each ends = IfOk-weaker (read (row ∷ rows)) _ _ (λ stmt it. ((ends.0.0, it.0), it.1)) (each (row ∷ rows) ends)
 
-reads_ends : (v : List ℕ) (rows : List Row) (n : ℕ) (ws : List (List ℕ)) → EndBehind v rows → Reads (AllWhole ws) (reads rows n ws)
+reads_ends : (v : List ℕ) (rows : List GrammarRow) (n : ℕ) (ws : List (List ℕ)) → EndBehind v rows → Reads (AllWhole ws) (reads rows n ws)
 reads_ends v rows n [] ends = or_bad_ends n (all_ended rows) (all_ended_end v rows ends)
 reads_ends v rows n (w ∷ ws) ends = goes_on_ends (AllWhole ws) w (all_next rows w) n _ (λ left more. reads_ends w left (n + 1) ws more) (all_next_end v w rows ends)
 
-named_form_ends : (w : List ℕ) (forms : List (List ℕ × Row)) → list_all (λ form. whole false form.0) forms ≡ true → FormsEndInForm forms → EndBehind w (named_form w forms)
+named_form_ends : (w : List ℕ) (forms : List (List ℕ × GrammarRow)) → list_all (λ form. whole false form.0) forms ≡ true → FormsEndInForm forms → EndBehind w (named_form w forms)
 named_form_ends w [] all ends = tt
 named_form_ends w (form ∷ forms) all ends =
     let parts = and_parts (whole false form.0) (list_all (λ form. whole false form.0) forms) all in

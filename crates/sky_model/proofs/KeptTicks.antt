@@ -9,7 +9,7 @@ use Rattle.pgq_tables.specs.Tables as tables_of
 use Rattle.pgq_tables.specs.Tables.{Tables, no_tables, new_tables, with_stored, with_pending, without_pending, with_second_step}
 use Rattle.sky_model.specs.History.{began, ended, queued, made, switched, History}
 use Rattle.sky_model.specs.Transactions.{snapshot}
-use Rattle.sky_model.specs.Queues.{new_tick, queues_made, queues, is_pending, tables, Tick, ticks, tick, newest_tick, id_of, is_above, ticks_above, second_step_of, kept_ticks}
+use Rattle.sky_model.specs.Queues.{new_tick, queues_made, queues, is_pending, event_tables, Tick, ticks, tick, newest_tick, id_of, is_above, ticks_above, second_step_of, kept_ticks}
 use Rattle.sky_model.specs.Consumers.{subscription_id, position, active, Subscription}
 use Rattle.sky_model.specs.Retries.{brought_by}
 use Rattle.sky_model.specs.State.{Queue, queue_of}
@@ -120,7 +120,7 @@ filter-alike p r (t ∷ ts) all =
 abbrev pub cut : ℕ → History → ℕ
 cut q [] = 0
 cut q (queued (made name t time) ∷ h) = if queues_made h == q then 0 else cut q h
-cut q (queued (switched p time) ∷ h) = if p == q then second_step_of (tables q h) else cut q h
+cut q (queued (switched p time) ∷ h) = if p == q then second_step_of (event_tables q h) else cut q h
 cut q (_ ∷ h) = cut q h
 
 -- the transaction above which the ticks stay for sure: while a switch is pending, it is the last second step
@@ -135,7 +135,7 @@ pub record Cuts (xmin cut : ℕ) (second pending : Option ℕ) (all left : List 
   pub awaits : is_some pending ≡ true → (is_some second ≡ true) × (unwrap_or second 0 < xmin_of (newest_tick all))
 
 abbrev pub IsCut : History → ℕ → Type 0
-IsCut h q = Cuts (snapshot h).xmin (cut q h) (tables q h).second_step (tables q h).pending (ticks q h) (kept_ticks q h)
+IsCut h q = Cuts (snapshot h).xmin (cut q h) (event_tables q h).second_step (event_tables q h).pending (ticks q h) (kept_ticks q h)
 
 higher : {cut : ℕ} {second pending : Option ℕ} {all left : List Tick} (x y : ℕ) → x ≤ y → Cuts x cut second pending all left → Cuts y cut second pending all left
 higher x y le c = record { below = omega (arith, c.below, le); kept = c.kept; fresh = c.fresh; after = c.after; awaits = c.awaits }
@@ -214,21 +214,21 @@ cuts (began whose t ∷ h) (next l fine) q is = higher (snapshot h).xmin (snapsh
 cuts (ended whose t true ∷ h) (next l fine) q is = higher (snapshot h).xmin (snapshot (ended whose t true ∷ h)).xmin (xmin-ended h l whose t true) (cuts h l q is)
 cuts (ended whose t false ∷ h) (next l fine) q is =
     let c = higher (snapshot h).xmin (snapshot (ended whose t false ∷ h)).xmin (xmin-ended h l whose t false) (cuts h l q is) in
-    let ts : Tables = tables q h in
+    let ts : Tables = event_tables q h in
     by_test (λ b. Cuts (snapshot (ended whose t false ∷ h)).xmin (cut q h) (if b then without_pending ts else ts).second_step (if b then without_pending ts else ts).pending (ticks q h) (kept_ticks q h))
     (is_pending t ts) (λ _. record { below = c.below; kept = c.kept; fresh = c.fresh; after = c.after; awaits = λ e. absurd (cc) }) (λ _. c)
 cuts _ (next {h = h} l (makes name t time new)) q is =
     stands-or-new (IsCut (queued (made name t time) ∷ h) q) h name t time q is
     (λ before.
     let other : (queues_made h == q) ≡ false = grind (arith, nat_tests, queue-below h q before) in
-    subst (λ b. Cuts (snapshot h).xmin (if b then 0 else cut q h) (if b then new_tables t time else tables q h).second_step (if b then new_tables t time else tables q h).pending
+    subst (λ b. Cuts (snapshot h).xmin (if b then 0 else cut q h) (if b then new_tables t time else event_tables q h).second_step (if b then new_tables t time else event_tables q h).pending
     (if b then ticks q h ++ new_tick time h ∷ [] else ticks q h) (if b then kept_ticks q h ++ new_tick time h ∷ [] else kept_ticks q h))
     (sym other) (cuts h l q before))
     (λ last.
     let same : (queues_made h == q) ≡ true = grind (arith, nat_tests, last) in
     let b = beyond h l q (omega (arith, last)) in
     let above : is_above 0 (new_tick time h) ≡ true = grind (arith, nat_tests, xmin-least h l) in
-    subst (λ b. Cuts (snapshot h).xmin (if b then 0 else cut q h) (if b then new_tables t time else tables q h).second_step (if b then new_tables t time else tables q h).pending
+    subst (λ b. Cuts (snapshot h).xmin (if b then 0 else cut q h) (if b then new_tables t time else event_tables q h).second_step (if b then new_tables t time else event_tables q h).pending
     (if b then ticks q h ++ new_tick time h ∷ [] else ticks q h) (if b then kept_ticks q h ++ new_tick time h ∷ [] else kept_ticks q h))
     (sym same)
     (record {
@@ -240,57 +240,57 @@ cuts _ (next {h = h} l (makes name t time new)) q is =
     }))
 cuts _ (next {h = h} l (puts who p event i at mine newest)) q is =
     let c : IsCut h q = cuts h l q is in
-    by_test (λ b. Cuts (snapshot h).xmin (cut q h) (if b then with_stored event (tables q h) else tables q h).second_step (if b then with_stored event (tables q h) else tables q h).pending (ticks q h) (kept_ticks q h))
+    by_test (λ b. Cuts (snapshot h).xmin (cut q h) (if b then with_stored event (event_tables q h) else event_tables q h).second_step (if b then with_stored event (event_tables q h) else event_tables q h).pending (ticks q h) (kept_ticks q h))
     (p == q) (λ _. c) (λ _. c)
 cuts _ (next {h = h} l (puts_back retry t back)) q is =
     let c : IsCut h q = cuts h l q is in
     let event = brought_by t retry.event in
-    by_test (λ b. Cuts (snapshot h).xmin (cut q h) (if b then with_stored event (tables q h) else tables q h).second_step (if b then with_stored event (tables q h) else tables q h).pending (ticks q h) (kept_ticks q h))
+    by_test (λ b. Cuts (snapshot h).xmin (cut q h) (if b then with_stored event (event_tables q h) else event_tables q h).second_step (if b then with_stored event (event_tables q h) else event_tables q h).pending (ticks q h) (kept_ticks q h))
     (retry.queue == q) (λ _. c) (λ _. c)
 cuts _ (next {h = h} l (ticks_next p id time seq i e at)) q is =
     let c : IsCut h q = cuts h l q is in
     let new : Tick = record { id = id; time = time; snapshot = snapshot h; seq = seq } in
     let up : is_above (cut q h) new ≡ true = grind (arith, nat_tests, c.below) in
     let most : xmin_of (newest_tick (ticks q h)) ≤ (snapshot h).xmin = subst (λ n. n ≤ (snapshot h).xmin) (last_xmin-newest (ticks q h)) (climbing h l q).most in
-    by_test (λ b. Cuts (snapshot h).xmin (cut q h) (tables q h).second_step (tables q h).pending (if b then ticks q h ++ new ∷ [] else ticks q h) (if b then kept_ticks q h ++ new ∷ [] else kept_ticks q h))
+    by_test (λ b. Cuts (snapshot h).xmin (cut q h) (event_tables q h).second_step (event_tables q h).pending (if b then ticks q h ++ new ∷ [] else ticks q h) (if b then kept_ticks q h ++ new ∷ [] else kept_ticks q h))
     (p == q)
     (λ _. record {
       below = c.below;
       kept = ap (λ ts. ts ++ new ∷ []) c.kept ∙ sym (filter-push (is_above (cut q h)) (ticks q h) new up);
       fresh = subst (λ o. cut q h < xmin_of o) (sym (newest_tick-push (ticks q h) new)) c.below;
       after = c.after;
-      awaits = λ e. let a = c.awaits e in (a.0, subst (λ o. unwrap_or (tables q h).second_step 0 < xmin_of o) (sym (newest_tick-push (ticks q h) new)) (omega (arith, a.1, most)));
+      awaits = λ e. let a = c.awaits e in (a.0, subst (λ o. unwrap_or (event_tables q h).second_step 0 < xmin_of o) (sym (newest_tick-push (ticks q h) new)) (omega (arith, a.1, most)));
     }) (λ _. c)
 cuts _ (next {h = h} l (begins_switch p t may)) q is =
     let c : IsCut h q = cuts h l q is in
-    by_same (λ b. Cuts (snapshot h).xmin (cut q h) (if b then with_pending t (tables q h) else tables q h).second_step (if b then with_pending t (tables q h) else tables q h).pending (ticks q h) (kept_ticks q h)) p q
+    by_same (λ b. Cuts (snapshot h).xmin (cut q h) (if b then with_pending t (event_tables q h) else event_tables q h).second_step (if b then with_pending t (event_tables q h) else event_tables q h).pending (ticks q h) (kept_ticks q h)) p q
     (λ same.
     let mine : MaySwitch h q t = subst (λ n. MaySwitch h n t) same may in
     let newest = newest-same (ticks q h) (kept_ticks q h) c in
-    let free = free-newest (queue_of h q) (tables q h).second_step mine.free (ap is_some newest ∙ above-is (cut q h) (newest_tick (ticks q h)) c.fresh) in
-    record { below = c.below; kept = c.kept; fresh = c.fresh; after = c.after; awaits = λ _. (free.0, subst (λ o. unwrap_or (tables q h).second_step 0 < xmin_of o) newest free.1) })
+    let free = free-newest (queue_of h q) (event_tables q h).second_step mine.free (ap is_some newest ∙ above-is (cut q h) (newest_tick (ticks q h)) c.fresh) in
+    record { below = c.below; kept = c.kept; fresh = c.fresh; after = c.after; awaits = λ _. (free.0, subst (λ o. unwrap_or (event_tables q h).second_step 0 < xmin_of o) newest free.1) })
     (λ _. c)
 cuts _ (next {h = h} l (makes_switch p t time i has)) q is =
     let c : IsCut h q = cuts h l q is in
-    by_same (λ b. Cuts (snapshot h).xmin (if b then second_step_of (tables q h) else cut q h) (if b then tables_of.switched time (tables q h) else tables q h).second_step
-    (if b then tables_of.switched time (tables q h) else tables q h).pending (ticks q h) (if b then ticks_above (second_step_of (tables q h)) (kept_ticks q h) else kept_ticks q h)) p q
+    by_same (λ b. Cuts (snapshot h).xmin (if b then second_step_of (event_tables q h) else cut q h) (if b then tables_of.with_switch time (event_tables q h) else event_tables q h).second_step
+    (if b then tables_of.with_switch time (event_tables q h) else event_tables q h).pending (ticks q h) (if b then ticks_above (second_step_of (event_tables q h)) (kept_ticks q h) else kept_ticks q h)) p q
     (λ same.
-    let pending : is_some (tables q h).pending ≡ true = ap is_some (subst (λ n. (tables n h).pending ≡ Some t) same has) in
+    let pending : is_some (event_tables q h).pending ≡ true = ap is_some (subst (λ n. (event_tables n h).pending ≡ Some t) same has) in
     let a = c.awaits pending in
     let run : Climbing h q = climbing h l q in
     let newest : last_xmin 0 (ticks q h) ≡ xmin_of (newest_tick (ticks q h)) = last_xmin-newest (ticks q h) in
-    let le : cut q h ≤ second_step_of (tables q h) = c.after (second_step_of (tables q h)) (some-is (tables q h).second_step a.0) in
+    let le : cut q h ≤ second_step_of (event_tables q h) = c.after (second_step_of (event_tables q h)) (some-is (event_tables q h).second_step a.0) in
     record {
       below = omega (arith, a.1, run.most, newest);
-      kept = switch-drops (tables q h).second_step (ticks q h) (kept_ticks q h) run.run c pending ∙ ap (filter (is_above (second_step_of (tables q h)))) c.kept
-          ∙ filter-both (cut q h) (second_step_of (tables q h)) (ticks q h) le;
+      kept = switch-drops (event_tables q h).second_step (ticks q h) (kept_ticks q h) run.run c pending ∙ ap (filter (is_above (second_step_of (event_tables q h)))) c.kept
+          ∙ filter-both (cut q h) (second_step_of (event_tables q h)) (ticks q h) le;
       fresh = a.1;
       after = λ u e. absurd (cc);
       awaits = λ e. absurd (cc);
     }) (λ _. c)
 cuts _ (next {h = h} l (ends_switch p t may)) q is =
     let c : IsCut h q = cuts h l q is in
-    by_same (λ b. Cuts (snapshot h).xmin (cut q h) (if b then with_second_step t (tables q h) else tables q h).second_step (if b then with_second_step t (tables q h) else tables q h).pending (ticks q h) (kept_ticks q h)) p q
+    by_same (λ b. Cuts (snapshot h).xmin (cut q h) (if b then with_second_step t (event_tables q h) else event_tables q h).second_step (if b then with_second_step t (event_tables q h) else event_tables q h).pending (ticks q h) (kept_ticks q h)) p q
     (λ same.
     let mine : MayEnd h q t = subst (λ n. MayEnd h n t) same may in
     record {
@@ -300,8 +300,8 @@ cuts _ (next {h = h} l (ends_switch p t may)) q is =
       after = λ u e. let one : t ≡ u = ap (λ o. unwrap_or o u) e in omega (arith, one, c.below, xmin-most h l, mine.newest);
       awaits = λ e. absurd (cc (sym (c.awaits e).0 ∙ ap is_some mine.missing));
     }) (λ _. c)
-cuts _ (next {h = h} l (drops p none untold idle)) q is =
-    subst (λ b. Cuts (snapshot h).xmin (cut q h) (if b then no_tables else tables q h).second_step (if b then no_tables else tables q h).pending (ticks q h) (if b then [] else kept_ticks q h))
+cuts _ (next {h = h} l (drops p none untold idle aside)) q is =
+    subst (λ b. Cuts (snapshot h).xmin (cut q h) (if b then no_tables else event_tables q h).second_step (if b then no_tables else event_tables q h).pending (ticks q h) (if b then [] else kept_ticks q h))
     (sym (others-apart p (queues h) q is)) (cuts h l q (others-among p (queues h) q is))
 cuts _ (next {h = h} l _) q is = cuts h l q is
 
@@ -315,17 +315,17 @@ kept-made h l q is id t there = tick-filtered 0 0 (cut q h) id (ticks q h) t (cl
 
 -- the transaction above which the ticks of a queue stay
 abbrev pub base : ℕ → History → ℕ
-base q h = bound (cut q h) (tables q h).second_step (tables q h).pending
+base q h = bound (cut q h) (event_tables q h).second_step (event_tables q h).pending
 
 -- the least tick at which a consumer may register is the first one above that
 pub floor-first : (h : History) → Legal h → (q : ℕ) → IsQueue h q → floor (queue_of h q) ≡ id_of (first_above (base q h) (ticks q h))
 floor-first h l q is =
     let c : IsCut h q = cuts h l q is in
-    by_test (λ b. id_of (first_above (if b then second_step_of (tables q h) else 0) (kept_ticks q h)) ≡ id_of (first_above (if b then unwrap_or (tables q h).second_step 0 else cut q h) (ticks q h)))
-    (is_some (tables q h).pending)
+    by_test (λ b. id_of (first_above (if b then second_step_of (event_tables q h) else 0) (kept_ticks q h)) ≡ id_of (first_above (if b then unwrap_or (event_tables q h).second_step 0 else cut q h) (ticks q h)))
+    (is_some (event_tables q h).pending)
     (λ pending.
-    let le : cut q h ≤ second_step_of (tables q h) = c.after (second_step_of (tables q h)) (some-is (tables q h).second_step (c.awaits pending).0) in
-    ap (λ ts. id_of (first_above (second_step_of (tables q h)) ts)) c.kept ∙ ap id_of (first-over (cut q h) (second_step_of (tables q h)) (ticks q h) le))
+    let le : cut q h ≤ second_step_of (event_tables q h) = c.after (second_step_of (event_tables q h)) (some-is (event_tables q h).second_step (c.awaits pending).0) in
+    ap (λ ts. id_of (first_above (second_step_of (event_tables q h)) ts)) c.kept ∙ ap id_of (first-over (cut q h) (second_step_of (event_tables q h)) (ticks q h) le))
     (λ _. ap (λ ts. id_of (first_above 0 ts)) c.kept ∙ ap id_of (first-below 0 (cut q h) (ticks q h) (omega arith)))
 
 pub floor-newest : (h : History) → Legal h → (q : ℕ) → IsQueue h q → floor (queue_of h q) ≤ id_of (newest_tick (ticks q h))
@@ -337,8 +337,8 @@ floor-newest h l q is =
 pub cut-base : (h : History) → Legal h → (q : ℕ) → IsQueue h q → cut q h ≤ base q h
 cut-base h l q is =
     let c : IsCut h q = cuts h l q is in
-    by_test (λ b. cut q h ≤ (if b then unwrap_or (tables q h).second_step 0 else cut q h)) (is_some (tables q h).pending)
-    (λ pending. c.after (second_step_of (tables q h)) (some-is (tables q h).second_step (c.awaits pending).0)) (λ _. omega arith)
+    by_test (λ b. cut q h ≤ (if b then unwrap_or (event_tables q h).second_step 0 else cut q h)) (is_some (event_tables q h).pending)
+    (λ pending. c.after (second_step_of (event_tables q h)) (some-is (event_tables q h).second_step (c.awaits pending).0)) (λ _. omega arith)
 
 -- ---- positions
 
@@ -351,7 +351,7 @@ base-newest : (h : History) → Legal h → (q : ℕ) → IsQueue h q → base q
 base-newest h l q is =
     let c : IsCut h q = cuts h l q is in
     subst (λ n. base q h < n) (sym (last_xmin-newest (ticks q h)))
-    (by_test (λ b. (if b then unwrap_or (tables q h).second_step 0 else cut q h) < xmin_of (newest_tick (ticks q h))) (is_some (tables q h).pending)
+    (by_test (λ b. (if b then unwrap_or (event_tables q h).second_step 0 else cut q h) < xmin_of (newest_tick (ticks q h))) (is_some (event_tables q h).pending)
     (λ pending. (c.awaits pending).1) (λ _. c.fresh))
 
 -- a tick at which a consumer may register is above that
@@ -379,22 +379,22 @@ sits [] start q consumer sub has = absurd (cc)
 sits (ended whose t false ∷ h) (next l fine) q consumer sub has =
     let is = registered-stands h l q consumer sub has in
     let ih : Sits h q consumer = sits h l q consumer sub has in
-    let ts : Tables = tables q h in
+    let ts : Tables = event_tables q h in
     by_test (λ b. bound (cut q h) (if b then without_pending ts else ts).second_step (if b then without_pending ts else ts).pending < xmin_of (tick (position q consumer h) (ticks q h)))
     (is_pending t ts) (λ _. omega (arith, cut-base h l q is, ih)) (λ _. ih)
 sits _ (next {h = h} l (makes name t time new)) q consumer sub has =
     let other : (queues_made h == q) ≡ false = grind (arith, nat_tests, queue-below h q (registered-stands h l q consumer sub has)) in
-    subst (λ b. bound (if b then 0 else cut q h) (if b then new_tables t time else tables q h).second_step (if b then new_tables t time else tables q h).pending
+    subst (λ b. bound (if b then 0 else cut q h) (if b then new_tables t time else event_tables q h).second_step (if b then new_tables t time else event_tables q h).pending
     < xmin_of (tick (position q consumer h) (if b then ticks q h ++ new_tick time h ∷ [] else ticks q h)))
     (sym other) (sits h l q consumer sub has)
 sits _ (next {h = h} l (puts who p event i at mine newest)) q consumer sub has =
     let ih : Sits h q consumer = sits h l q consumer sub has in
-    by_test (λ b. bound (cut q h) (if b then with_stored event (tables q h) else tables q h).second_step (if b then with_stored event (tables q h) else tables q h).pending < xmin_of (tick (position q consumer h) (ticks q h)))
+    by_test (λ b. bound (cut q h) (if b then with_stored event (event_tables q h) else event_tables q h).second_step (if b then with_stored event (event_tables q h) else event_tables q h).pending < xmin_of (tick (position q consumer h) (ticks q h)))
     (p == q) (λ _. ih) (λ _. ih)
 sits _ (next {h = h} l (puts_back retry t back)) q consumer sub has =
     let ih : Sits h q consumer = sits h l q consumer sub has in
     let event = brought_by t retry.event in
-    by_test (λ b. bound (cut q h) (if b then with_stored event (tables q h) else tables q h).second_step (if b then with_stored event (tables q h) else tables q h).pending < xmin_of (tick (position q consumer h) (ticks q h)))
+    by_test (λ b. bound (cut q h) (if b then with_stored event (event_tables q h) else event_tables q h).second_step (if b then with_stored event (event_tables q h) else event_tables q h).pending < xmin_of (tick (position q consumer h) (ticks q h)))
     (retry.queue == q) (λ _. ih) (λ _. ih)
 sits _ (next {h = h} l (ticks_next p id time seq i e at)) q consumer sub has =
     let ih : Sits h q consumer = sits h l q consumer sub has in
@@ -425,34 +425,34 @@ sits _ (next {h = h} l (closes b e)) q consumer sub has =
     omega (arith, ih, later)) (λ _. ih)
 sits _ (next {h = h} l (begins_switch p t may)) q consumer sub has =
     let ih : Sits h q consumer = sits h l q consumer sub has in
-    by_same (λ b. bound (cut q h) (if b then with_pending t (tables q h) else tables q h).second_step (if b then with_pending t (tables q h) else tables q h).pending < xmin_of (tick (position q consumer h) (ticks q h)))
+    by_same (λ b. bound (cut q h) (if b then with_pending t (event_tables q h) else event_tables q h).second_step (if b then with_pending t (event_tables q h) else event_tables q h).pending < xmin_of (tick (position q consumer h) (ticks q h)))
     p q
     (λ same.
     let mine : MaySwitch h q t = subst (λ n. MaySwitch h n t) same may in
     let kept = kept-position h l q (position q consumer h) mine.within ih in
-    subst (λ o. second_step_of (tables q h) < xmin_of o) kept
-    (free-position (queue_of h q) (tables q h).second_step consumer (record { id = sub; position = position q consumer h; active = active q consumer h }) mine.free
+    subst (λ o. second_step_of (event_tables q h) < xmin_of o) kept
+    (free-position (queue_of h q) (event_tables q h).second_step consumer (record { id = sub; position = position q consumer h; active = active q consumer h }) mine.free
     (among-consumers h q consumer ∙ ap is_some has)
     (ap (option_map (λ n. record { id = n; position = position q consumer h; active = active q consumer h })) has)
     (ap is_some kept ∙ above-is (base q h) (tick (position q consumer h) (ticks q h)) ih))) (λ _. ih)
 sits _ (next {h = h} l (makes_switch p t time i pends)) q consumer sub has =
     let ih : Sits h q consumer = sits h l q consumer sub has in
-    by_same (λ b. bound (if b then second_step_of (tables q h) else cut q h) (if b then tables_of.switched time (tables q h) else tables q h).second_step
-    (if b then tables_of.switched time (tables q h) else tables q h).pending < xmin_of (tick (position q consumer h) (ticks q h))) p q
+    by_same (λ b. bound (if b then second_step_of (event_tables q h) else cut q h) (if b then tables_of.with_switch time (event_tables q h) else event_tables q h).second_step
+    (if b then tables_of.with_switch time (event_tables q h) else event_tables q h).pending < xmin_of (tick (position q consumer h) (ticks q h))) p q
     (λ same.
-    let pending : is_some (tables q h).pending ≡ true = ap is_some (subst (λ n. (tables n h).pending ≡ Some t) same pends) in
-    subst (λ b. (if b then unwrap_or (tables q h).second_step 0 else cut q h) < xmin_of (tick (position q consumer h) (ticks q h))) pending ih) (λ _. ih)
+    let pending : is_some (event_tables q h).pending ≡ true = ap is_some (subst (λ n. (event_tables n h).pending ≡ Some t) same pends) in
+    subst (λ b. (if b then unwrap_or (event_tables q h).second_step 0 else cut q h) < xmin_of (tick (position q consumer h) (ticks q h))) pending ih) (λ _. ih)
 sits _ (next {h = h} l (ends_switch p t may)) q consumer sub has =
     let ih : Sits h q consumer = sits h l q consumer sub has in
-    by_same (λ b. bound (cut q h) (if b then with_second_step t (tables q h) else tables q h).second_step (if b then with_second_step t (tables q h) else tables q h).pending < xmin_of (tick (position q consumer h) (ticks q h)))
+    by_same (λ b. bound (cut q h) (if b then with_second_step t (event_tables q h) else event_tables q h).second_step (if b then with_second_step t (event_tables q h) else event_tables q h).pending < xmin_of (tick (position q consumer h) (ticks q h)))
     p q
     (λ same.
     let mine : MayEnd h q t = subst (λ n. MayEnd h n t) same may in
     let c : IsCut h q = cuts h l q mine.within in
-    by_test (λ b. (if b then unwrap_or (tables q h).second_step 0 else cut q h) < xmin_of (tick (position q consumer h) (ticks q h)) → (if b then t else cut q h) < xmin_of (tick (position q consumer h) (ticks q h)))
-    (is_some (tables q h).pending) (λ pending _. absurd (cc (sym (c.awaits pending).0 ∙ ap is_some mine.missing))) (λ _ up. up) ih) (λ _. ih)
-sits _ (next {h = h} l (drops p none untold idle)) q consumer sub has =
-    by_same (λ b. bound (cut q h) (if b then no_tables else tables q h).second_step (if b then no_tables else tables q h).pending < xmin_of (tick (position q consumer h) (ticks q h))) p q
+    by_test (λ b. (if b then unwrap_or (event_tables q h).second_step 0 else cut q h) < xmin_of (tick (position q consumer h) (ticks q h)) → (if b then t else cut q h) < xmin_of (tick (position q consumer h) (ticks q h)))
+    (is_some (event_tables q h).pending) (λ pending _. absurd (cc (sym (c.awaits pending).0 ∙ ap is_some mine.missing))) (λ _ up. up) ih) (λ _. ih)
+sits _ (next {h = h} l (drops p none untold idle aside)) q consumer sub has =
+    by_same (λ b. bound (cut q h) (if b then no_tables else event_tables q h).second_step (if b then no_tables else event_tables q h).pending < xmin_of (tick (position q consumer h) (ticks q h))) p q
     (λ same. absurd (cc (sym has ∙ ap (λ n. subscription_id n consumer h) (sym same) ∙ none consumer))) (λ _. sits h l q consumer sub has)
 sits _ (next {h = h} l _) q consumer sub has = sits h l q consumer sub has
 

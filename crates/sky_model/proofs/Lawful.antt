@@ -24,15 +24,15 @@ use Rattle.sky_model.specs.Rows.{table_names, columns_of}
 use Rattle.sky_model.specs.Triggers.{triggers, triggers_of}
 use Rattle.sky_model.specs.StepTrigger.{has_trigger, may_ignore}
 use Rattle.sky_model.specs.Config.{param_of, configured_by}
-use Rattle.sky_model.specs.Queues.{queues, queue_number, config, Tick, ticks, kept_ticks, tick, newest_tick, sequence, events, tables}
+use Rattle.sky_model.specs.Queues.{queues_made, queues, queue_number, config, Tick, ticks, kept_ticks, tick, newest_tick, sequence, events, event_tables}
 use Rattle.sky_model.specs.Consumers.{consumers, subscription_id, position, active, Subscription, subscription, active_batch}
 use Rattle.sky_model.specs.Nodes.{node, is_set_queue}
 use Rattle.sky_model.specs.StepNode.{create_root}
 use Rattle.sky_model.specs.Locks.{waiting}
 use Rattle.sky_model.specs.State.{RowPart, part_of, queue_of, database_of}
 use Rattle.sky_model.specs.ShownRows.{RowsShown, rows_in, least_writer}
-use Rattle.sky_model.specs.OwnTransaction.{own_or_next, begin_of, commit_of, written}
-use Rattle.sky_model.specs.Outcome.{Outcome, Checked, ◌>>=◌, ◌>>◌, refused_if, answers, does_marks, after_marks_of, abort, settled, marks_of}
+use Rattle.sky_model.specs.OwnTransaction.{own_or_next, begin_of, commit_of, in_own}
+use Rattle.sky_model.specs.Outcome.{Outcome, Checked, ◌>>=◌, ◌>>◌, refused_if, answers, does_marks, after_marks_of, abort, or_refused, marks_of}
 use Rattle.sky_model.specs.Allowed.{where_of_row, where_of, allowed}
 use Rattle.sky_model.specs.StepRows.{attempts}
 use Rattle.sky_model.specs.StepQueue.{create_queue, first_trigger_into, shown_name, has_part_in, least_producer, tells_of_rows, insert_event, next_tick, is_due, forced, newest_id, next_event_id, made_event}
@@ -51,6 +51,7 @@ use Rattle.sky_model.proofs.LawfulTelling.{good_append, legal_behind, good_tells
 use Rattle.sky_model.proofs.WaitersFit.{may_go_on}
 use Rattle.sky_model.proofs.LawfulRows.{no-one, nothing, good_leaves, good_attempts, good_row_form}
 use Rattle.sky_model.proofs.QueueNumbers.{among-number}
+use Rattle.sky_model.proofs.SetQueues.{not-sets, found-new}
 use Rattle.sky_model.proofs.Rotation.{newest-kept, kept-made, floor-newest}
 use Rattle.sky_model.proofs.Commits.{good_switches}
 use Rattle.sky_model.proofs.Rotating.{good_rotates, may_end_switches}
@@ -74,21 +75,22 @@ active_batch-id (queued (moved q name tick) ∷ h) id batch is = active_batch-id
 active_batch-id (queued (unregistered q name sub) ∷ h) id batch is = active_batch-id h id batch (of_another-is q name (active_batch id h) batch is).0
 active_batch-id (_ ∷ h) id batch is = active_batch-id h id batch is
 
--- a queue is made by a transaction of the session, and then others may come
-good_makes : (h : History) (now : ℤ) (who : ℕ) (name : List ℕ) (reply : Reply) (rest : List Mark) → ((g : History) → Chain g rest) → queue_number name (queues h) ≡ None
-    → Good h who (own_or_next (part_of h) (own_txid who h) >>= (λ t. does_marks reply (written who t (session h who) [] ++ queued (made name t now) ∷ rest)))
+-- a queue is made by a transaction of the session, and then others may come, with the node that the database had
+good_makes : (h : History) (now : ℤ) (who : ℕ) (name : List ℕ) (reply : Reply) (rest : List Mark)
+    → ((g : History) (t : ℕ) → node g ≡ node h → Chain (queued (made name t now) ∷ g) rest) → queue_number name (queues h) ≡ None
+    → Good h who (own_or_next (part_of h) (own_txid who h) >>= (λ t. does_marks reply (in_own who t (session h who) [] ++ queued (made name t now) ∷ rest)))
 good_makes h now who name reply rest good new = by_own (own_txid who h) refl
   where
-    body : (g : History) (t : ℕ) (b : Block) → own_txid who g ≡ Some t → queue_number name (queues g) ≡ None → Chain g (commit_of who t b ++ queued (made name t now) ∷ rest)
-    body g t outside mine free = more (ends who t true mine) (more (makes name t now free) (good _))
-    body g t _ mine free = more (makes name t now free) (good _)
+    body : (g : History) (t : ℕ) (b : Block) → own_txid who g ≡ Some t → queue_number name (queues g) ≡ None → node g ≡ node h → Chain g (commit_of who t b ++ queued (made name t now) ∷ rest)
+    body g t outside mine free still = more (ends who t true mine) (more (makes name t now free) (good (ended (of_session who) t true ∷ g) t still))
+    body g t _ mine free still = more (makes name t now free) (good g t still)
 
     by_own : (o : Option ℕ) → own_txid who h ≡ o → Good h who (own_or_next (part_of h) o >>= (λ t.
         does_marks reply ((begin_of who t o ++ [] ++ commit_of who t (block who h)) ++ queued (made name t now) ∷ rest)))
     by_own None none =
         good_test_then h who (nat_le (2 ^ 62) (next_txid h)) TxidsSpent (next_txid h) _
-        (more (begins who none) (body (began (of_session who) (next_txid h) ∷ h) (next_txid h) (block who h) (ap (λ b. if b then Some (next_txid h) else own_txid who h) (same-session who)) new))
-    by_own (Some t) mine = body h t (block who h) mine new
+        (more (begins who none) (body (began (of_session who) (next_txid h) ∷ h) (next_txid h) (block who h) (ap (λ b. if b then Some (next_txid h) else own_txid who h) (same-session who)) new refl))
+    by_own (Some t) mine = body h t (block who h) mine new refl
 
 good_create_queue : (h : History) → Legal h → (now : ℤ) (who : ℕ) (name : List ℕ) → Good h who (create_queue (database_of h) now who name)
 good_create_queue h l now who name =
@@ -96,16 +98,17 @@ good_create_queue h l now who name =
   where
     by_place : (o : Option ℕ) → queue_number name (queues h) ≡ o → Good h who (if is_some o then answers (Number 0) else (
         refused_if (nat_le 64 (length (queues h))) (TooMany Queues) >> (own_or_next (part_of h) (own_txid who h) >>= (λ t.
-        does_marks (Number 1) (written who t (session h who) [] ++ queued (made name t now) ∷ [])))))
+        does_marks (Number 1) (in_own who t (session h who) [] ++ queued (made name t now) ∷ [])))))
     by_place (Some n) is = done
-    by_place None is = good_test h who (nat_le 64 (length (queues h))) (TooMany Queues) _ (λ _. good_makes h now who name (Number 1) [] (λ g. done) is)
+    by_place None is = good_test h who (nat_le 64 (length (queues h))) (TooMany Queues) _ (λ _. good_makes h now who name (Number 1) [] (λ g t still. done) is)
 
 good_create_root : (h : History) (now : ℤ) (who : ℕ) (name queue : List ℕ) → Good h who (create_root (database_of h) now who name queue)
 good_create_root h now who name queue =
-    good_test h who (is_some (node h)) (NodeExists name) _ (λ _.
+    good_test h who (is_some (node h)) (NodeExists name) _ (λ bare.
     good_test h who (is_some (queue_number queue (queues h))) (QueueExists queue) _ (λ new.
     good_test h who (nat_le 64 (length (queues h))) (TooMany Queues) _ (λ _.
-    good_makes h now who queue Done (noded (root_made name queue) ∷ []) (λ g. more (nodes (root_made name queue)) done) (nothing (queue_number queue (queues h)) new))))
+    good_makes h now who queue Done (noded (root_made name queue) ∷ [])
+    (λ g t still. more (nodes (root_made name queue) (still ∙ nothing (node h) bare, found-new queue (queues g) (queues_made g))) done) (nothing (queue_number queue (queues h)) new))))
 
 good_insert_event : (h : History) → Legal h → (now : ℤ) (who : ℕ) (name : List ℕ) (ev_type ev_data : Option (List ℕ)) (extra : Option Extra)
     → Good h who (insert_event (database_of h) now who name ev_type ev_data extra)
@@ -223,11 +226,11 @@ good_form h l now who (Row stmt) may =
 good_form h l now who (CreateQueue queue) may = good_create_queue h l now who queue
 good_form h l now who (DropQueue name) may =
     good_found h who (queue_number name (queues h)) (NoQueue name) _ (λ q is.
-    good_test h who (is_set_queue name (node h)) SetQueue _ (λ _.
+    good_test h who (is_set_queue name (node h)) SetQueue _ (λ other.
     good_test h who (not (length (consumers q h) == 0)) (HasConsumers (length (consumers q h))) _ (λ none.
     good_refused_by h who (option_map (λ t. HasTriggers (shown_name t)) (first_trigger_into q (triggers h))) _ (λ untold.
     good_refused_by h who (option_map QueueBusy (least_producer (database_of h) q)) _ (λ idle.
-    more (drops q (no-member h q none) (none-into q (triggers h) untold) (none-put (has_part_in (tables q h)) (running h) idle)) done)))))
+    more (drops q (no-member h q none) (none-into q (triggers h) untold) (none-put (has_part_in (event_tables q h)) (running h) idle) (not-sets h name q is other)) done)))))
 good_form h l now who (InsertEvent queue ev_type ev_data extra) may = good_insert_event h l now who queue ev_type ev_data extra
 good_form h l now who (SetQueueConfig name param value) may =
     good_found h who (queue_number name (queues h)) (NoQueue name) _ (λ q is.
@@ -311,12 +314,12 @@ good_form h l now who (ConsumerInfo name consumer) may =
 good_form h l now who (AddTrigger name table_name queue_name backup ignored) may =
     good_found h who (place_of table_name (table_names h)) (NoTable table_name) _ (λ table there.
     good_found h who (queue_number queue_name (queues h)) (NoQueue queue_name) _ (λ queue is.
-    good_test h who (is_set_queue queue_name (node h)) SetQueue _ (λ _.
+    good_test h who (is_set_queue queue_name (node h)) SetQueue _ (λ other.
     good_test h who (has_trigger name (triggers_of table (triggers h))) (TriggerExists name) _ (λ new.
     good_test h who (nat_le 8 (length (triggers_of table (triggers h)))) (TooMany Triggers) _ (λ _.
     good_refused_by h who (option_map BadColumn (find (λ column. not (may_ignore (columns_of table h) column)) ignored)) _ (λ _.
     good_refused_by h who (option_map TableBusy (least_writer (part_of h) table)) _ (λ _.
-    more (traces table (Some name) _ (place_of_within table_name (table_names h) table there) (among-number queue_name (queues h) queue is) new) done)))))))
+    more (traces table (Some name) _ (place_of_within table_name (table_names h) table there) (among-number queue_name (queues h) queue is) (new, not-sets h queue_name queue is other)) done)))))))
 good_form h l now who (CreateRoot name queue) may = good_create_root h now who name queue
 good_form h l now who (Node stmt) may = done
 good_form h l now who (Clock time) may = done
@@ -327,7 +330,7 @@ good_runs_if : (h : History) → Legal h → (now : ℤ) (who : ℕ) (stmt : Stm
     → Chain h (runs_if (making database_by_history now who stmt) (where_of stmt) who h may).marks
 good_runs_if h l now who stmt (Err refusal) is = good_refused h who refusal
 good_runs_if h l now who stmt (Ok _) is =
-    cond_both (takes_sight (where_of stmt) (session h who).sight) (looking who (settled who (session (looked who ∷ h) who) (form (database_of (looked who ∷ h)) (shown_in (looked who ∷ h)) now who stmt))) _ (λ o. Chain h o.marks)
+    cond_both (takes_sight (where_of stmt) (session h who).sight) (looking who (or_refused who (session (looked who ∷ h) who) (form (database_of (looked who ∷ h)) (shown_in (looked who ∷ h)) now who stmt))) _ (λ o. Chain h o.marks)
     (λ _. more (looks who) (good_form (looked who ∷ h) (next l (looks who)) now who stmt (ap is_ok is))) (λ _. good_form h l now who stmt (ap is_ok is))
 
 good_statement : (h : History) → Legal h → (now : ℤ) (who : ℕ) (stmt : Stmt) → Chain h (statement database_by_history h now who stmt).marks
@@ -369,9 +372,9 @@ module _ {P : Type 0} (r : PartReader P) (past : P → History) (reads : ReadsPa
   past-behind p (mark ∷ marks) = past-behind (r.behind p mark) marks ∙ ap (λ h. behind_marks part_by_history h marks) (reads.behind p mark)
 
   -- what a session does there may come, once its writes are recorded
-  good_told : (p : P) → Legal (past p) → (who : ℕ) (c : Checked Outcome) → OfRows c → Good (past p) who c → Chain (past p) (settled who ((r.part p).session who) (r.tells p c)).marks
+  good_told : (p : P) → Legal (past p) → (who : ℕ) (c : Checked Outcome) → OfRows c → Good (past p) who c → Chain (past p) (or_refused who ((r.part p).session who) (r.tells p c)).marks
   good_told p l who c rows good =
-      subst (λ (d : RowPart). Chain (past p) (settled who (d.session who) (r.tells p c)).marks) (sym (reads.part p)) (reads.tells p l who c rows good)
+      subst (λ (d : RowPart). Chain (past p) (or_refused who (d.session who) (r.tells p c)).marks) (sym (reads.part p)) (reads.tells p l who c rows good)
 
   pub good_then : (p : P) → Legal (past p) → (turn : Turn) (rest : P → Turn) → Chain (past p) turn.marks → ((q : P) → Legal (past q) → Chain (past q) (rest q).marks) → Chain (past p) (and_then r p turn rest).marks
   good_then p l turn rest chain also =
@@ -393,10 +396,10 @@ module _ {P : Type 0} (r : PartReader P) (past : P → History) (reads : ReadsPa
       legal = subst Legal (sym gone) (next l (ends_waiting w.who))
 
       -- it no longer waits, and what it attempts fits as it did when it began to wait
-      may : MayWait (part_of (past behind)) w.who w.table w.key ((r.part p).attempt w.who)
+      may : MayWait (part_of (past behind)) (node (past behind)) w.who w.table w.key ((r.part p).attempt w.who)
       may =
-          subst (λ h. MayWait (part_of h) w.who w.table w.key ((r.part p).attempt w.who)) (sym gone)
-          (subst (λ (d : RowPart). MayWait (part_of (tabled (waited w.who) ∷ past p)) w.who w.table w.key (d.attempt w.who)) (sym (reads.part p))
+          subst (λ h. MayWait (part_of h) (node h) w.who w.table w.key ((r.part p).attempt w.who)) (sym gone)
+          (subst (λ (d : RowPart). MayWait (part_of (tabled (waited w.who) ∷ past p)) (node (past p)) w.who w.table w.key (d.attempt w.who)) (sym (reads.part p))
           (may_go_on (past p) l w (ap ready (sym (reads.part p)) ∙ is)))
 
       tried : Good (past behind) w.who (attempts (r.part behind) ((r.rows behind).key w.who w.table w.key) w.who w.table w.key ((r.part p).attempt w.who))
@@ -422,8 +425,8 @@ module _ {P : Type 0} (r : PartReader P) (past : P → History) (reads : ReadsPa
   good_row_runs p l who stmt (Err refusal) is =
       subst (λ (d : RowPart). Chain (past p) (abort who (d.session who).block (d.session who).txid refusal)) (sym (reads.part p)) (good_refused (past p) who refusal)
   good_row_runs p l who stmt (Ok _) is =
-      cond_both (takes_sight (where_of_row stmt) ((r.part p).session who).sight) (looking who (settled who ((r.part behind).session who) (r.tells behind (row_form (r.part behind) (r.rows behind) who stmt)))) _ (λ o. Chain (past p) o.marks)
-      (λ _. more (looks who) (subst (λ h. Chain h (settled who ((r.part behind).session who) (r.tells behind (row_form (r.part behind) (r.rows behind) who stmt))).marks) (reads.behind p (looked who))
+      cond_both (takes_sight (where_of_row stmt) ((r.part p).session who).sight) (looking who (or_refused who ((r.part behind).session who) (r.tells behind (row_form (r.part behind) (r.rows behind) who stmt)))) _ (λ o. Chain (past p) o.marks)
+      (λ _. more (looks who) (subst (λ h. Chain h (or_refused who ((r.part behind).session who) (r.tells behind (row_form (r.part behind) (r.rows behind) who stmt))).marks) (reads.behind p (looked who))
       (runs_at behind (subst Legal (sym (reads.behind p (looked who))) (next l (looks who)))
       (subst (λ h. MayStand h who (where_of_row stmt)) (sym (reads.behind p (looked who))) stands))))
       (λ _. runs_at p l stands)
@@ -434,7 +437,7 @@ module _ {P : Type 0} (r : PartReader P) (past : P → History) (reads : ReadsPa
       stands : MayStand (past p) who (where_of_row stmt)
       stands = ap is_ok (ap (λ (d : RowPart). allowed (is_waiting who d.waiting) (d.session who).is_open (d.session who).block (where_of_row stmt)) (sym (reads.part p)) ∙ is)
 
-      runs_at : (q : P) → Legal (past q) → MayStand (past q) who (where_of_row stmt) → Chain (past q) (settled who ((r.part q).session who) (r.tells q (row_form (r.part q) (r.rows q) who stmt))).marks
+      runs_at : (q : P) → Legal (past q) → MayStand (past q) who (where_of_row stmt) → Chain (past q) (or_refused who ((r.part q).session who) (r.tells q (row_form (r.part q) (r.rows q) who stmt))).marks
       runs_at q legal stands = good_told q legal who _ (form-rows (r.part q) (r.rows q) who stmt)
           (subst (λ d. Good (past q) who (row_form d (r.rows q) who stmt)) (sym (reads.part q))
           (subst (λ rows. Good (past q) who (row_form (part_of (past q)) rows who stmt)) (sym (reads.rows q)) (good_row_form (past q) legal who stmt stands)))

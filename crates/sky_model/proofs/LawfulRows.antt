@@ -17,6 +17,7 @@ use Rattle.sky_model.specs.History.{of_session, began, ended, block_ended, disco
 use Rattle.sky_model.specs.Transactions.{next_txid}
 use Rattle.sky_model.specs.Sessions.{outside, has_open, block, own_txid}
 use Rattle.sky_model.specs.Rows.{table_names, columns_of, is_read_only}
+use Rattle.sky_model.specs.Nodes.{node, is_leaf}
 use Rattle.sky_model.specs.Locks.{holder, waiting}
 use Rattle.sky_model.specs.State.{part_of}
 use Rattle.sky_model.specs.ShownRows.{rows_in}
@@ -71,11 +72,11 @@ open-beginning h who may = grind arith
 quiet-closing : (h : History) (who : ℕ) → MayStand h who WhenOpen → is_waiting who (waiting h) ≡ false
 quiet-closing h who may = grind arith
 
--- a write to a table that exists, over the row that is there; if that is one of the table, so is the new one
+-- a write to a table that exists and that isn't a leaf's, over the row that is there; if that is one of the table, so is the new one
 good_writes_key : (h : History) → Legal h → (who table : ℕ) (key : List Val) (old new : Option (List Val)) → other_than who (holder table key h) ≡ None → table < length (table_names h)
-    → ((rows_in h).key who table key).standing ≡ old → (IfSome old (IsRowOf (columns_of table h) key) → IfSome new (IsRowOf (columns_of table h) key))
+    → (is_leaf (node h) ≡ true → is_read_only table h ≡ false) → ((rows_in h).key who table key).standing ≡ old → (IfSome old (IsRowOf (columns_of table h) key) → IfSome new (IsRowOf (columns_of table h) key))
     → Good h who (writes_key (part_of h) who table key old new)
-good_writes_key h l who table key old new free within stands fits = by_own (own_txid who h) refl
+good_writes_key h l who table key old new free within writable stands fits = by_own (own_txid who h) refl
   where
     by_own : (o : Option ℕ) → own_txid who h ≡ o → Good h who (own_or_next (part_of h) o >>= (λ t.
         does_marks (Number 1) (begin_of who t o ++ (tabled (wrote (of_session who) t table key old new) ∷ []) ++ commit_of who t (block who h))))
@@ -83,14 +84,14 @@ good_writes_key h l who table key old new free within stands fits = by_own (own_
         let mine : own_txid who (began (of_session who) (next_txid h) ∷ h) ≡ Some (next_txid h) = ap (λ b. if b then Some (next_txid h) else own_txid who h) (same-session who) in
         good_test_then h who (nat_le (2 ^ 62) (next_txid h)) TxidsSpent (next_txid h) _
         (more (begins who none)
-        (more (writes who (next_txid h) table key old new mine free (record { within = within; stands = stands-begun h l who table key old none stands; fits = fits }))
+        (more (writes who (next_txid h) table key old new mine free (record { within = within; writable = writable; stands = stands-begun h l who table key old none stands; fits = fits }))
         (good_commits (tabled (wrote (of_session who) (next_txid h) table key old new) ∷ began (of_session who) (next_txid h) ∷ h) who (next_txid h) (block who h) mine)))
     by_own (Some t) mine =
-        more (writes who t table key old new mine free (record { within = within; stands = stands-by h l who table key old stands; fits = fits }))
+        more (writes who t table key old new mine free (record { within = within; writable = writable; stands = stands-by h l who table key old stands; fits = fits }))
         (good_commits (tabled (wrote (of_session who) t table key old new) ∷ h) who t (block who h) mine)
 
 -- what is done when a key is free
-good_once_free : (h : History) (who table : ℕ) (key : List Val) (attempt : Attempt) (c : Checked Outcome) → MayWait (part_of h) who table key attempt
+good_once_free : (h : History) (who table : ℕ) (key : List Val) (attempt : Attempt) (c : Checked Outcome) → MayWait (part_of h) (node h) who table key attempt
     → (other_than who (holder table key h) ≡ None → Good h who c)
     → Good h who (once_free (part_of h) who table key attempt (other_than who (holder table key h)) c)
 good_once_free h who table key attempt c may good = of (other_than who (holder table key h)) refl
@@ -107,7 +108,7 @@ pub nothing : {A : Type 0} (o : Option A) → is_some o ≡ false → o ≡ None
 nothing None e = refl
 nothing (Some a) e = absurd (cc)
 
-good_changes : (h : History) → Legal h → (who table : ℕ) (key : List Val) (attempt : Attempt) → MayWait (part_of h) who table key attempt
+good_changes : (h : History) → Legal h → (who table : ℕ) (key : List Val) (attempt : Attempt) → MayWait (part_of h) (node h) who table key attempt
     → (new_of : List Val → Checked (Option (List Val)))
     → ((row : List Val) (new : Option (List Val)) → new_of row ≡ Ok new → IsRowOf (columns_of table h) key row → IfSome new (IsRowOf (columns_of table h) key))
     → (row : Option (List Val)) → ((rows_in h).key who table key).row ≡ row
@@ -117,16 +118,16 @@ good_changes h l who table key attempt may new_of fits (Some row) is =
     good_once_free h who table key attempt _ may (λ free.
     good_refused_by h who (option_map Serialize ((rows_in h).key who table key).unseen) _ (λ seen.
     good_checked h who (new_of row) _ (λ new same.
-    good_writes_key h l who table key (Some row) new free may.within
+    good_writes_key h l who table key (Some row) new free may.within may.writable
     (sym (seen-stands h l who table key (no-one Serialize ((rows_in h).key who table key).unseen seen)) ∙ is)
     (fits row new same))))
 
-pub good_attempts : (h : History) → Legal h → (who table : ℕ) (key : List Val) (attempt : Attempt) → MayWait (part_of h) who table key attempt
+pub good_attempts : (h : History) → Legal h → (who table : ℕ) (key : List Val) (attempt : Attempt) → MayWait (part_of h) (node h) who table key attempt
     → Good h who (attempts (part_of h) ((rows_in h).key who table key) who table key attempt)
 good_attempts h l who table key (Insertion row) may =
     good_once_free h who table key (Insertion row) _ may (λ free.
     good_test h who (is_some ((rows_in h).key who table key).standing) Duplicate _ (λ none.
-    good_writes_key h l who table key None (Some row) free may.within (nothing ((rows_in h).key who table key).standing none) (λ _. may.fits)))
+    good_writes_key h l who table key None (Some row) free may.within may.writable (nothing ((rows_in h).key who table key).standing none) (λ _. may.fits)))
 good_attempts h l who table key (Changes sets) may =
     good_changes h l who table key (Changes sets) may _ (sets-fit (columns_of table h) key sets may.fits) ((rows_in h).key who table key).row refl
 good_attempts h l who table key Deletion may =
@@ -164,22 +165,24 @@ good_row_form h l who (CreateTable name columns) may =
     more (makes_table name columns (nothing (place_of name (table_names h)) new)) done)))
 good_row_form h l who (Insert name row) may =
     good_found h who (place_of name (table_names h)) (NoTable name) _ (λ table there.
-    good_test h who (is_read_only table h) ReadOnly _ (λ _.
+    good_test h who (is_read_only table h) ReadOnly _ (λ writable.
     good_refused_by h who (option_map (bad_values (columns_of table h)) (row_fault (columns_of table h) row)) _ (λ fits.
     good_attempts h l who table (key_of (columns_of table h) row) (Insertion row) (record {
       within = place_of_within name (table_names h) table there;
+      writable = λ leaf. writable;
       fits = (no-one (bad_values (columns_of table h)) (row_fault (columns_of table h) row) fits, refl);
       quiet = quiet-reading h who may;
       is_open = open-reading h who may;
     }))))
 good_row_form h l who (Update name key sets) may =
     good_found h who (place_of name (table_names h)) (NoTable name) _ (λ table there.
-    good_test h who (is_read_only table h) ReadOnly _ (λ _.
+    good_test h who (is_read_only table h) ReadOnly _ (λ writable.
     good_refused_by h who (option_map (bad_values (key_columns (columns_of table h))) (row_fault (key_columns (columns_of table h)) key)) _ (λ _.
     good_refused_by h who (option_map BadRow (bad_sets (columns_of table h) [] sets)) _ (λ well.
     good_refused_by h who (option_map (λ (set : Set). KeyChange set.column) (find (is_key_change (columns_of table h)) sets)) _ (λ stays.
     good_attempts h l who table key (Changes sets) (record {
       within = place_of_within name (table_names h) table there;
+      writable = λ leaf. writable;
       fits = changes-fit (columns_of table h) [] sets (no-one BadRow (bad_sets (columns_of table h) [] sets) well)
           (no-one (λ (set : Set). KeyChange set.column) (find (is_key_change (columns_of table h)) sets) stays);
       quiet = quiet-reading h who may;
@@ -187,10 +190,11 @@ good_row_form h l who (Update name key sets) may =
     }))))))
 good_row_form h l who (Delete name key) may =
     good_found h who (place_of name (table_names h)) (NoTable name) _ (λ table there.
-    good_test h who (is_read_only table h) ReadOnly _ (λ _.
+    good_test h who (is_read_only table h) ReadOnly _ (λ writable.
     good_refused_by h who (option_map (bad_values (key_columns (columns_of table h))) (row_fault (key_columns (columns_of table h)) key)) _ (λ fits.
     good_attempts h l who table key Deletion (record {
       within = place_of_within name (table_names h) table there;
+      writable = λ leaf. writable;
       fits = no-one (bad_values (key_columns (columns_of table h))) (row_fault (key_columns (columns_of table h)) key) fits;
       quiet = quiet-reading h who may;
       is_open = open-reading h who may;

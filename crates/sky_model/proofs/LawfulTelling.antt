@@ -7,8 +7,9 @@ use Rattle.sky_keys.specs.Waits.{other_than, is_waiting}
 use Rattle.sky_names.specs.Places.{place_of}
 use Rattle.sky_urlenc.specs.RowEvents.{Trigger, Write, event_of, RowEvent, events_of}
 use Rattle.sky_model.specs.declared.reply.Refusal.TheVariants.{EventIdsSpent}
-use Rattle.sky_model.specs.History.{Mark, of_session, began, tabled, wrote, queued, made, raised, put, dropped, traced, untraced, History, of_worker}
+use Rattle.sky_model.specs.History.{Mark, of_session, began, tabled, wrote, queued, made, raised, put, dropped, traced, untraced, noded, read_only, History, of_worker}
 use Rattle.sky_model.specs.Sessions.{has_open, Block, block, own_txid}
+use Rattle.sky_model.specs.Nodes.{node}
 use Rattle.sky_model.specs.Triggers.{TableTrigger, is_sets, triggers, triggers_of}
 use Rattle.sky_model.specs.Queues.{NamedQueue, queues_made, queues, sequence}
 use Rattle.sky_model.specs.State.{RowPart, part_of, after_part, database_of, after_mark, after_marks}
@@ -16,7 +17,7 @@ use Rattle.sky_model.specs.Outcome.{Outcome, Checked, ◌>>=◌, ◌>>◌, refus
 use Rattle.sky_model.specs.Telling.{write_in, events_in, told_event, event_marks, told_by, told_of, with_told, tells}
 use Rattle.sky_model.specs.Reader.{part_by_history}
 use Rattle.sky_model.specs.Settling.{behind_marks, marked}
-use Rattle.sky_model.proofs.Legal.{Replaces, MayWait, IsAmong, IsQueue, Fine, begins, ends, begins_work, ends_work, begins_block, fails_block, ends_block, connects, disconnects, repeats_block, looks, makes_table, writes, begins_waiting, ends_waiting, raises, puts, drops, traces, guards, nodes, Chain, done, more, Legal, next}
+use Rattle.sky_model.proofs.Legal.{Replaces, MayWait, IsAmong, IsQueue, Fine, begins, ends, begins_work, ends_work, begins_block, fails_block, ends_block, connects, disconnects, repeats_block, looks, makes_table, writes, begins_waiting, ends_waiting, raises, puts, drops, traces, Chain, done, more, Legal, next, legal-below_mark}
 use Rattle.sky_model.proofs.QueueNumbers.{among-before, among-others}
 use Rattle.sky_model.proofs.Marks.{part_of-mark, database_of-mark, database_of-marks}
 use Rattle.sky_model.proofs.Selecting.{events_below-next}
@@ -37,14 +38,11 @@ legal_behind h (mark ∷ marks) l (more fine chain) = legal_behind (mark ∷ h) 
 
 -- ---- the events of triggers go to queues
 
-below-mark : {h : History} {mark : Mark} → Legal (mark ∷ h) → Legal h
-below-mark (next l fine) = l
-
 traced-queue : {h : History} {table : ℕ} {name : Option (List ℕ)} {trigger : Trigger} → Legal (queued (traced table name trigger) ∷ h) → IsQueue h trigger.queue
 traced-queue (next l (traces table name trigger below is new)) = is
 
 undropped-triggers : {h : History} {q : ℕ} → Legal (queued (dropped q) ∷ h) → All (λ t. (t.trigger.queue == q) ≡ false) (triggers h)
-undropped-triggers (next l (drops q none untold idle)) = untold
+undropped-triggers (next l (drops q none untold idle aside)) = untold
 
 -- the queues of triggers are among these
 abbrev pub TriggersAmong : List NamedQueue → List TableTrigger → Type 0
@@ -59,14 +57,14 @@ pub trigger-queues : (h : History) → Legal h → TriggersAmong (queues h) (tri
 trigger-queues [] l = All-nil (λ t. IsAmong t.trigger.queue [])
 trigger-queues (queued (made name t time) ∷ h) l =
     let last : NamedQueue = record { number = queues_made h; name = name } in
-    All-weaker (λ t. IsAmong t.trigger.queue (queues h)) (λ t. IsAmong t.trigger.queue (queues h ++ last ∷ [])) (λ t among. among-before (queues h) last t.trigger.queue among) (triggers h) (trigger-queues h (below-mark l))
+    All-weaker (λ t. IsAmong t.trigger.queue (queues h)) (λ t. IsAmong t.trigger.queue (queues h ++ last ∷ [])) (λ t among. among-before (queues h) last t.trigger.queue among) (triggers h) (trigger-queues h (legal-below_mark l))
 trigger-queues (queued (traced table name trigger) ∷ h) l =
-    All-push (λ t. IsAmong t.trigger.queue (queues h)) (triggers h) (record { table = table; name = name; trigger = trigger }) (trigger-queues h (below-mark l)) (traced-queue l)
+    All-push (λ t. IsAmong t.trigger.queue (queues h)) (triggers h) (record { table = table; name = name; trigger = trigger }) (trigger-queues h (legal-below_mark l)) (traced-queue l)
 trigger-queues (queued (dropped q) ∷ h) l =
-    λ k t less. among-others q (queues h) (get_or (triggers h) k t).trigger.queue (trigger-queues h (below-mark l) k t less) (undropped-triggers l k t less)
+    λ k t less. among-others q (queues h) (get_or (triggers h) k t).trigger.queue (trigger-queues h (legal-below_mark l) k t less) (undropped-triggers l k t less)
 trigger-queues (queued (untraced table) ∷ h) l =
-    All-filter (λ t. not (is_sets table t)) (λ t. IsAmong t.trigger.queue (queues h)) (triggers h) (trigger-queues h (below-mark l))
-trigger-queues (_ ∷ h) l = trigger-queues h (below-mark l)
+    All-filter (λ t. not (is_sets table t)) (λ t. IsAmong t.trigger.queue (queues h)) (triggers h) (trigger-queues h (legal-below_mark l))
+trigger-queues (_ ∷ h) l = trigger-queues h (legal-below_mark l)
 
 -- so are the events of a write
 events-queues : (queues : List NamedQueue) (w : Write) (ts : List TableTrigger) → TriggersAmong queues ts → EventsAmong queues (events_of w (map TableTrigger.trigger ts))
@@ -75,13 +73,13 @@ events-queues queues w ts among =
 
 -- ---- what records a mark may come after it
 
--- marks that may come next, and leave the row part as it was; or a refusal
+-- marks that may come next, and leave the row part and the node as they were; or a refusal
 abbrev ToldWell : History → Checked (List Mark) → Type 0
-ToldWell h x = IfOk x (λ marks. Chain h marks × (part_of (marked h marks) ≡ part_of h))
+ToldWell h x = IfOk x (λ marks. Chain h marks × (part_of (marked h marks) ≡ part_of h) × (node (marked h marks) ≡ node h))
 
 told-well : (h : History) → Legal h → (now : ℤ) (who t : ℕ) (es : List RowEvent) → own_txid who h ≡ Some t → EventsAmong (queues h) es
     → ToldWell h (told_by (database_of h) now t es)
-told-well h l now who t [] mine among = (done, refl)
+told-well h l now who t [] mine among = (done, refl, refl)
 told-well h l now who t (e ∷ es) mine among =
     of (nat_le (2 ^ 62) id)
     (subst (λ d. ToldWell behind (told_by d now t es)) (database_of-marks h (event_marks e.queue (told_event id now t e))) (told-well behind (next (next l raised_fine) put_fine) now who t es mine (All-tail (λ e. IsAmong e.queue (queues h)) e es among)))
@@ -106,7 +104,7 @@ told-well h l now who t (e ∷ es) mine among =
         >>= (λ rest. Ok (event_marks e.queue (told_event n now t e) ++ rest))))
     of true well = tt
     of false well = ok-then _ (told_by (after_marks (database_of h) (event_marks e.queue (told_event id now t e))) now t es) _ (λ rest is.
-        let told = IfOk-at_ok _ is well in (more raised_fine (more put_fine told.0), told.1))
+        let told = IfOk-at_ok _ is well in (more raised_fine (more put_fine told.0), told.1, told.2))
 
 writer-owns : {h : History} {who t table : ℕ} {key : List Val} {old new : Option (List Val)} → Fine h (tabled (wrote (of_session who) t table key old new)) → own_txid who h ≡ Some t
 writer-owns (writes who t table key old new mine free stands) = mine
@@ -115,7 +113,7 @@ told_of-well : (h : History) → Legal h → (now : ℤ) (mark : Mark) → Fine 
 told_of-well h l now (tabled (wrote (of_session who) t table key old new)) fine =
     told-well (tabled (wrote (of_session who) t table key old new) ∷ h) (next l fine) now who t (events_in (database_of (tabled (wrote (of_session who) t table key old new) ∷ h)) table old new) (writer-owns fine)
     (events-queues (queues h) (write_in (database_of (tabled (wrote (of_session who) t table key old new) ∷ h)) table old new) (triggers_of table (triggers h)) (All-filter (λ t. t.table == table) (λ t. IsAmong t.trigger.queue (queues h)) (triggers h) (trigger-queues h l)))
-told_of-well h l now _ fine = (done, refl)
+told_of-well h l now _ fine = (done, refl, refl)
 
 -- ---- marks of rows may come wherever the row part is the same
 
@@ -128,34 +126,41 @@ block-alike h g same who b is = sym (ap (λ (d : RowPart). (d.session who).block
 open-alike : (h g : History) → part_of h ≡ part_of g → (who : ℕ) (b : Bool) → has_open who h ≡ b → has_open who g ≡ b
 open-alike h g same who b is = sym (ap (λ (d : RowPart). (d.session who).is_open) same) ∙ is
 
-fine-alike : (h g : History) → part_of h ≡ part_of g → (mark : Mark) (marks : List Mark) → RowMarks (mark ∷ marks) → Fine h mark → Fine g mark
-fine-alike h g same (queued mark) marks rows fine = absurd rows
-fine-alike h g same _ marks rows (begins who none) = subst (λ n. Fine g (began (of_session who) n)) (sym (ap RowPart.next same)) (begins who (own-alike h g same who _ none))
-fine-alike h g same _ marks rows (ends who t committed mine) = ends who t committed (own-alike h g same who _ mine)
-fine-alike h g same _ marks rows begins_work = subst (λ n. Fine g (began of_worker n)) (sym (ap RowPart.next same)) begins_work
-fine-alike h g same _ marks rows (ends_work t committed is) = ends_work t committed (sym (ap (λ (d : RowPart). contains t d.workers) same) ∙ is)
-fine-alike h g same _ marks rows (begins_block who is is_open) = begins_block who (block-alike h g same who _ is) (open-alike h g same who _ is_open)
-fine-alike h g same _ marks rows (fails_block who is none) = fails_block who (block-alike h g same who _ is) (own-alike h g same who _ none)
-fine-alike h g same _ marks rows (ends_block who none) = ends_block who (own-alike h g same who _ none)
-fine-alike h g same _ marks rows (connects who closed) = connects who (open-alike h g same who _ closed)
-fine-alike h g same _ marks rows (disconnects who quiet away) =
+fine-alike : (h g : History) → part_of h ≡ part_of g → node h ≡ node g → (mark : Mark) (marks : List Mark) → RowMarks (mark ∷ marks) → Fine h mark → Fine g mark
+fine-alike h g same still (queued mark) marks rows fine = absurd rows
+fine-alike h g same still (noded mark) marks rows fine = absurd rows
+fine-alike h g same still (tabled (read_only table on)) marks rows fine = absurd rows
+fine-alike h g same still _ marks rows (begins who none) = subst (λ n. Fine g (began (of_session who) n)) (sym (ap RowPart.next same)) (begins who (own-alike h g same who _ none))
+fine-alike h g same still _ marks rows (ends who t committed mine) = ends who t committed (own-alike h g same who _ mine)
+fine-alike h g same still _ marks rows begins_work = subst (λ n. Fine g (began of_worker n)) (sym (ap RowPart.next same)) begins_work
+fine-alike h g same still _ marks rows (ends_work t committed is) = ends_work t committed (sym (ap (λ (d : RowPart). contains t d.workers) same) ∙ is)
+fine-alike h g same still _ marks rows (begins_block who is is_open) = begins_block who (block-alike h g same who _ is) (open-alike h g same who _ is_open)
+fine-alike h g same still _ marks rows (fails_block who is none) = fails_block who (block-alike h g same who _ is) (own-alike h g same who _ none)
+fine-alike h g same still _ marks rows (ends_block who none) = ends_block who (own-alike h g same who _ none)
+fine-alike h g same still _ marks rows (connects who closed) = connects who (open-alike h g same who _ closed)
+fine-alike h g same still _ marks rows (disconnects who quiet away) =
     disconnects who (sym (ap (λ (d : RowPart). is_waiting who d.waiting) same) ∙ quiet) (block-alike h g same who _ away)
-fine-alike h g same _ marks rows (repeats_block who) = repeats_block who
-fine-alike h g same _ marks rows (looks who) = looks who
-fine-alike h g same _ marks rows (makes_table name columns new) = makes_table name columns (sym (ap (λ (d : RowPart). place_of name d.tables) same) ∙ new)
-fine-alike h g same _ marks rows (writes who t table key old new mine free stands) =
+fine-alike h g same still _ marks rows (repeats_block who) = repeats_block who
+fine-alike h g same still _ marks rows (looks who) = looks who
+fine-alike h g same still _ marks rows (makes_table name columns new) = makes_table name columns (sym (ap (λ (d : RowPart). place_of name d.tables) same) ∙ new)
+fine-alike h g same still _ marks rows (writes who t table key old new mine free stands) =
     writes who t table key old new (own-alike h g same who _ mine) (sym (ap (λ (d : RowPart). other_than who (d.holder table key)) same) ∙ free)
-    (subst (λ d. Replaces d who table key old new) same stands)
-fine-alike h g same _ marks rows (begins_waiting who table key attempt fits) = begins_waiting who table key attempt (subst (λ d. MayWait d who table key attempt) same fits)
-fine-alike h g same _ marks rows (ends_waiting who) = ends_waiting who
-fine-alike h g same _ marks rows (guards table on) = guards table on
-fine-alike h g same _ marks rows (nodes mark) = nodes mark
+    (subst (λ n. Replaces (part_of g) n who table key old new) still (subst (λ d. Replaces d (node h) who table key old new) same stands))
+fine-alike h g same still _ marks rows (begins_waiting who table key attempt may) =
+    begins_waiting who table key attempt (subst (λ n. MayWait (part_of g) n who table key attempt) still (subst (λ d. MayWait d (node h) who table key attempt) same may))
+fine-alike h g same still _ marks rows (ends_waiting who) = ends_waiting who
 
-chain-alike : (h g : History) → part_of h ≡ part_of g → (marks : List Mark) → RowMarks marks → Chain h marks → Chain g marks
-chain-alike h g same [] rows done = done
-chain-alike h g same (mark ∷ marks) rows (more fine chain) =
-    more (fine-alike h g same mark marks rows fine)
-    (chain-alike (mark ∷ h) (mark ∷ g) (part_of-mark h mark ∙ ap (λ d. after_part d mark) same ∙ sym (part_of-mark g mark)) marks (each-rest is_of_rows mark marks rows) chain)
+-- they leave the node as it was
+node-still : (h : History) (mark : Mark) (marks : List Mark) → RowMarks (mark ∷ marks) → node (mark ∷ h) ≡ node h
+node-still h (noded mark) marks rows = absurd rows
+node-still h _ marks rows = refl
+
+chain-alike : (h g : History) → part_of h ≡ part_of g → node h ≡ node g → (marks : List Mark) → RowMarks marks → Chain h marks → Chain g marks
+chain-alike h g same still [] rows done = done
+chain-alike h g same still (mark ∷ marks) rows (more fine chain) =
+    more (fine-alike h g same still mark marks rows fine)
+    (chain-alike (mark ∷ h) (mark ∷ g) (part_of-mark h mark ∙ ap (λ d. after_part d mark) same ∙ sym (part_of-mark g mark))
+    (node-still h mark marks rows ∙ still ∙ sym (node-still g mark marks rows)) marks (each-rest is_of_rows mark marks rows) chain)
 
 -- ---- what a statement does
 
@@ -172,7 +177,7 @@ with_told-well h l now (mark ∷ marks) rows (more fine chain) =
     let rest_rows = each-rest is_of_rows mark marks rows in
     ok-then (Chain h) (with_told (after_marks (database_of h) (mark ∷ told)) now marks) _ (λ rest is. more fine (good_append (mark ∷ h) told rest well.0
     (IfOk-at_ok (Chain g) is (subst (λ d. ChainOf g (with_told d now marks)) (database_of-marks h (mark ∷ told))
-    (with_told-well g (legal_behind (mark ∷ h) told (next l fine) well.0) now marks rest_rows (chain-alike (mark ∷ h) g (sym well.1) marks rest_rows chain)))))))
+    (with_told-well g (legal_behind (mark ∷ h) told (next l fine) well.0) now marks rest_rows (chain-alike (mark ∷ h) g (sym well.1) (sym well.2) marks rest_rows chain)))))))
 
 -- so what a statement on rows does may come where it might, once its writes are recorded
 pub good_tells : (h : History) → Legal h → (now : ℤ) (who : ℕ) (c : Checked Outcome) → OfRows c → Good h who c → Good h who (tells (database_of h) now c)

@@ -8,10 +8,10 @@ use Rattle.sky_model.specs.declared.stmt.Stmt.{Stmt}
 use Rattle.sky_model.specs.declared.line.Fixed.{Fixed}
 use Rattle.sky_model.specs.declared.line.Fixed.TheVariants as fixed
 use Rattle.sky_model.specs.Kinds.{Kind, Name, Dotted, Number, OptText, Raw, Value, Column, Set, Ignore, Advance, Of, value}
-use Rattle.sky_model.specs.Grammar.{Row, stop, literal, one, either, many, text_of, next, all_next, ended, all_ended, or_else, or_bad, goes_on, reads}
+use Rattle.sky_model.specs.Grammar.{GrammarRow, stop, literal, one, either, many, text_of, next, all_next, ended, all_ended, or_else, or_bad, goes_on, reads}
 
 -- some line that the rows read begins with these words
-abbrev pub Begins : List Row → ℕ → List (List ℕ) → Type 0
+abbrev pub Begins : List GrammarRow → ℕ → List (List ℕ) → Type 0
 Begins rows n ws = (more : List (List ℕ)) × (stmt : Stmt) × (reads rows n (ws ++ more) ≡ Ok stmt)
 
 or_bad-err : (n m : ℕ) (stmt : Option Stmt) → or_bad n stmt ≡ Err m → m ≡ n
@@ -23,7 +23,7 @@ pub record Within (n m : ℕ) (ws : List (List ℕ)) : Type 0 where
   pub low : n ≤ m
   pub high : m ≤ n + length ws
 
-pub bad_within : (rows : List Row) (ws : List (List ℕ)) (n m : ℕ) → reads rows n ws ≡ Err m → Within n m ws
+pub bad_within : (rows : List GrammarRow) (ws : List (List ℕ)) (n m : ℕ) → reads rows n ws ≡ Err m → Within n m ws
 bad_within rows [] n m bad =
     let here = or_bad-err n m (all_ended rows) bad in
     record { low = omega arith; high = omega arith }
@@ -34,7 +34,7 @@ bad_within rows (w ∷ ws) n m bad =
     ] bad
 
 -- the words up to the bad one begin no line
-pub none_begins : (rows : List Row) (ws : List (List ℕ)) (n m j : ℕ) → m ≡ n + j → j < length ws → reads rows n ws ≡ Err m → Begins rows n (take (suc j) ws) → ⊥
+pub none_begins : (rows : List GrammarRow) (ws : List (List ℕ)) (n m j : ℕ) → m ≡ n + j → j < length ws → reads rows n ws ≡ Err m → Begins rows n (take (suc j) ws) → ⊥
 none_begins rows [] n m j at inside bad begins = absurd (omega arith)
 none_begins rows (w ∷ ws) n m zero at inside bad begins =
     elim (all_next rows w) as (λ left. goes_on left n (λ l. reads l (n + 1) ws) ≡ Err m → goes_on left n (λ l. reads l (n + 1) begins.0) ≡ Ok begins.1 → ⊥) [
@@ -74,18 +74,18 @@ or_else_assoc None b c = refl
 or_else_assoc (Some stmt) b c = refl
 
 -- either of two rows reads what both together read
-reads-either : (a b : Row) (rows : List Row) (n : ℕ) (ws : List (List ℕ)) → reads (either a b ∷ rows) n ws ≡ reads (a ∷ b ∷ rows) n ws
+reads-either : (a b : GrammarRow) (rows : List GrammarRow) (n : ℕ) (ws : List (List ℕ)) → reads (either a b ∷ rows) n ws ≡ reads (a ∷ b ∷ rows) n ws
 reads-either a b rows n [] = ap (or_bad n) (or_else_assoc (ended a) (ended b) (all_ended rows))
 reads-either a b rows n (w ∷ ws) = ap (λ left. goes_on left n (λ l. reads l (n + 1) ws)) (append_assoc (next a w) (next b w) (all_next rows w))
 
 -- any words of a kind are none, or one and then any
-reads-many : (k : Kind) (f : List (Of k) → Row) (rows : List Row) (n : ℕ) (ws : List (List ℕ))
+reads-many : (k : Kind) (f : List (Of k) → GrammarRow) (rows : List GrammarRow) (n : ℕ) (ws : List (List ℕ))
     → reads (many k f ∷ rows) n ws ≡ reads (f [] ∷ one k (λ v. many k (λ vs. f (v ∷ vs))) ∷ rows) n ws
 reads-many k f rows n [] = refl
 reads-many k f rows n (w ∷ ws) = reads-either (f []) (one k (λ v. many k (λ vs. f (v ∷ vs)))) rows n (w ∷ ws)
 
 -- each row has a line
-completes : (row : Row) (rows : List Row) (n : ℕ) → Begins (row ∷ rows) n []
+completes : (row : GrammarRow) (rows : List GrammarRow) (n : ℕ) → Begins (row ∷ rows) n []
 completes (stop stmt) rows n = ([], stmt, refl)
 completes (literal fixed row) rows n = let rest = completes row (all_next rows (text_of fixed)) (n + 1) in (text_of fixed ∷ rest.0, rest.1, rw (same_text fixed) rest.2)
 completes (one k f) rows n =
@@ -96,7 +96,7 @@ completes (either a b) rows n = let rest = completes a (b ∷ rows) n in (rest.0
 completes (many k f) rows n = let rest = completes (f []) (one k (λ v. many k (λ vs. f (v ∷ vs))) ∷ rows) n in (rest.0, rest.1, reads-many k f rows n rest.0 ∙ rest.2)
 
 -- the words before the bad one begin a line
-pub some_begins : (row : Row) (rows : List Row) (ws : List (List ℕ)) (n m j : ℕ) → m ≡ n + j → reads (row ∷ rows) n ws ≡ Err m → Begins (row ∷ rows) n (take j ws)
+pub some_begins : (row : GrammarRow) (rows : List GrammarRow) (ws : List (List ℕ)) (n m j : ℕ) → m ≡ n + j → reads (row ∷ rows) n ws ≡ Err m → Begins (row ∷ rows) n (take j ws)
 some_begins row rows ws n m zero at bad = completes row rows n
 some_begins row rows [] n m (suc j) at bad =
     let here = or_bad-err n m (all_ended (row ∷ rows)) bad in absurd (omega arith)

@@ -1,6 +1,6 @@
 -- Legal histories: each mark has evidence of why it may be there, so that a law about histories has one line for each kind of mark, and none for each
 -- statement.
-use Rattle.std.proofs.Common.{◌≡◌, ℕ, ◌+◌, ◌<◌, ◌≤◌, ◌==◌, ℤ, ◌≤ℤ◌, Bool, true, false, IfSome, All, Contains, List, [], ◌∷◌, Option, Some, None, length}
+use Rattle.std.proofs.Common.{◌≡◌, ℕ, ◌+◌, ◌<◌, ◌≤◌, ◌==◌, ℤ, ◌≤ℤ◌, Bool, true, false, is_some, IfSome, All, Contains, List, [], ◌∷◌, Option, Some, None, length}
 use Rattle.std.specs.List.{list_any}
 use Rattle.sky_val.specs.declared.event.Event.{Event}
 use Rattle.sky_val.specs.declared.val.Val.{Val}
@@ -15,14 +15,16 @@ use Rattle.sky_names.specs.Places.{place_of}
 use Rattle.sky_model.specs.declared.stmt.Set.{Set}
 use Rattle.sky_model.specs.declared.stmt.Attempt.{Attempt}
 use Rattle.sky_model.specs.declared.stmt.Attempt.TheVariants.{Insertion, Changes, Deletion}
-use Rattle.sky_model.specs.History.{Batch, Mark, of_session, of_worker, began, ended, block_begun, repeats, looked, block_failed, block_ended, connected, disconnected, tabled, table_made, wrote, waits, waited, read_only, noded, NodeMark, queued, made, raised, put, ticked, registered, moved, unregistered, opened, closed, asked, returned, switching, switched, second_step, configured, dropped, traced, untraced, History}
+use Rattle.sky_model.specs.History.{Batch, Mark, of_session, of_worker, began, ended, block_begun, repeats, looked, block_failed, block_ended, connected, disconnected, tabled, table_made, wrote, waits, waited, read_only, noded, NodeMark, root_made, listed, unlisted, joined, parted, leaf_made, leaf_added, leaf_removed, state_set, queued, made, raised, put, ticked, registered, moved, unregistered, opened, closed, asked, returned, switching, switched, second_step, configured, dropped, traced, untraced, History}
 use Rattle.sky_model.specs.Config.{Config}
 use Rattle.sky_model.specs.Transactions.{next_txid, running, workers}
 use Rattle.sky_model.specs.Sessions.{has_open, outside, inside, block, own_txid}
-use Rattle.sky_model.specs.Rows.{table_names}
+use Rattle.sky_model.specs.Rows.{table_names, is_read_only}
 use Rattle.sky_model.specs.Locks.{holder, waiting}
 use Rattle.sky_model.specs.Triggers.{triggers, triggers_of}
-use Rattle.sky_model.specs.Queues.{NamedQueue, queues, queue_number, sequence, events, tables, Tick, ticks, tick, newest_tick}
+use Rattle.sky_model.specs.Nodes.{node, is_leaf}
+use Rattle.londiste_state.specs.Nodes.{Node, of_root}
+use Rattle.sky_model.specs.Queues.{NamedQueue, queues, queue_number, sequence, events, event_tables, Tick, ticks, tick, newest_tick}
 use Rattle.sky_model.specs.Consumers.{subscription_id, subscription, last_subscription, last_batch, active_batch}
 use Rattle.sky_model.specs.Retries.{retries, retried, brought_by}
 use Rattle.sky_model.specs.Queues.{id_of}
@@ -30,7 +32,8 @@ use Rattle.sky_model.specs.State.{RowPart, part_of, queue_of}
 use Rattle.sky_model.specs.StepQueue.{has_part_in}
 use Rattle.sky_model.specs.StepConsumer.{floor}
 use Rattle.sky_model.specs.StepRotation.{held_by_second_step}
-use Rattle.sky_model.specs.ShownRows.{rows_by}
+use Rattle.sky_model.specs.ShownRows.{rows_by, least_writer}
+use Rattle.sky_model.specs.StepNode.{set_trigger, NodeCall, adding, removing, moving, listing, unlisting, may_serve}
 use Rattle.sky_model.specs.StepRows.{column_called, bad_set, is_key_change}
 use Rattle.sky_model.specs.StepTrigger.{has_trigger}
 use Rattle.sky_model.specs.LawsOfWrites.{IsRowOf}
@@ -67,15 +70,19 @@ AttemptFits columns key (Insertion row) = IsRowOf columns key row
 AttemptFits columns key (Changes sets) = ChangesFit columns sets
 AttemptFits columns key Deletion = row_fault (key_columns columns) key ≡ None
 
--- a write to a table that exists: the old row is the one that is there, and if it is one that the table may have there, so is the new one
-pub record Replaces (d : RowPart) (who table : ℕ) (key : List Val) (old new : Option (List Val)) : Type 0 where
+-- a write to a table that exists, and that isn't a leaf's: the old row is the one that is there, and if it is one that the table may have there, so is
+-- the new one
+pub record Replaces (d : RowPart) (n : Option Node) (who table : ℕ) (key : List Val) (old new : Option (List Val)) : Type 0 where
   pub within : table < length d.tables
+  pub writable : is_leaf n ≡ true → d.is_read_only table ≡ false
   pub stands : ((rows_by d).key who table key).standing ≡ old
   pub fits : IfSome old (IsRowOf (d.columns table) key) → IfSome new (IsRowOf (d.columns table) key)
 
--- a session that has the database open and doesn't wait yet begins to wait for a key of a table that exists, with an attempt that fits
-pub record MayWait (d : RowPart) (who table : ℕ) (key : List Val) (attempt : Attempt) : Type 0 where
+-- a session that has the database open and doesn't wait yet begins to wait for a key of a table that exists, and that isn't a leaf's, with an attempt
+-- that fits
+pub record MayWait (d : RowPart) (n : Option Node) (who table : ℕ) (key : List Val) (attempt : Attempt) : Type 0 where
   pub within : table < length d.tables
+  pub writable : is_leaf n ≡ true → d.is_read_only table ≡ false
   pub fits : AttemptFits (d.columns table) key attempt
   pub quiet : is_waiting who d.waiting ≡ false
   pub is_open : (d.session who).is_open ≡ true
@@ -100,15 +107,94 @@ pub record Returns (h : History) (retry : Retry) (t : ℕ) : Type 0 where
 pub record MaySwitch (h : History) (q t : ℕ) : Type 0 where
   pub within : IsQueue h q
   pub runs : contains t (running h) ≡ true
-  pub none : (tables q h).pending ≡ None
-  pub free : held_by_second_step (queue_of h q) (tables q h).second_step ≡ None
+  pub none : (event_tables q h).pending ≡ None
+  pub free : held_by_second_step (queue_of h q) (event_tables q h).second_step ≡ None
 
 -- the second step of a queue's last switch may be made by the newest transaction, which is a worker's
 pub record MayEnd (h : History) (q t : ℕ) : Type 0 where
   pub within : IsQueue h q
-  pub missing : (tables q h).second_step ≡ None
+  pub missing : (event_tables q h).second_step ≡ None
   pub works : contains t (workers h) ≡ true
   pub newest : next_txid h ≡ t + 1
+
+-- ---- nodes
+
+-- the number of the queue of the set of which a database's node is the root
+abbrev pub queue_of_set : List NamedQueue → Option Node → Option ℕ
+queue_of_set queues (Some (of_root r)) = queue_number r.queue queues
+queue_of_set queues _ = None
+
+-- a queue isn't the set's
+abbrev pub IsNotSets : History → ℕ → Type 0
+IsNotSets h q = IfSome (queue_of_set (queues h) (node h)) (λ set. (set == q) ≡ false)
+
+-- no table is read-only
+abbrev pub AllWritable : History → Type 0
+AllWritable h = (table : ℕ) → is_read_only table h ≡ false
+
+-- no running transaction has written a table, and no session waits for a key of it
+pub record IsUnused (h : History) (table : ℕ) : Type 0 where
+  pub unwritten : least_writer (part_of h) table ≡ None
+  pub unawaited : All (λ w. (w.table == table) ≡ false) (waiting h)
+
+-- a table may join a set or a leaf, as this call says, and is an unused one of the database
+pub record Joins (h : History) (call : NodeCall) (name : List ℕ) : Type 0 where
+  pub may : may_serve call (node h) ≡ true
+  pub table : ℕ
+  pub there : place_of name (table_names h) ≡ Some table
+  pub unused : IsUnused h table
+
+-- or leave it, as this call says
+pub record Leaves (h : History) (call : NodeCall) (name : List ℕ) : Type 0 where
+  pub may : may_serve call (node h) ≡ true
+  pub table : ℕ
+  pub there : place_of name (table_names h) ≡ Some table
+
+-- a consumer is registered at the set's queue, or isn't
+pub record IsAtSet (h : History) (consumer : List ℕ) (there : Bool) : Type 0 where
+  pub queue : ℕ
+  pub set : queue_of_set (queues h) (node h) ≡ Some queue
+  pub registered : is_some (subscription_id queue consumer h) ≡ there
+
+-- a mark of a node may come next
+abbrev pub NodeFits : History → NodeMark → Type 0
+NodeFits h (root_made name queue) = (node h ≡ None) × (is_some (queue_number queue (queues h)) ≡ true)
+NodeFits h (listed table) = Joins h (listing table) table
+NodeFits h (unlisted table) = Leaves h (unlisting table) table
+NodeFits h (joined consumer) = IsAtSet h consumer true
+NodeFits h (parted consumer) = IsAtSet h consumer false
+NodeFits h (leaf_made name provider tick) = (node h ≡ None) × AllWritable h
+NodeFits h (leaf_added table) = Joins h (adding table) table
+NodeFits h (leaf_removed table) = Leaves h (removing table) table
+NodeFits h (state_set table state) = may_serve (moving table state) (node h) ≡ true
+NodeFits h _ = Unit {0}
+
+-- the last mark is such a one, of the table of this number
+pub record IsOfLast (h : History) (mark : List ℕ → NodeMark) (table : ℕ) : Type 0 where
+  pub below : History
+  pub name : List ℕ
+  pub last : h ≡ noded (mark name) ∷ below
+  pub there : place_of name (table_names below) ≡ Some table
+
+-- a table of a set gets the trigger into the set's queue as soon as it has joined
+pub record IsSets (h : History) (table : ℕ) (trigger : Trigger) : Type 0 where
+  pub just_joined : IsOfLast h listed table
+  pub set : queue_of_set (queues h) (node h) ≡ Some trigger.queue
+  pub plain : trigger ≡ set_trigger trigger.queue
+
+-- a trigger with a name is into another queue than the set's, and the table has none of its name; one without a name is the set's
+abbrev pub MayTrace : History → ℕ → Option (List ℕ) → Trigger → Type 0
+MayTrace h table None trigger = IsSets h table trigger
+MayTrace h table (Some name) trigger = (has_trigger name (triggers_of table (triggers h)) ≡ false) × IsNotSets h trigger.queue
+
+-- a table becomes read-only as soon as it has joined a leaf, if it is unused, and may be written again as soon as it has left; if there is no node,
+-- whoever uses the tables alone decides
+pub data MayGuard (h : History) : ℕ → Bool → Type 0 where
+  without_node : (table : ℕ) (on : Bool) → node h ≡ None → MayGuard h table on
+  at_joining : (table : ℕ) → IsOfLast h leaf_added table → IsUnused h table → MayGuard h table true
+  at_leaving : (table : ℕ) → IsOfLast h leaf_removed table → MayGuard h table false
+
+-- ---- all marks
 
 -- the mark may come next
 pub data Fine (h : History) : Mark → Type 0 where
@@ -125,9 +211,9 @@ pub data Fine (h : History) : Mark → Type 0 where
   looks : (who : ℕ) → Fine h (looked who)
   makes_table : (name : List ℕ) (columns : List Column) → place_of name (table_names h) ≡ None → Fine h (tabled (table_made name columns))
   writes : (who t table : ℕ) (key : List Val) (old new : Option (List Val)) → own_txid who h ≡ Some t → other_than who (holder table key h) ≡ None
-      → Replaces (part_of h) who table key old new
+      → Replaces (part_of h) (node h) who table key old new
       → Fine h (tabled (wrote (of_session who) t table key old new))
-  begins_waiting : (who table : ℕ) (key : List Val) (attempt : Attempt) → MayWait (part_of h) who table key attempt → Fine h (tabled (waits who table key attempt))
+  begins_waiting : (who table : ℕ) (key : List Val) (attempt : Attempt) → MayWait (part_of h) (node h) who table key attempt → Fine h (tabled (waits who table key attempt))
   ends_waiting : (who : ℕ) → Fine h (tabled (waited who))
   makes : (name : List ℕ) (t : ℕ) (time : ℤ) → queue_number name (queues h) ≡ None → Fine h (queued (made name t time))
   raises : (q value : ℕ) → IsQueue h q → sequence q h ≤ value → Fine h (queued (raised q value))
@@ -146,17 +232,16 @@ pub data Fine (h : History) : Mark → Type 0 where
   returns : (below : History) (retry : Retry) (t : ℕ) (moment : ℤ) → h ≡ queued (put retry.queue (brought_by t retry.event)) ∷ below → Returns below retry t
       → retry.due ≤ℤ moment → Fine h (queued (returned retry moment))
   begins_switch : (q t : ℕ) → MaySwitch h q t → Fine h (queued (switching q t))
-  makes_switch : (q t : ℕ) (time : ℤ) → IsQueue h q → (tables q h).pending ≡ Some t → Fine h (queued (switched q time))
+  makes_switch : (q t : ℕ) (time : ℤ) → IsQueue h q → (event_tables q h).pending ≡ Some t → Fine h (queued (switched q time))
   ends_switch : (q t : ℕ) → MayEnd h q t → Fine h (queued (second_step q t))
   configures : (q : ℕ) (config : Config) → IsQueue h q → Fine h (queued (configured q config))
   drops : (q : ℕ) → ((consumer : List ℕ) → subscription_id q consumer h ≡ None) → All (λ t. (t.trigger.queue == q) ≡ false) (triggers h)
-      → All (λ t. has_part_in (tables q h) t ≡ false) (running h) → Fine h (queued (dropped q))
+      → All (λ t. has_part_in (event_tables q h) t ≡ false) (running h) → IsNotSets h q → Fine h (queued (dropped q))
   traces : (table : ℕ) (name : Option (List ℕ)) (trigger : Trigger) → table < length (table_names h) → IsQueue h trigger.queue
-      → IfSome name (λ n. has_trigger n (triggers_of table (triggers h)) ≡ false)
-      → Fine h (queued (traced table name trigger))
-  untraces : (table : ℕ) → Fine h (queued (untraced table))
-  guards : (table : ℕ) (on : Bool) → Fine h (tabled (read_only table on))
-  nodes : (mark : NodeMark) → Fine h (noded mark)
+      → MayTrace h table name trigger → Fine h (queued (traced table name trigger))
+  untraces : (table : ℕ) → IsOfLast h unlisted table → Fine h (queued (untraced table))
+  guards : (table : ℕ) (on : Bool) → MayGuard h table on → Fine h (tabled (read_only table on))
+  nodes : (mark : NodeMark) → NodeFits h mark → Fine h (noded mark)
 
 -- these marks may come next, one after another
 pub data Chain : History → List Mark → Type 0 where
@@ -167,3 +252,9 @@ pub data Chain : History → List Mark → Type 0 where
 pub data Legal : History → Type 0 where
   start : Legal []
   next : {h : History} {mark : Mark} → Legal h → Fine h mark → Legal (mark ∷ h)
+
+pub legal-below_mark : {h : History} {mark : Mark} → Legal (mark ∷ h) → Legal h
+legal-below_mark (next l f) = l
+
+pub fine_mark : {h : History} {mark : Mark} → Legal (mark ∷ h) → Fine h mark
+fine_mark (next l f) = f

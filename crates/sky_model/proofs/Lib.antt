@@ -27,6 +27,13 @@ pub mod StandingQueues
 mod Members
 pub mod Unneeded
 pub mod Snapshots
+pub mod NodeReadings
+pub mod SetQueues
+pub mod NodeTables
+pub mod WrittenTables
+pub mod Unawaited
+pub mod NodesStanding
+pub mod CallsRest
 pub mod Ticks
 pub mod Selecting
 pub mod OrderById
@@ -95,6 +102,8 @@ pub mod DatabaseResting
 pub mod Inserted
 pub mod Telling
 pub mod LockLaws
+pub mod NodeLaws
+pub mod WritableTables
 pub mod Writers
 pub mod WriteOrder
 pub mod Subscriptions

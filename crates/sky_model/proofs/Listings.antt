@@ -14,9 +14,9 @@ use Rattle.pgq_tables.specs.ById.{by_id}
 use Rattle.sky_model.specs.Retries.{brought_by}
 use Rattle.sky_model.specs.Queues.{id_of}
 use Rattle.sky_model.specs.LawsOfBatches.{stands_in, ListingsStay}
-use Rattle.sky_model.proofs.Legal.{Fine, makes, puts, puts_back, ticks_next, Legal}
+use Rattle.sky_model.proofs.Legal.{Fine, makes, puts, puts_back, ticks_next, Legal, legal-below_mark, fine_mark}
 use Rattle.sky_model.proofs.Snapshots.{sound, runs-unended, own-unended, has_committed-ended}
-use Rattle.sky_model.proofs.SnapshotLaws.{legal-below_mark, fine_mark, legal-below, legal_place}
+use Rattle.sky_model.proofs.SnapshotLaws.{legal-below, legal_place}
 use Rattle.sky_model.proofs.TickOrder.{is_made, unmade_above, committed_since, unmade_beyond}
 use Rattle.sky_model.proofs.ActiveBatches.{IsActive, active_batches}
 use Rattle.sky_model.proofs.Cases.{by_same}

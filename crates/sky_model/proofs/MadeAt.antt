@@ -2,7 +2,7 @@
 use Rattle.std.proofs.Common.{◌≡◌, ℕ, Ok, Err, ◌∙◌, ap, if◌then◌else◌}
 use Rattle.sky_model.specs.declared.stmt.Where.{Where}
 use Rattle.sky_model.specs.History.{looked}
-use Rattle.sky_model.specs.Outcome.{Checked, settled}
+use Rattle.sky_model.specs.Outcome.{Checked, or_refused}
 use Rattle.sky_model.specs.Allowed.{allowed}
 use Rattle.sky_model.specs.Made.{Making, takes_sight, looking, runs_if, made_by}
 
@@ -16,10 +16,10 @@ pub record Alike {P Q : Type 0} (m : Making P) (n : Making Q) (who : ℕ) (p : P
 
 same-runs_if : {P Q : Type 0} (m : Making P) (n : Making Q) (place : Where) (who : ℕ) (p : P) (q : Q) → Alike m n who p q
     → (may : Checked (Unit {0})) → runs_if m place who p may ≡ runs_if n place who q may
-same-runs_if m n place who p q alike (Err refusal) = ap (λ s. settled who s (Err refusal)) alike.sessions
+same-runs_if m n place who p q alike (Err refusal) = ap (λ s. or_refused who s (Err refusal)) alike.sessions
 same-runs_if m n place who p q alike (Ok _) = λ i.
-    if takes_sight place (alike.sessions i).sight then looking who (settled who (alike.sessions_behind i) (alike.outcomes_behind i))
-    else settled who (alike.sessions i) (alike.outcomes i)
+    if takes_sight place (alike.sessions i).sight then looking who (or_refused who (alike.sessions_behind i) (alike.outcomes_behind i))
+    else or_refused who (alike.sessions i) (alike.outcomes i)
 
 pub same-made_by : {P Q : Type 0} (m : Making P) (n : Making Q) (place : Where) (who : ℕ) (p : P) (q : Q) → Alike m n who p q → made_by m place who p ≡ made_by n place who q
 same-made_by m n place who p q alike =

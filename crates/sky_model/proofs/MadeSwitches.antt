@@ -11,7 +11,7 @@ use Rattle.sky_model.specs.Transactions.{has_committed}
 use Rattle.sky_model.specs.Sessions.{Block, outside, inside, failed}
 use Rattle.sky_model.specs.Outcome.{marks_of}
 use Rattle.sky_model.specs.StepRetry.{brings}
-use Rattle.sky_model.specs.Queues.{NamedQueue, queues, is_pending, tables}
+use Rattle.sky_model.specs.Queues.{NamedQueue, queues, is_pending, event_tables}
 use Rattle.sky_model.specs.OwnTransaction.{commit_of}
 use Rattle.sky_model.specs.State.{database_of}
 use Rattle.sky_model.specs.StepRotation.{switch_of, switches_by}
@@ -35,7 +35,7 @@ is_commit t _ = false
 
 -- if a switch is made, it is at this moment, and its transaction commits later
 abbrev MadeAt : ℤ → History → Mark → List Mark → Type 0
-MadeAt now h (queued (switched q time)) later = (time ≡ now) × ((t : ℕ) → (tables q h).pending ≡ Some t → list_any (is_commit t) later ≡ true)
+MadeAt now h (queued (switched q time)) later = (time ≡ now) × ((t : ℕ) → (event_tables q h).pending ≡ Some t → list_any (is_commit t) later ≡ true)
 MadeAt now h _ later = Unit {0}
 
 -- so it is with each of some marks
@@ -90,11 +90,11 @@ none-done b who _ e = refl
 -- ---- what calls leave
 
 -- one that is made at once
-own-pending : (h : History) (q t u : ℕ) → (tables q (queued (switching q t) ∷ h)).pending ≡ Some u → t ≡ u
+own-pending : (h : History) (q t u : ℕ) → (event_tables q (queued (switching q t) ∷ h)).pending ≡ Some u → t ≡ u
 own-pending h q t u pends =
-    ap (λ o. unwrap_or o t) (sym (subst (λ b. (if b then with_pending t (tables q h) else tables q h).pending ≡ Some t) (sym (same-session q)) refl) ∙ pends)
+    ap (λ o. unwrap_or o t) (sym (subst (λ b. (if b then with_pending t (event_tables q h) else event_tables q h).pending ≡ Some t) (sym (same-session q)) refl) ∙ pends)
 
-commits-now : (h : History) (q t u : ℕ) → (tables q (queued (switching q t) ∷ h)).pending ≡ Some u → ((u == t) || false) ≡ true
+commits-now : (h : History) (q t u : ℕ) → (event_tables q (queued (switching q t) ∷ h)).pending ≡ Some u → ((u == t) || false) ≡ true
 commits-now h q t u pends = subst (λ n. ((n == t) || false) ≡ true) (own-pending h q t u pends) (ap (λ b. b || false) (same-session t))
 
 made-switch : (now : ℤ) (h : History) (who q t : ℕ) (b : Block) → Made now h (switch_of q t now b ++ commit_of who t b)
@@ -104,22 +104,22 @@ made-switch now h who q t failed = (tt, tt)
 
 -- what is pending at a place was so before
 abbrev Left : History → History → Type 0
-Left h g = (q t : ℕ) → (tables q g).pending ≡ Some t → (tables q h).pending ≡ Some t
+Left h g = (q t : ℕ) → (event_tables q g).pending ≡ Some t → (event_tables q h).pending ≡ Some t
 
 left-switched : (h g : History) (q : ℕ) (now : ℤ) → Left h g → Left h (queued (switched q now) ∷ g)
 left-switched h g q now left p t =
-    by_test (λ b. (if b then tables_of.switched now (tables p g) else tables p g).pending ≡ Some t → (tables p h).pending ≡ Some t) (q == p) (λ _ none. absurd (cc)) (λ _ pends. left p t pends)
+    by_test (λ b. (if b then tables_of.with_switch now (event_tables p g) else event_tables p g).pending ≡ Some t → (event_tables p h).pending ≡ Some t) (q == p) (λ _ none. absurd (cc)) (λ _ pends. left p t pends)
 
 -- those of a transaction that a commit makes
-own : (h : History) (q t u : ℕ) → is_pending t (tables q h) ≡ true → (tables q h).pending ≡ Some u → t ≡ u
+own : (h : History) (q t u : ℕ) → is_pending t (event_tables q h) ≡ true → (event_tables q h).pending ≡ Some u → t ≡ u
 own h q t u is pends = sym (eqb-true u t (sym (ap (λ o. unwrap_or (option_map (λ v. v == t) o) false) pends) ∙ is))
 
 made-switches : (h : History) (now : ℤ) (t : ℕ) (qs : List NamedQueue) (g : History) (rest : List Mark) → Left h g → list_any (is_commit t) rest ≡ true → ((f : History) → Made now f rest)
     → Made now g (switches_by (database_of h) now t qs ++ rest)
 made-switches h now t [] g rest left commits last = last g
 made-switches h now t (q ∷ qs) g rest left commits last =
-    by_test (λ b. is_pending t (tables q.number h) ≡ b → Made now g ((if b then queued (switched q.number now) ∷ switches_by (database_of h) now t qs else switches_by (database_of h) now t qs) ++ rest))
-    (is_pending t (tables q.number h))
+    by_test (λ b. is_pending t (event_tables q.number h) ≡ b → Made now g ((if b then queued (switched q.number now) ∷ switches_by (database_of h) now t qs else switches_by (database_of h) now t qs) ++ rest))
+    (is_pending t (event_tables q.number h))
     (λ _ is. (
       (refl, λ u pends. subst (λ n. list_any (is_commit n) (switches_by (database_of h) now t qs ++ rest) ≡ true) (own h q.number t u is (left q.number u pends)) (any-right t (switches_by (database_of h) now t qs) rest commits)),
       made-switches h now t qs (queued (switched q.number now) ∷ g) rest (left-switched h g q.number now left) commits last,

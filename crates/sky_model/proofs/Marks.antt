@@ -104,7 +104,7 @@ database_of-queue_mark h (closed b) = λ i. record (database_of h) {
 database_of-queue_mark h (switching q t) = λ i. record (database_of h) { queue = λ n. by_case (q == n) (λ b. record (queue_of h n) { tables = if b then with_pending t (queue_of h n).tables else (queue_of h n).tables }) i }
 database_of-queue_mark h (switched q time) = λ i. record (database_of h) {
   queue = λ n. by_case (q == n) (λ b. record (queue_of h n) {
-    tables = if b then tables_of.switched time (queue_of h n).tables else (queue_of h n).tables;
+    tables = if b then tables_of.with_switch time (queue_of h n).tables else (queue_of h n).tables;
     tick_list = if b then ticks_above (second_step_of (queue_of h n).tables) (queue_of h n).tick_list else (queue_of h n).tick_list;
   }) i;
 }

@@ -1,35 +1,36 @@
 -- Which marks calls for nodes leave, and that these may come.
-use Rattle.std.proofs.Common.{◌≡◌, ℕ, ◌+◌, ◌^◌, nat_le, List, [], ◌∷◌, ◌++◌, Bool, true, false, Option, Some, None, Ok, Err, All, is_some, length, refl, sym, ◌∙◌, ap, subst, arith, option_map}
+use Rattle.std.proofs.Common.{◌≡◌, ℕ, ◌+◌, ◌^◌, nat_le, List, [], ◌∷◌, ◌++◌, Bool, true, false, ◌&&◌, Option, Some, None, Ok, Err, All, is_some, length, refl, sym, ◌∙◌, ap, arith, option_map, if◌then◌else◌}
 use Rattle.std.proofs.lemmas.List.Elements.{All-nil, All-cons}
 use Rattle.sky_names.specs.Places.{place_of}
-use Rattle.sky_names.proofs.PlaceLemmas.{place_of_within}
+use Rattle.sky_names.proofs.PlaceLemmas.{place_of_within, bytes_eq_refl}
 use Rattle.londiste_state.specs.Nodes.{Node, of_root, of_leaf}
-use Rattle.sky_model.specs.declared.reply.Reply.TheVariants.{Done, Number}
+use Rattle.sky_model.specs.declared.reply.Reply.TheVariants.{Number, Null}
 use Rattle.sky_model.specs.declared.reply.Limit.TheVariants.{Consumers, Triggers}
 use Rattle.sky_model.specs.declared.reply.Refusal.TheVariants.{ConsumerExists, IdsSpent, TableBusy, TooMany}
-use Rattle.sky_model.specs.History.{Batch, Mark, tabled, read_only, queued, registered, unregistered, opened, closed, traced, untraced, noded, joined, parted, leaf_made, leaf_added, leaf_removed, state_set, listed, unlisted, History}
+use Rattle.sky_model.specs.History.{Mark, tabled, read_only, queued, registered, unregistered, opened, closed, traced, untraced, noded, NodeMark, joined, parted, leaf_made, leaf_added, leaf_removed, state_set, listed, unlisted, History}
 use Rattle.sky_model.specs.Nodes.{node}
-use Rattle.sky_model.specs.Queues.{Tick, tick, queue_number, queues, id_of, newest_tick, ticks}
-use Rattle.sky_model.specs.Consumers.{Subscription, subscription, subscription_id, position, active, active_batch}
+use Rattle.sky_model.specs.Queues.{Tick, tick, queues, id_of, newest_tick, ticks}
+use Rattle.sky_model.specs.Consumers.{Subscription, subscription, subscription_id, last_subscription, position, active, active_batch}
 use Rattle.sky_model.specs.Rows.{table_names}
 use Rattle.sky_model.specs.Triggers.{triggers, triggers_of}
 use Rattle.sky_model.specs.ShownRows.{least_writer}
-use Rattle.sky_model.specs.Sessions.{has_open}
-use Rattle.sky_model.specs.State.{Database, part_of, database_of, queue_of}
-use Rattle.sky_model.specs.Outcome.{Outcome, Checked, ◌>>=◌, ◌>>◌, refused_if, does_marks, marks_of}
+use Rattle.sky_model.specs.State.{Database, part_of, database_of}
+use Rattle.sky_model.specs.Outcome.{Outcome, Checked, ◌>>=◌, ◌>>◌, refused_if, answers, does_marks, marks_of}
 use Rattle.sky_model.specs.Settling.{ready, marked}
 use Rattle.sky_model.specs.StepQueue.{newest_id}
-use Rattle.sky_model.specs.StepConsumer.{opens_batch, takes_batch, registers as registers_at}
-use Rattle.sky_model.specs.StepNode.{set_queue, set_queue_of, joins, parts, set_trigger, NodeCall, joining, parting, fetching, finishing, making_leaf, adding, removing, moving, listing, unlisting, if_there, table_number, node_does}
+use Rattle.sky_model.specs.StepConsumer.{opens_batch, takes_batch}
+use Rattle.sky_model.specs.StepNode.{set_queue, joins, parts, set_trigger, lists, adds, NodeCall, joining, parting, fetching, finishing, making_leaf, adding, removing, moving, listing, unlisting, if_there, table_number, may_serve, call_form, node_does}
 use Rattle.sky_model.specs.LawsOfRetries.{IsBackAt}
-use Rattle.sky_model.proofs.Legal.{IsQueue, unregisters, traces, untraces, guards, nodes, Chain, done, more, Legal}
-use Rattle.sky_model.proofs.Good.{Good, good_test, good_refused_by}
-use Rattle.sky_model.proofs.LawfulTelling.{good_append}
+use Rattle.sky_model.proofs.Legal.{IsQueue, queue_of_set, AllWritable, IsUnused, IsAtSet, IsOfLast, at_joining, at_leaving, Fine, registers, unregisters, traces, untraces, guards, nodes, Chain, done, more, Legal}
+use Rattle.sky_model.proofs.NodeReadings.{set-number, no-node, same-node}
+use Rattle.sky_model.proofs.Unawaited.{unawaited}
+use Rattle.sky_model.proofs.Cases.{by_test}
+use Rattle.sky_model.proofs.Good.{Good, same-session, good_test, good_refused, good_refused_by}
 use Rattle.sky_model.proofs.LawfulRows.{no-one, nothing}
-use Rattle.sky_model.proofs.Lawful.{good_registers, good_takes_batch, good_closes}
+use Rattle.sky_model.proofs.Lawful.{good_takes_batch, good_closes}
 use Rattle.sky_model.proofs.QueueNumbers.{among-number}
 use Rattle.sky_model.proofs.Rotation.{newest-kept, floor-newest}
-use Rattle.sky_model.proofs.StatementMarks.{EachMark, each-map, each-rest, each-given, Gives, AnyReply, after}
+use Rattle.sky_model.proofs.StatementMarks.{EachMark, each-map, each-rest, each-given, Gives, gives-map, AnyReply, after, either}
 
 -- the marks that they leave
 abbrev pub is_for_nodes : Mark → Bool
@@ -43,17 +44,30 @@ is_for_nodes (tabled (read_only table on)) = true
 is_for_nodes (noded mark) = true
 is_for_nodes _ = false
 
+-- those of a leaf's consumer
+abbrev pub is_for_consumers : Mark → Bool
+is_for_consumers (queued (registered q name sub tick)) = true
+is_for_consumers (queued (unregistered q name sub)) = true
+is_for_consumers (queued (opened batch)) = true
+is_for_consumers (queued (closed batch)) = true
+is_for_consumers (noded (joined consumer)) = true
+is_for_consumers (noded (parted consumer)) = true
+is_for_consumers _ = false
+
 abbrev NodeGives : Checked Outcome → Type 0
 NodeGives c = Gives AnyReply is_for_nodes c
 
-gives-there : {A : Type 0} (o : Option A) (next : A → Checked Outcome) → ((a : A) → NodeGives (next a)) → NodeGives (if_there o next)
-gives-there None next gives = (tt, tt)
-gives-there (Some a) next gives = gives a
+abbrev pub ConsumerGives : Checked Outcome → Type 0
+ConsumerGives c = Gives AnyReply is_for_consumers c
 
-gives-joins : (d : Database) (queue : ℕ) (consumer : List ℕ) → NodeGives (joins d queue consumer)
+gives-there : {A : Type 0} (p : Mark → Bool) (o : Option A) (next : A → Checked Outcome) → ((a : A) → Gives AnyReply p (next a)) → Gives AnyReply p (if_there o next)
+gives-there p None next gives = (tt, tt)
+gives-there p (Some a) next gives = gives a
+
+gives-joins : (d : Database) (queue : ℕ) (consumer : List ℕ) → ConsumerGives (joins d queue consumer)
 gives-joins d queue consumer = of (is_some ((d.queue queue).sub consumer)) (nat_le 256 (length (d.queue queue).members)) (nat_le (2 ^ 64) (d.last_sub_id + 1))
   where
-    of : (there full spent : Bool) → NodeGives (refused_if there (ConsumerExists consumer) >> ((refused_if full (TooMany Consumers) >> (refused_if spent IdsSpent
+    of : (there full spent : Bool) → ConsumerGives (refused_if there (ConsumerExists consumer) >> ((refused_if full (TooMany Consumers) >> (refused_if spent IdsSpent
         >> does_marks (Number 1) (queued (registered queue consumer (d.last_sub_id + 1) (newest_id (d.queue queue))) ∷ [])))
         >>= (λ registering. does_marks (Number (newest_id (d.queue queue))) (registering.marks ++ noded (joined consumer) ∷ []))))
     of true full spent = tt
@@ -61,30 +75,56 @@ gives-joins d queue consumer = of (is_some ((d.queue queue).sub consumer)) (nat_
     of false false true = tt
     of false false false = (tt, tt)
 
-gives-parts : (queue : ℕ) (consumer : List ℕ) (o : Option Subscription) → NodeGives (parts queue consumer o)
+gives-parts : (queue : ℕ) (consumer : List ℕ) (o : Option Subscription) → ConsumerGives (parts queue consumer o)
 gives-parts queue consumer None = (tt, tt)
 gives-parts queue consumer (Some sub) = (tt, tt)
 
-gives-opens : (d : Database) (queue : ℕ) (consumer : List ℕ) (sub : Subscription) (o : Option Tick) → NodeGives (opens_batch d queue consumer sub o)
+gives-opens : (d : Database) (queue : ℕ) (consumer : List ℕ) (sub : Subscription) (o : Option Tick) → ConsumerGives (opens_batch d queue consumer sub o)
 gives-opens d queue consumer sub None = (tt, tt)
 gives-opens d queue consumer sub (Some next) = search (after)
 
-gives-takes : (d : Database) (queue : ℕ) (consumer : List ℕ) (sub : Subscription) (o : Option ℕ) → NodeGives (takes_batch d queue consumer sub o)
+gives-takes : (d : Database) (queue : ℕ) (consumer : List ℕ) (sub : Subscription) (o : Option ℕ) → ConsumerGives (takes_batch d queue consumer sub o)
 gives-takes d queue consumer sub (Some batch) = (tt, tt)
 gives-takes d queue consumer sub None = gives-opens d queue consumer sub (tick (sub.position + 1) (d.queue queue).tick_list)
 
+-- the calls for a leaf's consumer
+abbrev pub is_consumers : NodeCall → Bool
+is_consumers (joining consumer) = true
+is_consumers (parting consumer) = true
+is_consumers (fetching consumer) = true
+is_consumers (finishing batch) = true
+is_consumers _ = false
+
+pub gives-consumers : (d : Database) (call : NodeCall) → is_consumers call ≡ true → ConsumerGives (call_form d call)
+gives-consumers d (joining consumer) e = gives-there is_for_consumers (set_queue d) _ (λ queue. gives-joins d queue consumer)
+gives-consumers d (parting consumer) e = gives-there is_for_consumers (set_queue d) _ (λ queue. gives-parts queue consumer ((d.queue queue).sub consumer))
+gives-consumers d (fetching consumer) e =
+    gives-there is_for_consumers (set_queue d) _ (λ queue. gives-there is_for_consumers ((d.queue queue).sub consumer) _ (λ sub. gives-takes d queue consumer sub sub.active))
+gives-consumers d (finishing batch) e = gives-there is_for_consumers (d.batch batch) _ (λ b. (tt, tt))
+gives-consumers d _ e = absurd (cc)
+
+also-nodes : (mark : Mark) → is_for_consumers mark ≡ true → is_for_nodes mark ≡ true
+also-nodes (queued (registered q name sub tick)) e = refl
+also-nodes (queued (unregistered q name sub)) e = refl
+also-nodes (queued (opened batch)) e = refl
+also-nodes (queued (closed batch)) e = refl
+also-nodes (noded mark) e = refl
+also-nodes _ e = absurd (cc)
+
+gives-consumer : (d : Database) (call : NodeCall) → is_consumers call ≡ true → NodeGives (call_form d call)
+gives-consumer d call e = gives-map AnyReply AnyReply is_for_consumers is_for_nodes (λ reply any. any) also-nodes (call_form d call) (gives-consumers d call e)
+
+gives-call : (d : Database) (call : NodeCall) → NodeGives (call_form d call)
+gives-call d (making_leaf name provider tick) = (tt, tt)
+gives-call d (adding name) = gives-there is_for_nodes (table_number d name) _ (λ table. search (after))
+gives-call d (removing name) = gives-there is_for_nodes (table_number d name) _ (λ table. (tt, tt))
+gives-call d (moving name state) = (tt, tt)
+gives-call d (listing name) = gives-there is_for_nodes (set_queue d) _ (λ queue. gives-there is_for_nodes (table_number d name) _ (λ table. search (after)))
+gives-call d (unlisting name) = gives-there is_for_nodes (table_number d name) _ (λ table. (tt, tt))
+gives-call d call = gives-consumer d call refl
+
 gives-node : (d : Database) (call : NodeCall) → NodeGives (node_does d call)
-gives-node d (joining consumer) = gives-there (set_queue d) _ (λ queue. gives-joins d queue consumer)
-gives-node d (parting consumer) = gives-there (set_queue d) _ (λ queue. gives-parts queue consumer ((d.queue queue).sub consumer))
-gives-node d (fetching consumer) =
-    gives-there (set_queue d) _ (λ queue. gives-there ((d.queue queue).sub consumer) _ (λ sub. gives-takes d queue consumer sub sub.active))
-gives-node d (finishing batch) = gives-there (d.batch batch) _ (λ b. (tt, tt))
-gives-node d (making_leaf name provider tick) = (tt, tt)
-gives-node d (adding name) = gives-there (table_number d name) _ (λ table. search (after))
-gives-node d (removing name) = gives-there (table_number d name) _ (λ table. (tt, tt))
-gives-node d (moving name state) = (tt, tt)
-gives-node d (listing name) = gives-there (set_queue d) _ (λ queue. gives-there (table_number d name) _ (λ table. search (after)))
-gives-node d (unlisting name) = gives-there (table_number d name) _ (λ table. (tt, tt))
+gives-node d call = either AnyReply is_for_nodes (may_serve call d.node) (call_form d call) (answers Null) (gives-call d call) (tt, tt)
 
 -- each passes a test that such marks pass
 pub each-node : (p : Mark → Bool) → ((mark : Mark) → is_for_nodes mark ≡ true → p mark ≡ true) → (d : Database) (call : NodeCall) → EachMark p (marks_of (node_does d call))
@@ -128,51 +168,120 @@ good-there h None next good = done
 good-there h (Some a) next good = good a refl
 
 -- a set's queue stands
-set-stands : (h : History) (n : Option Node) (q : ℕ) → set_queue_of (database_of h) n ≡ Some q → IsQueue h q
-set-stands h None q is = absurd (cc)
-set-stands h (Some (of_leaf l)) q is = absurd (cc)
-set-stands h (Some (of_root r)) q is = among-number r.queue (queues h) q is
+set-stands : (h : History) (q : ℕ) → set_queue (database_of h) ≡ Some q → IsQueue h q
+set-stands h q is = of (node h) (sym (set-number (database_of h)) ∙ is)
+  where
+    of : (n : Option Node) → queue_of_set (queues h) n ≡ Some q → IsQueue h q
+    of None e = absurd (cc)
+    of (Some (of_leaf l)) e = absurd (cc)
+    of (Some (of_root r)) e = among-number r.queue (queues h) q e
 
-good-then : (h : History) (c : Checked Outcome) (f : Outcome → Outcome) → ((o : Outcome) → Chain h o.marks → Chain h (f o).marks) → Good h 0 c → Good h 0 (c >>= (λ o. Ok (f o)))
-good-then h (Ok o) f goes good = goes o good
-good-then h (Err refusal) f goes good = good
+-- what is so between calls: no session that waits is ready, and a database without a node has no read-only table
+pub record IsBetween (h : History) : Type 0 where
+  pub rests : ready (part_of h) ≡ None
+  pub writable : node h ≡ None → AllWritable h
 
-good-joins : (h : History) → Legal h → (q : ℕ) (consumer : List ℕ) → IsQueue h q → Good h 0 (joins (database_of h) q consumer)
-good-joins h l q consumer is =
+-- a consumer joins, whose registering is the mark before
+is-at-set : (h : History) (q : ℕ) (consumer : List ℕ) (mark : Mark) (b : Bool) → set_queue (database_of h) ≡ Some q → queue_of_set (queues (mark ∷ h)) (node (mark ∷ h)) ≡ queue_of_set (queues h) (node h)
+    → is_some (subscription_id q consumer (mark ∷ h)) ≡ b → IsAtSet (mark ∷ h) consumer b
+is-at-set h q consumer mark b set still there = record { queue = q; set = still ∙ sym (set-number (database_of h)) ∙ set; registered = there }
+
+good-joins : (h : History) → Legal h → (q : ℕ) (consumer : List ℕ) → set_queue (database_of h) ≡ Some q → Good h 0 (joins (database_of h) q consumer)
+good-joins h l q consumer set =
     good_test h 0 (is_some (((database_of h).queue q).sub consumer)) (ConsumerExists consumer) _ (λ new.
-    let all : newest_id ((database_of h).queue q) ≡ id_of (newest_tick (ticks q h)) = ap id_of (newest-kept h l q is) in
-    good-then h (registers_at (database_of h) q consumer (newest_id ((database_of h).queue q))) (λ o. record { reply = Number (newest_id ((database_of h).queue q)); marks = o.marks ++ noded (joined consumer) ∷ [] })
-    (λ o chain. good_append h o.marks (noded (joined consumer) ∷ []) chain (more (nodes (joined consumer)) done))
-    (good_registers h 0 q consumer _ is (no-one _ (subscription_id q consumer h) (nothing _ new)) (omega arith) (omega (arith, all, floor-newest h l q is))))
+    of (no-one _ (subscription_id q consumer h) (nothing _ new)) (nat_le 256 (length ((database_of h).queue q).members)) (nat_le (2 ^ 64) ((database_of h).last_sub_id + 1)))
+  where
+    is : IsQueue h q
+    is = set-stands h q set
 
-good-parts : (h : History) (q : ℕ) (consumer : List ℕ) (o : Option ℕ) → IsQueue h q → subscription_id q consumer h ≡ o
+    at : ℕ
+    at = newest_id ((database_of h).queue q)
+
+    sub : ℕ
+    sub = last_subscription h + 1
+
+    mark : Mark
+    mark = queued (registered q consumer sub at)
+
+    there : is_some (subscription_id q consumer (mark ∷ h)) ≡ true
+    there = λ i. is_some (if same-session q i && bytes_eq_refl consumer i then Some sub else subscription_id q consumer h)
+
+    fine : subscription_id q consumer h ≡ None → Fine h mark
+    fine new =
+        let all : newest_id ((database_of h).queue q) ≡ id_of (newest_tick (ticks q h)) = ap id_of (newest-kept h l q is) in
+        registers q consumer sub at is new (omega arith) (omega (arith, all)) (omega (arith, all, floor-newest h l q is))
+
+    of : subscription_id q consumer h ≡ None → (full spent : Bool)
+        → Good h 0 ((refused_if full (TooMany Consumers) >> (refused_if spent IdsSpent >> does_marks (Number 1) (mark ∷ [])))
+        >>= (λ registering. does_marks (Number at) (registering.marks ++ noded (joined consumer) ∷ [])))
+    of new true spent = good_refused h 0 (TooMany Consumers)
+    of new false true = good_refused h 0 IdsSpent
+    of new false false = more (fine new) (more (nodes (joined consumer) (is-at-set h q consumer mark true set refl there)) done)
+
+good-parts : (h : History) (q : ℕ) (consumer : List ℕ) (o : Option ℕ) → set_queue (database_of h) ≡ Some q → subscription_id q consumer h ≡ o
     → Good h 0 (parts q consumer (option_map (λ id. record { id = id; position = position q consumer h; active = active q consumer h }) o))
-good-parts h q consumer None is stands = done
-good-parts h q consumer (Some sub) is stands = more (unregisters q consumer sub is stands) (more (nodes (parted consumer)) done)
+good-parts h q consumer None set stands = done
+good-parts h q consumer (Some sub) set stands =
+    more (unregisters q consumer sub (set-stands h q set) stands)
+    (more (nodes (parted consumer) (is-at-set h q consumer (queued (unregistered q consumer sub)) false set refl
+    (λ i. is_some (if same-session q i && bytes_eq_refl consumer i then None else subscription_id q consumer h)))) done)
 
-good_node : (h : History) → Legal h → (call : NodeCall) → Good h 0 (node_does (database_of h) call)
-good_node h l (joining consumer) = good-there h (set_queue (database_of h)) _ (λ q is. good-joins h l q consumer (set-stands h (node h) q is))
-good_node h l (parting consumer) = good-there h (set_queue (database_of h)) _ (λ q is. good-parts h q consumer (subscription_id q consumer h) (set-stands h (node h) q is) refl)
-good_node h l (fetching consumer) =
-    good-there h (set_queue (database_of h)) _ (λ q is. good-there h (subscription q consumer h) _ (λ sub stands. good_takes_batch h l 0 q consumer sub sub.active (set-stands h (node h) q is) stands))
-good_node h l (finishing batch) = good-there h (active_batch batch h) _ (λ b is. good_closes h batch b is)
-good_node h l (making_leaf name provider tick) = more (nodes (leaf_made name provider tick)) done
-good_node h l (adding name) =
-    good-there h (place_of name (table_names h)) _ (λ table is.
-    good_refused_by h 0 (option_map TableBusy (least_writer (part_of h) table)) _ (λ _. more (nodes (leaf_added name)) (more (guards table true) done)))
-good_node h l (removing name) = good-there h (place_of name (table_names h)) _ (λ table is. more (nodes (leaf_removed name)) (more (guards table false) done))
-good_node h l (moving name state) = more (nodes (state_set name state)) done
-good_node h l (listing name) =
-    good-there h (set_queue (database_of h)) _ (λ q there.
-    good-there h (place_of name (table_names h)) _ (λ table is.
+-- a table that no running transaction has written is unused
+unused : (h : History) → Legal h → IsBetween h → (table : ℕ) → option_map TableBusy (least_writer (part_of h) table) ≡ None → IsUnused h table
+unused h l between table free =
+    let none : least_writer (part_of h) table ≡ None = no-one TableBusy (least_writer (part_of h) table) free in
+    record { unwritten = none; unawaited = unawaited h l between.rests table none }
+
+-- the mark of a table that joined, or left, is the last one
+just : (h : History) (mark : List ℕ → NodeMark) (name : List ℕ) (table : ℕ) → place_of name (table_names h) ≡ Some table → IsOfLast (noded (mark name) ∷ h) mark table
+just h mark name table there = record { below = h; name = name; last = refl; there = there }
+
+good-adds : (h : History) → Legal h → IsBetween h → (name : List ℕ) (table : ℕ) → may_serve (adding name) (node h) ≡ true → place_of name (table_names h) ≡ Some table
+    → Good h 0 (adds (database_of h) table name)
+good-adds h l between name table may there =
+    good_refused_by h 0 (option_map TableBusy (least_writer (part_of h) table)) _ (λ free.
+    let free_now : IsUnused h table = unused h l between table free in
+    more (nodes (leaf_added name) (record { may = may; table = table; there = there; unused = free_now }))
+    (more (guards table true (at_joining table (just h leaf_added name table there) (record { unwritten = free_now.unwritten; unawaited = free_now.unawaited }))) done))
+
+good-lists : (h : History) → Legal h → IsBetween h → (q : ℕ) (name : List ℕ) (table : ℕ) → may_serve (listing name) (node h) ≡ true → set_queue (database_of h) ≡ Some q
+    → place_of name (table_names h) ≡ Some table → Good h 0 (lists (database_of h) q table name)
+good-lists h l between q name table may set there =
     good_test h 0 (nat_le 8 (length (triggers_of table (triggers h)))) (TooMany Triggers) _ (λ _.
-    good_refused_by h 0 (option_map TableBusy (least_writer (part_of h) table)) _ (λ _.
-    more (nodes (listed name)) (more (traces table None (set_trigger q) (place_of_within name (table_names h) table is) (set-stands h (node h) q there) tt) done)))))
-good_node h l (unlisting name) = good-there h (place_of name (table_names h)) _ (λ table is. more (nodes (unlisted name)) (more (untraces table) done))
+    good_refused_by h 0 (option_map TableBusy (least_writer (part_of h) table)) _ (λ free.
+    more (nodes (listed name) (record { may = may; table = table; there = there; unused = unused h l between table free }))
+    (more (traces table None (set_trigger q) (place_of_within name (table_names h) table there) (set-stands h q set) (record {
+      just_joined = just h listed name table there;
+      set = (same-node (listed name) refl (node h)).set (queues h) ∙ sym (set-number (database_of h)) ∙ set;
+      plain = refl;
+    })) done)))
+
+good_call : (h : History) → Legal h → IsBetween h → (call : NodeCall) → may_serve call (node h) ≡ true → Good h 0 (call_form (database_of h) call)
+good_call h l between (joining consumer) may = good-there h (set_queue (database_of h)) _ (λ q set. good-joins h l q consumer set)
+good_call h l between (parting consumer) may = good-there h (set_queue (database_of h)) _ (λ q set. good-parts h q consumer (subscription_id q consumer h) set refl)
+good_call h l between (fetching consumer) may =
+    good-there h (set_queue (database_of h)) _ (λ q set. good-there h (subscription q consumer h) _ (λ sub stands. good_takes_batch h l 0 q consumer sub sub.active (set-stands h q set) stands))
+good_call h l between (finishing batch) may = good-there h (active_batch batch h) _ (λ b is. good_closes h batch b is)
+good_call h l between (making_leaf name provider tick) may =
+    let none : node h ≡ None = no-node (node h) may in more (nodes (leaf_made name provider tick) (none, between.writable none)) done
+good_call h l between (adding name) may = good-there h (place_of name (table_names h)) _ (λ table there. good-adds h l between name table may there)
+good_call h l between (removing name) may =
+    good-there h (place_of name (table_names h)) _ (λ table there.
+    more (nodes (leaf_removed name) (record { may = may; table = table; there = there })) (more (guards table false (at_leaving table (just h leaf_removed name table there))) done))
+good_call h l between (moving name state) may = more (nodes (state_set name state) may) done
+good_call h l between (listing name) may =
+    good-there h (set_queue (database_of h)) _ (λ q set. good-there h (place_of name (table_names h)) _ (λ table there. good-lists h l between q name table may set there))
+good_call h l between (unlisting name) may =
+    good-there h (place_of name (table_names h)) _ (λ table there.
+    more (nodes (unlisted name) (record { may = may; table = table; there = there })) (more (untraces table (just h unlisted name table there)) done))
+
+good_node : (h : History) → Legal h → IsBetween h → (call : NodeCall) → Good h 0 (node_does (database_of h) call)
+good_node h l between call =
+    by_test (λ b. Good h 0 (if b then call_form (database_of h) call else answers Null)) (may_serve call (node h)) (good_call h l between call) (λ _. done)
 
 chain-of : (h : History) (c : Checked Outcome) → Good h 0 c → Chain h (marks_of c)
 chain-of h (Ok o) good = good
 chain-of h (Err refusal) good = done
 
-pub node-chain : (h : History) → Legal h → (call : NodeCall) → Chain h (marks_of (node_does (database_of h) call))
-node-chain h l call = chain-of h (node_does (database_of h) call) (good_node h l call)
+pub node-chain : (h : History) → Legal h → IsBetween h → (call : NodeCall) → Chain h (marks_of (node_does (database_of h) call))
+node-chain h l between call = chain-of h (node_does (database_of h) call) (good_node h l between call)

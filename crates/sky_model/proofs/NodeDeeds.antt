@@ -1,25 +1,30 @@
 -- What a statement on nodes does in the world: calls for nodes in databases, one after another.
-use Rattle.std.proofs.Common.{◌≡◌, ℕ, List, [], ◌∷◌, ◌++◌, Bool, true, false, not, ◌&&◌, ◌||◌, map, find, Option, Some, None, Ok, Err, IfOk, is_some, option_map, refl, sym, ◌∙◌, ap, subst, if◌then◌else◌}
+use Rattle.std.proofs.Common.{◌≡◌, ℕ, ◌==◌, List, [], ◌∷◌, ◌++◌, Bool, true, false, not, ◌||◌, map, Option, Some, None, Ok, Err, IfOk, is_some, is_none, option_map, bytes_eq, refl, sym, ◌∙◌, ap, subst, if◌then◌else◌}
+use Rattle.std.proofs.lemmas.Bool.{not-false, or_parts}
 use Rattle.sky_names.specs.Places.{place_of}
-use Rattle.londiste_state.specs.Nodes.{Node, of_root, of_leaf, Root, Leaf, table_of, tables_of, is_among}
+use Rattle.londiste_state.specs.Nodes.{Node, of_root, of_leaf, Root, Leaf, node_name, table_of, tables_of, is_among}
+use Rattle.sky_model.specs.Nodes.{node}
 use Rattle.sky_model.specs.declared.stmt.Stmt.TheVariants as stmt
 use Rattle.sky_model.specs.declared.stmt.NodeStmt.{NodeStmt}
 use Rattle.sky_model.specs.declared.stmt.NodeStmt.TheVariants.{CreateLeaf, AddTable, RemoveTable, TableState}
 use Rattle.sky_model.specs.declared.reply.Reply.{Reply}
-use Rattle.sky_model.specs.declared.reply.Reply.TheVariants.{Done}
+use Rattle.sky_model.specs.declared.reply.Reply.TheVariants.{Done, Null}
 use Rattle.sky_model.specs.declared.reply.Refusal.{Refusal}
-use Rattle.sky_model.specs.declared.reply.Refusal.TheVariants.{AlreadyInSet, NodeExists, NoNode, NoTable, NotInSet, NotLeaf, NotProvider, SchemaDiffers, TableInUse}
+use Rattle.sky_model.specs.declared.reply.Refusal.TheVariants.{AlreadyInSet, NodeExists, NoNode, NoTable, NotInSet, NotProvider, SchemaDiffers, TableInUse}
 use Rattle.sky_model.specs.History.{Mark, Fact, within, noded, leaf_made, node_made, Past}
 use Rattle.sky_model.specs.State.{Database, database_of}
-use Rattle.sky_model.specs.World.{World, world_of, history_in, home, on_top}
-use Rattle.sky_model.specs.Outcome.{Outcome, Checked, ◌>>=◌, ◌>>◌, refused_if, refused_by, found_or, marks_of}
-use Rattle.sky_model.specs.Reader.{by_past, within_database, Deed}
+use Rattle.sky_model.specs.World.{World, world_of, history_in, on_top}
+use Rattle.sky_model.specs.Outcome.{Outcome, Checked, ◌>>=◌, ◌>>◌, refused_if, refused_by, found_or, answers, does_marks, marks_of}
+use Rattle.sky_model.specs.Reader.{part_by_history, by_past, within_database}
+use Rattle.sky_model.specs.Settling.{behind_marks}
 use Rattle.sky_model.specs.Clock.{deed_in}
 use Rattle.sky_model.specs.StepQueue.{newest_id}
-use Rattle.sky_model.specs.StepNode.{set_queue, joins, lists, unlists, adds, removes, NodeCall, joining, making_leaf, adding, removing, listing, unlisting, if_there, table_number, node_does}
-use Rattle.sky_model.specs.NodesOfWorld.{WorldOutcome, Located, node_called, done_in, leaf_of, create_leaf, provides, are_columns, columns_called, adds_to, add_table, first_user, removes_from, remove_table, shows_state, table_state, node_form}
+use Rattle.sky_model.specs.StepNode.{set_queue, set_queue_of, joins, lists, unlists, adds, removes, NodeCall, joining, making_leaf, adding, removing, listing, unlisting, if_there, table_number, may_serve, call_form, node_does}
+use Rattle.sky_model.specs.NodesOfWorld.{WorldOutcome, Located, if_named, node_among, node_called, done_in, leaf_of, create_leaf, provides, are_columns, columns_called, adds_to, first_user, removes_from, shows_state, node_form}
 use Rattle.sky_model.specs.Calls.{may_make, database_turn, node_if, world_does, does_at}
-use Rattle.sky_model.proofs.PastHistories.{on_top-append, AreQuiet}
+use Rattle.sky_model.proofs.LawfulRows.{nothing}
+use Rattle.sky_model.proofs.Cases.{by_test, by_same}
+use Rattle.sky_model.proofs.PastHistories.{on_top-append, history-marks, AreQuiet}
 
 -- a database that gets its node changes no history, and no session's home
 pub node-quiet : (b : Bool) (d : ℕ) → AreQuiet (node_if b d)
@@ -46,6 +51,47 @@ module _ (Q : Past → Type 0) (made : (past : Past) (d : ℕ) → Q past → Q 
       subst Q (sym (on_top-append past (call_facts past d call) rest)) (after-serves (on_top past (call_facts past d call)) rest also (called past d call q))
   after-serves past _ (gets _ d rest also) q = after-serves (node_made d ∷ past) rest also (made past d q)
 
+-- ---- the node of a name
+
+among-there : (nodes : ℕ → Option Node) (name : List ℕ) (ds : List ℕ) (n : Located) → node_among nodes name ds ≡ Some n → nodes n.database ≡ Some n.node
+among-there nodes name [] n is = absurd (cc)
+among-there nodes name (d ∷ ds) n is = of (nodes d) refl (among-there nodes name ds n) is
+  where
+    of : (o : Option Node) → nodes d ≡ o → (node_among nodes name ds ≡ Some n → nodes n.database ≡ Some n.node) → if_named name d o (node_among nodes name ds) ≡ Some n
+        → nodes n.database ≡ Some n.node
+    of None there later e = later e
+    of (Some node) there later e =
+        by_test (λ b. (if b then Some (record { database = d; node = node }) else node_among nodes name ds) ≡ Some n → nodes n.database ≡ Some n.node) (bytes_eq name (node_name node))
+        (λ _ e. let one : record { database = d; node = node } ≡ n = cc in subst (λ (m : Located). nodes m.database ≡ Some m.node) one there)
+        (λ _ e. later e) e
+
+-- is the one that its database has
+pub called-there : (w : World) (name : List ℕ) (n : Located) → node_called w name ≡ Some n → (w.database n.database).node ≡ Some n.node
+called-there w name n is = among-there (λ d. (w.database d).node) name w.nodes n is
+
+-- what a call does that is one for the database's node
+pub is-served : (d : Database) (call : NodeCall) → may_serve call d.node ≡ true → node_does d call ≡ call_form d call
+is-served d call may = ap (λ b. if b then call_form d call else answers Null) may
+
+-- a table that isn't in a node may join it, and one that is may leave it
+pub may-list : (n : Option Node) (r : Root) (table : List ℕ) → n ≡ Some (of_root r) → is_among table (tables_of (of_root r)) ≡ false → may_serve (listing table) n ≡ true
+may-list n r table there new = ap (may_serve (listing table)) there ∙ ap not new
+
+pub may-add : (n : Option Node) (l : Leaf) (table : List ℕ) → n ≡ Some (of_leaf l) → is_among table (tables_of (of_leaf l)) ≡ false → may_serve (adding table) n ≡ true
+may-add n l table there new = ap (may_serve (adding table)) there ∙ ap not new
+
+pub may-unlist : (n : Option Node) (r : Root) (table : List ℕ) → n ≡ Some (of_root r) → is_among table (tables_of (of_root r)) ≡ true → may_serve (unlisting table) n ≡ true
+may-unlist n r table there among = ap (may_serve (unlisting table)) there ∙ among
+
+pub may-remove : (n : Option Node) (l : Leaf) (table : List ℕ) → n ≡ Some (of_leaf l) → is_among table (tables_of (of_leaf l)) ≡ true → may_serve (removing table) n ≡ true
+may-remove n l table there among = ap (may_serve (removing table)) there ∙ among
+
+-- a database without a node is none of a set's queue
+apart-bare : (past : Past) (d p queue : ℕ) → node (history_in past d) ≡ None → set_queue (database_of (history_in past p)) ≡ Some queue → (p == d) ≡ false
+apart-bare past d p queue bare set =
+    by_same (λ b. b ≡ false) p d
+    (λ same. absurd (cc (sym set ∙ ap (set_queue_of (database_of (history_in past p))) (ap (λ n. node (history_in past n)) same ∙ bare)))) (λ _. refl)
+
 -- ---- the statements
 
 module _ (past : Past) where
@@ -55,9 +101,9 @@ module _ (past : Past) where
   abbrev ServesIfOk : Checked WorldOutcome → Type 0
   ServesIfOk c = IfOk c (λ o. Serves past o.facts)
 
-  if-test : (b : Bool) (refusal : Refusal) (c : Checked WorldOutcome) → ServesIfOk c → ServesIfOk (refused_if b refusal >> c)
+  if-test : (b : Bool) (refusal : Refusal) (c : Checked WorldOutcome) → (b ≡ false → ServesIfOk c) → ServesIfOk (refused_if b refusal >> c)
   if-test true refusal c serves = tt
-  if-test false refusal c serves = serves
+  if-test false refusal c serves = serves refl
 
   if-refused : (o : Option Refusal) (c : Checked WorldOutcome) → ServesIfOk c → ServesIfOk (refused_by o >> c)
   if-refused None c serves = serves
@@ -67,47 +113,61 @@ module _ (past : Past) where
   if-found None refusal next serves = tt
   if-found (Some a) refusal next serves = serves a refl
 
-  -- what is done in a database is what a call does there
-  serves-done : (d : ℕ) (reply : Reply) (c : Checked Outcome) (call : NodeCall) → c ≡ node_does (database_of (history_in past d)) call → ServesIfOk (done_in d reply c)
-  serves-done d reply c call same = subst (λ x. ServesIfOk (done_in d reply x)) (sym same) (of (node_does (database_of (history_in past d)) call) refl)
+  -- what is done in a database is what a call does there, if it is one for the database's node
+  serves-done : (d : ℕ) (reply : Reply) (c : Checked Outcome) (call : NodeCall) → may_serve call (node (history_in past d)) ≡ true → c ≡ call_form (database_of (history_in past d)) call
+      → ServesIfOk (done_in d reply c)
+  serves-done d reply c call may same = subst (λ x. ServesIfOk (done_in d reply x)) (is-served (database_of (history_in past d)) call may ∙ sym same) (of (node_does (database_of (history_in past d)) call) refl)
     where
       of : (x : Checked Outcome) → node_does (database_of (history_in past d)) call ≡ x → ServesIfOk (done_in d reply x)
       of (Ok outcome) is = subst (λ x. Serves past (map (within d) (marks_of x))) is (last past d call)
       of (Err refusal) is = tt
 
-  serves-leaf : (d p : ℕ) (name provider : List ℕ) (tick queue : ℕ) (c : Checked Outcome) → c ≡ node_does (database_of (history_in past p)) (joining name)
-      → ServesIfOk (leaf_of d p name provider tick c)
-  serves-leaf d p name provider tick queue (Err refusal) same = tt
-  serves-leaf d p name provider tick queue (Ok joined) same =
+  -- a database without a node gets a leaf
+  serves-made : (q : Past) (d : ℕ) (name provider : List ℕ) (tick : ℕ) → node (history_in q d) ≡ None → Serves q (within d (noded (leaf_made name provider tick)) ∷ node_made d ∷ [])
+  serves-made q d name provider tick bare =
+      subst (λ marks. Serves q (map (within d) marks ++ node_made d ∷ []))
+      (ap (λ n. marks_of (if is_none n then does_marks Done (noded (leaf_made name provider tick) ∷ []) else answers Null)) bare)
+      (first q d (making_leaf name provider tick) (node_made d ∷ []) (gets _ d [] (none _)))
+
+  serves-leaf : (d p : ℕ) (name provider : List ℕ) (tick queue : ℕ) (c : Checked Outcome) → c ≡ node_does (database_of (history_in past p)) (joining name) → node (history_in past d) ≡ None
+      → (p == d) ≡ false → ServesIfOk (leaf_of d p name provider tick c)
+  serves-leaf d p name provider tick queue (Err refusal) same bare other = tt
+  serves-leaf d p name provider tick queue (Ok joined) same bare other =
+      let marks : List Mark = marks_of (node_does (database_of (history_in past p)) (joining name)) in
       subst (λ x. Serves past (map (within p) (marks_of x) ++ within d (noded (leaf_made name provider tick)) ∷ node_made d ∷ [])) (sym same)
       (first past p (joining name) (within d (noded (leaf_made name provider tick)) ∷ node_made d ∷ [])
-      (first (on_top past (call_facts past p (joining name))) d (making_leaf name provider tick) (node_made d ∷ [])
-      (gets _ d [] (none _))))
+      (serves-made (on_top past (call_facts past p (joining name))) d name provider tick
+      (ap node (history-marks past p marks d ∙ ap (λ b. if b then behind_marks part_by_history (history_in past d) marks else history_in past d) other) ∙ bare)))
 
   serves-create_leaf : (d : ℕ) (name provider : List ℕ) → ServesIfOk (create_leaf w d name provider)
   serves-create_leaf d name provider =
-      if-test (is_some (node_called w name) || is_some (w.database d).node) (NodeExists name) _
-      (if-found (node_called w provider) (NoNode provider) _ (λ p _.
+      if-test (is_some (node_called w name) || is_some (w.database d).node) (NodeExists name) _ (λ new.
+      if-found (node_called w provider) (NoNode provider) _ (λ p _.
       if-found (set_queue (w.database p.database)) (NotProvider provider) _ (λ queue is.
+      let bare : node (history_in past d) ≡ None = nothing (node (history_in past d)) (or_parts (is_some (node_called w name)) (is_some (w.database d).node) new).1 in
       serves-leaf d p.database name provider (newest_id ((w.database p.database).queue queue)) queue (joins (w.database p.database) queue name)
-      (sym (ap (λ o. if_there o (λ q. joins (w.database p.database) q name)) is)))))
+      (sym (ap (λ o. if_there o (λ q. joins (w.database p.database) q name)) is)) bare (apart-bare past d p.database queue bare is))))
 
-  serves-adds : (d table : ℕ) (name : List ℕ) (n : Node) → place_of name (w.database d).part.tables ≡ Some table → ServesIfOk (adds_to w d table name n)
-  serves-adds d table name (of_root r) there =
+  serves-adds : (d table : ℕ) (name : List ℕ) (n : Node) → (w.database d).node ≡ Some n → is_among name (tables_of n) ≡ false → place_of name (w.database d).part.tables ≡ Some table
+      → ServesIfOk (adds_to w d table name n)
+  serves-adds d table name (of_root r) stands new there =
       if-found (set_queue (w.database d)) (NotProvider r.name) _ (λ queue is.
-      serves-done d Done (lists (w.database d) queue table name) (listing name)
+      serves-done d Done (lists (w.database d) queue table name) (listing name) (may-list (node (history_in past d)) r name stands new)
       (sym (ap (λ o. if_there o (λ q. if_there (table_number (w.database d) name) (λ t. lists (w.database d) q t name))) is
       ∙ ap (λ o. if_there o (λ t. lists (w.database d) queue t name)) there)))
-  serves-adds d table name (of_leaf l) there =
+  serves-adds d table name (of_leaf l) stands new there =
       if-found (provides name (node_called w l.provider)) (NotInSet name) _ (λ p _.
-      if-test (not (are_columns ((w.database d).part.columns table) (columns_called name (w.database p)))) (SchemaDiffers name) _
-      (serves-done d Done (adds (w.database d) table name) (adding name) (sym (ap (λ o. if_there o (λ t. adds (w.database d) t name)) there))))
+      if-test (not (are_columns ((w.database d).part.columns table) (columns_called name (w.database p)))) (SchemaDiffers name) _ (λ _.
+      serves-done d Done (adds (w.database d) table name) (adding name) (may-add (node (history_in past d)) l name stands new)
+      (sym (ap (λ o. if_there o (λ t. adds (w.database d) t name)) there))))
 
-  serves-removes : (d table : ℕ) (name : List ℕ) (n : Node) → place_of name (w.database d).part.tables ≡ Some table → ServesIfOk (removes_from w d table name n)
-  serves-removes d table name (of_root r) there =
+  serves-removes : (d table : ℕ) (name : List ℕ) (n : Node) → (w.database d).node ≡ Some n → is_among name (tables_of n) ≡ true → place_of name (w.database d).part.tables ≡ Some table
+      → ServesIfOk (removes_from w d table name n)
+  serves-removes d table name (of_root r) stands among there =
       if-refused (option_map TableInUse (first_user w r.name name)) _
-      (serves-done d Done (unlists table name) (unlisting name) (sym (ap (λ o. if_there o (λ t. unlists t name)) there)))
-  serves-removes d table name (of_leaf l) there = serves-done d Done (removes table name) (removing name) (sym (ap (λ o. if_there o (λ t. removes t name)) there))
+      (serves-done d Done (unlists table name) (unlisting name) (may-unlist (node (history_in past d)) r name stands among) (sym (ap (λ o. if_there o (λ t. unlists t name)) there)))
+  serves-removes d table name (of_leaf l) stands among there =
+      serves-done d Done (removes table name) (removing name) (may-remove (node (history_in past d)) l name stands among) (sym (ap (λ o. if_there o (λ t. removes t name)) there))
 
   serves-state : (name table : List ℕ) (n : Node) → ServesIfOk (shows_state name table n)
   serves-state name table (of_root r) = tt
@@ -116,13 +176,15 @@ module _ (past : Past) where
   serves-form : (d : ℕ) (s : NodeStmt) → ServesIfOk (node_form w d s)
   serves-form d (CreateLeaf name provider) = serves-create_leaf d name provider
   serves-form d (AddTable name table_name) =
-      if-found (node_called w name) (NoNode name) _ (λ n _.
+      if-found (node_called w name) (NoNode name) _ (λ n found.
       if-found (place_of table_name (w.database n.database).part.tables) (NoTable table_name) _ (λ table there.
-      if-test (is_among table_name (tables_of n.node)) (AlreadyInSet table_name) _ (serves-adds n.database table table_name n.node there)))
+      if-test (is_among table_name (tables_of n.node)) (AlreadyInSet table_name) _ (λ new.
+      serves-adds n.database table table_name n.node (called-there w name n found) new there)))
   serves-form d (RemoveTable name table_name) =
-      if-found (node_called w name) (NoNode name) _ (λ n _.
-      if-test (not (is_among table_name (tables_of n.node))) (NotInSet table_name) _
-      (if-found (place_of table_name (w.database n.database).part.tables) (NoTable table_name) _ (λ table there. serves-removes n.database table table_name n.node there)))
+      if-found (node_called w name) (NoNode name) _ (λ n found.
+      if-test (not (is_among table_name (tables_of n.node))) (NotInSet table_name) _ (λ among.
+      if-found (place_of table_name (w.database n.database).part.tables) (NoTable table_name) _ (λ table there.
+      serves-removes n.database table table_name n.node (called-there w name n found) (not-false (is_among table_name (tables_of n.node)) among) there)))
   serves-form d (TableState name table) = if-found (node_called w name) (NoNode name) _ (λ n _. serves-state name table n.node)
 
 -- what each of these keeps, a statement on nodes keeps, if it is kept where its session may not make it

@@ -1,5 +1,5 @@
 -- An event with an owner is put by a retry that comes back, and by nothing else.
-use Rattle.std.proofs.Common.{◌≡◌, ℕ, ℤ, pos, List, [], ◌∷◌, ◌++◌, Bool, true, false, Option, Some, None, is_none, Ok, Err, length, refl, sym, ◌∙◌, ap, subst, if◌then◌else◌}
+use Rattle.std.proofs.Common.{◌≡◌, ℕ, ℤ, pos, List, [], ◌∷◌, ◌++◌, Bool, true, Option, Some, None, is_none, Ok, Err, length, refl, sym, ◌∙◌, ap, subst, if◌then◌else◌}
 use Rattle.sky_val.specs.declared.event.Event.{Event}
 use Rattle.pgq_retry.specs.declared.retry.Retry.{Retry}
 use Rattle.sky_model.specs.declared.reply.Reply.TheVariants.{Number}

@@ -5,7 +5,7 @@ use Rattle.pgq_tables.specs.Tables as tables_of
 use Rattle.pgq_tables.specs.Tables.{Tables}
 use Rattle.sky_model.specs.History.{Mark, of_session, of_worker, ended, block_begun, block_ended, queued, switching, switched, History}
 use Rattle.sky_model.specs.Sessions.{Block, outside, inside, failed, block, own_txid}
-use Rattle.sky_model.specs.Queues.{NamedQueue, queues, is_pending, tables}
+use Rattle.sky_model.specs.Queues.{NamedQueue, queues, is_pending, event_tables}
 use Rattle.sky_model.specs.OwnTransaction.{commit_of}
 use Rattle.sky_model.specs.State.{database_of}
 use Rattle.sky_model.specs.Outcome.{marks_of}
@@ -45,7 +45,7 @@ keeps-switch g now who q t failed mine is sound = absurd (sound refl)
 
 -- what is pending of a transaction at a place was so before, in one of these queues
 abbrev Left : History → History → ℕ → List NamedQueue → Type 0
-Left h g t qs = (q : ℕ) → (tables q g).pending ≡ Some t → (is_pending t (tables q h) ≡ true) × IsAmong q qs
+Left h g t qs = (q : ℕ) → (event_tables q g).pending ≡ Some t → (is_pending t (event_tables q h) ≡ true) × IsAmong q qs
 
 left-rest : (q : NamedQueue) (qs : List NamedQueue) (p : ℕ) → (q.number == p) ≡ false → IsAmong p (q ∷ qs) → IsAmong p qs
 left-rest q qs p other is = sym (ap (λ b. b || list_any (λ x. x.number == p) qs) other) ∙ is
@@ -54,22 +54,22 @@ keeps-switches : (h : History) (now : ℤ) (t : ℕ) (qs : List NamedQueue) (g :
     → Keeps g (switches_by (database_of h) now t qs ++ marks)
 keeps-switches h now t [] g marks left rest = rest g (λ q pends. let none = (left q pends).1 in cc)
 keeps-switches h now t (q ∷ qs) g marks left rest =
-    by_test (λ b. is_pending t (tables q.number h) ≡ b → Keeps g ((if b then queued (switched q.number now) ∷ switches_by (database_of h) now t qs else switches_by (database_of h) now t qs) ++ marks))
-    (is_pending t (tables q.number h))
+    by_test (λ b. is_pending t (event_tables q.number h) ≡ b → Keeps g ((if b then queued (switched q.number now) ∷ switches_by (database_of h) now t qs else switches_by (database_of h) now t qs) ++ marks))
+    (is_pending t (event_tables q.number h))
     (λ _ is. keeps-mark g (queued (switched q.number now)) (switches_by (database_of h) now t qs ++ marks) tt (keeps-switches h now t qs (queued (switched q.number now) ∷ g) marks
-    (λ p. by_test (λ b. (if b then tables_of.switched now (tables p g) else tables p g).pending ≡ Some t → (is_pending t (tables p h) ≡ true) × IsAmong p qs) (q.number == p)
+    (λ p. by_test (λ b. (if b then tables_of.with_switch now (event_tables p g) else event_tables p g).pending ≡ Some t → (is_pending t (event_tables p h) ≡ true) × IsAmong p qs) (q.number == p)
     (λ _ none. absurd (cc)) (λ other pends. ((left p pends).0, left-rest q qs p other (left p pends).1))) rest))
     (λ _ isnt. keeps-switches h now t qs g marks
     (λ p pends. (
       (left p pends).0,
       by_same (λ b. (b || list_any (λ x. x.number == p) qs) ≡ true → IsAmong p qs) q.number p
-          (λ same _. absurd (cc (sym (left p pends).0 ∙ ap (λ n. is_pending t (tables n h)) (sym same) ∙ isnt))) (λ _ is. is) (left p pends).1,
+          (λ same _. absurd (cc (sym (left p pends).0 ∙ ap (λ n. is_pending t (event_tables n h)) (sym same) ∙ isnt))) (λ _ is. is) (left p pends).1,
     )) rest) refl
 
-pending-is : (h : History) (q t : ℕ) → (tables q h).pending ≡ Some t → is_pending t (tables q h) ≡ true
+pending-is : (h : History) (q t : ℕ) → (event_tables q h).pending ≡ Some t → is_pending t (event_tables q h) ≡ true
 pending-is h q t pends = ap (λ o. unwrap_or (option_map (λ u. u == t) o) false) pends ∙ same-session t
 
-pending-stands : (h : History) → Legal h → (q t : ℕ) → (tables q h).pending ≡ Some t → IsQueue h q
+pending-stands : (h : History) → Legal h → (q t : ℕ) → (event_tables q h).pending ≡ Some t → IsQueue h q
 pending-stands h l q t pends =
     by_test (λ b. list_any (λ x. x.number == q) (queues h) ≡ b → b ≡ true) (list_any (λ x. x.number == q) (queues h)) (λ _ _. refl)
     (λ _ away. absurd (let b : IsBare h q = bare h l q away in cc (sym (ap Tables.pending b.no_event) ∙ pends))) refl

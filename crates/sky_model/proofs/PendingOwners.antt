@@ -7,7 +7,7 @@ use Rattle.pgq_tables.specs.Tables.{no_tables, new_tables, with_stored, with_pen
 use Rattle.sky_model.specs.History.{Mark, of_session, of_worker, began, ended, block_begun, block_failed, block_ended, queued, made, put, switching, switched, second_step, dropped, History}
 use Rattle.sky_model.specs.Transactions.{workers}
 use Rattle.sky_model.specs.Sessions.{outside, inside, failed, block, own_txid}
-use Rattle.sky_model.specs.Queues.{queues_made, is_pending, tables}
+use Rattle.sky_model.specs.Queues.{queues_made, is_pending, event_tables}
 use Rattle.sky_model.specs.Settling.{marked}
 use Rattle.sky_model.proofs.Legal.{Fine, begins, ends, begins_work, ends_work, fails_block, ends_block, Legal, next}
 use Rattle.sky_model.proofs.Snapshots.{sound}
@@ -15,7 +15,7 @@ use Rattle.sky_model.proofs.Cases.{by_test, by_same}
 
 -- no switch of a transaction is pending
 abbrev pub Unpending : History → ℕ → Type 0
-Unpending h t = (q : ℕ) → (tables q h).pending ≡ Some t → ⊥
+Unpending h t = (q : ℕ) → (event_tables q h).pending ≡ Some t → ⊥
 
 -- a session in a block owns a transaction
 pub record Owner (h : History) (t : ℕ) : Type 0 where
@@ -32,7 +32,7 @@ Settled (_ ∷ h) = Settled h
 -- and a pending one is of a session in a block
 pub record Held (h : History) : Type 0 where
   pub settled : Settled h
-  pub owned : (q t : ℕ) → (tables q h).pending ≡ Some t → Owner h t
+  pub owned : (q t : ℕ) → (event_tables q h).pending ≡ Some t → Owner h t
 
 -- a mark that keeps it so
 abbrev pub PlainAt : History → Mark → Type 0
@@ -82,54 +82,54 @@ held-mark h l _ (begins who none) plain r = record { settled = r.settled; owned 
 held-mark h l _ begins_work plain r = record { settled = r.settled; owned = λ q t pends. owner-same h _ (λ _. refl) (λ _. refl) t (r.owned q t pends) }
 held-mark h l _ (ends who u true mine) plain r =
     let none : Unpending h u = unpending-outside h l r who u mine plain in
-    record { settled = (none, r.settled); owned = λ q t pends. owner-ended h l who u t true mine (λ same. none q (subst (λ n. (tables q h).pending ≡ Some n) (sym same) pends)) (r.owned q t pends) }
+    record { settled = (none, r.settled); owned = λ q t pends. owner-ended h l who u t true mine (λ same. none q (subst (λ n. (event_tables q h).pending ≡ Some n) (sym same) pends)) (r.owned q t pends) }
 held-mark h l _ (ends_work u true works) plain r =
     record { settled = (unpending-work h l r u works, r.settled); owned = λ q t pends. owner-same h _ (λ _. refl) (λ _. refl) t (r.owned q t pends) }
 held-mark h l _ (ends who u false mine) plain r = record { settled = r.settled; owned = owned }
   where
-    owned : (q t : ℕ) → (tables q (ended (of_session who) u false ∷ h)).pending ≡ Some t → Owner (ended (of_session who) u false ∷ h) t
+    owned : (q t : ℕ) → (event_tables q (ended (of_session who) u false ∷ h)).pending ≡ Some t → Owner (ended (of_session who) u false ∷ h) t
     owned q t =
-        by_test (λ b. (if b then without_pending (tables q h) else tables q h).pending ≡ Some t → Owner (ended (of_session who) u false ∷ h) t) (is_pending u (tables q h))
+        by_test (λ b. (if b then without_pending (event_tables q h) else event_tables q h).pending ≡ Some t → Owner (ended (of_session who) u false ∷ h) t) (is_pending u (event_tables q h))
         (λ _ none. absurd (cc))
         (λ isnt pends. owner-ended h l who u t false mine
-        (λ same. let is : is_pending u (tables q h) ≡ true = ap (λ o. unwrap_or (option_map (λ v. v == u) o) false) pends ∙ grind (arith, nat_tests, same) in cc (sym is ∙ isnt)) (r.owned q t pends))
+        (λ same. let is : is_pending u (event_tables q h) ≡ true = ap (λ o. unwrap_or (option_map (λ v. v == u) o) false) pends ∙ grind (arith, nat_tests, same) in cc (sym is ∙ isnt)) (r.owned q t pends))
 held-mark h l _ (ends_work u false works) plain r = record { settled = r.settled; owned = owned }
   where
-    owned : (q t : ℕ) → (tables q (ended of_worker u false ∷ h)).pending ≡ Some t → Owner (ended of_worker u false ∷ h) t
+    owned : (q t : ℕ) → (event_tables q (ended of_worker u false ∷ h)).pending ≡ Some t → Owner (ended of_worker u false ∷ h) t
     owned q t =
-        by_test (λ b. (if b then without_pending (tables q h) else tables q h).pending ≡ Some t → Owner (ended of_worker u false ∷ h) t) (is_pending u (tables q h))
+        by_test (λ b. (if b then without_pending (event_tables q h) else event_tables q h).pending ≡ Some t → Owner (ended of_worker u false ∷ h) t) (is_pending u (event_tables q h))
         (λ _ none. absurd (cc)) (λ _ pends. owner-same h _ (λ _. refl) (λ _. refl) t (r.owned q t pends))
 held-mark h l (block_begun v) fine plain r = record { settled = r.settled; owned = λ q t pends. owner-begun h v t (r.owned q t pends) }
 held-mark h l _ (fails_block v is none) plain r = record { settled = r.settled; owned = λ q t pends. owner-failed h v t none (r.owned q t pends) }
 held-mark h l _ (ends_block v none) plain r = record { settled = r.settled; owned = λ q t pends. owner-left h v t none (r.owned q t pends) }
 held-mark h l (queued (made name u time)) fine plain r = record {
   settled = r.settled;
-  owned = λ q t. by_test (λ b. (if b then new_tables u time else tables q h).pending ≡ Some t → Owner (queued (made name u time) ∷ h) t) (queues_made h == q)
+  owned = λ q t. by_test (λ b. (if b then new_tables u time else event_tables q h).pending ≡ Some t → Owner (queued (made name u time) ∷ h) t) (queues_made h == q)
       (λ _ none. absurd (cc)) (λ _ pends. owner-same h _ (λ _. refl) (λ _. refl) t (r.owned q t pends));
 }
 held-mark h l (queued (put p event)) fine plain r = record {
   settled = r.settled;
-  owned = λ q t. by_test (λ b. (if b then with_stored event (tables q h) else tables q h).pending ≡ Some t → Owner (queued (put p event) ∷ h) t) (p == q)
+  owned = λ q t. by_test (λ b. (if b then with_stored event (event_tables q h) else event_tables q h).pending ≡ Some t → Owner (queued (put p event) ∷ h) t) (p == q)
       (λ _ pends. owner-same h _ (λ _. refl) (λ _. refl) t (r.owned q t pends)) (λ _ pends. owner-same h _ (λ _. refl) (λ _. refl) t (r.owned q t pends));
 }
 held-mark h l (queued (switching p u)) fine plain r = record {
   settled = r.settled;
-  owned = λ q t. by_test (λ b. (if b then with_pending u (tables q h) else tables q h).pending ≡ Some t → Owner (queued (switching p u) ∷ h) t) (p == q)
+  owned = λ q t. by_test (λ b. (if b then with_pending u (event_tables q h) else event_tables q h).pending ≡ Some t → Owner (queued (switching p u) ∷ h) t) (p == q)
       (λ _ pends. owner-same h _ (λ _. refl) (λ _. refl) t (subst (Owner h) (ap (λ o. unwrap_or o u) pends) plain)) (λ _ pends. owner-same h _ (λ _. refl) (λ _. refl) t (r.owned q t pends));
 }
 held-mark h l (queued (switched p time)) fine plain r = record {
   settled = r.settled;
-  owned = λ q t. by_test (λ b. (if b then tables_of.switched time (tables q h) else tables q h).pending ≡ Some t → Owner (queued (switched p time) ∷ h) t) (p == q)
+  owned = λ q t. by_test (λ b. (if b then tables_of.with_switch time (event_tables q h) else event_tables q h).pending ≡ Some t → Owner (queued (switched p time) ∷ h) t) (p == q)
       (λ _ none. absurd (cc)) (λ _ pends. owner-same h _ (λ _. refl) (λ _. refl) t (r.owned q t pends));
 }
 held-mark h l (queued (second_step p u)) fine plain r = record {
   settled = r.settled;
-  owned = λ q t. by_test (λ b. (if b then with_second_step u (tables q h) else tables q h).pending ≡ Some t → Owner (queued (second_step p u) ∷ h) t) (p == q)
+  owned = λ q t. by_test (λ b. (if b then with_second_step u (event_tables q h) else event_tables q h).pending ≡ Some t → Owner (queued (second_step p u) ∷ h) t) (p == q)
       (λ _ pends. owner-same h _ (λ _. refl) (λ _. refl) t (r.owned q t pends)) (λ _ pends. owner-same h _ (λ _. refl) (λ _. refl) t (r.owned q t pends));
 }
 held-mark h l (queued (dropped p)) fine plain r = record {
   settled = r.settled;
-  owned = λ q t. by_test (λ b. (if b then no_tables else tables q h).pending ≡ Some t → Owner (queued (dropped p) ∷ h) t) (p == q)
+  owned = λ q t. by_test (λ b. (if b then no_tables else event_tables q h).pending ≡ Some t → Owner (queued (dropped p) ∷ h) t) (p == q)
       (λ _ none. absurd (cc)) (λ _ pends. owner-same h _ (λ _. refl) (λ _. refl) t (r.owned q t pends));
 }
 held-mark h l mark fine plain r = record { settled = r.settled; owned = λ q t pends. owner-same h _ (λ _. refl) (λ _. refl) t (r.owned q t pends) }
@@ -138,9 +138,9 @@ held-mark h l mark fine plain r = record { settled = r.settled; owned = λ q t p
 pub held-both : (h : History) (p u : ℕ) (time : ℤ) → Held h → Held (queued (switched p time) ∷ queued (switching p u) ∷ h)
 held-both h p u time r = record { settled = r.settled; owned = owned }
   where
-    owned : (q t : ℕ) → (tables q (queued (switched p time) ∷ queued (switching p u) ∷ h)).pending ≡ Some t → Owner (queued (switched p time) ∷ queued (switching p u) ∷ h) t
+    owned : (q t : ℕ) → (event_tables q (queued (switched p time) ∷ queued (switching p u) ∷ h)).pending ≡ Some t → Owner (queued (switched p time) ∷ queued (switching p u) ∷ h) t
     owned q t =
-        by_test (λ b. (if b then tables_of.switched time (if b then with_pending u (tables q h) else tables q h) else (if b then with_pending u (tables q h) else tables q h)).pending ≡ Some t
+        by_test (λ b. (if b then tables_of.with_switch time (if b then with_pending u (event_tables q h) else event_tables q h) else (if b then with_pending u (event_tables q h) else event_tables q h)).pending ≡ Some t
         → Owner (queued (switched p time) ∷ queued (switching p u) ∷ h) t) (p == q) (λ _ none. absurd (cc)) (λ _ pends. owner-same h _ (λ _. refl) (λ _. refl) t (r.owned q t pends))
 
 -- ---- marks that keep it so, one after another

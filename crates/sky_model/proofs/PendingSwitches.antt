@@ -5,7 +5,7 @@ use Rattle.pgq_tables.specs.Tables as tables_of
 use Rattle.pgq_tables.specs.Tables.{Tables, no_tables, new_tables, with_stored, with_pending, without_pending, with_second_step}
 use Rattle.sky_model.specs.History.{Mark, began, ended, queued, made, put, switching, switched, second_step, dropped, History}
 use Rattle.sky_model.specs.Transactions.{running, has_ended}
-use Rattle.sky_model.specs.Queues.{queues_made, is_pending, tables}
+use Rattle.sky_model.specs.Queues.{queues_made, is_pending, event_tables}
 use Rattle.sky_model.specs.LawsOfRotation.{BeginsFree}
 use Rattle.sky_model.proofs.Legal.{begins_switch, makes_switch, Legal, start, next}
 use Rattle.sky_model.proofs.Snapshots.{sound, runs-unended, contains-push, contains-filter}
@@ -16,7 +16,7 @@ use Rattle.sky_model.proofs.Cases.{by_test, by_same}
 abbrev Runs : History → Tables → ℕ → Type 0
 Runs h ts t = ts.pending ≡ Some t → contains t (running h) ≡ true
 
-pub pending-runs : (h : History) → Legal h → Settled h → (q t : ℕ) → Runs h (tables q h) t
+pub pending-runs : (h : History) → Legal h → Settled h → (q t : ℕ) → Runs h (event_tables q h) t
 pending-runs [] start s q t = λ pends. absurd (cc)
 pending-runs (began whose u ∷ h) (next l fine) s q t = λ pends. let ih = pending-runs h l s q t pends in grind (arith, contains-push t u (running h), ih)
 pending-runs (ended whose u true ∷ h) (next l fine) s q t = λ pends.
@@ -24,7 +24,7 @@ pending-runs (ended whose u true ∷ h) (next l fine) s q t = λ pends.
     let apart : (t == u) ≡ false = by_same (λ b. b ≡ false) t u (λ same. absurd (s.0 q (pends ∙ ap (λ n. Some n) same))) (λ _. refl) in
     grind (arith, contains-filter t u (running h), ih, apart)
 pending-runs (ended whose u false ∷ h) (next l fine) s q t =
-    let ts : Tables = tables q h in
+    let ts : Tables = event_tables q h in
     by_test (λ b. (if b then without_pending ts else ts).pending ≡ Some t → contains t (running (ended whose u false ∷ h)) ≡ true) (is_pending u ts)
     (λ _ none. absurd (cc))
     (λ other pends.
@@ -32,22 +32,22 @@ pending-runs (ended whose u false ∷ h) (next l fine) s q t =
     let ih = pending-runs h l s q t pends in
     grind (arith, contains-filter t u (running h), ih, apart))
 pending-runs (queued (made name u time) ∷ h) (next l fine) s q t =
-    by_test (λ b. Runs h (if b then new_tables u time else tables q h) t) (queues_made h == q) (λ _ none. absurd (cc)) (λ _. pending-runs h l s q t)
+    by_test (λ b. Runs h (if b then new_tables u time else event_tables q h) t) (queues_made h == q) (λ _ none. absurd (cc)) (λ _. pending-runs h l s q t)
 pending-runs (queued (put p event) ∷ h) (next l fine) s q t =
-    by_test (λ b. Runs h (if b then with_stored event (tables q h) else tables q h) t) (p == q) (λ _. pending-runs h l s q t) (λ _. pending-runs h l s q t)
+    by_test (λ b. Runs h (if b then with_stored event (event_tables q h) else event_tables q h) t) (p == q) (λ _. pending-runs h l s q t) (λ _. pending-runs h l s q t)
 pending-runs _ (next {h = h} l (begins_switch p u may)) s q t =
-    by_test (λ b. Runs h (if b then with_pending u (tables q h) else tables q h) t) (p == q)
+    by_test (λ b. Runs h (if b then with_pending u (event_tables q h) else event_tables q h) t) (p == q)
     (λ _ pends. subst (λ n. contains n (running h) ≡ true) (ap (λ o. unwrap_or o u) pends) may.runs) (λ _. pending-runs h l s q t)
 pending-runs (queued (switched p time) ∷ h) (next l fine) s q t =
-    by_test (λ b. Runs h (if b then tables_of.switched time (tables q h) else tables q h) t) (p == q) (λ _ none. absurd (cc)) (λ _. pending-runs h l s q t)
+    by_test (λ b. Runs h (if b then tables_of.with_switch time (event_tables q h) else event_tables q h) t) (p == q) (λ _ none. absurd (cc)) (λ _. pending-runs h l s q t)
 pending-runs (queued (second_step p u) ∷ h) (next l fine) s q t =
-    by_test (λ b. Runs h (if b then with_second_step u (tables q h) else tables q h) t) (p == q) (λ _. pending-runs h l s q t) (λ _. pending-runs h l s q t)
+    by_test (λ b. Runs h (if b then with_second_step u (event_tables q h) else event_tables q h) t) (p == q) (λ _. pending-runs h l s q t) (λ _. pending-runs h l s q t)
 pending-runs (queued (dropped p) ∷ h) (next l fine) s q t =
-    by_test (λ b. Runs h (if b then no_tables else tables q h) t) (p == q) (λ _ none. absurd (cc)) (λ _. pending-runs h l s q t)
+    by_test (λ b. Runs h (if b then no_tables else event_tables q h) t) (p == q) (λ _ none. absurd (cc)) (λ _. pending-runs h l s q t)
 pending-runs (_ ∷ h) (next l fine) s q t = pending-runs h l s q t
 
 -- so it hasn't ended
-pub pending-unended : (h : History) → Legal h → Settled h → (q t : ℕ) → (tables q h).pending ≡ Some t → has_ended h t ≡ false
+pub pending-unended : (h : History) → Legal h → Settled h → (q t : ℕ) → (event_tables q h).pending ≡ Some t → has_ended h t ≡ false
 pending-unended h l s q t pends = runs-unended h (sound h l) t (pending-runs h l s q t pends)
 
 pub settled-below : (later : List Mark) (p : History) → Settled (later ++ p) → Settled p
@@ -58,5 +58,5 @@ settled-below (_ ∷ later) p s = settled-below later p s
 pub switching-free : (h : History) (q t : ℕ) → Legal (queued (switching q t) ∷ h) → BeginsFree h q t
 switching-free h _ _ (next l (begins_switch q t may)) = record { unended = runs-unended h (sound h l) t may.runs; none = may.none; free = may.free }
 
-pub switched-pending : (h : History) (q : ℕ) (time : ℤ) → Legal (queued (switched q time) ∷ h) → is_some (tables q h).pending ≡ true
+pub switched-pending : (h : History) (q : ℕ) (time : ℤ) → Legal (queued (switched q time) ∷ h) → is_some (event_tables q h).pending ≡ true
 switched-pending h q _ (next l (makes_switch p t time i pends)) = ap is_some pends

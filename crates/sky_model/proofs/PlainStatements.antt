@@ -19,7 +19,7 @@ use Rattle.sky_model.specs.Sessions.{Block, outside, inside, failed, block, Sess
 use Rattle.sky_model.specs.State.{RowPart, Database, after_mark, after_marks}
 use Rattle.sky_model.specs.ShownRows.{KeyShown, RowsShown}
 use Rattle.sky_model.specs.Outcome.{Outcome, Checked, ◌>>=◌, does_marks, end_of, aborts, abort}
-use Rattle.sky_model.specs.OwnTransaction.{begin_of, commit_of, txid_for, written}
+use Rattle.sky_model.specs.OwnTransaction.{begin_of, commit_of, txid_for, in_own}
 use Rattle.sky_model.specs.StepLocks.{once_free}
 use Rattle.sky_model.specs.StepSession.{open_db, leaves, rollback, close, cancel}
 use Rattle.sky_model.specs.StepRows.{writes_key, changes, attempts, row_or_none}
@@ -122,7 +122,7 @@ module _ (who : ℕ) where
   abbrev Does : Block → Checked Outcome → Type 0
   Does b c = Gives AnyReply (may_do b who) c
 
-  does-written : (t : ℕ) (s : Session) (marks : List Mark) → EachMark (may_do s.block who) marks → EachMark (may_do s.block who) (written who t s marks)
+  does-written : (t : ℕ) (s : Session) (marks : List Mark) → EachMark (may_do s.block who) marks → EachMark (may_do s.block who) (in_own who t s marks)
   does-written t s marks all =
       of s.txid (each-append (may_do s.block who) marks (commit_of who t s.block) all
       (by_block (λ b. EachMark (may_do b who) (commit_of who t b)) (subst (λ x. When x (Unit {0})) (sym (same-session who)) tt) tt tt s.block))

@@ -3,13 +3,13 @@ use Rattle.std.proofs.Common.{◌≡◌, ℕ, List, [], ◌∷◌, ◌++◌, tru
 use Rattle.std.specs.List.{list_any}
 use Rattle.std.proofs.lemmas.Bool.Decides.{nat_tests}
 use Rattle.std.proofs.lemmas.Bool.{eqb-true}
-use Rattle.std.proofs.lemmas.List.Elements.{All-nil, All-head, All-tail, All-push}
+use Rattle.std.proofs.lemmas.List.Elements.{All-nil, All-push}
 use Rattle.sky_val.specs.declared.event.Event.{Event}
 use Rattle.sky_txid.specs.Ids.{contains}
 use Rattle.sky_model.specs.History.{began, ended, queued, dropped, History}
 use Rattle.sky_model.specs.Transactions.{running, snapshot}
 use Rattle.sky_model.specs.Config.{default_config}
-use Rattle.sky_model.specs.Queues.{new_tick, NamedQueue, queues_made, queues, others_than, config, sequence, events, tables, without_transaction, kept_ticks, ticks_above, second_step_of}
+use Rattle.sky_model.specs.Queues.{new_tick, NamedQueue, queues_made, queues, others_than, config, sequence, events, event_tables, without_transaction, kept_ticks, ticks_above, second_step_of}
 use Rattle.sky_model.specs.Consumers.{all_but, consumers, subscription_id, position, active}
 use Rattle.sky_model.specs.Retries.{brought_by}
 use Rattle.sky_model.specs.LawsOfQueues.{QueuesOfConsumersStand, QueuesOfTriggersStand, BusyQueuesStand, OtherQueuesKeepNothing, NewQueuesAreOthers}
@@ -26,15 +26,10 @@ use Rattle.sky_model.proofs.Rotation.{running-stored}
 use Rattle.sky_model.proofs.LawfulTelling.{trigger-queues}
 use Rattle.sky_model.proofs.SnapshotLaws.{legal_place}
 use Rattle.sky_names.proofs.PlaceLemmas.{bytes_eq_refl}
+use Rattle.sky_model.proofs.Unawaited.{contained}
 use Rattle.sky_model.proofs.Cases.{by_test, by_same}
 
 -- ---- running transactions
-
--- what holds of each of some ids holds of one that is among them
-contained : (P : ℕ → Type 0) (t : ℕ) (ts : List ℕ) → All P ts → contains t ts ≡ true → P t
-contained P t [] all is = absurd (cc)
-contained P t (u ∷ ts) all is =
-    by_same (λ b. (b || contains t ts) ≡ true → P t) t u (λ same _. subst P (sym same) (All-head P u ts all)) (λ _ is. contained P t ts (All-tail P u ts all) is) is
 
 -- the queue of an event stands while the event's transaction runs
 abbrev Needs : History → ℕ → Event → Type 0
@@ -56,18 +51,18 @@ running-stands _ (next {h = h} l (puts who p event i at mine newest)) q =
 running-stands _ (next {h = h} l (puts_back retry t back)) q =
     by_same (λ b. All (Needs h q) (if b then events q h ++ brought_by t retry.event ∷ [] else events q h)) retry.queue q
     (λ same. All-push (Needs h q) (events q h) (brought_by t retry.event) (running-stands h l q) (λ _. subst (IsQueue h) same back.stands)) (λ _. running-stands h l q)
-running-stands _ (next {h = h} l (drops p none untold idle)) q =
+running-stands _ (next {h = h} l (drops p none untold idle aside)) q =
     λ k e less runs.
     let stands : IsQueue h q = running-stands h l q k e less runs in
     among-others p (queues h) q stands
     (by_same (λ b. b ≡ false) q p
     (λ same. absurd (clash (get_or (events q h) k e).ev_txid runs
-    (running-stored h l q stands k e less runs) (subst (λ n. All (λ t. has_part_in (tables n h) t ≡ false) (running h)) (sym same) idle)))
+    (running-stored h l q stands k e less runs) (subst (λ n. All (λ t. has_part_in (event_tables n h) t ≡ false) (running h)) (sym same) idle)))
     (λ _. refl))
   where
     -- a running transaction that has put an event isn't one that hasn't
-    clash : (t : ℕ) → contains t (running h) ≡ true → has_part_in (tables q h) t ≡ true → All (λ t. has_part_in (tables q h) t ≡ false) (running h) → ⊥
-    clash t runs has idle = cc (sym has ∙ contained (λ t. has_part_in (tables q h) t ≡ false) t (running h) idle runs)
+    clash : (t : ℕ) → contains t (running h) ≡ true → has_part_in (event_tables q h) t ≡ true → All (λ t. has_part_in (event_tables q h) t ≡ false) (running h) → ⊥
+    clash t runs has idle = cc (sym has ∙ contained (λ t. has_part_in (event_tables q h) t ≡ false) t (running h) idle runs)
 running-stands _ (next {h = h} l _) q = running-stands h l q
 
 -- ---- what is kept of other queues
@@ -105,7 +100,7 @@ unsubscribed-empty h q none = of (consumers q h) refl
 pub record IsBare (h : History) (q : ℕ) : Type 0 where
   pub unset : config q h ≡ default_config
   pub no_id : sequence q h ≡ 0
-  pub no_event : tables q h ≡ no_tables
+  pub no_event : event_tables q h ≡ no_tables
   pub no_tick : kept_ticks q h ≡ []
   pub no_consumer : consumers q h ≡ []
 
@@ -117,34 +112,34 @@ bare (ended whose t false ∷ h) (next l fine) q away =
 bare _ (next {h = h} l (makes name t time new)) q away =
     let b : IsBare h q = bare h l q (away-before (queues h) (record { number = queues_made h; name = name }) q away) in
     let other : (queues_made h == q) ≡ false = away-last (queues h) (record { number = queues_made h; name = name }) q away in
-    record { unset = b.unset; no_id = b.no_id; no_event = ap (λ c. if c then new_tables t time else tables q h) other ∙ b.no_event; no_tick = ap (λ c. if c then kept_ticks q h ++ new_tick time h ∷ [] else kept_ticks q h) other ∙ b.no_tick; no_consumer = b.no_consumer }
+    record { unset = b.unset; no_id = b.no_id; no_event = ap (λ c. if c then new_tables t time else event_tables q h) other ∙ b.no_event; no_tick = ap (λ c. if c then kept_ticks q h ++ new_tick time h ∷ [] else kept_ticks q h) other ∙ b.no_tick; no_consumer = b.no_consumer }
 bare _ (next {h = h} l (begins_switch p t may)) q away =
     let b : IsBare h q = bare h l q away in
-    record { unset = b.unset; no_id = b.no_id; no_event = ap (λ c. if c then with_pending t (tables q h) else tables q h) (apart (queues h) p q may.within away) ∙ b.no_event; no_tick = b.no_tick; no_consumer = b.no_consumer }
+    record { unset = b.unset; no_id = b.no_id; no_event = ap (λ c. if c then with_pending t (event_tables q h) else event_tables q h) (apart (queues h) p q may.within away) ∙ b.no_event; no_tick = b.no_tick; no_consumer = b.no_consumer }
 bare _ (next {h = h} l (makes_switch p t time i is)) q away =
     let b : IsBare h q = bare h l q away in
     record {
       unset = b.unset;
       no_id = b.no_id;
-      no_event = ap (λ c. if c then tables_of.switched time (tables q h) else tables q h) (apart (queues h) p q i away) ∙ b.no_event;
-      no_tick = ap (λ c. if c then ticks_above (second_step_of (tables q h)) (kept_ticks q h) else kept_ticks q h) (apart (queues h) p q i away) ∙ b.no_tick;
+      no_event = ap (λ c. if c then tables_of.with_switch time (event_tables q h) else event_tables q h) (apart (queues h) p q i away) ∙ b.no_event;
+      no_tick = ap (λ c. if c then ticks_above (second_step_of (event_tables q h)) (kept_ticks q h) else kept_ticks q h) (apart (queues h) p q i away) ∙ b.no_tick;
       no_consumer = b.no_consumer;
     }
 bare _ (next {h = h} l (ends_switch p t may)) q away =
     let b : IsBare h q = bare h l q away in
-    record { unset = b.unset; no_id = b.no_id; no_event = ap (λ c. if c then with_second_step t (tables q h) else tables q h) (apart (queues h) p q may.within away) ∙ b.no_event; no_tick = b.no_tick; no_consumer = b.no_consumer }
+    record { unset = b.unset; no_id = b.no_id; no_event = ap (λ c. if c then with_second_step t (event_tables q h) else event_tables q h) (apart (queues h) p q may.within away) ∙ b.no_event; no_tick = b.no_tick; no_consumer = b.no_consumer }
 bare _ (next {h = h} l (raises p value i le)) q away =
     let b : IsBare h q = bare h l q away in
     record { unset = b.unset; no_id = ap (λ c. if c then value else sequence q h) (apart (queues h) p q i away) ∙ b.no_id; no_event = b.no_event; no_tick = b.no_tick; no_consumer = b.no_consumer }
 bare _ (next {h = h} l (puts who p event i at mine newest)) q away =
     let b : IsBare h q = bare h l q away in
-    record { unset = b.unset; no_id = b.no_id; no_event = ap (λ c. if c then with_stored event (tables q h) else tables q h) (apart (queues h) p q i away) ∙ b.no_event; no_tick = b.no_tick; no_consumer = b.no_consumer }
+    record { unset = b.unset; no_id = b.no_id; no_event = ap (λ c. if c then with_stored event (event_tables q h) else event_tables q h) (apart (queues h) p q i away) ∙ b.no_event; no_tick = b.no_tick; no_consumer = b.no_consumer }
 bare _ (next {h = h} l (puts_back retry t back)) q away =
     let b : IsBare h q = bare h l q away in
     record {
       unset = b.unset;
       no_id = b.no_id;
-      no_event = ap (λ c. if c then with_stored (brought_by t retry.event) (tables q h) else tables q h) (apart (queues h) retry.queue q back.stands away) ∙ b.no_event;
+      no_event = ap (λ c. if c then with_stored (brought_by t retry.event) (event_tables q h) else event_tables q h) (apart (queues h) retry.queue q back.stands away) ∙ b.no_event;
       no_tick = b.no_tick;
       no_consumer = b.no_consumer;
     }
@@ -166,12 +161,12 @@ bare _ (next {h = h} l (unregisters p name sub i has)) q away =
 bare _ (next {h = h} l (configures p c i)) q away =
     let b : IsBare h q = bare h l q away in
     record { unset = ap (λ t. if t then c else config q h) (apart (queues h) p q i away) ∙ b.unset; no_id = b.no_id; no_event = b.no_event; no_tick = b.no_tick; no_consumer = b.no_consumer }
-bare _ (next {h = h} l (drops p none untold idle)) q away =
+bare _ (next {h = h} l (drops p none untold idle aside)) q away =
     by_test (λ b. (p == q) ≡ b → IsBare (queued (dropped p) ∷ h) q) (p == q)
     (λ _ is. record {
       unset = ap (λ c. if c then default_config else config q h) is;
       no_id = ap (λ c. if c then 0 else sequence q h) is;
-      no_event = ap (λ c. if c then no_tables else tables q h) is;
+      no_event = ap (λ c. if c then no_tables else event_tables q h) is;
       no_tick = ap (λ c. if c then [] else kept_ticks q h) is;
       no_consumer = unsubscribed-empty h q (λ c. ap (λ n. subscription_id n c h) (sym (eqb-true p q is)) ∙ none c);
     })
@@ -180,7 +175,7 @@ bare _ (next {h = h} l (drops p none untold idle)) q away =
     record {
       unset = ap (λ c. if c then default_config else config q h) other ∙ b.unset;
       no_id = ap (λ c. if c then 0 else sequence q h) other ∙ b.no_id;
-      no_event = ap (λ c. if c then no_tables else tables q h) other ∙ b.no_event;
+      no_event = ap (λ c. if c then no_tables else event_tables q h) other ∙ b.no_event;
       no_tick = ap (λ c. if c then [] else kept_ticks q h) other ∙ b.no_tick;
       no_consumer = b.no_consumer;
     }) refl

@@ -13,7 +13,7 @@ use Rattle.sky_model.specs.Outcome.{Outcome, Checked}
 use Rattle.sky_model.specs.StepRows.{attempts}
 use Rattle.sky_model.specs.Reader.{PartReader, part_by_itself}
 use Rattle.sky_model.specs.Gates.{Gate, by_gate}
-use Rattle.sky_model.specs.Settling.{Turn, rests, behind_marks, joined, and_then, ready, attempted, resumed, goes_on, settles, settling}
+use Rattle.sky_model.specs.Settling.{Turn, rests, behind_marks, with_rest, and_then, ready, attempted, resumed, goes_on, settles, settling}
 use Rattle.sky_model.specs.Printed.{ReplyHasMoments}
 use Rattle.sky_model.proofs.StatementMarks.{EachMark, Gives, gives-map, Kinds, no_more, may_leave, attempt_kinds, gives-attempts, gives-gated, given-settled}
 use Rattle.sky_model.proofs.Cases.{by_test}
@@ -137,7 +137,7 @@ enough {P = P} r keeps (suc n) (suc m) p some also = of (ready (r.part p)) refl 
         → goes_on r p (settles r n) o ≡ goes_on r p (settles r m) o
     of None e ih = refl
     of (Some w) e ih =
-        ap (joined (resumed r p w)) (ih (behind_marks r p (resumed r p w).marks) (omega (arith, fewer-wait r keeps p w e, some)) (omega (arith, fewer-wait r keeps p w e, also)))
+        ap (with_rest (resumed r p w)) (ih (behind_marks r p (resumed r p w).marks) (omega (arith, fewer-wait r keeps p w e, some)) (omega (arith, fewer-wait r keeps p w e, also)))
 
 -- those that resume: nobody, if none is ready
 pub settling-none : {P : Type 0} (r : PartReader P) → KeepsPart r → (p : P) → ready (r.part p) ≡ None → settling r p ≡ rests
@@ -155,7 +155,7 @@ settling-some r keeps p w e = of (length (r.part p).waiting) refl
     of zero is = absurd (cc (sym (nobody (r.part p) (omega (arith, is))) ∙ e))
     of (suc n) is =
         ap (goes_on r p (settles r n)) e
-        ∙ ap (joined (resumed r p w))
+        ∙ ap (with_rest (resumed r p w))
         (enough r keeps n (length (r.part (behind_marks r p (resumed r p w).marks)).waiting) (behind_marks r p (resumed r p w).marks)
         (omega (arith, fewer-wait r keeps p w e, is)) (omega arith))
 

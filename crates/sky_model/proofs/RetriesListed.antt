@@ -11,9 +11,9 @@ use Rattle.sky_model.specs.Queues.{queues_made, ticks, newest_tick, id_of, at_ti
 use Rattle.sky_model.specs.Retries.{retries, brought_by}
 use Rattle.sky_model.specs.HistoryPlaces.{IsPlace}
 use Rattle.sky_model.specs.LawsOfRetries.{IsRetry, RetriesAreListed}
-use Rattle.sky_model.proofs.Legal.{Fine, Returns, makes, ticks_next, returns, Legal}
+use Rattle.sky_model.proofs.Legal.{Fine, Returns, makes, ticks_next, returns, Legal, legal-below_mark, fine_mark}
 use Rattle.sky_model.proofs.Snapshots.{sound, runs-unended, contains-push, contains-filter}
-use Rattle.sky_model.proofs.SnapshotLaws.{legal-below_mark, fine_mark, legal-below, legal_place}
+use Rattle.sky_model.proofs.SnapshotLaws.{legal-below, legal_place}
 use Rattle.sky_model.proofs.TickOrder.{is_made, is_made-tick, unmade_beyond}
 use Rattle.sky_model.proofs.Listings.{unended-uncommitted, new_tick, made_since}
 use Rattle.sky_model.proofs.RetryCopies.{copies}

@@ -9,9 +9,9 @@ use Rattle.sky_model.specs.Transactions.{has_committed}
 use Rattle.sky_model.specs.Queues.{at_tick}
 use Rattle.sky_model.specs.Retries.{retries, brought_by}
 use Rattle.sky_model.specs.LawsOfRetries.{IsAskedOfBatch, ComesBack, RetriesAreCopies, RetriesAreOfActiveBatches, RetriesWaitOnce, RetriesComeBackDue, RetriesAreForTheirSubscription}
-use Rattle.sky_model.proofs.Legal.{Fine, asks, returns, Legal}
+use Rattle.sky_model.proofs.Legal.{Fine, asks, returns, Legal, legal-below_mark, fine_mark}
 use Rattle.sky_model.proofs.Snapshots.{sound, runs-unended}
-use Rattle.sky_model.proofs.SnapshotLaws.{legal-below_mark, fine_mark, legal_place}
+use Rattle.sky_model.proofs.SnapshotLaws.{legal_place}
 use Rattle.sky_model.proofs.RetryCopies.{copies, once}
 
 pub retries_are_copies : RetriesAreCopies

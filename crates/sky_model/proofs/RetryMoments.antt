@@ -25,7 +25,7 @@ use Rattle.sky_model.specs.Calls.{form, making, statement}
 use Rattle.sky_model.specs.SessionMarks.{look_of, entry_place, enters, failing}
 use Rattle.sky_model.specs.DatabaseCalls.{stepped, entered, failed, worked, served, database_does}
 use Rattle.sky_model.specs.LawsOfRetries.{IsBackAt, RetriesComeBackAtCalls}
-use Rattle.sky_model.proofs.StatementMarks.{EachMark, each-append, each-rest, when-true, AnyReply, Gives, gives-map, given-runs, gives-tells, Kinds, no_more, is_no_return, may_leave, attempt_kinds, kinds, gives-form, each-failure, settling-gives}
+use Rattle.sky_model.proofs.StatementMarks.{EachMark, each-append, each-rest, when-true, AnyReply, Gives, gives-map, given-runs, gives-tells, Kinds, no_more, is_common, may_leave, attempt_kinds, kinds, gives-form, each-failure, settling-gives}
 use Rattle.sky_model.proofs.DaemonTurns.{each-brings, each-ends_switches, each-daemon_does}
 use Rattle.sky_model.proofs.WorkersRest.{rows-no_work}
 use Rattle.sky_model.proofs.NodeCalls.{node-back}
@@ -44,7 +44,7 @@ back-marks now [] all = All-nil (IsBackAt (Some now))
 back-marks now (mark ∷ marks) all =
     All-cons (IsBackAt (Some now)) mark marks (back-mark now mark (when-true _ (is_back_at now mark) all)) (back-marks now marks (each-rest (is_back_at now) mark marks all))
 
-others-back : (now : ℤ) (mark : QueueMark) → is_no_return mark ≡ true → is_back_at now (queued mark) ≡ true
+others-back : (now : ℤ) (mark : QueueMark) → is_common mark ≡ true → is_back_at now (queued mark) ≡ true
 others-back now (returned retry moment) e = absurd (cc)
 others-back now _ e = refl
 

@@ -8,20 +8,20 @@ use Rattle.sky_model.specs.ShownRows.{rows_by}
 use Rattle.sky_model.specs.Outcome.{Outcome, Checked, ◌>>◌, refused_if}
 use Rattle.sky_model.specs.Reader.{part_by_itself}
 use Rattle.sky_model.specs.Gates.{RowWrite, Gate, takes, passed, takes_all, gated, by_gate}
-use Rattle.sky_model.specs.Rooms.{Notice, written, undone, after_notices, room_of, room_gate}
+use Rattle.sky_model.specs.Rooms.{Notice, write_made, undone, after_notices, room_of, room_gate}
 use Rattle.sky_model.specs.Settling.{Turn, with_settling}
 use Rattle.sky_model.specs.Calls.{row_turn}
 use Rattle.sky_model.proofs.Turns.{ReadAlike, same-with_settling, alike-turn, Any, each-any}
 
 after_written : {G : Type 0} (gate : Gate G) (g : G) (notices : List Notice) (t : ℕ) (write : RowWrite)
-    → after_notices gate g (notices ++ written t write ∷ []) ≡ gate.after (after_notices gate g notices) t write
+    → after_notices gate g (notices ++ write_made t write ∷ []) ≡ gate.after (after_notices gate g notices) t write
 after_written gate g [] t write = refl
-after_written gate g (written u w ∷ notices) t write = after_written gate (gate.after g u w) notices t write
+after_written gate g (write_made u w ∷ notices) t write = after_written gate (gate.after g u w) notices t write
 after_written gate g (undone u ∷ notices) t write = after_written gate (gate.undone g u) notices t write
 
 after_undone : {G : Type 0} (gate : Gate G) (g : G) (notices : List Notice) (t : ℕ) → after_notices gate g (notices ++ undone t ∷ []) ≡ gate.undone (after_notices gate g notices) t
 after_undone gate g [] t = refl
-after_undone gate g (written u w ∷ notices) t = after_undone gate (gate.after g u w) notices t
+after_undone gate g (write_made u w ∷ notices) t = after_undone gate (gate.after g u w) notices t
 after_undone gate g (undone u ∷ notices) t = after_undone gate (gate.undone g u) notices t
 
 module _ {G : Type 0} (gate : Gate G) (g : G) where

@@ -12,7 +12,7 @@ use Rattle.pgq_tables.specs.Tables.{with_pending, with_second_step}
 use Rattle.sky_model.specs.History.{of_session, of_worker, began, ended, queued, switching, switched, second_step, History}
 use Rattle.sky_model.specs.Transactions.{next_txid, running, workers}
 use Rattle.sky_model.specs.Sessions.{Block, block, own_txid}
-use Rattle.sky_model.specs.Queues.{NamedQueue, queues, tables}
+use Rattle.sky_model.specs.Queues.{NamedQueue, queues, event_tables}
 use Rattle.sky_model.specs.State.{part_of, queue_of, database_of}
 use Rattle.sky_model.specs.OwnTransaction.{own_or_next, begin_of, commit_of}
 use Rattle.sky_model.specs.Settling.{marked}
@@ -37,17 +37,17 @@ map-none f (Some x) none = absurd (cc)
 -- a transaction may have a switch pending that nothing holds back
 may_switch : (h : History) (now : ℤ) (q t : ℕ) → IsQueue h q → contains t (running h) ≡ true → held_back now (queue_of h q) ≡ None → MaySwitch h q t
 may_switch h now q t within runs free =
-    let first = or-none (option_map Pending (tables q h).pending) (option_or (held_by_period now (queue_of h q)) (held_by_second_step (queue_of h q) (tables q h).second_step)) free in
+    let first = or-none (option_map Pending (event_tables q h).pending) (option_or (held_by_period now (queue_of h q)) (held_by_second_step (queue_of h q) (event_tables q h).second_step)) free in
     record {
       within = within;
       runs = runs;
-      none = map-none Pending (tables q h).pending first.0;
-      free = (or-none (held_by_period now (queue_of h q)) (held_by_second_step (queue_of h q) (tables q h).second_step) first.1).1;
+      none = map-none Pending (event_tables q h).pending first.0;
+      free = (or-none (held_by_period now (queue_of h q)) (held_by_second_step (queue_of h q) (event_tables q h).second_step) first.1).1;
     }
 
 -- it is pending then
-is-pending : (h : History) (q t : ℕ) → (tables q (queued (switching q t) ∷ h)).pending ≡ Some t
-is-pending h q t = subst (λ b. (if b then with_pending t (tables q h) else tables q h).pending ≡ Some t) (sym (same-session q)) refl
+is-pending : (h : History) (q t : ℕ) → (event_tables q (queued (switching q t) ∷ h)).pending ≡ Some t
+is-pending h q t = subst (λ b. (if b then with_pending t (event_tables q h) else event_tables q h).pending ≡ Some t) (sym (same-session q)) refl
 
 -- ---- the first step
 
@@ -106,19 +106,19 @@ rotates-stay h now q None = of (nat_le (2 ^ 62) (next_txid h))
 
 -- queues that stand and lack it, in a worker's newest transaction
 abbrev Lack : History → List NamedQueue → Type 0
-Lack g queues = All (λ q. IsQueue g q.number × ((tables q.number g).second_step ≡ None)) queues
+Lack g queues = All (λ q. IsQueue g q.number × ((event_tables q.number g).second_step ≡ None)) queues
 
 good_second_steps : (t : ℕ) (queues : List NamedQueue) (g : History) → Legal g → Apart queues → Lack g queues → contains t (workers g) ≡ true → next_txid g ≡ t + 1
     → Chain g (second_steps t queues ++ ended of_worker t true ∷ [])
 good_second_steps t [] g l apart lack works newest = more (ends_work t true works) done
 good_second_steps t (q ∷ queues) g l apart lack works newest =
-    let first = All-head (λ q. IsQueue g q.number × ((tables q.number g).second_step ≡ None)) q queues lack in
+    let first = All-head (λ q. IsQueue g q.number × ((event_tables q.number g).second_step ≡ None)) q queues lack in
     let fine = ends_switch q.number t (record { within = first.0; missing = first.1; works = works; newest = newest }) in
     more fine (good_second_steps t queues (queued (second_step q.number t) ∷ g) (next l fine) apart.1
     (λ k r less.
     let x : NamedQueue = get_or queues k r in
-    let before = All-tail (λ q. IsQueue g q.number × ((tables q.number g).second_step ≡ None)) q queues lack k r less in
-    (before.0, subst (λ b. (if b then with_second_step t (tables x.number g) else tables x.number g).second_step ≡ None) (sym (apart.0 k r less)) before.1))
+    let before = All-tail (λ q. IsQueue g q.number × ((event_tables q.number g).second_step ≡ None)) q queues lack k r less in
+    (before.0, subst (λ b. (if b then with_second_step t (event_tables x.number g) else event_tables x.number g).second_step ≡ None) (sym (apart.0 k r less)) before.1))
     works newest)
 
 all-of : (P : NamedQueue → Type 0) (p : NamedQueue → Bool) (queues : List NamedQueue) → All P queues → All P (filter p queues)
@@ -137,16 +137,16 @@ none-of : (o : Option ℕ) → is_none o ≡ true → o ≡ None
 none-of None is = refl
 none-of (Some t) is = absurd (cc)
 
-lack-of : (h : History) (qs : List NamedQueue) → All (λ q. IsQueue h q.number) qs → Lack h (filter (λ q. is_none (tables q.number h).second_step) qs)
-lack-of h [] all = All-nil (λ q. IsQueue h q.number × ((tables q.number h).second_step ≡ None))
+lack-of : (h : History) (qs : List NamedQueue) → All (λ q. IsQueue h q.number) qs → Lack h (filter (λ q. is_none (event_tables q.number h).second_step) qs)
+lack-of h [] all = All-nil (λ q. IsQueue h q.number × ((event_tables q.number h).second_step ≡ None))
 lack-of h (q ∷ qs) all =
     let rest = lack-of h qs (All-tail (λ q. IsQueue h q.number) q qs all) in
-    by_test (λ b. is_none (tables q.number h).second_step ≡ b → Lack h (if b then q ∷ filter (λ q. is_none (tables q.number h).second_step) qs else filter (λ q. is_none (tables q.number h).second_step) qs))
-    (is_none (tables q.number h).second_step)
-    (λ _ is. All-cons (λ q. IsQueue h q.number × ((tables q.number h).second_step ≡ None)) q _ (All-head (λ q. IsQueue h q.number) q qs all, none-of (tables q.number h).second_step is) rest) (λ _ _. rest) refl
+    by_test (λ b. is_none (event_tables q.number h).second_step ≡ b → Lack h (if b then q ∷ filter (λ q. is_none (event_tables q.number h).second_step) qs else filter (λ q. is_none (event_tables q.number h).second_step) qs))
+    (is_none (event_tables q.number h).second_step)
+    (λ _ is. All-cons (λ q. IsQueue h q.number × ((event_tables q.number h).second_step ≡ None)) q _ (All-head (λ q. IsQueue h q.number) q qs all, none-of (event_tables q.number h).second_step is) rest) (λ _ _. rest) refl
 
 pub may_end_switches : (h : History) → Legal h → Chain h (marks_of (maint_rotate_step2 (database_of h)))
-may_end_switches h l = of (lack_second_step (database_of h)) (apart-of (λ q. is_none (tables q.number h).second_step) (queues h) (queues-apart h)) (lack-of h (queues h) (all-among (queues h)))
+may_end_switches h l = of (lack_second_step (database_of h)) (apart-of (λ q. is_none (event_tables q.number h).second_step) (queues h) (queues-apart h)) (lack-of h (queues h) (all-among (queues h)))
   where
     t : ℕ
     t = next_txid h

@@ -10,7 +10,7 @@ use Rattle.pgq_tables.specs.Tables as tables_of
 use Rattle.pgq_tables.specs.Tables.{Stored, Tables, no_tables, new_tables, with_stored, marked_dead, with_dead, with_pending, without_pending, with_second_step}
 use Rattle.sky_model.specs.History.{ended, queued, made, switching, switched, History}
 use Rattle.sky_model.specs.Transactions.{has_rolled_back}
-use Rattle.sky_model.specs.Queues.{queues_made, queues, events, is_pending, tables, ticks, tick, kept_ticks, ticks_above, is_above, second_step_of}
+use Rattle.sky_model.specs.Queues.{queues_made, queues, events, is_pending, event_tables, ticks, tick, kept_ticks, ticks_above, is_above, second_step_of}
 use Rattle.sky_model.specs.Retries.{brought_by}
 use Rattle.sky_model.specs.State.{queue_of}
 use Rattle.sky_model.specs.StepConsumer.{floor}
@@ -63,7 +63,7 @@ record Has (keep : Event → Stored) (switches : ℕ) (first second third : List
   lists_are : lists ≡ map keep first ∷ map keep second ∷ map keep third ∷ []
 
 abbrev DoesHave : History → ℕ → Type 0
-DoesHave h q = Has (as_stored h) (switches q h) (put_while q 0 h) (put_while q 1 h) (put_while q 2 h) (tables q h).current (tables q h).lists
+DoesHave h q = Has (as_stored h) (switches q h) (put_while q 0 h) (put_while q 1 h) (put_while q 2 h) (event_tables q h).current (event_tables q h).lists
 
 put-current : (keep : Event → Stored) (k : ℕ) (first second third : List Event) (e : Event) (s : Stored) → k < 3 → keep e ≡ s
     → slice_set (map keep first ∷ map keep second ∷ map keep third ∷ []) k (slice_index_or (map keep first ∷ map keep second ∷ map keep third ∷ []) k [] ++ s ∷ [])
@@ -108,7 +108,7 @@ have : (h : History) → Legal h → (q : ℕ) → IsQueue h q → DoesHave h q
 have [] start q is = absurd (cc)
 have (ended whose t false ∷ h) (next l fine) q is =
     let s : DoesHave h q = have h l q is in
-    let ts : Tables = tables q h in
+    let ts : Tables = event_tables q h in
     let keep = as_stored (ended whose t false ∷ h) in
     let dead : map (map (marked_dead t)) ts.lists ≡ map keep (put_while q 0 h) ∷ map keep (put_while q 1 h) ∷ map keep (put_while q 2 h) ∷ [] =
     ap (map (map (marked_dead t))) s.lists_are
@@ -119,12 +119,12 @@ have _ (next {h = h} l (makes name t time new)) q is =
     stands-or-new (DoesHave (queued (made name t time) ∷ h) q) h name t time q is
     (λ before.
     let other : (queues_made h == q) ≡ false = grind (arith, nat_tests, queue-below h q before) in
-    subst (λ b. Has (as_stored h) (switches q h) (put_while q 0 h) (put_while q 1 h) (put_while q 2 h) (if b then new_tables t time else tables q h).current (if b then new_tables t time else tables q h).lists)
+    subst (λ b. Has (as_stored h) (switches q h) (put_while q 0 h) (put_while q 1 h) (put_while q 2 h) (if b then new_tables t time else event_tables q h).current (if b then new_tables t time else event_tables q h).lists)
     (sym other) (have h l q before))
     (λ last.
     let same : (queues_made h == q) ≡ true = grind (arith, nat_tests, last) in
     let u : IsUnput h q = unput_beyond h l q (omega (arith, last)) in
-    subst (λ b. Has (as_stored h) (switches q h) (put_while q 0 h) (put_while q 1 h) (put_while q 2 h) (if b then new_tables t time else tables q h).current (if b then new_tables t time else tables q h).lists)
+    subst (λ b. Has (as_stored h) (switches q h) (put_while q 0 h) (put_while q 1 h) (put_while q 2 h) (if b then new_tables t time else event_tables q h).current (if b then new_tables t time else event_tables q h).lists)
     (sym same)
     (record {
       at = ap (λ n. n % 3) (sym u.unswitched);
@@ -135,32 +135,32 @@ have _ (next {h = h} l (puts who p event i at mine newest)) q is =
     let live = alive h event (runs-unended h (sound h l) event.ev_txid ((sound h l).owns who event.ev_txid mine)) in
     let k = switches q h % 3 in
     by_test (λ b. Has (as_stored h) (switches q h) (if b && k == 0 then put_while q 0 h ++ event ∷ [] else put_while q 0 h) (if b && k == 1 then put_while q 1 h ++ event ∷ [] else put_while q 1 h)
-    (if b && k == 2 then put_while q 2 h ++ event ∷ [] else put_while q 2 h) (if b then with_stored event (tables q h) else tables q h).current (if b then with_stored event (tables q h) else tables q h).lists) (p == q)
-    (λ _. has-put (as_stored h) (switches q h) (put_while q 0 h) (put_while q 1 h) (put_while q 2 h) (tables q h).current (tables q h).lists event (record { event = event; dead = false }) live s) (λ _. s)
+    (if b && k == 2 then put_while q 2 h ++ event ∷ [] else put_while q 2 h) (if b then with_stored event (event_tables q h) else event_tables q h).current (if b then with_stored event (event_tables q h) else event_tables q h).lists) (p == q)
+    (λ _. has-put (as_stored h) (switches q h) (put_while q 0 h) (put_while q 1 h) (put_while q 2 h) (event_tables q h).current (event_tables q h).lists event (record { event = event; dead = false }) live s) (λ _. s)
 have _ (next {h = h} l (puts_back retry t back)) q is =
     let s : DoesHave h q = have h l q is in
     let event = brought_by t retry.event in
     let live = alive h event (runs-unended h (sound h l) t ((sound h l).works t back.works)) in
     let k = switches q h % 3 in
     by_test (λ b. Has (as_stored h) (switches q h) (if b && k == 0 then put_while q 0 h ++ event ∷ [] else put_while q 0 h) (if b && k == 1 then put_while q 1 h ++ event ∷ [] else put_while q 1 h)
-    (if b && k == 2 then put_while q 2 h ++ event ∷ [] else put_while q 2 h) (if b then with_stored event (tables q h) else tables q h).current (if b then with_stored event (tables q h) else tables q h).lists) (retry.queue == q)
-    (λ _. has-put (as_stored h) (switches q h) (put_while q 0 h) (put_while q 1 h) (put_while q 2 h) (tables q h).current (tables q h).lists event (record { event = event; dead = false }) live s) (λ _. s)
+    (if b && k == 2 then put_while q 2 h ++ event ∷ [] else put_while q 2 h) (if b then with_stored event (event_tables q h) else event_tables q h).current (if b then with_stored event (event_tables q h) else event_tables q h).lists) (retry.queue == q)
+    (λ _. has-put (as_stored h) (switches q h) (put_while q 0 h) (put_while q 1 h) (put_while q 2 h) (event_tables q h).current (event_tables q h).lists event (record { event = event; dead = false }) live s) (λ _. s)
 have _ (next {h = h} l (begins_switch p t may)) q is =
     let s : DoesHave h q = have h l q is in
-    by_test (λ b. Has (as_stored h) (switches q h) (put_while q 0 h) (put_while q 1 h) (put_while q 2 h) (if b then with_pending t (tables q h) else tables q h).current (if b then with_pending t (tables q h) else tables q h).lists)
+    by_test (λ b. Has (as_stored h) (switches q h) (put_while q 0 h) (put_while q 1 h) (put_while q 2 h) (if b then with_pending t (event_tables q h) else event_tables q h).current (if b then with_pending t (event_tables q h) else event_tables q h).lists)
     (p == q) (λ _. s) (λ _. s)
 have _ (next {h = h} l (makes_switch p t time i pends)) q is =
     let s : DoesHave h q = have h l q is in
     let k = (switches q h + 1) % 3 in
     by_test (λ b. Has (as_stored h) (if b then switches q h + 1 else switches q h) (if b && k == 0 then [] else put_while q 0 h) (if b && k == 1 then [] else put_while q 1 h) (if b && k == 2 then [] else put_while q 2 h)
-    (if b then tables_of.switched time (tables q h) else tables q h).current (if b then tables_of.switched time (tables q h) else tables q h).lists) (p == q)
-    (λ _. has-switched (as_stored h) (switches q h) (put_while q 0 h) (put_while q 1 h) (put_while q 2 h) (tables q h).current (tables q h).lists s) (λ _. s)
+    (if b then tables_of.with_switch time (event_tables q h) else event_tables q h).current (if b then tables_of.with_switch time (event_tables q h) else event_tables q h).lists) (p == q)
+    (λ _. has-switched (as_stored h) (switches q h) (put_while q 0 h) (put_while q 1 h) (put_while q 2 h) (event_tables q h).current (event_tables q h).lists s) (λ _. s)
 have _ (next {h = h} l (ends_switch p t may)) q is =
     let s : DoesHave h q = have h l q is in
-    by_test (λ b. Has (as_stored h) (switches q h) (put_while q 0 h) (put_while q 1 h) (put_while q 2 h) (if b then with_second_step t (tables q h) else tables q h).current (if b then with_second_step t (tables q h) else tables q h).lists)
+    by_test (λ b. Has (as_stored h) (switches q h) (put_while q 0 h) (put_while q 1 h) (put_while q 2 h) (if b then with_second_step t (event_tables q h) else event_tables q h).current (if b then with_second_step t (event_tables q h) else event_tables q h).lists)
     (p == q) (λ _. s) (λ _. s)
-have _ (next {h = h} l (drops p none untold idle)) q is =
-    subst (λ b. Has (as_stored h) (switches q h) (put_while q 0 h) (put_while q 1 h) (put_while q 2 h) (if b then no_tables else tables q h).current (if b then no_tables else tables q h).lists)
+have _ (next {h = h} l (drops p none untold idle aside)) q is =
+    subst (λ b. Has (as_stored h) (switches q h) (put_while q 0 h) (put_while q 1 h) (put_while q 2 h) (if b then no_tables else event_tables q h).current (if b then no_tables else event_tables q h).lists)
     (sym (others-apart p (queues h) q is)) (have h l q (others-among p (queues h) q is))
 have _ (next {h = h} l _) q is = have h l q is
 
@@ -188,7 +188,7 @@ all-unmap P f (x ∷ xs) all = All-cons (λ x. P (f x)) x xs (All-head P (f x) (
 
 -- an event is stored if it is needed
 abbrev IsSafe : History → ℕ → Event → Type 0
-IsSafe h q e = is_needed h q e ≡ true → Contains (previous_events (tables q h) ++ current_events (tables q h)) (record { event = e; dead = false })
+IsSafe h q e = is_needed h q e ≡ true → Contains (previous_events (event_tables q h) ++ current_events (event_tables q h)) (record { event = e; dead = false })
 
 -- one that had begun by the second step before the last switch isn't needed
 past-unneeded : (h : History) → Legal h → (q : ℕ) → IsQueue h q → (e : Event) → e.ev_txid ≤ cut q h → IsSafe h q e
@@ -196,7 +196,7 @@ past-unneeded h l q is e le needed =
     let f : ℕ = floor (queue_of h q) in
     let up : base q h < xmin_of (tick f (ticks q h)) = sits-at h l q is f (floor-newest h l q is) (omega arith) in
     let over : cut q h ≤ base q h = cut-base h l q is in
-    some-tick (tick f (ticks q h)) (above-is (base q h) (tick f (ticks q h)) up) (Contains (previous_events (tables q h) ++ current_events (tables q h)) (record { event = e; dead = false }))
+    some-tick (tick f (ticks q h)) (above-is (base q h) (tick f (ticks q h)) up) (Contains (previous_events (event_tables q h) ++ current_events (event_tables q h)) (record { event = e; dead = false }))
     (λ t there.
     let above : base q h < t.snapshot.xmin = subst (λ o. base q h < xmin_of o) there up in
     absurd (grind (arith, nat_tests, committed_at_tick h l q f e.ev_txid, there, has_committed-ended h l e.ev_txid, cut-ended h l q is e.ev_txid le, le, over, above, needed)))
@@ -212,10 +212,10 @@ needed_are_stored h l q is =
     let s : DoesHold h q = holds h l q is in
     let keep = as_stored h in
     let recent = s.previous ++ s.current in
-    let lists : map keep recent ≡ previous_events (tables q h) ++ current_events (tables q h) =
+    let lists : map keep recent ≡ previous_events (event_tables q h) ++ current_events (event_tables q h) =
     map-append keep s.previous s.current
-    ∙ (λ i. sym (turned-previous (map keep s.oldest) (map keep s.previous) (map keep s.current) (tables q h).current (tables q h).lists s.turned) i
-    ++ sym (turned-current (map keep s.oldest) (map keep s.previous) (map keep s.current) (tables q h).current (tables q h).lists s.turned) i) in
+    ∙ (λ i. sym (turned-previous (map keep s.oldest) (map keep s.previous) (map keep s.current) (event_tables q h).current (event_tables q h).lists s.turned) i
+    ++ sym (turned-current (map keep s.oldest) (map keep s.previous) (map keep s.current) (event_tables q h).current (event_tables q h).lists s.turned) i) in
     subst (All (IsSafe h q)) (sym s.whole)
     (All-append (IsSafe h q) s.gone (s.oldest ++ recent) (All-weaker (λ e. e.ev_txid ≤ cut q h) (IsSafe h q) (past-unneeded h l q is) s.gone s.past)
     (All-append (IsSafe h q) s.oldest recent (All-weaker (λ e. e.ev_txid ≤ cut q h) (IsSafe h q) (past-unneeded h l q is) s.oldest s.passing)
@@ -243,11 +243,11 @@ pub newest_ticks_are_kept : NewestTicksAreKept
 newest_ticks_are_kept p is queue stands = newest-kept p (legal_place p is) queue stands
 
 switch_drops : (p : History) (queue : ℕ) (time : ℤ) → Legal (queued (switched queue time) ∷ p)
-    → kept_ticks queue (queued (switched queue time) ∷ p) ≡ filter (is_above (second_step_of (tables queue p))) (kept_ticks queue p)
+    → kept_ticks queue (queued (switched queue time) ∷ p) ≡ filter (is_above (second_step_of (event_tables queue p))) (kept_ticks queue p)
 switch_drops p queue _ (next l (makes_switch q t time i pends)) =
     let c : IsCut p q = cuts p l q i in
-    ap (λ b. if b then ticks_above (second_step_of (tables q p)) (kept_ticks q p) else kept_ticks q p) (eq-eqb q q refl)
-    ∙ switch-drops (tables q p).second_step (ticks q p) (kept_ticks q p) (climbing p l q).run c (ap is_some pends)
+    ap (λ b. if b then ticks_above (second_step_of (event_tables q p)) (kept_ticks q p) else kept_ticks q p) (eq-eqb q q refl)
+    ∙ switch-drops (event_tables q p).second_step (ticks q p) (kept_ticks q p) (climbing p l q).run c (ap is_some pends)
 
 pub switches_drop_ticks : SwitchesDropTicks
 switches_drop_ticks p queue time is = switch_drops p queue time (legal_place (queued (switched queue time) ∷ p) is)

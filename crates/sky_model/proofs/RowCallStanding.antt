@@ -1,33 +1,36 @@
 -- The calls of a row part keep their promises.
-use Rattle.std.proofs.Common.{◌≡◌, ℕ, ◌^◌, Bool, true, false, nat_le, List, [], ◌∷◌, Option, Some, None, Ok, Err, refl, sym, ◌∙◌, ap, if◌then◌else◌}
+use Rattle.std.proofs.Common.{◌≡◌, ℕ, ◌^◌, Bool, true, false, not, nat_le, List, [], ◌∷◌, Option, Some, None, Ok, Err, refl, sym, ◌∙◌, ap, if◌then◌else◌}
 use Rattle.sky_txid.specs.Ids.{contains}
 use Rattle.sky_keys.specs.Waits.{is_waiting}
 use Rattle.sky_model.specs.declared.stmt.RowStmt.{RowStmt}
 use Rattle.sky_model.specs.declared.reply.Refusal.{Refusal}
 use Rattle.sky_model.specs.declared.reply.Refusal.TheVariants.{TxidsSpent}
-use Rattle.sky_model.specs.History.{History, of_worker, began, ended, tabled, read_only}
+use Rattle.sky_model.specs.History.{Mark, History, noded, of_worker, began, ended, tabled, read_only}
 use Rattle.sky_model.specs.Transactions.{next_txid, workers}
 use Rattle.sky_model.specs.Sessions.{Block, outside, has_open, block, own_txid, session}
 use Rattle.sky_model.specs.Locks.{waiting}
+use Rattle.sky_model.specs.Nodes.{node}
 use Rattle.sky_model.specs.State.{RowPart, part_of, after_part, after_part_marks}
-use Rattle.sky_model.specs.Outcome.{◌>>◌, refused_if}
+use Rattle.sky_model.specs.Outcome.{Checked, ◌>>◌, refused_if}
 use Rattle.sky_model.specs.OwnTransaction.{own_or_next, txid_for, begin_of, next_id}
 use Rattle.sky_model.specs.Allowed.{allowed}
 use Rattle.sky_model.specs.Made.{takes_sight}
 use Rattle.sky_model.specs.Reader.{part_by_history, part_by_itself}
 use Rattle.sky_model.specs.Gates.{Gate, by_gate, open_gate}
-use Rattle.sky_model.specs.Rooms.{any_room, room_of, room_gate}
-use Rattle.sky_model.specs.Settling.{Turn, rests, settling, with_settling}
+use Rattle.sky_model.specs.Rooms.{Room, any_room, room_of, room_gate}
+use Rattle.sky_model.specs.Settling.{Turn, rests, behind_marks, marked, settling, with_settling}
 use Rattle.sky_model.specs.Calls.{row_turn}
-use Rattle.sky_model.specs.SessionMarks.{single_end, Enters, entry_place, entry, failing, takes_id, taking, ending}
+use Rattle.sky_model.specs.SessionMarks.{failure, single_end, Enters, look_of, enters, entry_place, entry, failing, takes_id, taking, ending}
 use Rattle.sky_model.specs.WorkerMarks.{begins_with, beginning, ending_work, guarding}
 use Rattle.sky_model.specs.Promises.{after_all}
 use Rattle.sky_model.specs.RowCalls.{RowCall, row_stepped, row_entered, row_failed, row_settled, txid_taken, single_ended, rolled_back, IsRowCallInForm, row_does, row_part, worker_begun, worker_ended, row_guarded}
 use Rattle.sky_model.specs.RowSteps.{RowSteps}
-use Rattle.sky_model.proofs.Legal.{begins, ends, Chain, done, more, Legal, start, begins_work, ends_work, guards}
+use Rattle.sky_model.proofs.Legal.{begins, ends, Chain, done, more, Legal, start, begins_work, ends_work, guards, without_node}
 use Rattle.sky_model.proofs.Good.{good_failure}
 use Rattle.sky_model.proofs.LawfulTelling.{legal_behind}
 use Rattle.sky_model.proofs.Histories.{good_enters}
+use Rattle.sky_model.proofs.StatementMarks.{EachMark, each-map, each-append}
+use Rattle.sky_model.proofs.RowOutcomes.{is_of_rows, RowMarks, KeepsRows, by_gate-rows, failure-rows, settling-rows-by, row_turn-rows-by}
 use Rattle.sky_model.proofs.Promised.{promised}
 use Rattle.sky_model.proofs.Cases.{by_test}
 use Rattle.sky_model.proofs.Entering.{entered-part}
@@ -70,24 +73,91 @@ good_ending_work h t committed =
     (λ is. more (ends_work t committed is) done) (λ isnt. done)
 
 -- what a call does may come
-good_row_does : (h : History) → Legal h → (call : RowCall) → Chain h (row_does part_by_history h call).marks
-good_row_does h l (row_stepped room who stmt) = good_gated_turn (room_gate room) h l [] who stmt
-good_row_does h l (row_entered who alone) = good_enters h who (takes_sight (entry_place alone) (session h who).sight) (allowed (is_waiting who (waiting h)) (has_open who h) (block who h) (entry_place alone))
-good_row_does h l (row_failed room who) = good_gated_settling (room_gate room) h l [] (failing (part_of h) who) (good_failure h who)
-good_row_does h l (row_settled room) = good_gated_settling (room_gate room) h l [] rests done
-good_row_does h l (txid_taken who) = good_taking h who
-good_row_does h l (single_ended who) = good_ending h who
-good_row_does h l (rolled_back who) = good_failure h who
-good_row_does h l worker_begun = good_beginning h
-good_row_does h l (row_guarded table on) = more (guards table on) done
-good_row_does h l (worker_ended t committed) = good_ending_work h t committed
+good_row_does : (h : History) → Legal h → node h ≡ None → (call : RowCall) → Chain h (row_does part_by_history h call).marks
+good_row_does h l bare (row_stepped room who stmt) = good_gated_turn (room_gate room) h l [] who stmt
+good_row_does h l bare (row_entered who alone) = good_enters h who (takes_sight (entry_place alone) (session h who).sight) (allowed (is_waiting who (waiting h)) (has_open who h) (block who h) (entry_place alone))
+good_row_does h l bare (row_failed room who) = good_gated_settling (room_gate room) h l [] (failing (part_of h) who) (good_failure h who)
+good_row_does h l bare (row_settled room) = good_gated_settling (room_gate room) h l [] rests done
+good_row_does h l bare (txid_taken who) = good_taking h who
+good_row_does h l bare (single_ended who) = good_ending h who
+good_row_does h l bare (rolled_back who) = good_failure h who
+good_row_does h l bare worker_begun = good_beginning h
+good_row_does h l bare (row_guarded table on) = more (guards table on (without_node table on bare)) done
+good_row_does h l bare (worker_ended t committed) = good_ending_work h t committed
+
+-- ---- a row part has no node
+
+abbrev is_nodes : Mark → Bool
+is_nodes (noded mark) = true
+is_nodes _ = false
+
+abbrev LeaveNode : List Mark → Type 0
+LeaveNode marks = EachMark (λ mark. not (is_nodes mark)) marks
+
+of-rows : (marks : List Mark) → RowMarks marks → LeaveNode marks
+of-rows marks rows = each-map is_of_rows (λ mark. not (is_nodes mark)) by_kind marks rows
+  where
+    by_kind : (mark : Mark) → is_of_rows mark ≡ true → not (is_nodes mark) ≡ true
+    by_kind (noded mark) e = absurd (cc)
+    by_kind _ e = refl
+
+node-left : (h : History) (marks : List Mark) → LeaveNode marks → node (marked h marks) ≡ node h
+node-left h [] leave = refl
+node-left h (noded mark ∷ marks) leave = absurd leave
+node-left h (mark ∷ marks) leave = node-left (mark ∷ h) marks leave
+
+history-rows : KeepsRows part_by_history
+history-rows = record { tells = λ h c rows. rows }
+
+leave-settling : (room : Room) (h : History) (turn : Turn) → LeaveNode turn.marks → LeaveNode (with_settling (by_gate (room_gate room) part_by_history) (h, []) turn).marks
+leave-settling room h turn leave =
+    let there = behind_marks (by_gate (room_gate room) part_by_history) (h, []) turn.marks in
+    each-append (λ mark. not (is_nodes mark)) turn.marks (settling (by_gate (room_gate room) part_by_history) there).marks leave
+    (of-rows (settling (by_gate (room_gate room) part_by_history) there).marks (settling-rows-by (by_gate (room_gate room) part_by_history) (by_gate-rows (room_gate room) part_by_history history-rows) there).marks)
+
+leave-enters : (who : ℕ) (sight : Bool) (may : Checked (Unit {0})) → LeaveNode (enters who (look_of who sight) may).marks
+leave-enters who true (Ok _) = tt
+leave-enters who false (Ok _) = tt
+leave-enters who sight (Err refusal) = tt
+
+leave-taking : (who : ℕ) (o : Option ℕ) (c : Checked ℕ) → LeaveNode (takes_id who o c).marks
+leave-taking who None (Ok t) = tt
+leave-taking who (Some own) (Ok t) = tt
+leave-taking who o (Err refusal) = tt
+
+leave-ending : (who : ℕ) (o : Option ℕ) (b : Block) → LeaveNode (single_end who o b)
+leave-ending who (Some t) outside = tt
+leave-ending who (Some t) _ = tt
+leave-ending who None b = tt
+
+leave-beginning : (c : Checked ℕ) → LeaveNode (begins_with c).marks
+leave-beginning (Ok t) = tt
+leave-beginning (Err refusal) = tt
+
+leaves-node : (h : History) (call : RowCall) → LeaveNode (row_does part_by_history h call).marks
+leaves-node h (row_stepped room who stmt) =
+    of-rows (row_turn (by_gate (room_gate room) part_by_history) (h, []) who stmt).marks (row_turn-rows-by (by_gate (room_gate room) part_by_history) (by_gate-rows (room_gate room) part_by_history history-rows) (h, []) who stmt).marks
+leaves-node h (row_entered who alone) = leave-enters who (takes_sight (entry_place alone) (session h who).sight) (allowed (is_waiting who (waiting h)) (has_open who h) (block who h) (entry_place alone))
+leaves-node h (row_failed room who) = leave-settling room h (failing (part_of h) who) (of-rows (failure who (own_txid who h) (block who h)) (failure-rows who (own_txid who h) (block who h)))
+leaves-node h (row_settled room) = leave-settling room h rests tt
+leaves-node h (txid_taken who) = leave-taking who (own_txid who h) (own_or_next (part_of h) (own_txid who h))
+leaves-node h (single_ended who) = leave-ending who (own_txid who h) (block who h)
+leaves-node h (rolled_back who) = of-rows (failure who (own_txid who h) (block who h)) (failure-rows who (own_txid who h) (block who h))
+leaves-node h worker_begun = leave-beginning (next_id (part_of h))
+leaves-node h (row_guarded table on) = tt
+leaves-node h (worker_ended t committed) =
+    by_test (λ (b : Bool). LeaveNode (if b then record { answers = []; marks = ended of_worker t committed ∷ [] } else rests).marks) (contains t (workers h)) (λ _. tt) (λ _. tt)
+
+bare_row_calls : (calls : List RowCall) → node (after_all row_part calls) ≡ None
+bare_row_calls [] = refl
+bare_row_calls (call ∷ calls) = node-left (after_all row_part calls) (row_does part_by_history (after_all row_part calls) call).marks (leaves-node (after_all row_part calls) call) ∙ bare_row_calls calls
 
 -- so the history that calls make is legal
 legal_row_calls : (calls : List RowCall) → Legal (after_all row_part calls)
 legal_row_calls [] = start
 legal_row_calls (call ∷ calls) =
     legal_behind (after_all row_part calls) (row_does part_by_history (after_all row_part calls) call).marks (legal_row_calls calls)
-    (good_row_does (after_all row_part calls) (legal_row_calls calls) call)
+    (good_row_does (after_all row_part calls) (legal_row_calls calls) (bare_row_calls calls) call)
 
 -- ---- promises
 

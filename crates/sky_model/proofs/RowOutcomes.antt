@@ -1,5 +1,5 @@
 -- What the statements on sessions, transactions, tables and rows can do: they list no event, and touch no queue.
-use Rattle.std.proofs.Common.{◌≡◌, ℕ, List, Bool, true, false, Option, refl, sym, ◌∙◌}
+use Rattle.std.proofs.Common.{◌≡◌, ℕ, List, Bool, true, false, Option, is_some, refl, sym, ◌∙◌}
 use Rattle.sky_val.specs.declared.val.Val.{Val}
 use Rattle.sky_keys.specs.Waits.{is_waiting}
 use Rattle.sky_model.specs.declared.stmt.RowStmt.{RowStmt}
@@ -7,7 +7,7 @@ use Rattle.sky_model.specs.declared.stmt.RowStmt.TheVariants.{OpenDb}
 use Rattle.sky_model.specs.declared.stmt.Attempt.{Attempt}
 use Rattle.sky_model.specs.declared.reply.Refusal.{Refusal}
 use Rattle.std.proofs.lemmas.Bool.{and_parts}
-use Rattle.sky_model.specs.History.{Mark, looked, queued, noded, returned}
+use Rattle.sky_model.specs.History.{Mark, looked, tabled, read_only, queued, noded, root_made, returned, traced, untraced}
 use Rattle.sky_model.specs.Sessions.{Block}
 use Rattle.sky_model.specs.State.{RowPart}
 use Rattle.sky_model.specs.ShownRows.{KeyShown, RowsShown}
@@ -25,9 +25,10 @@ use Rattle.sky_model.proofs.StatementMarks.{EachMark, Gives, gives-map, Kinds, n
 abbrev pub is_of_rows : Mark → Bool
 is_of_rows (queued mark) = false
 is_of_rows (noded mark) = false
+is_of_rows (tabled (read_only table on)) = false
 is_of_rows _ = true
 
--- none of the marks is a queue's or the node's
+-- none of the marks is a queue's or the node's, and none says who may write a table
 abbrev pub RowMarks : List Mark → Type 0
 RowMarks marks = EachMark is_of_rows marks
 
@@ -41,8 +42,12 @@ TurnOfRows turn = TurnGives is_of_rows turn
 
 rows-if : (k : Kinds) → k.queues ≡ false → (who : ℕ) (mark : Mark) → may_leave k who mark ≡ true → is_of_rows mark ≡ true
 rows-if k none who (queued (returned retry moment)) e = absurd (cc (sym (and_parts k.queues k.works e).0 ∙ none))
+rows-if k none who (queued (traced table name trigger)) e = absurd (cc (sym (and_parts (is_some name) k.queues e).1 ∙ none))
+rows-if k none who (queued (untraced table)) e = absurd (cc)
 rows-if k none who (queued mark) e = absurd (cc)
+rows-if k none who (noded (root_made name queue)) e = absurd (cc)
 rows-if k none who (noded mark) e = absurd (cc)
+rows-if k none who (tabled (read_only table on)) e = absurd (cc)
 rows-if k none who _ e = refl
 
 -- an attempt with a key

@@ -65,7 +65,7 @@ numbered _ (next {h = h} l (puts_back retry t back)) q is =
     by_same (λ b. UpTo (sequence q h) (if b then events q h ++ brought_by t retry.event ∷ [] else events q h)) retry.queue q
     (λ same. All-push (λ e. e.ev_id ≤ sequence q h) (events q h) (brought_by t retry.event) (numbered h l q is) (subst (λ x. retry.event.ev_id ≤ sequence x h) same back.given))
     (λ _. numbered h l q is)
-numbered _ (next {h = h} l (drops p none untold idle)) q is =
+numbered _ (next {h = h} l (drops p none untold idle aside)) q is =
     subst (λ b. UpTo (if b then 0 else sequence q h) (events q h)) (sym (others-apart p (queues h) q is)) (numbered h l q (others-among p (queues h) q is))
 numbered _ (next {h = h} l _) q is = numbered h l q is
 

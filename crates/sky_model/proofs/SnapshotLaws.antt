@@ -3,16 +3,10 @@ use Rattle.std.proofs.Common.{List, [], ◌∷◌, ◌++◌, subst}
 use Rattle.sky_model.specs.History.{Mark, History}
 use Rattle.sky_model.specs.HistoryPlaces.{IsPlace}
 use Rattle.sky_model.specs.LawsOfSnapshots.{SnapshotsSeeWhatHasEnded, BatchesAreSelectedBySnapshots}
-use Rattle.sky_model.proofs.Legal.{Fine, Legal, next}
+use Rattle.sky_model.proofs.Legal.{Legal, legal-below_mark}
 use Rattle.sky_model.proofs.Histories.{legal_calls}
 use Rattle.sky_model.proofs.Snapshots.{sees-snapshot}
 use Rattle.sky_model.proofs.Selecting.{batch_events-by_id}
-
-pub legal-below_mark : {h : History} {mark : Mark} → Legal (mark ∷ h) → Legal h
-legal-below_mark (next l f) = l
-
-pub fine_mark : {h : History} {mark : Mark} → Legal (mark ∷ h) → Fine h mark
-fine_mark (next l f) = f
 
 pub legal-below : (later : List Mark) (p : History) → Legal (later ++ p) → Legal p
 legal-below [] p l = l

@@ -7,7 +7,7 @@ use Rattle.sky_model.specs.declared.reply.Limit.TheVariants.{Sessions, Databases
 use Rattle.sky_names.specs.Places.{place_of}
 use Rattle.sky_model.specs.History.{entered, within, clock_at, Past}
 use Rattle.sky_model.specs.World.{World, world_of, session_names, database_names, history_in, on_top, after_facts}
-use Rattle.sky_model.specs.Reader.{within_database, by_past, by_world, Deed, answers_with, refuses, appears, founds, idles, joined, followed}
+use Rattle.sky_model.specs.Reader.{within_database, by_past, by_world, Deed, answers_with, refuses, appears, founds, idles, deed_with, followed}
 use Rattle.sky_model.specs.declared.daemon.DaemonPart.{DaemonPart}
 use Rattle.sky_model.specs.declared.daemon.DaemonPart.TheVariants.{Tick, Retry, Maintain}
 use Rattle.sky_model.specs.declared.stmt.Stmt.TheVariants.{CreateRoot, Node, Clock}
@@ -34,7 +34,7 @@ same-database_turn past all d now who stmt =
 -- so does a deed after another, if each of them does
 same-followed : (past : Past) (rest : Past → Deed) (rest_shown : World → Deed) (deed : Deed) → AllLegal (on_top past deed.facts)
     → ((later : Past) → AllLegal later → rest later ≡ rest_shown (world_of later)) → followed by_past past rest deed ≡ followed by_world (world_of past) rest_shown deed
-same-followed past rest rest_shown deed all same = ap (joined deed) (same (on_top past deed.facts) all ∙ ap rest_shown (world_of-facts past deed.facts))
+same-followed past rest rest_shown deed all same = ap (deed_with deed) (same (on_top past deed.facts) all ∙ ap rest_shown (world_of-facts past deed.facts))
 
 -- so does a turn
 same-opens_in : (who : ℕ) (stmt : Stmt) (d : ℕ) (past : Past) → AllLegal past → opens_in by_past who stmt d past ≡ opens_in by_world who stmt d (world_of past)
@@ -70,7 +70,7 @@ same-session past all who stmt (Some d) = same-at past all who stmt d
 same-both : (past : Past) (rest : Past → Deed) (rest_shown : World → Deed) (deed deed_shown : Deed) → deed ≡ deed_shown → ((later : Past) → rest later ≡ rest_shown (world_of later))
     → followed by_past past rest deed ≡ followed by_world (world_of past) rest_shown deed_shown
 same-both past rest rest_shown deed deed_shown one same =
-    ap (joined deed) (same (on_top past deed.facts) ∙ ap rest_shown (world_of-facts past deed.facts)) ∙ ap (λ x. followed by_world (world_of past) rest_shown x) one
+    ap (deed_with deed) (same (on_top past deed.facts) ∙ ap rest_shown (world_of-facts past deed.facts)) ∙ ap (λ x. followed by_world (world_of past) rest_shown x) one
 
 same-part : (d : ℕ) (part : DaemonPart) (past : Past) → part_works by_past d part past ≡ part_works by_world d part (world_of past)
 same-part d part past =

@@ -8,7 +8,7 @@ use Rattle.sky_model.specs.History.{ended, queued, made, History}
 use Rattle.sky_model.specs.Transactions.{snapshot}
 use Rattle.pgq_tables.specs.Tables as tables_of
 use Rattle.pgq_tables.specs.Tables.{no_tables, new_tables, with_stored, with_pending, with_second_step}
-use Rattle.sky_model.specs.Queues.{new_tick, queues_made, queues, events, tables, without_transaction, Tick, ticks, kept_ticks, ticks_above, second_step_of}
+use Rattle.sky_model.specs.Queues.{new_tick, queues_made, queues, events, event_tables, without_transaction, Tick, ticks, kept_ticks, ticks_above, second_step_of}
 use Rattle.sky_model.specs.Consumers.{subscription_id}
 use Rattle.sky_model.specs.Retries.{brought_by}
 use Rattle.sky_model.proofs.Legal.{IsQueue, makes, puts, puts_back, ticks_next, registers, unregisters, begins_switch, makes_switch, ends_switch, drops, Legal, start, next}
@@ -17,7 +17,7 @@ use Rattle.sky_model.proofs.Cases.{by_test}
 
 -- of a queue that isn't made yet nothing is kept, and nothing ever was
 pub record IsBeyond (h : History) (q : ℕ) : Type 0 where
-  pub tables : tables q h ≡ no_tables
+  pub tables : event_tables q h ≡ no_tables
   pub events : events q h ≡ []
   pub kept : kept_ticks q h ≡ []
   pub ticks : ticks q h ≡ []
@@ -30,7 +30,7 @@ beyond _ (next {h = h} l (makes name t time new)) q le =
     let b : IsBeyond h q = beyond h l q (omega (arith, le)) in
     let other : (queues_made h == q) ≡ false = grind (arith, nat_tests, le) in
     record {
-      tables = ap (λ c. if c then new_tables t time else tables q h) other ∙ b.tables;
+      tables = ap (λ c. if c then new_tables t time else event_tables q h) other ∙ b.tables;
       events = b.events;
       kept = ap (λ c. if c then kept_ticks q h ++ new_tick time h ∷ [] else kept_ticks q h) other ∙ b.kept;
       ticks = ap (λ c. if c then ticks q h ++ new_tick time h ∷ [] else ticks q h) other ∙ b.ticks;
@@ -39,7 +39,7 @@ beyond _ (next {h = h} l (puts who p event i is o newest)) q le =
     let b : IsBeyond h q = beyond h l q le in
     let other : (p == q) ≡ false = grind (arith, nat_tests, queue-below h p i) in
     record {
-      tables = ap (λ c. if c then with_stored event (tables q h) else tables q h) other ∙ b.tables;
+      tables = ap (λ c. if c then with_stored event (event_tables q h) else event_tables q h) other ∙ b.tables;
       events = ap (λ c. if c then events q h ++ event ∷ [] else events q h) other ∙ b.events;
       kept = b.kept;
       ticks = b.ticks;
@@ -48,7 +48,7 @@ beyond _ (next {h = h} l (puts_back retry t back)) q le =
     let b : IsBeyond h q = beyond h l q le in
     let other : (retry.queue == q) ≡ false = grind (arith, nat_tests, queue-below h retry.queue back.stands) in
     record {
-      tables = ap (λ c. if c then with_stored (brought_by t retry.event) (tables q h) else tables q h) other ∙ b.tables;
+      tables = ap (λ c. if c then with_stored (brought_by t retry.event) (event_tables q h) else event_tables q h) other ∙ b.tables;
       events = ap (λ c. if c then events q h ++ brought_by t retry.event ∷ [] else events q h) other ∙ b.events;
       kept = b.kept;
       ticks = b.ticks;
@@ -66,24 +66,24 @@ beyond _ (next {h = h} l (ticks_next p id time seq i e c)) q le =
 beyond _ (next {h = h} l (begins_switch p t may)) q le =
     let b : IsBeyond h q = beyond h l q le in
     let other : (p == q) ≡ false = grind (arith, nat_tests, queue-below h p may.within) in
-    record { tables = ap (λ c. if c then with_pending t (tables q h) else tables q h) other ∙ b.tables; events = b.events; kept = b.kept; ticks = b.ticks }
+    record { tables = ap (λ c. if c then with_pending t (event_tables q h) else event_tables q h) other ∙ b.tables; events = b.events; kept = b.kept; ticks = b.ticks }
 beyond _ (next {h = h} l (makes_switch p t time i is)) q le =
     let b : IsBeyond h q = beyond h l q le in
     let other : (p == q) ≡ false = grind (arith, nat_tests, queue-below h p i) in
     record {
-      tables = ap (λ c. if c then tables_of.switched time (tables q h) else tables q h) other ∙ b.tables;
+      tables = ap (λ c. if c then tables_of.with_switch time (event_tables q h) else event_tables q h) other ∙ b.tables;
       events = b.events;
-      kept = ap (λ c. if c then ticks_above (second_step_of (tables q h)) (kept_ticks q h) else kept_ticks q h) other ∙ b.kept;
+      kept = ap (λ c. if c then ticks_above (second_step_of (event_tables q h)) (kept_ticks q h) else kept_ticks q h) other ∙ b.kept;
       ticks = b.ticks;
     }
 beyond _ (next {h = h} l (ends_switch p t may)) q le =
     let b : IsBeyond h q = beyond h l q le in
     let other : (p == q) ≡ false = grind (arith, nat_tests, queue-below h p may.within) in
-    record { tables = ap (λ c. if c then with_second_step t (tables q h) else tables q h) other ∙ b.tables; events = b.events; kept = b.kept; ticks = b.ticks }
-beyond _ (next {h = h} l (drops p none untold idle)) q le =
+    record { tables = ap (λ c. if c then with_second_step t (event_tables q h) else event_tables q h) other ∙ b.tables; events = b.events; kept = b.kept; ticks = b.ticks }
+beyond _ (next {h = h} l (drops p none untold idle aside)) q le =
     let b : IsBeyond h q = beyond h l q le in
     record {
-      tables = by_test (λ c. (if c then no_tables else tables q h) ≡ no_tables) (p == q) (λ _. refl) (λ _. b.tables);
+      tables = by_test (λ c. (if c then no_tables else event_tables q h) ≡ no_tables) (p == q) (λ _. refl) (λ _. b.tables);
       events = b.events;
       kept = by_test (λ c. (if c then [] else kept_ticks q h) ≡ []) (p == q) (λ _. refl) (λ _. b.kept);
       ticks = b.ticks;
@@ -102,7 +102,7 @@ registered-stands [] start q consumer sub is = absurd (cc)
 registered-stands _ (next {h = h} l (makes name t time new)) q consumer sub is = among-before (queues h) (record { number = queues_made h; name = name }) q (registered-stands h l q consumer sub is)
 registered-stands _ (next {h = h} l (registers p name s t i none f g low)) q consumer sub is = grind (arith, nat_tests, registered-stands h l q consumer sub, i, is)
 registered-stands _ (next {h = h} l (unregisters p name s i has)) q consumer sub is = grind (arith, registered-stands h l q consumer sub, is)
-registered-stands _ (next {h = h} l (drops p none untold idle)) q consumer sub is =
+registered-stands _ (next {h = h} l (drops p none untold idle aside)) q consumer sub is =
     among-others p (queues h) q (registered-stands h l q consumer sub is)
     (by_test (λ b. b ≡ false) (q == p) (λ same. absurd (cc (sym is ∙ ap (λ n. subscription_id n consumer h) (eqb-true q p same) ∙ none consumer))) (λ other. refl))
 registered-stands _ (next {h = h} l _) q consumer sub is = registered-stands h l q consumer sub is

@@ -15,7 +15,7 @@ use Rattle.sky_model.specs.declared.reply.Reply.{Reply}
 use Rattle.sky_model.specs.declared.reply.Reply.TheVariants.{Refused}
 use Rattle.sky_model.specs.declared.reply.Refusal.{Refusal}
 use Rattle.sky_model.specs.declared.reply.Refusal.TheVariants.{Canceled, IdsSpent}
-use Rattle.sky_model.specs.History.{Batch, Mark, QueueMark, of_session, of_worker, began, ended, connected, disconnected, looked, block_failed, tabled, wrote, waits, waited, queued, noded, raised, put, ticked, switching, switched, second_step, returned}
+use Rattle.sky_model.specs.History.{Batch, Mark, QueueMark, of_session, of_worker, began, ended, connected, disconnected, looked, block_failed, tabled, wrote, waits, waited, read_only, queued, noded, root_made, raised, put, ticked, switching, switched, second_step, returned, traced, untraced}
 use Rattle.sky_model.specs.declared.reply.HeldBack.{HeldBack}
 use Rattle.sky_model.specs.Queues.{NamedQueue, Tick, tick, is_pending}
 use Rattle.sky_model.specs.StepRotation.{held_back, switch_of, rotates, second_steps, lack_second_step, ends_switches, switches_by, switches_of, committed_by}
@@ -23,8 +23,8 @@ use Rattle.sky_model.specs.Consumers.{Subscription}
 use Rattle.sky_model.specs.Sessions.{Block, outside, inside, failed, Session}
 use Rattle.sky_model.specs.State.{RowPart, Database, after_mark, after_marks}
 use Rattle.sky_model.specs.ShownRows.{KeyShown, RowsShown}
-use Rattle.sky_model.specs.Outcome.{Outcome, Checked, marks_of, ◌>>=◌, ◌>>◌, refused_if, does_marks, after_marks_of, end_of, aborts, abort, settled}
-use Rattle.sky_model.specs.OwnTransaction.{begin_of, commit_of, written}
+use Rattle.sky_model.specs.Outcome.{Outcome, Checked, marks_of, ◌>>=◌, ◌>>◌, refused_if, does_marks, after_marks_of, end_of, aborts, abort, or_refused}
+use Rattle.sky_model.specs.OwnTransaction.{begin_of, commit_of, in_own}
 use Rattle.sky_model.specs.StepLocks.{once_free}
 use Rattle.sky_model.specs.StepSession.{open_db, begin, begin_repeatable_read, leaves, commit, rollback, close, cancel}
 use Rattle.sky_model.specs.SessionMarks.{failure}
@@ -33,7 +33,7 @@ use Rattle.sky_model.specs.StepQueue.{queue_called, next_event_id, next_tick, is
 use Rattle.sky_model.specs.StepConsumer.{leaves as leaves_queue, opens_batch, takes_batch, finishes}
 use Rattle.pgq_retry.specs.declared.retry.Retry.{Retry}
 use Rattle.pgq_retry.specs.Retries.{due_now}
-use Rattle.sky_model.specs.OwnTransaction.{next_id}
+use Rattle.sky_model.specs.OwnTransaction.{next_id, txid_for}
 use Rattle.sky_model.specs.StepRetry.{back, brings, most_back}
 use Rattle.sky_model.specs.Telling.{events_in, told_event, event_marks, told_by, told_of, with_told, tells}
 use Rattle.sky_model.specs.Printed.{ReplyHasMoments, HaveMoments}
@@ -130,13 +130,15 @@ either R p false c e gives also = also
 
 -- ---- which marks there may be
 
--- a mark of a queue by which no retry comes back
-abbrev pub is_no_return : QueueMark → Bool
-is_no_return (returned retry moment) = false
-is_no_return _ = true
+-- a mark of a queue by which no retry comes back, and no table gets or loses a set's trigger
+abbrev pub is_common : QueueMark → Bool
+is_common (returned retry moment) = false
+is_common (traced table name trigger) = is_some name
+is_common (untraced table) = false
+is_common _ = true
 
 -- besides those of a session's transaction and block, and of a new table: of the database being opened or closed, of writes, of waits that begin or
--- end, of queues, and of workers
+-- end, of queues and a root that is made, and of workers
 pub record Kinds : Type 0 where
   pub moves : Bool
   pub writes : Bool
@@ -155,9 +157,13 @@ may_leave k who (disconnected v) = k.moves
 may_leave k who (tabled (wrote whose t table key old new)) = k.writes
 may_leave k who (tabled (waits v table key attempt)) = k.blocks && v == who
 may_leave k who (tabled (waited v)) = k.wakes
+may_leave k who (tabled (read_only table on)) = false
 may_leave k who (queued (returned retry moment)) = k.queues && k.works
+may_leave k who (queued (traced table name trigger)) = is_some name && k.queues
+may_leave k who (queued (untraced table)) = false
 may_leave k who (queued mark) = k.queues
-may_leave k who (noded mark) = k.queues
+may_leave k who (noded (root_made name queue)) = k.queues
+may_leave k who (noded mark) = false
 may_leave k who (began of_worker t) = k.works
 may_leave k who (ended of_worker t committed) = k.works
 may_leave k who _ = true
@@ -184,13 +190,15 @@ kinds is_open MaintRotateStep2 = record no_more { queues = true; works = true }
 kinds is_open _ = record no_more { queues = true }
 
 -- of a queue, other than by a retry that comes back
-others-left : (k : Kinds) → k.queues ≡ true → (who : ℕ) (mark : QueueMark) → is_no_return mark ≡ true → may_leave k who (queued mark) ≡ true
+others-left : (k : Kinds) → k.queues ≡ true → (who : ℕ) (mark : QueueMark) → is_common mark ≡ true → may_leave k who (queued mark) ≡ true
 others-left k is who (returned retry moment) e = absurd (cc)
+others-left k is who (traced table name trigger) e = λ i. e i && is i
+others-left k is who (untraced table) e = absurd (cc)
 others-left k is who _ e = is
 
 -- ---- what every session leaves
 
-left-written : (k : Kinds) (who t : ℕ) (s : Session) (marks : List Mark) → EachMark (may_leave k who) marks → EachMark (may_leave k who) (written who t s marks)
+left-written : (k : Kinds) (who t : ℕ) (s : Session) (marks : List Mark) → EachMark (may_leave k who) marks → EachMark (may_leave k who) (in_own who t s marks)
 left-written k who t s marks all = of s.txid (each-append (may_leave k who) marks (commit_of who t s.block) all (by_block (λ b. EachMark (may_leave k who) (commit_of who t b)) tt tt tt s.block))
   where
     of : (o : Option ℕ) → EachMark (may_leave k who) (marks ++ commit_of who t s.block) → EachMark (may_leave k who) (begin_of who t o ++ marks ++ commit_of who t s.block)
@@ -293,7 +301,7 @@ module _ (who : ℕ) where
 abbrev EachChecked : (Mark → Bool) → Checked (List Mark) → Type 0
 EachChecked p c = IfOk c (EachMark p)
 
-module _ (p : Mark → Bool) (of_queues : (mark : QueueMark) → is_no_return mark ≡ true → p (queued mark) ≡ true) where
+module _ (p : Mark → Bool) (of_queues : (mark : QueueMark) → is_common mark ≡ true → p (queued mark) ≡ true) where
   each-told_by : (d : Database) (now : ℤ) (t : ℕ) (es : List RowEvent) → EachChecked p (told_by d now t es)
   each-told_by d now t [] = tt
   each-told_by d now t (e ∷ es) =
@@ -365,7 +373,7 @@ none-first d now who stmt c none = ap (λ marks. after_marks_of marks c) (none d
 
 -- ---- the marks are of queues
 
-module _ (p : Mark → Bool) (of_queues : (mark : QueueMark) → is_no_return mark ≡ true → p (queued mark) ≡ true) where
+module _ (p : Mark → Bool) (of_queues : (mark : QueueMark) → is_common mark ≡ true → p (queued mark) ≡ true) where
   pub each-switches_by : (d : Database) (now : ℤ) (t : ℕ) (queues : List NamedQueue) → EachMark p (switches_by d now t queues)
   each-switches_by d now t [] = tt
   each-switches_by d now t (q ∷ queues) =
@@ -394,7 +402,7 @@ gives-gated R p gate g (Ok o) given = search (after)
 -- ---- statements on queues
 
 -- the marks of a first step are of queues, and those of second steps
-module _ (p : Mark → Bool) (of_queues : (mark : QueueMark) → is_no_return mark ≡ true → p (queued mark) ≡ true) where
+module _ (p : Mark → Bool) (of_queues : (mark : QueueMark) → is_common mark ≡ true → p (queued mark) ≡ true) where
   pub each-switch_of : (q t : ℕ) (now : ℤ) (b : Block) → EachMark p (switch_of q t now b)
   each-switch_of q t now b =
       by_block (λ c. EachMark p (switch_of q t now c))
@@ -435,7 +443,12 @@ module _ (who : ℕ) where
 
   gives-rotates : (d : Database) (now : ℤ) (q : ℕ) (why : Option HeldBack) → QueueGives (rotates d now who q why)
   gives-rotates d now q (Some why) = (tt, tt)
-  gives-rotates d now q None = search (checked, left-written, each-switch_of) depth 8
+  gives-rotates d now q None =
+      checked AnyReply _ (txid_for d.part who) _ (λ t. (
+        tt,
+        left-written (record no_more { queues = true }) who t (d.part.session who) (switch_of q t now (d.part.session who).block)
+            (each-switch_of (may_leave (record no_more { queues = true }) who) (others-left (record no_more { queues = true }) refl who) q t now (d.part.session who).block),
+      ))
 
   gives-ends_switches : (d : Database) (queues : List NamedQueue) → WorkGives (ends_switches d queues)
   gives-ends_switches d [] = (tt, tt)
@@ -458,8 +471,10 @@ module _ (who : ℕ) where
 
       also : (mark : Mark) → may_leave (row_kinds is_open stmt) who mark ≡ true → may_leave (kinds is_open (Row stmt)) who mark ≡ true
       also (queued (returned retry moment)) e = (and_parts (row_kinds is_open stmt).queues (row_kinds is_open stmt).works e).1
+      also (queued (traced table name trigger)) e = ap (λ b. b && true) (and_parts (is_some name) (row_kinds is_open stmt).queues e).0
+      also (queued (untraced table)) e = e
       also (queued mark) e = refl
-      also (noded mark) e = refl
+      also (noded (root_made name queue)) e = refl
       also _ e = e
   gives-form d shown now (CreateQueue name) = search (either, after, checked, each-append, left-written) depth 8
   gives-form d shown now (DropQueue name) = search (checked, after) depth 8
@@ -499,7 +514,7 @@ module _ (R : Reply → Type 0) (p : Mark → Bool) (refuses : (refusal : Refusa
   each-failure who txid inside = each-abort who inside txid Canceled
   each-failure who txid failed = tt
 
-  pub given-settled : (who : ℕ) (s : Session) (c : Checked Outcome) → Gives R p c → Given R p (settled who s c)
+  pub given-settled : (who : ℕ) (s : Session) (c : Checked Outcome) → Gives R p c → Given R p (or_refused who s c)
   given-settled who s (Ok o) given = given
   given-settled who s (Err refusal) given = (refuses refusal, each-abort who s.block s.txid refusal)
 
@@ -509,9 +524,9 @@ module _ (R : Reply → Type 0) (p : Mark → Bool) (refuses : (refusal : Refusa
   given-runs m place who x (Err refusal) here behind = given-settled who (m.session x) (Err refusal) tt
   given-runs {P = P} m place who x (Ok _) here behind =
       let y : P = m.behind x (looked who) in
-      let given : Given R p (settled who (m.session y) (m.outcome y)) = given-settled who (m.session y) (m.outcome y) behind in
-      cond_both (takes_sight place (m.session x).sight) (looking who (settled who (m.session y) (m.outcome y))) (settled who (m.session x) (m.outcome x)) (Given R p)
-      (λ _. (given.0, each-front p (looked who) (settled who (m.session y) (m.outcome y)).marks (plain who (looked who) refl) given.1)) (λ _. given-settled who (m.session x) (m.outcome x) here)
+      let given : Given R p (or_refused who (m.session y) (m.outcome y)) = given-settled who (m.session y) (m.outcome y) behind in
+      cond_both (takes_sight place (m.session x).sight) (looking who (or_refused who (m.session y) (m.outcome y))) (or_refused who (m.session x) (m.outcome x)) (Given R p)
+      (λ _. (given.0, each-front p (looked who) (or_refused who (m.session y) (m.outcome y)).marks (plain who (looked who) refl) given.1)) (λ _. given-settled who (m.session x) (m.outcome x) here)
 
 -- a place whose statements leave such marks still, once their writes are recorded
 pub record KeepsMarks {P : Type 0} (p : Mark → Bool) (r : PartReader P) : Type 0 where

@@ -5,8 +5,8 @@ use Rattle.sky_names.proofs.PlaceLemmas.{same_name}
 use Rattle.sky_model.specs.History.{queued, registered, History}
 use Rattle.sky_model.specs.Consumers.{subscription_id, last_subscription}
 use Rattle.sky_model.specs.LawsOfBatches.{SubscriptionsAreDistinct, SubscriptionsAreGiven, SubscriptionsAreNew}
-use Rattle.sky_model.proofs.Legal.{Fine, registers, unregisters, Legal, start, next}
-use Rattle.sky_model.proofs.SnapshotLaws.{fine_mark, legal_place}
+use Rattle.sky_model.proofs.Legal.{Fine, registers, unregisters, Legal, start, next, fine_mark}
+use Rattle.sky_model.proofs.SnapshotLaws.{legal_place}
 use Rattle.sky_model.proofs.Cases.{by_test}
 
 -- the ids in use were given

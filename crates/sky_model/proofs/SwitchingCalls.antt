@@ -22,7 +22,7 @@ use Rattle.sky_model.specs.Queues.{NamedQueue, queues, queue_number}
 use Rattle.sky_model.specs.Retries.{retries}
 use Rattle.sky_model.specs.OwnTransaction.{next_id, own_or_next, begin_of, commit_of}
 use Rattle.sky_model.specs.State.{part_of, queue_of, database_of}
-use Rattle.sky_model.specs.Outcome.{Outcome, Checked, ◌>>=◌, ◌>>◌, refused_if, found_or, does_marks, after_marks_of, marks_of, reply_of, abort, settled}
+use Rattle.sky_model.specs.Outcome.{Outcome, Checked, ◌>>=◌, ◌>>◌, refused_if, found_or, does_marks, after_marks_of, marks_of, reply_of, abort, or_refused}
 use Rattle.sky_model.specs.Allowed.{where_of, allowed}
 use Rattle.sky_model.specs.Made.{takes_sight, looking, runs_if}
 use Rattle.sky_model.specs.ShownRows.{rows_in}
@@ -108,51 +108,51 @@ module _ (now : ℤ) (K : History → List Mark → Type 0) (is : IsOfCalls now 
   of-abort : (h : History) (who : ℕ) (refusal : Refusal) → K h (abort who (block who h) (own_txid who h) refusal)
   of-abort h who refusal = here h who (abort who (block who h) (own_txid who h) refusal) (abort-plain (block who h) who (block who h) (own_txid who h) refusal)
 
-  of-settled : (h : History) (who : ℕ) (c : Checked Outcome) → K h (marks_of c) → K h (settled who (session h who) c).marks
+  of-settled : (h : History) (who : ℕ) (c : Checked Outcome) → K h (marks_of c) → K h (or_refused who (session h who) c).marks
   of-settled h who (Ok o) leaves = leaves
   of-settled h who (Err refusal) leaves = of-abort h who refusal
 
-  of-plain : (h : History) (who : ℕ) (c : Checked Outcome) → Gives AnyReply (may_do (block who h) who) c → K h (settled who (session h who) c).marks
+  of-plain : (h : History) (who : ℕ) (c : Checked Outcome) → Gives AnyReply (may_do (block who h) who) c → K h (or_refused who (session h who) c).marks
   of-plain h who c gives = of-settled h who c (here h who (marks_of c) (each-given AnyReply (may_do (block who h) who) c gives))
 
   -- the first step of a rotation
   of-rotates : (h : History) (who q : ℕ) → MayStand h who WhenReading → (why : Option HeldBack) → held_back now (queue_of h q) ≡ why
-      → K h (settled who (session h who) (rotates (database_of h) now who q why)).marks
+      → K h (or_refused who (session h who) (rotates (database_of h) now who q why)).marks
   of-rotates h who q may (Some why) held = none h
   of-rotates h who q may None free = by_own (own_txid who h) refl
     where
       sound : block who h ≡ failed → ⊥
       sound is = may-fail (is_waiting who (waiting h)) (has_open who h) (subst (λ b. is_ok (allowed (is_waiting who (waiting h)) (has_open who h) b WhenReading) ≡ true) is may)
 
-      of : (spent : Bool) → K h (settled who (session h who) ((refused_if spent TxidsSpent >> Ok (next_txid h)) >>= (λ t. does_marks (Number 1) (began (of_session who) t ∷ switch_of q t now (block who h) ++ commit_of who t (block who h))))).marks
+      of : (spent : Bool) → K h (or_refused who (session h who) ((refused_if spent TxidsSpent >> Ok (next_txid h)) >>= (λ t. does_marks (Number 1) (began (of_session who) t ∷ switch_of q t now (block who h) ++ commit_of who t (block who h))))).marks
       of true = of-abort h who TxidsSpent
       of false =
           is.joined h (began (of_session who) (next_txid h) ∷ []) (switch_of q (next_txid h) now (block who h) ++ commit_of who (next_txid h) (block who h)) (within h who (began (of_session who) (next_txid h) ∷ []) tt)
           (is.switches (began (of_session who) (next_txid h) ∷ h) who q (next_txid h) (block who h) (ap (λ b. if b then Some (next_txid h) else own_txid who h) (same-session who)) refl sound free)
 
       by_own : (o : Option ℕ) → own_txid who h ≡ o
-          → K h (settled who (session h who) (own_or_next (part_of h) o >>= (λ t. does_marks (Number 1) (begin_of who t o ++ switch_of q t now (block who h) ++ commit_of who t (block who h))))).marks
+          → K h (or_refused who (session h who) (own_or_next (part_of h) o >>= (λ t. does_marks (Number 1) (begin_of who t o ++ switch_of q t now (block who h) ++ commit_of who t (block who h))))).marks
       by_own None mine = of (nat_le (2 ^ 62) (next_txid h))
       by_own (Some t) mine = is.switches h who q t (block who h) mine refl sound free
 
   of-step1 : (h : History) (who : ℕ) (name : List ℕ) → MayStand h who WhenReading → (found : Option ℕ)
-      → K h (settled who (session h who) (found_or found (NoQueue name) >>= (λ q. rotates (database_of h) now who q (held_back now (queue_of h q))))).marks
+      → K h (or_refused who (session h who) (found_or found (NoQueue name) >>= (λ q. rotates (database_of h) now who q (held_back now (queue_of h q))))).marks
   of-step1 h who name may None = of-abort h who (NoQueue name)
   of-step1 h who name may (Some q) = of-rotates h who q may (held_back now (queue_of h q)) refl
 
   of-commit : (h : History) (who : ℕ) (b : Block) (o : Option ℕ)
-      → K h (settled who (session h who) (after_marks_of (switches_of (database_of h) now (committed_by b o)) (tells (database_of h) now (commit who o b)))).marks
+      → K h (or_refused who (session h who) (after_marks_of (switches_of (database_of h) now (committed_by b o)) (tells (database_of h) now (commit who o b)))).marks
   of-commit h who outside o = none h
   of-commit h who inside None = within h who (block_ended who ∷ []) tt
   of-commit h who inside (Some t) = is.commits h who t
   of-commit h who failed None = within h who (block_ended who ∷ []) tt
   of-commit h who failed (Some t) = within h who (ended (of_session who) t false ∷ block_ended who ∷ []) tt
 
-  of-form : (h : History) (who : ℕ) (stmt : Stmt) → MayStand h who (where_of stmt) → K h (settled who (session h who) (form (database_of h) (shown_in h) now who stmt)).marks
+  of-form : (h : History) (who : ℕ) (stmt : Stmt) → MayStand h who (where_of stmt) → K h (or_refused who (session h who) (form (database_of h) (shown_in h) now who stmt)).marks
   of-form h who (Row Begin) may =
-      by_block (λ b. K h (settled who (session h who) (after_marks_of [] (tells (database_of h) now (begin who b)))).marks) (is.begins h who) (none h) (none h) (block who h)
+      by_block (λ b. K h (or_refused who (session h who) (after_marks_of [] (tells (database_of h) now (begin who b)))).marks) (is.begins h who) (none h) (none h) (block who h)
   of-form h who (Row BeginRepeatableRead) may =
-      by_block (λ b. K h (settled who (session h who) (after_marks_of [] (tells (database_of h) now (begin_repeatable_read who b)))).marks)
+      by_block (λ b. K h (or_refused who (session h who) (after_marks_of [] (tells (database_of h) now (begin_repeatable_read who b)))).marks)
       (is.joined h (block_begun who ∷ []) (repeats who ∷ []) (is.begins h who) (within (block_begun who ∷ h) who (repeats who ∷ []) tt)) (none h) (none h) (block who h)
   of-form h who (Row Commit) may = of-commit h who (block who h) (own_txid who h)
   of-form h who (MaintRotateStep1 name) may = of-step1 h who name may (queue_number name (queues h))
@@ -163,8 +163,8 @@ module _ (now : ℤ) (K : History → List Mark → Type 0) (is : IsOfCalls now 
       → K h (runs_if (making database_by_history now who stmt) (where_of stmt) who h may).marks
   of-runs h who stmt (Err refusal) same = of-abort h who refusal
   of-runs h who stmt (Ok _) same =
-      cond_both (takes_sight (where_of stmt) (session h who).sight) (looking who (settled who (session (looked who ∷ h) who) (form (database_of (looked who ∷ h)) (shown_in (looked who ∷ h)) now who stmt))) _ (λ o. K h o.marks)
-      (λ _. is.joined h (looked who ∷ []) (settled who (session (looked who ∷ h) who) (form (database_of (looked who ∷ h)) (shown_in (looked who ∷ h)) now who stmt)).marks (within h who (looked who ∷ []) tt)
+      cond_both (takes_sight (where_of stmt) (session h who).sight) (looking who (or_refused who (session (looked who ∷ h) who) (form (database_of (looked who ∷ h)) (shown_in (looked who ∷ h)) now who stmt))) _ (λ o. K h o.marks)
+      (λ _. is.joined h (looked who ∷ []) (or_refused who (session (looked who ∷ h) who) (form (database_of (looked who ∷ h)) (shown_in (looked who ∷ h)) now who stmt)).marks (within h who (looked who ∷ []) tt)
       (of-form (looked who ∷ h) who stmt (ap is_ok same))) (λ _. of-form h who stmt (ap is_ok same))
 
   of-statement : (h : History) (who : ℕ) (stmt : Stmt) → K h (statement database_by_history h now who stmt).marks
@@ -176,7 +176,7 @@ module _ (now : ℤ) (K : History → List Mark → Type 0) (is : IsOfCalls now 
   of-resumed h w =
       let g : History = tabled (waited w.who) ∷ h in
       let tried : Checked Outcome = attempts (part_of g) ((rows_in g).key w.who w.table w.key) w.who w.table w.key (attempt w.who h) in
-      is.joined h (tabled (waited w.who) ∷ []) (settled w.who (session g w.who) (tells (database_of g) now tried)).marks (within h w.who (tabled (waited w.who) ∷ []) tt)
+      is.joined h (tabled (waited w.who) ∷ []) (or_refused w.who (session g w.who) (tells (database_of g) now tried)).marks (within h w.who (tabled (waited w.who) ∷ []) tt)
       (of-plain g w.who (tells (database_of g) now tried)
       (does-tells w.who (block w.who g) (database_of g) now tried (does-attempts w.who (part_of g) ((rows_in g).key w.who w.table w.key) w.table w.key (attempt w.who h))))
 

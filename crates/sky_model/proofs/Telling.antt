@@ -7,11 +7,11 @@ use Rattle.sky_model.specs.declared.stmt.RowStmt.{RowStmt}
 use Rattle.sky_model.specs.declared.reply.Reply.TheVariants.{Refused}
 use Rattle.sky_model.specs.declared.reply.Refusal.{Refusal}
 use Rattle.sky_model.specs.declared.reply.Refusal.TheVariants.{EventIdsSpent}
-use Rattle.sky_model.specs.History.{Mark, Whose, ended, looked, of_session, tabled, wrote, waited, queued, noded}
+use Rattle.sky_model.specs.History.{Mark, Whose, ended, looked, of_session, tabled, wrote, waited, read_only, queued, noded}
 use Rattle.sky_model.specs.Sessions.{Session}
 use Rattle.sky_model.specs.State.{RowPart, after_part, after_part_marks, Database, after_mark, after_marks}
 use Rattle.sky_model.specs.ShownRows.{rows_by}
-use Rattle.sky_model.specs.Outcome.{Outcome, Checked, ◌>>=◌, ◌>>◌, refused_if, does_marks, abort, settled}
+use Rattle.sky_model.specs.Outcome.{Outcome, Checked, ◌>>=◌, ◌>>◌, refused_if, does_marks, abort, or_refused}
 use Rattle.sky_model.specs.Allowed.{where_of_row, allowed}
 use Rattle.sky_model.specs.Made.{takes_sight, looking, runs_if}
 use Rattle.sky_model.specs.Telling.{events_in, told_event, event_marks, told_by, told_of, with_told, tells}
@@ -101,6 +101,7 @@ module _ {G : Type 0} (gate : Gate G) (now : ℤ) (related : Database → RowPar
   others (queued mark ∷ marks) rows plain d p g is = absurd rows
   others (noded mark ∷ marks) rows plain d p g is = absurd rows
   others (tabled (wrote who t table key old new) ∷ marks) rows plain d p g is = absurd plain
+  others (tabled (read_only table on) ∷ marks) rows plain d p g is = absurd rows
   others (ended whose t false ∷ marks) rows plain d p g is =
       others marks rows plain (after_mark d (ended whose t false)) (after_part p (ended whose t false)) (gate.undone g t) (alike.undone d p g whose t is)
   others (mark ∷ marks) rows plain d p g is = others marks rows plain (after_mark d mark) (after_part p mark) g (alike.other d p g mark tt is)
@@ -171,7 +172,7 @@ module _ {G : Type 0} (gate : Gate G) (now : ℤ) (related : Database → RowPar
       of b (Err refusal) same = subst (λ c. SameChecked d p g (refused_if (not c) EventIdsSpent >> Ok o) (Err refusal)) (sym same.0) same.1
 
   told-settled : (who : ℕ) (s : Session) (c c' : Checked Outcome) (d : Database) (p : RowPart) (g : G) → related d p g → SameChecked d p g c c'
-      → Outcomes d p g (settled who s c) (settled who s c')
+      → Outcomes d p g (or_refused who s c) (or_refused who s c')
   told-settled who s (Ok behind_gate) (Ok told) d p g is same = same
   told-settled who s (Ok behind_gate) (Err refusal) d p g is same = absurd same
   told-settled who s (Err refusal) (Ok told) d p g is same = absurd same
@@ -186,7 +187,7 @@ module _ {G : Type 0} (gate : Gate G) (now : ℤ) (related : Database → RowPar
       marks x = abort who s.block s.txid x
 
   told-does : (who : ℕ) (s : Session) (c : Checked Outcome) → OfRows c → (d : Database) (p : RowPart) (g : G) → related d p g
-      → Outcomes d p g (settled who s (gated gate g c)) (settled who s (tells d now c))
+      → Outcomes d p g (or_refused who s (gated gate g c)) (or_refused who s (tells d now c))
   told-does who s c rows d p g is = told-settled who s (gated gate g c) (tells d now c) d p g is (told-checked c rows d p g is)
 
   -- so with a database's own row part, and with any that is like it
@@ -205,10 +206,10 @@ module _ {G : Type 0} (gate : Gate G) (now : ℤ) (related : Database → RowPar
       shown = after_mark d (looked who)
 
       here : Database → Outcome
-      here e = settled who (e.part.session who) (gated gate g (row_form e.part (rows_by e.part) who stmt))
+      here e = or_refused who (e.part.session who) (gated gate g (row_form e.part (rows_by e.part) who stmt))
 
       there : Database → Outcome
-      there e = settled who (e.part.session who) (tells e now (row_form e.part (rows_by e.part) who stmt))
+      there e = or_refused who (e.part.session who) (tells e now (row_form e.part (rows_by e.part) who stmt))
 
       told : (e : Database) → related e e.part g → Outcomes e e.part g (here e) (there e)
       told e is = told-does who (e.part.session who) _ (form-rows e.part (rows_by e.part) who stmt) e e.part g is

@@ -14,7 +14,7 @@ use Rattle.pgq_tables.specs.Listed.{is_listed, listed}
 use Rattle.pgq_tables.specs.ById.{by_id}
 use Rattle.sky_model.specs.History.{Batch, Whose, ended, queued, made, History}
 use Rattle.sky_model.specs.Transactions.{running, has_ended, has_rolled_back, snapshot}
-use Rattle.sky_model.specs.Queues.{queues_made, queues, events, is_pending, tables, ticks, tick, kept_ticks, second_step_of}
+use Rattle.sky_model.specs.Queues.{queues_made, queues, events, is_pending, event_tables, ticks, tick, kept_ticks, second_step_of}
 use Rattle.sky_model.specs.Consumers.{active_batch}
 use Rattle.sky_model.specs.Retries.{brought_by}
 use Rattle.sky_model.specs.Batches.{batch_events}
@@ -90,7 +90,7 @@ pub record Holds (keep : Event → Stored) (cut : ℕ) (ts : Tables) (all : List
   pub stepped : (t : ℕ) → ts.second_step ≡ Some t → All (λ e. e.ev_txid ≤ t) previous
 
 abbrev pub DoesHold : History → ℕ → Type 0
-DoesHold h q = Holds (as_stored h) (cut q h) (tables q h) (events q h)
+DoesHold h q = Holds (as_stored h) (cut q h) (event_tables q h) (events q h)
 
 -- one that has rolled back had ended
 pub rolled_back-ended : (h : History) (t : ℕ) → has_rolled_back h t ≡ true → has_ended h t ≡ true
@@ -127,7 +127,7 @@ holds-put keep cut ts all e alive s = record {
   stepped = s.stepped;
 }
 
-holds-switched : (keep : Event → Stored) (cut : ℕ) (ts : Tables) (all : List Event) (time : ℤ) (t : ℕ) → ts.second_step ≡ Some t → cut ≤ t → Holds keep cut ts all → Holds keep t (tables_of.switched time ts) all
+holds-switched : (keep : Event → Stored) (cut : ℕ) (ts : Tables) (all : List Event) (time : ℤ) (t : ℕ) → ts.second_step ≡ Some t → cut ≤ t → Holds keep cut ts all → Holds keep t (tables_of.with_switch time ts) all
 holds-switched keep cut ts all time t second le s = record {
   gone = s.gone ++ s.oldest;
   oldest = s.previous;
@@ -164,7 +164,7 @@ pub holds : (h : History) → Legal h → (q : ℕ) → IsQueue h q → DoesHold
 holds [] start q is = absurd (cc)
 holds (ended whose t false ∷ h) (next l fine) q is =
     let s : DoesHold h q = holds h l q is in
-    let ts : Tables = tables q h in
+    let ts : Tables = event_tables q h in
     by_test (λ b. Holds (as_stored (ended whose t false ∷ h)) (cut q h) (with_dead t (if b then without_pending ts else ts)) (events q h)) (is_pending t ts)
     (λ _. holds-ended h (cut q h) (without_pending ts) (events q h) whose t
     (record { gone = s.gone; oldest = s.oldest; previous = s.previous; current = s.current; turned = s.turned; whole = s.whole; past = s.past; passing = s.passing; stepped = s.stepped }))
@@ -173,11 +173,11 @@ holds _ (next {h = h} l (makes name t time new)) q is =
     stands-or-new (DoesHold (queued (made name t time) ∷ h) q) h name t time q is
     (λ before.
     let other : (queues_made h == q) ≡ false = grind (arith, nat_tests, queue-below h q before) in
-    subst (λ b. Holds (as_stored h) (if b then 0 else cut q h) (if b then new_tables t time else tables q h) (events q h)) (sym other) (holds h l q before))
+    subst (λ b. Holds (as_stored h) (if b then 0 else cut q h) (if b then new_tables t time else event_tables q h) (events q h)) (sym other) (holds h l q before))
     (λ last.
     let same : (queues_made h == q) ≡ true = grind (arith, nat_tests, last) in
     let b = beyond h l q (omega (arith, last)) in
-    subst (λ b. Holds (as_stored h) (if b then 0 else cut q h) (if b then new_tables t time else tables q h) (events q h)) (sym same)
+    subst (λ b. Holds (as_stored h) (if b then 0 else cut q h) (if b then new_tables t time else event_tables q h) (events q h)) (sym same)
     (record {
       gone = [];
       oldest = [];
@@ -192,30 +192,30 @@ holds _ (next {h = h} l (makes name t time new)) q is =
 holds _ (next {h = h} l (puts who p event i at mine newest)) q is =
     let s : DoesHold h q = holds h l q is in
     let live = alive h event (runs-unended h (sound h l) event.ev_txid ((sound h l).owns who event.ev_txid mine)) in
-    by_test (λ b. Holds (as_stored h) (cut q h) (if b then with_stored event (tables q h) else tables q h) (if b then events q h ++ event ∷ [] else events q h)) (p == q)
-    (λ _. holds-put (as_stored h) (cut q h) (tables q h) (events q h) event live s) (λ _. s)
+    by_test (λ b. Holds (as_stored h) (cut q h) (if b then with_stored event (event_tables q h) else event_tables q h) (if b then events q h ++ event ∷ [] else events q h)) (p == q)
+    (λ _. holds-put (as_stored h) (cut q h) (event_tables q h) (events q h) event live s) (λ _. s)
 holds _ (next {h = h} l (puts_back retry t back)) q is =
     let s : DoesHold h q = holds h l q is in
     let event = brought_by t retry.event in
     let live = alive h event (runs-unended h (sound h l) t ((sound h l).works t back.works)) in
-    by_test (λ b. Holds (as_stored h) (cut q h) (if b then with_stored event (tables q h) else tables q h) (if b then events q h ++ event ∷ [] else events q h)) (retry.queue == q)
-    (λ _. holds-put (as_stored h) (cut q h) (tables q h) (events q h) event live s) (λ _. s)
+    by_test (λ b. Holds (as_stored h) (cut q h) (if b then with_stored event (event_tables q h) else event_tables q h) (if b then events q h ++ event ∷ [] else events q h)) (retry.queue == q)
+    (λ _. holds-put (as_stored h) (cut q h) (event_tables q h) (events q h) event live s) (λ _. s)
 holds _ (next {h = h} l (begins_switch p t may)) q is =
     let s : DoesHold h q = holds h l q is in
-    by_test (λ b. Holds (as_stored h) (cut q h) (if b then with_pending t (tables q h) else tables q h) (events q h)) (p == q)
+    by_test (λ b. Holds (as_stored h) (cut q h) (if b then with_pending t (event_tables q h) else event_tables q h) (events q h)) (p == q)
     (λ _. record { gone = s.gone; oldest = s.oldest; previous = s.previous; current = s.current; turned = s.turned; whole = s.whole; past = s.past; passing = s.passing; stepped = s.stepped })
     (λ _. s)
 holds _ (next {h = h} l (makes_switch p t time i pends)) q is =
     let s : DoesHold h q = holds h l q is in
-    by_same (λ b. Holds (as_stored h) (if b then second_step_of (tables q h) else cut q h) (if b then tables_of.switched time (tables q h) else tables q h) (events q h)) p q
+    by_same (λ b. Holds (as_stored h) (if b then second_step_of (event_tables q h) else cut q h) (if b then tables_of.with_switch time (event_tables q h) else event_tables q h) (events q h)) p q
     (λ same.
     let c : IsCut h q = cuts h l q is in
-    let a = c.awaits (ap is_some (subst (λ n. (tables n h).pending ≡ Some t) same pends)) in
-    let second = some-is (tables q h).second_step a.0 in
-    holds-switched (as_stored h) (cut q h) (tables q h) (events q h) time (second_step_of (tables q h)) second (c.after (second_step_of (tables q h)) second) s) (λ _. s)
+    let a = c.awaits (ap is_some (subst (λ n. (event_tables n h).pending ≡ Some t) same pends)) in
+    let second = some-is (event_tables q h).second_step a.0 in
+    holds-switched (as_stored h) (cut q h) (event_tables q h) (events q h) time (second_step_of (event_tables q h)) second (c.after (second_step_of (event_tables q h)) second) s) (λ _. s)
 holds _ (next {h = h} l (ends_switch p t may)) q is =
     let s : DoesHold h q = holds h l q is in
-    by_same (λ b. Holds (as_stored h) (cut q h) (if b then with_second_step t (tables q h) else tables q h) (events q h)) p q
+    by_same (λ b. Holds (as_stored h) (cut q h) (if b then with_second_step t (event_tables q h) else event_tables q h) (events q h)) p q
     (λ same.
     let mine : MayEnd h q t = subst (λ n. MayEnd h n t) same may in
     let begun = subst (All (Begun h)) s.whole (events-begun h l q) in
@@ -233,8 +233,8 @@ holds _ (next {h = h} l (ends_switch p t may)) q is =
       passing = s.passing;
       stepped = λ u e. let one : t ≡ u = ap (λ o. unwrap_or o u) e in All-weaker (Begun h) (λ e. e.ev_txid ≤ u) (λ e lt. omega (arith, lt, one, mine.newest)) s.previous before;
     }) (λ _. s)
-holds _ (next {h = h} l (drops p none untold idle)) q is =
-    subst (λ b. Holds (as_stored h) (cut q h) (if b then no_tables else tables q h) (events q h)) (sym (others-apart p (queues h) q is)) (holds h l q (others-among p (queues h) q is))
+holds _ (next {h = h} l (drops p none untold idle aside)) q is =
+    subst (λ b. Holds (as_stored h) (cut q h) (if b then no_tables else event_tables q h) (events q h)) (sym (others-apart p (queues h) q is)) (holds h l q (others-among p (queues h) q is))
 holds _ (next {h = h} l _) q is = holds h l q is
 
 -- ---- the events that are gone
@@ -288,9 +288,9 @@ batch_events-selected h l id b active =
     batch_events-by_id h l b
     ∙ ap (λ o. by_id (filter (is_selected (has_rolled_back h) (snapshot_at o) (snapshot_at (tick b.cur (ticks b.queue h))) b.sub) (events b.queue h))) first
     ∙ ap (λ o. by_id (filter (is_selected (has_rolled_back h) from.snapshot (snapshot_at o) b.sub) (events b.queue h))) last
-    ∙ sym (listed-all h (cut b.queue h) (tables b.queue h) (events b.queue h) (holds h l b.queue is) from.snapshot to.snapshot (omega (arith, above, cut-base h l b.queue is)) b.sub)
-    ∙ ap (λ o. listed_between o (Some to) b.sub (tables b.queue h)) (sym first_kept)
-    ∙ ap (λ o. listed_between (tick b.prev (kept_ticks b.queue h)) o b.sub (tables b.queue h)) (sym last_kept)))
+    ∙ sym (listed-all h (cut b.queue h) (event_tables b.queue h) (events b.queue h) (holds h l b.queue is) from.snapshot to.snapshot (omega (arith, above, cut-base h l b.queue is)) b.sub)
+    ∙ ap (λ o. listed_between o (Some to) b.sub (event_tables b.queue h)) (sym first_kept)
+    ∙ ap (λ o. listed_between (tick b.prev (kept_ticks b.queue h)) o b.sub (event_tables b.queue h)) (sym last_kept)))
 
 -- ---- the events of running transactions
 
@@ -310,15 +310,15 @@ any-itself keep itself (x ∷ xs) =
 
 -- a transaction that runs has a part in the tables of a queue into which it has put an event
 abbrev pub IsStored : History → ℕ → Event → Type 0
-IsStored h q e = contains e.ev_txid (running h) ≡ true → has_part_in (tables q h) e.ev_txid ≡ true
+IsStored h q e = contains e.ev_txid (running h) ≡ true → has_part_in (event_tables q h) e.ev_txid ≡ true
 
-pub running-stored : (h : History) → Legal h → (q : ℕ) → IsQueue h q → All (λ e. contains e.ev_txid (running h) ≡ true → has_part_in (tables q h) e.ev_txid ≡ true) (events q h)
+pub running-stored : (h : History) → Legal h → (q : ℕ) → IsQueue h q → All (λ e. contains e.ev_txid (running h) ≡ true → has_part_in (event_tables q h) e.ev_txid ≡ true) (events q h)
 running-stored h l q is =
     let s : DoesHold h q = holds h l q is in
-    let age = by_age-left (as_stored h) (cut q h) (tables q h) (events q h) s in
+    let age = by_age-left (as_stored h) (cut q h) (event_tables q h) (events q h) s in
     let all = any-itself (as_stored h) (λ e. refl) (s.oldest ++ (s.previous ++ s.current)) in
     subst (All (IsStored h q)) (sym s.whole)
     (All-append (IsStored h q) s.gone (s.oldest ++ (s.previous ++ s.current))
     (All-weaker (λ e. e.ev_txid ≤ cut q h) (IsStored h q) (λ e le runs. absurd (cc (sym (cut-ended h l q is e.ev_txid le) ∙ runs-unended h (sound h l) e.ev_txid runs))) s.gone s.past)
     (All-weaker (λ e. list_any (λ s. s.event.ev_txid == e.ev_txid) (map (as_stored h) (s.oldest ++ (s.previous ++ s.current))) ≡ true) (IsStored h q)
-    (λ e there _. ap (λ b. b || is_pending e.ev_txid (tables q h)) (ap (list_any (λ s. s.event.ev_txid == e.ev_txid)) age ∙ there)) (s.oldest ++ (s.previous ++ s.current)) all))
+    (λ e there _. ap (λ b. b || is_pending e.ev_txid (event_tables q h)) (ap (list_any (λ s. s.event.ev_txid == e.ev_txid)) age ∙ there)) (s.oldest ++ (s.previous ++ s.current)) all))

@@ -5,12 +5,12 @@ use Rattle.sky_model.specs.declared.stmt.RowStmt.{RowStmt}
 use Rattle.sky_model.specs.declared.stmt.Stmt.{Stmt}
 use Rattle.sky_model.specs.History.{Mark, looked, tabled, waited}
 use Rattle.sky_model.specs.State.{RowPart, Database}
-use Rattle.sky_model.specs.Outcome.{settled}
+use Rattle.sky_model.specs.Outcome.{or_refused}
 use Rattle.sky_model.specs.Allowed.{where_of_row, where_of}
 use Rattle.sky_model.specs.StepRows.{attempts}
 use Rattle.sky_model.specs.Telling.{tells}
 use Rattle.sky_model.specs.Reader.{PartReader, DatabaseReader, Shown, within_part}
-use Rattle.sky_model.specs.Settling.{Turn, turn_of, behind_marks, joined, and_then, ready, resumed, goes_on, settles, settling, with_settling}
+use Rattle.sky_model.specs.Settling.{Turn, turn_of, behind_marks, with_rest, and_then, ready, resumed, goes_on, settles, settling, with_settling}
 use Rattle.sky_model.specs.Calls.{row_form, form, row_making, making, row_statement, row_turn, database_turn}
 use Rattle.sky_model.proofs.MadeAt.{same-made_by}
 
@@ -41,8 +41,8 @@ module _ {P Q : Type 0} (r : PartReader P) (s : PartReader Q) (may : P → Mark 
 
   same-resumed : (p : P) (q : Q) (w : Waiting) → related p q → may p (tabled (waited w.who)) → resumed r p w ≡ resumed s q w
   same-resumed p q w is may_come = λ i.
-      joined (record { answers = []; marks = tabled (waited w.who) ∷ [] })
-      (turn_of w.who (settled w.who ((parts i).session w.who)
+      with_rest (record { answers = []; marks = tabled (waited w.who) ∷ [] })
+      (turn_of w.who (or_refused w.who ((parts i).session w.who)
       (tells i (attempts (parts i) ((rows i).key w.who w.table w.key) w.who w.table w.key ((alike.parts p q is i).attempt w.who)))))
     where
       parts : r.part (r.behind p (tabled (waited w.who))) ≡ s.part (s.behind q (tabled (waited w.who)))
@@ -59,8 +59,8 @@ module _ {P Q : Type 0} (r : PartReader P) (s : PartReader Q) (may : P → Mark 
   same-and_then p q turn turn' rest rest' is same same_rest each =
       let split : Each r may p turn.marks × Each r may (behind_marks r p turn.marks) (rest (behind_marks r p turn.marks)).marks =
       each-split r may p turn.marks (rest (behind_marks r p turn.marks)).marks each in
-      ap (joined turn) (same_rest _ _ (related-behind p q turn.marks is split.0) split.1)
-      ∙ (λ i. joined (same i) (rest' (behind_marks s q (same i).marks)))
+      ap (with_rest turn) (same_rest _ _ (related-behind p q turn.marks is split.0) split.1)
+      ∙ (λ i. with_rest (same i) (rest' (behind_marks s q (same i).marks)))
 
   same-goes_on : (p : P) (q : Q) (rest : P → Turn) (rest' : Q → Turn) (o : Option Waiting) → related p q → ((p' : P) (q' : Q) → related p' q' → Each r may p' (rest p').marks → rest p' ≡ rest' q')
       → Each r may p (goes_on r p rest o).marks → goes_on r p rest o ≡ goes_on s q rest' o

@@ -27,7 +27,7 @@ use Rattle.sky_model.specs.Retries.{retries, brought_by}
 use Rattle.sky_model.specs.OwnTransaction.{next_id}
 use Rattle.sky_model.specs.State.{Database, part_of, queue_of, database_of}
 use Rattle.sky_model.specs.Printed.{ReplyHasMoments}
-use Rattle.sky_model.specs.Outcome.{Outcome, Checked, ◌>>=◌, ◌>>◌, refused_if, does_marks, marks_of, reply_of, abort, settled}
+use Rattle.sky_model.specs.Outcome.{Outcome, Checked, ◌>>=◌, ◌>>◌, refused_if, does_marks, marks_of, reply_of, abort, or_refused}
 use Rattle.sky_model.specs.Allowed.{where_of, allowed}
 use Rattle.sky_model.specs.Made.{takes_sight, looking, runs_if}
 use Rattle.sky_model.specs.StepQueue.{next_tick}
@@ -52,7 +52,7 @@ use Rattle.sky_model.proofs.RetryCopies.{copies}
 use Rattle.sky_model.proofs.RetriesBack.{AreBack, due-back}
 use Rattle.sky_model.proofs.EventsBegun.{events-begun}
 use Rattle.sky_model.proofs.Histories.{legal_calls}
-use Rattle.sky_model.proofs.StatementMarks.{EachMark, each-first, each-rest, each-given, AnyReply, Gives, gives-map, gives-tick, gives-tells, Kinds, no_more, is_no_return, may_leave, attempt_kinds, row_kinds, kinds, gives-form, each-abort, each-failure, settling-gives}
+use Rattle.sky_model.proofs.StatementMarks.{EachMark, each-first, each-rest, each-given, AnyReply, Gives, gives-map, gives-tick, gives-tells, Kinds, no_more, is_common, may_leave, attempt_kinds, row_kinds, kinds, gives-form, each-abort, each-failure, settling-gives}
 
 -- no mark of a worker's transaction, and none by which a retry comes back
 abbrev pub is_no_work : Mark → Bool
@@ -61,7 +61,7 @@ is_no_work (ended of_worker t committed) = false
 is_no_work (queued (returned retry moment)) = false
 is_no_work _ = true
 
-no_work-queues : (mark : QueueMark) → is_no_return mark ≡ true → is_no_work (queued mark) ≡ true
+no_work-queues : (mark : QueueMark) → is_common mark ≡ true → is_no_work (queued mark) ≡ true
 no_work-queues (returned retry moment) e = absurd (cc)
 no_work-queues _ e = refl
 
@@ -262,11 +262,11 @@ rests-rotates h d now q None r = of (next_id d.part)
 
 -- ---- a statement
 
-rests-settled : (h : History) (who : ℕ) (s : Session) (c : Checked Outcome) → Rests h → Rests (marked h (marks_of c)) → Rests (marked h (settled who s c).marks)
+rests-settled : (h : History) (who : ℕ) (s : Session) (c : Checked Outcome) → Rests h → Rests (marked h (marks_of c)) → Rests (marked h (or_refused who s c).marks)
 rests-settled h who s (Ok o) r also = also
 rests-settled h who s (Err refusal) r also = rests-marks h (abort who s.block s.txid refusal) (no_work-abort who s refusal) r
 
-rests-plain : (h : History) (who : ℕ) (s : Session) (c : Checked Outcome) → Gives AnyReply is_no_work c → Rests h → Rests (marked h (settled who s c).marks)
+rests-plain : (h : History) (who : ℕ) (s : Session) (c : Checked Outcome) → Gives AnyReply is_no_work c → Rests h → Rests (marked h (or_refused who s c).marks)
 rests-plain h who s c gives r = rests-settled h who s c r (rests-marks h (marks_of c) (each-given AnyReply is_no_work c gives) r)
 
 plain-form : (d : Database) (shown : Shown) (now : ℤ) (who : ℕ) (stmt : Stmt) → (kinds (d.part.session who).is_open stmt).works ≡ false → Gives AnyReply is_no_work (form d shown now who stmt)
@@ -274,7 +274,7 @@ plain-form d shown now who stmt none =
     let k : Kinds = kinds (d.part.session who).is_open stmt in
     gives-map AnyReply AnyReply (may_leave k who) is_no_work (λ reply any. any) (no_work-if k none who) _ (gives-form who d shown now stmt)
 
-rests-form : (h : History) → Legal h → Rests h → (now : ℤ) (who : ℕ) (stmt : Stmt) → Rests (marked h (settled who (session h who) (form (database_of h) (shown_in h) now who stmt)).marks)
+rests-form : (h : History) → Legal h → Rests h → (now : ℤ) (who : ℕ) (stmt : Stmt) → Rests (marked h (or_refused who (session h who) (form (database_of h) (shown_in h) now who stmt)).marks)
 rests-form h l r now who (Row stmt) = rests-plain h who (session h who) (form (database_of h) (shown_in h) now who (Row stmt)) (plain-form (database_of h) (shown_in h) now who (Row stmt) (rows-no_work (has_open who h) stmt)) r
 rests-form h l r now who MaintRetryEvents =
     rests-settled h who (session h who) (maint_retry_events (database_of h) now) r (rests-maint h l now r)
@@ -285,7 +285,7 @@ rests-form h l r now who stmt = rests-plain h who (session h who) (form (databas
 rests-runs : (h : History) → Legal h → Rests h → (now : ℤ) (who : ℕ) (stmt : Stmt) (may : Checked (Unit {0})) → Rests (marked h (runs_if (making database_by_history now who stmt) (where_of stmt) who h may).marks)
 rests-runs h l r now who stmt (Err refusal) = rests-marks h (abort who (session h who).block (session h who).txid refusal) (no_work-abort who (session h who) refusal) r
 rests-runs h l r now who stmt (Ok _) =
-    cond_both (takes_sight (where_of stmt) (session h who).sight) (looking who (settled who (session (looked who ∷ h) who) (form (database_of (looked who ∷ h)) (shown_in (looked who ∷ h)) now who stmt))) _ (λ o. Rests (marked h o.marks))
+    cond_both (takes_sight (where_of stmt) (session h who).sight) (looking who (or_refused who (session (looked who ∷ h) who) (form (database_of (looked who ∷ h)) (shown_in (looked who ∷ h)) now who stmt))) _ (λ o. Rests (marked h o.marks))
     (λ _. rests-form (looked who ∷ h) (next l (looks who)) (rests-mark h (looked who) tt r) now who stmt) (λ _. rests-form h l r now who stmt)
 
 rests-statement : (h : History) → Legal h → Rests h → (now : ℤ) (who : ℕ) (stmt : Stmt) → Rests (marked h (statement database_by_history h now who stmt).marks)

@@ -9,9 +9,9 @@ use Rattle.sky_model.specs.History.{Mark, Whose, ended, tabled, wrote, History}
 use Rattle.sky_model.specs.Transactions.{has_ended, has_committed, has_rolled_back}
 use Rattle.sky_model.specs.Rows.{committed, writes as writes_of, has_written}
 use Rattle.sky_model.specs.LawsOfWrites.{writers, is_before, KeysAreWrittenInTurn, WritesAndCommitsHaveOneOrder, SnapshotsSeeEarlierWriters}
-use Rattle.sky_model.proofs.Legal.{Fine, writes, Legal}
+use Rattle.sky_model.proofs.Legal.{Fine, writes, Legal, legal-below_mark, fine_mark}
 use Rattle.sky_model.proofs.Snapshots.{contains-push, own-unended, has_committed-ended, sees-snapshot, ender-unended}
-use Rattle.sky_model.proofs.SnapshotLaws.{legal-below_mark, fine_mark, legal-below, legal_place}
+use Rattle.sky_model.proofs.SnapshotLaws.{legal-below, legal_place}
 use Rattle.sky_model.proofs.RowKeys.{committed-ended}
 use Rattle.sky_model.proofs.RowSights.{ended-behind}
 use Rattle.sky_model.proofs.Holders.{turned, has_written-push, nobody-else}

@@ -10,7 +10,7 @@ use Rattle.sky_model.specs.Sessions.{Session, session, has_open, block, own_txid
 use Rattle.sky_model.specs.Locks.{waiting}
 use Rattle.sky_model.specs.State.{part_of, database_of, after_mark, after_marks}
 use Rattle.sky_model.specs.ShownRows.{rows_in}
-use Rattle.sky_model.specs.Outcome.{Outcome, Checked, ◌>>=◌, does_marks, marks_of, abort, settled}
+use Rattle.sky_model.specs.Outcome.{Outcome, Checked, ◌>>=◌, does_marks, marks_of, abort, or_refused}
 use Rattle.sky_model.specs.Allowed.{where_of, allowed}
 use Rattle.sky_model.specs.Made.{takes_sight, looking, runs_if}
 use Rattle.sky_model.specs.StepRows.{attempts}
@@ -122,33 +122,33 @@ with_told-told h told now (mark ∷ marks) =
 
 -- ---- a statement
 
-tells-told : (h : History) → AllTold h → (now : ℤ) (who : ℕ) (s : Session) (c : Checked Outcome) → AllTold (marked h (settled who s (tells (database_of h) now c)).marks)
+tells-told : (h : History) → AllTold h → (now : ℤ) (who : ℕ) (s : Session) (c : Checked Outcome) → AllTold (marked h (or_refused who s (tells (database_of h) now c)).marks)
 tells-told h told now who s (Err refusal) = plain-told h (abort who s.block s.txid refusal) (plain-abort who s.block s.txid refusal) told
 tells-told h told now who s (Ok o) = of (with_told (database_of h) now o.marks) (with_told-told h told now o.marks)
   where
-    of : (x : Checked (List Mark)) → MarkTold h x → AllTold (marked h (settled who s (x >>= (λ marks. does_marks o.reply marks))).marks)
+    of : (x : Checked (List Mark)) → MarkTold h x → AllTold (marked h (or_refused who s (x >>= (λ marks. does_marks o.reply marks))).marks)
     of (Ok marks) all = all
     of (Err refusal) all = plain-told h (abort who s.block s.txid refusal) (plain-abort who s.block s.txid refusal) told
 
 form-plain : (h : History) → AllTold h → (now : ℤ) (who : ℕ) (stmt : Stmt) → (kinds (has_open who h) stmt).writes ≡ false
-    → AllTold (marked h (settled who (session h who) (form (database_of h) (shown_in h) now who stmt)).marks)
+    → AllTold (marked h (or_refused who (session h who) (form (database_of h) (shown_in h) now who stmt)).marks)
 form-plain h told now who stmt quiet =
     let k : Kinds = kinds (has_open who h) stmt in
     let done : Checked Outcome = form (database_of h) (shown_in h) now who stmt in
-    plain-told h (settled who (session h who) done).marks
+    plain-told h (or_refused who (session h who) done).marks
     (given-settled AnyReply is_no_write (λ _. tt) (plain-if no_more refl) who (session h who) done
     (gives-map AnyReply AnyReply (may_leave k who) is_no_write (λ reply any. any) (plain-if k quiet who) done (gives-form who (database_of h) (shown_in h) now stmt))).1 told
 
-form-told : (h : History) → AllTold h → (now : ℤ) (who : ℕ) (stmt : Stmt) → AllTold (marked h (settled who (session h who) (form (database_of h) (shown_in h) now who stmt)).marks)
+form-told : (h : History) → AllTold h → (now : ℤ) (who : ℕ) (stmt : Stmt) → AllTold (marked h (or_refused who (session h who) (form (database_of h) (shown_in h) now who stmt)).marks)
 form-told h told now who (Row stmt) =
-    by_commit (λ s. AllTold (marked h (settled who (session h who) (form (database_of h) (shown_in h) now who (Row s))).marks)) (form-plain h told now who (Row Commit) refl)
-    (λ s still. subst (λ c. AllTold (marked h (settled who (session h who) c).marks)) (sym (none-first (database_of h) now who s _ still)) (tells-told h told now who (session h who) (row_form (part_of h) (rows_in h) who s))) stmt
+    by_commit (λ s. AllTold (marked h (or_refused who (session h who) (form (database_of h) (shown_in h) now who (Row s))).marks)) (form-plain h told now who (Row Commit) refl)
+    (λ s still. subst (λ c. AllTold (marked h (or_refused who (session h who) c).marks)) (sym (none-first (database_of h) now who s _ still)) (tells-told h told now who (session h who) (row_form (part_of h) (rows_in h) who s))) stmt
 form-told h told now who stmt = form-plain h told now who stmt refl
 
 runs-told : (h : History) → AllTold h → (now : ℤ) (who : ℕ) (stmt : Stmt) (may : Checked (Unit {0})) → AllTold (marked h (runs_if (making database_by_history now who stmt) (where_of stmt) who h may).marks)
 runs-told h told now who stmt (Err refusal) = plain-told h (abort who (session h who).block (session h who).txid refusal) (plain-abort who (session h who).block (session h who).txid refusal) told
 runs-told h told now who stmt (Ok _) =
-    cond_both (takes_sight (where_of stmt) (session h who).sight) (looking who (settled who (session (looked who ∷ h) who) (form (database_of (looked who ∷ h)) (shown_in (looked who ∷ h)) now who stmt))) _ (λ o. AllTold (marked h o.marks))
+    cond_both (takes_sight (where_of stmt) (session h who).sight) (looking who (or_refused who (session (looked who ∷ h) who) (form (database_of (looked who ∷ h)) (shown_in (looked who ∷ h)) now who stmt))) _ (λ o. AllTold (marked h o.marks))
     (λ _. form-told (looked who ∷ h) (plain-told h (looked who ∷ []) tt told) now who stmt) (λ _. form-told h told now who stmt)
 
 statement-told : (h : History) → AllTold h → (now : ℤ) (who : ℕ) (stmt : Stmt) → AllTold (marked h (statement database_by_history h now who stmt).marks)

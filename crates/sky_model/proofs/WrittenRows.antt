@@ -16,12 +16,13 @@ use Rattle.sky_model.specs.History.{Mark, Whose, of_session, ended, tabled, tabl
 use Rattle.sky_model.specs.Transactions.{has_ended}
 use Rattle.sky_model.specs.Sessions.{own_txid}
 use Rattle.sky_model.specs.Rows.{table_names, columns_of, rows_standing}
+use Rattle.sky_model.specs.Nodes.{node}
 use Rattle.sky_model.specs.Versions.{versions}
 use Rattle.sky_model.specs.State.{part_of}
 use Rattle.sky_model.specs.ShownRows.{RowsShown, rows_by, snapshot_now}
 use Rattle.sky_model.specs.LawsOfWrites.{IsRowOf, WritesNameWhatStands, WrittenRowsFit, StandingRowsFit}
-use Rattle.sky_model.proofs.Legal.{Replaces, Fine, makes_table, writes, Legal, start, next}
-use Rattle.sky_model.proofs.SnapshotLaws.{legal_place, legal-below_mark, fine_mark}
+use Rattle.sky_model.proofs.Legal.{Replaces, Fine, makes_table, writes, Legal, start, next, legal-below_mark, fine_mark}
+use Rattle.sky_model.proofs.SnapshotLaws.{legal_place}
 use Rattle.sky_model.proofs.Cases.{if_or}
 use Rattle.sky_model.proofs.RowKeys.{is_in_order-versions}
 use Rattle.sky_model.proofs.KeyVersions.{kept, key_holds, kept-wrote}
@@ -75,7 +76,7 @@ standing-left h all who table key =
     (newest-of (Left h table key) (sees (snapshot_now (part_of h))) (kept h table key) None (all table key) tt))
 
 -- a write over the row that it meets leaves a row of its table
-new-fits : (h : History) → AllLeft h → (who table : ℕ) (key : List Val) (old new : Option (List Val)) → Replaces (part_of h) who table key old new → IfSome new (IsRowOf (columns_of table h) key)
+new-fits : (h : History) → AllLeft h → (who table : ℕ) (key : List Val) (old new : Option (List Val)) → Replaces (part_of h) (node h) who table key old new → IfSome new (IsRowOf (columns_of table h) key)
 new-fits h all who table key old new is = is.fits (subst (λ o. IfSome o (IsRowOf (columns_of table h) key)) is.stands (standing-left h all who table key))
 
 left-same : (h : History) (mark : Mark) → ((table : ℕ) (key : List Val) (v : Version) → Left h table key v → Left (mark ∷ h) table key v)

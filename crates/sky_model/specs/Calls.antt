@@ -179,8 +179,8 @@ world_does who (Ok outcome) = answers_with who outcome.reply outcome.facts
 world_does who (Err refusal) = refuses who refusal
 
 -- a statement on nodes of a session, by the database that it has open, where it is refused if its session may not make it
-abbrev pub node_does : {P : Type 0} → Reader P → P → ℕ → NodeStmt → ℕ → Deed
-node_does r p who stmt d =
+abbrev pub node_stmt_does : {P : Type 0} → Reader P → P → ℕ → NodeStmt → ℕ → Deed
+node_stmt_does r p who stmt d =
     if may_make ((r.world p).database d) who (Node stmt) then world_does who (node_form (r.world p) d stmt)
     else deed_in d [] (database_turn (within_database r d) p (r.world p).now who (Node stmt))
 
@@ -206,7 +206,7 @@ root_does r p who name queue d =
 
 -- a statement of a session, by the database that it has open
 abbrev pub does_at : {P : Type 0} → Reader P → P → ℕ → Stmt → ℕ → Deed
-does_at r p who (Node stmt) d = node_does r p who stmt d
+does_at r p who (Node stmt) d = node_stmt_does r p who stmt d
 does_at r p who (CreateRoot name queue) d = root_does r p who name queue d
 does_at r p who stmt d = deed_in d (beside (r.world p) who stmt d) (database_turn (within_database r d) p (r.world p).now who stmt)
 

@@ -65,7 +65,7 @@ abbrev pub is_due_at : ℤ → DaemonPart → Option ℤ → Bool
 is_due_at now part None = false
 is_due_at now part (Some start) = int_lt start now && unsigned_abs (now -ℤ start) % period part == 0
 
--- the first moment after one at which a daemon is due that was started at an earlier one: other parts are due when ticks are
+-- the first moment after this one at which a daemon is due that was started no later than at this one: other parts are due only when ticks are
 abbrev pub first_after : ℤ → ℤ → ℤ
 first_after now start = start +ℤ pos ((unsigned_abs (now -ℤ start) / period Tick + 1) * period Tick)
 

@@ -15,31 +15,31 @@ use Rattle.sky_model.specs.Kinds.{Kind, Name, Dotted, Number, OptText, Raw, Valu
 
 -- its end, with the statement; a fixed word, and then more; a word of a kind, and then more by its value; either of two; any words of a kind, and
 -- then more by their values
-pub data Row : Type 0 where
-  stop : Stmt → Row
-  literal : Fixed → Row → Row
-  one : (k : Kind) → (Of k → Row) → Row
-  either : Row → Row → Row
-  many : (k : Kind) → (List (Of k) → Row) → Row
+pub data GrammarRow : Type 0 where
+  stop : Stmt → GrammarRow
+  literal : Fixed → GrammarRow → GrammarRow
+  one : (k : Kind) → (Of k → GrammarRow) → GrammarRow
+  either : GrammarRow → GrammarRow → GrammarRow
+  many : (k : Kind) → (List (Of k) → GrammarRow) → GrammarRow
 
 -- a word of a kind, and the line's end
-abbrev pub last : (k : Kind) → (Of k → Stmt) → Row
+abbrev pub last : (k : Kind) → (Of k → Stmt) → GrammarRow
 last k make = one k (λ v. stop (make v))
 
 -- one or more words of a kind, and then more by their values
-abbrev pub some : (k : Kind) → (List (Of k) → Row) → Row
+abbrev pub some : (k : Kind) → (List (Of k) → GrammarRow) → GrammarRow
 some k f = one k (λ v. many k (λ vs. f (v ∷ vs)))
 
 -- one or more words of a kind, and the line's end
-abbrev pub some_last : (k : Kind) → (List (Of k) → Stmt) → Row
+abbrev pub some_last : (k : Kind) → (List (Of k) → Stmt) → GrammarRow
 some_last k make = some k (λ vs. stop (make vs))
 
 -- one or more words of a kind, a fixed word, and then more by their values
-abbrev pub some_until : Fixed → (k : Kind) → (List (Of k) → Row) → Row
+abbrev pub some_until : Fixed → (k : Kind) → (List (Of k) → GrammarRow) → GrammarRow
 some_until end k f = some k (λ vs. literal end (f vs))
 
 -- a fixed word or none, and then more by whether it is there
-abbrev pub optional : Fixed → (Bool → Row) → Row
+abbrev pub optional : Fixed → (Bool → GrammarRow) → GrammarRow
 optional fixed f = either (f false) (literal fixed (f true))
 
 -- the fixed words
@@ -55,7 +55,7 @@ text_of fixed.Off = codes "off"
 -- ---- the statement forms: for each its first word, and what follows it
 
 -- on sessions and transactions
-abbrev pub session_forms : List (List ℕ × Row)
+abbrev pub session_forms : List (List ℕ × GrammarRow)
 session_forms =
     (codes "open", last Name (λ name. stmt.Row (row.OpenDb name)))
     ∷ (codes "close", stop (stmt.Row row.Close))
@@ -69,7 +69,7 @@ session_forms =
     ∷ []
 
 -- on tables and rows
-abbrev pub row_forms : List (List ℕ × Row)
+abbrev pub row_forms : List (List ℕ × GrammarRow)
 row_forms =
     (codes "create", literal fixed.Table (one Dotted (λ table. some_last Column (λ columns. stmt.Row (row.CreateTable table columns)))))
     ∷ (codes "insert", one Dotted (λ table. some_last Value (λ values. stmt.Row (row.Insert table values))))
@@ -80,29 +80,29 @@ row_forms =
     ∷ []
 
 -- the four further texts of an event, to the line's end
-abbrev pub extra_row : (queue : List ℕ) (ev_type ev_data : Option (List ℕ)) → Row
+abbrev pub extra_row : (queue : List ℕ) (ev_type ev_data : Option (List ℕ)) → GrammarRow
 extra_row queue ev_type ev_data =
     one OptText (λ extra1. one OptText (λ extra2. one OptText (λ extra3. last OptText (λ extra4.
     stmt.InsertEvent queue ev_type ev_data (Some (record { ev_extra1 = extra1; ev_extra2 = extra2; ev_extra3 = extra3; ev_extra4 = extra4 }))))))
 
 -- an event's queue, type and data, and then none or four further texts
-abbrev pub insert_event : Row
+abbrev pub insert_event : GrammarRow
 insert_event =
     one Name (λ queue. one OptText (λ ev_type. one OptText (λ ev_data.
     either (stop (stmt.InsertEvent queue ev_type ev_data None)) (extra_row queue ev_type ev_data))))
 
 -- the columns to ignore at the end of a trigger's line, or none
-abbrev pub ignore_row : (name table queue : List ℕ) → Bool → Row
+abbrev pub ignore_row : (name table queue : List ℕ) → Bool → GrammarRow
 ignore_row name table queue backup =
     either (stop (stmt.AddTrigger name table queue backup [])) (last Ignore (λ columns. stmt.AddTrigger name table queue backup columns))
 
 -- a trigger's name, its table and its queue, and then none, one or both of `backup` and columns to ignore
-abbrev pub add_trigger : Row
+abbrev pub add_trigger : GrammarRow
 add_trigger =
     one Name (λ name. one Dotted (λ table. one Name (λ queue. optional fixed.Backup (λ backup. ignore_row name table queue backup))))
 
 -- on queues
-abbrev pub queue_forms : List (List ℕ × Row)
+abbrev pub queue_forms : List (List ℕ × GrammarRow)
 queue_forms =
     (codes "create_queue", last Name (λ queue. stmt.CreateQueue queue))
     ∷ (codes "drop_queue", last Name (λ queue. stmt.DropQueue queue))
@@ -127,7 +127,7 @@ queue_forms =
     ∷ []
 
 -- on nodes
-abbrev pub node_forms : List (List ℕ × Row)
+abbrev pub node_forms : List (List ℕ × GrammarRow)
 node_forms =
     (codes "create_root", one Name (λ name. last Name (λ queue. stmt.CreateRoot name queue)))
     ∷ (codes "create_leaf", one Name (λ name. last Name (λ provider. stmt.Node (node.CreateLeaf name provider))))
@@ -137,30 +137,30 @@ node_forms =
     ∷ []
 
 -- on the clock and the daemon
-abbrev pub clock_forms : List (List ℕ × Row)
+abbrev pub clock_forms : List (List ℕ × GrammarRow)
 clock_forms =
     (codes "clock", last Advance (λ time. stmt.Clock time))
     ∷ (codes "pgqd", either (literal fixed.On (stop stmt.PgqdOn)) (literal fixed.Off (stop stmt.PgqdOff)))
     ∷ []
 
 -- every form
-abbrev pub all_forms : List (List ℕ × Row)
+abbrev pub all_forms : List (List ℕ × GrammarRow)
 all_forms = session_forms ++ row_forms ++ queue_forms ++ node_forms ++ clock_forms
 
 -- the row of the first form with this first word, in a list of at most one
-abbrev pub named_form : List ℕ → List (List ℕ × Row) → List Row
+abbrev pub named_form : List ℕ → List (List ℕ × GrammarRow) → List GrammarRow
 named_form w [] = []
 named_form w (form ∷ forms) = if bytes_eq w form.0 then form.1 ∷ [] else named_form w forms
 
 -- ---- what the words of a line say
 
 -- the row for a value, if there is one
-abbrev pub when : {A : Type 0} → Option A → (A → Row) → List Row
+abbrev pub when : {A : Type 0} → Option A → (A → GrammarRow) → List GrammarRow
 when None f = []
 when (Some v) f = f v ∷ []
 
 -- the rows with which a row may continue after a word
-abbrev pub next : Row → List ℕ → List Row
+abbrev pub next : GrammarRow → List ℕ → List GrammarRow
 next (stop stmt) w = []
 next (literal fixed row) w = if bytes_eq w (text_of fixed) then row ∷ [] else []
 next (one k f) w = when (value k w) f
@@ -168,7 +168,7 @@ next (either a b) w = next a w ++ next b w
 next (many k f) w = next (f []) w ++ when (value k w) (λ v. many k (λ vs. f (v ∷ vs)))
 
 -- the rows with which some of these may continue after a word
-abbrev pub all_next : List Row → List ℕ → List Row
+abbrev pub all_next : List GrammarRow → List ℕ → List GrammarRow
 all_next [] w = []
 all_next (row ∷ rows) w = next row w ++ all_next rows w
 
@@ -178,7 +178,7 @@ or_else None other = other
 or_else (Some stmt) other = Some stmt
 
 -- the statement of a row that may end
-abbrev pub ended : Row → Option Stmt
+abbrev pub ended : GrammarRow → Option Stmt
 ended (stop stmt) = Some stmt
 ended (literal fixed row) = None
 ended (one k f) = None
@@ -186,7 +186,7 @@ ended (either a b) = or_else (ended a) (ended b)
 ended (many k f) = ended (f [])
 
 -- the statement of the first row that may end
-abbrev pub all_ended : List Row → Option Stmt
+abbrev pub all_ended : List GrammarRow → Option Stmt
 all_ended [] = None
 all_ended (row ∷ rows) = or_else (ended row) (all_ended rows)
 
@@ -196,12 +196,12 @@ or_bad n None = Err n
 or_bad n (Some stmt) = Ok stmt
 
 -- word n is bad if no row is left
-abbrev pub goes_on : List Row → ℕ → (List Row → Result Stmt ℕ) → Result Stmt ℕ
+abbrev pub goes_on : List GrammarRow → ℕ → (List GrammarRow → Result Stmt ℕ) → Result Stmt ℕ
 goes_on [] n read = Err n
 goes_on (row ∷ rows) n read = read (row ∷ rows)
 
 -- the statement of words from the nth on, or the number of the first word with which no row continues
-abbrev pub reads : List Row → ℕ → List (List ℕ) → Result Stmt ℕ
+abbrev pub reads : List GrammarRow → ℕ → List (List ℕ) → Result Stmt ℕ
 reads rows n [] = or_bad n (all_ended rows)
 reads rows n (w ∷ ws) = goes_on (all_next rows w) n (λ left. reads left (n + 1) ws)
 

@@ -99,7 +99,7 @@ pub record WasActive (p : History) (b : Batch) : Type 0 where
 abbrev pub FinishedBatchesWereActive : Type 0
 FinishedBatchesWereActive = (p : History) → IsPlace p → (queue : ℕ) (consumer : List ℕ) → All (WasActive p) (finished queue consumer p)
 
--- no two consumers have a subscription of one id, be they of one queue or of two
+-- no two consumers have a subscription of one id, whether of one queue or of two
 abbrev pub SubscriptionsAreDistinct : Type 0
 SubscriptionsAreDistinct = (p : History) → IsPlace p → (q r : ℕ) (c d : List ℕ) (sub : ℕ)
     → subscription_id q c p ≡ Some sub → subscription_id r d p ≡ Some sub → (q ≡ r) × (c ≡ d)

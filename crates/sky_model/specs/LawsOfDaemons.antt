@@ -17,7 +17,7 @@ use Rattle.sky_model.specs.Steps.{IsCallInForm}
 abbrev pub AreOnSince : ℤ → (ℕ → Option ℤ) → Type 0
 AreOnSince now daemons = (database : ℕ) → IfSome (daemons database) (λ start. start ≤ℤ now)
 
--- after calls in form no daemon was started at a moment that is yet to come
+-- after calls in form no daemon was started later than the moment that the clock is at
 abbrev pub DaemonsHaveStarted : Type 0
 DaemonsHaveStarted = (calls : List Call) → All IsCallInForm calls → AreOnSince (clock (past_of calls)) (daemon (past_of calls))
 

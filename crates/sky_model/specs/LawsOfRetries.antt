@@ -38,7 +38,7 @@ pub record IsRetry (p : History) (retry : Retry) : Type 0 where
   pub owned : retry.event.ev_owner ≡ Some retry.sub
   pub counted : retry.event.ev_retry ≡ Some (unwrap_or source.ev_retry 0 + 1)
 
--- so is each that waits
+-- this holds of each that waits
 abbrev pub RetriesAreCopies : Type 0
 RetriesAreCopies = (p : History) → IsPlace p → All (IsRetry p) (retries p)
 
@@ -56,7 +56,7 @@ pub record IsAskedOfBatch (p : History) (retry : Retry) : Type 0 where
   pub lists : ListsEvent p retry source
   pub copied : retry.event ≡ retried retry.sub source
 
--- so it is with each that is asked for
+-- this holds of each that is asked for
 abbrev pub RetriesAreOfActiveBatches : Type 0
 RetriesAreOfActiveBatches = (p : History) (retry : Retry) → IsPlace (queued (asked retry) ∷ p) → IsAskedOfBatch p retry
 
@@ -78,7 +78,7 @@ pub record ComesBack (p : History) (retry : Retry) (moment : ℤ) : Type 0 where
   pub runs : has_ended below event.ev_txid ≡ false
   pub gone : is_asked retry.sub retry.event.ev_id (retries (queued (returned retry moment) ∷ p)) ≡ false
 
--- so it is with each that comes back
+-- this holds of each that comes back
 abbrev pub RetriesComeBackDue : Type 0
 RetriesComeBackDue = (p : History) (retry : Retry) (moment : ℤ) → IsPlace (queued (returned retry moment) ∷ p) → ComesBack p retry moment
 
@@ -100,7 +100,8 @@ pub record IsAcross (later place : History) (b : Batch) : Type 0 where
   pub unclosed : is_some (tick b.cur (ticks b.queue place)) ≡ false
   pub closed : is_some (tick b.cur (ticks b.queue later)) ≡ true
 
--- the event by which a retry came back is in each batch of its subscription across the place where it did, and in no other batch of its queue across it
+-- the event by which a retry came back is in each batch of its subscription across the place where it did, and in no other batch of its queue across
+-- it
 abbrev pub RetriesAreListed : Type 0
 RetriesAreListed = (later : List Mark) (below : History) (retry : Retry) (event : Event) (moment : ℤ) →
     let place : History = queued (returned retry moment) ∷ queued (put retry.queue event) ∷ below in

@@ -4,7 +4,7 @@ use Rattle.sky_val.specs.declared.event.Event.{Event}
 use Rattle.pgq_tables.specs.Tables.{Stored, Tables}
 use Rattle.sky_model.specs.History.{Batch, Mark, queued, put, switching, switched, History}
 use Rattle.sky_model.specs.Transactions.{has_ended, has_committed, has_rolled_back}
-use Rattle.sky_model.specs.Queues.{events, tables, ticks, tick, newest_tick, kept_ticks, at_tick, is_above, second_step_of}
+use Rattle.sky_model.specs.Queues.{events, event_tables, ticks, tick, newest_tick, kept_ticks, at_tick, is_above, second_step_of}
 use Rattle.sky_model.specs.Consumers.{subscription_id, position, active_batch}
 use Rattle.sky_model.specs.Batches.{batch_events}
 use Rattle.sky_model.specs.Selection.{selected_in}
@@ -15,7 +15,7 @@ use Rattle.sky_model.specs.Reader.{database_by_history}
 use Rattle.sky_model.specs.Settling.{marked}
 use Rattle.sky_model.specs.DatabaseCalls.{DatabaseCall, database_does, database_part}
 use Rattle.sky_model.specs.LawsOfRetries.{moment_of}
-use Rattle.sky_model.specs.LawsOfQueues.{Stands}
+use Rattle.sky_model.specs.LawsOfQueues.{QueueStands}
 use Rattle.sky_model.specs.HistoryPlaces.{IsPlace}
 
 -- ---- what the tables have
@@ -41,12 +41,12 @@ as_stored p e = record { event = e; dead = has_rolled_back p e.ev_txid }
 
 -- there are three tables, of which each switch makes the next one the current one; and each has the events that were put while it was current
 pub record HoldsWhatWasPut (p : History) (queue : ℕ) : Type 0 where
-  pub three : length (tables queue p).lists ≡ 3
-  pub current : (tables queue p).current ≡ switches queue p % 3
-  pub lists : (table : ℕ) → table < 3 → slice_get (tables queue p).lists table ≡ Some (map (as_stored p) (put_while queue table p))
+  pub three : length (event_tables queue p).lists ≡ 3
+  pub current : (event_tables queue p).current ≡ switches queue p % 3
+  pub lists : (table : ℕ) → table < 3 → slice_get (event_tables queue p).lists table ≡ Some (map (as_stored p) (put_while queue table p))
 
 abbrev pub TablesHoldWhatWasPut : Type 0
-TablesHoldWhatWasPut = (p : History) → IsPlace p → (queue : ℕ) → Stands p queue → HoldsWhatWasPut p queue
+TablesHoldWhatWasPut = (p : History) → IsPlace p → (queue : ℕ) → QueueStands p queue → HoldsWhatWasPut p queue
 
 -- ---- what rotation leaves
 
@@ -66,8 +66,8 @@ previous_events ts = slice_index_or ts.lists ((ts.current + 2) % 3) []
 
 -- each event that is needed is in the current table or in the one before it, and isn't dead
 abbrev pub NeededEventsAreStored : Type 0
-NeededEventsAreStored = (p : History) → IsPlace p → (queue : ℕ) → Stands p queue
-    → All (λ e. is_needed p queue e ≡ true → Contains (previous_events (tables queue p) ++ current_events (tables queue p)) (record { event = e; dead = false })) (events queue p)
+NeededEventsAreStored = (p : History) → IsPlace p → (queue : ℕ) → QueueStands p queue
+    → All (λ e. is_needed p queue e ≡ true → Contains (previous_events (event_tables queue p) ++ current_events (event_tables queue p)) (record { event = e; dead = false })) (events queue p)
 
 -- what the two kept ticks of an active batch select of the tables are the batch's events, of all that were ever put
 abbrev pub ActiveBatchesAreStored : Type 0
@@ -84,12 +84,12 @@ PositionsAreKept = (p : History) → IsPlace p → (queue : ℕ) (consumer : Lis
 
 -- the newest tick is kept
 abbrev pub NewestTicksAreKept : Type 0
-NewestTicksAreKept = (p : History) → IsPlace p → (queue : ℕ) → Stands p queue → newest_tick (kept_ticks queue p) ≡ newest_tick (ticks queue p)
+NewestTicksAreKept = (p : History) → IsPlace p → (queue : ℕ) → QueueStands p queue → newest_tick (kept_ticks queue p) ≡ newest_tick (ticks queue p)
 
 -- a switch drops the ticks that aren't above the second step of the one before, and no others
 abbrev pub SwitchesDropTicks : Type 0
 SwitchesDropTicks = (p : History) (queue : ℕ) (time : ℤ) → IsPlace (queued (switched queue time) ∷ p)
-    → kept_ticks queue (queued (switched queue time) ∷ p) ≡ filter (is_above (second_step_of (tables queue p))) (kept_ticks queue p)
+    → kept_ticks queue (queued (switched queue time) ∷ p) ≡ filter (is_above (second_step_of (event_tables queue p))) (kept_ticks queue p)
 
 -- ---- pending switches
 
@@ -97,19 +97,19 @@ SwitchesDropTicks = (p : History) (queue : ℕ) (time : ℤ) → IsPlace (queued
 -- consumer, nor the newest tick holds it back
 pub record BeginsFree (p : History) (queue t : ℕ) : Type 0 where
   pub unended : has_ended p t ≡ false
-  pub none : (tables queue p).pending ≡ None
-  pub free : held_by_second_step (queue_of p queue) (tables queue p).second_step ≡ None
+  pub none : (event_tables queue p).pending ≡ None
+  pub free : held_by_second_step (queue_of p queue) (event_tables queue p).second_step ≡ None
 
 abbrev pub SwitchesBeginFree : Type 0
 SwitchesBeginFree = (p : History) (queue t : ℕ) → IsPlace (queued (switching queue t) ∷ p) → BeginsFree p queue t
 
 -- one that is made was pending
 abbrev pub SwitchesWerePending : Type 0
-SwitchesWerePending = (p : History) (queue : ℕ) (time : ℤ) → IsPlace (queued (switched queue time) ∷ p) → is_some (tables queue p).pending ≡ true
+SwitchesWerePending = (p : History) (queue : ℕ) (time : ℤ) → IsPlace (queued (switched queue time) ∷ p) → is_some (event_tables queue p).pending ≡ true
 
 -- and the transaction of one that is pending hasn't ended
 abbrev pub PendingSwitchesRun : Type 0
-PendingSwitchesRun = (p : History) → IsPlace p → (queue t : ℕ) → (tables queue p).pending ≡ Some t → has_ended p t ≡ false
+PendingSwitchesRun = (p : History) → IsPlace p → (queue t : ℕ) → (event_tables queue p).pending ≡ Some t → has_ended p t ≡ false
 
 -- ---- switches and calls
 
@@ -119,7 +119,7 @@ pub record IsOver (p : History) (queue : ℕ) (moment : Option ℤ) : Type 0 whe
   pub called : moment ≡ Some now
   pub over : period_ends (queue_of p queue) ≤ℤ now
 
--- so it is at each place of a call at which a switch begins to be pending
+-- this holds at each place of a call at which a switch begins to be pending
 abbrev pub SwitchesBeginAfterPeriods : Type 0
 SwitchesBeginAfterPeriods = (h : History) (call : DatabaseCall) (earlier later : List Mark) (queue t : ℕ)
     → (database_does database_by_history h call).marks ≡ earlier ++ queued (switching queue t) ∷ later → IsOver (marked h earlier) queue (moment_of call)
@@ -127,9 +127,9 @@ SwitchesBeginAfterPeriods = (h : History) (call : DatabaseCall) (earlier later :
 -- a switch of a queue was made by a call, at its moment; after the call the transaction for which it was pending has committed
 pub record IsMadeBy (h : History) (call : DatabaseCall) (p : History) (queue : ℕ) (time : ℤ) : Type 0 where
   pub called : moment_of call ≡ Some time
-  pub committed : (t : ℕ) → (tables queue p).pending ≡ Some t → has_committed (database_part.after h call) t ≡ true
+  pub committed : (t : ℕ) → (event_tables queue p).pending ≡ Some t → has_committed (database_part.after h call) t ≡ true
 
--- so it is with each switch that a call makes
+-- this holds of each switch that a call makes
 abbrev pub SwitchesAreCommitted : Type 0
 SwitchesAreCommitted = (h : History) (call : DatabaseCall) (earlier later : List Mark) (queue : ℕ) (time : ℤ)
     → (database_does database_by_history h call).marks ≡ earlier ++ queued (switched queue time) ∷ later → IsMadeBy h call (marked h earlier) queue time

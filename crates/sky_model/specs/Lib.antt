@@ -58,6 +58,7 @@ pub mod LawsOfRetries
 pub mod LawsOfRotation
 pub mod LawsOfLocks
 pub mod LawsOfWrites
+pub mod LawsOfNodes
 pub mod Steps
 pub mod LawsOfHistories
 pub mod LawsOfDaemons

@@ -1,4 +1,4 @@
--- The limits of what is limited in number.
+-- How many of each thing there can be.
 use Rattle.std.specs.Prelude.{ℕ}
 use Rattle.sky_model.specs.declared.reply.Limit.{Limit}
 use Rattle.sky_model.specs.declared.reply.Limit.TheVariants.{Sessions, Databases, Queues, Consumers, Tables, Columns, Triggers}

@@ -4,7 +4,7 @@ use Rattle.sky_model.specs.declared.stmt.Where.{Where}
 use Rattle.sky_model.specs.declared.stmt.Where.TheVariants.{WhenReading}
 use Rattle.sky_model.specs.History.{Mark, looked}
 use Rattle.sky_model.specs.Sessions.{Sight, at_first, Session}
-use Rattle.sky_model.specs.Outcome.{Outcome, Checked, settled}
+use Rattle.sky_model.specs.Outcome.{Outcome, Checked, or_refused}
 use Rattle.sky_model.specs.Allowed.{allowed}
 
 -- how a statement reads a place: the session there, whether it waits there, what the statement does there if it is allowed, and the place after a
@@ -22,14 +22,14 @@ takes_sight _ _ = false
 
 -- what a statement does that is allowed, or its refusal
 abbrev pub runs : {P : Type 0} → Making P → ℕ → P → Outcome
-runs m who p = settled who (m.session p) (m.outcome p)
+runs m who p = or_refused who (m.session p) (m.outcome p)
 
 -- with the sight taken before
 abbrev pub looking : ℕ → Outcome → Outcome
 looking who outcome = record outcome { marks = looked who ∷ outcome.marks }
 
 abbrev pub runs_if : {P : Type 0} → Making P → Where → ℕ → P → Checked (Unit {0}) → Outcome
-runs_if m place who p (Err refusal) = settled who (m.session p) (Err refusal)
+runs_if m place who p (Err refusal) = or_refused who (m.session p) (Err refusal)
 runs_if m place who p (Ok _) =
     if takes_sight place (m.session p).sight then looking who (runs m who (m.behind p (looked who)))
     else runs m who p

@@ -1,7 +1,7 @@
 -- The node of a database: what it became by what happened to it.
-use Rattle.std.specs.Prelude.{List, ℕ, [], ◌∷◌, ◌&&◌, ◌||◌, Bool, false, Option, Some, None, option_map, bytes_eq}
+use Rattle.std.specs.Prelude.{List, ℕ, [], ◌∷◌, ◌&&◌, Bool, true, false, Option, Some, None, option_map, bytes_eq}
 use Rattle.londiste_state.specs.declared.state.TableState.TheVariants.{CatchingUp}
-use Rattle.londiste_state.specs.Nodes.{LeafTable, Root, Leaf, Node, of_root, of_leaf, is_among, changed_in, with_root_table, without_root_table, with_consumer, without_consumer, with_leaf_table, without_leaf_table, with_state}
+use Rattle.londiste_state.specs.Nodes.{LeafTable, Root, Leaf, Node, of_root, of_leaf, is_among, tables_of, changed_in, with_root_table, without_root_table, with_consumer, without_consumer, with_leaf_table, without_leaf_table, with_state}
 use Rattle.sky_txid.specs.Snapshot.{SnapshotView}
 use Rattle.sky_model.specs.History.{noded, Pick, ready, copy_of, NodeMark, root_made, listed, unlisted, joined, parted, leaf_made, leaf_added, leaf_removed, state_set, held, copied, applied, restarted, History}
 
@@ -48,6 +48,24 @@ abbrev pub node : History → Option Node
 node [] = None
 node (noded mark ∷ h) = after_node mark (node h)
 node (_ ∷ h) = node h
+
+-- whether a database's node is a root; whether it is a leaf
+abbrev pub is_root : Option Node → Bool
+is_root (Some (of_root r)) = true
+is_root _ = false
+
+abbrev pub is_leaf : Option Node → Bool
+is_leaf (Some (of_leaf l)) = true
+is_leaf _ = false
+
+-- the tables of the set of which it is the root; those of the leaf that it is
+abbrev pub set_tables : Option Node → List (List ℕ)
+set_tables (Some (of_root r)) = r.tables
+set_tables _ = []
+
+abbrev pub leaf_tables : Option Node → List (List ℕ)
+leaf_tables (Some (of_leaf l)) = tables_of (of_leaf l)
+leaf_tables _ = []
 
 -- whether the queue of a name is a set's
 abbrev pub is_set_queue : List ℕ → Option Node → Bool

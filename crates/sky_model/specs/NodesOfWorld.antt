@@ -1,21 +1,20 @@
--- What the statements on nodes do that concern two databases, or the one of a node's name. Each reads the world `w` as it is; `d` is the database that
--- the session has open.
-use Rattle.std.specs.Prelude.{ℕ, ℤ, List, [], ◌∷◌, ◌++◌, Bool, true, false, not, ◌&&◌, ◌||◌, map, find, Option, Some, None, option_map, is_some, bytes_eq, Ok, Err, if◌then◌else◌}
+-- What the statements on nodes do that concern two databases, or the one of a node's name. Each reads the world `w` as it is; `d` is the database
+-- that the session has open.
+use Rattle.std.specs.Prelude.{ℕ, List, [], ◌∷◌, ◌++◌, Bool, true, false, not, ◌&&◌, ◌||◌, map, find, Option, Some, None, option_map, is_some, bytes_eq, Ok, Err, if◌then◌else◌}
 use Rattle.sky_val.specs.declared.column.Column.{Column}
 use Rattle.sky_val.specs.declared.column.ColKind.{ColKind}
 use Rattle.sky_val.specs.declared.column.ColKind.TheVariants as kind
 use Rattle.sky_names.specs.Places.{place_of}
-use Rattle.londiste_state.specs.Nodes.{LeafTable, Root, Leaf, Node, of_root, of_leaf, node_name, is_among, table_of, tables_of}
+use Rattle.londiste_state.specs.Nodes.{Node, of_root, of_leaf, node_name, is_among, table_of, tables_of}
 use Rattle.sky_model.specs.declared.stmt.NodeStmt.{NodeStmt}
 use Rattle.sky_model.specs.declared.stmt.NodeStmt.TheVariants.{CreateLeaf, AddTable, RemoveTable, TableState}
 use Rattle.sky_model.specs.declared.reply.Reply.{Reply}
 use Rattle.sky_model.specs.declared.reply.Reply.TheVariants as replies
 use Rattle.sky_model.specs.declared.reply.Reply.TheVariants.{Done, Number}
-use Rattle.sky_model.specs.declared.reply.Refusal.{Refusal}
-use Rattle.sky_model.specs.declared.reply.Refusal.TheVariants.{AlreadyInSet, NodeExists, NoNode, NoTable, NotInSet, NotLeaf, NotProvider, SchemaDiffers, TableInUse}
+use Rattle.sky_model.specs.declared.reply.Refusal.TheVariants.{AlreadyInSet, NodeExists, NoNode, NotInSet, NotLeaf, NotProvider, SchemaDiffers, TableInUse}
 use Rattle.sky_model.specs.History.{Fact, within, node_made, noded, leaf_made}
 use Rattle.sky_model.specs.State.{Database}
-use Rattle.sky_model.specs.Outcome.{Outcome, Checked, ◌>>=◌, ◌>>◌, refused_if, refused_by, found_or, answers}
+use Rattle.sky_model.specs.Outcome.{Outcome, Checked, ◌>>=◌, ◌>>◌, refused_if, refused_by, found_or}
 use Rattle.sky_model.specs.StepRows.{table_called}
 use Rattle.sky_model.specs.StepQueue.{newest_id}
 use Rattle.sky_model.specs.StepNode.{set_queue, joins, lists, unlists, adds, removes}

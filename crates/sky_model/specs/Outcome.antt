@@ -82,6 +82,6 @@ abort who inside txid refusal = if aborts refusal then end_of false who txid ++ 
 abort who _ txid refusal = []
 
 -- a refusal of a session's statement is an answer too
-abbrev pub settled : ℕ → Session → Checked Outcome → Outcome
-settled who s (Ok outcome) = outcome
-settled who s (Err refusal) = record { reply = Refused refusal; marks = abort who s.block s.txid refusal }
+abbrev pub or_refused : ℕ → Session → Checked Outcome → Outcome
+or_refused who s (Ok outcome) = outcome
+or_refused who s (Err refusal) = record { reply = Refused refusal; marks = abort who s.block s.txid refusal }

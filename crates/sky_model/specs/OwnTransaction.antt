@@ -32,5 +32,5 @@ commit_of who t outside = ended (of_session who) t true ∷ []
 commit_of who t _ = []
 
 -- what a session writes, in its transaction with this id
-abbrev pub written : ℕ → ℕ → Session → List Mark → List Mark
-written who t s marks = begin_of who t s.txid ++ marks ++ commit_of who t s.block
+abbrev pub in_own : ℕ → ℕ → Session → List Mark → List Mark
+in_own who t s marks = begin_of who t s.txid ++ marks ++ commit_of who t s.block

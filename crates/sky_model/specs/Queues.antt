@@ -9,7 +9,7 @@ use Rattle.sky_model.specs.History.{ended, queued, made, raised, put, ticked, sw
 use Rattle.sky_model.specs.Config.{Config, default_config}
 use Rattle.sky_model.specs.Transactions.{snapshot}
 
--- a queue that stands: its number and its name
+-- a queue that exists: its number and its name
 pub record NamedQueue : Type 0 where
   pub number : ℕ
   pub name : List ℕ
@@ -24,7 +24,7 @@ queues_made (_ ∷ h) = queues_made h
 abbrev pub others_than : ℕ → List NamedQueue → List NamedQueue
 others_than queue queues = filter (λ q. not (q.number == queue)) queues
 
--- the queues that stand, in the order of making
+-- the queues that exist, in the order of making
 abbrev pub queues : History → List NamedQueue
 queues [] = []
 queues (queued (dropped queue) ∷ h) = others_than queue (queues h)
@@ -35,7 +35,7 @@ queues (_ ∷ h) = queues h
 abbrev pub queue_number : List ℕ → List NamedQueue → Option ℕ
 queue_number name queues = option_map NamedQueue.number (named NamedQueue.name name queues)
 
--- the name of the queue of a number, empty if that queue doesn't stand
+-- the name of the queue of a number, empty if that queue doesn't exist
 abbrev pub queue_name : ℕ → List NamedQueue → List ℕ
 queue_name number queues = unwrap_or (option_map NamedQueue.name (find (λ q. q.number == number) queues)) []
 
@@ -68,16 +68,16 @@ abbrev pub without_transaction : ℕ → Tables → Tables
 without_transaction t ts = with_dead t (if is_pending t ts then without_pending ts else ts)
 
 -- the event tables of a queue
-abbrev pub tables : ℕ → History → Tables
-tables queue [] = no_tables
-tables queue (queued (made name t time) ∷ h) = if queues_made h == queue then new_tables t time else tables queue h
-tables queue (queued (put q event) ∷ h) = if q == queue then with_stored event (tables queue h) else tables queue h
-tables queue (queued (switching q t) ∷ h) = if q == queue then with_pending t (tables queue h) else tables queue h
-tables queue (queued (switched q time) ∷ h) = if q == queue then tables_of.switched time (tables queue h) else tables queue h
-tables queue (queued (second_step q t) ∷ h) = if q == queue then with_second_step t (tables queue h) else tables queue h
-tables queue (queued (dropped q) ∷ h) = if q == queue then no_tables else tables queue h
-tables queue (ended whose t false ∷ h) = without_transaction t (tables queue h)
-tables queue (_ ∷ h) = tables queue h
+abbrev pub event_tables : ℕ → History → Tables
+event_tables queue [] = no_tables
+event_tables queue (queued (made name t time) ∷ h) = if queues_made h == queue then new_tables t time else event_tables queue h
+event_tables queue (queued (put q event) ∷ h) = if q == queue then with_stored event (event_tables queue h) else event_tables queue h
+event_tables queue (queued (switching q t) ∷ h) = if q == queue then with_pending t (event_tables queue h) else event_tables queue h
+event_tables queue (queued (switched q time) ∷ h) = if q == queue then tables_of.with_switch time (event_tables queue h) else event_tables queue h
+event_tables queue (queued (second_step q t) ∷ h) = if q == queue then with_second_step t (event_tables queue h) else event_tables queue h
+event_tables queue (queued (dropped q) ∷ h) = if q == queue then no_tables else event_tables queue h
+event_tables queue (ended whose t false ∷ h) = without_transaction t (event_tables queue h)
+event_tables queue (_ ∷ h) = event_tables queue h
 
 -- a tick
 pub record Tick : Type 0 where
@@ -131,7 +131,7 @@ kept_ticks queue (queued (ticked q id time seq) ∷ h) =
     if q == queue
     then kept_ticks queue h ++ record { id = id; time = time; snapshot = snapshot h; seq = seq } ∷ []
     else kept_ticks queue h
-kept_ticks queue (queued (switched q time) ∷ h) = if q == queue then ticks_above (second_step_of (tables queue h)) (kept_ticks queue h) else kept_ticks queue h
+kept_ticks queue (queued (switched q time) ∷ h) = if q == queue then ticks_above (second_step_of (event_tables queue h)) (kept_ticks queue h) else kept_ticks queue h
 kept_ticks queue (queued (dropped q) ∷ h) = if q == queue then [] else kept_ticks queue h
 kept_ticks queue (_ ∷ h) = kept_ticks queue h
 

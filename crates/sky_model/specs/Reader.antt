@@ -110,9 +110,9 @@ abbrev pub idles : Deed
 idles = record { answers = []; facts = [] }
 
 -- a deed after another
-abbrev pub joined : Deed → Deed → Deed
-joined deed rest = record { answers = deed.answers ++ rest.answers; facts = deed.facts ++ rest.facts }
+abbrev pub deed_with : Deed → Deed → Deed
+deed_with deed rest = record { answers = deed.answers ++ rest.answers; facts = deed.facts ++ rest.facts }
 
 -- a deed, and then what is done at the place after it
 abbrev pub followed : {P : Type 0} → Reader P → P → (P → Deed) → Deed → Deed
-followed r p rest deed = joined deed (rest (r.behind p deed.facts))
+followed r p rest deed = deed_with deed (rest (r.behind p deed.facts))

@@ -6,7 +6,7 @@ use Rattle.sky_model.specs.declared.reply.Reply.{Reply}
 use Rattle.sky_model.specs.declared.stmt.Attempt.{Attempt}
 use Rattle.sky_model.specs.History.{Mark, tabled, waited, History}
 use Rattle.sky_model.specs.State.{RowPart}
-use Rattle.sky_model.specs.Outcome.{Outcome, settled}
+use Rattle.sky_model.specs.Outcome.{Outcome, or_refused}
 use Rattle.sky_model.specs.StepRows.{attempts}
 use Rattle.sky_model.specs.Reader.{PartReader, part_by_history}
 
@@ -33,12 +33,12 @@ abbrev pub marked : History → List Mark → History
 marked h marks = behind_marks part_by_history h marks
 
 -- a turn after another
-abbrev pub joined : Turn → Turn → Turn
-joined turn rest = record { answers = turn.answers ++ rest.answers; marks = turn.marks ++ rest.marks }
+abbrev pub with_rest : Turn → Turn → Turn
+with_rest turn rest = record { answers = turn.answers ++ rest.answers; marks = turn.marks ++ rest.marks }
 
 -- a turn, and then what is done at the place after it
 abbrev pub and_then : {P : Type 0} → PartReader P → P → Turn → (P → Turn) → Turn
-and_then r p turn rest = joined turn (rest (behind_marks r p turn.marks))
+and_then r p turn rest = with_rest turn (rest (behind_marks r p turn.marks))
 
 -- the first statement that waits for a key that nobody holds
 abbrev pub ready : RowPart → Option Waiting
@@ -46,12 +46,12 @@ ready d = waits.ready d.holder d.waiting
 
 -- what a waiting statement does at a place at which it resumes
 abbrev pub attempted : {P : Type 0} → PartReader P → Waiting → Attempt → P → Outcome
-attempted r w attempt p = settled w.who ((r.part p).session w.who) (r.tells p (attempts (r.part p) ((r.rows p).key w.who w.table w.key) w.who w.table w.key attempt))
+attempted r w attempt p = or_refused w.who ((r.part p).session w.who) (r.tells p (attempts (r.part p) ((r.rows p).key w.who w.table w.key) w.who w.table w.key attempt))
 
 -- it no longer waits, and is run
 abbrev pub resumed : {P : Type 0} → PartReader P → P → Waiting → Turn
 resumed r p w =
-    joined (record { answers = []; marks = tabled (waited w.who) ∷ [] })
+    with_rest (record { answers = []; marks = tabled (waited w.who) ∷ [] })
     (turn_of w.who (attempted r w ((r.part p).attempt w.who) (r.behind p (tabled (waited w.who)))))
 
 -- the one that is ready is run, and then the rest

@@ -8,7 +8,7 @@ use Rattle.sky_txid.specs.Snapshot.{SnapshotView, snapshot_of}
 use Rattle.sky_keys.specs.Versions.{written, forgotten}
 use Rattle.sky_model.specs.declared.stmt.Attempt.{Attempt}
 use Rattle.sky_model.specs.declared.stmt.Attempt.TheVariants.{Deletion}
-use Rattle.sky_model.specs.History.{Batch, Mark, Whose, of_session, of_worker, began, ended, block_begun, repeats, looked, block_failed, block_ended, connected, disconnected, tabled, TableMark, table_made, wrote, waits, waited, read_only, noded, NodeMark, queued, QueueMark, made, raised, put, ticked, registered, moved, unregistered, opened, closed, asked, returned, switching, switched, second_step, configured, dropped, traced, untraced, History}
+use Rattle.sky_model.specs.History.{Batch, Mark, Whose, of_session, of_worker, began, ended, block_begun, repeats, looked, block_failed, block_ended, connected, disconnected, tabled, TableMark, table_made, wrote, waits, waited, read_only, noded, queued, QueueMark, made, raised, put, ticked, registered, moved, unregistered, opened, closed, asked, returned, switching, switched, second_step, configured, dropped, traced, untraced, History}
 use Rattle.sky_model.specs.Transactions.{next_txid, running, workers}
 use Rattle.pgq_tables.specs.Tables as tables_of
 use Rattle.pgq_tables.specs.Tables.{Tables, no_tables, new_tables, with_stored, with_pending, with_second_step}
@@ -18,7 +18,7 @@ use Rattle.sky_model.specs.Rows.{table_names, columns_of, wrote_in, is_read_only
 use Rattle.sky_model.specs.Versions.{versions}
 use Rattle.sky_model.specs.Locks.{holder, waiting, attempt}
 use Rattle.sky_model.specs.Triggers.{TableTrigger, but_sets, triggers}
-use Rattle.sky_model.specs.Queues.{NamedQueue, queues_made, queues, others_than, config, sequence, tables, without_transaction, Tick, kept_ticks, ticks_above, second_step_of}
+use Rattle.sky_model.specs.Queues.{NamedQueue, queues_made, queues, others_than, config, sequence, event_tables, without_transaction, Tick, kept_ticks, ticks_above, second_step_of}
 use Rattle.pgq_retry.specs.declared.retry.Retry.{Retry}
 use Rattle.pgq_retry.specs.Retries.{without as without_retry, without_sub}
 use Rattle.sky_model.specs.Retries.{retries}
@@ -67,7 +67,7 @@ abbrev pub queue_of : History → ℕ → Queue
 queue_of h q = record {
   config = config q h;
   seq = sequence q h;
-  tables = tables q h;
+  tables = event_tables q h;
   tick_list = kept_ticks q h;
   members = consumers q h;
   sub = λ name. subscription q name h;
@@ -129,7 +129,7 @@ with_tables change q = record q { tables = change q.tables }
 
 -- a queue after the switch of its event tables
 abbrev pub after_switch : ℤ → Queue → Queue
-after_switch time q = record q { tables = tables_of.switched time q.tables; tick_list = ticks_above (second_step_of q.tables) q.tick_list }
+after_switch time q = record q { tables = tables_of.with_switch time q.tables; tick_list = ticks_above (second_step_of q.tables) q.tick_list }
 
 -- a database after something happened to its queues
 abbrev pub after_queue_mark : Database → QueueMark → Database

@@ -25,11 +25,15 @@ has_dot name = list_any (λ b. b == 46) name
 abbrev pub is_nodes : Database → (queue consumer : List ℕ) → Bool
 is_nodes d queue consumer = has_dot consumer || is_leafs queue consumer d.node
 
+-- whether the last subscription id was given
+abbrev pub sub_ids_spent : Database → Bool
+sub_ids_spent d = nat_le (2 ^ 64) (d.last_sub_id + 1)
+
 -- a new consumer: a subscription with the next id, whose position is a tick
 abbrev pub registers : Database → ℕ → List ℕ → ℕ → Checked Outcome
 registers d queue consumer tick = do
   refused_if (nat_le (most_of Consumers) (length (d.queue queue).members)) (TooMany Consumers)
-  refused_if (nat_le (2 ^ 64) (d.last_sub_id + 1)) IdsSpent
+  refused_if (sub_ids_spent d) IdsSpent
   does_marks (Number 1) (queued (registered queue consumer (d.last_sub_id + 1) tick) ∷ [])
 
 -- `register_consumer NAME CONSUMER`: a subscription whose position is the newest tick

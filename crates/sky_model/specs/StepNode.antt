@@ -1,22 +1,24 @@
 -- What is done to the node of a database, and by it. Each reads the database `d` as it is.
-use Rattle.std.specs.Prelude.{ℕ, ℤ, ◌+◌, List, [], ◌∷◌, ◌++◌, false, true, Option, Some, None, option_map, is_some, nat_le, length, Ok}
-use Rattle.std.specs.Option.{option_and_then}
+use Rattle.std.specs.Prelude.{ℕ, ℤ, List, [], ◌∷◌, ◌++◌, Bool, false, true, not, ◌&&◌, Option, Some, None, option_map, option_and_then, unwrap_or, is_some, is_none, nat_le, length, if◌then◌else◌}
 use Rattle.sky_urlenc.specs.RowEvents.{Trigger}
 use Rattle.sky_names.specs.Places.{place_of}
+use Rattle.sky_txid.specs.Snapshot.{SnapshotView}
 use Rattle.londiste_state.specs.declared.state.TableState.{TableState}
-use Rattle.londiste_state.specs.Nodes.{Root, Leaf, Node, of_root, of_leaf}
+use Rattle.londiste_state.specs.Moves.{is_allowed}
+use Rattle.londiste_state.specs.Nodes.{Node, of_root, of_leaf, is_among, table_of}
 use Rattle.sky_model.specs.declared.reply.Reply.TheVariants.{Done, Number, Null}
-use Rattle.sky_model.specs.declared.reply.Limit.TheVariants.{Queues, Triggers}
-use Rattle.sky_model.specs.declared.reply.Refusal.TheVariants.{ConsumerExists, NodeExists, NotProvider, QueueExists, TableBusy, TooMany}
+use Rattle.sky_model.specs.declared.reply.Limit.TheVariants.{Consumers, Queues, Triggers}
+use Rattle.sky_model.specs.declared.reply.Refusal.TheVariants.{ConsumerExists, NodeExists, QueueExists, TableBusy, TooMany}
 use Rattle.sky_model.specs.Limits.{most_of}
 use Rattle.sky_model.specs.History.{Batch, tabled, read_only, queued, made, unregistered, closed, traced, untraced, noded, root_made, listed, unlisted, joined, parted, leaf_made, leaf_added, leaf_removed, state_set}
-use Rattle.sky_model.specs.Queues.{queue_number}
+use Rattle.sky_model.specs.Queues.{queue_number, Tick, tick}
+use Rattle.sky_model.specs.Nodes.{is_root, is_leaf, set_tables, leaf_tables}
 use Rattle.sky_model.specs.Triggers.{triggers_of}
 use Rattle.sky_model.specs.Consumers.{Subscription}
 use Rattle.sky_model.specs.State.{Database}
 use Rattle.sky_model.specs.ShownRows.{least_writer}
-use Rattle.sky_model.specs.OwnTransaction.{txid_for, written}
-use Rattle.sky_model.specs.Outcome.{Outcome, Checked, ◌>>=◌, ◌>>◌, refused_if, refused_by, found_or, answers, does_marks}
+use Rattle.sky_model.specs.OwnTransaction.{txid_for, in_own}
+use Rattle.sky_model.specs.Outcome.{Outcome, Checked, ◌>>=◌, ◌>>◌, refused_if, refused_by, answers, does_marks}
 use Rattle.sky_model.specs.StepQueue.{newest_id}
 use Rattle.sky_model.specs.StepConsumer.{registers, takes_batch}
 
@@ -27,7 +29,7 @@ create_root d now who name queue = do
   refused_if (is_some (queue_number queue d.queues)) (QueueExists queue)
   refused_if (nat_le (most_of Queues) (length d.queues)) (TooMany Queues)
   t ← txid_for d.part who
-  does_marks Done (written who t (d.part.session who) [] ++ queued (made queue t now) ∷ noded (root_made name queue) ∷ [])
+  does_marks Done (in_own who t (d.part.session who) [] ++ queued (made queue t now) ∷ noded (root_made name queue) ∷ [])
 
 -- the queue of a node's set, if it is a root
 abbrev pub set_queue_of : Database → Option Node → Option ℕ
@@ -37,6 +39,19 @@ set_queue_of d _ = None
 -- the queue of the set of a database's node
 abbrev pub set_queue : Database → Option ℕ
 set_queue d = set_queue_of d d.node
+
+-- whether the set's queue has as many consumers as it may, and none of them is this one
+abbrev pub is_full : Database → List ℕ → Bool
+is_full d consumer =
+    unwrap_or (option_map (λ queue. nat_le (most_of Consumers) (length (d.queue queue).members) && not (is_some ((d.queue queue).sub consumer))) (set_queue d)) false
+
+-- whether a consumer is registered at the set's queue
+abbrev pub has_joined : Database → List ℕ → Bool
+has_joined d consumer = unwrap_or (option_map (λ queue. is_some ((d.queue queue).sub consumer)) (set_queue d)) false
+
+-- the snapshot of a tick of the set's queue, if it keeps the tick
+abbrev pub snapshot_of_tick : Database → (id : ℕ) → Option SnapshotView
+snapshot_of_tick d id = option_and_then (λ queue. option_map Tick.snapshot (tick id (d.queue queue).tick_list)) (set_queue d)
 
 -- a consumer of a leaf is registered at the queue, at its newest tick, which is the answer
 abbrev pub joins : Database → (queue : ℕ) → List ℕ → Checked Outcome
@@ -106,16 +121,36 @@ closes batch = does_marks Done (queued (closed batch) ∷ [])
 abbrev pub table_number : Database → List ℕ → Option ℕ
 table_number d name = place_of name d.part.tables
 
--- what a call for a node does
-abbrev pub node_does : Database → NodeCall → Checked Outcome
-node_does d (joining consumer) = if_there (set_queue d) (λ queue. joins d queue consumer)
-node_does d (parting consumer) = if_there (set_queue d) (λ queue. parts queue consumer ((d.queue queue).sub consumer))
-node_does d (fetching consumer) =
+-- whether a table of a leaf may go into a state
+abbrev pub may_move : List ℕ → TableState → Option Node → Bool
+may_move table state (Some (of_leaf l)) = unwrap_or (option_map (λ t. is_allowed t.state state) (table_of table l)) false
+may_move table state _ = false
+
+-- whether a call is one for a database whose node is this: it gets a leaf if it has no node, a table joins a set or a leaf that hasn't it, and leaves
+-- one that has it
+abbrev pub may_serve : NodeCall → Option Node → Bool
+may_serve (making_leaf name provider tick) n = is_none n
+may_serve (adding table) n = is_leaf n && not (is_among table (leaf_tables n))
+may_serve (removing table) n = is_among table (leaf_tables n)
+may_serve (moving table state) n = may_move table state n
+may_serve (listing table) n = is_root n && not (is_among table (set_tables n))
+may_serve (unlisting table) n = is_among table (set_tables n)
+may_serve _ n = true
+
+-- what a call for a node does, if it is one for this database
+abbrev pub call_form : Database → NodeCall → Checked Outcome
+call_form d (joining consumer) = if_there (set_queue d) (λ queue. joins d queue consumer)
+call_form d (parting consumer) = if_there (set_queue d) (λ queue. parts queue consumer ((d.queue queue).sub consumer))
+call_form d (fetching consumer) =
     if_there (set_queue d) (λ queue. if_there ((d.queue queue).sub consumer) (λ sub. takes_batch d queue consumer sub sub.active))
-node_does d (finishing batch) = if_there (d.batch batch) closes
-node_does d (making_leaf name provider tick) = does_marks Done (noded (leaf_made name provider tick) ∷ [])
-node_does d (adding name) = if_there (table_number d name) (λ table. adds d table name)
-node_does d (removing name) = if_there (table_number d name) (λ table. removes table name)
-node_does d (moving table state) = does_marks Done (noded (state_set table state) ∷ [])
-node_does d (listing name) = if_there (set_queue d) (λ queue. if_there (table_number d name) (λ table. lists d queue table name))
-node_does d (unlisting name) = if_there (table_number d name) (λ table. unlists table name)
+call_form d (finishing batch) = if_there (d.batch batch) closes
+call_form d (making_leaf name provider tick) = does_marks Done (noded (leaf_made name provider tick) ∷ [])
+call_form d (adding name) = if_there (table_number d name) (λ table. adds d table name)
+call_form d (removing name) = if_there (table_number d name) (λ table. removes table name)
+call_form d (moving table state) = does_marks Done (noded (state_set table state) ∷ [])
+call_form d (listing name) = if_there (set_queue d) (λ queue. if_there (table_number d name) (λ table. lists d queue table name))
+call_form d (unlisting name) = if_there (table_number d name) (λ table. unlists table name)
+
+-- what it does; nothing for another database
+abbrev pub node_does : Database → NodeCall → Checked Outcome
+node_does d call = if may_serve call d.node then call_form d call else answers Null

@@ -15,7 +15,7 @@ use Rattle.sky_model.specs.Config.{Config, param_of, configured_by}
 use Rattle.sky_model.specs.Triggers.{TableTrigger}
 use Rattle.sky_model.specs.Nodes.{is_set_queue}
 use Rattle.sky_model.specs.State.{Queue, Database}
-use Rattle.sky_model.specs.OwnTransaction.{txid_for, written}
+use Rattle.sky_model.specs.OwnTransaction.{txid_for, in_own}
 use Rattle.sky_model.specs.Outcome.{Outcome, Checked, ◌>>=◌, ◌>>◌, refused_if, refused_by, found_or, answers, does_marks}
 
 -- the queue of a name
@@ -28,7 +28,7 @@ create_queue d now who name =
     if is_some (queue_number name d.queues) then answers (Number 0) else do
       refused_if (nat_le (most_of Queues) (length d.queues)) (TooMany Queues)
       t ← txid_for d.part who
-      does_marks (Number 1) (written who t (d.part.session who) [] ++ queued (made name t now) ∷ [])
+      does_marks (Number 1) (in_own who t (d.part.session who) [] ++ queued (made name t now) ∷ [])
 
 -- whether a transaction has put an event into event tables, or makes their pending switch
 abbrev pub has_part_in : Tables → ℕ → Bool
@@ -87,7 +87,7 @@ next_event_id q = do
 abbrev pub begins_with : (byte : ℕ) → List ℕ → Bool
 begins_with byte text = bytes_eq (take 2 text) (byte ∷ 58 ∷ [])
 
--- whether events of a type tell of rows: it begins with `I:`, `U:` or `D:`
+-- whether events of a type record writes of rows: it begins with `I:`, `U:` or `D:`
 abbrev pub tells_of_rows : Option (List ℕ) → Bool
 tells_of_rows None = false
 tells_of_rows (Some text) = begins_with 73 text || begins_with 85 text || begins_with 68 text
@@ -100,7 +100,7 @@ insert_event d now who name ev_type ev_data extra = do
   t ← txid_for d.part who
   id ← next_event_id (d.queue queue)
   does_marks (Number id)
-      (written who t (d.part.session who) (queued (raised queue id) ∷ queued (put queue (made_event id now t ev_type ev_data extra)) ∷ []))
+      (in_own who t (d.part.session who) (queued (raised queue id) ∷ queued (put queue (made_event id now t ev_type ev_data extra)) ∷ []))
 
 -- without new events a tick is due if no other tick is kept, or the queue has been idle long enough: twice the lag reaches the limit, and the lag
 -- reaches twice the time between the last two ticks, or the idle period

@@ -11,7 +11,7 @@ use Rattle.sky_model.specs.Sessions.{Block, outside, inside}
 use Rattle.sky_model.specs.Queues.{NamedQueue, is_pending, Tick, tick, newest_tick, is_above}
 use Rattle.sky_model.specs.Consumers.{Subscription}
 use Rattle.sky_model.specs.State.{Queue, Database}
-use Rattle.sky_model.specs.OwnTransaction.{next_id, txid_for, written}
+use Rattle.sky_model.specs.OwnTransaction.{next_id, txid_for, in_own}
 use Rattle.sky_model.specs.Outcome.{Outcome, Checked, ◌>>=◌, answers, does_marks}
 use Rattle.sky_model.specs.StepQueue.{queue_called}
 
@@ -67,7 +67,7 @@ abbrev pub rotates : Database → ℤ → ℕ → ℕ → Option held.HeldBack �
 rotates d now who queue (Some why) = answers (reply.TheVariants.HeldBack why)
 rotates d now who queue None = do
   t ← txid_for d.part who
-  does_marks (Number 1) (written who t (d.part.session who) (switch_of queue t now (d.part.session who).block))
+  does_marks (Number 1) (in_own who t (d.part.session who) (switch_of queue t now (d.part.session who).block))
 
 abbrev pub maint_rotate_step1 : Database → ℤ → ℕ → List ℕ → Checked Outcome
 maint_rotate_step1 d now who name = do
@@ -107,7 +107,7 @@ maint_rotate_step2 d = ends_switches d (lack_second_step d)
 
 -- ---- a commit makes the switches that its transaction has pending
 
--- those of the queues that stand, in the order of making
+-- those of the queues that exist, in the order of making
 abbrev pub switches_by : Database → ℤ → ℕ → List NamedQueue → List Mark
 switches_by d now t [] = []
 switches_by d now t (q ∷ queues) =

@@ -30,7 +30,7 @@ use Rattle.sky_model.specs.History.{of_session, tabled, table_made, wrote}
 use Rattle.sky_model.specs.State.{RowPart}
 use Rattle.sky_model.specs.ShownRows.{KeyShown, RowsShown}
 use Rattle.sky_model.specs.Outcome.{Outcome, Checked, ◌>>=◌, ◌>>◌, refused_if, refused_by, found_or, answers, does_marks}
-use Rattle.sky_model.specs.OwnTransaction.{txid_for, written}
+use Rattle.sky_model.specs.OwnTransaction.{txid_for, in_own}
 use Rattle.sky_model.specs.StepLocks.{once_free}
 
 -- the table of a name
@@ -126,7 +126,7 @@ is_seen shown = refused_by (option_map Serialize shown.unseen)
 abbrev pub writes_key : RowPart → ℕ → ℕ → List Val → (old new : Option (List Val)) → Checked Outcome
 writes_key d who table key old new = do
   t ← txid_for d who
-  does_marks (Number 1) (written who t (d.session who) (tabled (wrote (of_session who) t table key old new) ∷ []))
+  does_marks (Number 1) (in_own who t (d.session who) (tabled (wrote (of_session who) t table key old new) ∷ []))
 
 -- a row is inserted at the key
 abbrev pub inserts : RowPart → KeyShown → ℕ → ℕ → List Val → List Val → Checked Outcome

@@ -9,7 +9,7 @@ use Rattle.sky_model.specs.History.{Mark, block_begun, repeats, block_ended, con
 use Rattle.sky_model.specs.Sessions.{Block, outside, inside, failed, place_of_sight}
 use Rattle.sky_model.specs.State.{RowPart}
 use Rattle.sky_model.specs.Outcome.{Outcome, Checked, ◌>>=◌, found_or, answers, does_marks, end_of, abort}
-use Rattle.sky_model.specs.OwnTransaction.{txid_for, written}
+use Rattle.sky_model.specs.OwnTransaction.{txid_for, in_own}
 
 -- `begin`
 abbrev pub begin : ℕ → Block → Checked Outcome
@@ -55,7 +55,7 @@ cancel who txid block true = does_marks (Refused Canceled) (tabled (waited who) 
 abbrev pub txid_current : RowPart → ℕ → Checked Outcome
 txid_current d who = do
   t ← txid_for d who
-  does_marks (Number t) (written who t (d.session who) [])
+  does_marks (Number t) (in_own who t (d.session who) [])
 
 -- `txid_current_snapshot`: the snapshot of the statement's sight
 abbrev pub txid_current_snapshot : RowPart → ℕ → Checked Outcome

@@ -5,6 +5,7 @@ ghost use Rattle.sky_model.specs.LawsOfDaemons.{DaemonsHaveStarted, DaemonsWorkW
 ghost use Rattle.sky_model.specs.LawsOfHistories.{HistoriesAreMadeByOwnCalls, HomesAreOpen, WaitersHaveOpen, BlocksAreOpen};
 ghost use Rattle.sky_model.specs.LawsOfLines.{BadWordIsLeast, LinesAreInForm};
 ghost use Rattle.sky_model.specs.LawsOfLocks.{DeadlocksAreRings, HoldersHaveWritten, NothingIsReady, WritersHaveWritten};
+ghost use Rattle.sky_model.specs.LawsOfNodes.{LeafTablesAreReadOnly, NodesHaveTables, ReadOnlyTablesAreUnwritten, RemovedTablesExist, RootsAreProviders, SessionsWriteNoReadOnlyTable, SetsHaveQueues, SetsHaveTriggers};
 ghost use Rattle.sky_model.specs.LawsOfQueues.{BusyQueuesStand, NewQueuesAreOthers, OtherQueuesKeepNothing, ProducersHaveWork, QueuesOfConsumersStand, QueuesOfTriggersStand};
 ghost use Rattle.sky_model.specs.LawsOfRetries.{EventsComeOnce, RetriesAreCopies, RetriesAreForTheirSubscription, RetriesAreListed, RetriesAreOfActiveBatches, RetriesComeBackAtCalls, RetriesComeBackDue, OwnedEventsComeBack, RetriesWaitOnce};
 ghost use Rattle.sky_model.specs.LawsOfRotation.{ActiveBatchesAreStored, NeededEventsAreStored, NewestTicksAreKept, PendingSwitchesRun, PositionsAreKept, SwitchesAreCommitted, SwitchesBeginAfterPeriods, SwitchesBeginFree, SwitchesDropTicks, SwitchesWerePending, TablesHoldWhatWasPut};
@@ -98,7 +99,7 @@ pub fn writes_and_commits_have_one_order()
 {}
 
 /// At each such place no two consumers have a subscription of one id; no id in use exceeds the last that was given, and
-/// that of a new consumer does. So whoever leaves and registers anew is another subscription.
+/// that of a new consumer does. So a consumer that leaves and registers again has another subscription.
 pub fn subscriptions_are_given_once()
     ensures distinct { SubscriptionsAreDistinct }
     ensures given { SubscriptionsAreGiven }
@@ -109,10 +110,10 @@ pub fn subscriptions_are_given_once()
 /// there, with the subscription as its owner and one retry more; it was asked for of an active batch of this
 /// subscription, which lists that event; and for each event id of a subscription at most one waits. One that comes back
 /// waited and is due, its event was put just before, of a transaction that hadn't ended, and it waits no more; it comes
-/// back at the moment of the call that brings it, and no event with an owner is put in another way. Its event is in each
-/// batch of its subscription whose opening tick was made before, and whose closing tick is made later, and in no other
-/// batch across that place; and a batch lists at most one event of an id and a transaction, so it lists this one once.
-/// And an event with an owner is in no batch of another subscription.
+/// back at the moment of the call that brings it, and no event with an owner is put in another way. Its event is in
+/// each batch of its subscription whose opening tick was made before, and whose closing tick is made later, and in no
+/// other batch across that place; and a batch lists at most one event of an id and a transaction, so it lists this one
+/// once. And an event with an owner is in no batch of another subscription.
 pub fn retries_come_back_once()
     ensures copies { RetriesAreCopies }
     ensures listed { RetriesAreOfActiveBatches }
@@ -135,12 +136,11 @@ pub fn writes_name_what_stands()
     ensures rows { StandingRowsFit }
 {}
 
-/// At each such place a queue stands, that is, it was made and not dropped, if a consumer is registered with it, if a
+/// At each such place a queue exists, that is, it was made and not dropped, if a consumer is registered with it, if a
 /// trigger puts events into it, or if a transaction that hasn't ended has put one into it: none of these loses its
-/// queue. One that stands is refused to be dropped as busy for the least transaction that hasn't ended and has put an
-/// event into it, or has a switch of its tables pending, if there is one. Nothing is kept of one that was dropped or
-/// isn't made yet.
-/// And the next queue that is made is none that was dropped, even if it gets the name of one.
+/// queue. One that exists is busy, so that it can't be dropped, for the least transaction that hasn't ended and has put
+/// an event into it, or has a switch of its tables pending, if there is one. Nothing is kept of one that was dropped or
+/// isn't made yet. And the next queue that is made is none that was dropped, even if it gets the name of one.
 pub fn queues_in_use_stand()
     ensures consumers { QueuesOfConsumersStand }
     ensures triggers { QueuesOfTriggersStand }
@@ -191,15 +191,15 @@ pub fn daemons_work_when_due()
     ensures works { DaemonsWorkWhenDue }
 {}
 
-/// The three event tables of a queue that stands have what was put while each was the current one, since it was last
+/// The three event tables of a queue that exists have what was put while each was the current one, since it was last
 /// emptied. No switch loses an event that a running transaction has put, or that a consumer at a tick at which one may
 /// register hasn't got yet; and what is selected of the tables for a batch that is active are its events, of all that
 /// were ever put. The position of each consumer is such a tick, and is kept; so is each later tick, and the newest one.
 /// A switch drops the ticks that aren't above the second step of the one before, and no others. It begins to be pending
 /// for a transaction that hasn't ended, while no other one is, once the rotation period is over, and while neither the
-/// second step of the one before, nor a consumer, nor the newest tick holds it back. One that is made was pending, and is
-/// made at the moment of the call by which its transaction commits; the transaction of one that is pending hasn't ended.
-/// So a transaction commits only once its switches are made, and none is made of one that is rolled back.
+/// second step of the one before, nor a consumer, nor the newest tick holds it back. One that is made was pending, and
+/// is made at the moment of the call by which its transaction commits; the transaction of one that is pending hasn't
+/// ended. So a transaction commits only once its switches are made, and none is made of one that is rolled back.
 pub fn rotation_leaves_what_is_needed()
     ensures tables { TablesHoldWhatWasPut }
     ensures events { NeededEventsAreStored }
@@ -212,4 +212,25 @@ pub fn rotation_leaves_what_is_needed()
     ensures made { SwitchesWerePending }
     ensures commits { SwitchesAreCommitted }
     ensures pending { PendingSwitchesRun }
+{}
+
+/// At each place of each history that calls of a database make, the queue of a root's set stands, and each table of a
+/// root or of a leaf is a table of its database. After the calls each table of a set has one trigger without a name,
+/// which puts events into the set's queue, and no other table has such a trigger; and the tables of a leaf are
+/// read-only, and no others. So, after calls of the world, `add_table` is never refused because a root has no queue, nor
+/// `remove_table` because the table doesn't exist.
+pub fn nodes_match_their_databases()
+    ensures queues { SetsHaveQueues }
+    ensures tables { NodesHaveTables }
+    ensures triggers { SetsHaveTriggers }
+    ensures read_only { LeafTablesAreReadOnly }
+    ensures providers { RootsAreProviders }
+    ensures removed { RemovedTablesExist }
+{}
+
+/// At each such place no session has just written a read-only table, not even by a statement that had waited; and while
+/// a table is read-only, no running transaction of a session has written it.
+pub fn read_only_tables_stay_unwritten()
+    ensures writes { SessionsWriteNoReadOnlyTable }
+    ensures running { ReadOnlyTablesAreUnwritten }
 {}

@@ -139,7 +139,7 @@ pub enum Refusal {
     NoTable(Text),
     /// The queue has no tick of this id; the newest has that one.
     NoTick(u64, u64),
-    /// The node, or for a leaf that a table is to join its provider's set, doesn't have the table.
+    /// The node doesn't have the table; or, if the table is to join a leaf, its provider's set doesn't.
     NotInSet(Text),
     /// The node is a root.
     NotLeaf(Text),
@@ -149,7 +149,8 @@ pub enum Refusal {
     NotProvider(Text),
     /// The sum leaves the range of numbers in this column.
     OutOfRange(Text),
-    /// The transaction of this id is running, and has put an event into the queue.
+    /// The transaction of this id is running, and has put an event into the queue or has a switch of its tables
+    /// pending.
     QueueBusy(u64),
     /// The database has a queue of this name.
     QueueExists(Text),
@@ -157,7 +158,7 @@ pub enum Refusal {
     ReadOnly,
     /// No column may have this name.
     ReservedColumn(Text),
-    /// The queue is a set's, and the type of the event is one of those that tell of rows.
+    /// The queue is a set's, and the type of the event is one of those that record writes of rows.
     ReservedType,
     /// The table has other columns than the provider's.
     SchemaDiffers(Text),

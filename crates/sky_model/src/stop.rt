@@ -6,7 +6,7 @@ use std::alloc::AllocError;
 pub enum Stop {
     /// It is refused, and has changed nothing.
     Refused(Refusal),
-    /// Out of memory. What it has changed isn't said.
+    /// Out of memory. Nothing is said of what it has changed.
     NoMemory,
 }
 

@@ -110,8 +110,8 @@ impl Names {
     }
 }
 
-/// The place of a name among the hints, by its length, its first byte and its last three: most names differ there, and a
-/// long name takes no more steps than a short one.
+/// The place of a name among the hints, by its length, its first byte and its last three: most names differ there, and
+/// a long name takes no more steps than a short one.
 fn hint_place(name: &[u8]) -> usize
     ensures { result < 512 }
 {

@@ -46,7 +46,7 @@ pub(crate) fn append_refusal(
     }
 }
 
-// One on nodes with the name after it, or one of which nothing else is printed.
+// A refusal on nodes, with a name after it, or one that is printed without fields.
 fn append_on_node(refusal: &Refusal, into: &mut Vec<u8>) -> Result<(), NoMemory>
     requires { (is_on_node refusal.now || has_no_field refusal.now) ≡ true }
     ensures ok { (names : List (List ℕ)) → OnOk result (into.new.items ≡ into.old.items ++ refusal_text names refusal.now) }
@@ -67,7 +67,7 @@ fn append_on_node(refusal: &Refusal, into: &mut Vec<u8>) -> Result<(), NoMemory>
     }
 }
 
-// The name of a refusal of which nothing else is printed.
+// The name of a refusal that is printed without fields.
 fn name_alone(refusal: &Refusal) -> &'static [u8]
     requires { has_no_field refusal.now ≡ true }
     ensures { (names : List (List ℕ)) → result.now ≡ refusal_text names refusal.now }

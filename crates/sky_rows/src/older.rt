@@ -122,7 +122,7 @@ impl Older {
         let Some(node) = self.find(list, |other| other == txid) else {
             return Err(version);
         };
-        // Its promise that no node is at two places is needed: another list would lose its version.
+        // Called for its promise that no node is at two places: else another list might lose its version.
         let _size = self.chains.size();
         self.nodes[node] = Some(version);
         Ok(())
@@ -172,7 +172,7 @@ impl Older {
         requires calls { F.IsAlwaysCallable passes }
         ensures { (p : ℕ → Bool) → ((t : ℕ) (b : Bool) → t < 2 ^ 64 → F.post passes t b → b ≡ p t) → IsFound p self.now list result }
     {
-        // Its promise that no node is at two places is needed: by it the path back ends.
+        // Called for its promise that no node is at two places: by it the walk back ends.
         let _size = self.chains.size();
         let mut at = self.chains.last(list);
         while let Some(node) = at {
@@ -211,7 +211,7 @@ impl Older {
         ensures lists { IsTakenOut self.old node self.new }
         ensures nodes { self.new.nodes ≡ slice_set self.old.nodes node None }
     {
-        // Its promise that no node is at two places is needed: another list would lose its version.
+        // Called for its promise that no node is at two places: else another list might lose its version.
         let _size = self.chains.size();
         self.chains.unlink(node);
         self.nodes[node] = None;

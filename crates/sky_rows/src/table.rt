@@ -70,8 +70,10 @@ impl Table {
         &self.schema
     }
 
-    /// The row at the key: the own one if the reading transaction wrote the key, or else the newest
-    /// that the snapshot sees.
+    /// The row at the key, by the visibility rule: the reading transaction's own version if it wrote the key, which its
+    /// snapshot doesn't see; or else the newest version that the snapshot sees. No test for a commit is needed: a
+    /// snapshot sees only ended transactions, and callers `forget` one that is rolled back. They let one transaction at
+    /// a time write a key, so its versions are in the order of their commits.
     pub fn read(&self, key: &Key, snapshot: &Snapshot, own: Option<u64>) -> Option<&Row>
         ensures { option_copied result
             ≡ read snapshot.now own (versions_at key.now self.now.versions) }

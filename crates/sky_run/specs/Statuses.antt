@@ -22,7 +22,7 @@ pub record PrintsWhole (after held new_held : Option (List ℕ)) (bytes : List �
   pub none_bad : bad_line bytes ≡ None
   pub printed : Appends held new_held (transcript bytes)
 
--- a line is bad, the sink got what the lines before the first such print, and the other sink got its number and cause
+-- a line is bad, the sink got what the lines before the first bad one print, and the other sink got its number and cause
 pub record TellsBadLine (held new_held err new_err : Option (List ℕ)) (bytes : List ℕ) : Type 0 where
   pub line : ℕ
   pub cause : Cause

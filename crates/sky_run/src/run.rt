@@ -1,4 +1,4 @@
-ghost use Rattle.std.specs.Prelude.{◌≡◌, ℕ, List, Option, Some, None, Ok, Err, [], ◌∷◌, ◌++◌, ◌+◌, ◌<◌, ◌≤◌, IfOk, IfErr, IsErrOf, OnOk, OnErr, length, true};
+ghost use Rattle.std.specs.Prelude.{◌≡◌, ℕ, List, Option, Some, None, Ok, Err, [], ◌∷◌, ◌++◌, ◌+◌, ◌<◌, ◌≤◌, IfOk, IfErr, IsErrOf, OnOk, OnErr, length, true, false, not};
 ghost use Rattle.std.specs.Io.KnownBytes.{Appends};
 ghost use Rattle.sky_io.specs.Appends.{AppendsPrefix};
 ghost use Rattle.sky_io.specs.Faults.{Rose};
@@ -6,6 +6,7 @@ ghost use Rattle.sky_model.specs.Kinds.{is_name};
 ghost use Rattle.sky_model.specs.InForm.{IsInForm, IsLineInForm};
 ghost use Rattle.sky_model.specs.Transcript.{said_by, most_in_script};
 ghost use Rattle.sky_model.specs.World.{world_of};
+ghost use Rattle.sky_lines.specs.Reader.{is_at_hand};
 ghost use Rattle.sky_world.specs.Seen.{seen_world};
 ghost use Rattle.sky_run.specs.Running.{Answers, Called, said_in};
 ghost use Rattle.sky_run.specs.Goes.{IsFresh, Counts, Goes, SameButGathered};
@@ -111,7 +112,9 @@ impl Run {
     }
 
     // Whether the next line needs more of the source.
-    fn reads(&self) -> bool {
+    fn reads(&self) -> bool
+        ensures { result ≡ not (is_at_hand self.now.reader) }
+    {
         !self.reader.is_at_hand()
     }
 
@@ -120,9 +123,10 @@ impl Run {
         self.gathered.len() > MOST_GATHERED
     }
 
-    // Takes the next line and answers it.
+    // Takes the next line and answers it. The source may be read only if nothing is still to be written.
     fn line<S: Source>(&mut self, src: &mut S) -> Result<(), End>
-        requires { Counts self.old }
+        requires counts { Counts self.old }
+        requires written { is_at_hand self.old.reader ≡ false → self.old.gathered.items ≡ [] }
         ensures goes { OnOk result ((first held : Option (List ℕ)) (bytes : List ℕ) → Goes self.old (S.left src.old) first held bytes
             → Goes self.new (S.left src.new) first held bytes) }
         ensures counts { OnOk result (Counts self.new) }
@@ -234,12 +238,13 @@ impl Run {
         }
     }
 
-    // Writes what was answered, if that is wanted.
+    // Writes what was answered, if `wanted`.
     fn write_where<O: Sink>(&mut self, wanted: bool, out: &mut O) -> Result<(), End>
         ensures goes { OnOk result ((source first : Option (List ℕ)) (bytes : List ℕ) → Goes self.old source first (O.held out.old) bytes
             → Goes self.new source first (O.held out.new) bytes) }
         ensures ends { IfErr result (λ end. (source after first : Option (List ℕ)) (bytes : List ℕ) → Goes self.old source first (O.held out.old) bytes
             → Ends end after first (O.held out.new) [] bytes) }
+        ensures emptied { wanted ≡ true → OnOk result (self.new.gathered.items ≡ []) }
         ensures same { SameButGathered self.old self.new }
         ensures never_reads { ¬ (IsErrOf result End.Read) }
         ensures write { IsErrOf result End.Write → Rose (O.faults out.old) (O.faults out.new) }

@@ -9,7 +9,7 @@ use clap::error::ErrorKind;
 use clap::{Arg, ArgAction, ArgMatches, Command, Error};
 use std::alloc::{AllocError, Global};
 
-/// A call has no more words than these.
+/// The most words that a call has.
 const MOST_WORDS: usize = 4;
 
 /// Whether the words are the one word `run`. More words than a call has, and a word that begins

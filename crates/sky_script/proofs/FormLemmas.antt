@@ -3,12 +3,12 @@ use Rattle.std.proofs.Common.{◌≡◌, ℕ, Bool, true, false, ◌==◌, ◌&&
 use Rattle.std.proofs.lemmas.Bool.{lt-ltb}
 use Rattle.std.proofs.lemmas.Slice.Eq.{bytes_eq-Decides}
 use Rattle.sky_model.specs.declared.stmt.Stmt.{Stmt}
-use Rattle.sky_model.specs.Grammar.{Row, all_forms, named_form}
+use Rattle.sky_model.specs.Grammar.{GrammarRow, all_forms, named_form}
 use Rattle.sky_script.specs.declared.cause.LineCause.{LineCause}
 use Rattle.sky_script.specs.Unread.{Unread}
 use Rattle.sky_script.specs.Reading.{AnswersAmong, of_six, of_twelve, of_short, of_middle, of_long}
 
-named_form-filter : (p : ℕ → Bool) (w : List ℕ) (forms : List (List ℕ × Row)) → p (length w) ≡ true
+named_form-filter : (p : ℕ → Bool) (w : List ℕ) (forms : List (List ℕ × GrammarRow)) → p (length w) ≡ true
     → named_form w (filter (λ form. p (length form.0)) forms) ≡ named_form w forms
 named_form-filter p w [] passes = refl
 named_form-filter p w (form ∷ forms) passes =

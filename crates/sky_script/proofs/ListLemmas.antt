@@ -3,7 +3,7 @@ use Rattle.std.proofs.Common.{◌≡◌, ◌≢◌, List, [], ◌∷◌, ◌++�
 use Rattle.sky_model.specs.declared.stmt.Stmt.{Stmt}
 use Rattle.sky_model.specs.declared.line.Fixed.{Fixed}
 use Rattle.sky_model.specs.Kinds.{Kind, Of}
-use Rattle.sky_model.specs.Grammar.{Row, stop, literal, many, some, some_until}
+use Rattle.sky_model.specs.Grammar.{GrammarRow, stop, literal, many, some, some_until}
 use Rattle.sky_script.specs.declared.cause.LineCause.{LineCause}
 use Rattle.sky_script.specs.declared.cause.LineCause.TheVariants.{NoMemory}
 use Rattle.sky_script.specs.Unread.{Unread}
@@ -11,14 +11,14 @@ use Rattle.sky_script.specs.Reading.{Answers, Goes, Stops, GoesLast, StopsLast, 
 use Rattle.sky_script.proofs.ReadingLemmas.{many_ends, many_goes_on}
 
 -- these values were read, and more follow: what answers those answers the list; `tail` is what follows a list
-pub record SoFar {X : Type 0} (tail : X → Row) (k : Kind) (vs : List (Of k)) (old now : Unread) : Type 0 where
+pub record SoFar {X : Type 0} (tail : X → GrammarRow) (k : Kind) (vs : List (Of k)) (old now : Unread) : Type 0 where
   pub behind : (r : Result Stmt LineCause) (make : List (Of k) → X) → Answers r (some k (λ more. tail (make (vs ++ more)))) now → Answers r (some k (λ all. tail (make all))) old
 
-pub so_far_none : {X : Type 0} (tail : X → Row) (k : Kind) (at : Unread) → SoFar tail k [] at at
+pub so_far_none : {X : Type 0} (tail : X → GrammarRow) (k : Kind) (at : Unread) → SoFar tail k [] at at
 so_far_none tail k at = record { behind = λ r make rest. rest }
 
 -- more follow after one
-so_far_one : {X : Type 0} (tail : X → Row) (k : Kind) (vs : List (Of k)) (v : Of k) (old now new : Unread) → SoFar tail k vs old now → Goes k v now new
+so_far_one : {X : Type 0} (tail : X → GrammarRow) (k : Kind) (vs : List (Of k)) (v : Of k) (old now new : Unread) → SoFar tail k vs old now → Goes k v now new
     → ((r : Result Stmt LineCause) (make : List (Of k) → X) → Answers r (some k (λ ws. tail (make ws))) new → Answers r (many k (λ ws. tail (make ws))) new)
     → SoFar tail k (vs ++ v ∷ []) old new
 so_far_one {X} tail k vs v old now new so goes goes_on = record {
@@ -43,12 +43,12 @@ unfolding Answers
 last_memory k cause old is = λ make. rw is tt
 
 pub until_more : (end : Fixed) (k : Kind) (vs : List (Of k)) (v : Of k) (old now new : Unread) → SoFar (literal end) k vs old now → Goes k v now new
-    → ((r : Result Stmt LineCause) (f : List (Of k) → Row) → Answers r (some_until end k f) new → Answers r (many k (λ ws. literal end (f ws))) new)
+    → ((r : Result Stmt LineCause) (f : List (Of k) → GrammarRow) → Answers r (some_until end k f) new → Answers r (many k (λ ws. literal end (f ws))) new)
     → SoFar (literal end) k (vs ++ v ∷ []) old new
 until_more end k vs v old now new so goes goes_on = so_far_one (literal end) k vs v old now new so goes goes_on
 
 pub until_ends : (end : Fixed) (k : Kind) (vs : List (Of k)) (v : Of k) (old now at new : Unread) → SoFar (literal end) k vs old now → Goes k v now at
-    → ((r : Result Stmt LineCause) (f : List (Of k) → Row) → Answers r (f []) new → Answers r (many k (λ ws. literal end (f ws))) at)
+    → ((r : Result Stmt LineCause) (f : List (Of k) → GrammarRow) → Answers r (f []) new → Answers r (many k (λ ws. literal end (f ws))) at)
     → GoesUntil end k (vs ++ v ∷ []) old new
 until_ends end k vs v old now at new so goes ends = λ r f rest.
     so.behind r f (goes.on r (λ w. many k (λ ws. literal end (f (vs ++ w ∷ ws)))) (ends r (λ ws. f (vs ++ v ∷ ws)) rest))

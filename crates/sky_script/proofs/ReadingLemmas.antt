@@ -4,7 +4,7 @@ use Rattle.std.proofs.lemmas.Slice.Eq.{bytes_eq-Decides}
 use Rattle.sky_model.specs.declared.stmt.Stmt.{Stmt}
 use Rattle.sky_model.specs.Kinds.{Kind, Of, value}
 use Rattle.sky_model.specs.declared.line.Fixed.{Fixed}
-use Rattle.sky_model.specs.Grammar.{Row, stop, literal, either, many, some_last, some_until, text_of}
+use Rattle.sky_model.specs.Grammar.{GrammarRow, stop, literal, either, many, some_last, some_until, text_of}
 use Rattle.sky_model.proofs.FirstWords.{HasFirst, has_first}
 use Rattle.sky_script.specs.declared.cause.LineCause.{LineCause}
 use Rattle.sky_script.specs.declared.cause.LineCause.TheVariants.{BadWord, NoMemory}
@@ -35,7 +35,7 @@ unfolding Answers
 stops_memory k old = record { bad = λ f. tt }
 
 -- if memory ran out, that answers any row
-pub answers_memory : (cause : LineCause) (row : Row) (at : Unread) → cause ≡ NoMemory → Answers (Err cause) row at
+pub answers_memory : (cause : LineCause) (row : GrammarRow) (at : Unread) → cause ≡ NoMemory → Answers (Err cause) row at
 unfolding Answers
 answers_memory cause row at is = rw is tt
 
@@ -49,7 +49,7 @@ has_first_of [] some = absurd (some refl)
 has_first_of (w ∷ ws) some = record { first = w; others = ws; is = refl }
 
 -- if a word is left, a row that may end there continues as its other side
-pub either_goes_on : (r : Result Stmt LineCause) (stmt : Stmt) (row : Row) (at : Unread) → HasFirst at.left → Answers r row at → Answers r (either (stop stmt) row) at
+pub either_goes_on : (r : Result Stmt LineCause) (stmt : Stmt) (row : GrammarRow) (at : Unread) → HasFirst at.left → Answers r row at → Answers r (either (stop stmt) row) at
 unfolding Answers
 either_goes_on r stmt row at some rest = rw some.is (rw some.is at rest)
 
@@ -64,18 +64,18 @@ has_first_in None more = absurd (cc)
 has_first_in (Some bytes) more = has_first bytes.now
 
 -- the next word is the fixed one
-pub goes_fixed : (fixed : Fixed) (w : List ℕ) (old new : Unread) (r : Result Stmt LineCause) (row : Row)
+pub goes_fixed : (fixed : Fixed) (w : List ℕ) (old new : Unread) (r : Result Stmt LineCause) (row : GrammarRow)
     → old.left ≡ w ∷ new.left → new.number ≡ old.number + 1 → bytes_eq w (text_of fixed) ≡ true → Answers r row new → Answers r (literal fixed row) old
 unfolding Answers
 goes_fixed fixed w old new r row first number same rest = rw (first, same, ← number) rest
 
 -- the next word is another
-pub stops_fixed : (fixed : Fixed) (w : List ℕ) (ws : List (List ℕ)) (old : Unread) (row : Row) → old.left ≡ w ∷ ws → bytes_eq w (text_of fixed) ≡ false → Answers (Err (BadWord old.number)) (literal fixed row) old
+pub stops_fixed : (fixed : Fixed) (w : List ℕ) (ws : List (List ℕ)) (old : Unread) (row : GrammarRow) → old.left ≡ w ∷ ws → bytes_eq w (text_of fixed) ≡ false → Answers (Err (BadWord old.number)) (literal fixed row) old
 unfolding Answers
 stops_fixed fixed w ws old row first other = rw (first, other) refl
 
 -- no word is left
-pub stops_fixed_end : (fixed : Fixed) (old : Unread) (row : Row) → old.left ≡ [] → Answers (Err (BadWord old.number)) (literal fixed row) old
+pub stops_fixed_end : (fixed : Fixed) (old : Unread) (row : GrammarRow) → old.left ≡ [] → Answers (Err (BadWord old.number)) (literal fixed row) old
 unfolding Answers
 stops_fixed_end fixed old row none = rw none refl
 
@@ -92,7 +92,7 @@ many_goes_on k r make at some rest =
     rw first.is (rw first.is at rest)
 
 -- any words end before a fixed word that isn't of their kind
-pub many_ends_at : (fixed : Fixed) (k : Kind) (w : List ℕ) (ws : List (List ℕ)) (r : Result Stmt LineCause) (f : List (Of k) → Row) (at : Unread)
+pub many_ends_at : (fixed : Fixed) (k : Kind) (w : List ℕ) (ws : List (List ℕ)) (r : Result Stmt LineCause) (f : List (Of k) → GrammarRow) (at : Unread)
     → at.left ≡ w ∷ ws → bytes_eq w (text_of fixed) ≡ true → value k (text_of fixed) ≡ None → Answers r (literal fixed (f [])) at → Answers r (many k (λ vs. literal fixed (f vs))) at
 unfolding Answers
 many_ends_at fixed k w ws r f at first same none rest =
@@ -100,13 +100,13 @@ many_ends_at fixed k w ws r f at first same none rest =
     rw (first, same, worthless) (rw (first, same) at rest)
 
 -- any words continue before another word
-pub many_goes_on_at : (fixed : Fixed) (k : Kind) (w : List ℕ) (ws : List (List ℕ)) (r : Result Stmt LineCause) (f : List (Of k) → Row) (at : Unread)
+pub many_goes_on_at : (fixed : Fixed) (k : Kind) (w : List ℕ) (ws : List (List ℕ)) (r : Result Stmt LineCause) (f : List (Of k) → GrammarRow) (at : Unread)
     → at.left ≡ w ∷ ws → bytes_eq w (text_of fixed) ≡ false → Answers r (some_until fixed k f) at → Answers r (many k (λ vs. literal fixed (f vs))) at
 unfolding Answers
 many_goes_on_at fixed k w ws r f at first other rest = rw (first, other) (rw first at rest)
 
 -- and if no word is left
-pub many_goes_on_end : (fixed : Fixed) (k : Kind) (r : Result Stmt LineCause) (f : List (Of k) → Row) (at : Unread)
+pub many_goes_on_end : (fixed : Fixed) (k : Kind) (r : Result Stmt LineCause) (f : List (Of k) → GrammarRow) (at : Unread)
     → at.left ≡ [] → Answers r (some_until fixed k f) at → Answers r (many k (λ vs. literal fixed (f vs))) at
 unfolding Answers
 many_goes_on_end fixed k r f at none rest = rw none (rw none at rest)

@@ -19,8 +19,8 @@ use crate::words::Words;
 use sky_model::{RowStmt, Stmt};
 use std::alloc::Global;
 
-/// The statement with this first word, of the words after it. Only forms whose first word has six bytes, twelve, fewer
-/// than six, between six and twelve, or more than twelve are compared, by how many it has.
+/// The statement with this first word, of the words after it. It is compared only with
+/// those of its group, by length: six bytes, twelve, fewer than six, between six and twelve, more than twelve.
 #[tactic(auto, using(crate::proofs::FormLemmas::among_six, crate::proofs::FormLemmas::among_twelve, crate::proofs::FormLemmas::among_short, crate::proofs::FormLemmas::among_middle, crate::proofs::FormLemmas::among_long))]
 pub(crate) fn read_form(alloc: Global, first: &[u8], words: &mut Words) -> Result<Stmt, LineCause>
     ensures { AnswersAmong result first.now all_forms words.old }

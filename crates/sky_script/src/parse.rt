@@ -49,7 +49,7 @@ pub fn parse_line(alloc: Global, line: &[u8]) -> Result<Line, LineCause>
     ensures answer { IsUtf8 line.now → IsAnswer result (line_of line.now) }
     ensures in_form { IfOk result (λ says. IsLineInForm says) }
 {
-    // The one test: what is taken of the line from here on is a text because the line is one.
+    // The only test for UTF-8: what is taken of the line from here on is a text because the line is one.
     match str::from_utf8(line) {
         Ok(line) => read_line(alloc, line),
         Err(_) => Err(LineCause::NotUtf8),

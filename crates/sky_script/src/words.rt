@@ -5,7 +5,7 @@ ghost use Rattle.sky_model.specs.declared.stmt.Stmt.{Stmt};
 ghost use Rattle.sky_model.specs.Words.{words};
 ghost use Rattle.sky_model.specs.Kinds.{Kind, Name, Dotted, Number, OptText, Raw, Of, value};
 ghost use Rattle.sky_model.specs.Kinds as kind;
-ghost use Rattle.sky_model.specs.Grammar.{Row, stop, literal, either, many, next, optional, text_of, some_until, line_of_words, run_of, statement_of};
+ghost use Rattle.sky_model.specs.Grammar.{GrammarRow, stop, literal, either, many, next, optional, text_of, some_until, line_of_words, run_of, statement_of};
 ghost use Rattle.sky_script.specs.Unread.{words_in, in_quotes, EndsWord};
 ghost use Rattle.sky_script.specs.Reading.{Answers, IsAnswer, Reads};
 
@@ -90,8 +90,8 @@ fn split_word(text: &str) -> (&str, Option<&str>)
     (&text[..end], Some(&text[end + 1..]))
 }
 
-/// What is between the quotes of the word that a text begins with, and what follows the space that ends the word: only if
-/// each byte between them stands for itself. Most texts are so, and each byte of these is compared once.
+/// What is between the quotes of the word that a text begins with, and what follows the space that ends the word: only
+/// if each byte between them stands for itself. Most texts are so, and each byte of these is compared once.
 fn split_text(text: &str) -> Option<(&str, Option<&str>)>
     ensures split { IfSome result (λ found. words text.now ≡ in_quotes found.0.now ∷ words_in (option_copied found.1)) }
     ensures text { IfSome result (λ found. kind.quoted_text (in_quotes found.0.now) ≡ Some found.0.now) }
@@ -174,16 +174,16 @@ impl<'a> Words<'a> {
     }
 }
 
-// A reader of a kind says what it read by the rows that may continue so, and a statement form's function then says what
-// its row says.
+// A reader of a word promises its answer for every row of the grammar that begins with such a word. The contract of a
+// statement form's function follows for the form's own row.
 #[tactic(auto, using(crate::proofs::ReadingLemmas::one_word), unfolding(crate::specs::Reading::Answers))]
 impl<'a> Words<'a> {
     /// Whether no word is left.
     pub(crate) fn at_end(&self) -> bool
         ensures at_end { result ≡ true →
-            (stmt : Stmt) (row : Row) → Answers (Ok stmt) (either (stop stmt) row) self.now }
+            (stmt : Stmt) (row : GrammarRow) → Answers (Ok stmt) (either (stop stmt) row) self.now }
         ensures goes_on { result ≡ false →
-            (r : Result Stmt LineCause) (stmt : Stmt) (row : Row) →
+            (r : Result Stmt LineCause) (stmt : Stmt) (row : GrammarRow) →
             Answers r row self.now → Answers r (either (stop stmt) row) self.now }
         ensures none { result ≡ true → self.now.left ≡ [] }
         ensures some { result ≡ false → self.now.left ≢ [] }
@@ -204,9 +204,9 @@ impl<'a> Words<'a> {
 
     /// A fixed word.
     pub(crate) fn fixed(&mut self, fixed: Fixed) -> Result<(), LineCause>
-        ensures ok { IfOk result (λ _. (r : Result Stmt LineCause) (row : Row) →
+        ensures ok { IfOk result (λ _. (r : Result Stmt LineCause) (row : GrammarRow) →
             Answers r row self.new → Answers r (literal fixed row) self.old) }
-        ensures err { IfErr result (λ cause. (row : Row) → Answers (Err cause) (literal fixed row) self.old) }
+        ensures err { IfErr result (λ cause. (row : GrammarRow) → Answers (Err cause) (literal fixed row) self.old) }
     {
         if self.word()? != fixed_text(fixed) {
             return Err(self.refused());
@@ -217,10 +217,10 @@ impl<'a> Words<'a> {
     /// Takes a fixed word if it comes next, after words of a kind that it isn't of.
     pub(crate) fn take_fixed(&mut self, fixed: Fixed) -> bool
         ensures ends { result ≡ true →
-            (k : Kind) (r : Result Stmt LineCause) (f : List (Of k) → Row) → value k (text_of fixed) ≡ None →
+            (k : Kind) (r : Result Stmt LineCause) (f : List (Of k) → GrammarRow) → value k (text_of fixed) ≡ None →
             Answers r (f []) self.new → Answers r (many k (λ vs. literal fixed (f vs))) self.old }
         ensures goes_on { result ≡ false →
-            (k : Kind) (r : Result Stmt LineCause) (f : List (Of k) → Row) →
+            (k : Kind) (r : Result Stmt LineCause) (f : List (Of k) → GrammarRow) →
             Answers r (some_until fixed k f) self.old → Answers r (many k (λ vs. literal fixed (f vs))) self.old }
         ensures same { result ≡ false → self.new ≡ self.old }
     {
@@ -236,9 +236,9 @@ impl<'a> Words<'a> {
         true
     }
 
-    /// Takes a fixed word, if it comes next: when a row continues without it, it continues with another word.
+    /// Takes a fixed word, if it comes next. Without it the row can't continue with the same word.
     pub(crate) fn skip(&mut self, fixed: Fixed) -> bool
-        ensures { (f : Bool → Row) → next (f false) (text_of fixed) ≡ [] →
+        ensures { (f : Bool → GrammarRow) → next (f false) (text_of fixed) ≡ [] →
             (r : Result Stmt LineCause) → Answers r (f result) self.new → Answers r (optional fixed f) self.old }
     {
         match self.rest {
@@ -313,7 +313,7 @@ impl<'a> Words<'a> {
         }
     }
 
-    // Never inlined, so that the text above is made where it is wanted.
+    // Never inlined, so that the text above is made where it is needed.
     #[inline(never)]
     fn null_or_text(&mut self, alloc: Global) -> Result<Option<Text>, LineCause>
         ensures { Reads OptText result self.old self.new }

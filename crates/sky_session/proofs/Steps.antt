@@ -13,15 +13,15 @@ use Rattle.sky_val.specs.declared.val.Val.{Val}
 use Rattle.sky_val.specs.Schemas.{key_columns}
 use Rattle.sky_model.specs.ShownRows.{RowsShown, rows_by}
 use Rattle.sky_model.specs.StepRows.{table_called, fits, row_or_none, get}
-use Rattle.sky_model.specs.Outcome.{Outcome, Checked, ◌>>=◌, ◌>>◌, does_marks, settled}
+use Rattle.sky_model.specs.Outcome.{Outcome, Checked, ◌>>=◌, ◌>>◌, does_marks, or_refused}
 use Rattle.sky_model.specs.Allowed.{where_of_row, allowed}
 use Rattle.sky_model.specs.Made.{Making, takes_sight, runs, looking, runs_if}
-use Rattle.sky_model.specs.OwnTransaction.{own_or_next, txid_for, begin_of, commit_of, written}
+use Rattle.sky_model.specs.OwnTransaction.{own_or_next, txid_for, begin_of, commit_of, in_own}
 use Rattle.sky_model.specs.StepSession.{txid_current}
 use Rattle.sky_model.specs.Reader.{part_by_itself}
 use Rattle.sky_model.specs.Gates.{Gate, passed_all, gated, by_gate, open_gate}
 use Rattle.sky_model.specs.Calls.{row_form, row_making, row_statement}
-use Rattle.sky_model.specs.Settling.{Turn, turn_of, joined, behind_marks, settling, with_settling}
+use Rattle.sky_model.specs.Settling.{Turn, turn_of, with_rest, behind_marks, settling, with_settling}
 use Rattle.sky_model.proofs.GatedLemmas.{gated-behind, passed-append, passed-none, gated-none, PlainOutcome, NoticesNone}
 use Rattle.sky_session.specs.declared.answer.RowStep.{RowStep}
 use Rattle.sky_session.specs.declared.effect.Effect.TheVariants.{Wrote, Committed, Aborted}
@@ -76,7 +76,7 @@ begun-block d who t (Some own) = refl
 
 -- what is done in the transaction, and its end if it is of one statement
 pub part-written : (d one two three : RowPart) (who t : ℕ) (marks : List Mark) → one ≡ after_part_marks d (begin_of who t (d.session who).txid) → two ≡ after_part_marks one marks
-    → (two.session who).block ≡ (d.session who).block → three ≡ after_part_marks two (commit_of who t (two.session who).block) → three ≡ after_part_marks d (written who t (d.session who) marks)
+    → (two.session who).block ≡ (d.session who).block → three ≡ after_part_marks two (commit_of who t (two.session who).block) → three ≡ after_part_marks d (in_own who t (d.session who) marks)
 part-written d one two three who t marks first second same third =
     third ∙ ap (λ block. after_part_marks two (commit_of who t block)) same
     ∙ ap (λ p. after_part_marks p ends) (second ∙ ap (λ p. after_part_marks p marks) first ∙ sym (after-append d begins marks))
@@ -97,7 +97,7 @@ pub does-take : (d begun new : RowPart) (before after : RowStep) (who t : ℕ) �
     → new ≡ after_part_marks begun (commit_of who t (begun.session who).block) → after.replies ≡ before.replies ++ (who, Number t) ∷ []
     → after.effects ≡ with_effects before.effects (commit_of who t (begun.session who).block) → Does d new before after who (txid_current d who)
 does-take d begun new before after who t is begin end replied told =
-    subst (λ checked. Does d new before after who (checked >>= (λ u. does_marks (Number u) (written who u (d.session who) [])))) (sym is) (record {
+    subst (λ checked. Does d new before after who (checked >>= (λ u. does_marks (Number u) (in_own who u (d.session who) [])))) (sym is) (record {
       accepted = refl;
       replied = replied;
       told = told ∙ ap (λ b. with_effects before.effects (commit_of who t b)) blocks ∙ sym (begun-told before.effects who t (d.session who).txid [] (commit_of who t (d.session who).block));
@@ -109,7 +109,7 @@ does-take d begun new before after who t is begin end replied told =
 
 -- the same, by an id that is taken and a transaction that ends if it is of one statement
 pub taken-ended : (d begun new : RowPart) (who t : ℕ) → txid_for d who ≡ Ok t → begun ≡ after_part_marks d (begin_of who t (d.session who).txid)
-    → new ≡ after_part_marks begun (ending begun who).marks → new ≡ after_part_marks d (written who t (d.session who) [])
+    → new ≡ after_part_marks begun (ending begun who).marks → new ≡ after_part_marks d (in_own who t (d.session who) [])
 taken-ended d begun new who t is begin end =
     part-written d begun begun new who t [] begin refl (ap (λ (p : RowPart). (p.session who).block) begin ∙ begun-block d who t (d.session who).txid)
     (end ∙ ap (after_part_marks begun) (ap (λ o. single_end who o (begun.session who).block) (begun-txid d begun who t is begin) ∙ single (begun.session who).block))
@@ -119,7 +119,7 @@ taken-ended d begun new who t is begin end =
     single _ = refl
 
 -- so both calls make the same
-pub elsewhere-steps : (d new : RowPart) (who t : ℕ) → txid_for d who ≡ Ok t → new ≡ after_part_marks d (written who t (d.session who) [])
+pub elsewhere-steps : (d new : RowPart) (who t : ℕ) → txid_for d who ≡ Ok t → new ≡ after_part_marks d (in_own who t (d.session who) [])
     → RowSteps d (after_part_marks d (taking d who).marks) (txid_taken who) (taking d who)
     × RowSteps (after_part_marks d (taking d who).marks) new (single_ended who) (ending (after_part_marks d (taking d who).marks) who)
 elsewhere-steps d new who t is changed = (
@@ -135,7 +135,7 @@ elsewhere-steps d new who t is changed = (
 
 -- a turn is added after another
 pub adds-behind : {G : Type 0} (gate : Gate G) (old mid new : RowPart × G) (before middle after : RowStep) (turn rest : Turn) → Adds gate old mid before middle turn → Adds gate mid new middle after rest
-    → Adds gate old new before after (joined turn rest)
+    → Adds gate old new before after (with_rest turn rest)
 adds-behind gate old mid new before middle after turn rest first second = record {
   replied = second.replied ∙ ap (λ rs. rs ++ rest.answers) first.replied ∙ append_assoc before.replies turn.answers rest.answers;
   told = second.told ∙ ap (λ e. with_effects e rest.marks) first.told ∙ with-append before.effects turn.marks rest.marks;
@@ -165,28 +165,28 @@ entered d mid who place there found r same is enters = subst (λ p. Enters d mid
 
 -- a statement that its session may not make is refused
 pub adds-barred : {G : Type 0} (gate : Gate G) (g : G) (d mid : RowPart) (new : RowPart × G) (before after : RowStep) (who : ℕ) (stmt : RowStmt) (refusal : Refusal) → allowed (is_waiting who d.waiting) (d.session who).is_open (d.session who).block (where_of_row stmt) ≡ Err refusal
-    → mid ≡ d → Adds gate (mid, g) new before after (turn_of who (settled who (mid.session who) (Err refusal))) → Adds gate (d, g) new before after (turn_of who (row_statement (by_gate gate part_by_itself) (d, g) who stmt))
+    → mid ≡ d → Adds gate (mid, g) new before after (turn_of who (or_refused who (mid.session who) (Err refusal))) → Adds gate (d, g) new before after (turn_of who (row_statement (by_gate gate part_by_itself) (d, g) who stmt))
 adds-barred gate g d mid new before after who stmt refusal is same adds =
     subst (λ checked. Adds gate (d, g) new before after (turn_of who (runs_if (row_making (by_gate gate part_by_itself) who stmt) (where_of_row stmt) who (d, g) checked))) (sym is)
-    (subst (λ (p : RowPart). Adds gate (p, g) new before after (turn_of who (settled who (p.session who) (Err refusal)))) same adds)
+    (subst (λ (p : RowPart). Adds gate (p, g) new before after (turn_of who (or_refused who (p.session who) (Err refusal)))) same adds)
 
 -- one that is refused when it is run aborts its session's block
 pub adds-refused : {G : Type 0} (gate : Gate G) (old mid : RowStateView × G) (new : RowPart × G) (before middle after : RowStep) (who : ℕ) (refusal : Refusal) (checked : Checked Outcome)
-    → Runs gate old mid before middle who (Err (stop.Refused refusal)) checked → Adds gate (seen mid.0, mid.1) new middle after (turn_of who (settled who ((seen mid.0).session who) (Err refusal)))
-    → Adds gate (seen old.0, old.1) new before after (turn_of who (settled who ((seen old.0).session who) checked))
+    → Runs gate old mid before middle who (Err (stop.Refused refusal)) checked → Adds gate (seen mid.0, mid.1) new middle after (turn_of who (or_refused who ((seen mid.0).session who) (Err refusal)))
+    → Adds gate (seen old.0, old.1) new before after (turn_of who (or_refused who ((seen old.0).session who) checked))
 adds-refused {G} gate old mid new before middle after who refusal checked runs adds =
-    subst (λ o. Adds gate (seen old.0, old.1) new before after (turn_of who (settled who ((seen old.0).session who) o))) (sym runs.ran.0.refused)
-    (subst (λ (p : (RowPart × G) × RowStep). Adds gate p.0 new p.1 after (turn_of who (settled who (p.0.0.session who) (Err refusal)))) (λ i. ((runs.ran.0.same i, runs.passes i), runs.ran.1 i)) adds)
+    subst (λ o. Adds gate (seen old.0, old.1) new before after (turn_of who (or_refused who ((seen old.0).session who) o))) (sym runs.ran.0.refused)
+    (subst (λ (p : (RowPart × G) × RowStep). Adds gate p.0 new p.1 after (turn_of who (or_refused who (p.0.0.session who) (Err refusal)))) (λ i. ((runs.ran.0.same i, runs.passes i), runs.ran.1 i)) adds)
 
 -- and one that isn't refused does what its outcome says
 pub adds-done : {G : Type 0} (gate : Gate G) (old new : RowStateView × G) (before after : RowStep) (who : ℕ) (checked : Checked Outcome) → Runs gate old new before after who (Ok tt) checked
-    → Adds gate (seen old.0, old.1) (seen new.0, new.1) before after (turn_of who (settled who ((seen old.0).session who) checked))
+    → Adds gate (seen old.0, old.1) (seen new.0, new.1) before after (turn_of who (or_refused who ((seen old.0).session who) checked))
 adds-done gate old new before after who (Ok outcome) runs = record { replied = runs.ran.replied; told = runs.ran.told; changed = runs.ran.changed; passed = runs.passes }
 adds-done gate old new before after who (Err refusal) runs = absurd (cc (Does.accepted runs.ran))
 
 -- a statement whose block's snapshot was taken before it
 pub adds-made : {G : Type 0} (gate : Gate G) (g : G) (d mid : RowPart) (new : RowPart × G) (before after : RowStep) (who : ℕ) (stmt : RowStmt) → allowed (is_waiting who d.waiting) (d.session who).is_open (d.session who).block (where_of_row stmt) ≡ Ok tt
-    → mid ≡ after_part_marks d (sight_marks d who (where_of_row stmt)) → Adds gate (mid, g) new before after (turn_of who (settled who (mid.session who) (gated gate g (row_form mid (rows_by mid) who stmt))))
+    → mid ≡ after_part_marks d (sight_marks d who (where_of_row stmt)) → Adds gate (mid, g) new before after (turn_of who (or_refused who (mid.session who) (gated gate g (row_form mid (rows_by mid) who stmt))))
     → Adds gate (d, g) new before after (turn_of who (row_statement (by_gate gate part_by_itself) (d, g) who stmt))
 adds-made {G} gate g d mid new before after who stmt is look adds =
     subst (λ checked. Adds gate (d, g) new before after (turn_of who (runs_if making (where_of_row stmt) who (d, g) checked))) (sym is)

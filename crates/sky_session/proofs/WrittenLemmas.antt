@@ -8,7 +8,7 @@ use Rattle.sky_model.specs.State.{RowPart, after_part, after_part_marks}
 use Rattle.sky_model.specs.declared.reply.Reply.TheVariants.{Number}
 use Rattle.sky_model.specs.declared.reply.Refusal.TheVariants.{EventIdsSpent}
 use Rattle.sky_model.specs.Outcome.{◌>>=◌, ◌>>◌, refused_if, does_marks}
-use Rattle.sky_model.specs.OwnTransaction.{txid_for, begin_of, commit_of, written}
+use Rattle.sky_model.specs.OwnTransaction.{txid_for, begin_of, commit_of, in_own}
 use Rattle.sky_model.specs.StepRows.{writes_key}
 use Rattle.sky_model.specs.Gates.{Gate, takes_all, gated}
 use Rattle.sky_session.proofs.Steps.{begun-txid, begun-block}
@@ -42,7 +42,7 @@ and-true false = refl
 
 -- of what a session writes a gate is asked for the write alone
 written-takes : {G : Type 0} (gate : Gate G) (g : G) (who t : ℕ) (s : Session) (table : ℕ) (key : List Val) (old new : Option (List Val))
-    → takes_all gate g (written who t s (tabled (wrote (of_session who) t table key old new) ∷ [])) ≡ gate.has_room g (record { table = table; old = old; new = new })
+    → takes_all gate g (in_own who t s (tabled (wrote (of_session who) t table key old new) ∷ [])) ≡ gate.has_room g (record { table = table; old = old; new = new })
 written-takes gate g who t s table key old new = of s.txid s.block
   where
     of : (o : Option ℕ) (b : Block)
@@ -57,8 +57,8 @@ written-takes gate g who t s table key old new = of s.txid s.block
 -- what a write does if the gate has room for it
 pub gated-has_room : {G : Type 0} (gate : Gate G) (g : G) (d : RowPart) (who t table : ℕ) (key : List Val) (old new : Option (List Val)) → txid_for d who ≡ Ok t
     → gate.has_room g (record { table = table; old = old; new = new }) ≡ true
-    → gated gate g (writes_key d who table key old new) ≡ does_marks (Number 1) (written who t (d.session who) (tabled (wrote (of_session who) t table key old new) ∷ []))
+    → gated gate g (writes_key d who table key old new) ≡ does_marks (Number 1) (in_own who t (d.session who) (tabled (wrote (of_session who) t table key old new) ∷ []))
 gated-has_room gate g d who t table key old new is room =
-    ap (λ c. gated gate g (c >>= (λ u. does_marks (Number 1) (written who u (d.session who) (tabled (wrote (of_session who) u table key old new) ∷ []))))) is
-    ∙ ap (λ b. refused_if (not b) EventIdsSpent >> does_marks (Number 1) (written who t (d.session who) (tabled (wrote (of_session who) t table key old new) ∷ [])))
+    ap (λ c. gated gate g (c >>= (λ u. does_marks (Number 1) (in_own who u (d.session who) (tabled (wrote (of_session who) u table key old new) ∷ []))))) is
+    ∙ ap (λ b. refused_if (not b) EventIdsSpent >> does_marks (Number 1) (in_own who t (d.session who) (tabled (wrote (of_session who) t table key old new) ∷ [])))
     (written-takes gate g who t (d.session who) table key old new ∙ room)

@@ -17,7 +17,8 @@ use Rattle.sky_state.specs.Seen.{seen}
 abbrev pub nothing : Bool → RowStep
 nothing whole = record { replies = []; effects = record { whole = whole; items = [] } }
 
--- a turn is added to what was given: its replies and effects are appended, the part is then as after its marks, and the gate has recorded its writes and rollbacks
+-- a turn is added to what was given: its replies and effects are appended, the part is then as after its marks, and the gate has recorded its writes
+-- and rollbacks
 pub record Adds {G : Type 0} (gate : Gate G) (old new : RowPart × G) (before after : RowStep) (turn : Turn) : Type 0 where
   pub replied : after.replies ≡ before.replies ++ turn.answers
   pub told : after.effects ≡ with_effects before.effects turn.marks

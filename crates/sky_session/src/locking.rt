@@ -2,9 +2,13 @@
 //!
 //! An update or a delete makes its tests in one order. If the session sees no row at the key, 0 rows are changed,
 //! without a wait. If another session holds the key, it waits, or is refused if that wait would close a deadlock cycle.
-//! If the key has a newer committed version that a repeatable read block can't see, it is refused. An insert waits
-//! first: whether the key has a row is known only when its holder's transaction has ended. A statement that resumes
-//! makes all its tests again, so a read committed session then changes the newest committed row.
+//! If the key has a newer committed version that a repeatable read block can't see, it is refused; then the sums of an
+//! update have to be in range. An insert waits first: whether the key has a row is known only when its holder's
+//! transaction has ended.
+//!
+//! A statement that resumes makes these tests again, so a read committed session then changes the newest committed row.
+//! The earlier ones aren't repeated: columns never change, and callers make no table read-only while a running
+//! transaction has written it, so none for whose keys a session waits.
 
 ghost use Rattle.std.specs.Prelude.{◌≡◌, ◌<◌, false, None, Some, length};
 ghost use Rattle.sky_keys.specs.Waits.{other_holder, is_waiting};

@@ -8,7 +8,7 @@ ghost use Rattle.sky_model.specs.History.{of_session, tabled, wrote};
 ghost use Rattle.sky_model.specs.Outcome.{end_of};
 ghost use Rattle.sky_model.specs.Sessions.{outside};
 ghost use Rattle.sky_model.specs.State.{after_part_marks};
-ghost use Rattle.sky_model.specs.OwnTransaction.{txid_for, begin_of, commit_of, written};
+ghost use Rattle.sky_model.specs.OwnTransaction.{txid_for, begin_of, commit_of, in_own};
 ghost use Rattle.sky_session.specs.Effects.{with_effects};
 ghost use Rattle.sky_model.specs.Gates.{passed_all};
 ghost use Rattle.sky_model.specs.SessionMarks.{Enters, failing, ending};
@@ -88,7 +88,7 @@ pub(crate) fn begin_own(state: &mut RowState, who: SessionId, txid: u64) -> Resu
 /// commits, and has written no row.
 pub(crate) fn take_own(state: &mut RowState, who: SessionId, txid: u64) -> Result<(), NoMemory>
     requires { txid_for (seen state.old) who ≡ Ok txid }
-    ensures ok { OnOk result (seen state.new ≡ after_part_marks (seen state.old) (written who txid ((seen state.old).session who) [])) }
+    ensures ok { OnOk result (seen state.new ≡ after_part_marks (seen state.old) (in_own who txid ((seen state.old).session who) [])) }
     ensures err { OnErr result (seen state.new ≡ seen state.old) }
 {
     if state.own_txid(who).is_some() {
@@ -136,7 +136,7 @@ pub(crate) fn write_own(
     requires free { other_holder (seen state.old).holder who key.table key.key ≡ None }
     requires awake { is_waiting who (seen state.old).waiting ≡ false }
     ensures marks { OnOk result (seen state.new ≡ after_part_marks (seen state.old)
-        (written who txid ((seen state.old).session who) (tabled (wrote (of_session who) txid key.table key.key None row) ∷ []))) }
+        (in_own who txid ((seen state.old).session who) (tabled (wrote (of_session who) txid key.table key.key None row) ∷ []))) }
     ensures told { OnOk result (effects.new ≡ with_effects effects.old (commit_of who txid ((seen state.old).session who).block)) }
 {
     if is_alone(state, who) {
@@ -150,8 +150,8 @@ pub(crate) fn write_own(
     Ok(())
 }
 
-/// Rolls back the transaction of the session's block, and aborts the block, if it is in one that isn't aborted. The gate
-/// is notified of the rollback.
+/// Rolls back the transaction of the session's block, and aborts the block, if it is in one that isn't aborted. The
+/// gate is notified of the rollback.
 pub(crate) fn abort_block<G: WriteGate>(
     state: &mut RowState,
     who: SessionId,

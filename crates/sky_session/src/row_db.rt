@@ -11,7 +11,7 @@ ghost use Rattle.sky_model.specs.History.{of_worker, began, ended, tabled, read_
 ghost use Rattle.sky_model.specs.Sessions.{outside};
 ghost use Rattle.sky_model.specs.State.{part_of, after_part, after_part_marks};
 ghost use Rattle.sky_model.specs.ShownRows.{snapshot_now, snapshot_for, least_writer};
-ghost use Rattle.sky_model.specs.OwnTransaction.{next_id, txid_for, begin_of, written};
+ghost use Rattle.sky_model.specs.OwnTransaction.{next_id, txid_for, begin_of, in_own};
 ghost use Rattle.sky_model.specs.SessionMarks.{Enters, entry, entry_place, failing, taking, ending};
 ghost use Rattle.sky_model.specs.WorkerMarks.{beginning, ending_work, guarding};
 ghost use Rattle.sky_model.specs.Reader.{part_by_itself};
@@ -101,8 +101,8 @@ impl RowDb {
         self.state.is_waiting(who)
     }
 
-    /// The id of the transaction that a `commit` of the session makes permanent now; none if it may not commit, is in no
-    /// block or in an aborted one, or its transaction has no id.
+    /// The id of the transaction that a `commit` of the session makes permanent now; none if it may not commit, is in
+    /// no block or in an aborted one, or its transaction has no id.
     pub fn commits(&self, who: SessionId) -> Option<u64>
         ensures { result ≡ commits_of (seen self.now) who }
     {
@@ -278,7 +278,7 @@ impl RowDb {
     /// transaction then commits. It is the same as `take_txid`, and then `end_single`.
     pub fn write_elsewhere(&mut self, who: SessionId, txid: u64) -> Result<(), NoMemory>
         requires { txid_for (seen self.old) who ≡ Ok txid }
-        ensures marks { OnOk result (seen self.new ≡ after_part_marks (seen self.old) (written who txid ((seen self.old).session who) [])) }
+        ensures marks { OnOk result (seen self.new ≡ after_part_marks (seen self.old) (in_own who txid ((seen self.old).session who) [])) }
         ensures same { OnErr result (seen self.new ≡ seen self.old) }
         ensures steps { let begun = after_part_marks (seen self.old) (taking (seen self.old) who).marks in OnOk result (
             RowSteps (seen self.old) begun (txid_taken who) (taking (seen self.old) who) × RowSteps begun (seen self.new) (single_ended who) (ending begun who)) }
@@ -328,7 +328,7 @@ impl RowDb {
         Ok(self.state.began_work()?)
     }
 
-    /// Commits the transaction of a worker, or rolls it back. It held no key, so nobody who waits may go on by it.
+    /// Commits the transaction of a worker, or rolls it back. It held no key, so it unblocks nobody.
     pub fn end_worker(&mut self, txid: u64, commit: bool)
         requires { contains txid (seen self.old).workers ≡ true }
         ensures mark { seen self.new ≡ after_part (seen self.old) (ended of_worker txid commit) }

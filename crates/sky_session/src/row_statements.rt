@@ -1,15 +1,16 @@
 //! The statements on tables and rows. A refusal changes nothing here, so all tests come before the first change.
 //!
-//! The tests come in one order, which decides what is refused. The table has to exist, and sessions
-//! have to be allowed to write it; the values, the key and the changes have to fit its columns. Then `locking` looks at the key's row and its holder. Last there has to be an id
-//! for the transaction, and room in the gate.
+//! The tests come in one order, which decides what is refused. The table has to exist, and sessions have to be allowed
+//! to write it; the values, the key and the changes have to fit its columns. Then come those of `locking`: the key's
+//! row and its holder, a newer version, and for an update sums in range. Last there has to be an id for the
+//! transaction, and room in the gate.
 
 ghost use Rattle.std.specs.Prelude.{◌≡◌, ◌<◌, ℕ, List, [], ◌∷◌, ◌++◌, Option, false, None, Some, Ok, Err, IfOk, IfErr, OnOk, length};
 ghost use Rattle.sky_val.specs.Schemas.{AreNamed};
 ghost use Rattle.sky_keys.specs.Waits.{other_holder, is_waiting};
 ghost use Rattle.sky_model.specs.State.{after_part_marks};
 ghost use Rattle.sky_model.specs.Outcome.{refused_if, does_marks, marks_of};
-ghost use Rattle.sky_model.specs.OwnTransaction.{txid_for, written};
+ghost use Rattle.sky_model.specs.OwnTransaction.{txid_for, in_own};
 ghost use Rattle.sky_model.specs.declared.reply.Reply.TheVariants.{Number};
 ghost use Rattle.sky_model.specs.declared.reply.Refusal.TheVariants.{ReadOnly};
 ghost use Rattle.std.specs.Option.{option_copied};
@@ -144,7 +145,7 @@ pub(crate) fn tell_write<G: WriteGate>(
 ) -> Result<u64, Stop>
     ensures id { IfOk result (λ txid. txid_for (seen state.now) who ≡ Ok txid) }
     ensures does { IfOk result (λ txid. gated G.rule gate.old (writes_key (seen state.now) who key.now.table key.now.key (option_copied old.entry) (option_copied new.entry))
-        ≡ does_marks (Number 1) (written who txid ((seen state.now).session who) (tabled (wrote (of_session who) txid key.now.table key.now.key (option_copied old.entry) (option_copied new.entry)) ∷ []))) }
+        ≡ does_marks (Number 1) (in_own who txid ((seen state.now).session who) (tabled (wrote (of_session who) txid key.now.table key.now.key (option_copied old.entry) (option_copied new.entry)) ∷ []))) }
     ensures told { IfOk result (λ txid. effects.new ≡ with_effects effects.old (tabled (wrote (of_session who) txid key.now.table key.now.key (option_copied old.entry) (option_copied new.entry)) ∷ [])) }
     ensures passed { OnOk result (gate.new ≡ passed_all G.rule gate.old (marks_of (gated G.rule gate.old (writes_key (seen state.now) who key.now.table key.now.key (option_copied old.entry) (option_copied new.entry))))) }
     ensures err { IfErr result (λ stop. StopsAs stop (gated G.rule gate.old (writes_key (seen state.now) who key.now.table key.now.key (option_copied old.entry) (option_copied new.entry)))) }
@@ -173,9 +174,9 @@ pub(crate) fn write_key(
     requires within { key.table < length (seen state.old).tables }
     requires free { other_holder (seen state.old).holder who key.table key.key ≡ None }
     requires awake { is_waiting who (seen state.old).waiting ≡ false }
-    ensures marks { (old : Option (List Val)) → OnOk result (seen state.new ≡ after_part_marks (seen state.old) (written who txid ((seen state.old).session who) (tabled (wrote (of_session who) txid key.table key.key old row) ∷ []))) }
+    ensures marks { (old : Option (List Val)) → OnOk result (seen state.new ≡ after_part_marks (seen state.old) (in_own who txid ((seen state.old).session who) (tabled (wrote (of_session who) txid key.table key.key old row) ∷ []))) }
     ensures told { (old : Option (List Val)) (before : EffectsView) → step.old.effects ≡ with_effects before (tabled (wrote (of_session who) txid key.table key.key old row) ∷ [])
-        → OnOk result (step.new.effects ≡ with_effects before (written who txid ((seen state.old).session who) (tabled (wrote (of_session who) txid key.table key.key old row) ∷ []))) }
+        → OnOk result (step.new.effects ≡ with_effects before (in_own who txid ((seen state.old).session who) (tabled (wrote (of_session who) txid key.table key.key old row) ∷ []))) }
     ensures replied { OnOk result (step.new.replies ≡ step.old.replies ++ (who, Number 1) ∷ []) }
 {
     write_own(state, who, txid, key, row, &mut step.effects)?;

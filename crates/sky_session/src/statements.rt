@@ -9,7 +9,7 @@ ghost use Rattle.sky_model.specs.Allowed.{where_of_row};
 ghost use Rattle.sky_model.specs.Sessions.{outside};
 ghost use Rattle.sky_model.specs.State.{after_part_marks};
 ghost use Rattle.sky_model.specs.ShownRows.{rows_by};
-ghost use Rattle.sky_model.specs.Outcome.{Outcome, Checked, settled};
+ghost use Rattle.sky_model.specs.Outcome.{Outcome, Checked, or_refused};
 ghost use Rattle.sky_model.specs.StepSession.{open_db, begin, begin_repeatable_read, commit, rollback, close, cancel, leaves, txid_current, txid_current_snapshot, txid_visible_in_snapshot};
 ghost use Rattle.sky_model.specs.Calls.{row_form, row_statement};
 ghost use Rattle.sky_model.specs.Reader.{part_by_itself};
@@ -61,7 +61,7 @@ pub(crate) fn or_refuse<G: WriteGate>(
     step: &mut RowStep,
 ) -> Result<(), NoMemory>
     ensures { (old : RowStateView × G) (before : RowStep) (checked : Checked Outcome) → Runs G.rule old (state.old, gate.old) before step.old who ran checked
-        → OnOk result (Adds G.rule (seen old.0, old.1) (seen state.new, gate.new) before step.new (turn_of who (settled who ((seen old.0).session who) checked))) }
+        → OnOk result (Adds G.rule (seen old.0, old.1) (seen state.new, gate.new) before step.new (turn_of who (or_refused who ((seen old.0).session who) checked))) }
 {
     match ran {
         Ok(()) => Ok(()),
@@ -81,7 +81,7 @@ fn refuse<G: WriteGate>(
     gate: &mut G,
     step: &mut RowStep,
 ) -> Result<(), NoMemory>
-    ensures { OnOk result (Adds G.rule (seen state.old, gate.old) (seen state.new, gate.new) step.old step.new (turn_of who (settled who ((seen state.old).session who) (Err refusal)))) }
+    ensures { OnOk result (Adds G.rule (seen state.old, gate.old) (seen state.new, gate.new) step.old step.new (turn_of who (or_refused who ((seen state.old).session who) (Err refusal)))) }
 {
     if refusal.aborts() {
         abort_block(state, who, gate, &mut step.effects)?;

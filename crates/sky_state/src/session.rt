@@ -6,7 +6,7 @@ use sky_txid::Snapshot;
 pub enum Sight {
     /// Each by the one at its start.
     AtEach,
-    /// All by the one at the start of the first, which is still to come.
+    /// All by the one at the start of the first, which hasn't been made yet.
     AtFirst,
     /// By this one.
     AtPlace(Snapshot),

@@ -146,7 +146,7 @@ impl Snapshot {
         printed
     }
 
-    /// Whether the transaction had ended. Whether it was committed is a question apart.
+    /// Whether the transaction had ended when the snapshot was taken. This doesn't tell whether it committed.
     pub fn sees(&self, t: u64) -> bool
         ensures { result ≡ sees self.now t }
     {

@@ -8,7 +8,7 @@ use Rattle.std.proofs.lemmas.List.Sums.{fails_before_first}
 use Rattle.std.proofs.lemmas.List.Splits.{slice_split_first, slice_split_none}
 use Rattle.form_urlencoded.specs.Form.{ampersand, is_nonempty}
 use Rattle.sky_urlenc.specs.Cuts.{first_piece, first_piece_at}
-use Rattle.sky_urlenc.specs.ReadRow.{placed, pieces_from}
+use Rattle.sky_urlenc.specs.ReadRow.{in_places, pieces_from}
 
 -- the pieces of a text are its first one, if that isn't empty, and those after it
 abbrev StartsWith : ℕ → List ℕ → List ℕ × List ℕ → Type 0
@@ -20,11 +20,11 @@ cut_at : (start : ℕ) (text : List ℕ) (place : ℕ) → place < length text �
     → StartsWith start text (take place text, drop (place + 1) text)
 cut_at start text place within split =
     let behind : start + length (take place text) + 1 ≡ start + (length text - length (drop (place + 1) text)) = omega (arith, length-take place text, length-drop (place + 1) text) in
-    ap (λ parts. filter (λ piece. is_nonempty piece.bytes) (placed start parts)) split
+    ap (λ parts. filter (λ piece. is_nonempty piece.bytes) (in_places start parts)) split
     ∙ ap (λ n. cond (is_nonempty (take place text)) (record { start = start; bytes = take place text } ∷ pieces_from n (drop (place + 1) text)) (pieces_from n (drop (place + 1) text))) behind
 
 uncut : (start : ℕ) (text : List ℕ) → slice_split (λ b. b == ampersand) text ≡ text ∷ [] → StartsWith start text (text, [])
-uncut start text whole = ap (λ parts. filter (λ piece. is_nonempty piece.bytes) (placed start parts)) whole
+uncut start text whole = ap (λ parts. filter (λ piece. is_nonempty piece.bytes) (in_places start parts)) whole
 
 starts_with_first : (start : ℕ) (text : List ℕ) → StartsWith start text (first_piece text)
 starts_with_first start text =

@@ -17,7 +17,7 @@ use Rattle.sky_val.specs.declared.schema.RowFault.{RowFault}
 use Rattle.sky_val.specs.Schemas.{value_fault, values_fault, row_fault, AreNamed}
 use Rattle.sky_urlenc.specs.Held.{HoldsOne, HoldsAll}
 use Rattle.sky_urlenc.specs.RowText.{column_text, column_texts, row_text}
-use Rattle.sky_urlenc.specs.ReadRow.{◌>>=◌, Piece, placed, pieces_from, name_in, text_in, is_text, column_named, value_for, given_by, all_given, values_from, read_row}
+use Rattle.sky_urlenc.specs.ReadRow.{◌>>=◌, Piece, in_places, pieces_from, name_in, text_in, is_text, column_named, value_for, given_by, all_given, values_from, read_row}
 use Rattle.sky_urlenc.proofs.PieceBack.{text_of, column_text-written, written_no_ampersand, written_some, zero-add, text_of-IsWord, piece_written, name_back, text_back, is_text_back, value_back}
 use Rattle.std.proofs.lemmas.Bool.Decides.{nat_tests}
 
@@ -65,7 +65,7 @@ no_fault (Some x) other e = absurd (cc)
 
 -- all the pieces of a row
 all_back : (whole front columns : List Column) (before row : List Val) (given : List (Option Val)) (start place : ℕ) → whole ≡ front ++ columns → given ≡ filled before columns → length before ≡ length front → length row ≡ length columns
-    → AllPairs (λ one other. one.name ≢ other.name) whole → HoldsAll columns row → values_fault place columns row ≡ None → all_given whole given (placed start (column_texts columns row)) ≡ Ok (map (λ v. Some v) (before ++ row))
+    → AllPairs (λ one other. one.name ≢ other.name) whole → HoldsAll columns row → values_fault place columns row ≡ None → all_given whole given (in_places start (column_texts columns row)) ≡ Ok (map (λ v. Some v) (before ++ row))
 all_back whole front [] before [] given start place whole_is given_is alike same apart holds e =
     ap (λ given. Ok given) (given_is ∙ append-nil (map (λ v. Some v) before) ∙ ap (map (λ v. Some v)) (sym (append-nil before)))
 all_back whole front [] before (v ∷ row) given start place whole_is given_is alike same apart holds e = absurd (omega arith)
@@ -79,7 +79,7 @@ all_back whole front (column ∷ columns) before (v ∷ row) given start place w
     let more_is : more ≡ filled (before ++ v ∷ []) columns =
     sym (append_assoc (map (λ v. Some v) before) (Some v ∷ []) (map (λ _. None) columns)) ∙ ap (λ given. given ++ map (λ _. None) columns) (sym (map-append (λ v. Some v) before (v ∷ []))) in
     let later = start + length (column_text column v) + 1 in
-    ap (λ checked. checked >>= (λ more. all_given whole more (placed later (column_texts columns row)))) step
+    ap (λ checked. checked >>= (λ more. all_given whole more (in_places later (column_texts columns row)))) step
     ∙ all_back whole (front ++ column ∷ []) columns (before ++ v ∷ []) row more later (place + 1) (whole_is ∙ sym (append_assoc front (column ∷ []) columns)) more_is
     (omega (arith, alike, length-append before (v ∷ []), length-append front (column ∷ []))) (omega (arith, same)) apart holds.1 faults.1
     ∙ ap (λ values. Ok (map (λ v. Some v) values)) (append_assoc before (v ∷ []) row)
@@ -96,15 +96,15 @@ split_back text (next ∷ texts) none =
     slice_split_at (λ b. b == ampersand) text ampersand (join_with_byte ampersand (next ∷ texts)) (All-head (λ t. All (λ b. (b == ampersand) ≡ false) t) text (next ∷ texts) none) refl
     ∙ ap (λ parts. text ∷ parts) (split_back next texts (All-tail (λ t. All (λ b. (b == ampersand) ≡ false) t) text (next ∷ texts) none))
 
-none_skipped : (start : ℕ) (texts : List (List ℕ)) → All (λ t. 0 < length t) texts → filter (λ piece. is_nonempty piece.bytes) (placed start texts) ≡ placed start texts
+none_skipped : (start : ℕ) (texts : List (List ℕ)) → All (λ t. 0 < length t) texts → filter (λ piece. is_nonempty piece.bytes) (in_places start texts) ≡ in_places start texts
 none_skipped start [] some = refl
 none_skipped start (text ∷ texts) some =
     grind (arith, nat_tests, All-head (λ t. 0 < length t) text texts some, none_skipped (start + length text + 1) texts (All-tail (λ t. 0 < length t) text texts some))
 
-pieces_back : (start : ℕ) (texts : List (List ℕ)) → All (λ t. All (λ b. (b == ampersand) ≡ false) t) texts → All (λ t. 0 < length t) texts → pieces_from start (join_with_byte ampersand texts) ≡ placed start texts
+pieces_back : (start : ℕ) (texts : List (List ℕ)) → All (λ t. All (λ b. (b == ampersand) ≡ false) t) texts → All (λ t. 0 < length t) texts → pieces_from start (join_with_byte ampersand texts) ≡ in_places start texts
 pieces_back start [] none some = refl
 pieces_back start (text ∷ texts) none some =
-    ap (λ parts. filter (λ piece. is_nonempty piece.bytes) (placed start parts)) (split_back text texts none) ∙ none_skipped start (text ∷ texts) some
+    ap (λ parts. filter (λ piece. is_nonempty piece.bytes) (in_places start parts)) (split_back text texts none) ∙ none_skipped start (text ∷ texts) some
 
 -- what is known of the text of each column
 record IsApart (text : List ℕ) : Type 0 where

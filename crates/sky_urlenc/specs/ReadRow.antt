@@ -44,13 +44,13 @@ pub record Piece : Type 0 where
   pub bytes : List ℕ
 
 -- parts with a byte between each two, the first of them at a place
-abbrev pub placed : ℕ → List (List ℕ) → List Piece
-placed start [] = []
-placed start (part ∷ parts) = record { start = start; bytes = part } ∷ placed (start + length part + 1) parts
+abbrev pub in_places : ℕ → List (List ℕ) → List Piece
+in_places start [] = []
+in_places start (part ∷ parts) = record { start = start; bytes = part } ∷ in_places (start + length part + 1) parts
 
 -- the pieces of a text that starts at a place; an empty one is skipped
 abbrev pub pieces_from : ℕ → List ℕ → List Piece
-pieces_from start text = filter (λ piece. is_nonempty piece.bytes) (placed start (slice_split (λ b. b == ampersand) text))
+pieces_from start text = filter (λ piece. is_nonempty piece.bytes) (in_places start (slice_split (λ b. b == ampersand) text))
 
 -- what comes before the first `=` of a piece, which is at this place, and what comes after it; if there is none, only the piece
 abbrev pub sides_at : Option ℕ → List ℕ → List ℕ × Option (List ℕ)

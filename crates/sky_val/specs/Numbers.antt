@@ -18,7 +18,7 @@ number_from n (b ∷ bs) = number_from (n * 10 + (b - 48)) bs
 abbrev pub number_of : ℕ → List ℕ → Option ℕ
 number_of most w = if is_number w && nat_le (number_from 0 w) most then Some (number_from 0 w) else None
 
--- the number so far below zero; none for 0
+-- the number at this distance below zero; none for 0
 abbrev pub below_zero : ℕ → Option ℤ
 below_zero zero = None
 below_zero (suc n) = Some (negsuc n)

@@ -155,7 +155,7 @@ impl Ord for Key {
 
     ghost matches_eq = { key_eq-ties };
 
-    // Always inlined, and with a number first, so that a map's search among keys of one number is a short loop.
+    // Always inlined, with the case of numbers first, so that a map's search among keys of one number is a short loop.
     #[inline(always)]
     fn cmp(&self, other: &Key) -> Ordering {
         match (&self.values, &other.values) {

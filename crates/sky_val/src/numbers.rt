@@ -58,7 +58,7 @@ pub fn number_of(text: &[u8], most: u64) -> Option<u64>
     }
 }
 
-/// The number so far below zero, if there is one: not for 0, nor below the least number of 64 bits.
+/// The number at this distance below zero, if there is one: not for 0, nor below the least number of 64 bits.
 fn below_zero(distance: u64) -> Option<i64>
     requires { distance ≤ 2 ^ 63 }
     ensures { result ≡ spec.below_zero distance }

@@ -16,7 +16,7 @@ use Rattle.sky_model.specs.History.{Mark, Fact, within, daemon_on, daemon_off}
 use Rattle.sky_model.specs.State.{Database, changed_at, after_mark, after_marks}
 use Rattle.sky_model.specs.World.{World, after_fact, after_facts}
 use Rattle.sky_model.specs.Reader.{database_by_itself, within_database, by_world, Deed, idles, followed}
-use Rattle.sky_model.specs.Outcome.{Checked, answers, settled}
+use Rattle.sky_model.specs.Outcome.{Checked, answers, or_refused}
 use Rattle.sky_model.specs.Made.{Making, runs_if}
 use Rattle.sky_model.specs.Settling.{Turn}
 use Rattle.sky_model.specs.Daemon.{daemon_does, is_due_at}
@@ -101,7 +101,7 @@ daemon-off-as v now entries d same updates =
 -- it is answered by `ok` if it is allowed
 done-if : (m : Making World) (who : ℕ) (w : World) (c : Checked (Unit {0})) → m.outcome w ≡ answers Done → is_done (Some (who, (runs_if m WhenOutside who w c).reply)) ≡ is_ok c
 done-if m who w (Err refusal) is = refl
-done-if m who w (Ok _) is = ap (λ o. is_done (Some (who, (settled who (m.session w) o).reply))) is
+done-if m who w (Ok _) is = ap (λ o. is_done (Some (who, (or_refused who (m.session w) o).reply))) is
 
 there : {A : Type 0} (xs : List A) (x : A) (rest : List A) → slice_get (xs ++ x ∷ rest) (length xs) ≡ Some x
 there [] x rest = refl

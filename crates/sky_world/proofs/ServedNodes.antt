@@ -34,11 +34,12 @@ use Rattle.sky_model.specs.SessionMarks.{Enters, entry_place}
 use Rattle.sky_model.specs.StepQueue.{newest_id}
 use Rattle.sky_model.specs.StepConsumer.{registers}
 use Rattle.sky_model.specs.StepRows.{table_called}
-use Rattle.sky_model.specs.StepNode.{set_queue, set_queue_of, joins, lists, unlists, adds, removes, NodeCall, joining, adding, removing, listing, unlisting, if_there, node_does}
+use Rattle.sky_model.specs.StepNode.{set_queue, set_queue_of, joins, lists, unlists, adds, removes, NodeCall, joining, making_leaf, adding, removing, listing, unlisting, if_there, may_serve, node_does}
 use Rattle.sky_model.specs.NodesOfWorld.{WorldOutcome, Located, node_called, done_in, leaf_of, provides, are_columns, columns_called, adds_to, add_table, first_user, removes_from, remove_table, node_form}
-use Rattle.sky_model.specs.Calls.{database_turn, may_make, world_does, node_does as does_on_nodes, begins_with_ok, node_if, roots_in, root_does, session_does}
+use Rattle.sky_model.specs.Calls.{database_turn, may_make, world_does, node_stmt_does, begins_with_ok, node_if, roots_in, root_does, session_does}
 use Rattle.sky_model.proofs.StatementMarks.{EachMark, each-rest}
 use Rattle.sky_model.proofs.NodeCalls.{is_for_nodes, each-node}
+use Rattle.sky_model.proofs.NodeDeeds.{called-there, is-served, may-list, may-add, may-unlist, may-remove}
 use Rattle.pgq_db.specs.Views.{DbView}
 use Rattle.pgq_db.specs.Seen.{seen_database, no_database}
 use Rattle.pgq_db.specs.Served.{Serves}
@@ -237,7 +238,7 @@ root-unmade old s d own done before after turn at is not_so adds =
 
 -- one that its session may make
 pub node-allowed : (old s new : WorldView) (d who : ℕ) (stmt : NodeStmt) (may : Bool) (before after : List (ℕ × Reply)) → may ≡ may_outside ((seen_world old).database d) who → may ≡ true → Stays old s
-    → AddsDeed s new before after (world_does who (node_form (seen_world s) d stmt)) → AddsDeed old new before after (does_on_nodes by_world (seen_world old) who stmt d)
+    → AddsDeed s new before after (world_does who (node_form (seen_world s) d stmt)) → AddsDeed old new before after (node_stmt_does by_world (seen_world old) who stmt d)
 node-allowed old s new d who stmt may before after is holds stays adds =
     subst (λ b. AddsDeed old new before after (if b then world_does who (node_form (seen_world old) d stmt)
     else deed_in d [] (database_turn (within_database by_world d) (seen_world old) (seen_world old).now who (stmts.Node stmt)))) (sym holds ∙ is)
@@ -247,7 +248,7 @@ node-allowed old s new d who stmt may before after is holds stays adds =
 pub node-refused : (old s new : WorldView) (d who : ℕ) (stmt : NodeStmt) (whole : Stmt) (may : Bool) (before after : List (ℕ × Reply)) → whole ≡ stmts.Node stmt
     → may ≡ may_outside ((seen_world old).database d) who → may ≡ false → Stays old s
     → AddsDeed s new before after (deed_in d [] (database_turn (within_database by_world d) (seen_world s) (seen_world s).now who whole))
-    → AddsDeed old new before after (does_on_nodes by_world (seen_world old) who stmt d)
+    → AddsDeed old new before after (node_stmt_does by_world (seen_world old) who stmt d)
 node-refused old s new d who stmt whole may before after node is not_so stays adds =
     subst (λ b. AddsDeed old new before after (if b then world_does who (node_form (seen_world old) d stmt)
     else deed_in d [] (database_turn (within_database by_world d) (seen_world old) (seen_world old).now who (stmts.Node stmt)))) (sym not_so ∙ is)
@@ -290,6 +291,23 @@ free-still old s d from tick consumer free provider joins =
         let one : from ≡ d = grind (arith, nat_tests) in
         absurd (apart (set_queue ((seen_world old).database from)) provider (none ((seen_world old).database from) (ap (λ n. ((seen_world old).database n).node) one ∙ free)))
     by false e = free
+
+-- a database without a node gets a leaf
+pub leaf-there : (v now new : WorldView) (d tick : ℕ) (was is : DbView) (name provider : List ℕ) → v ≡ now → d < length v.databases.values → was ≡ get_or v.databases.values d was
+    → ((seen_world now).database d).node ≡ None → Serves (seen_database was) (seen_database is) (making_leaf name provider tick)
+    → Happened (record v { databases = with_value v.databases d is }) new (node_made d ∷ []) → Happened now new (within d (noded (leaf_made name provider tick)) ∷ node_made d ∷ [])
+leaf-there v now new d tick was is name provider same lt at free serves gets = record {
+  changed = gets.changed ∙ ap (λ w. after_facts w (node_made d ∷ [])) made.changed;
+  sessions = gets.sessions ∙ made.sessions;
+  databases = gets.databases ∙ made.databases;
+  failed = gets.failed ∙ made.failed;
+}
+  where
+    made : Happened now (record v { databases = with_value v.databases d is }) (within d (noded (leaf_made name provider tick)) ∷ [])
+    made =
+        subst (λ c. Happened now (record v { databases = with_value v.databases d is }) (map (within d) (marks_of c)))
+        (is-served ((seen_world now).database d) (making_leaf name provider tick) (ap (may_serve (making_leaf name provider tick)) free))
+        (served-there v now d was is (making_leaf name provider tick) same lt at serves)
 
 leaf-outcome : (d from tick : ℕ) (name provider : List ℕ) (c : Checked Outcome) → is_ok c ≡ true
     → leaf_of d from name provider tick c ≡ Ok (record { reply = Done; facts = map (within from) (marks_of c) ++ within d (noded (leaf_made name provider tick)) ∷ node_made d ∷ [] })
@@ -376,6 +394,8 @@ pub add-to_root : (w : World) (name table : List ℕ) (d : ℕ) (r : Root) (colu
 add-to_root w name table d r columns there has new =
     add-goes w name table (record { database = d; node = of_root r }) there new
     ∙ by (place_of table (w.database d).part.tables) (set_queue (w.database d)) has
+    ∙ ap (λ c. found_or (set_queue (w.database d)) (NotProvider r.name) >>= (λ queue. done_in d Done c))
+    (sym (is-served (w.database d) (listing table) (may-list (w.database d).node r table (called-there w name (record { database = d; node = of_root r }) there) new)))
   where
     by : (o q : Option ℕ) → Some columns ≡ option_map (w.database d).part.columns o
         → (found_or o (NoTable table) >>= (λ t. found_or q (NotProvider r.name) >>= (λ queue. done_in d Done (lists (w.database d) queue t table))))
@@ -390,6 +410,8 @@ pub add-to_leaf : (w : World) (name table : List ℕ) (d : ℕ) (l : Leaf) (colu
 add-to_leaf w name table d l columns there has new =
     add-goes w name table (record { database = d; node = of_leaf l }) there new
     ∙ by (place_of table (w.database d).part.tables) has (provides table (node_called w l.provider))
+    ∙ ap (λ c. provided_as w columns table l >>= (λ _. done_in d Done c))
+    (sym (is-served (w.database d) (adding table) (may-add (w.database d).node l table (called-there w name (record { database = d; node = of_leaf l }) there) new)))
   where
     tested : (b : Bool) (c : Checked WorldOutcome) → (refused_if b (SchemaDiffers table) >> c) ≡ (refused_if b (SchemaDiffers table) >>= (λ _. c))
     tested true c = refl
@@ -436,7 +458,9 @@ remove-from_root w name table d r there among has =
     remove-goes w name table (record { database = d; node = of_root r }) there among
     ∙ numbered w d table (λ t. removes_from w d t table (of_root r)) _ has (λ t number.
     tested (option_map TableInUse (first_user w r.name table)) (done_in d Done (unlists t table))
-    ∙ ap (λ o. refused_by (option_map TableInUse (first_user w r.name table)) >>= (λ _. done_in d Done (if_there o (λ k. unlists k table)))) (sym number))
+    ∙ ap (λ o. refused_by (option_map TableInUse (first_user w r.name table)) >>= (λ _. done_in d Done (if_there o (λ k. unlists k table)))) (sym number)
+    ∙ ap (λ c. refused_by (option_map TableInUse (first_user w r.name table)) >>= (λ _. done_in d Done c))
+    (sym (is-served (w.database d) (unlisting table) (may-unlist (w.database d).node r table (called-there w name (record { database = d; node = of_root r }) there) among))))
   where
     tested : (o : Option Refusal) (c : Checked WorldOutcome) → (refused_by o >> c) ≡ (refused_by o >>= (λ _. c))
     tested None c = refl
@@ -448,4 +472,5 @@ pub remove-from_leaf : (w : World) (name table : List ℕ) (d : ℕ) (l : Leaf) 
 remove-from_leaf w name table d l there among has =
     remove-goes w name table (record { database = d; node = of_leaf l }) there among
     ∙ numbered w d table (λ t. removes_from w d t table (of_leaf l)) _ has (λ t number.
-    ap (λ o. done_in d Done (if_there o (λ k. removes k table))) (sym number))
+    ap (λ o. done_in d Done (if_there o (λ k. removes k table))) (sym number)
+    ∙ ap (done_in d Done) (sym (is-served (w.database d) (removing table) (may-remove (w.database d).node l table (called-there w name (record { database = d; node = of_leaf l }) there) among))))

@@ -16,7 +16,7 @@ use Rattle.sky_model.specs.History.{Mark, Fact, appeared, founded, left, within}
 use Rattle.sky_model.specs.State.{Database, database_of, changed_at, after_mark, after_marks}
 use Rattle.sky_model.specs.World.{World, world_of, after_fact, after_facts}
 use Rattle.sky_model.specs.Printed.{HaveMoments}
-use Rattle.sky_model.specs.Reader.{database_by_itself, within_database, by_world, Deed, refuses, appears, founds, joined, followed}
+use Rattle.sky_model.specs.Reader.{database_by_itself, within_database, by_world, Deed, refuses, appears, founds, deed_with, followed}
 use Rattle.sky_model.specs.Settling.{Turn}
 use Rattle.sky_model.specs.Clock.{deed_in}
 use Rattle.sky_model.specs.Calls.{Call, database_turn, is_leaving, left_if, may_make, beside, of_daemon_if, opens_in, opens, session_does, turn, called}
@@ -330,8 +330,8 @@ answers-new old with_it new call who before after place room is number adds = re
         let few : nat_le 256 (length old.sessions.names) ≡ false = grind (arith, nat_tests) in
         ap (called by_world (seen_world old) call) place ∙ ap (unknown (seen_world old) call) few
 
-    same : followed by_world (seen_world old) (turn by_world (length old.sessions.names) call.stmt) (appears call.who) ≡ joined (appears call.who) (turn by_world who call.stmt (seen_world with_it))
-    same = ap (joined (appears call.who)) (ap (λ n. turn by_world n call.stmt (after_fact (seen_world old) (appeared call.who))) (sym number) ∙ ap (turn by_world who call.stmt) (sym is))
+    same : followed by_world (seen_world old) (turn by_world (length old.sessions.names) call.stmt) (appears call.who) ≡ deed_with (appears call.who) (turn by_world who call.stmt (seen_world with_it))
+    same = ap (deed_with (appears call.who)) (ap (λ n. turn by_world n call.stmt (after_fact (seen_world old) (appeared call.who))) (sym number) ∙ ap (turn by_world who call.stmt) (sym is))
 
 -- a call's replies in a list that was empty
 pub added-alone : (old new : World) (call : Call) (before after : List (ℕ × Reply)) → before ≡ [] → AddsCall old new call before after

@@ -9,9 +9,9 @@ ghost use Rattle.sky_model.specs.History.{within, node_made, noded, leaf_made};
 ghost use Rattle.sky_model.specs.Stops.{StopsAs};
 ghost use Rattle.sky_model.specs.World.{after_fact};
 ghost use Rattle.sky_model.specs.Reader.{within_database, by_world};
-ghost use Rattle.sky_model.specs.StepNode.{set_queue, node_does, adding, removing, listing, unlisting};
+ghost use Rattle.sky_model.specs.StepNode.{set_queue, may_serve, node_does, adding, removing, listing, unlisting};
 ghost use Rattle.sky_model.specs.NodesOfWorld.{node_called, done_in, provides, same_columns, uses, first_user, create_leaf, add_table, remove_table, table_state, node_form};
-ghost use Rattle.sky_model.specs.Calls.{database_turn, world_does, node_does as does_on_nodes, roots_in, session_does};
+ghost use Rattle.sky_model.specs.Calls.{database_turn, world_does, node_stmt_does, roots_in, session_does};
 ghost use Rattle.pgq_db.specs.Gives.{is_clock};
 ghost use Rattle.sky_world.specs.Seen.{seen_world};
 ghost use Rattle.sky_world.specs.Adds.{AddsDeed};
@@ -98,7 +98,7 @@ impl World {
         requires database { database < length self.old.databases.names }
         requires form { IsInForm stmt.now }
         requires node { stmt.now ≡ Stmt.Node form.now }
-        ensures adds { OnOk result (AddsDeed self.old self.new replies.old replies.new (does_on_nodes by_world (seen_world self.old) who form.now database)) }
+        ensures adds { OnOk result (AddsDeed self.old self.new replies.old replies.new (node_stmt_does by_world (seen_world self.old) who form.now database)) }
         ensures failed { OnOk result (self.new.has_failed ≡ self.old.has_failed) }
     {
         if !self.may_outside(database, who)? {
@@ -342,6 +342,7 @@ impl World {
     fn add_to_root(&mut self, database: usize, table: &Text) -> Result<Reply, Stop>
         requires database { database < length self.old.databases.names }
         requires provider { is_some (set_queue ((seen_world self.old).database database)) ≡ true }
+        requires may { may_serve (listing table.now) ((seen_world self.old).database database).node ≡ true }
         ensures { Ran self.old self.new result (done_in database Done (node_does ((seen_world self.old).database database) (listing table.now))) }
     {
         let store = self.databases.get_mut(database);
@@ -361,6 +362,7 @@ impl World {
     /// A table joins the leaf of a database.
     fn add_to_leaf(&mut self, database: usize, table: &Text) -> Result<Reply, Stop>
         requires database { database < length self.old.databases.names }
+        requires may { may_serve (adding table.now) ((seen_world self.old).database database).node ≡ true }
         ensures { Ran self.old self.new result (done_in database Done (node_does ((seen_world self.old).database database) (adding table.now))) }
     {
         let store = self.databases.get_mut(database);
@@ -429,7 +431,8 @@ impl World {
 
     /// A table leaves the root of a database.
     fn drop_from_root(&mut self, database: usize, table: &Text) -> Reply
-        requires { database < length self.old.databases.names }
+        requires database { database < length self.old.databases.names }
+        requires may { may_serve (unlisting table.now) ((seen_world self.old).database database).node ≡ true }
         ensures { Does self.old self.new result (done_in database Done (node_does ((seen_world self.old).database database) (unlisting table.now))) }
     {
         let store = self.databases.get_mut(database);
@@ -439,7 +442,8 @@ impl World {
 
     /// A table leaves the leaf of a database.
     fn drop_from_leaf(&mut self, database: usize, table: &Text) -> Reply
-        requires { database < length self.old.databases.names }
+        requires database { database < length self.old.databases.names }
+        requires may { may_serve (removing table.now) ((seen_world self.old).database database).node ≡ true }
         ensures { Does self.old self.new result (done_in database Done (node_does ((seen_world self.old).database database) (removing table.now))) }
     {
         let store = self.databases.get_mut(database);

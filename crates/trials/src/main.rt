@@ -1,6 +1,6 @@
 //! Runs the tables that its words name, and prints each row with its answer.
 //!
-//! A table in `data/` holds cases of one subject, a row each: a command, and what it is asked of. The rows
+//! A table in `data/` holds cases of one subject, a row each: a command and its operands. The rows
 //! of a table are run in order, on one state, by the module of the table's name. What each row must answer
 //! is in `stdout`.
 #![tactic(auto)]

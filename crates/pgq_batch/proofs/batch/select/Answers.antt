@@ -5,7 +5,7 @@ use Rattle.pgq_tables.specs.Order.{by_txid}
 use Rattle.pgq_tables.specs.ById.{by_id}
 use Rattle.pgq_tables.specs.Listed.{is_listed}
 use Rattle.pgq_batch.specs.Bound.{is_between, looks_for_ends}
-use Rattle.pgq_batch.specs.Placed.{placed, by_place}
+use Rattle.pgq_batch.specs.Placed.{with_place, by_place}
 use Rattle.pgq_batch.proofs.Ages.{ages, passing_of, next_is, length-ages, sorted_out, one_more_table, all_tables, as_many, length-by_id, looks-next, looks-all}
 use Rattle.pgq_batch.proofs.batch.select.Goals as goal
 
@@ -23,10 +23,10 @@ loop-turn-preserved c =
     let aged = length-ages ts in
     let within : turn < length (ages ts) = omega arith in
     let next : drop turn (ages ts) ≡ list ∷ drop (turn + 1) (ages ts) = next_is ts now turn table inv.0 within c.table_by_age-table.ensures.table in
-    let found : c.collect.new.found.items ≡ map placed (filter (λ x. q x.1) (by_txid list)) =
+    let found : c.collect.new.found.items ≡ map with_place (filter (λ x. q x.1) (by_txid list)) =
     c.in_ok-collect.ensures.found
-    ∙ ap (λ xs. xs ++ map placed (filter (λ x. q x.1) (by_txid (slice_index_or now.lists table [])))) inv.1
-    ∙ ap (λ (t : Tables). map placed (filter (λ x. q x.1) (by_txid (slice_index_or t.lists table [])))) inv.0 in
+    ∙ ap (λ xs. xs ++ map with_place (filter (λ x. q x.1) (by_txid (slice_index_or now.lists table [])))) inv.1
+    ∙ ap (λ (t : Tables). map with_place (filter (λ x. q x.1) (by_txid (slice_index_or t.lists table [])))) inv.0 in
     let events : c.move_to.new.events.items ≡ c.loop-turn.events.items ++ map Stored.event (filter q list) =
     c.in_ok-move_to.ensures.events
     ∙ ap (λ xs. c.loop-turn.events.items ++ map (λ x. x.1) xs) (c.in_ok-sort_by_place.ensures ∙ ap by_place found)

@@ -5,7 +5,7 @@ use Rattle.pgq_tables.specs.Tables.{Stored, Tables}
 use Rattle.pgq_tables.specs.Order.{by_txid}
 use Rattle.pgq_tables.specs.Listed.{is_listed}
 use Rattle.pgq_tables.specs.Views.{TablesView, one_more}
-use Rattle.pgq_batch.specs.Placed.{placed}
+use Rattle.pgq_batch.specs.Placed.{with_place}
 use Rattle.pgq_batch.proofs.Between.{below, below_len, gathered, passed_over, listed_between, none_before, none_after, count_between}
 use Rattle.pgq_batch.proofs.Looks.{one_more-upper, one_more-lower, one_more-counts}
 use Rattle.pgq_batch.proofs.table.collect.Goals as goal
@@ -17,7 +17,7 @@ loop-index-init c =
     let both = c.ends_between-first.ensures in
     let none = none_before c.args.prev.now c.args.cur.now (is_listed c.args.prev.now c.args.cur.now c.args.sub) list (listed_between c.args.prev.now c.args.cur.now c.args.sub c.ends_between-first.ensures.sound) in (
       both.same,
-      sym (append-nil c.args.found.now.items) ∙ ap (λ xs. c.args.found.now.items ++ map placed xs) (sym none) ∙ ap (λ k. c.args.found.now.items ++ map placed (filter (λ x. is_listed c.args.prev.now c.args.cur.now c.args.sub x.1) (take k (by_txid list)))) (sym both.first),
+      sym (append-nil c.args.found.now.items) ∙ ap (λ xs. c.args.found.now.items ++ map with_place xs) (sym none) ∙ ap (λ k. c.args.found.now.items ++ map with_place (filter (λ x. is_listed c.args.prev.now c.args.cur.now c.args.sub x.1) (take k (by_txid list)))) (sym both.first),
       (let up = both.upper in omega arith),
       (λ _. let down = both.lower in omega arith),
       both.first,
@@ -52,7 +52,7 @@ loop-index-preserved c =
           let next : c.if-is_listed.found.items ≡ c.loop-index.found.items ++ (place, w.in_ok-event.field-0) ∷ [] = search rules in
           let longer = ap length next ∙ length_push c.loop-index.found.items (place, w.in_ok-event.field-0) in (
             ap TablesView.tables w.tables-is ∙ ap TablesView.tables counted ∙ inv.0,
-            gathered placed q list index (place, stored) (place, w.in_ok-event.field-0) _ _ _ within look (sym c.is_listed.ensures ∙ w.if-is_listed.true) (ap (λ e. (place, e)) w.in_ok-event.ensures) next inv.1,
+            gathered with_place q list index (place, stored) (place, w.in_ok-event.field-0) _ _ _ within look (sym c.is_listed.ensures ∙ w.if-is_listed.true) (ap (λ e. (place, e)) w.in_ok-event.ensures) next inv.1,
             (omega arith),
             (λ less.
                 let less_before : one_more c.loop-index.tables.reads < 2 ^ 64 - 1 = subst (λ n. n < 2 ^ 64 - 1) reads less in
@@ -67,7 +67,7 @@ loop-index-preserved c =
           let reads : c.if-is_listed.tables.reads ≡ one_more c.loop-index.tables.reads = ap TablesView.reads w.tables-is ∙ ap TablesView.reads counted in
           let same = ap (λ (v : Vec (ℕ × Event) Global). v.items) w.found-is in (
             ap TablesView.tables w.tables-is ∙ ap TablesView.tables counted ∙ inv.0,
-            same ∙ passed_over placed q list index (place, stored) _ _ within look (sym c.is_listed.ensures ∙ w.if-is_listed.false) inv.1,
+            same ∙ passed_over with_place q list index (place, stored) _ _ within look (sym c.is_listed.ensures ∙ w.if-is_listed.false) inv.1,
             (omega arith),
             (λ less.
                 let down = one_more-lower c.loop-index.tables.reads in
@@ -86,7 +86,7 @@ returns-clause-found c =
     let q = is_listed c.args.prev.now c.args.cur.now c.args.sub in
     let inv = c.loop-index.invariant in
     let past : below c.args.cur.now.xmax list ≤ c.loop-index.index = let end = inv.5 in let test = c.loop-index-test.false in omega arith in
-    inv.1 ∙ ap (λ xs. c.args.found.now.items ++ map placed xs) (none_after c.args.prev.now c.args.cur.now q c.loop-index.index list (listed_between c.args.prev.now c.args.cur.now c.args.sub c.ends_between-first.ensures.sound) past)
+    inv.1 ∙ ap (λ xs. c.args.found.now.items ++ map with_place xs) (none_after c.args.prev.now c.args.cur.now q c.loop-index.index list (listed_between c.args.prev.now c.args.cur.now c.args.sub c.ends_between-first.ensures.sound) past)
 
 pub returns-clause-upper : goal.returns-clause-upper
 returns-clause-upper c =

@@ -2,10 +2,10 @@
 use Rattle.std.proofs.Common.{rules, Bool, true, false, refl}
 use Rattle.sky_model.specs.declared.line.Fixed.TheVariants as fixed
 use Rattle.sky_model.specs.declared.stmt.Stmt.TheVariants.{PgqdOn, PgqdOff}
-use Rattle.sky_model.specs.Grammar.{Row, stop, literal}
+use Rattle.sky_model.specs.Grammar.{GrammarRow, stop, literal}
 use Rattle.sky_script.proofs.clock_forms.pgqd.Goals as goal
 
-abbrev by_off : Bool → Row
+abbrev by_off : Bool → GrammarRow
 by_off true = stop PgqdOff
 by_off false = literal fixed.On (stop PgqdOn)
 

@@ -1,4 +1,4 @@
-use Rattle.std.proofs.Common.{◌<◌, Some, length, refl, sym, ap, ◌∙◌, arith}
+use Rattle.std.proofs.Common.{◌<◌, ◌≤◌, Some, length, refl, sym, ap, ◌∙◌, arith}
 use Rattle.sky_model.specs.History.{queued, traced, listed}
 use Rattle.sky_model.specs.Nodes.{after_node}
 use Rattle.sky_model.specs.ShownRows.{least_writer}
@@ -12,8 +12,47 @@ use Rattle.pgq_db.specs.Seen.{seen_database}
 use Rattle.pgq_db.proofs.Databases.{table-there}
 use Rattle.pgq_db.proofs.Tables.{is-table}
 use Rattle.pgq_db.proofs.Agreeing.{agree-traced}
-use Rattle.pgq_db.proofs.NodeSteps.{serves-by, serves-steps, steps-unless, list-busy, list-does, listed-as}
+use Rattle.pgq_db.proofs.NodeSteps.{serves-by, serves-steps, steps-unless, listing-nowhere, listing-nothing, list-full, list-busy, list-does, listed-as}
 use Rattle.pgq_db.proofs.db.Db.root_add.Goals as goal
+
+pub returns-in_default-clause-serves : goal.returns-in_default-clause-serves
+returns-in_default-clause-serves c = listing-nowhere (seen_database c.args.self.now) c.args.table.now c.requires (sym c.in_default.ensures.queue)
+
+pub returns-in_default-clause-steps : goal.returns-in_default-clause-steps
+returns-in_default-clause-steps c =
+    serves-steps (seen_database c.args.self.now) _ (listing c.args.table.now) (listing-nowhere (seen_database c.args.self.now) c.args.table.now c.requires (sym c.in_default.ensures.queue))
+
+pub returns-in_default-table-clause-serves : goal.returns-in_default-table-clause-serves
+returns-in_default-table-clause-serves c = listing-nothing _ _ c.args.table.now c.self.view_is c.in_default-table.ensures c.in-Some.queue c.requires (sym c.in-Some.ensures.queue)
+
+pub returns-in_default-table-clause-steps : goal.returns-in_default-table-clause-steps
+returns-in_default-table-clause-steps c =
+    serves-steps (seen_database c.args.self.now) _ (listing c.args.table.now)
+    (listing-nothing _ _ c.args.table.now c.self.view_is c.in_default-table.ensures c.in-Some.queue c.requires (sym c.in-Some.ensures.queue))
+
+pub returns-then-trigger_count-most-clause-fault : goal.returns-then-trigger_count-most-clause-fault
+returns-then-trigger_count-most-clause-fault c =
+    let number = c.in-Some-table.number in
+    let many : 8 ≤ c.trigger_count.result = omega (arith, c.most.ensures, c.if-trigger_count-most.true) in
+    record {
+      refused = list-full (seen_database c.args.self.now) c.in-Some.queue c.args.table.now number c.requires (sym c.in-Some.ensures.queue) (table-there _ _ c.args.table.now number c.self.view_is c.in-Some-table.ensures.0) c.trigger_count.result
+          (c.trigger_count.ensures ∙ ap (λ (v : DbView). length (triggers_of number v.queues.triggers)) c.self.view_is) many;
+      same = refl;
+    }
+
+pub returns-in-Some-least_writer-clause-serves : goal.returns-in-Some-least_writer-clause-serves
+returns-in-Some-least_writer-clause-serves c =
+    let d = seen_database c.args.self.now in
+    let name = c.args.table.now in
+    let number = c.in-Some-table.number in
+    let there = table-there _ _ name number c.self.view_is c.in-Some-table.ensures.0 in
+    let count = c.trigger_count.ensures ∙ ap (λ (v : DbView). length (triggers_of number v.queues.triggers)) c.self.view_is in
+    let few : c.trigger_count.result < 8 = omega (arith, c.most.ensures, c.if-trigger_count-most.false) in
+    record {
+      refused = list-busy d c.in-Some.queue name number c.requires (sym c.in-Some.ensures.queue) there c.trigger_count.result c.in-Some-least_writer.txid count few
+          (c.in-Some-least_writer.ensures ∙ ap (λ (v : DbView). least_writer (seen v.rows) number) c.self.view_is);
+      same = refl;
+    }
 
 pub returns-in-Some-least_writer-clause-steps : goal.returns-in-Some-least_writer-clause-steps
 returns-in-Some-least_writer-clause-steps c =
@@ -24,7 +63,7 @@ returns-in-Some-least_writer-clause-steps c =
     let count = c.trigger_count.ensures ∙ ap (λ (v : DbView). length (triggers_of number v.queues.triggers)) c.self.view_is in
     let few : c.trigger_count.result < 8 = omega (arith, c.most.ensures, c.if-trigger_count-most.false) in
     steps-unless d d (listing name) (Some c.in-Some-least_writer.txid) (record {
-      refused = list-busy d c.in-Some.queue name number (sym c.in-Some.ensures.queue) there c.trigger_count.result c.in-Some-least_writer.txid count few
+      refused = list-busy d c.in-Some.queue name number c.requires (sym c.in-Some.ensures.queue) there c.trigger_count.result c.in-Some-least_writer.txid count few
           (c.in-Some-least_writer.ensures ∙ ap (λ (v : DbView). least_writer (seen v.rows) number) c.self.view_is);
       same = refl;
     })
@@ -56,7 +95,7 @@ returns-clause-serves c =
     let count = c.trigger_count.ensures ∙ ap (λ (v : DbView). length (triggers_of number v.queues.triggers)) c.self.view_is in
     let few : c.trigger_count.result < 8 = omega (arith, c.most.ensures, c.if-trigger_count-most.false) in
     serves-by d _ (listing name) _
-    (list-does d c.in-Some.queue name number (sym c.in-Some.ensures.queue) there c.trigger_count.result count few
+    (list-does d c.in-Some.queue name number c.requires (sym c.in-Some.ensures.queue) there c.trigger_count.result count few
     (c.in_default-least_writer.ensures ∙ ap (λ (v : DbView). least_writer (seen v.rows) number) c.self.view_is))
     (listed-as _ _ c.trace.new.self c.add_root_table.new.node c.in-Some.queue number name c.self.view_is
     (λ beside. c.in_ok-trace.ensures.ok beside ∙ ap (λ (t : TableTrigger). after_mark (seen_with beside c.self.inside.queues) (queued (traced t.table t.name t.trigger))) c.set_trigger.ensures)
@@ -72,7 +111,7 @@ returns-clause-steps c =
     let few : c.trigger_count.result < 8 = omega (arith, c.most.ensures, c.if-trigger_count-most.false) in
     serves-steps d _ (listing name)
     (serves-by d _ (listing name) _
-    (list-does d c.in-Some.queue name number (sym c.in-Some.ensures.queue) there c.trigger_count.result count few
+    (list-does d c.in-Some.queue name number c.requires (sym c.in-Some.ensures.queue) there c.trigger_count.result count few
     (c.in_default-least_writer.ensures ∙ ap (λ (v : DbView). least_writer (seen v.rows) number) c.self.view_is))
     (listed-as _ _ c.trace.new.self c.add_root_table.new.node c.in-Some.queue number name c.self.view_is
     (λ beside. c.in_ok-trace.ensures.ok beside ∙ ap (λ (t : TableTrigger). after_mark (seen_with beside c.self.inside.queues) (queued (traced t.table t.name t.trigger))) c.set_trigger.ensures)

@@ -1,7 +1,7 @@
 use Rattle.std.proofs.Common.{ℤ, Err, ap, subst, w64}
 use Rattle.std.proofs.lemmas.Int.{to_z-of_z}
 use Rattle.sky_model.specs.Reader.{shown_by}
-use Rattle.sky_model.specs.Outcome.{reply_of, settled}
+use Rattle.sky_model.specs.Outcome.{reply_of, or_refused}
 use Rattle.sky_model.specs.Calls.{form}
 use Rattle.sky_model.specs.Stops.{Stops, Keeps}
 use Rattle.pgq_db.specs.Seen.{seen_database}
@@ -39,7 +39,7 @@ returns-in_ok-refuse-in-Err-Refused-clause-lists c =
     let tried = λ (now : ℤ). form d (shown_by d) now c.args.who c.args.stmt.now in
     let stops = subst (λ stop. Stops stop d (seen_database c.run_form.new.self) (tried c.args.now)) c.in-Err-Refused.field-0-is
     (subst (λ (now : ℤ). Stops c.in-Err-Refused.field-0 d (seen_database c.run_form.new.self) (tried now)) (to_z-of_z w64 c.args.now c.ranges.now) c.in-Err-Refused.ensures.ran.0) in
-    lists-refused c.args.self.now.queues c.refuse.new.self.queues c.args.stmt.now _ c.in-Err-Refused.refusal (ap (λ checked. (settled c.args.who (d.part.session c.args.who) checked).reply) stops.refused)
+    lists-refused c.args.self.now.queues c.refuse.new.self.queues c.args.stmt.now _ c.in-Err-Refused.refusal (ap (λ checked. (or_refused c.args.who (d.part.session c.args.who) checked).reply) stops.refused)
 
 pub returns-in-Ok-clause-lists : goal.returns-in-Ok-clause-lists
 returns-in-Ok-clause-lists c =

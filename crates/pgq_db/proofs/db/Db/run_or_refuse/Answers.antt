@@ -2,7 +2,7 @@ use Rattle.std.proofs.Common.{ℤ, sym, ap, ◌∙◌, subst, w64, if◌then◌e
 use Rattle.sky_model.specs.declared.stmt.Where.TheVariants.{WhenReading, WhenOutside}
 use Rattle.std.proofs.lemmas.Int.{to_z-of_z}
 use Rattle.sky_model.specs.State.{Database}
-use Rattle.sky_model.specs.Outcome.{settled}
+use Rattle.sky_model.specs.Outcome.{or_refused}
 use Rattle.sky_model.specs.Reader.{database_by_itself, shown_by}
 use Rattle.sky_model.specs.Calls.{form, statement}
 use Rattle.sky_model.specs.SessionMarks.{Enters}
@@ -39,7 +39,7 @@ pub returns-in_ok-run_entered-in-None-clause-lists : goal.returns-in_ok-run_ente
 returns-in_ok-run_entered-in-None-clause-lists c =
     let d = seen_database c.args.self.now in
     let s : Database = seen_database c.enter.new.self in
-    let done = λ (now : ℤ). (settled c.args.who (s.part.session c.args.who) (form s (shown_by s) now c.args.who c.args.stmt.now)).reply in
+    let done = λ (now : ℤ). (or_refused c.args.who (s.part.session c.args.who) (form s (shown_by s) now c.args.who c.args.stmt.now)).reply in
     subst (λ (q : QueuesView). ListsLooked q c.run_entered.new.self.queues c.args.stmt.now (statement database_by_itself d c.args.now c.args.who c.args.stmt.now).reply) c.in_ok-enter.ensures.queues
     (subst (ListsLooked c.enter.new.self.queues c.run_entered.new.self.queues c.args.stmt.now)
     (ap done (to_z-of_z w64 c.args.now c.ranges.now) ∙ sym (reply-entered d s c.args.now c.args.who c.args.stmt.now _ c.is_outside.ensures

@@ -1,6 +1,6 @@
 use Rattle.std.proofs.Common.{◌≡◌, ◌++◌, [], subst}
 use Rattle.sky_model.specs.State.{after_marks}
-use Rattle.sky_model.specs.OwnTransaction.{begin_of, commit_of, written}
+use Rattle.sky_model.specs.OwnTransaction.{begin_of, commit_of, in_own}
 use Rattle.sky_state.specs.Seen.{seen}
 use Rattle.pgq_db.specs.Views.{DbView}
 use Rattle.pgq_db.specs.Seen.{seen_database}
@@ -22,4 +22,4 @@ invariant_of-self c = λ e. agree-same (seen c.self.inside.rows) (seen c.write_e
 pub invariant_of-self-2 : goal.invariant_of-self-2
 invariant_of-self-2 c =
     let old = seen c.self.inside.rows in
-    λ e. agree-then old (seen c.write_elsewhere.new.self) (written c.args.who c.args.txid (old.session c.args.who) []) c.self.inside.queues c.in_ok-write_elsewhere.ensures.marks (c.self.invariant e)
+    λ e. agree-then old (seen c.write_elsewhere.new.self) (in_own c.args.who c.args.txid (old.session c.args.who) []) c.self.inside.queues c.in_ok-write_elsewhere.ensures.marks (c.self.invariant e)

@@ -21,6 +21,6 @@ returns-in-Ok-true-clause-ends g c =
 pub returns-in-Err-clause-ends : goal.returns-in-Err-clause-ends
 returns-in-Err-clause-ends g c = λ first held bytes goes. rw c.end_of.ensures
     (GoesOn-fault c.in-Err.fault c.args.self.now.reader c.advance.new.self (g.S.Source.left c.advance.new.src)
-    (λ left told. c.in-Err.ensures.bad left told c.requires.sound)
-    (λ is_read left told. c.in-Err.ensures.read (ap Err is_read) left told c.requires.sound)
+    (λ left told. c.in-Err.ensures.bad left told c.requires.counts.sound)
+    (λ is_read left told. c.in-Err.ensures.read (ap Err is_read) left told c.requires.counts.sound)
     goes)

@@ -4,6 +4,7 @@ use Rattle.sky_model.specs.declared.reply.Reply.TheVariants.{Done}
 use Rattle.sky_model.specs.Outcome.{Checked, ◌>>=◌}
 use Rattle.sky_model.specs.StepNode.{adding, node_does}
 use Rattle.sky_model.specs.NodesOfWorld.{WorldOutcome, done_in, columns_called, add_table}
+use Rattle.sky_model.proofs.NodeDeeds.{may-list, may-add}
 use Rattle.sky_world.specs.Seen.{seen_world}
 use Rattle.sky_world.specs.Nodes.{Ran, provided_as}
 use Rattle.sky_world.proofs.ServedNodes.{add-to_leaf, stops-then}
@@ -29,3 +30,11 @@ returns-in_ok-check_provided-in-Leaf c =
     (ap Some c.columns.ensures.value ∙ c.in-Some-schema.ensures ∙ ap (columns_called c.args.table.now) c.store.ensures)
     (ap (λ n. is_among c.args.table.now (tables_of n)) (sym c.in-Leaf.is) ∙ sym c.if-has_table.ensures) in
     subst (Ran c.args.self.now c.add_to_leaf.new.self c.add_to_leaf.result) (sym (whole ∙ ap (λ x. x >>= (λ _. rest)) c.in_ok-check_provided-in-Leaf.ensures.ok)) c.add_to_leaf.ensures
+
+pub add_to_root-requires-clause-may : goal.add_to_root-requires-clause-may
+add_to_root-requires-clause-may c =
+    may-list _ c.in-Root.root c.args.table.now (c.in-Some.ensures.there ∙ ap Some c.in-Root.is) (ap (λ n. is_among c.args.table.now (tables_of n)) (sym c.in-Root.is) ∙ sym c.if-has_table.ensures)
+
+pub add_to_leaf-requires-clause-may : goal.add_to_leaf-requires-clause-may
+add_to_leaf-requires-clause-may c =
+    may-add _ c.in-Leaf.leaf c.args.table.now (c.in-Some.ensures.there ∙ ap Some c.in-Leaf.is) (ap (λ n. is_among c.args.table.now (tables_of n)) (sym c.in-Leaf.is) ∙ sym c.if-has_table.ensures)
