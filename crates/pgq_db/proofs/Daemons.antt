@@ -1,4 +1,4 @@
--- What the daemon of a database leaves: of each queue in turn the tick that is due, or the steps of its rotation.
+-- What the daemon of a database leaves: of each queue, one after another, the tick that is due, or the steps of its rotation.
 use Rattle.std.proofs.Common.{◌≡◌, ℕ, zero, suc, ℤ, ◌+◌, ◌<◌, ◌≤◌, ◌^◌, nat_le, List, [], ◌∷◌, Bool, true, false, Option, Some, None, Ok, Err, length, drop, get_or, refl, sym, ◌∙◌, ap, subst, arith, if◌then◌else◌}
 use Rattle.sky_model.specs.declared.reply.Reply.TheVariants.{Number, Null}
 use Rattle.sky_model.specs.declared.reply.Refusal.TheVariants.{IdsSpent}

@@ -23,7 +23,7 @@ use Rattle.pgq_queues.specs.Seen.{no_queue, seen_batch, seen_span, queue_at, bat
 use Rattle.pgq_queues.specs.Traced.{traced_at}
 use Rattle.pgq_queues.specs.Views.{QueueView, QueuesView}
 use Rattle.pgq_queues.proofs.Slotted.{undone-get}
-use Rattle.pgq_db.specs.Looks.{most_for, LooksFor, LooksWithin, RanWithin, LooksFrom, ListsFrom, ListsLooked, ReadsNone}
+use Rattle.pgq_db.specs.Looks.{most_for, LooksFor, LooksWithin, RanWithin, LooksFrom, LooksAtNoOther, ListsFrom, ListsLooked, ReadsNone}
 
 -- ---- the queues as the gate
 
@@ -66,6 +66,17 @@ looks-for old new id batch span there is others upper = λ n. subst (λ o. reads
         subst (λ m. reads_at new.queues m ≤ reads_at old.queues m + most_in (queue_at old m) (seen_batch batch)) same
         (subst (λ (s : Span). reads_at new.queues s.queue ≤ reads_at old.queues s.queue + most_in (queue_at old s.queue) (seen_span s)) is upper)
     by n false e = let same = others n (subst (λ (s : Span). (s.queue == n) ≡ false) (sym is) e) in omega (arith, same)
+
+-- and none of another queue is looked at
+pub no-other-for : (old new : QueuesView) (id : ℕ) (batch : read.Batch) (span : Span) → Some (seen_batch batch) ≡ batch_at old id
+    → span ≡ record { queue = batch.queue; sub = batch.sub; prev = batch.prev; cur = batch.cur } → ((n : ℕ) → (span.queue == n) ≡ false → reads_at new.queues n ≡ reads_at old.queues n)
+    → LooksAtNoOther old new (batch_at old id)
+no-other-for old new id batch span there is others =
+    subst (LooksAtNoOther old new) there (subst (λ (s : Span). (n : ℕ) → (s.queue == n) ≡ false → reads_at new.queues n ≡ reads_at old.queues n) is others)
+
+pub no-other-same : (q : QueuesView) (o : Option Batch) → LooksAtNoOther q q o
+no-other-same q None = λ n. refl
+no-other-same q (Some b) = λ n apart. refl
 
 -- ---- a statement, part by part
 

@@ -1,13 +1,14 @@
 -- What calls for nodes give.
-use Rattle.std.proofs.Common.{◌≡◌, ℕ, ◌+◌, ◌<◌, ◌≤◌, ◌^◌, List, [], ◌∷◌, ◌++◌, Bool, true, false, nat_le, Option, Some, None, Result, Ok, Err, IfOk, OnOk, is_ok, is_some, is_none, length, option_map, refl, sym, ◌∙◌, ap, subst, arith}
+use Rattle.std.proofs.Common.{◌≡◌, ℕ, ◌+◌, ◌<◌, ◌≤◌, ◌^◌, List, [], ◌∷◌, ◌++◌, Bool, true, false, nat_le, Option, Some, None, Result, Ok, Err, IfOk, OnOk, is_ok, is_some, is_none, not, ◌||◌, cond, bytes_eq, length, option_map, refl, sym, ◌∙◌, ap, subst, arith}
 use Rattle.std.proofs.lemmas.Bool.Decides.{nat_tests}
 use Rattle.sky_names.specs.Places.{place_of}
+use Rattle.sky_names.proofs.PlaceLemmas.{bytes_eq_refl}
 use Rattle.londiste_state.specs.declared.state.TableState.{TableState}
-use Rattle.londiste_state.specs.Nodes.{Node, Leaf, of_leaf}
+use Rattle.londiste_state.specs.Nodes.{Node, Leaf, of_root, of_leaf, is_among, all_but}
 use Rattle.sky_model.specs.declared.reply.Reply.TheVariants.{Done, Number, Null}
 use Rattle.sky_model.specs.declared.reply.Limit.TheVariants.{Consumers, Triggers}
 use Rattle.sky_model.specs.declared.reply.Refusal.TheVariants.{ConsumerExists, IdsSpent, TableBusy, TooMany}
-use Rattle.sky_model.specs.History.{Mark, tabled, read_only, queued, registered, traced, untraced, noded, NodeMark, listed, unlisted, joined, leaf_made, leaf_added, leaf_removed, state_set}
+use Rattle.sky_model.specs.History.{Mark, tabled, read_only, queued, registered, traced, untraced, noded, NodeMark, listed, unlisted, joined, parted, leaf_made, leaf_added, leaf_removed, state_set}
 use Rattle.sky_model.specs.Nodes.{after_node}
 use Rattle.sky_model.specs.Triggers.{triggers_of}
 use Rattle.sky_model.specs.State.{after_part, Database, after_mark, after_marks}
@@ -28,7 +29,7 @@ use Rattle.pgq_queues.specs.Views.{QueuesView}
 use Rattle.pgq_queues.specs.Seen.{seen_with, Beside}
 use Rattle.pgq_db.specs.Views.{DbView}
 use Rattle.pgq_db.specs.Seen.{with_node, seen_database}
-use Rattle.pgq_db.specs.Served.{Serves, ServesUnlessBusy}
+use Rattle.pgq_db.specs.Served.{set_consumers, Serves, ServesUnlessBusy}
 use Rattle.pgq_db.proofs.Databases.{table-there}
 
 -- what a call's definition says was done
@@ -63,24 +64,48 @@ served-nothing d call may none = let same : node_does d call ≡ answers Null = 
 table-missing : (v now : DbView) (table : List ℕ) → v ≡ now → place_of table (seen v.rows).tables ≡ None → place_of table (seen_database now).part.tables ≡ None
 table-missing v now table same missing = subst (λ (w : DbView). place_of table (seen w.rows).tables ≡ None) same missing
 
-module _ (v now : DbView) (name : List ℕ) (same : v ≡ now) (missing : place_of name (seen v.rows).tables ≡ None) where
-  pub adding-nothing : may_serve (adding name) (seen_database now).node ≡ true → Serves (seen_database now) (seen_database now) (adding name)
-  adding-nothing may = served-nothing (seen_database now) (adding name) may (ap (λ o. if_there o (λ t. adds (seen_database now) t name)) (table-missing v now name same missing))
+-- one that is there isn't missing
+pub table-not : (v now : DbView) (table : List ℕ) → v ≡ now → place_of table (seen v.rows).tables ≡ None → is_some (table_number (seen_database now) table) ≡ true → ⊥
+table-not v now table same missing there = let none : is_some (table_number (seen_database now) table) ≡ false = ap is_some (table-missing v now table same missing) in absurd (cc)
 
+module _ (v now : DbView) (name : List ℕ) (same : v ≡ now) (missing : place_of name (seen v.rows).tables ≡ None) where
   pub removing-nothing : may_serve (removing name) (seen_database now).node ≡ true → Serves (seen_database now) (seen_database now) (removing name)
   removing-nothing may = served-nothing (seen_database now) (removing name) may (ap (λ o. if_there o (λ t. removes t name)) (table-missing v now name same missing))
 
   pub unlisting-nothing : may_serve (unlisting name) (seen_database now).node ≡ true → Serves (seen_database now) (seen_database now) (unlisting name)
   unlisting-nothing may = served-nothing (seen_database now) (unlisting name) may (ap (λ o. if_there o (λ t. unlists t name)) (table-missing v now name same missing))
 
-  pub listing-nothing : (q : ℕ) → may_serve (listing name) (seen_database now).node ≡ true → set_queue (seen_database now) ≡ Some q → Serves (seen_database now) (seen_database now) (listing name)
-  listing-nothing q may set =
-      served-nothing (seen_database now) (listing name) may
-      (ap (λ o. if_there o (λ queue. if_there (table_number (seen_database now) name) (λ t. lists (seen_database now) queue t name))) set
-      ∙ ap (λ o. if_there o (λ t. lists (seen_database now) q t name)) (table-missing v now name same missing))
-
 pub listing-nowhere : (d : Database) (name : List ℕ) → may_serve (listing name) d.node ≡ true → set_queue d ≡ None → Serves d d (listing name)
 listing-nowhere d name may none = served-nothing d (listing name) may (ap (λ o. if_there o (λ queue. if_there (table_number d name) (λ t. lists d queue t name))) none)
+
+-- ---- a name that the queues have no memory for is taken out of the node again
+
+added-back : (name : List ℕ) (names : List (List ℕ)) → is_among name names ≡ false → all_but name (names ++ name ∷ []) ≡ names
+added-back name [] new = ap (λ b. cond (not b) (name ∷ []) []) (bytes_eq_refl name)
+added-back name (first ∷ names) new = by (added-back name names) (bytes_eq name first) refl new
+  where
+    by : (is_among name names ≡ false → all_but name (names ++ name ∷ []) ≡ names) → (b : Bool) → bytes_eq name first ≡ b → (b || is_among name names) ≡ false
+        → all_but name (first ∷ names ++ name ∷ []) ≡ first ∷ names
+    by others true e new = absurd (cc)
+    by others false e new = ap (λ b. cond (not b) (first ∷ all_but name (names ++ name ∷ [])) (all_but name (names ++ name ∷ []))) e ∙ ap (λ ns. first ∷ ns) (others new)
+
+pub joined-back : (node : Option Node) (consumer : List ℕ) → is_among consumer (set_consumers node) ≡ false → after_node (parted consumer) (after_node (joined consumer) node) ≡ node
+joined-back (Some (of_root r)) consumer new = ap (λ (names : List (List ℕ)). Some (of_root (record r { consumers = names }))) (added-back consumer r.consumers new)
+joined-back (Some (of_leaf l)) consumer new = refl
+joined-back None consumer new = refl
+
+pub listed-back : (node : Option Node) (table : List ℕ) → may_serve (listing table) node ≡ true → after_node (unlisted table) (after_node (listed table) node) ≡ node
+listed-back (Some (of_root r)) table may = ap (λ (names : List (List ℕ)). Some (of_root (record r { tables = names }))) (added-back table r.tables (new (is_among table r.tables) may))
+  where
+    new : (b : Bool) → not b ≡ true → b ≡ false
+    new true may = absurd (cc)
+    new false may = refl
+listed-back (Some (of_leaf l)) table may = refl
+listed-back None table may = refl
+
+pub back-as : (v now : DbView) (queues : QueuesView) (node : Option Node) → v ≡ now → ((beside : Beside) → seen_with beside queues ≡ seen_with beside v.queues) → node ≡ v.node
+    → seen_database (record v { queues = queues; node = node }) ≡ seen_database now
+back-as v now queues node same is back = is (with_node node (seen v.rows)) ∙ (λ i. seen_with (with_node (back i) (seen v.rows)) v.queues) ∙ ap seen_database same
 
 -- ---- a leaf's consumer joins
 

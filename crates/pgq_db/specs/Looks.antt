@@ -1,5 +1,5 @@
 -- How many stored events a statement looks at, by queue.
-use Rattle.std.specs.Prelude.{◌≡◌, ℕ, ◌+◌, ◌-◌, ◌^◌, ◌<◌, ◌≤◌, ◌==◌, List, length, Option, Some, None, if◌then◌else◌, Result, Ok, Err}
+use Rattle.std.specs.Prelude.{◌≡◌, ℕ, ◌+◌, ◌-◌, ◌^◌, ◌<◌, ◌≤◌, ◌==◌, List, length, false, Option, Some, None, if◌then◌else◌, Result, Ok, Err}
 use Rattle.sky_val.specs.declared.event.Event.{Event}
 use Rattle.sky_model.specs.History.{Batch}
 use Rattle.sky_model.specs.declared.reply.Reply.{Reply}
@@ -41,6 +41,11 @@ RanWithin old new _ result = Unit {0}
 -- nothing is looked at
 abbrev pub ReadsNone : QueuesView → QueuesView → Type 0
 ReadsNone old new = (n : ℕ) → reads_at new.queues n ≡ reads_at old.queues n
+
+-- for a batch, nothing of another queue is looked at
+abbrev pub LooksAtNoOther : QueuesView → QueuesView → Option Batch → Type 0
+LooksAtNoOther old new None = ReadsNone old new
+LooksAtNoOther old new (Some b) = (n : ℕ) → (b.queue == n) ≡ false → reads_at new.queues n ≡ reads_at old.queues n
 
 -- of a batch's queue as many are looked at as are listed, at least, unless so many were that they are no longer counted
 abbrev pub LooksFrom : QueuesView → QueuesView → List Event → Option Batch → Type 0

@@ -1,5 +1,6 @@
 -- What a database does for a node, its own or another's.
-use Rattle.std.specs.Prelude.{◌≡◌, ℕ, true, List, Option, Some, None, is_ok}
+use Rattle.std.specs.Prelude.{◌≡◌, ℕ, false, true, List, [], Option, Some, None, is_ok}
+use Rattle.londiste_state.specs.Nodes.{Node, of_root, is_among}
 use Rattle.sky_model.specs.declared.reply.Limit.TheVariants.{Consumers, Triggers}
 use Rattle.sky_model.specs.declared.reply.Refusal.TheVariants as refusal
 use Rattle.sky_model.specs.declared.reply.Reply.TheVariants.{Number, Null}
@@ -21,17 +22,23 @@ pub record Serves (old new : Database) (call : NodeCall) : Type 0 where
   pub accepted : is_ok (node_does old call) ≡ true
   pub changed : new ≡ after_marks old (marks_of (node_does old call))
 
--- a consumer didn't join, as its call's definition says, and nothing has changed; or memory ran out
+-- the consumers of a root's leaves
+abbrev pub set_consumers : Option Node → List (List ℕ)
+set_consumers (Some (of_root r)) = r.consumers
+set_consumers _ = []
+
+-- a consumer didn't join, as its call's definition says, or memory ran out; either way nothing has changed. If memory ran out this is said of a consumer
+-- that was no leaf's before: a leaf's consumer is registered at the set's queue, so it is refused as one that exists
 abbrev pub JoinRefused : JoinFault → (old new : Database) → (consumer : List ℕ) → Type 0
 JoinRefused join.ConsumerExists old new consumer = Refuses old new (refusal.ConsumerExists consumer) (node_does old (joining consumer))
 JoinRefused join.TooManyConsumers old new consumer = Refuses old new (refusal.TooMany Consumers) (node_does old (joining consumer))
 JoinRefused join.IdsSpent old new consumer = Refuses old new refusal.IdsSpent (node_does old (joining consumer))
-JoinRefused join.NoMemory old new consumer = Unit {0}
+JoinRefused join.NoMemory old new consumer = is_among consumer (set_consumers old.node) ≡ false → new ≡ old
 
--- a table didn't join a set, as its call's definition says, and nothing has changed; or memory ran out
+-- a table didn't join a set, as its call's definition says, or memory ran out; either way nothing has changed
 abbrev pub RootRefused : RootFault → (old new : Database) → (table : List ℕ) → Type 0
 RootRefused root.TooManyTriggers old new table = Refuses old new (refusal.TooMany Triggers) (node_does old (listing table))
-RootRefused root.NoMemory old new table = Unit {0}
+RootRefused root.NoMemory old new table = new ≡ old
 
 -- a consumer gets no batch, as its call's definition says, or memory ran out; either way nothing has changed
 abbrev pub FetchRefused : FetchFault → (old new : Database) → (consumer : List ℕ) → Type 0

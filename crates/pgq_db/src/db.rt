@@ -49,8 +49,9 @@ pub struct Db {
     pub(crate) node: Option<Node>,
     // What the row part does in one call.
     step: RowStep,
-    // Whether memory ran out during a statement on rows. What its tables are, and how often its events were
-    // retried, isn't known then, so no statement on rows or retries is run from then on.
+    // Whether memory ran out while a statement on rows ran, one of them resumed, or a block was rolled back. What the
+    // tables are, and how often events were retried, isn't known then: from then on no statement on rows is run, none
+    // resumes, and no event is retried or comes back.
     pub(crate) is_cut: bool,
 }
 
@@ -142,7 +143,7 @@ impl Db {
     }
 
     /// Rolls back the session's block, which stays aborted, and runs the statements that this unblocks. If it is in
-    /// none, or that is aborted, nothing is rolled back. The moment is for the events that record what resumes.
+    /// none, or in an aborted one, nothing is rolled back. The moment dates the events of statements that resume.
     pub fn fail(&mut self, who: SessionId, now: i64) -> Result<Replies, NoMemory>
         requires { IsTime now }
         ensures exact { let d = seen_database self.old in
@@ -154,9 +155,31 @@ impl Db {
             OnOk result (DatabaseSteps d (seen_database self.new) (failed who now) (with_settling (within_part database_by_itself now) d (failing d.part who))) }
     {
         let mut replies = Replies::new(self.alloc);
-        self.roll_back(who)?;
-        self.settle(now, &mut replies)?;
+        self.fail_into(who, now, &mut replies)?;
         Ok(replies)
+    }
+
+    /// The same; the answers are added to those that were given before.
+    pub fn fail_into(
+        &mut self,
+        who: SessionId,
+        now: i64,
+        replies: &mut Replies,
+    ) -> Result<(), NoMemory>
+        requires { IsTime now }
+        ensures exact { let d = seen_database self.old in
+            OnOk result (Adds d (seen_database self.new) replies.old replies.new (with_settling (within_part database_by_itself now) d (failing d.part who))) }
+        ensures rests { OnOk result (ready (seen_database self.new).part ≡ None) }
+        ensures moments { let d = seen_database self.old in
+            OnOk result (HaveMoments (with_settling (within_part database_by_itself now) d (failing d.part who)).answers) }
+        ensures within { let d = seen_database self.old in
+            OnOk result (StaysWithin d (seen_database self.new) who (with_settling (within_part database_by_itself now) d (failing d.part who)).answers) }
+        ensures steps { let d = seen_database self.old in
+            OnOk result (DatabaseSteps d (seen_database self.new) (failed who now) (with_settling (within_part database_by_itself now) d (failing d.part who))) }
+    {
+        self.roll_back(who)?;
+        self.settle(now, replies)?;
+        Ok(())
     }
 
     /// Runs a statement on rows, and those that it unblocks. Events record their writes. The switches of event tables
@@ -181,7 +204,7 @@ impl Db {
         switch_before(&mut self.queues, &self.rows, now, who, stmt);
         self.queues.set_time(now);
         self.step.effects.clear();
-        // The list is the step's as long as that runs.
+        // The list of answers is in the step while that runs.
         mem::swap(&mut self.step.replies, replies);
         let stepped = self
             .rows
@@ -212,7 +235,7 @@ impl Db {
         }
         self.queues.set_time(now);
         self.step.effects.clear();
-        // The list is the step's as long as that runs.
+        // The list of answers is in the step while that runs.
         mem::swap(&mut self.step.replies, replies);
         let settled = self.rows.settle_into(&mut self.queues, &mut self.step);
         mem::swap(&mut self.step.replies, replies);
@@ -243,7 +266,7 @@ impl Db {
         }
     }
 
-    /// A parameter of a queue gets the value that a text writes, or it is said why not.
+    /// A parameter of a queue gets the value that a text writes, or the answer says why not.
     pub(crate) fn configure(&mut self, queue: usize, param: &Text, value: &Text) -> Result<(), Stop>
         requires { Stands self.old.queues.queues queue }
         ensures mark { OnOk result (Configures (seen_database self.old) (seen_database self.new) queue (configured_as ((seen_database self.old).queue queue).config param.now value.now)) }
@@ -256,7 +279,7 @@ impl Db {
         Ok(())
     }
 
-    /// One more tick of a queue, with the next id, which it gives, or a refusal if there is none.
+    /// Makes one more tick of a queue, and answers its id, which is the next one, or refuses if there is none.
     pub(crate) fn tick(&mut self, queue: usize, now: i64) -> Result<u64, Stop>
         requires queue { Stands self.old.queues.queues queue }
         requires time { IsTime now }

@@ -4,7 +4,7 @@
 //! a `Db` is read by `seen_database` as the definitions' database. For every place of every history that calls make, if
 //! the database is as it was there, the answers are those of the definitions, and the database is then that of the
 //! history with the turn's marks on top. The queues are the gate of the rows: they are notified of each write and of
-//! each rollback, in their order, and before a `commit` the switches of event tables are made that its transaction has
+//! each rollback, in their order, and before a `commit` they make the switches of event tables that its transaction has
 //! pending. A statement that is run elsewhere comes in by `enter`, and if it is refused there, `fail` aborts the block
 //! that its session is in.
 //! What a node needs of its own database, or of another, is a call each, in `node` and `provider`.

@@ -1,9 +1,9 @@
 //! The root or leaf that a database is in a set of replicated tables, and what a database does for nodes: its own and
 //! those of other databases. A caller decides which of these calls a statement makes, and in which databases.
 
-ghost use Rattle.std.specs.Prelude.{◌≡◌, ◌++◌, [], ◌∷◌, true, None, Some, Ok, IfOk, IfErr, IfSome, OnOk, is_some, option_copied, option_map};
+ghost use Rattle.std.specs.Prelude.{◌≡◌, ◌++◌, [], ◌∷◌, true, None, Some, Ok, IfOk, IfErr, IfSome, OnOk, OnErr, is_some, option_copied, option_map};
 ghost use Rattle.londiste_state.specs.declared.node.Node.TheVariants as node;
-ghost use Rattle.sky_model.specs.History.{noded, NodeMark, root_made, listed, unlisted, joined, leaf_made, leaf_added, leaf_removed, state_set};
+ghost use Rattle.sky_model.specs.History.{noded, NodeMark, root_made, listed, unlisted, joined, parted, leaf_made, leaf_added, leaf_removed, state_set};
 ghost use Rattle.sky_model.specs.Moment.{IsTime};
 ghost use Rattle.sky_model.specs.Nodes.{after_node, is_set_queue, is_leafs};
 ghost use Rattle.sky_model.specs.NodesOfWorld.{columns_called};
@@ -13,7 +13,7 @@ ghost use Rattle.sky_model.specs.DatabaseCalls.{served};
 ghost use Rattle.sky_model.specs.DatabaseSteps.{DatabaseSteps};
 ghost use Rattle.sky_model.specs.StepConsumer.{has_dot, is_nodes};
 ghost use Rattle.sky_model.specs.StepQueue.{newest_id};
-ghost use Rattle.sky_model.specs.StepNode.{set_queue, set_trigger, create_root, joining, making_leaf, adding, removing, moving, listing, unlisting, may_serve, node_does};
+ghost use Rattle.sky_model.specs.StepNode.{set_queue, set_trigger, create_root, joining, making_leaf, adding, removing, moving, listing, unlisting, table_number, may_serve, node_does};
 ghost use Rattle.pgq_queues.specs.Seen.{Stands};
 ghost use Rattle.pgq_db.specs.Gives.{Ran};
 ghost use Rattle.pgq_db.specs.Seen.{seen_database};
@@ -36,7 +36,7 @@ impl Db {
         self.node.as_ref()
     }
 
-    /// Whether the node is a root whose queue stands.
+    /// Whether the node is a root whose queue exists.
     pub fn is_provider(&self) -> bool
         ensures { result ≡ is_some (set_queue (seen_database self.now)) }
     {
@@ -51,7 +51,8 @@ impl Db {
         Some(schema)
     }
 
-    /// A leaf's consumer joins the queue of the set, at the queue's newest tick, which is the answer.
+    /// Registers a leaf's consumer at the newest tick of the set's queue, and returns that tick. On an error nothing
+    /// changes, except that a consumer that was a leaf's but not registered may be a leaf's no longer.
     pub fn join(&mut self, consumer: &Text) -> Result<u64, JoinFault>
         requires { is_some (set_queue (seen_database self.old)) ≡ true }
         ensures tick { IfOk result (λ tick. option_map (λ queue. newest_id ((seen_database self.old).queue queue)) (set_queue (seen_database self.old)) ≡ Some tick) }
@@ -73,15 +74,21 @@ impl Db {
         }
         let newest = self.queues.queue(queue).ticks().newest().id();
         let name = consumer.copy(self.alloc)?;
-        self.queues.register(queue, consumer, newest)?;
         add_consumer(&mut self.node, name)?;
+        if let Err(no_memory) = self.queues.register(queue, consumer, newest) {
+            // It wasn't among the leaves' consumers before, since these are registered.
+            remove_consumer(&mut self.node, consumer);
+            return Err(JoinFault::from(no_memory));
+        }
         Ok(newest)
     }
 
-    /// The database gets a leaf of the root of this name, at a tick of the root's queue.
+    /// Makes the database's node, a leaf of the root of this name, at a tick of the root's queue. On an error nothing
+    /// changes.
     pub fn make_leaf(&mut self, name: &Text, provider: &Text, tick: u64) -> Result<(), NoMemory>
         requires { (seen_database self.old).node ≡ None }
         ensures serves { OnOk result (Serves (seen_database self.old) (seen_database self.new) (making_leaf name.now provider.now tick)) }
+        ensures err { OnErr result (seen_database self.new ≡ seen_database self.old) }
         ensures steps { OnOk result (DatabaseSteps (seen_database self.old) (seen_database self.new) (served (making_leaf name.now provider.now tick)) (quietly (node_does (seen_database self.old) (making_leaf name.now provider.now tick)))) }
     {
         let name = name.copy(self.alloc)?;
@@ -91,15 +98,17 @@ impl Db {
         Ok(())
     }
 
-    /// A table joins the leaf, which doesn't have it yet, and sessions may not write it from now on. If a running
-    /// transaction has written it, nothing changes, and the answer is that transaction's id.
+    /// Adds a table to the leaf, which doesn't have it yet. From then on sessions may not write it. If a running
+    /// transaction has written it, nothing changes, and that transaction's id is returned. On an error nothing changes.
     pub fn leaf_add(&mut self, table: &Text) -> Result<Option<u64>, NoMemory>
-        requires { may_serve (adding table.now) (seen_database self.old).node ≡ true }
+        requires there { is_some (table_number (seen_database self.old) table.now) ≡ true }
+        requires may { may_serve (adding table.now) (seen_database self.old).node ≡ true }
         ensures serves { IfOk result (λ busy. ServesUnlessBusy busy (seen_database self.old) (seen_database self.new) (adding table.now)) }
+        ensures err { OnErr result (seen_database self.new ≡ seen_database self.old) }
         ensures steps { OnOk result (DatabaseSteps (seen_database self.old) (seen_database self.new) (served (adding table.now)) (quietly (node_does (seen_database self.old) (adding table.now)))) }
     {
         let Some((number, _)) = self.rows.table(table) else {
-            return Ok(None);
+            unreachable!()
         };
         if let Some(txid) = self.rows.least_writer(number) {
             return Ok(Some(txid));
@@ -110,7 +119,7 @@ impl Db {
         Ok(None)
     }
 
-    /// A table leaves the leaf, which has it, and sessions may write it again.
+    /// Removes a table from the leaf, which has it. From then on sessions may write it again.
     pub fn leaf_drop(&mut self, table: &Text)
         requires { may_serve (removing table.now) (seen_database self.old).node ≡ true }
         ensures serves { Serves (seen_database self.old) (seen_database self.new) (removing table.now) }
@@ -123,7 +132,7 @@ impl Db {
         self.rows.set_read_only(number, false);
     }
 
-    /// A table of the leaf gets this state.
+    /// Sets the state of a table of the leaf, which may go to it.
     pub fn set_state(&mut self, table: &Text, to: TableState)
         requires allowed { may_serve (moving table.now to) (seen_database self.old).node ≡ true }
         ensures serves { Serves (seen_database self.old) (seen_database self.new) (moving table.now to) }
@@ -132,10 +141,12 @@ impl Db {
         set_leaf_state(&mut self.node, table, to);
     }
 
-    /// A table that isn't in the set yet joins it, and its queue gets the events of the table's writes from now on. If a
-    /// running transaction has written it, nothing changes, and the answer is that transaction's id.
+    /// Adds a table to the set, which doesn't have it yet. From then on the set's queue gets the events of the table's
+    /// writes. If a running transaction has written it, nothing changes, and that transaction's id is returned. On an
+    /// error nothing changes.
     pub fn root_add(&mut self, table: &Text) -> Result<Option<u64>, RootFault>
-        requires { may_serve (listing table.now) (seen_database self.old).node ≡ true }
+        requires there { is_some (table_number (seen_database self.old) table.now) ≡ true }
+        requires may { may_serve (listing table.now) (seen_database self.old).node ≡ true }
         ensures serves { IfOk result (λ busy. ServesUnlessBusy busy (seen_database self.old) (seen_database self.new) (listing table.now)) }
         ensures fault { IfErr result (λ fault. RootRefused fault (seen_database self.old) (seen_database self.new) table.now) }
         ensures steps { OnOk result (DatabaseSteps (seen_database self.old) (seen_database self.new) (served (listing table.now)) (quietly (node_does (seen_database self.old) (listing table.now)))) }
@@ -144,7 +155,7 @@ impl Db {
             return Ok(None);
         };
         let Some((number, schema)) = self.rows.table(table) else {
-            return Ok(None);
+            unreachable!()
         };
         if self.queues.trigger_count(number) >= Limit::Triggers.most() {
             return Err(RootFault::TooManyTriggers);
@@ -153,13 +164,16 @@ impl Db {
             return Ok(Some(txid));
         }
         let name = table.copy(self.alloc)?;
-        self.queues
-            .trace(table, schema, set_trigger(self.alloc, number, queue))?;
         add_root_table(&mut self.node, name)?;
+        let trigger = set_trigger(self.alloc, number, queue);
+        if let Err(no_memory) = self.queues.trace(table, schema, trigger) {
+            remove_root_table(&mut self.node, table);
+            return Err(RootFault::from(no_memory));
+        }
         Ok(None)
     }
 
-    /// A table leaves the set, which has it, and its events no longer go to the set's queue.
+    /// Removes a table from the set, which has it. Its events no longer go to the set's queue.
     pub fn root_drop(&mut self, table: &Text)
         requires { may_serve (unlisting table.now) (seen_database self.old).node ≡ true }
         ensures serves { Serves (seen_database self.old) (seen_database self.new) (unlisting table.now) }
@@ -172,7 +186,7 @@ impl Db {
         self.queues.untrace(number);
     }
 
-    /// `create_root NAME NAME`: the root of a set, with the set's queue, which is made as by `create_queue`.
+    /// `create_root NAME NAME`: makes the root of a set, and the set's queue as `create_queue` does.
     pub(crate) fn create_root(
         &mut self,
         now: i64,
@@ -230,7 +244,8 @@ impl Db {
         is_set_queue(&self.node, queue)
     }
 
-    /// Whether a consumer of the queue of this name is a node's, so that no session may use it.
+    /// Whether a consumer of the queue of this name is a node's, so that no session may use it: its name has a dot, or
+    /// it is a leaf's.
     pub(crate) fn is_nodes(&self, queue: &Text, consumer: &Text) -> bool
         ensures { result ≡ is_nodes (seen_database self.now) queue.now consumer.now }
     {
@@ -243,7 +258,7 @@ impl Db {
         }
     }
 
-    /// The same of the queue of a number.
+    /// The same for the queue of this number.
     pub(crate) fn is_nodes_of(&self, queue: usize, consumer: &Text) -> bool
         ensures { result ≡ is_nodes (seen_database self.now) (queue_name queue (seen_database self.now).queues) consumer.now }
     {
@@ -259,7 +274,7 @@ impl Db {
     }
 }
 
-/// The same, of a node: `add_trigger` holds a table meanwhile.
+/// The same for a node alone, since `add_trigger` has borrowed a table of the database.
 pub(crate) fn is_set_queue(node: &Option<Node>, queue: &Text) -> bool
     ensures { result ≡ is_set_queue queue.now node.now }
 {
@@ -286,9 +301,10 @@ fn set_trigger(alloc: Global, table: u32, queue: usize) -> TableTrigger
     }
 }
 
-/// A consumer is a leaf's from now on, if the node is a root.
+/// Adds the consumer of a leaf, if the node is a root.
 fn add_consumer(node: &mut Option<Node>, consumer: Text) -> Result<(), NoMemory>
-    ensures { OnOk result (node.new ≡ after_node (joined consumer) node.old) }
+    ensures ok { OnOk result (node.new ≡ after_node (joined consumer) node.old) }
+    ensures err { OnErr result (node.new ≡ node.old) }
 {
     if let Some(Node::Root(root)) = node {
         root.add_consumer(consumer)?;
@@ -296,9 +312,19 @@ fn add_consumer(node: &mut Option<Node>, consumer: Text) -> Result<(), NoMemory>
     Ok(())
 }
 
-/// A table is in the set from now on, if the node is a root.
+/// Removes the consumer of a leaf, if the node is a root.
+pub(crate) fn remove_consumer(node: &mut Option<Node>, consumer: &Text)
+    ensures { node.new ≡ after_node (parted consumer.now) node.old }
+{
+    if let Some(Node::Root(root)) = node {
+        root.remove_consumer(consumer);
+    }
+}
+
+/// Adds a table to the set, if the node is a root.
 fn add_root_table(node: &mut Option<Node>, table: Text) -> Result<(), NoMemory>
-    ensures { OnOk result (node.new ≡ after_node (listed table) node.old) }
+    ensures ok { OnOk result (node.new ≡ after_node (listed table) node.old) }
+    ensures err { OnErr result (node.new ≡ node.old) }
 {
     if let Some(Node::Root(root)) = node {
         root.add_table(table)?;
@@ -314,9 +340,10 @@ fn remove_root_table(node: &mut Option<Node>, table: &Text)
     }
 }
 
-/// A table is in the leaf from now on, if the node is one.
+/// Adds a table to the leaf, if the node is one.
 fn add_leaf_table(node: &mut Option<Node>, table: Text) -> Result<(), NoMemory>
-    ensures { OnOk result (node.new ≡ after_node (leaf_added table) node.old) }
+    ensures ok { OnOk result (node.new ≡ after_node (leaf_added table) node.old) }
+    ensures err { OnErr result (node.new ≡ node.old) }
 {
     if let Some(Node::Leaf(leaf)) = node {
         leaf.add_table(table)?;

@@ -4,20 +4,18 @@ ghost use Rattle.std.specs.Prelude.{◌≡◌, true, Some, IfOk, IfErr, OnOk, If
 ghost use Rattle.sky_model.specs.Daemon.{quietly};
 ghost use Rattle.sky_model.specs.DatabaseCalls.{served};
 ghost use Rattle.sky_model.specs.DatabaseSteps.{DatabaseSteps, ShowsEvents};
-ghost use Rattle.sky_model.specs.Nodes.{after_node};
-ghost use Rattle.sky_model.specs.History.{parted};
 ghost use Rattle.sky_model.specs.Printed.{EventsHaveMoments};
 ghost use Rattle.sky_model.specs.Reader.{shown_by};
 ghost use Rattle.sky_model.specs.StepConsumer.{sub_ids_spent};
 ghost use Rattle.sky_model.specs.StepNode.{set_queue, is_full, has_joined, snapshot_of_tick, parting, fetching, finishing, node_does};
 ghost use Rattle.pgq_queues.specs.Seen.{Stands, batch_at};
-ghost use Rattle.pgq_db.specs.Looks.{LooksFor, LooksFrom};
+ghost use Rattle.pgq_db.specs.Looks.{LooksFor, LooksFrom, LooksAtNoOther};
 ghost use Rattle.pgq_db.specs.Seen.{seen_database};
 ghost use Rattle.pgq_db.specs.Served.{Serves, Fetched, FetchRefused};
 
 use crate::db::Db;
 use crate::faults::FetchFault;
-use londiste_state::Node;
+use crate::node::remove_consumer;
 use sky_model::Limit;
 use sky_txid::Snapshot;
 use sky_val::{Event, NoMemory, Text};
@@ -31,7 +29,7 @@ pub struct NodeBatch {
 }
 
 impl Db {
-    /// Whether the set's queue has as many consumers as it may, and none of them is this one.
+    /// Whether the set's queue has as many consumers as it may have, and this isn't one of them.
     pub fn full(&self, consumer: &Text) -> bool
         requires provider { is_some (set_queue (seen_database self.now)) ≡ true }
         ensures { result ≡ is_full (seen_database self.now) consumer.now }
@@ -40,14 +38,14 @@ impl Db {
         queue.consumer_count() >= Limit::Consumers.most() && !queue.has_consumer(consumer)
     }
 
-    /// Whether the last subscription id was given.
+    /// Whether the last subscription id has been given.
     pub fn spent(&self) -> bool
         ensures { result ≡ sub_ids_spent (seen_database self.now) }
     {
         self.queues.last_sub() == u64::MAX
     }
 
-    /// A leaf's consumer leaves the set's queue, if it is registered.
+    /// Unregisters a leaf's consumer from the set's queue, if it is registered.
     pub fn part(&mut self, consumer: &Text)
         requires provider { is_some (set_queue (seen_database self.old)) ≡ true }
         ensures serves { Serves (seen_database self.old) (seen_database self.new) (parting consumer.now) }
@@ -60,7 +58,8 @@ impl Db {
         remove_consumer(&mut self.node, consumer);
     }
 
-    /// The active batch of a leaf's consumer, else a new one to the next tick, if that is made.
+    /// The active batch of a leaf's consumer. If it has none, a new one up to the next tick, if there is one. On an error
+    /// nothing changes.
     pub fn fetch(&mut self, consumer: &Text) -> Result<Option<NodeBatch>, FetchFault>
         requires provider { is_some (set_queue (seen_database self.old)) ≡ true }
         requires registered { has_joined (seen_database self.old) consumer.now ≡ true }
@@ -96,7 +95,7 @@ impl Db {
         }))
     }
 
-    /// The events of an active batch.
+    /// The events of an active batch. Nothing changes but how many events of the batch's queue were looked at.
     pub fn batch_events(&mut self, batch: u64) -> Result<Vec<Event>, NoMemory>
         requires provider { is_some (set_queue (seen_database self.old)) ≡ true }
         requires active { is_some ((seen_database self.old).batch batch) ≡ true }
@@ -105,6 +104,7 @@ impl Db {
         ensures same { seen_database self.new ≡ seen_database self.old }
         ensures looks { OnOk result (LooksFor self.old.queues self.new.queues batch) }
         ensures lists { IfOk result (λ events. LooksFrom self.old.queues self.new.queues events.items (batch_at self.old.queues batch)) }
+        ensures others { LooksAtNoOther self.old.queues self.new.queues (batch_at self.old.queues batch) }
     {
         match self.events_of(batch)? {
             Some(events) => Ok(events),
@@ -112,13 +112,14 @@ impl Db {
         }
     }
 
-    /// The events of the active batch of an id, if there is one.
+    /// The events of the active batch of this id, if there is one. The same holds.
     pub(crate) fn events_of(&mut self, id: u64) -> Result<Option<Vec<Event>>, NoMemory>
         ensures events { IfOk result (λ found. option_map (λ events. events.items) found ≡ (shown_by (seen_database self.old)).events id) }
         ensures moments { IfOk result (λ found. IfSome found (λ events. EventsHaveMoments events.items)) }
         ensures same { seen_database self.new ≡ seen_database self.old }
         ensures looks { OnOk result (LooksFor self.old.queues self.new.queues id) }
         ensures lists { IfOk result (λ found. IfSome found (λ events. LooksFrom self.old.queues self.new.queues events.items (batch_at self.old.queues id))) }
+        ensures others { LooksAtNoOther self.old.queues self.new.queues (batch_at self.old.queues id) }
     {
         let Some(batch) = self.queues.batch(id) else {
             return Ok(None);
@@ -128,7 +129,7 @@ impl Db {
         Ok(Some(events))
     }
 
-    /// An active batch is finished: its consumer is at its closing tick.
+    /// Finishes an active batch, so that its consumer is at its closing tick.
     pub fn finish_node(&mut self, batch: u64)
         requires provider { is_some (set_queue (seen_database self.old)) ≡ true }
         requires active { is_some ((seen_database self.old).batch batch) ≡ true }
@@ -138,7 +139,7 @@ impl Db {
         self.queues.close_batch(batch);
     }
 
-    /// The snapshot of a tick of the set's queue, if it keeps the tick.
+    /// The snapshot of a tick of the set's queue, if the queue keeps that tick.
     pub fn tick_snapshot(&self, tick: u64) -> Option<&Snapshot>
         requires provider { is_some (set_queue (seen_database self.now)) ≡ true }
         ensures { option_copied result ≡ snapshot_of_tick (seen_database self.now) tick }
@@ -158,14 +159,5 @@ impl Db {
             Some(queue) => queue,
             None => unreachable!(),
         }
-    }
-}
-
-/// A consumer is a leaf's no more, if the node is a root.
-fn remove_consumer(node: &mut Option<Node>, consumer: &Text)
-    ensures { node.new ≡ after_node (parted consumer.now) node.old }
-{
-    if let Some(Node::Root(root)) = node {
-        root.remove_consumer(consumer);
     }
 }

@@ -81,7 +81,7 @@ impl Db {
     }
 
     /// Those that are due come back, in a transaction that is no session's. If none is due no id is taken. The answer
-    /// is how many.
+    /// is how many came back.
     pub(crate) fn bring_back(&mut self, now: i64) -> Result<usize, Stop>
         ensures count { IfOk result (λ n. reply_of (maint_retry_events (seen_database self.old) now) ≡ Number n) }
         ensures changed { OnOk result (seen_database self.new ≡ after_marks (seen_database self.old) (marks_of (maint_retry_events (seen_database self.old) now))) }
@@ -99,7 +99,7 @@ impl Db {
     }
 }
 
-/// An event as a subscription is to get it once more.
+/// An event as a subscription is to get it again.
 fn retried(sub: u64, mut event: Event) -> Event
     requires { unwrap_or event.ev_retry 0 + 1 < 2 ^ 64 }
     ensures { result ≡ retried sub event }

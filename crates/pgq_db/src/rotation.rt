@@ -81,7 +81,7 @@ impl Db {
     }
 
     /// The switches whose second step is missing get it, in a transaction that is no session's. If there is none no id
-    /// is taken. The answer is how many.
+    /// is taken. The answer is how many got it.
     pub(crate) fn end_switches(&mut self) -> Result<usize, Stop>
         ensures count { IfOk result (λ n. reply_of (maint_rotate_step2 (seen_database self.old)) ≡ Number n) }
         ensures changed { OnOk result (seen_database self.new ≡ after_marks (seen_database self.old) (marks_of (maint_rotate_step2 (seen_database self.old)))) }

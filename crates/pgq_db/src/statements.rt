@@ -24,7 +24,7 @@ ghost use Rattle.pgq_queues.specs.Seen.{Beside, seen_with, Stands};
 ghost use Rattle.pgq_db.specs.Seen.{seen_database};
 ghost use Rattle.pgq_db.specs.Waiters.{StaysWithin};
 ghost use Rattle.pgq_db.specs.Looks.{LooksWithin, RanWithin, ListsLooked, ReadsNone};
-ghost use Rattle.pgq_db.specs.Gives.{is_clock, is_on_queues, Gives, Adds, Answers, Ran};
+ghost use Rattle.pgq_db.specs.Gives.{is_worlds, is_on_queues, Gives, Adds, Answers, Ran};
 ghost use Rattle.sky_model.specs.Stops.{StopsAs};
 
 use crate::db::Db;
@@ -36,13 +36,13 @@ use sky_val::{Event, NoMemory, Schema, SessionId, Text, copy_option};
 use std::alloc::{AllocError, Global};
 
 impl Db {
-    /// Runs a statement of a session, and those that it unblocks. For `get_batch_events` and `event_retry` no more
+    /// Runs a statement of a session, other than one that the world decides, and those that it unblocks. For `get_batch_events` and `event_retry` no more
     /// stored events are looked at than the batch's ticks allow, and for `get_batch_events` no fewer than are listed.
     /// Once memory has run out nothing is said of the database.
     pub fn step(&mut self, who: SessionId, stmt: &Stmt, now: i64) -> Result<Replies, NoMemory>
         requires time { IsTime now }
         requires form { IsInForm stmt.now }
-        requires clock { is_clock stmt.now ≡ false }
+        requires kind { is_worlds stmt.now ≡ false }
         ensures exact { IfOk result (λ replies. Gives (seen_database self.old) (seen_database self.new) replies
             (database_turn database_by_itself (seen_database self.old) now who stmt.now)) }
         ensures rests { OnOk result (ready (seen_database self.new).part ≡ None) }
@@ -68,7 +68,7 @@ impl Db {
     ) -> Result<(), NoMemory>
         requires time { IsTime now }
         requires form { IsInForm stmt.now }
-        requires clock { is_clock stmt.now ≡ false }
+        requires kind { is_worlds stmt.now ≡ false }
         ensures exact { OnOk result (Adds (seen_database self.old) (seen_database self.new) replies.old replies.new (database_turn database_by_itself (seen_database self.old) now who stmt.now)) }
         ensures rests { OnOk result (ready (seen_database self.new).part ≡ None) }
         ensures moments { OnOk result (HaveMoments (database_turn database_by_itself (seen_database self.old) now who stmt.now).answers) }
@@ -91,7 +91,7 @@ impl Db {
     ) -> Result<(), NoMemory>
         requires time { IsTime now }
         requires form { IsInForm stmt.now }
-        requires clock { is_clock stmt.now ≡ false }
+        requires kind { is_worlds stmt.now ≡ false }
         ensures adds { OnOk result (Adds (seen_database self.old) (seen_database self.new) replies.old replies.new (database_turn database_by_itself (seen_database self.old) now who stmt.now)) }
         ensures rests { OnOk result (ready (seen_database self.new).part ≡ None) }
         ensures moments { OnOk result (HaveMoments (database_turn database_by_itself (seen_database self.old) now who stmt.now).answers) }
@@ -103,7 +103,7 @@ impl Db {
                 self.step_rows(now, who, stmt, replies)?;
                 Ok(())
             }
-            Stmt::Clock { .. } => unreachable!(),
+            Stmt::Node(_) | Stmt::Clock { .. } | Stmt::PgqdOn | Stmt::PgqdOff => unreachable!(),
             _ => {
                 self.run_on_queues(now, who, stmt, replies)?;
                 Ok(())
@@ -218,7 +218,8 @@ impl Db {
         ensures lists { OnOk result (ListsLooked self.old.queues self.new.queues stmt.now (reply_of (form (seen_database self.old) (shown_by (seen_database self.old)) now who stmt.now))) }
     {
         match stmt {
-            Stmt::Row(_) | Stmt::Clock { .. } => unreachable!(),
+            Stmt::Row(_) | Stmt::Node(_) | Stmt::Clock { .. } | Stmt::PgqdOn | Stmt::PgqdOff =>
+                unreachable!(),
             Stmt::CreateQueue { queue } => self.create_queue(now, who, queue, replies),
             Stmt::DropQueue { queue } => self.drop_queue(who, queue, replies),
             Stmt::SetQueueConfig {
@@ -269,11 +270,6 @@ impl Db {
                 ignored,
             } => self.add_trigger(who, name, table, queue, *backup, ignored, replies),
             Stmt::CreateRoot { name, queue } => self.create_root(now, who, name, queue, replies),
-            // The world keeps whether the daemon is on, and makes the statements on nodes.
-            Stmt::Node(_) | Stmt::PgqdOn | Stmt::PgqdOff => {
-                replies.push(who, Reply::Done)?;
-                Ok(())
-            }
         }
     }
 
@@ -524,7 +520,7 @@ fn may_ignore(schema: &Schema, name: &Text) -> bool
         .any(|column| column.name == *name && !column.key)
 }
 
-/// The same, of the queues alone: `add_trigger` holds a table meanwhile.
+/// The number of the queue of this name, of the queues alone, since `add_trigger` borrows a table meanwhile.
 fn queue_called(alloc: Global, queues: &Queues, queue: &Text) -> Result<usize, Stop>
     ensures ok { (beside : Beside) → IfOk result (λ number. queue_called queue.now (seen_with beside queues.now) ≡ Ok number) }
     ensures stands { IfOk result (λ number. Stands queues.now.queues number) }
@@ -558,7 +554,7 @@ fn new_trigger(
     })
 }
 
-/// The name that a refusal gives of a trigger.
+/// The name that a refusal shows for a trigger.
 fn shown_name(alloc: Global, trigger: &TableTrigger) -> Result<Text, NoMemory>
     ensures { IfOk result (λ name. name ≡ shown_name trigger.now) }
 {
@@ -623,7 +619,7 @@ fn made_event(
     Ok(event)
 }
 
-/// Whether a statement on queues may be made outside of blocks alone.
+/// Whether a statement on queues may be made only outside blocks.
 fn is_outside(stmt: &Stmt) -> bool
     requires { is_on_queues stmt.now ≡ true }
     ensures { (if result then WhenOutside else WhenReading) ≡ where_of stmt.now }

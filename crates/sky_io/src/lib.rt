@@ -1,9 +1,10 @@
 //! The outside: where bytes come from and where they go.
 //!
 //! A `Source` gives bytes and a `Sink` takes them. Each may show its bytes to the contracts, and counts its faults:
-//! `Failed` comes only if the count rose. `MemSource` and `MemSink` hold their bytes in memory, show them, and fail at
-//! the calls that they are given. `StdSource` and `StdSink` are over std's `Read` and `Write`: the source shows what
-//! its reader shows, the sink nothing. Over the system's own streams, which show nothing, they are the trusted edge.
+//! `Failed` comes only if the count rose, and never from one that is reliable. `MemSource` and `MemSink` hold their bytes
+//! in memory, show them, and fail at the calls that they are given; given none they are reliable. `StdSource` and
+//! `StdSink` are over std's `Read` and `Write`: the source shows what its reader shows, the sink nothing. Over the
+//! system's own streams, which show nothing, they are the trusted edge.
 #![tactic(auto)]
 
 mod mem_sink;

@@ -52,6 +52,8 @@ impl Sink for MemSink {
 
     ghost faults = { λ sink. count_of sink.faults };
 
+    ghost reliable = { λ sink. sink.failing ≡ [] };
+
     ghost bounded = { Prim.search rules };
 
     fn write(&mut self, piece: &[u8]) -> Result<usize, SinkFault>
@@ -61,6 +63,8 @@ impl Sink for MemSink {
         ensures appends { WriteAppends (Some self.old.held) (Some self.new.held) result piece.now }
         ensures failed { IsErrOf result SinkFault.Failed → Rose (count_of self.old.faults) (count_of self.new.faults) }
         ensures never_falls { count_of self.old.faults ≤ count_of self.new.faults }
+        ensures relied { IsErrOf result SinkFault.Failed → ¬ (self.old.failing ≡ []) }
+        ensures stays { self.old.failing ≡ [] → self.new.failing ≡ [] }
 
         // What this sink promises besides.
         ensures fails { IsErrOf result SinkFault.Failed ↔ FailsNext self.old }

@@ -31,7 +31,7 @@ impl Model for MemSource {
 }
 
 impl MemSource {
-    /// A source that gives `bytes`, at most `most` of them a call. The calls whose numbers, counted
+    /// A source that gives `bytes`, at most `most` of them per call. The calls whose numbers, counted
     /// from 1, are in `failing` fail.
     pub fn new(bytes: Vec<u8>, most: usize, failing: Vec<u64>) -> MemSource
         requires { 1 ≤ most }
@@ -53,6 +53,8 @@ impl Source for MemSource {
 
     ghost faults = { λ source. count_of source.faults };
 
+    ghost reliable = { λ source. source.failing ≡ [] };
+
     ghost bounded = { Prim.search rules };
 
     fn read(&mut self, buf: &mut [u8]) -> Result<usize, Failed>
@@ -61,6 +63,8 @@ impl Source for MemSource {
         ensures consumes { ReadConsumes (Some self.old.left) (Some self.new.left) result buf.new }
         ensures failed { OnErr result (Rose (count_of self.old.faults) (count_of self.new.faults)) }
         ensures never_falls { count_of self.old.faults ≤ count_of self.new.faults }
+        ensures relied { OnErr result (¬ (self.old.failing ≡ [])) }
+        ensures stays { self.old.failing ≡ [] → self.new.failing ≡ [] }
 
         // What this source promises besides.
         ensures fails { IsErr result ↔ FailsNext self.old }

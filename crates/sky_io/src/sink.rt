@@ -23,6 +23,9 @@ pub trait Sink {
     // How often the sink failed.
     ghost faults: { Self → ℕ };
 
+    // No write fails, now or later. It may still run out of memory.
+    ghost reliable: { Self → Type 0 };
+
     /// Appends the front of `piece` to what the sink holds, and answers how many bytes that is.
     fn write(&mut self, piece: &[u8]) -> Result<usize, SinkFault>
         requires { 0 < length piece.now }
@@ -30,7 +33,9 @@ pub trait Sink {
         ensures at_most { WritesAtMost result piece.now }
         ensures appends { WriteAppends (held self.old) (held self.new) result piece.now }
         ensures failed { IsErrOf result SinkFault.Failed → Rose (faults self.old) (faults self.new) }
-        ensures never_falls { faults self.old ≤ faults self.new };
+        ensures never_falls { faults self.old ≤ faults self.new }
+        ensures relied { IsErrOf result SinkFault.Failed → ¬ (reliable self.old) }
+        ensures stays { reliable self.old → reliable self.new };
 
     // A count of 64 bits. It stays at the largest, so `Rose` holds there too.
     ghost bounded: { (sink : Self) → faults sink < 2 ^ 64 };
@@ -42,6 +47,8 @@ pub fn write_all<S: Sink>(sink: &mut S, piece: &[u8]) -> Result<(), SinkFault>
     ensures prefix { AppendsPrefix (S.held sink.old) (S.held sink.new) piece.now }
     ensures failed { IsErrOf result SinkFault.Failed → Rose (S.faults sink.old) (S.faults sink.new) }
     ensures never_falls { S.faults sink.old ≤ S.faults sink.new }
+    ensures relied { IsErrOf result SinkFault.Failed → ¬ (S.reliable sink.old) }
+    ensures stays { S.reliable sink.old → S.reliable sink.new }
     ensures empty { piece.now ≡ [] → IsOk result × (sink.new ≡ sink.old) }
 {
     let mut written = 0;

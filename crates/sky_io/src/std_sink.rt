@@ -8,8 +8,8 @@ use crate::sink::{Sink, SinkFault};
 use std::io::Write;
 use std::marker::Model;
 
-/// A sink over one of std's writers, flushed after each write. It is seen as the writer and the count of its faults, and
-/// shows no bytes: a flush that fails comes after bytes that the writer took.
+/// A sink over one of std's writers, flushed after each write. It is seen as the writer and the count of its faults,
+/// and shows no bytes: a flush that fails comes after bytes that the writer took.
 #[derive(Drop)]
 pub struct StdSink<W> {
     writer: W,
@@ -38,6 +38,9 @@ impl<W: Write> Sink for StdSink<W> {
 
     ghost faults = { λ sink. count_of sink.faults };
 
+    // Nothing is promised of the system's calls.
+    ghost reliable = { λ _. ⊥ };
+
     ghost bounded = { Prim.search rules };
 
     fn write(&mut self, piece: &[u8]) -> Result<usize, SinkFault>
@@ -47,7 +50,7 @@ impl<W: Write> Sink for StdSink<W> {
         ensures failed { IsErrOf result SinkFault.Failed → Rose (count_of self.old.faults) (count_of self.new.faults) }
         ensures never_falls { count_of self.old.faults ≤ count_of self.new.faults }
 
-        // What this sink promises besides.
+        // What this sink promises beyond what every sink does.
         ensures written { IfOk result (λ count. Appends (W.contents self.old.writer) (W.contents self.new.writer) (take count piece.now)) }
         ensures ok { OnOk result (self.new.faults ≡ self.old.faults) }
         ensures err { OnErr result (self.new.faults ≡ raised self.old.faults) }

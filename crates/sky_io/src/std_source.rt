@@ -39,6 +39,9 @@ impl<R: Read> Source for StdSource<R> {
 
     ghost faults = { λ source. count_of source.faults };
 
+    // Nothing is promised of the system's calls.
+    ghost reliable = { λ _. ⊥ };
+
     ghost bounded = { Prim.search rules };
 
     fn read(&mut self, buf: &mut [u8]) -> Result<usize, Failed>
@@ -65,8 +68,8 @@ impl<R: Read> Source for StdSource<R> {
 // How often a read that a signal interrupted is retried.
 const RETRIES: usize = 1000;
 
-// A process that was stopped and continued finds its read interrupted, which is no fault of the reader's. A reader that
-// never answers anything else is one in the end.
+// A process that was stopped and continued finds its read interrupted, which isn't a fault. A reader that never answers
+// anything else counts as failed in the end.
 fn read_retrying<R: Read>(reader: &mut R, buf: &mut [u8]) -> io::Result<usize>
     ensures at_most { ReadsAtMost result buf.new }
     ensures consumes { ReadConsumes (R.remaining reader.old) (R.remaining reader.new) result buf.new }

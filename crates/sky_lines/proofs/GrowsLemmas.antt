@@ -47,6 +47,23 @@ length-front items old start end view within unsure =
     let fits = (unsettled old unsure).1 in
     omega arith
 
+-- a piece was read after bytes that were moved to the front for it
+pub moved_and_read : (bytes : Vec ℕ) (first moved room piece old : List ℕ) (start end count : ℕ)
+    → first ≡ bytes.items → length first ≡ bytes.len → length bytes.items ≡ 131072 → length moved ≡ length first → take (end - start) moved ≡ slice_range first start end
+    → room ≡ (with_items bytes moved).items → length room ≡ bytes.len → slice_range bytes.items start end ≡ old → end ≤ length bytes.items → is_settled old ≡ false
+    → length piece ≡ length (take (end - start + 65536 - (end - start)) (drop (end - start) room)) → count ≤ length piece
+    → slice_range (with_items (with_items bytes moved) (put_mid (end - start) (end - start + 65536 - (end - start)) room piece)).items 0 (end - start + count) ≡ old ++ take count piece
+moved_and_read bytes first moved room piece old start end count is fills whole kept at_front room_is room_fills view within unsure long few =
+    let len = end - start in
+    let same : room ≡ moved = room_is ∙ with_items_is bytes moved (kept ∙ fills) in
+    let in_front : take len moved ≡ old = at_front ∙ ap (λ xs. slice_range xs start end) is ∙ view in
+    let front : take len room ≡ old = ap (take len) same ∙ in_front in
+    let size : length room ≡ 131072 = room_fills ∙ sym fills ∙ ap length is ∙ whole in
+    let short : len ≤ 65536 = length-front bytes.items old start end view within unsure in
+    let fits : len + (len + 65536 - len) ≤ length room = omega arith in
+    bytes_read (with_items bytes moved) room piece old len (len + 65536 - len) count room_fills fits
+    (long ∙ length-take-le (len + 65536 - len) (drop len room) (omega (arith, length-drop len room))) few front
+
 -- what is left, if the source shows it
 pub record Told (left : List ℕ) (after : Option (List ℕ)) (got : List ℕ) : Type 0 where
   pub rest : List ℕ

@@ -1,3 +1,4 @@
 pub mod FeedLemmas
+pub mod AsciiLemmas
 pub mod GrowsLemmas
 pub mod ReaderLemmas

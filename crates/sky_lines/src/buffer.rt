@@ -1,4 +1,5 @@
-ghost use Rattle.std.specs.Prelude.{◌≡◌, ℕ, List, [], ◌∷◌, ◌++◌, ◌+◌, ◌-◌, ◌<◌, ◌≤◌, ◌⊎◌, true, false, IfOk, IsOk, OnOk, OnErr, IsTrue, length, take, drop, slice_range, vec_len};
+ghost use Rattle.std.specs.Prelude.{◌≡◌, ℕ, List, [], ◌∷◌, ◌++◌, ◌+◌, ◌-◌, ◌<◌, ◌≤◌, ◌⊎◌, true, false, IfOk, IsOk, IsUtf8, MatchOption, OnOk, OnErr, IsTrue, length, take, drop, slice_range, vec_len};
+ghost use Rattle.std.specs.Str.{IsAscii};
 ghost use Rattle.std.specs.Io.KnownBytes.{IsAtEnd};
 ghost use Rattle.sky_io.specs.Faults.{Rose};
 ghost use Rattle.sky_lines.specs.Feeds.{has_feed, is_settled, FeedsAt, IsFirstFeed, Grows};
@@ -8,6 +9,7 @@ use sky_io::{Failed, Source};
 use sky_val::NoMemory;
 use std::alloc::Global;
 use std::marker::Model;
+use std::str;
 
 /// How many bytes a line may have before its line feed.
 pub const MOST_IN_LINE: usize = 65_536;
@@ -19,7 +21,7 @@ const PIECE: usize = 65_536;
 const ROOM: usize = MOST_IN_LINE + PIECE;
 
 /// The bytes that were read and not taken, and before them the line that was taken last. Each byte is moved at most
-/// once, and searched once for a line feed.
+/// once, and searched once for a line feed. Whether bytes are ASCII is tested for a whole piece.
 #[derive(Drop)]
 pub struct Buffer {
     // `bytes[start..end]` were read and not taken, and the first line feed is at the place `feed` among them.
@@ -30,17 +32,19 @@ pub struct Buffer {
     // `bytes[line_start..line_end]` is the line.
     line_start: usize,
     line_end: usize,
+    // If this is true, all of these bytes are ASCII.
+    ascii: bool,
 }
 
 impl Model for Buffer {
     ghost use Rattle.std.specs.Prelude.{slice_range};
-    ghost use Rattle.sky_lines.specs.Room.{Held, IsBuffer};
+    ghost use Rattle.sky_lines.specs.Room.{Held, IsBuffer, KnowsAscii};
 
     ghost Value = { Held };
 
     ghost view = { λ b. record { pending = slice_range b.bytes.items b.start b.end; line = slice_range b.bytes.items b.line_start b.line_end } };
 
-    ghost invariant = { λ b. IsBuffer b.bytes.items b.start b.end b.feed b.line_start b.line_end };
+    ghost invariant = { λ b. IsBuffer b.bytes.items b.start b.end b.feed b.line_start b.line_end × KnowsAscii b.ascii (slice_range b.bytes.items b.start b.end) (slice_range b.bytes.items b.line_start b.line_end) };
 }
 
 impl Buffer {
@@ -56,6 +60,7 @@ impl Buffer {
             feed: None,
             line_start: 0,
             line_end: 0,
+            ascii: true,
         })
     }
 
@@ -99,6 +104,18 @@ impl Buffer {
         &self.bytes[self.line_start..self.line_end]
     }
 
+    /// The same as text, or `None` if it isn't UTF-8.
+    pub fn text(&self) -> Option<&str>
+        ensures { MatchOption result (¬ (IsUtf8 self.now.line)) (λ text. text.now ≡ self.now.line) }
+    {
+        let line = self.line();
+        if self.ascii {
+            // Safety: ASCII is UTF-8.
+            return Some(unsafe { str::from_utf8_unchecked(line) });
+        }
+        str::from_utf8(line).ok()
+    }
+
     /// Reads until the bytes are settled or the source is at its end.
     pub fn gather<S: Source>(&mut self, src: &mut S) -> Result<(), Failed>
         ensures grows { Grows self.old.pending self.new.pending (S.left src.old) (S.left src.new) }
@@ -106,6 +123,8 @@ impl Buffer {
         ensures err { OnErr result (is_settled self.new.pending ≡ false) }
         ensures failed { OnErr result (Rose (S.faults src.old) (S.faults src.new)) }
         ensures never_falls { S.faults src.old ≤ S.faults src.new }
+        ensures relied { OnErr result (¬ (S.reliable src.old)) }
+        ensures stays { S.reliable src.old → S.reliable src.new }
         ensures settled { is_settled self.old.pending ≡ true → IsOk result × (self.new ≡ self.old) × (src.new ≡ src.old) }
     {
         'reads: while !self.is_settled() {
@@ -126,8 +145,11 @@ impl Buffer {
         ensures forgets { self.new.line ≡ [] }
         ensures failed { OnErr result (Rose (S.faults src.old) (S.faults src.new)) }
         ensures never_falls { S.faults src.old ≤ S.faults src.new }
+        ensures relied { OnErr result (¬ (S.reliable src.old)) }
+        ensures stays { S.reliable src.old → S.reliable src.new }
     {
         let len = self.end - self.start;
+        self.ascii = self.has_ascii();
         move_to_front(&mut self.bytes, self.start, self.end);
         self.start = 0;
         self.end = len;
@@ -135,8 +157,17 @@ impl Buffer {
         self.line_end = 0;
         let count = src.read(&mut self.bytes[len..len + PIECE])?;
         self.end = len + count;
+        self.ascii = still_ascii(self.ascii, &self.bytes[..self.end], len);
         self.feed = feed_behind(&self.bytes[..self.end], len);
         Ok(count)
+    }
+
+    // Whether the bytes that were read and not taken are known to be ASCII. They are tested again once bytes before them
+    // were taken, since the one that isn't ASCII may have been among those.
+    fn has_ascii(&self) -> bool
+        ensures { result ≡ true → IsAscii self.now.pending }
+    {
+        self.ascii || (self.start > 0 && self.bytes[self.start..self.end].is_ascii())
     }
 }
 
@@ -159,4 +190,12 @@ fn feed_behind(bytes: &[u8], len: usize) -> Option<usize>
 {
     let at = memchr(b'\n', &bytes[len..])?;
     Some(len + at)
+}
+
+// Whether all the bytes are ASCII, given whether the first `len` are known to be.
+fn still_ascii(before: bool, bytes: &[u8], len: usize) -> bool
+    requires { len ≤ length bytes.now }
+    ensures { result ≡ true → (before ≡ true) × IsAscii (drop len bytes.now) }
+{
+    before && bytes[len..].is_ascii()
 }

@@ -1,4 +1,4 @@
-ghost use Rattle.std.specs.Prelude.{◌≡◌, ℕ, List, [], ◌++◌, ◌+◌, ◌≤◌, true, false, IfOk, IfErr, None, OnOk, IfSome, IfNone, IsErrOf, length};
+ghost use Rattle.std.specs.Prelude.{◌≡◌, ℕ, List, [], ◌++◌, ◌+◌, ◌≤◌, true, false, IfOk, IfErr, None, MatchOption, OnOk, IfSome, IfNone, IsErrOf, IsUtf8, length};
 ghost use Rattle.sky_io.specs.Faults.{Rose};
 ghost use Rattle.sky_model.specs.Transcript.{most_in_script};
 ghost use Rattle.sky_lines.specs.Feeds.{has_feed};
@@ -14,7 +14,7 @@ use thiserror::Error;
 /// How many bytes a script may have.
 const MOST_IN_SCRIPT: u64 = 1 << 32;
 
-/// Why there is no next line.
+/// Why the next line can't be taken.
 #[derive(Clone, Copy, Debug, PartialEq, Eq, Error)]
 pub enum LineFault {
     #[error("the source failed")]
@@ -78,6 +78,13 @@ impl LineReader {
         self.buffer.line()
     }
 
+    /// The same as text, or `None` if it isn't UTF-8.
+    pub fn text(&self) -> Option<&str>
+        ensures { MatchOption result (¬ (IsUtf8 self.now.line)) (λ text. text.now ≡ self.now.line) }
+    {
+        self.buffer.text()
+    }
+
     /// Takes the next line, which `line` shows from then on, or answers `false` at the end of the script.
     pub fn advance<S: Source>(&mut self, src: &mut S) -> Result<bool, LineFault>
         ensures line { result ≡ Ok true → (left : List ℕ) → S.left src.old ≡ Some left
@@ -95,6 +102,8 @@ impl LineReader {
         ensures rose { IsErrOf result LineFault.Read → self.old.fault ≡ None
             → Rose (S.faults src.old) (S.faults src.new) }
         ensures never_falls { S.faults src.old ≤ S.faults src.new }
+        ensures relied { IsErrOf result LineFault.Read → self.old.fault ≡ None → ¬ (S.reliable src.old) }
+        ensures stays { S.reliable src.old → S.reliable src.new }
 
         // No memory is taken, so it can't run out.
         ensures takes_no_memory { self.old.fault ≡ None → ¬ (IsErrOf result LineFault.NoMemory) }
@@ -123,7 +132,7 @@ impl LineReader {
 
     /// The next line, without its line feed, or `None` at the end of the script: a copy of what `advance` takes.
     ///
-    /// Out of memory for a line, which of its bytes are still pending is left open.
+    /// If memory runs out for a line, it is left open which of its bytes are still pending.
     pub fn next_line<S: Source>(&mut self, src: &mut S) -> Result<Option<Vec<u8>>, LineFault>
         ensures line { IfOk result (λ answer. IfSome answer (λ line.
             (left : List ℕ) → S.left src.old ≡ Some left
@@ -142,6 +151,8 @@ impl LineReader {
         ensures rose { IsErrOf result LineFault.Read → self.old.fault ≡ None
             → Rose (S.faults src.old) (S.faults src.new) }
         ensures never_falls { S.faults src.old ≤ S.faults src.new }
+        ensures relied { IsErrOf result LineFault.Read → self.old.fault ≡ None → ¬ (S.reliable src.old) }
+        ensures stays { S.reliable src.old → S.reliable src.new }
 
         // Once given, a fault is given at each later call.
         ensures kept { IfErr result (λ fault. self.new.fault ≡ Some fault) }

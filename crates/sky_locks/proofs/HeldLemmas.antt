@@ -1,16 +1,16 @@
 -- The keys that are listed for each session, after those of one changed.
 use Rattle.std.proofs.Common.{◌≡◌, ℕ, zero, suc, ◌+◌, ◌<◌, ◌≤◌, Bool, true, false, cond, List, [], ◌∷◌, ◌++◌, length, slice_set, get_or, Vec, Global, Option, Some, None, refl, sym, subst, ◌∙◌, ap, arith}
-use Rattle.std.specs.Prelude.{◌==◌, ◌&&◌, ◌||◌, IfSome, IfNone, OnSome, MatchOption, slice_get}
+use Rattle.std.specs.Prelude.{◌==◌, ◌&&◌, ◌||◌, nat_lt, vec_len, vec_capacity, IfSome, IfNone, OnSome, MatchOption, slice_get}
 use Rattle.std.specs.Option.{option_to_list}
 use Rattle.std.specs.List.{IsDistinct, AllByRecursion, remove}
 use Rattle.std.specs.Ordering.{eq_by_cmp}
-use Rattle.std.proofs.lemmas.Bool.{eqb-true, eq-eqb}
+use Rattle.std.proofs.lemmas.Bool.{eqb-true, eq-eqb, ltb-true, lt-ltb}
 use Rattle.std.proofs.lemmas.Map.Keys.{IsDistinct-head, IsDistinct-tail, IsDistinct-cons, IsDistinct-push}
 use Rattle.std.specs.Cmp.{eq_by_cmp_equiv}
 use Rattle.std.proofs.lemmas.List.{append-nil, length-append}
 use Rattle.sky_locks.specs.declared.lock_key.LockKey.{LockKey}
 use Rattle.sky_locks.specs.Order.{lock_cmp}
-use Rattle.sky_locks.specs.Sessions.{KeysBySession, keys_of, KeepsKeys, ChangesKey}
+use Rattle.sky_locks.specs.Sessions.{KeysBySession, keys_of, has_room, KeepsKeys, ChangesKey}
 use Rattle.sky_locks.specs.Waiters.{is_among}
 use Rattle.sky_locks.proofs.Orders.{lock_cmp-IsTotalOrder, lock_ties-is, lock_ties-symm, lock_ties-itself}
 use Rattle.sky_locks.proofs.Basics.{no_keys, apart_turned}
@@ -209,3 +209,19 @@ removed_is (k ∷ ks) (suc i) key q here once =
 pub if_none_always : {X P : Type 0} (o : Option X) → P → IfNone o P
 if_none_always None p = p
 if_none_always (Some x) p = tt
+
+-- ---- room for one more
+
+pub room_within : (keys : KeysBySession) (who : ℕ) → has_room keys who ≡ true → who < length keys
+room_within [] who room = absurd (cc room)
+room_within (v ∷ keys) zero room = omega arith
+room_within (v ∷ keys) (suc who) room = let rest = room_within keys who room in omega arith
+
+pub room_there : (keys : KeysBySession) (who : ℕ) (v : Vec LockKey Global) → has_room keys who ≡ true → v ≡ get_or keys who v → vec_len v < vec_capacity v
+room_there keys who v room is = ltb-true (vec_len v) (vec_capacity v) (sym (at-read (λ (v : Vec LockKey Global). nat_lt (vec_len v) (vec_capacity v)) false keys who v v (room_within keys who room) is) ∙ room)
+
+pub room_made : (keys : KeysBySession) (who : ℕ) (v : Vec LockKey Global) → who < length keys → vec_len v < vec_capacity v → has_room (slice_set keys who v) who ≡ true
+room_made keys who v within room =
+    at-set (λ (v : Vec LockKey Global). nat_lt (vec_len v) (vec_capacity v)) false keys who who v within
+    ∙ ap (λ b. cond b (nat_lt (vec_len v) (vec_capacity v)) (has_room keys who)) (eq-eqb who who refl)
+    ∙ lt-ltb (vec_len v) (vec_capacity v) room

@@ -1,6 +1,10 @@
 -- One map of holders and queues, after what is at one key changed.
-use Rattle.std.proofs.Common.{◌≡◌, ℕ, Bool, true, false, cond, List, [], ◌∷◌, length, Option, Some, None, is_some, refl, sym, ◌∙◌, ap}
-use Rattle.std.specs.Prelude.{◌||◌, ◌==◌, slice_get}
+use Rattle.std.proofs.Common.{◌≡◌, ◌≢◌, ℕ, Bool, true, false, cond, not, List, [], ◌∷◌, length, Option, Some, None, is_some, vec_len, refl, sym, ◌∙◌, ap, arith}
+use Rattle.std.specs.Prelude.{◌||◌, ◌==◌, filter, slice_get}
+use Rattle.std.specs.List.{IsDistinct}
+use Rattle.std.specs.Cmp.{eq_by_cmp_equiv}
+use Rattle.std.proofs.lemmas.Bool.{eqb-true, ne_eqb, or_parts}
+use Rattle.std.proofs.lemmas.Map.Entries.{lookup-filter-values, option_filter}
 use Rattle.std.specs.Ordering.{eq_by_cmp}
 use Rattle.std.specs.Map.{lookup, keys_of}
 use Rattle.std.specs.BTreeMap.{get, keys, is_at}
@@ -8,9 +12,10 @@ use Rattle.sky_locks.specs.declared.lock_key.LockKey.{LockKey}
 use Rattle.sky_locks.specs.declared.slots.Slot.{Slot}
 use Rattle.sky_locks.specs.Order.{lock_cmp}
 use Rattle.sky_locks.specs.Holders.{holder_of}
-use Rattle.sky_locks.specs.Slots.{Slots, slot_holder, holder_at, held_also, held_among, held_in, SameHolders}
+use Rattle.sky_locks.specs.Slots.{Slots, slot_holder, holder_at, held_also, held_among, held_in, SameHolders, SameHeld}
 use Rattle.sky_locks.specs.Waiters.{is_among}
-use Rattle.sky_locks.proofs.Orders.{lock_ties-is}
+use Rattle.sky_locks.proofs.Basics.{no_keys}
+use Rattle.sky_locks.proofs.Orders.{lock_cmp-IsTotalOrder, lock_ties-is}
 
 -- what is at one key is another now
 abbrev pub Puts : Slots → LockKey → Option Slot → Slots → Type 0
@@ -52,6 +57,13 @@ module _ {X : Type 0} (read : Option Slot → X) where
 pub held-same : (old new : Slots) → keys new ≡ keys old → SameHolders old new → held_in new ≡ held_in old
 held-same old new ks same = λ i. held_among (ks i) (λ q. same q i)
 
+-- nothing changed
+pub held-untouched : (old new : Slots) → new.entries ≡ old.entries → SameHeld old new
+held-untouched old new same = record {
+  held = ap (λ (es : List (LockKey × Slot)). held_among (keys_of es) (λ q. slot_holder (lookup (is_at (lock_cmp q)) es))) same;
+  holders = λ q. ap (λ (es : List (LockKey × Slot)). slot_holder (lookup (is_at (lock_cmp q)) es)) same;
+}
+
 held-found : (ks : List LockKey) (holder : LockKey → Option ℕ) (key : LockKey) → holder_of (held_among ks holder) key ≡ cond (is_among ks key) (holder key) None
 held-found [] holder key = refl
 held-found (k ∷ ks) holder key = of (holder k) refl (held-found ks holder key)
@@ -87,10 +99,47 @@ held-is slots key = held-found (keys slots) (holder_at slots) key ∙ elim (is_a
 
 -- ---- whether someone is in a queue
 
-pub queue_filled : (queue : List ℕ) (n : ℕ) → length queue ≡ n → false ≡ (n == 0) → true ≡ is_some (slice_get queue 0)
-queue_filled [] n len other = let both : false ≡ true = other ∙ ap (λ m. m == 0) (sym len) in cc both
-queue_filled (s ∷ queue) n len other = refl
+some_there : (s n : ℕ) (queue : List ℕ) → length (s ∷ queue) ≡ n → n ≢ 0
+some_there s n queue len none = absurd (omega arith)
+
+pub queue_filled : (queue : List ℕ) (n : ℕ) → length queue ≡ n → not (n == 0) ≡ is_some (slice_get queue 0)
+queue_filled [] n len = ap (λ m. not (m == 0)) (sym len)
+queue_filled (s ∷ queue) n len = ap not (ne_eqb n 0 (some_there s n queue len))
 
 pub no_holder : (o : Option ℕ) → is_some o ≡ false → o ≡ None
 no_holder None is = refl
 no_holder (Some s) is = absurd (cc is)
+
+-- ---- idle slots
+
+-- whether a key with this slot is held or waited for
+abbrev pub is_busy : Slot → Bool
+is_busy s = is_some s.holder || not (vec_len s.queue == 0)
+
+-- an idle slot says what none says
+pub idle_holder : (s : Slot) → is_busy s ≡ false → None ≡ s.holder
+idle_holder s idle = sym (no_holder s.holder (or_parts (is_some s.holder) (not (vec_len s.queue == 0)) idle).0)
+
+pub idle_queue : (s : Slot) → is_busy s ≡ false → [] ≡ s.queue.items
+idle_queue s idle = sym (no_keys s.queue.items (omega (arith, s.queue.ok, empty (vec_len s.queue) (or_parts (is_some s.holder) (not (vec_len s.queue == 0)) idle).1)))
+  where
+    yes : (b : Bool) → not b ≡ false → b ≡ true
+    yes true is = refl
+    yes false is = absurd (cc is)
+
+    empty : (n : ℕ) → not (n == 0) ≡ false → n ≡ 0
+    empty n is = eqb-true n 0 (yes (n == 0) is)
+
+pub without_idle : {X : Type 0} (read : Option Slot → X) (old new : Slots) → new.entries ≡ filter (λ e. is_busy e.1) old.entries → IsDistinct (eq_by_cmp lock_cmp) (keys_of old.entries)
+    → ((s : Slot) → is_busy s ≡ false → read None ≡ read (Some s)) → (q : LockKey) → read (get lock_cmp new q) ≡ read (get lock_cmp old q)
+without_idle read old new left once idle q =
+    ap (λ es. read (lookup (is_at (lock_cmp q)) es)) left
+    ∙ ap read (lookup-filter-values (eq_by_cmp_equiv lock_cmp-IsTotalOrder) is_busy q old.entries once)
+    ∙ of (get lock_cmp old q)
+  where
+    of : (o : Option Slot) → read (option_filter is_busy o) ≡ read o
+    of None = refl
+    of (Some s) = elim (is_busy s) as (λ b. is_busy s ≡ b → read (cond b (Some s) None) ≡ read (Some s)) [
+      | true ↦ λ _. refl
+      | false ↦ λ gone. idle s gone
+    ] refl

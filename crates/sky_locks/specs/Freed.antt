@@ -16,7 +16,7 @@ is_waited waiting key = is_some (find (λ w. eq_by_cmp lock_cmp (key_of w) key) 
 abbrev pub noted : List Waiting → LockKey → List LockKey → List LockKey
 noted waiting key freed = if is_waited waiting key then freed ++ key ∷ [] else freed
 
--- each key that is listed is so once, is free and is waited for; what is free and waited for is listed; and there is room for the key of each that
+-- each listed key is listed once, is free and is waited for; what is free and waited for is listed; and there is room for the key of each that
 -- waits
 pub record IsListed (held : Held) (waiting : List Waiting) (freed : List LockKey) (capacity : ℕ) : Type 0 where
   pub distinct : IsDistinct (eq_by_cmp lock_cmp) freed

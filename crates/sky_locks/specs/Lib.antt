@@ -1,4 +1,5 @@
 pub mod Order
+pub mod OrderLaws
 pub mod Sessions
 pub mod Holders
 pub mod Slots

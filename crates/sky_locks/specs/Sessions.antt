@@ -1,5 +1,5 @@
 -- What vectors by session number record: the keys of each session, and the arrival of each that waits.
-use Rattle.std.specs.Prelude.{◌≡◌, ℕ, zero, suc, ◌==◌, ◌&&◌, Bool, if◌then◌else◌, List, [], ◌∷◌, Option, None}
+use Rattle.std.specs.Prelude.{◌≡◌, ℕ, zero, suc, ◌==◌, ◌&&◌, nat_lt, Bool, false, if◌then◌else◌, List, [], ◌∷◌, Option, None, vec_len, vec_capacity}
 use Rattle.std.specs.List.{list_any}
 use Rattle.std.specs.declared.vec.Vec.{Vec}
 use Rattle.std.specs.Global.{Global}
@@ -24,6 +24,10 @@ keys_of keys who = at_number (λ (v : Vec LockKey Global). v.items) [] keys who
 
 abbrev pub has_key : KeysBySession → ℕ → LockKey → Bool
 has_key keys who key = list_any (λ k. eq_by_cmp lock_cmp key k) (keys_of keys who)
+
+-- whether a key can be listed for a session without taking memory
+abbrev pub has_room : KeysBySession → ℕ → Bool
+has_room keys who = at_number (λ (v : Vec LockKey Global). nat_lt (vec_len v) (vec_capacity v)) false keys who
 
 -- all is as before
 abbrev pub KeepsKeys : KeysBySession → KeysBySession → Type 0

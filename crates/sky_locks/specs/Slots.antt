@@ -35,6 +35,11 @@ held_in slots = held_among (keys slots) (holder_at slots)
 abbrev pub SameHolders : Slots → Slots → Type 0
 SameHolders old new = (q : LockKey) → holder_at new q ≡ holder_at old q
 
+-- they are, and are so listed
+pub record SameHeld (old new : Slots) : Type 0 where
+  pub held : held_in new ≡ held_in old
+  pub holders : SameHolders old new
+
 -- a session holds the key, or nobody does, and the others are held as before
 abbrev pub Holds : Slots → ℕ → LockKey → Slots → Type 0
 Holds old who key new = (q : LockKey) → holder_at new q ≡ (if eq_by_cmp lock_cmp key q then Some who else holder_at old q)

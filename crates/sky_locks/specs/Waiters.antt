@@ -40,7 +40,7 @@ is_among keys key = list_any (λ k. eq_by_cmp lock_cmp key k) keys
 abbrev pub queue_in : LockKey → List Waiting → List ℕ
 queue_in key waiting = map (λ w. w.who) (filter (λ w. eq_by_cmp lock_cmp (key_of w) key) waiting)
 
--- whether what came is the session's
+-- whether what is at an arrival is the session's entry
 abbrev pub is_of : ℕ → Option Waiter → Bool
 is_of who None = false
 is_of who (Some w) = w.who == who
@@ -50,7 +50,7 @@ pub record IsKept (entries : List (Option Waiter)) (arrivals : List (Option ℕ)
   pub sessions : (s a : ℕ) → is_holder a (arrival_of arrivals s) ≡ is_of s (entry_at entries a)
   pub queued : (q : LockKey) → queues q ≡ queue_in q (waiting_in entries)
 
--- the less of two arrivals
+-- the earlier of two arrivals
 abbrev pub earlier : Option ℕ → Option ℕ → Option ℕ
 earlier None b = b
 earlier (Some a) None = Some a

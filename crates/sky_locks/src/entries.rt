@@ -20,7 +20,7 @@ pub(crate) struct Entries {
     // None if that one has left.
     items: Vec<Option<Waiter>>,
 
-    // How many are there.
+    // How many haven't left.
     count: usize,
 }
 
@@ -37,7 +37,7 @@ impl Model for Entries {
 }
 
 impl Entries {
-    /// None.
+    /// No entries.
     pub(crate) fn new(alloc: Global) -> Entries
         ensures { result ≡ [] }
     {
@@ -62,7 +62,7 @@ impl Entries {
         self.items.len()
     }
 
-    /// The one that came then, if it is still there.
+    /// The one with this arrival, if it hasn't left.
     pub(crate) fn get(&self, arrival: usize) -> Option<&Waiter>
         ensures { option_copied result ≡ entry_at self.now arrival }
     {
@@ -81,7 +81,7 @@ impl Entries {
         Ok(arrival)
     }
 
-    /// Removes the one that came then, if it is still there.
+    /// Removes the one with this arrival, if it hasn't left.
     pub(crate) fn take(&mut self, arrival: usize) -> Option<Waiter>
         ensures value { result ≡ entry_at self.old arrival }
         ensures others { self.new ≡ slice_set self.old arrival None }

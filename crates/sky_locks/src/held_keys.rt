@@ -1,5 +1,5 @@
-ghost use Rattle.std.specs.Prelude.{◌≡◌, ◌<◌, ℕ, length, slice_get, true, false, Some, OnOk, OnErr, OnSome, IfSome, IfNone};
-ghost use Rattle.sky_locks.specs.Sessions.{keys_of, has_key, KeepsKeys, ChangesKey};
+ghost use Rattle.std.specs.Prelude.{◌≡◌, ◌<◌, ℕ, length, slice_get, true, false, Some, OnOk, OnSome, IfSome, IfNone};
+ghost use Rattle.sky_locks.specs.Sessions.{keys_of, has_key, has_room, KeepsKeys, ChangesKey};
 ghost use Rattle.sky_locks.specs.Waiters.{is_among};
 ghost use Rattle.sky_locks.specs.declared.lock_key.LockKey.{LockKey};
 
@@ -11,7 +11,7 @@ use std::marker::Model;
 /// Which keys each session holds, each listed once.
 #[derive(Debug, Drop)]
 pub(crate) struct HeldKeys {
-    // By session. Those that it has no place for hold none.
+    // By session number. Sessions without a place hold no key.
     keys: Vec<Vec<LockKey>>,
 }
 
@@ -30,7 +30,7 @@ impl Model for HeldKeys {
 }
 
 impl HeldKeys {
-    /// None.
+    /// No key is held.
     pub(crate) fn new(alloc: Global) -> HeldKeys
         ensures { (s : ℕ) (q : LockKey) → has_key result s q ≡ false }
     {
@@ -50,20 +50,23 @@ impl HeldKeys {
         Ok(())
     }
 
-    /// Lists the key as one of the session's.
-    pub(crate) fn add(
-        &mut self,
-        alloc: Global,
-        who: SessionId,
-        key: LockKey,
-    ) -> Result<(), NoMemory>
-        requires { has_key self.old who key ≡ false }
-        ensures ok { OnOk result (ChangesKey self.old who key true self.new) }
-        ensures err { OnErr result (KeepsKeys self.old self.new) }
+    /// Makes room for one more key of the session.
+    pub(crate) fn reserve(&mut self, alloc: Global, who: SessionId) -> Result<(), NoMemory>
+        ensures room { OnOk result (has_room self.new who ≡ true) }
+        ensures same { KeepsKeys self.old self.new }
     {
         self.make_room(alloc, who)?;
-        self.keys[who as usize].push(key)?;
+        self.keys[who as usize].reserve(1)?;
         Ok(())
+    }
+
+    /// Lists the key as one of the session's, for which there is room.
+    pub(crate) fn add(&mut self, who: SessionId, key: LockKey)
+        requires room { has_room self.old who ≡ true }
+        requires new { has_key self.old who key ≡ false }
+        ensures { ChangesKey self.old who key true self.new }
+    {
+        self.keys[who as usize].push_reserved(key);
     }
 
     /// Removes the key from the session's, if it is one of them.

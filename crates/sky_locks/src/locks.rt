@@ -80,37 +80,31 @@ impl Locks {
         self.table.first_of(&self.freed)
     }
 
-    /// Takes the key for the session, or makes it wait for the one that holds it. If it would wait for itself, nothing
+    /// Takes the key for the session, or makes it wait for the one that holds it. If that would close a cycle, nothing
     /// changes. Nor does anything after an error.
     pub fn try_key(&mut self, who: SessionId, key: &LockKey) -> Result<Taken, NoMemory>
         requires { is_waiting who self.old.waiting ≡ false }
         ensures ok { IfOk result (λ taken. Takes self.old who key.now.table key.now.key taken self.new) }
         ensures err { OnErr result (self.new ≡ self.old) }
     {
-        match self.holder(key) {
+        match self.table.hold(who, key)? {
             Some(holder) if holder != who => self.wait(who, holder, key),
             Some(_) => Ok(Taken::Got),
             None => {
-                self.take(who, key)?;
+                self.freed.retain(|freed| freed != key);
                 Ok(Taken::Got)
             }
         }
     }
 
-    /// The session holds the key, which nobody held.
-    fn take(&mut self, who: SessionId, key: &LockKey) -> Result<(), NoMemory>
-        requires { holder self.old key.now.table key.now.key ≡ None }
-        ensures held { OnOk result (holder self.new ≡ taken who key.now.table key.now.key (holder self.old)) }
-        ensures waiting { OnOk result (self.new.waiting ≡ self.old.waiting) }
-        ensures err { OnErr result (self.new ≡ self.old) }
-    {
-        self.table.hold(who, key)?;
-        self.freed.retain(|freed| freed != key);
-        Ok(())
-    }
-
-    /// The session waits for the key, which another one holds, if it would not wait for itself.
-    fn wait(&mut self, who: SessionId, other: SessionId, key: &LockKey) -> Result<Taken, NoMemory>
+    /// Makes the session wait for the key, which this other one holds, as `try_key` does for a caller that doesn't know
+    /// the holder. If it would wait for itself, nothing changes. Nor does anything after an error.
+    pub fn wait(
+        &mut self,
+        who: SessionId,
+        other: SessionId,
+        key: &LockKey,
+    ) -> Result<Taken, NoMemory>
         requires idle { is_waiting who self.old.waiting ≡ false }
         requires holds { other_holder (holder self.old) who key.now.table key.now.key ≡ Some other }
         ensures ok { IfOk result (λ taken. Takes self.old who key.now.table key.now.key taken self.new) }
@@ -129,7 +123,7 @@ impl Locks {
         ensures { IfOk result (λ ring. ring
             ≡ option_map (λ way. who ∷ way) (way_back (waits_for_in self.now) who (length self.now.waiting) other)) }
     {
-        // Usually none would, and then no list is made.
+        // Usually no cycle would close, and then no list is made.
         if !self.leads_back(who, other) {
             return Ok(None);
         }

@@ -7,7 +7,7 @@ use std::alloc::Global;
 /// The arrival of each session that waits.
 #[derive(Debug, Drop)]
 pub(crate) struct SessionArrivals {
-    // By session. Those that it has no place for don't wait.
+    // By session number. Sessions without a place don't wait.
     numbers: Vec<Option<usize>>,
 }
 

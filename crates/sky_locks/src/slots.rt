@@ -1,6 +1,6 @@
-ghost use Rattle.std.specs.Prelude.{◌≡◌, ◌==◌, nat_eq, not, true, None, Some, [], is_some, slice_get, filter, OnOk, OnErr};
+ghost use Rattle.std.specs.Prelude.{◌≡◌, ◌==◌, nat_eq, not, true, None, Some, [], is_some, slice_get, filter, IfOk, IfNone, OnOk, OnErr, OnSome};
 ghost use Rattle.std.specs.List.{IsDistinct};
-ghost use Rattle.sky_locks.specs.Slots.{holder_at, queue_at, held_in, Holds, IsFree, SameHolders, Joins, Leaves, SameQueues};
+ghost use Rattle.sky_locks.specs.Slots.{holder_at, queue_at, held_in, Holds, IsFree, SameHolders, SameHeld, Joins, Leaves, SameQueues};
 ghost use Rattle.sky_locks.specs.declared.lock_key.LockKey.{LockKey};
 
 use crate::lock_key::LockKey;
@@ -8,7 +8,10 @@ use sky_val::{NoMemory, SessionId};
 use std::alloc::Global;
 use std::collections::BTreeMap;
 
-/// What there is at a key that is held or waited for.
+// A map of so many slots is small.
+const FEW: usize = 16;
+
+/// What there is at a key that is held or waited for. If neither, it is idle.
 #[derive(Debug, Drop)]
 pub(crate) struct Slot {
     holder: Option<SessionId>,
@@ -17,10 +20,14 @@ pub(crate) struct Slot {
     queue: Vec<SessionId>,
 }
 
-/// Each key that is held or waited for, with its holder and those that wait.
+/// Each key that is held or waited for, with its holder and those that wait. While any session waits, idle slots stay,
+/// since their keys are often held again, until they may be more than the others.
 #[derive(Debug, Drop)]
 pub(crate) struct Slots {
     slots: BTreeMap<LockKey, Slot>,
+
+    // Once there are more, idle ones are removed.
+    most: usize,
 }
 
 impl Slots {
@@ -32,6 +39,7 @@ impl Slots {
     {
         Slots {
             slots: BTreeMap::new(alloc),
+            most: FEW,
         }
     }
 
@@ -49,37 +57,39 @@ impl Slots {
         self.slots.get(key)?.queue.first().copied()
     }
 
-    /// The session holds the key. If nobody waits for any, one look-up is enough.
+    /// The session holds the key, if nobody does. The answer is who held it.
     pub(crate) fn hold(
         &mut self,
         alloc: Global,
         who: SessionId,
         key: &LockKey,
-        is_quiet: bool,
-    ) -> Result<(), NoMemory>
-        requires { is_quiet ≡ true → queue_at self.old.slots key.now ≡ [] }
-        ensures ok { OnOk result (Holds self.old.slots who key.now self.new.slots) }
-        ensures err { OnErr result (held_in self.new.slots ≡ held_in self.old.slots) }
-        ensures same { OnErr result (SameHolders self.old.slots self.new.slots) }
+    ) -> Result<Option<SessionId>, NoMemory>
+        ensures before { IfOk result (λ before. before ≡ holder_at self.old.slots key.now) }
+        ensures free { IfOk result (λ before. IfNone before (Holds self.old.slots who key.now self.new.slots)) }
+        ensures same { IfOk result (λ before. OnSome before (SameHeld self.old.slots self.new.slots)) }
+        ensures err { OnErr result (SameHeld self.old.slots self.new.slots) }
         ensures queues { SameQueues self.old.slots self.new.slots }
     {
-        if is_quiet {
-            self.insert(alloc, who, key)?;
-            return Ok(());
-        }
         match self.slots.get_mut(key) {
-            Some(slot) => slot.holder = Some(who),
-            None => self.insert(alloc, who, key)?,
+            Some(slot) => match slot.holder {
+                Some(holder) => Ok(Some(holder)),
+                None => {
+                    slot.holder = Some(who);
+                    Ok(None)
+                }
+            },
+            None => {
+                self.insert(alloc, who, key)?;
+                Ok(None)
+            }
         }
-        Ok(())
     }
 
     /// The session holds the key, for which nobody waits.
     fn insert(&mut self, alloc: Global, who: SessionId, key: &LockKey) -> Result<(), NoMemory>
         requires { queue_at self.old.slots key.now ≡ [] }
         ensures ok { OnOk result (Holds self.old.slots who key.now self.new.slots) }
-        ensures err { OnErr result (held_in self.new.slots ≡ held_in self.old.slots) }
-        ensures same { OnErr result (SameHolders self.old.slots self.new.slots) }
+        ensures err { OnErr result (SameHeld self.old.slots self.new.slots) }
         ensures queues { SameQueues self.old.slots self.new.slots }
     {
         let slot = Slot {
@@ -87,11 +97,25 @@ impl Slots {
             queue: Vec::new(alloc),
         };
         self.slots.insert(key.copy(alloc)?, slot)?;
+        self.tidy();
         Ok(())
     }
 
-    /// Nobody holds the key. The answer is whether it is waited for. If nobody waits for any, one
-    /// look-up is enough.
+    /// Removes idle slots, if there are many. Until there are many again, as many have to be added as stayed.
+    fn tidy(&mut self)
+        ensures holders { SameHolders self.old.slots self.new.slots }
+        ensures queues { SameQueues self.old.slots self.new.slots }
+    {
+        if self.slots.len() <= self.most {
+            return;
+        }
+        self.slots
+            .retain(|_, slot| slot.holder.is_some() || !slot.queue.is_empty());
+        let left = self.slots.len();
+        self.most = left + left.max(FEW);
+    }
+
+    /// Nobody holds the key. The answer is whether it is waited for. If nobody waits for any, its slot is removed.
     pub(crate) fn free(&mut self, key: &LockKey, is_quiet: bool) -> bool
         requires { is_quiet ≡ true → queue_at self.old.slots key.now ≡ [] }
         ensures holders { IsFree self.old.slots key.now self.new.slots }
@@ -105,12 +129,8 @@ impl Slots {
         let Some(slot) = self.slots.get_mut(key) else {
             return false;
         };
-        if slot.queue.is_empty() {
-            self.slots.remove(key);
-            return false;
-        }
         slot.holder = None;
-        true
+        !slot.queue.is_empty()
     }
 
     /// Appends the session to the key's queue.
@@ -137,6 +157,7 @@ impl Slots {
                     queue,
                 };
                 self.slots.insert(key.copy(alloc)?, slot)?;
+                self.tidy();
             }
         }
         Ok(())
@@ -153,13 +174,7 @@ impl Slots {
             return false;
         };
         unlink(&mut slot.queue, who);
-        if !slot.queue.is_empty() {
-            return true;
-        }
-        if slot.holder.is_none() {
-            self.slots.remove(key);
-        }
-        false
+        !slot.queue.is_empty()
     }
 }
 

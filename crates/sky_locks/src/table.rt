@@ -1,4 +1,4 @@
-ghost use Rattle.std.specs.Prelude.{◌≡◌, ◌≢◌, ◌<◌, ◌^◌, ◌==◌, ◌++◌, [], ◌∷◌, true, false, None, Some, if◌then◌else◌, is_some, length, slice_get, find, option_map, option_and_then, OnOk, OnErr, OnSome, IfSome, IfNone};
+ghost use Rattle.std.specs.Prelude.{◌≡◌, ◌≢◌, ◌<◌, ◌^◌, ◌==◌, ◌++◌, [], ◌∷◌, true, false, None, Some, if◌then◌else◌, is_some, length, slice_get, find, option_map, option_and_then, IfOk, OnOk, OnErr, OnSome, IfSome, IfNone};
 ghost use Rattle.std.specs.List.{All};
 ghost use Rattle.std.specs.Ordering.{eq_by_cmp};
 ghost use Rattle.sky_keys.specs.Waits.{is_waiting, entry_of, without};
@@ -103,22 +103,28 @@ impl Table {
         Some((waiter.who, &waiter.key))
     }
 
-    /// The session holds the key, which is free.
-    pub(crate) fn hold(&mut self, who: SessionId, key: &LockKey) -> Result<(), NoMemory>
-        requires { holder_of self.old.held key.now ≡ None }
-        ensures ok { OnOk result ((q : LockKey)
-            → holder_of self.new.held q ≡ (if eq_by_cmp lock_cmp key.now q then Some who else holder_of self.old.held q)) }
+    /// The session holds the key, if nobody does. The answer is who held it.
+    pub(crate) fn hold(
+        &mut self,
+        who: SessionId,
+        key: &LockKey,
+    ) -> Result<Option<SessionId>, NoMemory>
+        ensures before { IfOk result (λ before. before ≡ holder_of self.old.held key.now) }
+        ensures free { IfOk result (λ before. IfNone before ((q : LockKey)
+            → holder_of self.new.held q ≡ (if eq_by_cmp lock_cmp key.now q then Some who else holder_of self.old.held q))) }
+        ensures same { IfOk result (λ before. OnSome before (self.new.held ≡ self.old.held)) }
         ensures err { OnErr result (self.new.held ≡ self.old.held) }
         ensures waiting { self.new.waiting ≡ self.old.waiting }
     {
         let listed = key.copy(self.alloc)?;
-        self.listed.add(self.alloc, who, listed)?;
-        let is_quiet = self.entries.count() == 0;
-        let Ok(()) = self.slots.hold(self.alloc, who, key, is_quiet) else {
-            self.listed.take(who, key);
-            return Err(AllocError);
-        };
-        Ok(())
+        self.listed.reserve(self.alloc, who)?;
+        match self.slots.hold(self.alloc, who, key)? {
+            Some(holder) => Ok(Some(holder)),
+            None => {
+                self.listed.add(who, listed);
+                Ok(None)
+            }
+        }
     }
 
     /// The key is free, if the session held it. The answer is this key, and whether it is waited for.

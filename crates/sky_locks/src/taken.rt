@@ -10,7 +10,7 @@ pub enum Taken {
     Got,
     /// It waits for this one, which holds the key.
     Waits(SessionId),
-    /// It would have waited for itself.
+    /// Its wait would have closed this cycle.
     Cycle(Ring),
 }
 
@@ -37,7 +37,7 @@ impl Ring {
         Ring { sessions }
     }
 
-    /// The list of the sessions, the one that asked first.
+    /// The list of the sessions, beginning with the one that asked.
     pub fn into_sessions(self) -> Vec<SessionId>
         ensures { result.items ≡ self }
     {

@@ -23,7 +23,7 @@ use Rattle.sky_model.specs.Reader.{Reader, within_database, by_past, Deed, answe
 use Rattle.sky_model.specs.Daemon.{daemon_does, period, is_due_at, first_after, earlier, next_due}
 use Rattle.sky_model.specs.Clock.{deed_in, part_works, daemon_works, daemons_work, at_moment, goes_to, through, last_moment, waits_at}
 use Rattle.sky_model.specs.Clock as statement
-use Rattle.sky_model.specs.Calls.{database_turn, opening, opens, outside_does, is_leaving, left_if, may_make, of_daemon_if, begins_with_ok, node_if, does_at, session_does, turn, Call, called, past_of}
+use Rattle.sky_model.specs.Calls.{database_turn, opening, opens, outside_does, is_leaving, left_if, may_make, of_daemon_if, gets_node, node_if, does_at, session_does, turn, Call, called, past_of}
 use Rattle.sky_model.specs.Steps.{IsCallInForm}
 use Rattle.sky_model.specs.LawsOfDaemons.{AreOnSince, DaemonsHaveStarted, IsDue, IsFirstDue, IsNextDue, NextDueIsFirst, RiseFrom, at_moments, DaemonsWorkWhenDue}
 use Rattle.sky_model.proofs.PastHistories.{on_top-append}
@@ -416,8 +416,9 @@ started-at past who (Node stmt) d since =
     (keep-deed d [] (database_turn (within_database by_past d) past (clock past) who (Node stmt)) (λ p still. still) past since) since
 started-at past who (CreateRoot name queue) d since =
     let turn_within : Turn = database_turn (within_database by_past d) past (clock past) who (CreateRoot name queue) in
+    let got : Bool = gets_node ((world_of past).database d) turn_within in
     started-if past (may_make ((world_of past).database d) who (CreateRoot name queue) && is_some (node_called (world_of past) name)) _ _ since
-    (keep-deed d (node_if (begins_with_ok turn_within.answers) d) turn_within (keep-node (begins_with_ok turn_within.answers) d) past since)
+    (keep-deed d (node_if got d) turn_within (keep-node got d) past since)
 started-at past who stmt d since =
     let gone : List Fact = left_if who (is_leaving (waits_at (world_of past) who (Some d)) stmt) in
     let put : List Fact = of_daemon_if (may_make ((world_of past).database d) who stmt) d (daemon past d) stmt in

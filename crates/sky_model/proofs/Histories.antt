@@ -42,7 +42,7 @@ use Rattle.sky_model.specs.Nodes.{node, leaf_tables}
 use Rattle.sky_model.specs.Rows.{table_names}
 use Rattle.sky_model.specs.LawsOfNodes.{is_one_of}
 use Rattle.sky_model.proofs.NodeDeeds.{node-quiet, after-node_does}
-use Rattle.sky_model.specs.Calls.{may_make, database_turn, opening, opens, outside_does, beside, begins_with_ok, node_if, does_at, session_does, turn, Call, called, past_of}
+use Rattle.sky_model.specs.Calls.{may_make, database_turn, opening, opens, outside_does, beside, gets_node, node_if, does_at, session_does, turn, Call, called, past_of}
 use Rattle.sky_model.specs.SessionMarks.{look_of, entry_place, enters, failing}
 use Rattle.sky_model.specs.Promises.{after_all}
 use Rattle.sky_model.specs.DatabaseCalls.{DatabaseCall, stepped, entered, failed, worked, served, IsDatabaseCallInForm, database_does, database_part}
@@ -251,8 +251,9 @@ made_at formed past who (Node stmt) d is_form all =
     after-node_does (AllMade formed) (λ p e made. made) (made_called-in formed) past who stmt d (made_deed formed past d who (Node stmt) [] (λ p n. refl) is_form all) all
 made_at formed past who (CreateRoot name queue) d is_form all =
     let turn_within : Turn = database_turn (within_database by_past d) past (world_of past).now who (CreateRoot name queue) in
+    let got : Bool = gets_node ((world_of past).database d) turn_within in
     made_if formed past (may_make ((world_of past).database d) who (CreateRoot name queue) && is_some (node_called (world_of past) name)) _ _ all
-    (made_deed formed past d who (CreateRoot name queue) (node_if (begins_with_ok turn_within.answers) d) (node-quiet (begins_with_ok turn_within.answers) d).histories is_form all)
+    (made_deed formed past d who (CreateRoot name queue) (node_if got d) (node-quiet got d).histories is_form all)
 made_at formed past who stmt d is_form all =
     made_deed formed past d who stmt (beside (world_of past) who stmt d) (beside-outside (world_of past) who stmt d) is_form all
 

@@ -26,7 +26,7 @@ use Rattle.sky_model.specs.Reader.{shown_in, part_by_history, database_by_histor
 use Rattle.sky_model.specs.Settling.{Turn, marked, behind_marks, settling}
 use Rattle.sky_model.specs.Daemon.{daemon_does}
 use Rattle.sky_model.specs.Clock.{deed_in, waits_at}
-use Rattle.sky_model.specs.Calls.{making, statement, database_turn, opening, opens, outside_does, is_leaving, left_if, may_make, of_daemon_if, begins_with_ok, node_if, does_at, session_does, turn, Call, called, past_of}
+use Rattle.sky_model.specs.Calls.{making, statement, database_turn, opening, opens, outside_does, is_leaving, left_if, may_make, of_daemon_if, gets_node, node_if, does_at, session_does, turn, Call, called, past_of}
 use Rattle.sky_model.specs.LawsOfHistories.{HomesAreOpen, WaitersHaveOpen, BlocksAreOpen}
 use Rattle.sky_model.proofs.Legal.{Fine, begins_block, fails_block, ends_block, connects, disconnects, Legal, start, next}
 use Rattle.sky_model.proofs.WaitersFit.{waits-open}
@@ -276,8 +276,9 @@ homed-at past all homed who (Node stmt) d is =
     (homed-inside past homed d who is [] (node-quiet false d) (Node stmt)) homed
 homed-at past all homed who (CreateRoot name queue) d is =
     let turn_within : Turn = database_turn (within_database by_past d) past (world_of past).now who (CreateRoot name queue) in
+    let got : Bool = gets_node ((world_of past).database d) turn_within in
     homed-if past (may_make ((world_of past).database d) who (CreateRoot name queue) && is_some (node_called (world_of past) name)) _ _ homed
-    (homed-inside past homed d who is (node_if (begins_with_ok turn_within.answers) d) (node-quiet (begins_with_ok turn_within.answers) d) (CreateRoot name queue))
+    (homed-inside past homed d who is (node_if got d) (node-quiet got d) (CreateRoot name queue))
 homed-at past all homed who stmt d is =
     let may : Bool = may_make ((world_of past).database d) who stmt in
     homed-inside past homed d who is (of_daemon_if may d ((world_of past).daemons d) stmt) (daemon-quiet may d ((world_of past).daemons d) stmt) stmt

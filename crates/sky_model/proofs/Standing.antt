@@ -56,7 +56,7 @@ same-at past all who (Node stmt) d =
     ap (λ turn. if may_make ((world_of past).database d) who (Node stmt) then world_does who (node_form (world_of past) d stmt) else deed_in d [] turn)
     (same-database_turn past all d (world_of past).now who (Node stmt))
 same-at past all who (CreateRoot name queue) d =
-    ap (λ turn. if may_make ((world_of past).database d) who (CreateRoot name queue) && is_some (node_called (world_of past) name) then refuses who (NodeExists name) else roots_in d turn)
+    ap (λ turn. if may_make ((world_of past).database d) who (CreateRoot name queue) && is_some (node_called (world_of past) name) then refuses who (NodeExists name) else roots_in d ((world_of past).database d) turn)
     (same-database_turn past all d (world_of past).now who (CreateRoot name queue))
 same-at past all who stmt d = ap (deed_in d (beside (world_of past) who stmt d)) (same-database_turn past all d (world_of past).now who stmt)
 

@@ -13,7 +13,7 @@ use Rattle.sky_keys.specs.Waits.{is_waiting}
 use Rattle.sky_names.specs.Places.{place_of}
 use Rattle.sky_model.specs.Limits.{most_of}
 use Rattle.sky_model.specs.History.{Mark, Fact, entered, left, daemon_on, daemon_off, node_made, Past}
-use Rattle.sky_model.specs.State.{RowPart, Database}
+use Rattle.sky_model.specs.State.{RowPart, Database, after_marks}
 use Rattle.sky_model.specs.ShownRows.{RowsShown}
 use Rattle.sky_model.specs.Outcome.{Outcome, Checked, answers, after_marks_of}
 use Rattle.sky_model.specs.Allowed.{where_of_row, where_of, allowed}
@@ -161,7 +161,7 @@ left_if who false = []
 abbrev pub may_make : Database → ℕ → Stmt → Bool
 may_make d who stmt = is_ok (allowed (is_waiting who d.part.waiting) (d.part.session who).is_open (d.part.session who).block (where_of stmt))
 
--- the daemon of a database, which is on since a moment or off, is switched on or off by a statement that its session may make
+-- the daemon of a database, which has been on since a moment or is off, is switched on or off by a statement that its session may make
 abbrev pub of_daemon_if : Bool → ℕ → Option ℤ → Stmt → List Fact
 of_daemon_if true d None PgqdOn = daemon_on d ∷ []
 of_daemon_if true d start PgqdOff = daemon_off d ∷ []
@@ -178,31 +178,30 @@ abbrev pub world_does : ℕ → Checked WorldOutcome → Deed
 world_does who (Ok outcome) = answers_with who outcome.reply outcome.facts
 world_does who (Err refusal) = refuses who refusal
 
--- a statement on nodes of a session, by the database that it has open, where it is refused if its session may not make it
+-- a statement on nodes of a session, by the database that it has open; if the session may not make it, this database refuses it
 abbrev pub node_stmt_does : {P : Type 0} → Reader P → P → ℕ → NodeStmt → ℕ → Deed
 node_stmt_does r p who stmt d =
     if may_make ((r.world p).database d) who (Node stmt) then world_does who (node_form (r.world p) d stmt)
     else deed_in d [] (database_turn (within_database r d) p (r.world p).now who (Node stmt))
 
--- whether the first of some answers is `ok`
-abbrev pub begins_with_ok : List (ℕ × Reply) → Bool
-begins_with_ok ((who, Done) ∷ answers) = true
-begins_with_ok _ = false
+-- whether a database that had no node has one after a turn
+abbrev pub gets_node : Database → Turn → Bool
+gets_node d turn = not (is_some d.node) && is_some (after_marks d turn.marks).node
 
--- a database got its node, if that was answered
+-- it got its node, or didn't
 abbrev pub node_if : Bool → ℕ → List Fact
 node_if true d = node_made d ∷ []
 node_if false d = []
 
 -- `create_root` of a session, by the database that it has open
-abbrev pub roots_in : ℕ → Turn → Deed
-roots_in d turn = deed_in d (node_if (begins_with_ok turn.answers) d) turn
+abbrev pub roots_in : ℕ → Database → Turn → Deed
+roots_in d old turn = deed_in d (node_if (gets_node old turn) d) turn
 
--- refused if there is a node of the name
+-- refused if the session may make it and there is a node of the name in any database
 abbrev pub root_does : {P : Type 0} → Reader P → P → ℕ → (name queue : List ℕ) → ℕ → Deed
 root_does r p who name queue d =
     if may_make ((r.world p).database d) who (CreateRoot name queue) && is_some (node_called (r.world p) name) then refuses who (NodeExists name)
-    else roots_in d (database_turn (within_database r d) p (r.world p).now who (CreateRoot name queue))
+    else roots_in d ((r.world p).database d) (database_turn (within_database r d) p (r.world p).now who (CreateRoot name queue))
 
 -- a statement of a session, by the database that it has open
 abbrev pub does_at : {P : Type 0} → Reader P → P → ℕ → Stmt → ℕ → Deed
@@ -220,7 +219,7 @@ abbrev pub turn : {P : Type 0} → Reader P → ℕ → Stmt → P → Deed
 turn r who (Clock time) p = clock r p who time (waits_at (r.world p) who ((r.world p).homes who))
 turn r who stmt p = session_does r p who stmt ((r.world p).homes who)
 
--- a statement of a session, by its name
+-- a statement, and the name of the session that makes it
 pub record Call : Type 0 where
   pub who : List ℕ
   pub stmt : Stmt

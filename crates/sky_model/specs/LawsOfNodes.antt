@@ -22,7 +22,7 @@ use Rattle.sky_model.specs.HistoryPlaces.{IsPlace}
 abbrev pub SetsHaveQueues : Type 0
 SetsHaveQueues = (p : History) → IsPlace p → is_root (node p) ≡ true → is_some (set_queue (database_of p)) ≡ true
 
--- each of these is the name of a table, if these are the names of the tables
+-- each of `names` is the name of a table; `tables` are the names of all tables
 abbrev pub AreTables : (tables names : List (List ℕ)) → Type 0
 AreTables tables names = All (λ name. is_some (place_of name tables) ≡ true) names
 
@@ -44,7 +44,7 @@ abbrev pub triggers_into : ℕ → Option ℕ → List TableTrigger
 triggers_into table None = []
 triggers_into table (Some queue) = record { table = table; name = None; trigger = set_trigger queue } ∷ []
 
--- after calls each table of a root's set has one trigger without a name, which puts events into the set's queue, and no other table has any
+-- after calls each table of a root's set has one trigger without a name, which puts events into the set's queue, and no other table has one such
 abbrev pub SetsHaveTriggers : Type 0
 SetsHaveTriggers = (calls : List DatabaseCall) → (let h : History = after_all database_part calls in
     (table : ℕ) → filter (is_sets table) (database_of h).triggers
@@ -60,7 +60,7 @@ abbrev pub SessionsWriteNoReadOnlyTable : Type 0
 SessionsWriteNoReadOnlyTable = (p : History) (who t table : ℕ) (key : List Val) (old new : Option (List Val))
     → IsPlace (tabled (wrote (of_session who) t table key old new) ∷ p) → is_read_only table p ≡ false
 
--- and a table that is read-only was written by no running transaction of a session
+-- and no running transaction of a session has written a read-only table
 abbrev pub ReadOnlyTablesAreUnwritten : Type 0
 ReadOnlyTablesAreUnwritten = (p : History) → IsPlace p → (who t table : ℕ) → own_txid who p ≡ Some t → is_read_only table p ≡ true → wrote_in table t p ≡ false
 

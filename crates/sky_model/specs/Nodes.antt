@@ -1,11 +1,11 @@
--- The node of a database: what it became by what happened to it.
+-- The node of a database, as the marks of the database's history leave it.
 use Rattle.std.specs.Prelude.{List, ℕ, [], ◌∷◌, ◌&&◌, Bool, true, false, Option, Some, None, option_map, bytes_eq}
 use Rattle.londiste_state.specs.declared.state.TableState.TheVariants.{CatchingUp}
 use Rattle.londiste_state.specs.Nodes.{LeafTable, Root, Leaf, Node, of_root, of_leaf, is_among, tables_of, changed_in, with_root_table, without_root_table, with_consumer, without_consumer, with_leaf_table, without_leaf_table, with_state}
 use Rattle.sky_txid.specs.Snapshot.{SnapshotView}
 use Rattle.sky_model.specs.History.{noded, Pick, ready, copy_of, NodeMark, root_made, listed, unlisted, joined, parted, leaf_made, leaf_added, leaf_removed, state_set, held, copied, applied, restarted, History}
 
--- a root changed, or a leaf
+-- a node changed if it is a root; a node changed if it is a leaf
 abbrev pub at_root : (Root → Root) → Node → Node
 at_root change (of_root r) = of_root (change r)
 at_root change (of_leaf l) = of_leaf l
@@ -22,7 +22,7 @@ with_copy snapshot tick t = record t { state = CatchingUp; snapshot = Some snaps
 abbrev pub with_tick : ℕ → LeafTable → LeafTable
 with_tick tick t = record t { tick = tick }
 
--- a leaf that has applied batches up to a tick
+-- a leaf that has applied batches up to a tick, or of which the copy of one table has
 abbrev pub with_applied : Pick → ℕ → Leaf → Leaf
 with_applied ready tick l = record l { tick = tick }
 with_applied (copy_of table) tick l = record l { tables = changed_in table (with_tick tick) l.tables }
@@ -58,7 +58,7 @@ abbrev pub is_leaf : Option Node → Bool
 is_leaf (Some (of_leaf l)) = true
 is_leaf _ = false
 
--- the tables of the set of which it is the root; those of the leaf that it is
+-- the tables of the set, if the node is a root; the tables of the leaf, if it is one
 abbrev pub set_tables : Option Node → List (List ℕ)
 set_tables (Some (of_root r)) = r.tables
 set_tables _ = []

@@ -1,4 +1,4 @@
--- What is done to the node of a database, and by it. Each reads the database `d` as it is.
+-- What a database does for nodes, its own and those of other databases. Each definition that takes the database `d` reads it as it is.
 use Rattle.std.specs.Prelude.{ℕ, ℤ, List, [], ◌∷◌, ◌++◌, Bool, false, true, not, ◌&&◌, Option, Some, None, option_map, option_and_then, unwrap_or, is_some, is_none, nat_le, length, if◌then◌else◌}
 use Rattle.sky_urlenc.specs.RowEvents.{Trigger}
 use Rattle.sky_names.specs.Places.{place_of}
@@ -126,8 +126,8 @@ abbrev pub may_move : List ℕ → TableState → Option Node → Bool
 may_move table state (Some (of_leaf l)) = unwrap_or (option_map (λ t. is_allowed t.state state) (table_of table l)) false
 may_move table state _ = false
 
--- whether a call is one for a database whose node is this: it gets a leaf if it has no node, a table joins a set or a leaf that hasn't it, and leaves
--- one that has it
+-- whether a call is one for a database whose node is this: it gets a leaf if it has no node; a table joins a set or a leaf that doesn't have it yet,
+-- leaves one that has it, and goes only into a state that its own allows; any other call is one for each database
 abbrev pub may_serve : NodeCall → Option Node → Bool
 may_serve (making_leaf name provider tick) n = is_none n
 may_serve (adding table) n = is_leaf n && not (is_among table (leaf_tables n))
@@ -151,6 +151,6 @@ call_form d (moving table state) = does_marks Done (noded (state_set table state
 call_form d (listing name) = if_there (set_queue d) (λ queue. if_there (table_number d name) (λ table. lists d queue table name))
 call_form d (unlisting name) = if_there (table_number d name) (λ table. unlists table name)
 
--- what it does; nothing for another database
+-- what it does; nothing if it isn't one for this database
 abbrev pub node_does : Database → NodeCall → Checked Outcome
 node_does d call = if may_serve call d.node then call_form d call else answers Null

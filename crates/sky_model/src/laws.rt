@@ -45,9 +45,9 @@ pub fn snapshots_see_what_has_ended()
     ensures { SnapshotsSeeWhatHasEnded }
 {}
 
-/// At each such place a batch's events are the stored ones that the closing tick's snapshot sees, the
-/// opening tick's doesn't, whose transaction hasn't rolled back, and that are for the batch's
-/// subscription, by id.
+/// At each such place a batch's events, by id, are selected from all that were ever put into its queue: those that are
+/// for its subscription, and whose transaction hasn't rolled back, is seen by the closing tick's snapshot, and isn't
+/// seen by the opening tick's.
 pub fn batches_are_selected_by_snapshots()
     ensures { BatchesAreSelectedBySnapshots }
 {}
@@ -109,11 +109,11 @@ pub fn subscriptions_are_given_once()
 /// At each such place each retry that waits is of a subscription of its queue, and its event a copy of one that was put
 /// there, with the subscription as its owner and one retry more; it was asked for of an active batch of this
 /// subscription, which lists that event; and for each event id of a subscription at most one waits. One that comes back
-/// waited and is due, its event was put just before, of a transaction that hadn't ended, and it waits no more; it comes
-/// back at the moment of the call that brings it, and no event with an owner is put in another way. Its event is in
-/// each batch of its subscription whose opening tick was made before, and whose closing tick is made later, and in no
-/// other batch across that place; and a batch lists at most one event of an id and a transaction, so it lists this one
-/// once. And an event with an owner is in no batch of another subscription.
+/// had waited, and is due; its event was put just before, by a transaction that hadn't ended; it waits no longer, and
+/// comes back at the moment of the call that brings it; and no event with an owner is put in another way. Its event is
+/// in each batch of its subscription whose opening tick was made before, and whose closing tick is made later, and in
+/// no other batch across that place; and a batch lists at most one event of an id and a transaction, so it lists this
+/// one once. And an event with an owner is in no batch of another subscription.
 pub fn retries_come_back_once()
     ensures copies { RetriesAreCopies }
     ensures listed { RetriesAreOfActiveBatches }
@@ -181,10 +181,10 @@ pub fn listings_stay()
     ensures were_active { FinishedBatchesWereActive }
 {}
 
-/// After calls of the world no daemon was started at a later moment than the clock's. From there the next moment is the
-/// first one at which a part of the daemon of some database is due, and there is none if and only if none ever is. As
-/// the clock moves, daemons work at each moment up to the new one at which a part of one is due, in rising order, and
-/// at no other.
+/// After calls of the world no daemon was started at a later moment than the clock's. The next moment after the clock's
+/// is then the first one at which a part of the daemon of some database is due, and there is none if and only if no
+/// part is ever due. As the clock moves, daemons work at each moment up to the new one at which a part of one is due,
+/// in rising order, and at no other.
 pub fn daemons_work_when_due()
     ensures started { DaemonsHaveStarted }
     ensures next { NextDueIsFirst }
@@ -193,8 +193,8 @@ pub fn daemons_work_when_due()
 
 /// The three event tables of a queue that exists have what was put while each was the current one, since it was last
 /// emptied. No switch loses an event that a running transaction has put, or that a consumer at a tick at which one may
-/// register hasn't got yet; and what is selected of the tables for a batch that is active are its events, of all that
-/// were ever put. The position of each consumer is such a tick, and is kept; so is each later tick, and the newest one.
+/// register hasn't got yet; and what is selected from the tables for an active batch is its events, of all that were
+/// ever put. The position of each consumer is such a tick, and is kept; so is each later tick, and the newest one.
 /// A switch drops the ticks that aren't above the second step of the one before, and no others. It begins to be pending
 /// for a transaction that hasn't ended, while no other one is, once the rotation period is over, and while neither the
 /// second step of the one before, nor a consumer, nor the newest tick holds it back. One that is made was pending, and
@@ -214,11 +214,11 @@ pub fn rotation_leaves_what_is_needed()
     ensures pending { PendingSwitchesRun }
 {}
 
-/// At each place of each history that calls of a database make, the queue of a root's set stands, and each table of a
+/// At each place of each history that calls of a database make, the queue of a root's set exists, and each table of a
 /// root or of a leaf is a table of its database. After the calls each table of a set has one trigger without a name,
 /// which puts events into the set's queue, and no other table has such a trigger; and the tables of a leaf are
-/// read-only, and no others. So, after calls of the world, `add_table` is never refused because a root has no queue, nor
-/// `remove_table` because the table doesn't exist.
+/// read-only, and no others. So, after calls of the world, `add_table` is never refused because a root has no queue,
+/// nor `remove_table` because the table doesn't exist.
 pub fn nodes_match_their_databases()
     ensures queues { SetsHaveQueues }
     ensures tables { NodesHaveTables }

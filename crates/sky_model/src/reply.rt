@@ -472,6 +472,15 @@ impl Replies {
         Ok(())
     }
 
+    /// Appends answers, in their order.
+    pub fn append(&mut self, mut answers: Replies) -> Result<(), NoMemory>
+        ensures ok { OnOk result (self.new ≡ self.old ++ answers) }
+        ensures err { OnErr result (self.new ≡ self.old) }
+    {
+        self.items.append(&mut answers.items)?;
+        Ok(())
+    }
+
     /// Removes all answers. The memory is kept for the next ones.
     pub fn clear(&mut self)
         ensures { self.new ≡ [] }

@@ -1,7 +1,8 @@
 -- What a line says, by the result of parsing it.
-use Rattle.std.proofs.Common.{◌≡◌, ℕ, List, Bool, true, false, Result, Ok, Err, refl, sym, ap, subst, ◌∙◌, if◌then◌else◌}
-use Rattle.std.specs.Prelude.{◌↔◌, OnOk, OnErr, IfErr}
+use Rattle.std.proofs.Common.{◌≡◌, ℕ, List, Bool, true, false, Result, Ok, Err, refl, ap, ◌∙◌, if◌then◌else◌}
+use Rattle.std.specs.Prelude.{OnOk, OnErr, IfErr}
 use Rattle.std.specs.Str.{IsUtf8, is_utf8}
+use Rattle.std.proofs.lemmas.Bool.{false_from_ne_true}
 use Rattle.std.proofs.lemmas.Str.{IsUtf8-from_is_utf8, is_utf8-from_IsUtf8}
 use Rattle.sky_model.specs.declared.line.Cause.TheVariants as causes
 use Rattle.sky_model.specs.declared.line.Line.{Line}
@@ -27,15 +28,13 @@ tells_well n line (Err NotUtf8) well is_answer = absurd is_answer
 tells_well n line (Err (BadWord k)) well is_answer = (refl, said_in-by line true well ∙ ap said_by is_answer)
 tells_well n line (Err NoMemory) well is_answer = tt
 
-by_utf8 : (n : ℕ) (line : List ℕ) (r : Result Line LineCause) (t : Bool) → is_utf8 line ≡ t → (r ≡ Err NotUtf8) ↔ ¬ (IsUtf8 line) → (IsUtf8 line → IsAnswer r (line_of line)) → Tells n r (said_in line)
-by_utf8 n line r true is not_utf8 is_answer = tells_well n line r is (is_answer (IsUtf8-from_is_utf8 line is))
-by_utf8 n line r false is not_utf8 is_answer =
-    let r_is : r ≡ Err NotUtf8 = not_utf8.1 (λ well. let contrary = sym is ∙ is_utf8-from_IsUtf8 line well in cc) in
-    subst (λ (result : Result Line LineCause). Tells n result (said_in line)) (sym r_is) (refl, said_in-by line false is)
+-- the result of parsing a line that is text is what it says
+pub Tells-parsed : (n : ℕ) (line : List ℕ) (r : Result Line LineCause) → IsUtf8 line → IsAnswer r (line_of line) → Tells n r (said_in line)
+Tells-parsed n line r text is_answer = tells_well n line r (is_utf8-from_IsUtf8 line text) is_answer
 
--- the result of parsing a line is what it says
-pub Tells-parsed : (n : ℕ) (line : List ℕ) (r : Result Line LineCause) → (r ≡ Err NotUtf8) ↔ ¬ (IsUtf8 line) → (IsUtf8 line → IsAnswer r (line_of line)) → Tells n r (said_in line)
-Tells-parsed n line r not_utf8 is_answer = by_utf8 n line r (is_utf8 line) refl not_utf8 is_answer
+-- a line that isn't text says so
+pub said_in-not_utf8 : (line : List ℕ) → ¬ (IsUtf8 line) → said_in line ≡ bad causes.NotUtf8
+said_in-not_utf8 line no_text = said_in-by line false (false_from_ne_true _ (λ is. no_text (IsUtf8-from_is_utf8 line is)))
 
 -- two facts at `Ok`
 pub OnOk-both : {T E P Q R : Type 0} (r : Result T E) → OnOk r P → OnOk r Q → (P → Q → R) → OnOk r R

@@ -38,7 +38,7 @@ pub record Called (old new : World) (call : Call) (gathered more : List ℕ) : T
   pub steps : Steps old new call replies
   pub prints : more ≡ gathered ++ printed (new.sessions ++ call.who ∷ []) replies
 
--- what a line says was answered in a world: its call; or nothing, and then all stays
+-- what a line says was answered in a world: its call; or nothing, and then nothing changes
 abbrev pub Answers : Said → (old new : World) → (gathered more : List ℕ) → Type 0
 Answers (asks call) old new gathered more = Called old new call gathered more
 Answers idle old new gathered more = (new ≡ old) × (more ≡ gathered)

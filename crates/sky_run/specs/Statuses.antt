@@ -16,6 +16,11 @@ abbrev pub Known : Bool → ℕ → Type 0
 Known true status = (status ≡ 0) ⊎ (status ≡ 2) ⊎ (status ≡ 3) ⊎ (status ≡ 4) ⊎ (status ≡ 5)
 Known false status = (status ≡ 64) ⊎ (status ≡ 4) ⊎ (status ≡ 5)
 
+-- those that remain if the source and the sinks are reliable
+abbrev pub KnownIfRelied : Bool → ℕ → Type 0
+KnownIfRelied true status = (status ≡ 0) ⊎ (status ≡ 2) ⊎ (status ≡ 5)
+KnownIfRelied false status = (status ≡ 64) ⊎ (status ≡ 5)
+
 -- the source was read to its end, no line is bad, and the sink got what the script prints
 pub record PrintsWhole (after held new_held : Option (List ℕ)) (bytes : List ℕ) : Type 0 where
   pub at_end : after ≡ Some []

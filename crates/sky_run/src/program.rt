@@ -4,7 +4,7 @@ ghost use Rattle.sky_io.specs.Appends.{AppendsPrefix};
 ghost use Rattle.sky_io.specs.Faults.{Rose};
 ghost use Rattle.sky_model.specs.Transcript.{transcript, bad_text};
 ghost use Rattle.sky_model.specs.Transcript as spec;
-ghost use Rattle.sky_run.specs.Statuses.{texts, Known, PrintsWhole, TellsBadLine, PrintsGiven, complaint, due_status};
+ghost use Rattle.sky_run.specs.Statuses.{texts, Known, KnownIfRelied, PrintsWhole, TellsBadLine, PrintsGiven, complaint, due_status};
 ghost use Rattle.sky_run.specs.Statuses as statuses;
 
 use crate::end::End;
@@ -60,6 +60,9 @@ pub fn run_main<S: Source, O: Sink, E: Sink>(
     ensures due { (bytes : List ℕ) → S.left src.old ≡ Some bytes → ¬ (Rose (S.faults src.old) (S.faults src.new))
         → ¬ (Rose (O.faults out.old) (O.faults out.new)) → ¬ (Rose (E.faults err.old) (E.faults err.new))
         → (result ≡ 5) ⊎ (result ≡ due_status (spec.is_run (texts words.now.items)) bytes) }
+
+    // A source and sinks that are reliable don't fail.
+    ensures relied { S.reliable src.old → O.reliable out.old → E.reliable err.old → KnownIfRelied (spec.is_run (texts words.now.items)) result }
 {
     let Ok(known) = is_run(alloc, words) else {
         return NO_MEMORY;
@@ -81,6 +84,7 @@ fn report_bad_line<E: Sink>(alloc: Global, line: u64, cause: Cause, err: &mut E)
     ensures told { result ≡ 2 → Appends (E.held err.old) (E.held err.new) (bad_text (line, cause)) }
     ensures prefix { AppendsPrefix (E.held err.old) (E.held err.new) (bad_text (line, cause)) }
     ensures write { result ≡ 4 → Rose (E.faults err.old) (E.faults err.new) }
+    ensures relied { result ≡ 4 → ¬ (E.reliable err.old) }
 {
     let Ok(text) = bad_text(alloc, line, cause) else {
         return NO_MEMORY;
@@ -109,6 +113,7 @@ fn report_usage<E: Sink>(err: &mut E) -> u8
     ensures usage { result ≡ 64 → Appends (E.held err.old) (E.held err.new) spec.usage }
     ensures prefix { AppendsPrefix (E.held err.old) (E.held err.new) spec.usage }
     ensures write { result ≡ 4 → Rose (E.faults err.old) (E.faults err.new) }
+    ensures relied { result ≡ 4 → ¬ (E.reliable err.old) }
 {
     match write_all(err, USAGE.as_bytes()) {
         Ok(()) => BAD_WORDS,

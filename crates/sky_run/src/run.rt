@@ -17,20 +17,23 @@ use crate::end::End;
 use sky_io::{Sink, SinkFault, Source, write_all};
 use sky_lines::{LineFault, LineReader};
 use sky_model::{Cause, Line, Replies, Stmt};
-use sky_script::{LineCause, parse_line};
+use sky_script::{LineCause, parse_text};
 use sky_val::{NoMemory, Text};
 use sky_world::World;
 use std::alloc::{AllocError, Global};
 use std::mem;
 
-/// If more bytes than these are gathered after a line, they are written.
+/// If more bytes than this are gathered after a line, all that are gathered are written.
 const MOST_GATHERED: usize = 65_536;
 
-/// Runs the script that the source gives to its end or its first bad line, and writes what it answers.
+/// Runs the script that the source gives, and writes what it answers, until the script ends, a line is bad, the source
+/// or the sink fails, or memory runs out.
 pub fn run_lines<S: Source, O: Sink>(alloc: Global, src: &mut S, out: &mut O) -> End
     ensures ends { (bytes : List ℕ) → S.left src.old ≡ Some bytes → Ends result (S.left src.new) (O.held out.old) (O.held out.new) [] bytes }
     ensures read { result ≡ End.Read → Rose (S.faults src.old) (S.faults src.new) }
     ensures write { result ≡ End.Write → Rose (O.faults out.old) (O.faults out.new) }
+    ensures read_relied { result ≡ End.Read → ¬ (S.reliable src.old) }
+    ensures write_relied { result ≡ End.Write → ¬ (O.reliable out.old) }
 {
     match Run::new(alloc) {
         Ok(mut fresh) => {
@@ -78,6 +81,8 @@ impl Run {
             → Ends result (S.left src.new) first (O.held out.new) [] bytes }
         ensures read { result ≡ End.Read → Rose (S.faults src.old) (S.faults src.new) }
         ensures write { result ≡ End.Write → Rose (O.faults out.old) (O.faults out.new) }
+        ensures read_relied { result ≡ End.Read → ¬ (S.reliable src.old) }
+        ensures write_relied { result ≡ End.Write → ¬ (O.reliable out.old) }
     {
         'lines: loop {
             if let Err(end) = self.turn(src, out) {
@@ -87,7 +92,7 @@ impl Run {
     }
 
     // Runs one line. What was answered is written before the source is read again, so that at a terminal
-    // each answer comes before the wait.
+    // each answer comes before the wait for the next line.
     fn turn<S: Source, O: Sink>(&mut self, src: &mut S, out: &mut O) -> Result<(), End>
         requires { Counts self.old }
         ensures goes { OnOk result ((first : Option (List ℕ)) (bytes : List ℕ) → Goes self.old (S.left src.old) first (O.held out.old) bytes
@@ -100,6 +105,10 @@ impl Run {
         ensures write { IsErrOf result End.Write → Rose (O.faults out.old) (O.faults out.new) }
         ensures src_never_falls { S.faults src.old ≤ S.faults src.new }
         ensures out_never_falls { O.faults out.old ≤ O.faults out.new }
+        ensures read_relied { IsErrOf result End.Read → ¬ (S.reliable src.old) }
+        ensures write_relied { IsErrOf result End.Write → ¬ (O.reliable out.old) }
+        ensures src_stays { S.reliable src.old → S.reliable src.new }
+        ensures out_stays { O.reliable out.old → O.reliable out.new }
     {
         self.write_where(self.reads(), out)?;
         match self.line(src) {
@@ -136,6 +145,8 @@ impl Run {
         ensures read { IsErrOf result End.Read → Rose (S.faults src.old) (S.faults src.new) }
         ensures never_writes { ¬ (IsErrOf result End.Write) }
         ensures never_falls { S.faults src.old ≤ S.faults src.new }
+        ensures relied { IsErrOf result End.Read → ¬ (S.reliable src.old) }
+        ensures stays { S.reliable src.old → S.reliable src.new }
     {
         match self.reader.advance(src) {
             Ok(true) => self.answer(),
@@ -144,7 +155,7 @@ impl Run {
         }
     }
 
-    // Answers the line that was taken, in place, and counts it.
+    // Answers the line that was taken, which is parsed without being copied, and counts it.
     fn answer(&mut self) -> Result<(), End>
         requires { self.old.number ≤ most_in_script }
         ensures answers { OnOk result (Answers (said_in self.old.reader.line) (seen_world self.old.world) (seen_world self.new.world) self.old.gathered.items self.new.gathered.items) }
@@ -153,7 +164,10 @@ impl Run {
         ensures err { OnErr result (self.new.gathered.items ≡ self.old.gathered.items) }
         ensures reader { self.new.reader ≡ self.old.reader }
     {
-        match parse_line(self.alloc, self.reader.line()) {
+        let Some(line) = self.reader.text() else {
+            return Err(End::Bad(self.number, Cause::NotUtf8));
+        };
+        match parse_text(self.alloc, line) {
             Ok(said) => self.count(&said),
             Err(cause) => Err(self.end_by(cause)),
         }
@@ -249,11 +263,13 @@ impl Run {
         ensures never_reads { ¬ (IsErrOf result End.Read) }
         ensures write { IsErrOf result End.Write → Rose (O.faults out.old) (O.faults out.new) }
         ensures never_falls { O.faults out.old ≤ O.faults out.new }
+        ensures relied { IsErrOf result End.Write → ¬ (O.reliable out.old) }
+        ensures stays { O.reliable out.old → O.reliable out.new }
     {
         if wanted { self.write(out) } else { Ok(()) }
     }
 
-    // Writes what was answered.
+    // Writes what was answered. Nothing stays gathered, even if the sink fails.
     fn write<O: Sink>(&mut self, out: &mut O) -> Result<(), End>
         ensures ok { OnOk result (Appends (O.held out.old) (O.held out.new) self.old.gathered.items) }
         ensures prefix { AppendsPrefix (O.held out.old) (O.held out.new) self.old.gathered.items }
@@ -262,6 +278,8 @@ impl Run {
         ensures cut { IfErr result (λ end. IsCut end) }
         ensures write { IsErrOf result End.Write → Rose (O.faults out.old) (O.faults out.new) }
         ensures never_falls { O.faults out.old ≤ O.faults out.new }
+        ensures relied { IsErrOf result End.Write → ¬ (O.reliable out.old) }
+        ensures stays { O.reliable out.old → O.reliable out.new }
     {
         let written = write_all(out, self.gathered.as_slice());
         self.gathered.clear();

@@ -9,10 +9,10 @@ use clap::error::ErrorKind;
 use clap::{Arg, ArgAction, ArgMatches, Command, Error};
 use std::alloc::{AllocError, Global};
 
-/// The most words that a call has.
+/// The most words that the program takes.
 const MOST_WORDS: usize = 4;
 
-/// Whether the words are the one word `run`. More words than a call has, and a word that begins
+/// Whether the words are the one word `run`. More words than it takes, and a word that begins
 /// with `-`, are refused before the parse.
 pub fn is_run(alloc: Global, words: &Vec<String>) -> Result<bool, AllocError>
     ensures { IfOk result (λ known. known ≡ is_run (texts words.now.items)) }

@@ -1,9 +1,9 @@
 //! What a line of a script says.
 //!
-//! `parse_line` answers exactly what the grammar of `sky_model` says of a line: a line is read word by
-//! word, with no list of its words, and each statement form is a function over what is left of it.
-//! Memory is taken for a statement's texts. Nothing here knows what a statement does, where lines come
-//! from, or how they are answered.
+//! `parse_line` answers exactly what the grammar of `sky_model` says of a line, and `parse_text` of one
+//! that is text already: a line is read word by word, with no list of its words, and each statement form
+//! is a function over what is left of it. Memory is taken for a statement's texts. Nothing here knows
+//! what a statement does, where lines come from, or how they are answered.
 #![tactic(auto)]
 
 mod cause;
@@ -21,4 +21,4 @@ mod trigger_forms;
 mod words;
 
 pub use cause::LineCause;
-pub use parse::parse_line;
+pub use parse::{parse_line, parse_text};

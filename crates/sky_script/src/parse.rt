@@ -43,6 +43,16 @@ fn read_line(alloc: Global, line: &str) -> Result<Line, LineCause>
     }
 }
 
+/// What a line says that is text already.
+pub fn parse_text(alloc: Global, line: &str) -> Result<Line, LineCause>
+    ensures answer { IsAnswer result (line_of line.now) }
+    ensures in_form { IfOk result (λ says. IsLineInForm says) }
+    // The prover knows this of a `str` that is an argument, and not of one that came in an `Option`.
+    ensures utf8 { IsUtf8 line.now }
+{
+    read_line(alloc, line)
+}
+
 /// What a line says; its line feed is not among its bytes.
 pub fn parse_line(alloc: Global, line: &[u8]) -> Result<Line, LineCause>
     ensures not_utf8 { result ≡ Err LineCause.NotUtf8 ↔ ¬ (IsUtf8 line.now) }
@@ -51,7 +61,7 @@ pub fn parse_line(alloc: Global, line: &[u8]) -> Result<Line, LineCause>
 {
     // The only test for UTF-8: what is taken of the line from here on is a text because the line is one.
     match str::from_utf8(line) {
-        Ok(line) => read_line(alloc, line),
+        Ok(line) => parse_text(alloc, line),
         Err(_) => Err(LineCause::NotUtf8),
     }
 }

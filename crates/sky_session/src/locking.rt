@@ -41,7 +41,7 @@ fn wait(
     requires awake { is_waiting who (seen state.old).waiting ≡ false }
     ensures { Ran state.old state.new step.old step.new who result (blocked (seen state.old) who key.now.table key.now.key attempt holder) }
 {
-    match state.waits(who, key, attempt)? {
+    match state.waits(who, key, holder, attempt)? {
         None => Ok(step.answer(who, Reply::Waits(holder))?),
         Some(ring) => Err(Stop::Refused(Refusal::Deadlock(ring))),
     }

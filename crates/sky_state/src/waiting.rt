@@ -1,6 +1,6 @@
 //! Which sessions hold keys, which wait for one, and that a session begins to wait.
 
-ghost use Rattle.std.specs.Prelude.{◌≡◌, ◌↔◌, ◌<◌, ℕ, [], false, true, IsTrue, IfOk, IfNone, IfSome, Some, is_some, length, option_map};
+ghost use Rattle.std.specs.Prelude.{◌≡◌, ◌↔◌, ◌<◌, [], false, IsTrue, IfOk, IfNone, IfSome, Some, length, option_map};
 ghost use Rattle.sky_keys.specs.Waits.{other_holder, is_waiting};
 ghost use Rattle.sky_locks.specs.Locks.{entry};
 ghost use Rattle.sky_model.specs.History.{tabled, waits};
@@ -51,22 +51,23 @@ impl RowState {
         }
     }
 
-    /// The session waits for the holder of the key, and makes its attempt when it gets the key. If it would wait for
+    /// The session waits for this holder of the key, and makes its attempt when it gets the key. If it would wait for
     /// itself, nothing happens, and the answer is the deadlock cycle.
     pub fn waits(
         &mut self,
         who: SessionId,
         key: &LockKey,
+        holder: SessionId,
         attempt: Attempt,
     ) -> Result<Option<Waiters>, NoMemory>
         requires within { key.now.table < length (seen self.old).tables }
-        requires held { is_some (other_holder (seen self.old).holder who key.now.table key.now.key) ≡ true }
+        requires held { other_holder (seen self.old).holder who key.now.table key.now.key ≡ Some holder }
         requires awake { is_waiting who (seen self.old).waiting ≡ false }
-        ensures ring { IfOk result (λ closed. (holder : ℕ) → other_holder (seen self.old).holder who key.now.table key.now.key ≡ Some holder → closed ≡ ring (seen self.old) who holder) }
+        ensures ring { IfOk result (λ closed. closed ≡ ring (seen self.old) who holder) }
         ensures mark { IfOk result (λ closed. IfNone closed (seen self.new ≡ after_part (seen self.old) (tabled (waits who key.now.table key.now.key attempt)))) }
         ensures same { IfOk result (λ closed. IfSome closed (λ ring. seen self.new ≡ seen self.old)) }
     {
-        match self.locks.try_key(who, key)? {
+        match self.locks.wait(who, holder, key)? {
             Taken::Got => unreachable!(),
             Taken::Waits(_) => {
                 self.attempts.set(who, attempt)?;

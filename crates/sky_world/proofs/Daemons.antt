@@ -1,5 +1,5 @@
 -- What the world shows after the code switched a daemon on or off, or did a part of its work.
-use Rattle.std.proofs.Common.{◌≡◌, ℕ, ◌<◌, List, [], ◌∷◌, ◌++◌, Bool, true, false, ◌==◌, Option, Some, None, map, length, append-nil, get_or, refl, sym, ◌∙◌, ap, subst, arith, cond, nat_cmp, if◌then◌else◌, IfSome, is_ok, Err, Ok, slice_get, ℤ, pos, ◌≤ℤ◌}
+use Rattle.std.proofs.Common.{◌≡◌, ℕ, ◌<◌, List, [], Bool, true, false, ◌==◌, Option, Some, None, map, length, append-nil, get_or, refl, sym, ◌∙◌, ap, subst, arith, cond, nat_cmp, if◌then◌else◌, IfSome, ℤ, pos, ◌≤ℤ◌}
 use Rattle.std.proofs.lemmas.Bool.Decides.{nat_tests}
 use Rattle.std.proofs.lemmas.Int.{ints}
 use Rattle.std.specs.BTreeMap.{is_at}
@@ -7,32 +7,24 @@ use Rattle.std.specs.Map.{lookup}
 use Rattle.sky_names.specs.Named.{with_value}
 use Rattle.sky_model.specs.declared.daemon.DaemonPart.{DaemonPart}
 use Rattle.sky_model.specs.declared.daemon.DaemonPart.TheVariants.{Tick, Retry, Maintain}
-use Rattle.sky_model.specs.declared.stmt.Stmt.{Stmt}
 use Rattle.sky_model.specs.declared.stmt.Stmt.TheVariants.{PgqdOn, PgqdOff}
-use Rattle.sky_model.specs.declared.stmt.Where.TheVariants.{WhenOutside}
-use Rattle.sky_model.specs.declared.reply.Reply.{Reply}
-use Rattle.sky_model.specs.declared.reply.Reply.TheVariants.{Done}
-use Rattle.sky_model.specs.History.{Mark, Fact, within, daemon_on, daemon_off}
-use Rattle.sky_model.specs.State.{Database, changed_at, after_mark, after_marks}
+use Rattle.sky_model.specs.History.{within, daemon_on, daemon_off}
+use Rattle.sky_model.specs.State.{changed_at, after_mark, after_marks}
 use Rattle.sky_model.specs.World.{World, after_fact, after_facts}
 use Rattle.sky_model.specs.Reader.{database_by_itself, within_database, by_world, Deed, idles, followed}
-use Rattle.sky_model.specs.Outcome.{Checked, answers, or_refused}
-use Rattle.sky_model.specs.Made.{Making, runs_if}
 use Rattle.sky_model.specs.Settling.{Turn}
 use Rattle.sky_model.specs.Daemon.{daemon_does, is_due_at}
 use Rattle.sky_model.specs.Clock.{deed_in, part_works, daemon_works}
-use Rattle.sky_model.specs.Allowed.{allowed}
-use Rattle.sky_model.specs.Calls.{making, database_turn, may_make, beside, of_daemon_if, session_does}
+use Rattle.sky_model.specs.Calls.{of_daemon_if}
 use Rattle.sky_model.proofs.Good.{same-session}
 use Rattle.sky_model.proofs.DaemonTurns.{same-daemon_does}
 use Rattle.pgq_db.specs.Views.{DbView}
-use Rattle.pgq_db.specs.Seen.{seen_database, no_database}
+use Rattle.pgq_db.specs.Seen.{seen_database}
 use Rattle.sky_world.specs.Views.{WorldView}
 use Rattle.sky_world.specs.Seen.{seen_world}
 use Rattle.sky_world.specs.Daemons.{StartedBy}
-use Rattle.sky_world.specs.Adds.{AddsDeed}
-use Rattle.sky_world.specs.Works.{is_pgqd, is_done, is_done_at, Works}
-use Rattle.sky_world.proofs.Worlds.{after_facts-within, after_facts-append, store-there, store-changed}
+use Rattle.sky_world.specs.Works.{Works}
+use Rattle.sky_world.proofs.Worlds.{after_facts-append, store-there, store-changed}
 
 -- ---- the daemons that are on
 
@@ -95,74 +87,6 @@ daemon-off-as v now entries d same updates =
     by : (o : Option ℤ) → after_fact (seen_world now) (daemon_off d) ≡ after_facts (seen_world now) (of_daemon_if true d o PgqdOff)
     by None = refl
     by (Some start) = refl
-
--- ---- `pgqd`
-
--- it is answered by `ok` if it is allowed
-done-if : (m : Making World) (who : ℕ) (w : World) (c : Checked (Unit {0})) → m.outcome w ≡ answers Done → is_done (Some (who, (runs_if m WhenOutside who w c).reply)) ≡ is_ok c
-done-if m who w (Err refusal) is = refl
-done-if m who w (Ok _) is = ap (λ o. is_done (Some (who, (or_refused who (m.session w) o).reply))) is
-
-there : {A : Type 0} (xs : List A) (x : A) (rest : List A) → slice_get (xs ++ x ∷ rest) (length xs) ≡ Some x
-there [] x rest = refl
-there (y ∷ xs) x rest = there xs x rest
-
-done-at : (w : World) (d who : ℕ) (stmt : Stmt) (before : List (ℕ × Reply)) → is_pgqd stmt ≡ true
-    → is_done_at (before ++ (database_turn (within_database by_world d) w w.now who stmt).answers) (length before) ≡ may_make (w.database d) who stmt
-done-at w d who PgqdOn before switches = ap is_done (there before _ _) ∙ done-if (making (within_database by_world d) w.now who PgqdOn) who w _ refl
-done-at w d who PgqdOff before switches = ap is_done (there before _ _) ∙ done-if (making (within_database by_world d) w.now who PgqdOff) who w _ refl
-done-at w d who _ before other = absurd (cc)
-
--- its session stays
-stays-by : (w : World) (d who : ℕ) (stmt : Stmt) → is_pgqd stmt ≡ true → beside w who stmt d ≡ of_daemon_if (may_make (w.database d) who stmt) d (w.daemons d) stmt
-stays-by w d who PgqdOn switches = refl
-stays-by w d who PgqdOff switches = refl
-stays-by w d who _ other = absurd (cc)
-
--- no other database has a part in it
-pgqd-there : (w : World) (d who : ℕ) (stmt : Stmt) → is_pgqd stmt ≡ true
-    → deed_in d (beside w who stmt d) (database_turn (within_database by_world d) w w.now who stmt) ≡ session_does by_world w who stmt (Some d)
-pgqd-there w d who PgqdOn switches = refl
-pgqd-there w d who PgqdOff switches = refl
-pgqd-there w d who _ other = absurd (cc)
-
--- and the daemon is then on or off
-pub adds-pgqd : (old s new : WorldView) (d who own : ℕ) (stmt : Stmt) (done : Bool) (before after : List (ℕ × Reply)) → is_pgqd stmt ≡ true → own ≡ length before → done ≡ is_done_at after own
-    → AddsDeed old s before after (deed_in d [] (database_turn (within_database by_world d) (seen_world old) (seen_world old).now who stmt))
-    → seen_world new ≡ after_facts (seen_world s) (of_daemon_if done d ((seen_world s).daemons d) stmt) → new.sessions.names ≡ s.sessions.names
-    → AddsDeed old new before after (session_does by_world (seen_world old) who stmt (Some d))
-adds-pgqd old s new d who own stmt done before after switches at is adds shows same =
-    subst (AddsDeed old new before after) (pgqd-there (seen_world old) d who stmt switches)
-    (subst (λ facts. AddsDeed old new before after (deed_in d facts turn)) (sym (stays-by (seen_world old) d who stmt switches)) (record {
-      answered = adds.answered;
-      known = adds.known;
-      moments = adds.moments;
-      changed = shows
-          ∙ ap (λ b. after_facts (seen_world s) (of_daemon_if b d ((seen_world s).daemons d) stmt)) may
-          ∙ ap (λ (w : World). after_facts (seen_world s) (of_daemon_if (may_make ((seen_world old).database d) who stmt) d (w.daemons d) stmt)) (by_marks ∙ after_facts-within (seen_world old) d turn.marks)
-          ∙ ap (λ w. after_facts w facts) by_marks
-          ∙ sym (after_facts-append (seen_world old) (map (within d) turn.marks) facts);
-      sessions = same ∙ adds.sessions;
-    }))
-  where
-    turn : Turn
-    turn = database_turn (within_database by_world d) (seen_world old) (seen_world old).now who stmt
-
-    facts : List Fact
-    facts = of_daemon_if (may_make ((seen_world old).database d) who stmt) d ((seen_world old).daemons d) stmt
-
-    may : done ≡ may_make ((seen_world old).database d) who stmt
-    may = is ∙ ap (is_done_at after) at ∙ ap (λ replies. is_done_at replies (length before)) adds.answered ∙ done-at (seen_world old) d who stmt before switches
-
-    by_marks : seen_world s ≡ after_facts (seen_world old) (map (within d) turn.marks)
-    by_marks = adds.changed ∙ ap (λ fs. after_facts (seen_world old) fs) (append-nil (map (within d) turn.marks))
-
--- a refused one leaves it as it is
-pub adds-refused : (old s : WorldView) (d who own : ℕ) (stmt : Stmt) (done : Bool) (before after : List (ℕ × Reply)) → is_pgqd stmt ≡ true → own ≡ length before → done ≡ is_done_at after own → done ≡ false
-    → AddsDeed old s before after (deed_in d [] (database_turn (within_database by_world d) (seen_world old) (seen_world old).now who stmt))
-    → AddsDeed old s before after (session_does by_world (seen_world old) who stmt (Some d))
-adds-refused old s d who own stmt done before after switches at is other adds =
-    adds-pgqd old s s d who own stmt false before after switches at (sym other ∙ is) adds refl refl
 
 -- ---- the work of daemons
 

@@ -1,4 +1,6 @@
 pub mod Worlds
+pub mod Resting
+pub mod Refusals
 pub mod Daemons
 pub mod Clocks
 pub mod ServedNodes

@@ -1,54 +1,58 @@
 -- What the world shows after a statement on nodes.
-use Rattle.std.proofs.Common.{◌≡◌, ℕ, ◌<◌, List, [], ◌∷◌, ◌++◌, Bool, true, false, ◌==◌, ◌&&◌, map, length, Option, Some, None, not, is_some, is_ok, option_map, Result, Ok, Err, get_or, refl, sym, ◌∙◌, ap, subst, arith, All, if◌then◌else◌}
+use Rattle.std.proofs.Common.{◌≡◌, ℕ, ◌<◌, List, [], ◌∷◌, ◌++◌, Bool, true, false, ◌==◌, ◌&&◌, map, length, Option, Some, None, not, is_some, is_ok, option_map, append-nil, Result, Ok, Err, get_or, refl, sym, ◌∙◌, ap, subst, arith, if◌then◌else◌}
 use Rattle.std.specs.Option.{is_none}
-use Rattle.std.specs.Result.{IsErrAnd}
-use Rattle.std.proofs.lemmas.List.Elements.{All-from_recursion}
+use Rattle.std.specs.Result.{IsErrAnd, IfOk, OnOk}
 use Rattle.std.proofs.lemmas.Bool.Decides.{nat_tests}
 use Rattle.sky_val.specs.declared.column.Column.{Column}
-use Rattle.sky_keys.specs.Waits.{is_waiting}
 use Rattle.sky_names.specs.Places.{place_of}
 use Rattle.sky_names.specs.Named.{with_value}
-use Rattle.londiste_state.specs.Nodes.{Root, Leaf, Node, of_root, of_leaf, is_among, tables_of}
+use Rattle.londiste_state.specs.Nodes.{Root, Leaf, of_root, of_leaf, is_among, tables_of}
 use Rattle.sky_model.specs.declared.stmt.Stmt.{Stmt}
 use Rattle.sky_model.specs.declared.stmt.Stmt.TheVariants as stmts
 use Rattle.sky_model.specs.declared.stmt.NodeStmt.{NodeStmt}
-use Rattle.sky_model.specs.declared.stmt.Where.TheVariants.{WhenOutside}
 use Rattle.sky_model.specs.declared.reply.Reply.{Reply}
-use Rattle.sky_model.specs.declared.reply.Reply.TheVariants.{Done, Number, Refused}
+use Rattle.sky_model.specs.declared.reply.Reply.TheVariants.{Done, Refused}
 use Rattle.sky_model.specs.declared.reply.Refusal.{Refusal}
 use Rattle.sky_model.specs.declared.reply.Refusal.TheVariants.{AlreadyInSet, NodeExists, NoNode, NoTable, NotInSet, NotProvider, SchemaDiffers, TableInUse}
 use Rattle.sky_model.specs.declared.stop.Stop.{Stop}
 use Rattle.sky_model.specs.declared.stop.Stop.TheVariants as halt
 use Rattle.sky_model.specs.declared.stop.Stop.TheVariants.{NoMemory}
 use Rattle.sky_model.specs.History.{Mark, Fact, within, queued, registered, unregistered, opened, closed, traced, untraced, tabled, read_only, noded, leaf_made, node_made}
-use Rattle.sky_model.specs.State.{Database, changed_at, after_mark, after_marks, after_part_marks}
-use Rattle.sky_model.specs.World.{World, after_fact, after_facts}
+use Rattle.sky_model.specs.State.{Database, after_mark, after_marks}
+use Rattle.sky_model.specs.World.{World, after_facts}
 use Rattle.sky_model.specs.Outcome.{Outcome, Checked, ◌>>=◌, ◌>>◌, refused_if, refused_by, found_or, marks_of}
 use Rattle.sky_model.specs.Stops.{StopsAs}
-use Rattle.sky_model.specs.Printed.{ReplyHasMoments, HaveMoments}
-use Rattle.sky_model.specs.Reader.{within_database, by_world, Deed, answers_with, refuses}
+use Rattle.sky_model.specs.Reader.{within_database, by_world, Deed, refuses}
 use Rattle.sky_model.specs.Settling.{Turn}
 use Rattle.sky_model.specs.Clock.{deed_in}
-use Rattle.sky_model.specs.Allowed.{allowed}
 use Rattle.sky_model.specs.SessionMarks.{Enters, entry_place}
 use Rattle.sky_model.specs.StepQueue.{newest_id}
-use Rattle.sky_model.specs.StepConsumer.{registers}
 use Rattle.sky_model.specs.StepRows.{table_called}
-use Rattle.sky_model.specs.StepNode.{set_queue, set_queue_of, joins, lists, unlists, adds, removes, NodeCall, joining, making_leaf, adding, removing, listing, unlisting, if_there, may_serve, node_does}
+use Rattle.sky_model.specs.StepNode.{set_queue, set_queue_of, joins, lists, unlists, adds, removes, NodeCall, joining, making_leaf, adding, removing, listing, unlisting, if_there, table_number, may_serve, node_does}
 use Rattle.sky_model.specs.NodesOfWorld.{WorldOutcome, Located, node_called, done_in, leaf_of, provides, are_columns, columns_called, adds_to, add_table, first_user, removes_from, remove_table, node_form}
-use Rattle.sky_model.specs.Calls.{database_turn, may_make, world_does, node_stmt_does, begins_with_ok, node_if, roots_in, root_does, session_does}
-use Rattle.sky_model.proofs.StatementMarks.{EachMark, each-rest}
+use Rattle.sky_model.specs.Calls.{database_turn, world_does, node_stmt_does, gets_node, node_if, roots_in, root_does, session_does}
+use Rattle.sky_model.proofs.Good.{same-session}
+use Rattle.sky_model.proofs.StatementMarks.{EachMark}
 use Rattle.sky_model.proofs.NodeCalls.{is_for_nodes, each-node}
 use Rattle.sky_model.proofs.NodeDeeds.{called-there, is-served, may-list, may-add, may-unlist, may-remove}
 use Rattle.pgq_db.specs.Views.{DbView}
-use Rattle.pgq_db.specs.Seen.{seen_database, no_database}
+use Rattle.pgq_db.specs.Seen.{seen_database}
 use Rattle.pgq_db.specs.Served.{Serves}
+use Rattle.pgq_db.specs.Gives.{is_worlds}
 use Rattle.sky_world.specs.Views.{WorldView}
 use Rattle.sky_world.specs.Seen.{seen_world}
 use Rattle.sky_world.specs.Adds.{AddsDeed}
-use Rattle.sky_world.specs.Works.{is_done, is_done_at}
-use Rattle.sky_world.specs.Nodes.{may_outside, root_name, Stays, Happened, Does, Ran, call_facts, set_tick, Joins, Joined, leaf_from, provided_as}
+use Rattle.sky_world.specs.Nodes.{outside_allowed, may_outside, refused_turn, root_name, Stays, Happened, Does, Ran, call_facts, set_tick, Joins, Joined, leaf_from, provided_as}
 use Rattle.sky_world.proofs.Worlds.{after_facts-within, after_facts-append, store-there, store-changed, adds-moved}
+use Rattle.sky_world.proofs.Refusals.{adds-after, answers-alone, turn-refused, may-outside}
+
+-- a table whose columns are found by its name is there
+pub table-found : (d : Database) (name : List ℕ) (columns : List Column) → Some columns ≡ columns_called name d → is_some (table_number d name) ≡ true
+table-found d name columns found = of (table_number d name) found
+  where
+    of : (o : Option ℕ) → Some columns ≡ option_map d.part.columns o → is_some o ≡ true
+    of None found = absurd (cc)
+    of (Some table) found = refl
 
 -- ---- what waits
 
@@ -145,37 +149,28 @@ pub entered-same : (old new : Database) (who : ℕ) (refusal : Option Refusal) �
 entered-same old new who None enters but = but ∙ (λ i. record old { part = enters.1 i })
 entered-same old new who (Some refusal) enters but = but ∙ (λ i. record old { part = enters.1 i })
 
-pub entered-may : (old new : Database) (who : ℕ) (refusal : Option Refusal) → Enters old.part new.part who (entry_place true) refusal → is_none refusal ≡ may_outside old who
-entered-may old new who None enters = sym (ap is_ok enters.0)
-entered-may old new who (Some refusal) enters = sym (ap is_ok enters.0)
+pub entered-allowed : (old new : Database) (who : ℕ) (refusal : Option Refusal) → Enters old.part new.part who (entry_place true) refusal → outside_allowed old who ≡ refused_by refusal
+entered-allowed old new who None enters = enters.0
+entered-allowed old new who (Some refusal) enters = enters.0
 
 -- in a database
-pub may-there : (v now : WorldView) (d who : ℕ) (old new : DbView) (refusal : Option Refusal) → v ≡ now → d < length v.databases.values → old ≡ get_or v.databases.values d old
-    → Enters (seen_database old).part (seen_database new).part who (entry_place true) refusal → is_none refusal ≡ may_outside ((seen_world now).database d) who
-may-there v now d who old new refusal same lt at enters =
-    entered-may (seen_database old) (seen_database new) who refusal enters ∙ ap (λ x. may_outside x who) (shown-there v now d old same lt at)
+pub allowed-there : (v now : WorldView) (d who : ℕ) (old new : DbView) (refusal : Option Refusal) → v ≡ now → d < length v.databases.values → old ≡ get_or v.databases.values d old
+    → Enters (seen_database old).part (seen_database new).part who (entry_place true) refusal → outside_allowed ((seen_world now).database d) who ≡ refused_by refusal
+allowed-there v now d who old new refusal same lt at enters =
+    ap (λ x. outside_allowed x who) (sym (shown-there v now d old same lt at)) ∙ entered-allowed (seen_database old) (seen_database new) who refusal enters
 
--- ---- a deed after nothing changed
+pub entered-stays : {E : Type 0} → (v now : WorldView) (d who : ℕ) (old new : DbView) (result : Result (Option Refusal) E) → v ≡ now → d < length v.databases.values → old ≡ get_or v.databases.values d old
+    → IfOk result (λ refusal. Enters (seen_database old).part (seen_database new).part who (entry_place true) refusal)
+    → seen_database new ≡ record (seen_database old) { part = (seen_database new).part }
+    → OnOk result (Stays now (record v { databases = with_value v.databases d new }))
+entered-stays v now d who old new (Ok refusal) same lt at enters but =
+    stays-there v now d old new same lt at (entered-same (seen_database old) (seen_database new) who refusal enters but)
+entered-stays v now d who old new (Err fault) same lt at enters but = tt
 
-pub adds-after : (old s new : WorldView) (deed : World → Deed) (before after : List (ℕ × Reply)) → Stays old s → AddsDeed s new before after (deed (seen_world s)) → AddsDeed old new before after (deed (seen_world old))
-adds-after old s new deed before after stays adds = record {
-  answered = adds.answered ∙ ap (λ w. before ++ (deed w).answers) stays.shown;
-  known = subst (λ (w : World). All (λ (answer : ℕ × Reply). answer.0 < length w.sessions) (deed w).answers) stays.shown adds.known;
-  moments = subst (λ (w : World). HaveMoments (deed w).answers) stays.shown adds.moments;
-  changed = adds.changed ∙ ap (λ w. after_facts w (deed w).facts) stays.shown;
-  sessions = adds.sessions ∙ ap (λ (w : World). w.sessions) stays.shown;
-}
-
--- an answer, with what happened
-answers-alone : (old new : WorldView) (who : ℕ) (reply : Reply) (facts : List Fact) (before after : List (ℕ × Reply)) → who < length old.sessions.names → ReplyHasMoments reply
-    → seen_world new ≡ after_facts (seen_world old) facts → new.sessions.names ≡ old.sessions.names → after ≡ before ++ (who, reply) ∷ [] → AddsDeed old new before after (answers_with who reply facts)
-answers-alone old new who reply facts before after lt moments changed sessions is = record {
-  answered = is;
-  known = All-from_recursion (λ (answer : ℕ × Reply). answer.0 < length old.sessions.names) ((who, reply) ∷ []) (lt, tt);
-  moments = All-from_recursion (λ (answer : ℕ × Reply). ReplyHasMoments answer.1) ((who, reply) ∷ []) (moments, tt);
-  changed = changed;
-  sessions = sessions;
-}
+-- it may if there is no refusal
+pub may-by : (d : Database) (who : ℕ) (refusal : Option Refusal) → outside_allowed d who ≡ refused_by refusal → is_none refusal ≡ may_outside d who
+may-by d who None is = sym (ap is_ok is)
+may-by d who (Some refusal) is = sym (ap is_ok is)
 
 -- ---- `create_root`
 
@@ -192,68 +187,92 @@ root-taken old s d who (stmts.CreateRoot root queue) name taken before after nam
     same = cc
 
     made : Deed
-    made = roots_in d (database_turn (within_database by_world d) (seen_world old) (seen_world old).now who (stmts.CreateRoot name queue))
+    made = roots_in d ((seen_world old).database d) (database_turn (within_database by_world d) (seen_world old) (seen_world old).now who (stmts.CreateRoot name queue))
 root-taken old s d who _ name taken before after named lt is holds stays added = absurd (cc)
 
 -- there is none, or its session may not make it
 pub root-free : (old s new : WorldView) (d who : ℕ) (stmt : Stmt) (name : List ℕ) (taken : Bool) (before after : List (ℕ × Reply)) → root_name stmt ≡ Some name
     → taken ≡ (may_outside ((seen_world old).database d) who && is_some (node_called (seen_world old) name)) → taken ≡ false → Stays old s
-    → AddsDeed s new before after (roots_in d (database_turn (within_database by_world d) (seen_world s) (seen_world s).now who stmt))
+    → AddsDeed s new before after (roots_in d ((seen_world s).database d) (database_turn (within_database by_world d) (seen_world s) (seen_world s).now who stmt))
     → AddsDeed old new before after (session_does by_world (seen_world old) who stmt (Some d))
 root-free old s new d who (stmts.CreateRoot root queue) name taken before after named is not_so stays adds =
-    subst (λ b. AddsDeed old new before after (if b then refuses who (NodeExists root) else roots_in d (database_turn (within_database by_world d) (seen_world old) (seen_world old).now who (stmts.CreateRoot root queue))))
+    subst (λ b. AddsDeed old new before after (if b then refuses who (NodeExists root) else roots_in d ((seen_world old).database d) (database_turn (within_database by_world d) (seen_world old) (seen_world old).now who (stmts.CreateRoot root queue))))
     (sym not_so ∙ is ∙ ap (λ n. may_outside ((seen_world old).database d) who && is_some (node_called (seen_world old) n)) same)
-    (adds-after old s new (λ w. roots_in d (database_turn (within_database by_world d) w w.now who (stmts.CreateRoot root queue))) before after stays adds)
+    (adds-after old s new (λ w. roots_in d (w.database d) (database_turn (within_database by_world d) w w.now who (stmts.CreateRoot root queue))) before after stays adds)
   where
     same : name ≡ root
     same = cc
 root-free old s new d who _ name taken before after named is not_so stays adds = absurd (cc)
 
--- the answer at the place after those before is the first one
-begins-there : (before answers : List (ℕ × Reply)) → is_done_at (before ++ answers) (length before) ≡ begins_with_ok answers
-begins-there [] [] = refl
-begins-there [] ((who, Done) ∷ answers) = refl
-begins-there [] ((who, _) ∷ answers) = refl
-begins-there (answer ∷ before) answers = begins-there before answers
+-- whether the database got its node
+root-there : (old s : WorldView) (d : ℕ) (before after : List (ℕ × Reply)) (turn : Turn) → AddsDeed old s before after (deed_in d [] turn)
+    → gets_node ((seen_world old).database d) turn ≡ (not (is_some ((seen_world old).database d).node) && is_some ((seen_world s).database d).node)
+root-there old s d before after turn adds = ap (λ n. not (is_some x.node) && is_some n) (sym node_is)
+  where
+    w : World
+    w = seen_world old
 
-done-is : (old s : WorldView) (d own : ℕ) (done : Bool) (before after : List (ℕ × Reply)) (turn : Turn) → own ≡ length before → done ≡ is_done_at after own → AddsDeed old s before after (deed_in d [] turn)
-    → done ≡ begins_with_ok turn.answers
-done-is old s d own done before after turn at is adds =
-    is ∙ ap (is_done_at after) at ∙ ap (λ replies. is_done_at replies (length before)) adds.answered ∙ begins-there before turn.answers
+    x : Database
+    x = w.database d
 
--- it was made there, and the database has a node
-pub root-made : (old s new : WorldView) (d own : ℕ) (done : Bool) (before after : List (ℕ × Reply)) (turn : Turn) → own ≡ length before → done ≡ is_done_at after own → done ≡ true
-    → AddsDeed old s before after (deed_in d [] turn) → Happened s new (node_made d ∷ []) → AddsDeed old new before after (roots_in d turn)
-root-made old s new d own done before after turn at is holds adds gets =
-    subst (λ b. AddsDeed old new before after (deed_in d (node_if b d) turn)) (sym holds ∙ done-is old s d own done before after turn at is adds)
-    (adds-moved old s new d (node_made d) before after turn adds gets.changed gets.sessions)
+    node_is : ((seen_world s).database d).node ≡ (after_marks x turn.marks).node
+    node_is =
+        ap (λ (v : World). (v.database d).node) (adds.changed ∙ ap (λ facts. after_facts w facts) (append-nil (map (within d) turn.marks)) ∙ after_facts-within w d turn.marks)
+        ∙ ap (λ b. (if b then after_marks x turn.marks else x).node) (same-session d)
 
--- or wasn't
-pub root-unmade : (old s : WorldView) (d own : ℕ) (done : Bool) (before after : List (ℕ × Reply)) (turn : Turn) → own ≡ length before → done ≡ is_done_at after own → done ≡ false
-    → AddsDeed old s before after (deed_in d [] turn) → AddsDeed old s before after (roots_in d turn)
-root-unmade old s d own done before after turn at is not_so adds =
-    subst (λ b. AddsDeed old s before after (deed_in d (node_if b d) turn)) (sym not_so ∙ done-is old s d own done before after turn at is adds) adds
+-- it has its node from then on, or it had one, or the statement was refused
+pub root-done : (old s new : WorldView) (d : ℕ) (had has : Bool) (before after : List (ℕ × Reply)) (turn : Turn)
+    → had ≡ is_some ((seen_world old).database d).node → has ≡ is_some ((seen_world s).database d).node
+    → AddsDeed old s before after (deed_in d [] turn)
+    → Happened s new (node_if (not had && has) d) → AddsDeed old new before after (roots_in d ((seen_world old).database d) turn)
+root-done old s new d had has before after turn was is adds gets =
+    subst (λ b. AddsDeed old new before after (deed_in d (node_if b d) turn)) (sym (root-there old s d before after turn adds ∙ (λ i. not (sym was i) && sym is i))) (by (not had && has) gets)
+  where
+    by : (b : Bool) → Happened s new (node_if b d) → AddsDeed old new before after (deed_in d (node_if b d) turn)
+    by true gets = adds-moved old s new d (node_made d) before after turn adds gets.changed gets.sessions
+    by false gets = record {
+      answered = adds.answered;
+      known = adds.known;
+      moments = adds.moments;
+      changed = gets.changed ∙ adds.changed;
+      sessions = gets.sessions ∙ adds.sessions;
+    }
+
+pub found-if : {A B : Type 0} → (f : A → B) (found : Option A) → is_some found ≡ is_some (option_map f found)
+found-if f None = refl
+found-if f (Some a) = refl
+
+pub nothing-happened : (v : WorldView) → Happened v v []
+nothing-happened v = record { changed = refl; sessions = refl; databases = refl; failed = refl }
+
+-- such a statement isn't one that the world decides
+pub root-kind : (stmt : Stmt) → is_some (root_name stmt) ≡ true → is_worlds stmt ≡ false
+root-kind (stmts.CreateRoot name queue) root = refl
+root-kind _ root = absurd (cc)
 
 -- ---- the other statements
 
 -- one that its session may make
-pub node-allowed : (old s new : WorldView) (d who : ℕ) (stmt : NodeStmt) (may : Bool) (before after : List (ℕ × Reply)) → may ≡ may_outside ((seen_world old).database d) who → may ≡ true → Stays old s
+pub node-allowed : (old s new : WorldView) (d who : ℕ) (stmt : NodeStmt) (found : Option Refusal) (before after : List (ℕ × Reply)) → outside_allowed ((seen_world old).database d) who ≡ refused_by found → found ≡ None → Stays old s
     → AddsDeed s new before after (world_does who (node_form (seen_world s) d stmt)) → AddsDeed old new before after (node_stmt_does by_world (seen_world old) who stmt d)
-node-allowed old s new d who stmt may before after is holds stays adds =
+node-allowed old s new d who stmt found before after is none stays adds =
     subst (λ b. AddsDeed old new before after (if b then world_does who (node_form (seen_world old) d stmt)
-    else deed_in d [] (database_turn (within_database by_world d) (seen_world old) (seen_world old).now who (stmts.Node stmt)))) (sym holds ∙ is)
+    else deed_in d [] (database_turn (within_database by_world d) (seen_world old) (seen_world old).now who (stmts.Node stmt))))
+    (sym (may-outside (seen_world old) d who (stmts.Node stmt) (refused_by found) refl is ∙ ap (λ o. is_ok (refused_by o)) none))
     (adds-after old s new (λ w. world_does who (node_form w d stmt)) before after stays adds)
 
 -- or may not
-pub node-refused : (old s new : WorldView) (d who : ℕ) (stmt : NodeStmt) (whole : Stmt) (may : Bool) (before after : List (ℕ × Reply)) → whole ≡ stmts.Node stmt
-    → may ≡ may_outside ((seen_world old).database d) who → may ≡ false → Stays old s
-    → AddsDeed s new before after (deed_in d [] (database_turn (within_database by_world d) (seen_world s) (seen_world s).now who whole))
+pub node-refused : (old s new : WorldView) (d who : ℕ) (stmt : NodeStmt) (found : Option Refusal) (refusal : Refusal) (before after : List (ℕ × Reply))
+    → outside_allowed ((seen_world old).database d) who ≡ refused_by found → found ≡ Some refusal → Stays old s
+    → AddsDeed s new before after (deed_in d [] (refused_turn ((seen_world s).database d) s.now who refusal))
     → AddsDeed old new before after (node_stmt_does by_world (seen_world old) who stmt d)
-node-refused old s new d who stmt whole may before after node is not_so stays adds =
+node-refused old s new d who stmt found refusal before after is there stays adds =
+    let refused : outside_allowed ((seen_world old).database d) who ≡ Err refusal = is ∙ ap refused_by there in
     subst (λ b. AddsDeed old new before after (if b then world_does who (node_form (seen_world old) d stmt)
-    else deed_in d [] (database_turn (within_database by_world d) (seen_world old) (seen_world old).now who (stmts.Node stmt)))) (sym not_so ∙ is)
-    (adds-after old s new (λ w. deed_in d [] (database_turn (within_database by_world d) w w.now who (stmts.Node stmt))) before after stays
-    (subst (λ x. AddsDeed s new before after (deed_in d [] (database_turn (within_database by_world d) (seen_world s) (seen_world s).now who x))) node adds))
+    else deed_in d [] (database_turn (within_database by_world d) (seen_world old) (seen_world old).now who (stmts.Node stmt))))
+    (sym (may-outside (seen_world old) d who (stmts.Node stmt) (Err refusal) refl refused))
+    (subst (λ t. AddsDeed old new before after (deed_in d [] t)) (sym (turn-refused (seen_world old) d who (stmts.Node stmt) refusal refl refused))
+    (adds-after old s new (λ w. deed_in d [] (refused_turn (w.database d) w.now who refusal)) before after stays adds))
 
 -- its answer
 pub form-done : (old s : WorldView) (who : ℕ) (reply : Reply) (checked : Checked WorldOutcome) (before after : List (ℕ × Reply)) → who < length old.sessions.names → Does old s reply checked

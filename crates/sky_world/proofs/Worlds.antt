@@ -8,7 +8,7 @@ use Rattle.sky_names.specs.Places.{place_of}
 use Rattle.sky_names.specs.Named.{NamedView, with_value}
 use Rattle.sky_keys.specs.Waits.{is_waiting, Waiting}
 use Rattle.sky_model.specs.declared.stmt.Stmt.{Stmt}
-use Rattle.sky_model.specs.declared.stmt.Stmt.TheVariants.{CreateRoot, Node, PgqdOn, PgqdOff}
+use Rattle.sky_model.specs.declared.stmt.Stmt.TheVariants.{Row, CreateRoot, Node, PgqdOn, PgqdOff}
 use Rattle.sky_model.specs.declared.reply.Refusal.TheVariants.{TooMany}
 use Rattle.sky_model.specs.declared.reply.Limit.TheVariants.{Sessions, Databases}
 use Rattle.sky_model.specs.declared.reply.Reply.{Reply}
@@ -19,14 +19,14 @@ use Rattle.sky_model.specs.Printed.{HaveMoments}
 use Rattle.sky_model.specs.Reader.{database_by_itself, within_database, by_world, Deed, refuses, appears, founds, deed_with, followed}
 use Rattle.sky_model.specs.Settling.{Turn}
 use Rattle.sky_model.specs.Clock.{deed_in}
-use Rattle.sky_model.specs.Calls.{Call, database_turn, is_leaving, left_if, may_make, beside, of_daemon_if, opens_in, opens, session_does, turn, called}
+use Rattle.sky_model.specs.Calls.{Call, database_turn, opening, is_leaving, left_if, may_make, beside, of_daemon_if, opens_in, opens, session_does, turn, called}
 use Rattle.sky_model.specs.Steps.{Steps, deed_at}
 use Rattle.sky_model.proofs.Standing.{steps_from_exact}
 use Rattle.sky_model.proofs.RowStanding.{turn-within}
 use Rattle.pgq_db.specs.Views.{DbView}
 use Rattle.pgq_db.specs.Seen.{seen_database, no_database}
 use Rattle.pgq_db.specs.Waiters.{WaitersWithin, StaysWithin}
-use Rattle.pgq_db.specs.Gives.{Adds}
+use Rattle.pgq_db.specs.Gives.{is_worlds, Adds}
 use Rattle.pgq_db.proofs.Empty.{no_database-is}
 use Rattle.sky_world.specs.Views.{WorldView}
 use Rattle.sky_world.specs.Seen.{seen_world}
@@ -176,7 +176,32 @@ store-changed v d old new marks lt at is = shown ∙ sym (after_facts-within (se
       database = λ n. (ap seen_database (get_or-changed v.databases.values d n new no_database lt) ∙ by n (d == n) refl) i;
     }
 
--- what a statement of a database adds in the world
+-- what is done in a database at a moment adds in the world
+pub adds-in : (turn : Database → ℤ → Turn) (v now : WorldView) (d : ℕ) (old new : DbView) (before after : List (ℕ × Reply)) (t : ℤ) → v ≡ now → d < length v.databases.values
+    → old ≡ get_or v.databases.values d old → t ≡ v.now → Adds (seen_database old) (seen_database new) before after (turn (seen_database old) t) → HaveMoments (turn (seen_database old) t).answers
+    → All (λ (answer : ℕ × Reply). answer.0 < length now.sessions.names) (turn (seen_database old) t).answers
+    → AddsDeed now (record v { databases = with_value v.databases d new }) before after (deed_in d [] (turn ((seen_world now).database d) now.now))
+adds-in turn v now d old new before after t same lt at is adds moments known = record {
+  answered = adds.replied ∙ ap (λ (u : Turn). before ++ u.answers) turn_is;
+  known = subst (λ (u : Turn). All (IsKnown (length now.sessions.names)) u.answers) turn_is known;
+  moments = subst (λ (u : Turn). HaveMoments u.answers) turn_is moments;
+  changed = store-changed v d old new (turn (seen_database old) t).marks lt at adds.changed
+      ∙ ap (λ (u : Turn). after_facts (seen_world v) (map (within d) u.marks)) turn_is
+      ∙ ap (λ w. after_facts (seen_world w) (map (within d) whole.marks)) same
+      ∙ ap (λ facts. after_facts (seen_world now) facts) (sym (append-nil (map (within d) whole.marks)));
+  sessions = ap (λ (w : WorldView). w.sessions.names) same;
+}
+  where
+    whole : Turn
+    whole = turn ((seen_world now).database d) now.now
+
+    turn_is : turn (seen_database old) t ≡ whole
+    turn_is =
+        ap (turn (seen_database old)) is
+        ∙ ap (λ x. turn (seen_database x) v.now) (sym (store-there v d old lt at))
+        ∙ ap (λ (w : WorldView). turn ((seen_world w).database d) w.now) same
+
+-- what a statement does there
 pub adds-within : (v now : WorldView) (d who : ℕ) (old new : DbView) (stmt : Stmt) (before after : List (ℕ × Reply)) (t : ℤ) → v ≡ now → d < length v.databases.values
     → old ≡ get_or v.databases.values d old → t ≡ v.now
     → Adds (seen_database old) (seen_database new) before after (database_turn database_by_itself (seen_database old) t who stmt)
@@ -184,32 +209,9 @@ pub adds-within : (v now : WorldView) (d who : ℕ) (old new : DbView) (stmt : S
     → All (λ (answer : ℕ × Reply). answer.0 < length now.sessions.names) (database_turn database_by_itself (seen_database old) t who stmt).answers
     → AddsDeed now (record v { databases = with_value v.databases d new }) before after
     (deed_in d [] (database_turn (within_database by_world d) (seen_world now) (seen_world now).now who stmt))
-adds-within v now d who old new stmt before after t same lt at is adds moments known = record {
-  answered = adds.replied ∙ ap (λ (u : Turn). before ++ u.answers) turn_is;
-  known = subst (λ (u : Turn). All (IsKnown (length now.sessions.names)) u.answers) turn_is known;
-  moments = subst (λ (u : Turn). HaveMoments u.answers) turn_is moments;
-  changed = store-changed v d old new done.marks lt at adds.changed
-      ∙ ap (λ (u : Turn). after_facts (seen_world v) (map (within d) u.marks)) turn_is
-      ∙ ap (λ w. after_facts (seen_world w) (map (within d) whole.marks)) same
-      ∙ ap (λ facts. after_facts (seen_world now) facts) (sym (append-nil (map (within d) whole.marks)));
-  sessions = ap (λ (w : WorldView). w.sessions.names) same;
-}
-  where
-    there : get_or v.databases.values d no_database ≡ old
-    there = store-there v d old lt at
-
-    whole : Turn
-    whole = database_turn (within_database by_world d) (seen_world now) (seen_world now).now who stmt
-
-    done : Turn
-    done = database_turn database_by_itself (seen_database old) t who stmt
-
-    turn_is : done ≡ whole
-    turn_is =
-        ap (λ x. database_turn database_by_itself (seen_database old) x who stmt) is
-        ∙ ap (λ x. database_turn database_by_itself (seen_database x) v.now who stmt) (sym there)
-        ∙ ap (λ (w : WorldView). database_turn database_by_itself ((seen_world w).database d) w.now who stmt) same
-        ∙ sym (turn-within (seen_world now) d (seen_world now).now who stmt)
+adds-within v now d who old new stmt before after t same lt at is adds moments known =
+    subst (λ u. AddsDeed now (record v { databases = with_value v.databases d new }) before after (deed_in d [] u)) (sym (turn-within (seen_world now) d (seen_world now).now who stmt))
+    (adds-in (λ x moment. database_turn database_by_itself x moment who stmt) v now d old new before after t same lt at is adds moments known)
 
 -- and what it changes outside of databases
 pub adds-moved : (old s new : WorldView) (d : ℕ) (fact : Fact) (before after : List (ℕ × Reply)) (turn : Turn) → AddsDeed old s before after (deed_in d [] turn)
@@ -222,6 +224,17 @@ adds-moved old s new d fact before after turn adds is same = record {
       ∙ sym (after_facts-append (seen_world old) (map (within d) turn.marks) (fact ∷ []));
   sessions = same ∙ adds.sessions;
 }
+
+-- one that the world doesn't decide isn't on the daemon
+pub other-pgqd : (stmt : Stmt) → is_worlds stmt ≡ false → is_pgqd stmt ≡ false
+other-pgqd PgqdOn other = absurd (cc)
+other-pgqd PgqdOff other = absurd (cc)
+other-pgqd _ other = refl
+
+-- one that opens a database is none that the world decides
+pub opening-kind : (stmt : Stmt) (name : List ℕ) → opening stmt ≡ Some name → is_worlds stmt ≡ false
+opening-kind (Row stmt) name opens = refl
+opening-kind _ name opens = absurd (cc)
 
 -- a statement that isn't on the daemon leaves it as it is
 of_daemon-none : (may : Bool) (d : ℕ) (start : Option ℤ) (stmt : Stmt) → is_pgqd stmt ≡ false → of_daemon_if may d start stmt ≡ []

@@ -1,5 +1,5 @@
 -- What the world's methods on nodes give, by what the world showed.
-use Rattle.std.specs.Prelude.{◌≡◌, ℕ, List, [], Bool, true, not, map, Option, Some, None, option_map, Result, Ok, Err, is_ok}
+use Rattle.std.specs.Prelude.{◌≡◌, ℕ, ℤ, List, Bool, true, not, map, Option, Some, None, option_map, Result, Ok, Err, is_ok}
 use Rattle.sky_val.specs.declared.column.Column.{Column}
 use Rattle.sky_keys.specs.Waits.{is_waiting}
 use Rattle.londiste_state.specs.Nodes.{Leaf}
@@ -7,13 +7,17 @@ use Rattle.sky_model.specs.declared.stmt.Stmt.{Stmt}
 use Rattle.sky_model.specs.declared.stmt.Stmt.TheVariants.{CreateRoot}
 use Rattle.sky_model.specs.declared.stmt.Where.TheVariants.{WhenOutside}
 use Rattle.sky_model.specs.declared.reply.Reply.{Reply}
+use Rattle.sky_model.specs.declared.reply.Refusal.{Refusal}
 use Rattle.sky_model.specs.declared.reply.Refusal.TheVariants.{NotInSet, NotProvider, SchemaDiffers}
 use Rattle.sky_model.specs.declared.stop.Stop.{Stop}
 use Rattle.sky_model.specs.declared.stop.Stop.TheVariants.{Refused, NoMemory}
 use Rattle.sky_model.specs.History.{Fact, within}
 use Rattle.sky_model.specs.State.{Database}
 use Rattle.sky_model.specs.World.{World, after_facts}
-use Rattle.sky_model.specs.Outcome.{Checked, marks_of, ◌>>=◌, ◌>>◌, refused_if, found_or}
+use Rattle.sky_model.specs.Outcome.{Checked, marks_of, ◌>>=◌, refused_if, found_or, or_refused}
+use Rattle.sky_model.specs.Reader.{database_by_itself, within_part}
+use Rattle.sky_model.specs.Settling.{Turn, turn_of, with_settling}
+use Rattle.sky_model.specs.SessionMarks.{failing}
 use Rattle.sky_model.specs.Printed.{ReplyHasMoments}
 use Rattle.sky_model.specs.Allowed.{allowed}
 use Rattle.sky_model.specs.StepQueue.{newest_id}
@@ -22,9 +26,20 @@ use Rattle.sky_model.specs.NodesOfWorld.{WorldOutcome, node_called, provides, ar
 use Rattle.sky_world.specs.Views.{WorldView}
 use Rattle.sky_world.specs.Seen.{seen_world}
 
--- whether a session may make a statement that is allowed only outside blocks
+-- whether a session may make a statement that is allowed only outside blocks, or why not
+abbrev pub outside_allowed : Database → ℕ → Checked (Unit {0})
+outside_allowed d who = allowed (is_waiting who d.part.waiting) (d.part.session who).is_open (d.part.session who).block WhenOutside
+
 abbrev pub may_outside : Database → ℕ → Bool
-may_outside d who = is_ok (allowed (is_waiting who d.part.waiting) (d.part.session who).is_open (d.part.session who).block WhenOutside)
+may_outside d who = is_ok (outside_allowed d who)
+
+-- a statement of a session is refused in a database, which may abort the session's block
+abbrev pub refused_turn : Database → ℤ → ℕ → Refusal → Turn
+refused_turn d now who refusal = with_settling (within_part database_by_itself now) d (turn_of who (or_refused who (d.part.session who) (Err refusal)))
+
+-- the session's block is rolled back there
+abbrev pub failed_turn : Database → ℤ → ℕ → Turn
+failed_turn d now who = with_settling (within_part database_by_itself now) d (failing d.part who)
 
 -- the name of the root that a statement is to make
 abbrev pub root_name : Stmt → Option (List ℕ)

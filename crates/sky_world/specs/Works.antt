@@ -1,13 +1,16 @@
--- What a method of the world does that answers nothing, by what the world showed; and which statements are on the daemon, or on nodes.
-use Rattle.std.specs.Prelude.{◌≡◌, ℕ, Bool, true, false, List, Option, Some, None, slice_get}
+-- What a method of the world does that answers nothing, by what the world showed; and which statements are on the clock, the daemon, or nodes.
+use Rattle.std.specs.Prelude.{◌≡◌, Bool, true, false}
 use Rattle.sky_model.specs.declared.stmt.Stmt.{Stmt}
-use Rattle.sky_model.specs.declared.stmt.Stmt.TheVariants.{CreateRoot, Node, PgqdOn, PgqdOff}
-use Rattle.sky_model.specs.declared.reply.Reply.{Reply}
-use Rattle.sky_model.specs.declared.reply.Reply.TheVariants.{Done}
+use Rattle.sky_model.specs.declared.stmt.Stmt.TheVariants.{CreateRoot, Node, Clock, PgqdOn, PgqdOff}
 use Rattle.sky_model.specs.World.{after_facts}
 use Rattle.sky_model.specs.Reader.{Deed}
 use Rattle.sky_world.specs.Views.{WorldView}
 use Rattle.sky_world.specs.Seen.{seen_world}
+
+-- whether a statement moves the clock
+abbrev pub is_clock : Stmt → Bool
+is_clock (Clock time) = true
+is_clock _ = false
 
 -- whether a statement switches the daemon on or off
 abbrev pub is_pgqd : Stmt → Bool
@@ -20,15 +23,6 @@ abbrev pub is_on_nodes : Stmt → Bool
 is_on_nodes (CreateRoot name queue) = true
 is_on_nodes (Node stmt) = true
 is_on_nodes _ = false
-
--- whether an answer is `ok`
-abbrev pub is_done : Option (ℕ × Reply) → Bool
-is_done (Some (who, Done)) = true
-is_done _ = false
-
--- whether the answer at a place is `ok`
-abbrev pub is_done_at : List (ℕ × Reply) → ℕ → Bool
-is_done_at replies place = is_done (slice_get replies place)
 
 -- the world is then as after the deed's facts, with the same sessions and databases, at the same moment
 pub record Works (old new : WorldView) (deed : Deed) : Type 0 where

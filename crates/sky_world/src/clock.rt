@@ -24,7 +24,7 @@ const SECOND: u64 = 1_000_000;
 
 impl World {
     /// Runs `clock`. It is refused if its session waits, or if the clock would pass its last moment. Otherwise the
-    /// daemons work at each moment, up to the new one, at which one is due.
+    /// daemons work at each moment up to the new one at which one is due, and then the clock is set to the new one.
     pub(crate) fn move_clock(
         &mut self,
         who: SessionId,
@@ -52,7 +52,7 @@ impl World {
         Ok(())
     }
 
-    /// Sets the clock to a moment, which isn't earlier.
+    /// Sets the clock to a moment, which isn't before the present one.
     fn stand_at(&mut self, moment: i64)
         requires time { IsTime moment }
         requires later { self.old.now ≤ℤ moment }
@@ -61,7 +61,7 @@ impl World {
         self.clock = moment;
     }
 
-    /// The daemons work at each moment, up to this one, at which one is due, moment after moment.
+    /// The daemons work at each moment up to this one at which one is due, one moment after another.
     fn work_until(&mut self, last: i64) -> Result<(), NoMemory>
         requires last { IsTime last }
         requires later { self.old.now ≤ℤ last }
@@ -212,7 +212,7 @@ fn first_after(now: i64, start: i64) -> i64
     start + (turns * SECOND) as i64
 }
 
-/// The earlier of two moments, of which there may be none.
+/// The earlier of two moments, either of which may be missing.
 fn earlier(due: Option<i64>, other: Option<i64>) -> Option<i64>
     ensures { result ≡ earlier due other }
 {

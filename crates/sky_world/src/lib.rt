@@ -1,9 +1,9 @@
 //! The world of a script: its sessions, its databases, and the step of a statement.
 //!
-//! `World::step` runs one statement of one session, and those of other sessions that it unblocks. Its contract says,
-//! for every list of calls in form after which the world was as it is, that the answers are those of the definitions
-//! and that the world is then as it is after this call. The world keeps no history: it keeps what the definitions read
-//! off it. Nothing here reads or prints a byte.
+//! `World::step` runs one statement of one session, and those of other sessions that it unblocks. Its contract says:
+//! whatever calls in form may have led to the world as it was, the answers are those that the definitions give after
+//! them, and the world is then as it is after these calls and this one. The world keeps no history, only what the
+//! definitions read from one. Nothing here reads or prints a byte.
 #![tactic(auto)]
 
 mod clock;

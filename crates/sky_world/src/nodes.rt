@@ -1,4 +1,5 @@
-//! The nodes of sets: `create_root`, and the statements that concern two databases, or the one of a node's name.
+//! The nodes of sets: `create_root`, and the statements that concern two databases, or the database whose node has a
+//! given name.
 
 ghost use Rattle.std.specs.Prelude.{◌≡◌, ◌<◌, ◌&&◌, ◌∷◌, [], true, false, Some, None, Ok, IfOk, IfErr, OnOk, IfSome, MatchOption, length, option_copied, option_map, is_some};
 ghost use Rattle.sky_model.specs.declared.reply.Reply.TheVariants.{Done};
@@ -9,15 +10,14 @@ ghost use Rattle.sky_model.specs.History.{within, node_made, noded, leaf_made};
 ghost use Rattle.sky_model.specs.Stops.{StopsAs};
 ghost use Rattle.sky_model.specs.World.{after_fact};
 ghost use Rattle.sky_model.specs.Reader.{within_database, by_world};
-ghost use Rattle.sky_model.specs.StepNode.{set_queue, may_serve, node_does, adding, removing, listing, unlisting};
+ghost use Rattle.sky_model.specs.StepNode.{set_queue, table_number, may_serve, node_does, adding, removing, listing, unlisting};
 ghost use Rattle.sky_model.specs.NodesOfWorld.{node_called, done_in, provides, same_columns, uses, first_user, create_leaf, add_table, remove_table, table_state, node_form};
 ghost use Rattle.sky_model.specs.Calls.{database_turn, world_does, node_stmt_does, roots_in, session_does};
-ghost use Rattle.pgq_db.specs.Gives.{is_clock};
 ghost use Rattle.sky_world.specs.Seen.{seen_world};
 ghost use Rattle.sky_world.specs.Adds.{AddsDeed};
 ghost use Rattle.sky_world.specs.Nodes.{may_outside, root_name, Stays, Happened, Does, Ran, Joined, leaf_from, provided_as};
 
-use crate::world::{World, is_done};
+use crate::world::World;
 use londiste_state::{Leaf, Node};
 use pgq_db::{JoinFault, RootFault};
 use sky_model::{Limit, NodeStmt, Refusal, Replies, Reply, Stmt, Stop};
@@ -25,8 +25,8 @@ use sky_val::{Column, NoMemory, SessionId, Text};
 use std::alloc::AllocError;
 
 impl World {
-    /// Runs `create_root`. It is refused if there is a node of the name, be it in another database. Unless it is refused
-    /// in its own, this has a node from then on.
+    /// Runs `create_root`. It is refused if there is a node of the name, even in another database. Unless it is refused
+    /// in its own database, that has a node from then on.
     pub(crate) fn run_root(
         &mut self,
         database: usize,
@@ -51,17 +51,17 @@ impl World {
         Ok(())
     }
 
-    /// Whether a session may make a root, and there is a node of its name.
+    /// Whether a session may make a root, and a node already has the root's name.
     fn is_taken(&mut self, database: usize, who: SessionId, name: &Text) -> Result<bool, NoMemory>
         requires { database < length self.old.databases.names }
         ensures taken { IfOk result (λ taken. taken ≡ (may_outside ((seen_world self.old).database database) who && is_some (node_called (seen_world self.old) name.now))) }
         ensures stays { OnOk result (Stays self.old self.new) }
     {
-        let allowed = self.may_outside(database, who)?;
-        Ok(allowed && self.find_node(name).is_some())
+        let refusal = self.refusal_outside(database, who)?;
+        Ok(refusal.is_none() && self.find_node(name).is_some())
     }
 
-    /// Runs `create_root` in its database, which has a node then if it did so.
+    /// Runs `create_root` in its database, which may have its node from then on.
     fn make_root(
         &mut self,
         database: usize,
@@ -72,37 +72,34 @@ impl World {
         requires who { who < length self.old.sessions.names }
         requires database { database < length self.old.databases.names }
         requires form { IsInForm stmt.now }
-        requires clock { is_clock stmt.now ≡ false }
+        requires root { is_some (root_name stmt.now) ≡ true }
         ensures adds { OnOk result (AddsDeed self.old self.new replies.old replies.new
-            (roots_in database (database_turn (within_database by_world database) (seen_world self.old) (seen_world self.old).now who stmt.now))) }
+            (roots_in database ((seen_world self.old).database database) (database_turn (within_database by_world database) (seen_world self.old) (seen_world self.old).now who stmt.now))) }
         ensures failed { OnOk result (self.new.has_failed ≡ self.old.has_failed) }
     {
-        let own = replies.as_slice().len();
+        let had_node = self.store(database).node().is_some();
         self.run_there(database, who, stmt, replies)?;
-        if is_done(replies, own) {
+        if !had_node && self.store(database).node().is_some() {
             self.gets_node(database)?;
         }
         Ok(())
     }
 
-    /// Runs a statement on nodes. If its session may not make it, it is refused in its database.
+    /// Runs a statement on nodes, unless its session may not make it.
     pub(crate) fn run_node(
         &mut self,
         database: usize,
         who: SessionId,
-        stmt: &Stmt,
         form: &NodeStmt,
         replies: &mut Replies,
     ) -> Result<(), NoMemory>
         requires who { who < length self.old.sessions.names }
         requires database { database < length self.old.databases.names }
-        requires form { IsInForm stmt.now }
-        requires node { stmt.now ≡ Stmt.Node form.now }
         ensures adds { OnOk result (AddsDeed self.old self.new replies.old replies.new (node_stmt_does by_world (seen_world self.old) who form.now database)) }
         ensures failed { OnOk result (self.new.has_failed ≡ self.old.has_failed) }
     {
-        if !self.may_outside(database, who)? {
-            self.run_there(database, who, stmt, replies)?;
+        if let Some(refusal) = self.refusal_outside(database, who)? {
+            self.refuse(database, who, refusal, replies)?;
             return Ok(());
         }
         self.serve(database, who, form, replies)?;
@@ -158,7 +155,7 @@ impl World {
         Ok(Reply::Done)
     }
 
-    /// The database of the provider of a leaf that may be made.
+    /// The database of a leaf's provider, if the leaf may be made.
     fn provider_for(&self, database: usize, name: &Text, provider: &Text) -> Result<usize, Stop>
         requires { database < length self.now.databases.names }
         ensures ok { IfOk result (λ from. create_leaf (seen_world self.now) database name.now provider.now ≡ leaf_from (seen_world self.now) database name.now provider.now from) }
@@ -179,7 +176,7 @@ impl World {
         Ok(from)
     }
 
-    /// Whether the node of a database has a queue of a set.
+    /// Whether the node of a database is a root whose queue exists. If not, it is refused as no provider.
     fn check_provider(&self, database: usize, name: &Text) -> Result<(), Stop>
         requires { database < length self.now.databases.names }
         ensures ok { OnOk result (is_some (set_queue ((seen_world self.now).database database)) ≡ true) }
@@ -217,7 +214,7 @@ impl World {
         }
     }
 
-    /// A leaf in a database that has no node.
+    /// Makes a leaf in a database that has no node.
     fn make_leaf(
         &mut self,
         database: usize,
@@ -251,7 +248,8 @@ impl World {
         Ok(())
     }
 
-    /// Runs `add_table`.
+    /// Runs `add_table`: a table of the node's database joins the node. A leaf's provider has to have it, with the same
+    /// columns.
     fn add_table(&mut self, name: &Text, table: &Text) -> Result<Reply, Stop>
         ensures { Ran self.old self.new result (add_table (seen_world self.old) name.now table.now) }
     {
@@ -277,17 +275,6 @@ impl World {
                 self.add_to_leaf(database, table)
             }
         }
-    }
-
-    /// Whether a session may make a statement that is allowed only outside blocks.
-    fn may_outside(&mut self, database: usize, who: SessionId) -> Result<bool, NoMemory>
-        requires { database < length self.old.databases.names }
-        ensures may { IfOk result (λ may. may ≡ may_outside ((seen_world self.old).database database) who) }
-        ensures stays { OnOk result (Stays self.old self.new) }
-    {
-        let store = self.databases.get_mut(database);
-        let refusal = store.enter(who, true)?;
-        Ok(refusal.is_none())
     }
 
     /// The node of a name, and the number of its database.
@@ -325,7 +312,7 @@ impl World {
         }
     }
 
-    /// The database of the node of a name, if it has a table.
+    /// The database of the node of this name, if the node has this table.
     fn provides(&self, name: &Text, table: &Text) -> Option<usize>
         ensures database { result ≡ provides table.now (node_called (seen_world self.now) name.now) }
         ensures within { IfSome result (λ database. database < length self.now.databases.names) }
@@ -342,6 +329,7 @@ impl World {
     fn add_to_root(&mut self, database: usize, table: &Text) -> Result<Reply, Stop>
         requires database { database < length self.old.databases.names }
         requires provider { is_some (set_queue ((seen_world self.old).database database)) ≡ true }
+        requires there { is_some (table_number ((seen_world self.old).database database) table.now) ≡ true }
         requires may { may_serve (listing table.now) ((seen_world self.old).database database).node ≡ true }
         ensures { Ran self.old self.new result (done_in database Done (node_does ((seen_world self.old).database database) (listing table.now))) }
     {
@@ -362,6 +350,7 @@ impl World {
     /// A table joins the leaf of a database.
     fn add_to_leaf(&mut self, database: usize, table: &Text) -> Result<Reply, Stop>
         requires database { database < length self.old.databases.names }
+        requires there { is_some (table_number ((seen_world self.old).database database) table.now) ≡ true }
         requires may { may_serve (adding table.now) ((seen_world self.old).database database).node ≡ true }
         ensures { Ran self.old self.new result (done_in database Done (node_does ((seen_world self.old).database database) (adding table.now))) }
     {
@@ -376,7 +365,7 @@ impl World {
         }
     }
 
-    /// Runs `remove_table`.
+    /// Runs `remove_table`: a table leaves the node. No leaf of a root may have it.
     fn remove_table(&mut self, name: &Text, table: &Text) -> Result<Reply, Stop>
         ensures { Ran self.old self.new result (remove_table (seen_world self.old) name.now table.now) }
     {
@@ -401,7 +390,7 @@ impl World {
         }
     }
 
-    /// Whether no leaf of a provider has a table.
+    /// Whether no leaf of a provider has the table.
     fn check_unused(&self, provider: &Text, table: &Text) -> Result<(), Stop>
         ensures ok { OnOk result (refused_by (option_map TableInUse (first_user (seen_world self.now) provider.now table.now)) ≡ Ok tt) }
         ensures err { IfErr result (λ stop. StopsAs stop (refused_by (option_map TableInUse (first_user (seen_world self.now) provider.now table.now)))) }
@@ -415,7 +404,7 @@ impl World {
         }
     }
 
-    /// The name of the first leaf of a provider that has a table.
+    /// The name of the first of a provider's leaves that has this table.
     fn first_user(&self, provider: &Text, table: &Text) -> Option<&Text>
         ensures { option_copied result ≡ first_user (seen_world self.now) provider.now table.now }
     {
@@ -451,7 +440,7 @@ impl World {
         Reply::Done
     }
 
-    /// Runs `table_state`.
+    /// Runs `table_state`: the state of a leaf's table.
     fn table_state(&self, name: &Text, table: &Text) -> Result<Reply, Stop>
         ensures { Ran self.now self.now result (table_state (seen_world self.now) name.now table.now) }
     {
@@ -475,7 +464,7 @@ impl World {
     }
 }
 
-/// Whether a node is a leaf of a provider that has a table.
+/// Whether a node is a leaf of this provider, and has this table.
 fn uses(node: &Node, provider: &Text, table: &Text) -> bool
     ensures { result ≡ uses provider.now table.now (Some node.now) }
 {

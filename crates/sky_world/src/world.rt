@@ -10,11 +10,14 @@ ghost use Rattle.sky_model.specs.Reader.{within_database, by_world};
 ghost use Rattle.sky_model.specs.Clock.{deed_in};
 ghost use Rattle.sky_model.specs.Calls.{database_turn, is_leaving, opening, unopened, of_daemon_if, opens_in, opens, outside_does, session_does, turn};
 ghost use Rattle.sky_model.specs.Steps.{Steps};
+ghost use Rattle.sky_model.specs.Outcome.{refused_by};
+ghost use Rattle.sky_model.specs.Settling.{ready};
 ghost use Rattle.pgq_db.specs.Seen.{seen_database};
-ghost use Rattle.pgq_db.specs.Gives.{is_clock};
+ghost use Rattle.pgq_db.specs.Gives.{is_worlds};
 ghost use Rattle.sky_world.specs.Seen.{seen_world};
 ghost use Rattle.sky_world.specs.Adds.{AddsDeed, AddsCall};
-ghost use Rattle.sky_world.specs.Works.{is_pgqd, is_on_nodes, is_done_at};
+ghost use Rattle.sky_world.specs.Nodes.{outside_allowed, refused_turn, failed_turn, Stays};
+ghost use Rattle.sky_world.specs.Works.{is_clock, is_pgqd, is_on_nodes};
 
 use pgq_db::Db;
 use sky_model::{Limit, Refusal, Replies, Reply, RowStmt, Stmt};
@@ -57,14 +60,15 @@ impl Model for World {
     ghost use Rattle.sky_model.specs.Moment.{IsTime};
     ghost use Rattle.sky_world.specs.Homes.{HomesWithin, NodesWithin};
     ghost use Rattle.sky_world.specs.Daemons.{StartedBy};
-    ghost use Rattle.sky_world.specs.Waiters.{AllWaitersWithin};
+    ghost use Rattle.sky_world.specs.Waiters.{AllWaitersWithin, AllAtRest};
 
     ghost Value = { WorldView };
 
     ghost view = { λ w. record { now = w.clock; sessions = w.sessions; databases = w.databases; daemons = w.daemons.entries; nodes = w.nodes.items; has_failed = w.has_failed } };
 
     ghost invariant = { λ w. IsTime w.clock × HomesWithin (length w.databases.names) w.sessions.values × StartedBy w.clock w.daemons.entries
-        × (w.has_failed ≡ false → AllWaitersWithin (length w.sessions.names) w.databases.values) × NodesWithin (length w.databases.names) w.nodes.items };
+        × (w.has_failed ≡ false → AllWaitersWithin (length w.sessions.names) w.databases.values) × NodesWithin (length w.databases.names) w.nodes.items
+        × (w.has_failed ≡ false → AllAtRest w.databases.values) };
 }
 
 impl World {
@@ -203,7 +207,7 @@ impl World {
         self.sessions.len() as SessionId
     }
 
-    /// A new session, which has no database open.
+    /// Adds a session, which has no database open.
     fn appear(&mut self, name: &Text) -> Result<(), NoMemory>
         requires new { place_of name.now self.old.sessions.names ≡ None }
         requires room { length self.old.sessions.names < 256 }
@@ -273,13 +277,14 @@ impl World {
     {
         match stmt {
             Stmt::CreateRoot { name, .. } => self.run_root(database, who, stmt, name, replies),
-            Stmt::Node(form) => self.run_node(database, who, stmt, form, replies),
+            Stmt::Node(form) => self.run_node(database, who, form, replies),
             Stmt::PgqdOn | Stmt::PgqdOff => self.run_pgqd(database, who, stmt, replies),
             _ => self.run_or_leave(database, who, stmt, replies),
         }
     }
 
-    /// Runs a statement that is neither on the daemon nor on nodes.
+    /// Runs a statement that is neither on the daemon nor on nodes. By a `close` that isn't refused the session leaves
+    /// the database.
     fn run_or_leave(
         &mut self,
         database: usize,
@@ -290,9 +295,8 @@ impl World {
         requires who { who < length self.old.sessions.names }
         requires database { database < length self.old.databases.names }
         requires form { IsInForm stmt.now }
-        requires clock { is_clock stmt.now ≡ false }
-        requires daemon { is_pgqd stmt.now ≡ false }
-        requires nodes { is_on_nodes stmt.now ≡ false }
+        requires kind { is_worlds stmt.now ≡ false }
+        requires root { is_on_nodes stmt.now ≡ false }
         ensures adds { OnOk result (AddsDeed self.old self.new replies.old replies.new (session_does by_world (seen_world self.old) who stmt.now (Some database))) }
         ensures failed { OnOk result (self.new.has_failed ≡ self.old.has_failed) }
     {
@@ -304,8 +308,7 @@ impl World {
         Ok(())
     }
 
-    /// Runs `pgqd on` or `pgqd off`, which is answered in the database. Unless it is refused there, the daemon is then
-    /// on or off.
+    /// Runs `pgqd on` or `pgqd off`, unless its session may not make it.
     fn run_pgqd(
         &mut self,
         database: usize,
@@ -319,15 +322,17 @@ impl World {
         ensures adds { OnOk result (AddsDeed self.old self.new replies.old replies.new (session_does by_world (seen_world self.old) who stmt.now (Some database))) }
         ensures failed { OnOk result (self.new.has_failed ≡ self.old.has_failed) }
     {
-        let own = replies.as_slice().len();
-        self.run_there(database, who, stmt, replies)?;
-        if is_done(replies, own) {
-            self.set_daemon(database, stmt)?;
+        if let Some(refusal) = self.refusal_outside(database, who)? {
+            self.refuse(database, who, refusal, replies)?;
+            return Ok(());
         }
+        self.set_daemon(database, stmt)?;
+        replies.push(who, Reply::Done)?;
         Ok(())
     }
 
-    /// Switches the daemon of a database on, unless it is on, or off.
+    /// Switches the daemon of a database: on by `pgqd on`, from the present moment unless it is on already; off by
+    /// `pgqd off`.
     fn set_daemon(&mut self, database: usize, stmt: &Stmt) -> Result<(), NoMemory>
         ensures facts { OnOk result (seen_world self.new ≡ after_facts (seen_world self.old) (of_daemon_if true database ((seen_world self.old).daemons database) stmt.now)) }
         ensures sessions { OnOk result (self.new.sessions.names ≡ self.old.sessions.names) }
@@ -377,7 +382,7 @@ impl World {
         requires who { who < length self.old.sessions.names }
         requires database { database < length self.old.databases.names }
         requires form { IsInForm stmt.now }
-        requires clock { is_clock stmt.now ≡ false }
+        requires kind { is_worlds stmt.now ≡ false }
         ensures adds { OnOk result (AddsDeed self.old self.new replies.old replies.new (deed_in database [] (database_turn (within_database by_world database) (seen_world self.old) (seen_world self.old).now who stmt.now))) }
         ensures databases { OnOk result (self.new.databases.names ≡ self.old.databases.names) }
         ensures failed { OnOk result (self.new.has_failed ≡ self.old.has_failed) }
@@ -387,6 +392,70 @@ impl World {
         }
         let store = self.databases.get_mut(database);
         match store.step_into(who, stmt, self.clock, replies) {
+            Ok(()) => Ok(()),
+            Err(fault) => {
+                self.has_failed = true;
+                Err(fault)
+            }
+        }
+    }
+
+    /// Why a session may not make a statement that is allowed only outside blocks, if so.
+    pub(crate) fn refusal_outside(
+        &mut self,
+        database: usize,
+        who: SessionId,
+    ) -> Result<Option<Refusal>, NoMemory>
+        requires { database < length self.old.databases.names }
+        ensures allowed { IfOk result (λ refusal. outside_allowed ((seen_world self.old).database database) who ≡ refused_by refusal) }
+        ensures rests { OnOk result (ready ((seen_world self.old).database database).part ≡ None) }
+        ensures stays { OnOk result (Stays self.old self.new) }
+        ensures sound { OnOk result (self.new.has_failed ≡ false) }
+    {
+        if self.has_failed {
+            return Err(AllocError);
+        }
+        self.databases.get_mut(database).enter(who, true)
+    }
+
+    /// Answers a statement with a refusal. Unless the session is busy, this aborts its block.
+    pub(crate) fn refuse(
+        &mut self,
+        database: usize,
+        who: SessionId,
+        refusal: Refusal,
+        replies: &mut Replies,
+    ) -> Result<(), NoMemory>
+        requires who { who < length self.old.sessions.names }
+        requires database { database < length self.old.databases.names }
+        requires rests { ready ((seen_world self.old).database database).part ≡ None }
+        requires sound { self.old.has_failed ≡ false }
+        ensures adds { OnOk result (AddsDeed self.old self.new replies.old replies.new (deed_in database [] (refused_turn ((seen_world self.old).database database) self.old.now who refusal))) }
+        ensures failed { OnOk result (self.new.has_failed ≡ self.old.has_failed) }
+    {
+        let aborts = refusal.aborts();
+        replies.push(who, Reply::Refused(refusal))?;
+        if aborts {
+            self.abort_block(database, who, replies)?;
+        }
+        Ok(())
+    }
+
+    /// Rolls back the block of a session, which stays aborted, and answers the statements that this unblocks.
+    fn abort_block(
+        &mut self,
+        database: usize,
+        who: SessionId,
+        replies: &mut Replies,
+    ) -> Result<(), NoMemory>
+        requires who { who < length self.old.sessions.names }
+        requires database { database < length self.old.databases.names }
+        requires sound { self.old.has_failed ≡ false }
+        ensures adds { OnOk result (AddsDeed self.old self.new replies.old replies.new (deed_in database [] (failed_turn ((seen_world self.old).database database) self.old.now who))) }
+        ensures failed { OnOk result (self.new.has_failed ≡ self.old.has_failed) }
+    {
+        let store = self.databases.get_mut(database);
+        match store.fail_into(who, self.clock, replies) {
             Ok(()) => Ok(()),
             Err(fault) => {
                 self.has_failed = true;
@@ -414,7 +483,6 @@ impl World {
     ) -> Result<(), NoMemory>
         requires who { who < length self.old.sessions.names }
         requires form { IsInForm stmt.now }
-        requires clock { is_clock stmt.now ≡ false }
         ensures adds { OnOk result (AddsDeed self.old self.new replies.old replies.new (outside_does by_world (seen_world self.old) who stmt.now (opening stmt.now))) }
         ensures failed { OnOk result (self.new.has_failed ≡ self.old.has_failed) }
     {
@@ -437,7 +505,7 @@ impl World {
     ) -> Result<(), NoMemory>
         requires who { who < length self.old.sessions.names }
         requires form { IsInForm stmt.now }
-        requires clock { is_clock stmt.now ≡ false }
+        requires kind { is_worlds stmt.now ≡ false }
         ensures adds { OnOk result (AddsDeed self.old self.new replies.old replies.new (opens by_world (seen_world self.old) who stmt.now name.now (place_of name.now (seen_world self.old).databases))) }
         ensures failed { OnOk result (self.new.has_failed ≡ self.old.has_failed) }
     {
@@ -457,7 +525,7 @@ impl World {
     ) -> Result<(), NoMemory>
         requires who { who < length self.old.sessions.names }
         requires form { IsInForm stmt.now }
-        requires clock { is_clock stmt.now ≡ false }
+        requires kind { is_worlds stmt.now ≡ false }
         requires new { place_of name.now self.old.databases.names ≡ None }
         ensures adds { OnOk result (AddsDeed self.old self.new replies.old replies.new (opens by_world (seen_world self.old) who stmt.now name.now None)) }
         ensures failed { OnOk result (self.new.has_failed ≡ self.old.has_failed) }
@@ -483,7 +551,7 @@ impl World {
         requires who { who < length self.old.sessions.names }
         requires database { database < length self.old.databases.names }
         requires form { IsInForm stmt.now }
-        requires clock { is_clock stmt.now ≡ false }
+        requires kind { is_worlds stmt.now ≡ false }
         ensures adds { OnOk result (AddsDeed self.old self.new replies.old replies.new (opens_in by_world who stmt.now database (seen_world self.old))) }
         ensures failed { OnOk result (self.new.has_failed ≡ self.old.has_failed) }
     {
@@ -505,7 +573,7 @@ impl World {
         self.databases.len()
     }
 
-    /// A new database, in which nothing has happened.
+    /// Adds a database, in which nothing has happened.
     fn found(&mut self, name: &Text) -> Result<(), NoMemory>
         requires new { place_of name.now self.old.databases.names ≡ None }
         requires room { length self.old.databases.names < 16 }
@@ -549,11 +617,4 @@ fn unopened(stmt: &Stmt) -> Reply
         Stmt::Row(RowStmt::Cancel) => Reply::NotWaiting,
         _ => Reply::Refused(Refusal::NotOpen),
     }
-}
-
-/// Whether the answer at a place is `ok`.
-pub(crate) fn is_done(replies: &Replies, place: usize) -> bool
-    ensures { result ≡ is_done_at replies.now place }
-{
-    matches!(replies.as_slice().get(place), Some((_, Reply::Done)))
 }

@@ -8,15 +8,20 @@
 mod copies;
 mod databases;
 mod encoding;
+mod lines;
+mod nodes;
+mod providers;
 mod runs;
 mod scans;
 mod sessions;
 mod settings;
 mod statements;
+mod states;
 mod streams;
 mod ticks;
 mod trials;
 mod words;
+mod workers;
 
 use crate::trials::Trials;
 use crate::words::is_case;

@@ -1,5 +1,5 @@
 ghost use Rattle.std.specs.Prelude.{◌≡◌, false, IfOk};
-ghost use Rattle.pgq_db.specs.Gives.{is_clock};
+ghost use Rattle.pgq_db.specs.Gives.{is_worlds};
 ghost use Rattle.sky_model.specs.InForm.{IsInForm, IsLineInForm, IsRowInForm};
 
 use anyhow::bail;
@@ -20,10 +20,12 @@ pub fn line(alloc: Global, statement: &str) -> anyhow::Result<Line>
 pub fn statement(line: &Line) -> anyhow::Result<&Stmt>
     requires { IsLineInForm line.now }
     ensures form { IfOk result (λ stmt. IsInForm stmt.now) }
-    ensures clock { IfOk result (λ stmt. is_clock stmt.now ≡ false) }
+    ensures kind { IfOk result (λ stmt. is_worlds stmt.now ≡ false) }
 {
     match line {
-        Line::Run(_, Stmt::Clock { .. }) => bail!("a statement of the world"),
+        Line::Run(_, Stmt::Node(_) | Stmt::Clock { .. } | Stmt::PgqdOn | Stmt::PgqdOff) => bail!(
+            "a statement of the world"
+        ),
         Line::Run(_, stmt) => Ok(stmt),
         Line::Blank => bail!("no statement"),
     }

@@ -1,12 +1,14 @@
 use crate::databases::Database;
 use crate::encoding::Encoding;
+use crate::nodes::Nodes;
 use crate::runs::Runs;
 use crate::scans::Scans;
 use crate::sessions::Sessions;
 use crate::settings::Settings;
 use crate::ticks::Kept;
 use crate::words::first_word;
-use crate::{copies, streams};
+use crate::workers::Workers;
+use crate::{copies, lines, states, streams};
 use anyhow::bail;
 use std::alloc::Global;
 
@@ -17,6 +19,8 @@ pub struct Trials {
     scans: Scans,
     sessions: Sessions,
     database: Database,
+    nodes: Nodes,
+    workers: Workers,
     runs: Runs,
     settings: Settings,
     ticks: Kept,
@@ -29,6 +33,8 @@ impl Trials {
             scans: Scans::new(),
             sessions: Sessions::new(alloc),
             database: Database::new(alloc),
+            nodes: Nodes::new(alloc),
+            workers: Workers::new(alloc),
             runs: Runs::new(alloc),
             settings: Settings::new(),
             ticks: Kept::new(),
@@ -45,6 +51,10 @@ impl Trials {
             "streams.txt" => streams::answer(alloc, command, rest),
             "sessions.txt" => self.sessions.answer(alloc, command, rest),
             "databases.txt" => self.database.answer(alloc, command, rest),
+            "nodes.txt" => self.nodes.answer(alloc, command, rest),
+            "workers.txt" => self.workers.answer(alloc, command, rest),
+            "states.txt" => states::answer(alloc, command, rest),
+            "lines.txt" => lines::answer(alloc, command, rest),
             "runs.txt" => self.runs.answer(alloc, command, rest),
             "settings.txt" => self.settings.answer(alloc, command, rest),
             "ticks.txt" => self.ticks.answer(alloc, command, rest),

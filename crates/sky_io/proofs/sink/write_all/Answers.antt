@@ -17,6 +17,7 @@ loop-written-preserved g c =
       in_range = omega (arith, wrote.at_most, length-drop {A = ℕ});
       appends = Appends-taken _ _ _ c.loop-written.written c.in_ok-written.field-0 c.args.piece.now c.loop-written.invariant.appends (rw rest at wrote.appends);
       never_falls = omega arith;
+      stays = λ sure. wrote.stays (c.loop-written.invariant.stays sure);
       untouched = λ none. absurd (omega (arith, wrote.at_least));
     }
 

@@ -9,7 +9,7 @@ pub returns-in_ok-answer-in-None : goal.returns-in_ok-answer-in-None
 returns-in_ok-answer-in-None c =
     let d = seen c.args.state.now in
     let key = c.args.key.now in
-    does-wait d (seen c.waits.new.self) c.args.step.now c.answer.new.self c.args.who key.table key.key c.args.attempt c.args.holder (sym (c.in_ok-waits.ensures.ring c.args.holder c.requires.held) ∙ c.in-None.is)
+    does-wait d (seen c.waits.new.self) c.args.step.now c.answer.new.self c.args.who key.table key.key c.args.attempt c.args.holder (sym c.in_ok-waits.ensures.ring ∙ c.in-None.is)
     c.in_ok-answer-in-None.ensures.replied c.in_ok-answer-in-None.ensures.told
     (subst (λ (closed : Option (List ℕ)). IfNone closed (seen c.waits.new.self ≡ after_part d (tabled (waits c.args.who key.table key.key c.args.attempt)))) c.in-None.is c.in_ok-waits.ensures.mark)
 
@@ -18,7 +18,7 @@ returns-in-Some c =
     let d = seen c.args.state.now in
     let key = c.args.key.now in (
       record {
-        refused = ring-refused d c.args.who key.table key.key c.args.attempt c.args.holder c.in-Some.ring (sym (c.in_ok-waits.ensures.ring c.args.holder c.requires.held) ∙ c.in-Some.is);
+        refused = ring-refused d c.args.who key.table key.key c.args.attempt c.args.holder c.in-Some.ring (sym c.in_ok-waits.ensures.ring ∙ c.in-Some.is);
         same = subst (λ (closed : Option (List ℕ)). IfSome closed (λ ring. seen c.waits.new.self ≡ d)) c.in-Some.is c.in_ok-waits.ensures.same;
       },
       refl,

@@ -1,4 +1,4 @@
-use Rattle.std.proofs.Common.{◌≡◌, List, [], ◌∷◌, Bool, true, false, not, refl, ap, ◌∙◌, ◌&&◌, bytes_eq, if◌then◌else◌}
+use Rattle.std.proofs.Common.{◌≡◌, List, [], ◌∷◌, Bool, true, false, not, refl, ◌∙◌, ◌&&◌, bytes_eq, if◌then◌else◌}
 use lib.Pointwise.{pointwise}
 use mathlib.Core.Bool.{beq}
 use denote.Enum.Bare.{sameb}

@@ -21,8 +21,11 @@ returns c =
     let run = c.run_main-status.ensures in
     let is_known : is_run (texts c.in_ok-words.words.items) ≡ true =
     ap (λ words. is_run (texts words)) c.in_ok-words.ensures.items ∙ ap (λ word. is_run (word ∷ [])) c.in_ok-from_str.ensures.ok in
+    let reliable =
+    run.relied (ap (λ s. s.failing) c.new-src.ensures ∙ c.new.ensures.items) (ap (λ s. s.failing) c.new-out.ensures ∙ c.new-2.ensures.items)
+    (ap (λ s. s.failing) c.new-err.ensures ∙ c.new-3.ensures.items) in
     record {
-      known = rw is_known at run.known;
+      known = rw is_known at reliable;
       whole = λ is_whole.
           let prints = run.whole is_whole script left_is in
           (prints.none_bad, prints.printed ∙ no_out, ap (λ s. s.held) (run.quiet (inl is_whole)) ∙ ap (λ s. s.held) c.new-err.ensures);

@@ -4,11 +4,11 @@ use Rattle.sky_model.specs.State.{Database}
 use Rattle.sky_state.specs.Seen.{seen}
 use Rattle.pgq_queues.specs.declared.batch.Span.{Span}
 use Rattle.pgq_queues.specs.Seen.{seen_batch, seen_span, seen_with, batch_at}
-use Rattle.pgq_db.specs.Looks.{LooksFor, LooksFrom}
+use Rattle.pgq_db.specs.Looks.{LooksFor, LooksFrom, LooksAtNoOther}
 use Rattle.pgq_db.specs.Views.{DbView}
 use Rattle.pgq_db.specs.Seen.{with_node, seen_database}
 use Rattle.pgq_db.proofs.ConsumerSteps.{events-as}
-use Rattle.pgq_db.proofs.Looking.{looks-for, lists-for}
+use Rattle.pgq_db.proofs.Looking.{looks-for, lists-for, no-other-for, no-other-same}
 use Rattle.pgq_db.proofs.db.Db.events_of.Goals as goal
 
 pub returns-in_default-clause-events : goal.returns-in_default-clause-events
@@ -36,3 +36,16 @@ returns-clause-same c = c.batch_events.ensures.same (with_node c.self.inside.nod
 
 pub returns-in_err-events-clause-same : goal.returns-in_err-events-clause-same
 returns-in_err-events-clause-same c = c.batch_events.ensures.same (with_node c.self.inside.node (seen c.self.inside.rows)) ∙ ap seen_database c.self.view_is
+
+pub returns-clause-others : goal.returns-clause-others
+returns-clause-others c =
+    subst (λ (v : DbView). LooksAtNoOther v.queues c.batch_events.new.self (batch_at v.queues c.args.id)) c.self.view_is
+    (no-other-for c.self.inside.queues c.batch_events.new.self c.args.id c.in-Some.batch c.span-span.result c.in-Some.ensures.batch c.span-span.ensures c.batch_events.ensures.others)
+
+pub returns-in_err-events-clause-others : goal.returns-in_err-events-clause-others
+returns-in_err-events-clause-others c =
+    subst (λ (v : DbView). LooksAtNoOther v.queues c.batch_events.new.self (batch_at v.queues c.args.id)) c.self.view_is
+    (no-other-for c.self.inside.queues c.batch_events.new.self c.args.id c.in-Some.batch c.span-span.result c.in-Some.ensures.batch c.span-span.ensures c.batch_events.ensures.others)
+
+pub returns-in_default-clause-others : goal.returns-in_default-clause-others
+returns-in_default-clause-others c = no-other-same c.args.self.now.queues (batch_at c.args.self.now.queues c.args.id)

@@ -1,34 +1,28 @@
-use Rattle.std.proofs.Common.{sym, subst, w64, to_z, of_z, append-nil, arith}
+use Rattle.std.proofs.Common.{sym, subst, w64, to_z, of_z}
 use Rattle.std.proofs.lemmas.Int.{to_z-of_z}
 use Rattle.sky_model.specs.SessionMarks.{failing}
-use Rattle.sky_model.specs.DatabaseCalls.{failed}
-use Rattle.sky_model.proofs.DatabaseStanding.{database_steps_from_exact}
+use Rattle.sky_model.specs.Settling.{with_settling}
+use Rattle.sky_model.specs.Reader.{database_by_itself, within_part}
 use Rattle.pgq_db.specs.Seen.{seen_database}
 use Rattle.pgq_db.specs.Waiters.{StaysWithin}
-use Rattle.pgq_db.proofs.Databases.{adds-then, gives-added}
-use Rattle.pgq_db.proofs.Moments.{same-moments, then-moments}
-use Rattle.pgq_db.proofs.Waiters.{failure-within}
+use Rattle.pgq_db.proofs.Databases.{gives-added}
+use Rattle.pgq_db.proofs.Moments.{same-moments}
 use Rattle.pgq_db.proofs.db.Db.fail.Goals as goal
 
 pub returns-clause-exact : goal.returns-clause-exact
 returns-clause-exact c =
     let d = seen_database c.args.self.now in
-    let gives = gives-added _ _ _ _ _ c.new-replies.ensures
-    (adds-then (to_z w64 (of_z w64 c.args.now)) d (seen_database c.roll_back.new.self) _ (failing d.part c.args.who) c.new-replies.result c.new-replies.result _
-    (record { replied = sym (append-nil c.new-replies.result); changed = c.in_ok-roll_back.ensures.marks }) c.in_ok-settle.ensures.adds) in
+    let gives = gives-added d (seen_database c.fail_into.new.self) c.new-replies.result c.fail_into.new.replies
+    (with_settling (within_part database_by_itself (to_z w64 (of_z w64 c.args.now))) d (failing d.part c.args.who)) c.new-replies.ensures c.in_ok-fail_into.ensures.exact in
     rw (to_z-of_z w64 c.args.now c.ranges.now) at gives
 
 pub returns-clause-moments : goal.returns-clause-moments
 returns-clause-moments c =
-    let d = seen_database c.args.self.now in
-    let have = then-moments (to_z w64 (of_z w64 c.args.now)) d _ (failing d.part c.args.who) (λ k a at. absurd (omega arith)) c.in_ok-roll_back.ensures.marks c.in_ok-settle.ensures.moments in
+    let have = c.in_ok-fail_into.ensures.moments in
     same-moments _ _ (returns-clause-exact c).replied (rw (to_z-of_z w64 c.args.now c.ranges.now) at have)
 
 pub returns-clause-within : goal.returns-clause-within
 returns-clause-within c =
     let d = seen_database c.args.self.now in
-    let gives = returns-clause-exact c in
-    subst (StaysWithin d (seen_database c.settle.new.self) c.args.who) (sym gives.replied) (failure-within c.args.now d _ c.args.who gives.changed)
-
-pub returns-clause-steps : goal.returns-clause-steps
-returns-clause-steps c = database_steps_from_exact (seen_database c.args.self.now) (seen_database c.settle.new.self) (failed c.args.who c.args.now) (returns-clause-exact c).changed
+    let within = c.in_ok-fail_into.ensures.within in
+    subst (StaysWithin d (seen_database c.fail_into.new.self) c.args.who) (sym (returns-clause-exact c).replied) (rw (to_z-of_z w64 c.args.now c.ranges.now) at within)

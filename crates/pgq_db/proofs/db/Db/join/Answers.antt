@@ -1,13 +1,15 @@
-use Rattle.std.proofs.Common.{◌+◌, ◌<◌, ◌≤◌, ◌^◌, length, refl, sym, ap, ◌∙◌, arith}
-use Rattle.sky_model.specs.History.{joined}
+use Rattle.std.proofs.Common.{◌≡◌, ◌+◌, ◌<◌, ◌≤◌, ◌^◌, length, false, refl, sym, ap, ◌∙◌, subst, arith}
+use Rattle.londiste_state.specs.Nodes.{is_among}
+use Rattle.sky_model.specs.History.{joined, parted}
 use Rattle.sky_model.specs.Nodes.{after_node}
 use Rattle.sky_model.specs.State.{Queue}
 use Rattle.sky_model.specs.StepNode.{joining}
 use Rattle.pgq_queues.specs.Seen.{queue_at}
 use Rattle.pgq_db.specs.Views.{DbView}
 use Rattle.pgq_db.specs.Seen.{seen_database}
+use Rattle.pgq_db.specs.Served.{set_consumers, JoinRefused}
 use Rattle.pgq_db.proofs.ConsumerSteps.{known-as, newest-as, none-if}
-use Rattle.pgq_db.proofs.NodeSteps.{serves-by, serves-steps, join-exists, join-full, join-spent, join-does, joined-as}
+use Rattle.pgq_db.proofs.NodeSteps.{joined-back, back-as, serves-by, serves-steps, join-exists, join-full, join-spent, join-does, joined-as}
 use Rattle.pgq_db.proofs.db.Db.join.Goals as goal
 
 pub returns-then-has_consumer-clause-fault : goal.returns-then-has_consumer-clause-fault
@@ -54,8 +56,8 @@ returns-clause-serves c =
     (known-as _ _ c.in-Some.queue _ c.args.consumer.now _ _ c.self.view_is c.queue.ensures c.has_consumer.ensures c.if-has_consumer.false) c.consumer_count.result
     (c.consumer_count.ensures ∙ ap (λ (q : Queue). length q.members) c.queue-2.ensures ∙ ap (λ (v : DbView). length (queue_at v.queues c.in-Some.queue).members) c.self.view_is) few
     c.last_sub.result (c.last_sub.ensures ∙ ap (λ (v : DbView). v.queues.last_sub_id) c.self.view_is) left)
-    (joined-as _ _ c.register.new.self c.add_consumer.new.node c.in-Some.queue c.id-newest.result _ c.args.consumer.now c.self.view_is c.in_ok-register.ensures.mark
-    (c.in_ok-add_consumer.ensures ∙ ap (λ n. after_node (joined n) c.self.inside.node) c.in_ok-name.ensures) (newest-as _ _ c.in-Some.queue _ _ _ _ c.self.view_is c.queue-3.ensures c.ticks.ensures c.newest.ensures.newest c.id-newest.ensures))
+    (joined-as _ _ c.register.new.self c.add_consumer.new.node c.in-Some.queue c.id-newest.result _ c.args.consumer.now c.self.view_is c.in_default-register.ensures.mark
+    (c.in_ok-add_consumer.ensures.ok ∙ ap (λ n. after_node (joined n) c.self.inside.node) c.in_ok-name.ensures) (newest-as _ _ c.in-Some.queue _ _ _ _ c.self.view_is c.queue-3.ensures c.ticks.ensures c.newest.ensures.newest c.id-newest.ensures))
 
 pub returns-clause-steps : goal.returns-clause-steps
 returns-clause-steps c =
@@ -68,5 +70,14 @@ returns-clause-steps c =
     (known-as _ _ c.in-Some.queue _ c.args.consumer.now _ _ c.self.view_is c.queue.ensures c.has_consumer.ensures c.if-has_consumer.false) c.consumer_count.result
     (c.consumer_count.ensures ∙ ap (λ (q : Queue). length q.members) c.queue-2.ensures ∙ ap (λ (v : DbView). length (queue_at v.queues c.in-Some.queue).members) c.self.view_is) few
     c.last_sub.result (c.last_sub.ensures ∙ ap (λ (v : DbView). v.queues.last_sub_id) c.self.view_is) left)
-    (joined-as _ _ c.register.new.self c.add_consumer.new.node c.in-Some.queue c.id-newest.result _ c.args.consumer.now c.self.view_is c.in_ok-register.ensures.mark
-    (c.in_ok-add_consumer.ensures ∙ ap (λ n. after_node (joined n) c.self.inside.node) c.in_ok-name.ensures) (newest-as _ _ c.in-Some.queue _ _ _ _ c.self.view_is c.queue-3.ensures c.ticks.ensures c.newest.ensures.newest c.id-newest.ensures)))
+    (joined-as _ _ c.register.new.self c.add_consumer.new.node c.in-Some.queue c.id-newest.result _ c.args.consumer.now c.self.view_is c.in_default-register.ensures.mark
+    (c.in_ok-add_consumer.ensures.ok ∙ ap (λ n. after_node (joined n) c.self.inside.node) c.in_ok-name.ensures) (newest-as _ _ c.in-Some.queue _ _ _ _ c.self.view_is c.queue-3.ensures c.ticks.ensures c.newest.ensures.newest c.id-newest.ensures)))
+
+pub returns-in-Err-clause-fault : goal.returns-in-Err-clause-fault
+returns-in-Err-clause-fault c =
+    let name = c.args.consumer.now in
+    let v = c.self.inside in
+    subst (λ fault. JoinRefused fault (seen_database c.args.self.now) (seen_database (record { rows = v.rows; queues = c.register.new.self; node = c.remove_consumer.new.node })) name) (sym c.from.ensures)
+    (λ new. back-as _ _ c.register.new.self c.remove_consumer.new.node c.self.view_is c.in-Err.ensures.err
+    (c.remove_consumer.ensures ∙ ap (after_node (parted name)) (c.in_ok-add_consumer.ensures.ok ∙ ap (λ n. after_node (joined n) v.node) c.in_ok-name.ensures)
+    ∙ joined-back v.node name (subst (λ (w : DbView). is_among name (set_consumers w.node) ≡ false) (sym c.self.view_is) new)))

@@ -1,41 +1,37 @@
-use Rattle.std.proofs.Common.{◌<◌, ◌≤◌, Some, length, refl, sym, ap, ◌∙◌, arith}
-use Rattle.sky_model.specs.History.{queued, traced, listed}
+use Rattle.std.proofs.Common.{◌≡◌, ◌<◌, ◌≤◌, Some, true, length, refl, sym, ap, ◌∙◌, subst, arith}
+use Rattle.sky_model.specs.History.{queued, traced, listed, unlisted}
 use Rattle.sky_model.specs.Nodes.{after_node}
 use Rattle.sky_model.specs.ShownRows.{least_writer}
 use Rattle.sky_model.specs.State.{after_mark}
-use Rattle.sky_model.specs.StepNode.{listing}
+use Rattle.sky_model.specs.StepNode.{listing, may_serve}
 use Rattle.sky_model.specs.Triggers.{TableTrigger, triggers_of}
 use Rattle.sky_state.specs.Seen.{seen}
 use Rattle.pgq_queues.specs.Seen.{seen_with}
 use Rattle.pgq_db.specs.Views.{DbView}
 use Rattle.pgq_db.specs.Seen.{seen_database}
+use Rattle.pgq_db.specs.Served.{RootRefused}
 use Rattle.pgq_db.proofs.Databases.{table-there}
 use Rattle.pgq_db.proofs.Tables.{is-table}
 use Rattle.pgq_db.proofs.Agreeing.{agree-traced}
-use Rattle.pgq_db.proofs.NodeSteps.{serves-by, serves-steps, steps-unless, listing-nowhere, listing-nothing, list-full, list-busy, list-does, listed-as}
+use Rattle.pgq_db.proofs.NodeSteps.{listed-back, back-as, serves-by, serves-steps, steps-unless, listing-nowhere, table-not, list-full, list-busy, list-does, listed-as}
 use Rattle.pgq_db.proofs.db.Db.root_add.Goals as goal
 
 pub returns-in_default-clause-serves : goal.returns-in_default-clause-serves
-returns-in_default-clause-serves c = listing-nowhere (seen_database c.args.self.now) c.args.table.now c.requires (sym c.in_default.ensures.queue)
+returns-in_default-clause-serves c = listing-nowhere (seen_database c.args.self.now) c.args.table.now c.requires.may (sym c.in_default.ensures.queue)
 
 pub returns-in_default-clause-steps : goal.returns-in_default-clause-steps
 returns-in_default-clause-steps c =
-    serves-steps (seen_database c.args.self.now) _ (listing c.args.table.now) (listing-nowhere (seen_database c.args.self.now) c.args.table.now c.requires (sym c.in_default.ensures.queue))
+    serves-steps (seen_database c.args.self.now) _ (listing c.args.table.now) (listing-nowhere (seen_database c.args.self.now) c.args.table.now c.requires.may (sym c.in_default.ensures.queue))
 
-pub returns-in_default-table-clause-serves : goal.returns-in_default-table-clause-serves
-returns-in_default-table-clause-serves c = listing-nothing _ _ c.args.table.now c.self.view_is c.in_default-table.ensures c.in-Some.queue c.requires (sym c.in-Some.ensures.queue)
-
-pub returns-in_default-table-clause-steps : goal.returns-in_default-table-clause-steps
-returns-in_default-table-clause-steps c =
-    serves-steps (seen_database c.args.self.now) _ (listing c.args.table.now)
-    (listing-nothing _ _ c.args.table.now c.self.view_is c.in_default-table.ensures c.in-Some.queue c.requires (sym c.in-Some.ensures.queue))
+pub unreachable-requires : goal.unreachable-requires
+unreachable-requires c = table-not _ _ c.args.table.now c.self.view_is c.in_default-table.ensures c.requires.there
 
 pub returns-then-trigger_count-most-clause-fault : goal.returns-then-trigger_count-most-clause-fault
 returns-then-trigger_count-most-clause-fault c =
     let number = c.in-Some-table.number in
     let many : 8 ≤ c.trigger_count.result = omega (arith, c.most.ensures, c.if-trigger_count-most.true) in
     record {
-      refused = list-full (seen_database c.args.self.now) c.in-Some.queue c.args.table.now number c.requires (sym c.in-Some.ensures.queue) (table-there _ _ c.args.table.now number c.self.view_is c.in-Some-table.ensures.0) c.trigger_count.result
+      refused = list-full (seen_database c.args.self.now) c.in-Some.queue c.args.table.now number c.requires.may (sym c.in-Some.ensures.queue) (table-there _ _ c.args.table.now number c.self.view_is c.in-Some-table.ensures.0) c.trigger_count.result
           (c.trigger_count.ensures ∙ ap (λ (v : DbView). length (triggers_of number v.queues.triggers)) c.self.view_is) many;
       same = refl;
     }
@@ -49,7 +45,7 @@ returns-in-Some-least_writer-clause-serves c =
     let count = c.trigger_count.ensures ∙ ap (λ (v : DbView). length (triggers_of number v.queues.triggers)) c.self.view_is in
     let few : c.trigger_count.result < 8 = omega (arith, c.most.ensures, c.if-trigger_count-most.false) in
     record {
-      refused = list-busy d c.in-Some.queue name number c.requires (sym c.in-Some.ensures.queue) there c.trigger_count.result c.in-Some-least_writer.txid count few
+      refused = list-busy d c.in-Some.queue name number c.requires.may (sym c.in-Some.ensures.queue) there c.trigger_count.result c.in-Some-least_writer.txid count few
           (c.in-Some-least_writer.ensures ∙ ap (λ (v : DbView). least_writer (seen v.rows) number) c.self.view_is);
       same = refl;
     }
@@ -63,28 +59,22 @@ returns-in-Some-least_writer-clause-steps c =
     let count = c.trigger_count.ensures ∙ ap (λ (v : DbView). length (triggers_of number v.queues.triggers)) c.self.view_is in
     let few : c.trigger_count.result < 8 = omega (arith, c.most.ensures, c.if-trigger_count-most.false) in
     steps-unless d d (listing name) (Some c.in-Some-least_writer.txid) (record {
-      refused = list-busy d c.in-Some.queue name number c.requires (sym c.in-Some.ensures.queue) there c.trigger_count.result c.in-Some-least_writer.txid count few
+      refused = list-busy d c.in-Some.queue name number c.requires.may (sym c.in-Some.ensures.queue) there c.trigger_count.result c.in-Some-least_writer.txid count few
           (c.in-Some-least_writer.ensures ∙ ap (λ (v : DbView). least_writer (seen v.rows) number) c.self.view_is);
       same = refl;
     })
 
-pub invariant_of-self : goal.invariant_of-self
-invariant_of-self c = λ e.
-    let at = c.in-Some-table.ensures.0 ∙ ap Some (sym (ap TableTrigger.table c.set_trigger.ensures)) in
+pub invariant_of-self-in-Err : goal.invariant_of-self-in-Err
+invariant_of-self-in-Err c = λ e.
+    let at = c.in-Some-table.ensures.0 ∙ ap Some (sym (ap TableTrigger.table c.set_trigger-trigger.ensures)) in
     agree-traced (seen c.self.inside.rows) c.self.inside.queues c.trace.new.self c.trace.ensures.rounds
-    (c.trace.ensures.tables (seen c.self.inside.rows) (is-table (seen c.self.inside.rows) c.args.table.now c.set_trigger.result.table _ _ at c.in-Some-table.ensures.0 c.in-Some-table.ensures.1) (c.self.invariant e).tables) (c.self.invariant e)
+    (c.trace.ensures.tables (seen c.self.inside.rows) (is-table (seen c.self.inside.rows) c.args.table.now c.set_trigger-trigger.result.table _ _ at c.in-Some-table.ensures.0 c.in-Some-table.ensures.1) (c.self.invariant e).tables) (c.self.invariant e)
 
-pub invariant_of-self-in_err-add_root_table : goal.invariant_of-self-in_err-add_root_table
-invariant_of-self-in_err-add_root_table c = λ e.
-    let at = c.in-Some-table.ensures.0 ∙ ap Some (sym (ap TableTrigger.table c.set_trigger.ensures)) in
+pub invariant_of-self-in_default-trace : goal.invariant_of-self-in_default-trace
+invariant_of-self-in_default-trace c = λ e.
+    let at = c.in-Some-table.ensures.0 ∙ ap Some (sym (ap TableTrigger.table c.set_trigger-trigger.ensures)) in
     agree-traced (seen c.self.inside.rows) c.self.inside.queues c.trace.new.self c.trace.ensures.rounds
-    (c.trace.ensures.tables (seen c.self.inside.rows) (is-table (seen c.self.inside.rows) c.args.table.now c.set_trigger.result.table _ _ at c.in-Some-table.ensures.0 c.in-Some-table.ensures.1) (c.self.invariant e).tables) (c.self.invariant e)
-
-pub invariant_of-self-2 : goal.invariant_of-self-2
-invariant_of-self-2 c = λ e.
-    let at = c.in-Some-table.ensures.0 ∙ ap Some (sym (ap TableTrigger.table c.set_trigger.ensures)) in
-    agree-traced (seen c.self.inside.rows) c.self.inside.queues c.trace.new.self c.trace.ensures.rounds
-    (c.trace.ensures.tables (seen c.self.inside.rows) (is-table (seen c.self.inside.rows) c.args.table.now c.set_trigger.result.table _ _ at c.in-Some-table.ensures.0 c.in-Some-table.ensures.1) (c.self.invariant e).tables) (c.self.invariant e)
+    (c.trace.ensures.tables (seen c.self.inside.rows) (is-table (seen c.self.inside.rows) c.args.table.now c.set_trigger-trigger.result.table _ _ at c.in-Some-table.ensures.0 c.in-Some-table.ensures.1) (c.self.invariant e).tables) (c.self.invariant e)
 
 pub returns-clause-serves : goal.returns-clause-serves
 returns-clause-serves c =
@@ -95,11 +85,11 @@ returns-clause-serves c =
     let count = c.trigger_count.ensures ∙ ap (λ (v : DbView). length (triggers_of number v.queues.triggers)) c.self.view_is in
     let few : c.trigger_count.result < 8 = omega (arith, c.most.ensures, c.if-trigger_count-most.false) in
     serves-by d _ (listing name) _
-    (list-does d c.in-Some.queue name number c.requires (sym c.in-Some.ensures.queue) there c.trigger_count.result count few
+    (list-does d c.in-Some.queue name number c.requires.may (sym c.in-Some.ensures.queue) there c.trigger_count.result count few
     (c.in_default-least_writer.ensures ∙ ap (λ (v : DbView). least_writer (seen v.rows) number) c.self.view_is))
     (listed-as _ _ c.trace.new.self c.add_root_table.new.node c.in-Some.queue number name c.self.view_is
-    (λ beside. c.in_ok-trace.ensures.ok beside ∙ ap (λ (t : TableTrigger). after_mark (seen_with beside c.self.inside.queues) (queued (traced t.table t.name t.trigger))) c.set_trigger.ensures)
-    (c.in_ok-add_root_table.ensures ∙ ap (λ n. after_node (listed n) c.self.inside.node) c.in_ok-name.ensures))
+    (λ beside. c.in_default-trace.ensures.ok beside ∙ ap (λ (t : TableTrigger). after_mark (seen_with beside c.self.inside.queues) (queued (traced t.table t.name t.trigger))) c.set_trigger-trigger.ensures)
+    (c.in_ok-add_root_table.ensures.ok ∙ ap (λ n. after_node (listed n) c.self.inside.node) c.in_ok-name.ensures))
 
 pub returns-clause-steps : goal.returns-clause-steps
 returns-clause-steps c =
@@ -111,8 +101,17 @@ returns-clause-steps c =
     let few : c.trigger_count.result < 8 = omega (arith, c.most.ensures, c.if-trigger_count-most.false) in
     serves-steps d _ (listing name)
     (serves-by d _ (listing name) _
-    (list-does d c.in-Some.queue name number c.requires (sym c.in-Some.ensures.queue) there c.trigger_count.result count few
+    (list-does d c.in-Some.queue name number c.requires.may (sym c.in-Some.ensures.queue) there c.trigger_count.result count few
     (c.in_default-least_writer.ensures ∙ ap (λ (v : DbView). least_writer (seen v.rows) number) c.self.view_is))
     (listed-as _ _ c.trace.new.self c.add_root_table.new.node c.in-Some.queue number name c.self.view_is
-    (λ beside. c.in_ok-trace.ensures.ok beside ∙ ap (λ (t : TableTrigger). after_mark (seen_with beside c.self.inside.queues) (queued (traced t.table t.name t.trigger))) c.set_trigger.ensures)
-    (c.in_ok-add_root_table.ensures ∙ ap (λ n. after_node (listed n) c.self.inside.node) c.in_ok-name.ensures)))
+    (λ beside. c.in_default-trace.ensures.ok beside ∙ ap (λ (t : TableTrigger). after_mark (seen_with beside c.self.inside.queues) (queued (traced t.table t.name t.trigger))) c.set_trigger-trigger.ensures)
+    (c.in_ok-add_root_table.ensures.ok ∙ ap (λ n. after_node (listed n) c.self.inside.node) c.in_ok-name.ensures)))
+
+pub returns-in-Err-clause-fault : goal.returns-in-Err-clause-fault
+returns-in-Err-clause-fault c =
+    let name = c.args.table.now in
+    let v = c.self.inside in
+    subst (λ fault. RootRefused fault (seen_database c.args.self.now) (seen_database (record { rows = v.rows; queues = c.trace.new.self; node = c.remove_root_table.new.node })) name) (sym c.from.ensures)
+    (back-as _ _ c.trace.new.self c.remove_root_table.new.node c.self.view_is c.in-Err.ensures.err
+    (c.remove_root_table.ensures ∙ ap (after_node (unlisted name)) (c.in_ok-add_root_table.ensures.ok ∙ ap (λ n. after_node (listed n) v.node) c.in_ok-name.ensures)
+    ∙ listed-back v.node name (subst (λ (w : DbView). may_serve (listing name) w.node ≡ true) (sym c.self.view_is) c.requires.may)))

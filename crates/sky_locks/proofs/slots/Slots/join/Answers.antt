@@ -42,18 +42,20 @@ returns-in_ok-push-in-Some-clause-holders c =
 
 pub returns-in_ok-insert-in-None-clause-ok : goal.returns-in_ok-insert-in-None-clause-ok
 returns-in_ok-insert-in-None-clause-ok c =
-    let slot : Slot = record { holder = None; queue = c.push-in-None.new.self } in
-    put-read slot_queue (λ sessions. sessions ++ c.args.who ∷ []) c.args.self.now.slots c.insert.new.self c.args.key.now (Some slot)
+    let slot : Slot = record { holder = None; queue = c.push-in-None.new.self } in λ q.
+    c.tidy.ensures.queues q
+    ∙ put-read slot_queue (λ sessions. sessions ++ c.args.who ∷ []) c.args.self.now.slots c.insert.new.self c.args.key.now (Some slot)
     (λ q. c.in_ok-insert-in-None.ensures.updates.0 q
     ∙ ap (λ k. cond (eq_by_cmp lock_cmp k q) (Some slot) (get lock_cmp c.get_mut.follows.lender-at-none q)) c.in_ok-copy-in-None.ensures
     ∙ ap (λ (m : Slots). cond (eq_by_cmp lock_cmp c.args.key.now q) (Some slot) (get lock_cmp m q)) c.get_mut.follows.holds-at-none)
-    (c.in_ok-push-in-None.ensures.items ∙ ap (λ sessions. sessions ++ c.args.who ∷ []) (c.new-queue.ensures.items ∙ ap slot_queue c.in-None.ensures.value))
+    (c.in_ok-push-in-None.ensures.items ∙ ap (λ sessions. sessions ++ c.args.who ∷ []) (c.new-queue.ensures.items ∙ ap slot_queue c.in-None.ensures.value)) q
 
 pub returns-in_ok-insert-in-None-clause-holders : goal.returns-in_ok-insert-in-None-clause-holders
 returns-in_ok-insert-in-None-clause-holders c =
-    let slot : Slot = record { holder = None; queue = c.push-in-None.new.self } in
-    put-kept slot_holder c.args.self.now.slots c.insert.new.self c.args.key.now (Some slot)
+    let slot : Slot = record { holder = None; queue = c.push-in-None.new.self } in λ q.
+    c.tidy.ensures.holders q
+    ∙ put-kept slot_holder c.args.self.now.slots c.insert.new.self c.args.key.now (Some slot)
     (λ q. c.in_ok-insert-in-None.ensures.updates.0 q
     ∙ ap (λ k. cond (eq_by_cmp lock_cmp k q) (Some slot) (get lock_cmp c.get_mut.follows.lender-at-none q)) c.in_ok-copy-in-None.ensures
     ∙ ap (λ (m : Slots). cond (eq_by_cmp lock_cmp c.args.key.now q) (Some slot) (get lock_cmp m q)) c.get_mut.follows.holds-at-none)
-    (ap slot_holder c.in-None.ensures.value)
+    (ap slot_holder c.in-None.ensures.value) q

@@ -1,14 +1,17 @@
-use Rattle.std.proofs.Common.{Ok, Err}
-use Rattle.sky_run.proofs.ParsedLemmas.{Tells-parsed}
+use Rattle.std.proofs.Common.{Ok, Err, refl}
+use Rattle.sky_run.proofs.ParsedLemmas.{Tells-parsed, said_in-not_utf8}
 use Rattle.sky_run.proofs.run.Run.answer.Goals as goal
+
+pub returns-in_default-clause-bad : goal.returns-in_default-clause-bad
+returns-in_default-clause-bad c = (refl, said_in-not_utf8 c.args.self.now.reader.line c.in_default.ensures)
 
 pub returns-in-Ok-clause-answers : goal.returns-in-Ok-clause-answers
 returns-in-Ok-clause-answers c =
-    let says = Tells-parsed c.args.self.now.number c.line.result.now (Ok c.in-Ok.said) c.in-Ok.ensures.not_utf8 c.in-Ok.ensures.answer in
-    let line_says = rw c.line.ensures at says in
+    let says = Tells-parsed c.args.self.now.number c.in-Some.line.now (Ok c.in-Ok.said) c.in-Ok.ensures.utf8 c.in-Ok.ensures.answer in
+    let line_says = rw c.in-Some.ensures at says in
     rw line_says c.count.ensures.answers
 
 pub returns-in-Err-clause-bad : goal.returns-in-Err-clause-bad
 returns-in-Err-clause-bad c =
-    let says = Tells-parsed c.args.self.now.number c.line.result.now (Err c.in-Err.cause) c.in-Err.ensures.not_utf8 c.in-Err.ensures.answer in
-    rw c.end_by.ensures (rw c.line.ensures at says)
+    let says = Tells-parsed c.args.self.now.number c.in-Some.line.now (Err c.in-Err.cause) c.in-Err.ensures.utf8 c.in-Err.ensures.answer in
+    rw c.end_by.ensures (rw c.in-Some.ensures at says)

@@ -10,6 +10,8 @@ invariant-lines g l = record {
   counts : Counts l.self;
   src_kept : g.S.Source.faults l.initial.src ≤ g.S.Source.faults l.src;
   out_kept : g.O.Sink.faults l.initial.out ≤ g.O.Sink.faults l.out;
+  src_stays : g.S.Source.reliable l.initial.src → g.S.Source.reliable l.src;
+  out_stays : g.O.Sink.reliable l.initial.out → g.O.Sink.reliable l.out;
 }
 
 abbrev pub decreases-lines : goal.decreases-lines

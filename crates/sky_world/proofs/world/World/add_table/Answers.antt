@@ -7,7 +7,7 @@ use Rattle.sky_model.specs.NodesOfWorld.{WorldOutcome, done_in, columns_called, 
 use Rattle.sky_model.proofs.NodeDeeds.{may-list, may-add}
 use Rattle.sky_world.specs.Seen.{seen_world}
 use Rattle.sky_world.specs.Nodes.{Ran, provided_as}
-use Rattle.sky_world.proofs.ServedNodes.{add-to_leaf, stops-then}
+use Rattle.sky_world.proofs.ServedNodes.{table-found, add-to_leaf, stops-then}
 use Rattle.sky_world.proofs.world.World.add_table.Goals as goal
 
 pub returns-in_err-check_provided-in-Leaf : goal.returns-in_err-check_provided-in-Leaf
@@ -38,3 +38,9 @@ add_to_root-requires-clause-may c =
 pub add_to_leaf-requires-clause-may : goal.add_to_leaf-requires-clause-may
 add_to_leaf-requires-clause-may c =
     may-add _ c.in-Leaf.leaf c.args.table.now (c.in-Some.ensures.there ∙ ap Some c.in-Leaf.is) (ap (λ n. is_among c.args.table.now (tables_of n)) (sym c.in-Leaf.is) ∙ sym c.if-has_table.ensures)
+
+pub add_to_root-requires-clause-there : goal.add_to_root-requires-clause-there
+add_to_root-requires-clause-there c = table-found ((seen_world c.args.self.now).database c.in-Some.database) c.args.table.now _ (c.in-Some-schema.ensures ∙ ap (columns_called c.args.table.now) c.store.ensures)
+
+pub add_to_leaf-requires-clause-there : goal.add_to_leaf-requires-clause-there
+add_to_leaf-requires-clause-there c = table-found ((seen_world c.args.self.now).database c.in-Some.database) c.args.table.now _ (c.in-Some-schema.ensures ∙ ap (columns_called c.args.table.now) c.store.ensures)

@@ -18,6 +18,7 @@ invariant_of-self-2 c =
       c.self.invariant.2,
       (λ whole. waiters-more _ _ c.self.inside.databases.values (omega (arith, ap (λ (n : NamedView (Option ℕ)). length n.names) longer, length-append c.self.inside.sessions.names (c.in_ok-copied.copied ∷ []))) (c.self.invariant.3 whole)),
       c.self.invariant.4,
+      c.self.invariant.5,
     )
 
 pub returns-clause-fact : goal.returns-clause-fact

@@ -1,4 +1,5 @@
 use Rattle.sky_world.proofs.Worlds.{waiters-same}
+use Rattle.sky_world.proofs.Resting.{ready-served, rest-same}
 use Rattle.sky_world.proofs.ServedNodes.{waits-served, joined-there}
 use Rattle.sky_world.proofs.world.World.join.Goals as goal
 
@@ -8,4 +9,11 @@ returns-in-Ok c =
     c.in-Ok.ensures.tick c.in-Ok.ensures.serves
 
 pub invariant_of-self : goal.invariant_of-self
-invariant_of-self c = (c.self.invariant.0, c.self.invariant.1, c.self.invariant.2, (λ whole. waiters-same _ c.args.database _ c.get_mut-store.result.now c.join.new.self c.get_mut-store.ensures.within c.get_mut-store.ensures.value (waits-served _ _ _ c.in-Ok.ensures.serves) (c.self.invariant.3 whole)), c.self.invariant.4)
+invariant_of-self c = (
+  c.self.invariant.0,
+  c.self.invariant.1,
+  c.self.invariant.2,
+  (λ whole. waiters-same _ c.args.database _ c.get_mut-store.result.now c.join.new.self c.get_mut-store.ensures.within c.get_mut-store.ensures.value (waits-served _ _ _ c.in-Ok.ensures.serves) (c.self.invariant.3 whole)),
+  c.self.invariant.4,
+  (λ whole. rest-same c.args.database _ c.get_mut-store.result.now c.join.new.self c.get_mut-store.ensures.within c.get_mut-store.ensures.value (ready-served _ _ _ c.in-Ok.ensures.serves) (c.self.invariant.5 whole)),
+)

@@ -6,11 +6,14 @@ use Rattle.sky_model.specs.InForm.{IsLineInForm}
 use Rattle.sky_model.proofs.InFormLaw.{lines_are_in_form}
 use Rattle.sky_script.specs.declared.cause.LineCause.{LineCause}
 use Rattle.sky_script.specs.Reading.{IsAnswer}
-use Rattle.sky_script.proofs.parse.parse_line.Goals as goal
+use Rattle.sky_script.proofs.parse.parse_text.Goals as goal
 
 answered : (line : List ℕ) (r : Result Line LineCause) → IsAnswer r (line_of line) → IfOk r (λ says. IsLineInForm says)
 answered line (Ok says) so = lines_are_in_form line says so
 answered line (Err cause) so = tt
 
-pub returns-in-Ok-clause-in_form : goal.returns-in-Ok-clause-in_form
-returns-in-Ok-clause-in_form c = answered c.in-Ok.line.now c.read_line.result c.read_line.ensures
+pub returns-clause-in_form : goal.returns-clause-in_form
+returns-clause-in_form c = answered c.args.line.now c.read_line.result c.read_line.ensures
+
+pub returns-clause-utf8 : goal.returns-clause-utf8
+returns-clause-utf8 c = c.utf8.line
