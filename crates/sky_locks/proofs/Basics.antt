@@ -1,6 +1,6 @@
 -- Small facts on lists and results.
 use Rattle.std.proofs.Common.{◌≡◌, ℕ, zero, suc, nat_eq, not, Some, subst, Bool, true, false, cond, List, [], ◌∷◌, ◌++◌, length, slice_set, Result, Ok, Err, refl, sym, ◌∙◌, ap, arith}
-use Rattle.std.specs.Prelude.{◌==◌, OnErr, filter, slice_get}
+use Rattle.std.specs.Prelude.{◌==◌, OnOk, OnErr, filter, slice_get}
 use Rattle.std.specs.List.{IsDistinct, AllByRecursion, list_any, remove}
 use Rattle.std.proofs.lemmas.Bool.{eqb-true, eq-eqb, or_parts}
 use Rattle.std.proofs.lemmas.Map.Keys.{IsDistinct-head, IsDistinct-tail}
@@ -13,6 +13,16 @@ no_keys (k ∷ ks) e = absurd (omega arith)
 pub on_err_always : {X E P : Type 0} (r : Result X E) → P → OnErr r P
 on_err_always (Ok x) p = tt
 on_err_always (Err e) p = p
+
+-- what follows from what holds if a call succeeded
+pub on_ok_then : {X E P Q : Type 0} (r : Result X E) → (P → Q) → OnOk r P → OnOk r Q
+on_ok_then (Ok x) f p = f p
+on_ok_then (Err e) f p = tt
+
+-- what follows whether it succeeded or not
+pub either_way : {X E P Q R : Type 0} (r : Result X E) → (P → R) → (Q → R) → OnOk r P → OnErr r Q → R
+either_way (Ok x) f g p q = f p
+either_way (Err e) f g p q = g q
 
 -- what was put at a key and is replaced there leaves no trace
 pub put_away : {X : Type 0} (here : Bool) (last first rest : X) → cond here last (cond here first rest) ≡ cond here last rest

@@ -2,6 +2,7 @@ pub mod Orders
 pub mod Basics
 pub mod SessionVectors
 pub mod HolderLemmas
+pub mod PlaceLemmas
 pub mod EntryLemmas
 pub mod SlotLemmas
 pub mod QueueLemmas

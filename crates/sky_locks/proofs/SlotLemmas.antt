@@ -1,68 +1,83 @@
 -- One map of holders and queues, after what is at one key changed.
-use Rattle.std.proofs.Common.{◌≡◌, ◌≢◌, ℕ, Bool, true, false, cond, not, List, [], ◌∷◌, length, Option, Some, None, is_some, vec_len, refl, sym, ◌∙◌, ap, arith}
-use Rattle.std.specs.Prelude.{◌||◌, ◌==◌, filter, slice_get}
-use Rattle.std.specs.List.{IsDistinct}
-use Rattle.std.specs.Cmp.{eq_by_cmp_equiv}
+use Rattle.std.proofs.Common.{◌≡◌, ◌≢◌, ℕ, Bool, true, false, cond, not, List, [], ◌∷◌, ◌++◌, length, Option, Some, None, is_some, vec_len, get_or, refl, sym, ◌∙◌, ap, arith}
+use Rattle.std.specs.Prelude.{◌||◌, ◌==◌, slice_get, option_and_then}
 use Rattle.std.proofs.lemmas.Bool.{eqb-true, ne_eqb, or_parts}
-use Rattle.std.proofs.lemmas.Map.Entries.{lookup-filter-values, option_filter}
+use Rattle.std.proofs.lemmas.Map.Entries.{option_filter}
 use Rattle.std.specs.Ordering.{eq_by_cmp}
 use Rattle.std.specs.Map.{lookup, keys_of}
-use Rattle.std.specs.BTreeMap.{get, keys, is_at}
+use Rattle.std.specs.BTreeMap.{is_at}
 use Rattle.sky_locks.specs.declared.lock_key.LockKey.{LockKey}
 use Rattle.sky_locks.specs.declared.slots.Slot.{Slot}
 use Rattle.sky_locks.specs.Order.{lock_cmp}
 use Rattle.sky_locks.specs.Holders.{holder_of}
-use Rattle.sky_locks.specs.Slots.{Slots, slot_holder, holder_at, held_also, held_among, held_in, SameHolders, SameHeld}
+use Rattle.sky_locks.specs.Slots.{SlotsView, slot_at, slot_holder, holder_at, held_also, held_among, held_in, SameHolders, SameHeld, Joins}
 use Rattle.sky_locks.specs.Waiters.{is_among}
+use Rattle.slab.specs.Slab.{get as slab_get}
+use Rattle.sky_locks.proofs.PlaceLemmas.{Puts, AreLeft, left-at}
 use Rattle.sky_locks.proofs.Basics.{no_keys}
-use Rattle.sky_locks.proofs.Orders.{lock_cmp-IsTotalOrder, lock_ties-is}
+use Rattle.sky_locks.proofs.Orders.{lock_ties-is, lock_ties-itself}
 
--- what is at one key is another now
-abbrev pub Puts : Slots → LockKey → Option Slot → Slots → Type 0
-Puts old key now new = (q : LockKey) → get lock_cmp new q ≡ cond (eq_by_cmp lock_cmp key q) now (get lock_cmp old q)
+pub puts-at : (old new : SlotsView) (key : LockKey) (now : Option Slot) → Puts old key now new → slot_at new key ≡ now
+puts-at old new key now puts = puts key ∙ ap (λ b. cond b now (slot_at old key)) (lock_ties-itself key)
 
 module _ {X : Type 0} (read : Option Slot → X) where
-  pub put-read : (f : X → X) (old new : Slots) (key : LockKey) (now : Option Slot) → Puts old key now new → read now ≡ f (read (get lock_cmp old key))
-      → (q : LockKey) → read (get lock_cmp new q) ≡ cond (eq_by_cmp lock_cmp key q) (f (read (get lock_cmp old q))) (read (get lock_cmp old q))
+  pub put-read : (f : X → X) (old new : SlotsView) (key : LockKey) (now : Option Slot) → Puts old key now new → read now ≡ f (read (slot_at old key))
+      → (q : LockKey) → read (slot_at new q) ≡ cond (eq_by_cmp lock_cmp key q) (f (read (slot_at old q))) (read (slot_at old q))
   put-read f old new key now puts is q =
       ap read (puts q)
-      ∙ elim (eq_by_cmp lock_cmp key q) as (λ t. eq_by_cmp lock_cmp key q ≡ t → read (cond t now (get lock_cmp old q)) ≡ cond t (f (read (get lock_cmp old q))) (read (get lock_cmp old q))) [
-        | true ↦ λ tie. is ∙ ap (λ k. f (read (get lock_cmp old k))) (lock_ties-is key q tie)
+      ∙ elim (eq_by_cmp lock_cmp key q) as (λ t. eq_by_cmp lock_cmp key q ≡ t → read (cond t now (slot_at old q)) ≡ cond t (f (read (slot_at old q))) (read (slot_at old q))) [
+        | true ↦ λ tie. is ∙ ap (λ k. f (read (slot_at old k))) (lock_ties-is key q tie)
         | false ↦ λ _. refl
       ] refl
 
-  pub put-kept : (old new : Slots) (key : LockKey) (now : Option Slot) → Puts old key now new → read now ≡ read (get lock_cmp old key)
-      → (q : LockKey) → read (get lock_cmp new q) ≡ read (get lock_cmp old q)
-  put-kept old new key now puts is q = put-read (λ x. x) old new key now puts is q ∙ same (eq_by_cmp lock_cmp key q) (read (get lock_cmp old q))
+  pub put-kept : (old new : SlotsView) (key : LockKey) (now : Option Slot) → Puts old key now new → read now ≡ read (slot_at old key)
+      → (q : LockKey) → read (slot_at new q) ≡ read (slot_at old q)
+  put-kept old new key now puts is q = put-read (λ x. x) old new key now puts is q ∙ same (eq_by_cmp lock_cmp key q) (read (slot_at old q))
     where
       same : (b : Bool) (x : X) → cond b x x ≡ x
       same true x = refl
       same false x = refl
 
   -- nothing is at the key, and nothing changes
-  pub put-absent : (f : X → X) (old new : Slots) (key : LockKey) → new ≡ old → None ≡ get lock_cmp old key → read None ≡ f (read None)
-      → (q : LockKey) → read (get lock_cmp new q) ≡ cond (eq_by_cmp lock_cmp key q) (f (read (get lock_cmp old q))) (read (get lock_cmp old q))
+  pub put-absent : (f : X → X) (old new : SlotsView) (key : LockKey) → new ≡ old → None ≡ slot_at old key → read None ≡ f (read None)
+      → (q : LockKey) → read (slot_at new q) ≡ cond (eq_by_cmp lock_cmp key q) (f (read (slot_at old q))) (read (slot_at old q))
   put-absent f old new key same none is q =
-      ap (λ (m : Slots). read (get lock_cmp m q)) same
-      ∙ elim (eq_by_cmp lock_cmp key q) as (λ t. eq_by_cmp lock_cmp key q ≡ t → read (get lock_cmp old q) ≡ cond t (f (read (get lock_cmp old q))) (read (get lock_cmp old q))) [
+      ap (λ (m : SlotsView). read (slot_at m q)) same
+      ∙ elim (eq_by_cmp lock_cmp key q) as (λ t. eq_by_cmp lock_cmp key q ≡ t → read (slot_at old q) ≡ cond t (f (read (slot_at old q))) (read (slot_at old q))) [
         | true ↦ λ tie.
-            let absent : get lock_cmp old q ≡ None = sym (none ∙ ap (get lock_cmp old) (lock_ties-is key q tie)) in
+            let absent : slot_at old q ≡ None = sym (none ∙ ap (slot_at old) (lock_ties-is key q tie)) in
             ap read absent ∙ is ∙ ap (λ o. f (read o)) (sym absent)
         | false ↦ λ _. refl
       ] refl
 
+-- what a key has now is what it had
+pub same-there : {X : Type 0} (old new : LockKey → X) (key : LockKey) (x : X) → ((q : LockKey) → new q ≡ cond (eq_by_cmp lock_cmp key q) x (old q)) → x ≡ old key → (q : LockKey) → new q ≡ old q
+same-there old new key x has same q = has q ∙ elim (eq_by_cmp lock_cmp key q) as (λ t. eq_by_cmp lock_cmp key q ≡ t → cond t x (old q) ≡ old q) [
+  | true ↦ λ tie. same ∙ ap old (lock_ties-is key q tie)
+  | false ↦ λ _. refl
+] refl
+
+-- a queue with one session is that of a key that nobody waited for, with this session
+pub joins-none : (old new : LockKey → List ℕ) (key : LockKey) (who : ℕ) (queue : List ℕ) → ((q : LockKey) → new q ≡ cond (eq_by_cmp lock_cmp key q) queue (old q)) → queue ≡ who ∷ [] → old key ≡ [] → Joins old who key new
+joins-none old new key who queue has one none q = has q ∙ elim (eq_by_cmp lock_cmp key q) as (λ t. eq_by_cmp lock_cmp key q ≡ t → cond t queue (old q) ≡ cond t (old q ++ who ∷ []) (old q)) [
+  | true ↦ λ tie. one ∙ ap (λ ks. ks ++ who ∷ []) (sym none ∙ ap old (lock_ties-is key q tie))
+  | false ↦ λ _. refl
+] refl
+
 -- ---- the list of keys that are held
 
 -- it is the same if the keys and their holders are
-pub held-same : (old new : Slots) → keys new ≡ keys old → SameHolders old new → held_in new ≡ held_in old
+pub held-same : (old new : SlotsView) → keys_of new.places ≡ keys_of old.places → SameHolders old new → held_in new ≡ held_in old
 held-same old new ks same = λ i. held_among (ks i) (λ q. same q i)
 
 -- nothing changed
-pub held-untouched : (old new : Slots) → new.entries ≡ old.entries → SameHeld old new
-held-untouched old new same = record {
-  held = ap (λ (es : List (LockKey × Slot)). held_among (keys_of es) (λ q. slot_holder (lookup (is_at (lock_cmp q)) es))) same;
-  holders = λ q. ap (λ (es : List (LockKey × Slot)). slot_holder (lookup (is_at (lock_cmp q)) es)) same;
-}
+pub slot-untouched : (old new : SlotsView) → new.places ≡ old.places → new.slots.slots ≡ old.slots.slots → (q : LockKey) → slot_at new q ≡ slot_at old q
+slot-untouched old new places slots q = λ i. option_and_then (λ n. get_or (slots i) n None) (lookup (is_at (lock_cmp q)) (places i))
+
+pub held-untouched : (old new : SlotsView) → new.places ≡ old.places → new.slots.slots ≡ old.slots.slots → SameHeld old new
+held-untouched old new places slots =
+    let same : SameHolders old new = λ q. ap slot_holder (slot-untouched old new places slots q) in
+    record { held = held-same old new (ap keys_of places) same; holders = same }
 
 held-found : (ks : List LockKey) (holder : LockKey → Option ℕ) (key : LockKey) → holder_of (held_among ks holder) key ≡ cond (is_among ks key) (holder key) None
 held-found [] holder key = refl
@@ -83,7 +98,7 @@ held-found (k ∷ ks) holder key = of (holder k) refl (held-found ks holder key)
       | false ↦ λ _. rest
     ] refl
 
-absent_there : (es : List (LockKey × Slot)) (key : LockKey) → is_among (keys_of es) key ≡ false → lookup (is_at (lock_cmp key)) es ≡ None
+absent_there : (es : List (LockKey × ℕ)) (key : LockKey) → is_among (keys_of es) key ≡ false → lookup (is_at (lock_cmp key)) es ≡ None
 absent_there [] key none = refl
 absent_there (e ∷ es) key none = elim (eq_by_cmp lock_cmp key e.0) as (λ t. eq_by_cmp lock_cmp key e.0 ≡ t → (t || is_among (keys_of es) key) ≡ false → cond t (Some e.1) (lookup (is_at (lock_cmp key)) es) ≡ None) [
   | true ↦ λ _ some. absurd (cc some)
@@ -91,11 +106,13 @@ absent_there (e ∷ es) key none = elim (eq_by_cmp lock_cmp key e.0) as (λ t. e
 ] refl none
 
 -- a key's holder, by the list
-pub held-is : (slots : Slots) (key : LockKey) → holder_of (held_in slots) key ≡ holder_at slots key
-held-is slots key = held-found (keys slots) (holder_at slots) key ∙ elim (is_among (keys slots) key) as (λ b. is_among (keys slots) key ≡ b → cond b (holder_at slots key) None ≡ holder_at slots key) [
-  | true ↦ λ _. refl
-  | false ↦ λ none. sym (ap slot_holder (absent_there slots.entries key none))
-] refl
+pub held-is : (slots : SlotsView) (key : LockKey) → holder_of (held_in slots) key ≡ holder_at slots key
+held-is slots key =
+    held-found (keys_of slots.places) (holder_at slots) key
+    ∙ elim (is_among (keys_of slots.places) key) as (λ b. is_among (keys_of slots.places) key ≡ b → cond b (holder_at slots key) None ≡ holder_at slots key) [
+      | true ↦ λ _. refl
+      | false ↦ λ none. sym (ap (λ o. slot_holder (option_and_then (slab_get slots.slots) o)) (absent_there slots.places key none))
+    ] refl
 
 -- ---- whether someone is in a queue
 
@@ -130,12 +147,9 @@ idle_queue s idle = sym (no_keys s.queue.items (omega (arith, s.queue.ok, empty 
     empty : (n : ℕ) → not (n == 0) ≡ false → n ≡ 0
     empty n is = eqb-true n 0 (yes (n == 0) is)
 
-pub without_idle : {X : Type 0} (read : Option Slot → X) (old new : Slots) → new.entries ≡ filter (λ e. is_busy e.1) old.entries → IsDistinct (eq_by_cmp lock_cmp) (keys_of old.entries)
-    → ((s : Slot) → is_busy s ≡ false → read None ≡ read (Some s)) → (q : LockKey) → read (get lock_cmp new q) ≡ read (get lock_cmp old q)
-without_idle read old new left once idle q =
-    ap (λ es. read (lookup (is_at (lock_cmp q)) es)) left
-    ∙ ap read (lookup-filter-values (eq_by_cmp_equiv lock_cmp-IsTotalOrder) is_busy q old.entries once)
-    ∙ of (get lock_cmp old q)
+pub without_idle : {X : Type 0} (read : Option Slot → X) (old new : SlotsView) → AreLeft is_busy old.places old.slots new.places new.slots
+    → ((s : Slot) → is_busy s ≡ false → read None ≡ read (Some s)) → (q : LockKey) → read (slot_at new q) ≡ read (slot_at old q)
+without_idle read old new left idle q = ap read (left-at is_busy old new left q) ∙ of (slot_at old q)
   where
     of : (o : Option Slot) → read (option_filter is_busy o) ≡ read o
     of None = refl

@@ -6,7 +6,7 @@ use Rattle.sky_keys.specs.Waits.{Waiting}
 use Rattle.sky_locks.specs.declared.lock_key.LockKey.{LockKey}
 use Rattle.sky_locks.specs.Order.{lock_cmp}
 use Rattle.sky_locks.specs.Holders.{Held, holder_of, Frees}
-use Rattle.sky_locks.specs.Slots.{Slots, Queues, holder_at, held_in, IsFree, Holds, SameHolders}
+use Rattle.sky_locks.specs.Slots.{SlotsView, Queues, holder_at, held_in, IsFree, Holds, SameHolders}
 use Rattle.sky_locks.specs.Freed.{is_waited}
 use Rattle.sky_locks.specs.Waiters.{key_of, waiting_in, IsKept}
 use Rattle.sky_locks.proofs.EntryLemmas.{Entries}
@@ -26,18 +26,18 @@ waited-is es arrivals queues key kept =
     ∙ is_some-mapped (λ (w : Waiting). w.who) (find (λ w. eq_by_cmp lock_cmp (key_of w) key) (waiting_in es))
 
 -- the holder of a key, by the list of held keys that is seen
-pub seen-holder : (slots : Slots) (held : Held) (q : LockKey) → held_in slots ≡ held → holder_at slots q ≡ holder_of held q
+pub seen-holder : (slots : SlotsView) (held : Held) (q : LockKey) → held_in slots ≡ held → holder_at slots q ≡ holder_of held q
 seen-holder slots held q seen = sym (held-is slots q) ∙ ap (λ (h : Held). holder_of h q) seen
 
-pub held-frees : (old new : Slots) (view : Held) (who : ℕ) (key : LockKey) → held_in old ≡ view → holder_at old key ≡ Some who → IsFree old key new → Frees view who key (held_in new)
+pub held-frees : (old new : SlotsView) (view : Held) (who : ℕ) (key : LockKey) → held_in old ≡ view → holder_at old key ≡ Some who → IsFree old key new → Frees view who key (held_in new)
 held-frees old new view who key seen was free = record {
   was = sym (seen-holder old view key seen) ∙ was;
   free = λ q. held-is new q ∙ free q ∙ ap (cond (eq_by_cmp lock_cmp key q) None) (seen-holder old view q seen);
 }
 
-pub held-holds : (old new : Slots) (view : Held) (who : ℕ) (key : LockKey) → held_in old ≡ view → Holds old who key new
+pub held-holds : (old new : SlotsView) (view : Held) (who : ℕ) (key : LockKey) → held_in old ≡ view → Holds old who key new
     → (q : LockKey) → holder_of (held_in new) q ≡ cond (eq_by_cmp lock_cmp key q) (Some who) (holder_of view q)
 held-holds old new view who key seen holds q = held-is new q ∙ holds q ∙ ap (cond (eq_by_cmp lock_cmp key q) (Some who)) (seen-holder old view q seen)
 
-pub held-again : (old new : Slots) (view : Held) → held_in old ≡ view → SameHolders old new → (q : LockKey) → holder_of (held_in new) q ≡ holder_of view q
+pub held-again : (old new : SlotsView) (view : Held) → held_in old ≡ view → SameHolders old new → (q : LockKey) → holder_of (held_in new) q ≡ holder_of view q
 held-again old new view seen same q = held-is new q ∙ same q ∙ seen-holder old view q seen

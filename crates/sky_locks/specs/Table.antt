@@ -5,7 +5,7 @@ use Rattle.sky_locks.specs.declared.lock_key.LockKey.{LockKey}
 use Rattle.sky_locks.specs.declared.entries.Waiter.{Waiter}
 use Rattle.sky_locks.specs.Holders.{Held, is_holder}
 use Rattle.sky_locks.specs.Sessions.{KeysBySession, has_key}
-use Rattle.sky_locks.specs.Slots.{Slots, holder_at, queue_at}
+use Rattle.sky_locks.specs.Slots.{SlotsView, holder_at, queue_at}
 use Rattle.sky_locks.specs.Waiters.{IsKept}
 
 -- the keys that are held, the wait queue, and the keys as they are listed for each session
@@ -15,6 +15,6 @@ pub record TableView : Type 0 where
   pub listed : KeysBySession
 
 -- the indexes record who holds each key, and who waits
-pub record IsIndexed (slots : Slots) (entries : List (Option Waiter)) (listed : KeysBySession) (arrivals : List (Option ℕ)) : Type 0 where
+pub record IsIndexed (slots : SlotsView) (entries : List (Option Waiter)) (listed : KeysBySession) (arrivals : List (Option ℕ)) : Type 0 where
   pub kept : IsKept entries arrivals (queue_at slots)
   pub holds : (s : ℕ) (q : LockKey) → has_key listed s q ≡ is_holder s (holder_at slots q)

@@ -1,4 +1,6 @@
 ghost use Rattle.std.specs.Prelude.{◌≡◌, IfOk};
+ghost use Rattle.std.specs.Ordering.{eq_by_cmp};
+ghost use Rattle.sky_locks.specs.Order.{lock_cmp};
 
 use sky_val::{Key, NoMemory};
 use std::alloc::Global;
@@ -52,6 +54,14 @@ impl Ord for LockKey {
 }
 
 impl LockKey {
+    /// Whether it is the other key.
+    #[inline(always)]
+    pub(crate) fn is_same(&self, other: &LockKey) -> bool
+        ensures { result ≡ eq_by_cmp lock_cmp self.now other.now }
+    {
+        self.cmp(other) == Ordering::Equal
+    }
+
     /// An equal key.
     pub fn copy(&self, alloc: Global) -> Result<LockKey, NoMemory>
         ensures { IfOk result (λ key. key ≡ self.now) }

@@ -1,19 +1,25 @@
-ghost use Rattle.std.specs.Prelude.{◌≡◌, ◌==◌, nat_eq, not, true, None, Some, [], is_some, slice_get, filter, IfOk, IfNone, OnOk, OnErr, OnSome};
+ghost use Rattle.std.specs.Prelude.{◌≡◌, ◌<◌, ◌==◌, nat_eq, not, filter, true, None, Some, [], is_some, option_copied, slice_get, IfOk, IfNone, OnOk, OnErr, OnSome};
 ghost use Rattle.std.specs.List.{IsDistinct};
-ghost use Rattle.sky_locks.specs.Slots.{holder_at, queue_at, held_in, Holds, IsFree, SameHolders, SameHeld, Joins, Leaves, SameQueues};
+ghost use Rattle.sky_locks.specs.Slots.{place_at, slot_at, holder_at, queue_at, held_in, Holds, HoldsAs, IsFree, SameHolders, SameHeld, Joins, Leaves, HasQueue, SameQueues};
 ghost use Rattle.sky_locks.specs.declared.lock_key.LockKey.{LockKey};
 
 use crate::lock_key::LockKey;
-use sky_val::{NoMemory, SessionId};
+use sky_val::{NoMemory, SessionId, Val};
+use slab::Slab;
 use std::alloc::Global;
 use std::collections::BTreeMap;
+use std::marker::Model;
 
 // A map of so many slots is small.
 const FEW: usize = 16;
 
+/// How many hints there are; a power of two.
+const HINTS: usize = 512;
+
 /// What there is at a key that is held or waited for. If neither, it is idle.
 #[derive(Debug, Drop)]
 pub(crate) struct Slot {
+    key: LockKey,
     holder: Option<SessionId>,
 
     // Those that wait, in order of arrival.
@@ -24,37 +30,95 @@ pub(crate) struct Slot {
 /// since their keys are often held again, until they may be more than the others.
 #[derive(Debug, Drop)]
 pub(crate) struct Slots {
-    slots: BTreeMap<LockKey, Slot>,
+    slots: Slab<Slot>,
 
-    // Once there are more, idle ones are removed.
+    // The place of each key's slot.
+    places: BTreeMap<LockKey, usize>,
+
+    // At the hash of a key, the place of the last key with that hash. It is tried first, before the map, and says nothing
+    // of any other key.
+    hints: [usize; HINTS],
+
+    // Once there are more slots, idle ones are removed.
     most: usize,
+}
+
+impl Model for Slots {
+    ghost use Rattle.sky_locks.specs.Slots.{SlotsView, IsPlaced};
+
+    ghost Value = { SlotsView };
+
+    ghost view = { λ s. record { slots = s.slots; places = s.places.entries } };
+
+    ghost invariant = { λ s. IsPlaced s.places.entries s.slots };
 }
 
 impl Slots {
     /// None.
     pub(crate) fn new(alloc: Global) -> Slots
-        ensures held { held_in result.slots ≡ [] }
-        ensures holders { (q : LockKey) → holder_at result.slots q ≡ None }
-        ensures queues { (q : LockKey) → queue_at result.slots q ≡ [] }
+        ensures held { held_in result ≡ [] }
+        ensures holders { (q : LockKey) → holder_at result q ≡ None }
+        ensures queues { (q : LockKey) → queue_at result q ≡ [] }
     {
         Slots {
-            slots: BTreeMap::new(alloc),
+            slots: Slab::new(alloc),
+            places: BTreeMap::new(alloc),
+            hints: [0; HINTS],
             most: FEW,
         }
     }
 
+    /// The place of the key's slot.
+    // Always inlined, and apart from the search, since a hint nearly always holds.
+    #[inline(always)]
+    fn place(&self, key: &LockKey) -> Option<usize>
+        ensures { result ≡ place_at self.now.places key.now }
+    {
+        let hint = self.hints[hint_place(key)];
+        if self.is_at(hint, key) {
+            return Some(hint);
+        }
+        self.search(key)
+    }
+
+    /// The place of the key's slot, by the map.
+    #[inline(never)]
+    fn search(&self, key: &LockKey) -> Option<usize>
+        ensures { result ≡ place_at self.now.places key.now }
+    {
+        self.places.get(key).copied()
+    }
+
+    /// Whether the key's slot is at this place.
+    #[inline(always)]
+    fn is_at(&self, place: usize, key: &LockKey) -> bool
+        ensures { result ≡ true → place_at self.now.places key.now ≡ Some place }
+    {
+        match self.slots.get(place) {
+            Some(slot) => key.is_same(&slot.key),
+            None => false,
+        }
+    }
+
+    /// The key's slot.
+    fn slot(&self, key: &LockKey) -> Option<&Slot>
+        ensures { option_copied result ≡ slot_at self.now key.now }
+    {
+        self.slots.get(self.place(key)?)
+    }
+
     /// The holder of the key.
     pub(crate) fn holder(&self, key: &LockKey) -> Option<SessionId>
-        ensures { result ≡ holder_at self.now.slots key.now }
+        ensures { result ≡ holder_at self.now key.now }
     {
-        self.slots.get(key)?.holder
+        self.slot(key)?.holder
     }
 
     /// The first that waits for the key.
     pub(crate) fn first(&self, key: &LockKey) -> Option<SessionId>
-        ensures { result ≡ slice_get (queue_at self.now.slots key.now) 0 }
+        ensures { result ≡ slice_get (queue_at self.now key.now) 0 }
     {
-        self.slots.get(key)?.queue.first().copied()
+        self.slot(key)?.queue.first().copied()
     }
 
     /// The session holds the key, if nobody does. The answer is who held it.
@@ -64,71 +128,85 @@ impl Slots {
         who: SessionId,
         key: &LockKey,
     ) -> Result<Option<SessionId>, NoMemory>
-        ensures before { IfOk result (λ before. before ≡ holder_at self.old.slots key.now) }
-        ensures free { IfOk result (λ before. IfNone before (Holds self.old.slots who key.now self.new.slots)) }
-        ensures same { IfOk result (λ before. OnSome before (SameHeld self.old.slots self.new.slots)) }
-        ensures err { OnErr result (SameHeld self.old.slots self.new.slots) }
-        ensures queues { SameQueues self.old.slots self.new.slots }
+        ensures before { IfOk result (λ before. before ≡ holder_at self.old key.now) }
+        ensures free { IfOk result (λ before. IfNone before (Holds self.old who key.now self.new)) }
+        ensures same { IfOk result (λ before. OnSome before (SameHeld self.old self.new)) }
+        ensures err { OnErr result (SameHeld self.old self.new) }
+        ensures queues { SameQueues self.old self.new }
     {
-        match self.slots.get_mut(key) {
-            Some(slot) => match slot.holder {
-                Some(holder) => Ok(Some(holder)),
-                None => {
-                    slot.holder = Some(who);
-                    Ok(None)
-                }
-            },
-            None => {
-                self.insert(alloc, who, key)?;
-                Ok(None)
-            }
+        let Some(place) = self.place(key) else {
+            self.insert(alloc, key, Some(who), Vec::new(alloc))?;
+            return Ok(None);
+        };
+        self.hints[hint_place(key)] = place;
+        let slot = &mut self.slots[place];
+        if let Some(holder) = slot.holder {
+            return Ok(Some(holder));
         }
+        slot.holder = Some(who);
+        Ok(None)
     }
 
-    /// The session holds the key, for which nobody waits.
-    fn insert(&mut self, alloc: Global, who: SessionId, key: &LockKey) -> Result<(), NoMemory>
-        requires { queue_at self.old.slots key.now ≡ [] }
-        ensures ok { OnOk result (Holds self.old.slots who key.now self.new.slots) }
-        ensures err { OnErr result (SameHeld self.old.slots self.new.slots) }
-        ensures queues { SameQueues self.old.slots self.new.slots }
+    /// Makes a slot for the key, which has none.
+    fn insert(
+        &mut self,
+        alloc: Global,
+        key: &LockKey,
+        holder: Option<SessionId>,
+        queue: Vec<SessionId>,
+    ) -> Result<(), NoMemory>
+        requires { place_at self.old.places key.now ≡ None }
+        ensures holders { OnOk result (HoldsAs self.old holder key.now self.new) }
+        ensures queues { OnOk result (HasQueue self.old queue.items key.now self.new) }
+        ensures held { OnErr result (SameHeld self.old self.new) }
+        ensures err { OnErr result (SameQueues self.old self.new) }
     {
         let slot = Slot {
-            holder: Some(who),
-            queue: Vec::new(alloc),
+            key: key.copy(alloc)?,
+            holder,
+            queue,
         };
-        self.slots.insert(key.copy(alloc)?, slot)?;
+        self.slots.reserve(1)?;
+        let place = self.slots.vacant_key();
+        self.places.insert(key.copy(alloc)?, place)?;
+        self.slots.insert_reserved(slot);
+        self.hints[hint_place(key)] = place;
         self.tidy();
         Ok(())
     }
 
     /// Removes idle slots, if there are many. Until there are many again, as many have to be added as stayed.
     fn tidy(&mut self)
-        ensures holders { SameHolders self.old.slots self.new.slots }
-        ensures queues { SameQueues self.old.slots self.new.slots }
+        ensures holders { SameHolders self.old self.new }
+        ensures queues { SameQueues self.old self.new }
     {
-        if self.slots.len() <= self.most {
+        if self.places.len() <= self.most {
             return;
         }
         self.slots
             .retain(|_, slot| slot.holder.is_some() || !slot.queue.is_empty());
-        let left = self.slots.len();
+        let slots = &self.slots;
+        self.places.retain(|_, place| slots.contains(*place));
+        let left = self.places.len();
         self.most = left + left.max(FEW);
     }
 
     /// Nobody holds the key. The answer is whether it is waited for. If nobody waits for any, its slot is removed.
     pub(crate) fn free(&mut self, key: &LockKey, is_quiet: bool) -> bool
-        requires { is_quiet ≡ true → queue_at self.old.slots key.now ≡ [] }
-        ensures holders { IsFree self.old.slots key.now self.new.slots }
-        ensures queues { SameQueues self.old.slots self.new.slots }
-        ensures waited { result ≡ is_some (slice_get (queue_at self.old.slots key.now) 0) }
+        requires { is_quiet ≡ true → queue_at self.old key.now ≡ [] }
+        ensures holders { IsFree self.old key.now self.new }
+        ensures queues { SameQueues self.old self.new }
+        ensures waited { result ≡ is_some (slice_get (queue_at self.old key.now) 0) }
     {
-        if is_quiet {
-            self.slots.remove(key);
-            return false;
-        }
-        let Some(slot) = self.slots.get_mut(key) else {
+        let Some(place) = self.place(key) else {
             return false;
         };
+        if is_quiet {
+            self.places.remove(key);
+            self.slots.remove(place);
+            return false;
+        }
+        let slot = &mut self.slots[place];
         slot.holder = None;
         !slot.queue.is_empty()
     }
@@ -140,42 +218,59 @@ impl Slots {
         who: SessionId,
         key: &LockKey,
     ) -> Result<(), NoMemory>
-        ensures ok { OnOk result (Joins (queue_at self.old.slots) who key.now (queue_at self.new.slots)) }
-        ensures err { OnErr result (SameQueues self.old.slots self.new.slots) }
-        ensures held { OnErr result (held_in self.new.slots ≡ held_in self.old.slots) }
-        ensures holders { SameHolders self.old.slots self.new.slots }
+        ensures ok { OnOk result (Joins (queue_at self.old) who key.now (queue_at self.new)) }
+        ensures err { OnErr result (SameQueues self.old self.new) }
+        ensures held { OnErr result (held_in self.new ≡ held_in self.old) }
+        ensures holders { SameHolders self.old self.new }
     {
-        match self.slots.get_mut(key) {
-            Some(slot) => {
-                slot.queue.push(who)?;
-            }
-            None => {
-                let mut queue = Vec::new(alloc);
-                queue.push(who)?;
-                let slot = Slot {
-                    holder: None,
-                    queue,
-                };
-                self.slots.insert(key.copy(alloc)?, slot)?;
-                self.tidy();
-            }
-        }
+        let Some(place) = self.place(key) else {
+            let mut queue = Vec::new(alloc);
+            queue.push(who)?;
+            return self.insert(alloc, key, None, queue);
+        };
+        let slot = &mut self.slots[place];
+        slot.queue.push(who)?;
         Ok(())
     }
 
     /// Removes the session from the key's queue. The answer is whether others are in it.
     pub(crate) fn leave(&mut self, who: SessionId, key: &LockKey) -> bool
-        requires { IsDistinct nat_eq (queue_at self.old.slots key.now) }
-        ensures queues { Leaves (queue_at self.old.slots) who key.now (queue_at self.new.slots) }
-        ensures holders { SameHolders self.old.slots self.new.slots }
-        ensures waited { result ≡ is_some (slice_get (queue_at self.new.slots key.now) 0) }
+        requires { IsDistinct nat_eq (queue_at self.old key.now) }
+        ensures queues { Leaves (queue_at self.old) who key.now (queue_at self.new) }
+        ensures holders { SameHolders self.old self.new }
+        ensures waited { result ≡ is_some (slice_get (queue_at self.new key.now) 0) }
     {
-        let Some(slot) = self.slots.get_mut(key) else {
+        let Some(place) = self.place(key) else {
             return false;
         };
+        let slot = &mut self.slots[place];
         unlink(&mut slot.queue, who);
         !slot.queue.is_empty()
     }
+}
+
+/// The place of a key among the hints, by its last value: most keys differ there, and neither a long text nor a long
+/// list of values takes more steps than a short one.
+fn hint_place(key: &LockKey) -> usize
+    ensures { result < 512 }
+{
+    let number = match key.key.values().last() {
+        Some(Val::Int(number)) => number.cast_unsigned(),
+        Some(Val::Text(text)) => tail_number(text.as_text().bytes()),
+        Some(Val::Null) | None => 0,
+    };
+    let table = key.table as u64;
+    number.wrapping_add(table.wrapping_mul(61)) as usize % HINTS
+}
+
+/// A number for a text, by its length and its last bytes.
+fn tail_number(text: &[u8]) -> u64 {
+    let len = text.len();
+    let sum = match len {
+        0 | 1 => 0,
+        _ => 10 * text[len - 2] as u64 + text[len - 1] as u64,
+    };
+    (len as u64).wrapping_mul(64).wrapping_add(sum)
 }
 
 /// Removes the session from the queue, if it is in it.

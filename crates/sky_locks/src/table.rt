@@ -39,9 +39,9 @@ impl Model for Table {
 
     ghost Value = { TableView };
 
-    ghost view = { λ t. record { held = held_in t.slots.slots; waiting = waiting_in t.entries; listed = t.listed } };
+    ghost view = { λ t. record { held = held_in t.slots; waiting = waiting_in t.entries; listed = t.listed } };
 
-    ghost invariant = { λ t. IsIndexed t.slots.slots t.entries t.listed t.arrivals.numbers.items };
+    ghost invariant = { λ t. IsIndexed t.slots t.entries t.listed t.arrivals.numbers.items };
 }
 
 impl Table {
@@ -211,7 +211,7 @@ impl Table {
 
 /// The arrival of the first that waits for the key.
 fn first_arrival(slots: &Slots, arrivals: &SessionArrivals, key: &LockKey) -> Option<usize>
-    ensures { result ≡ option_and_then (arrival_of arrivals.now.numbers.items) (slice_get (queue_at slots.now.slots key.now) 0) }
+    ensures { result ≡ option_and_then (arrival_of arrivals.now.numbers.items) (slice_get (queue_at slots.now key.now) 0) }
 {
     let who = slots.first(key)?;
     arrivals.get(who)

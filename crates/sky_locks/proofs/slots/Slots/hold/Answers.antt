@@ -1,25 +1,29 @@
-use Rattle.std.proofs.Common.{ap, sym, Some, is_some}
+use Rattle.std.proofs.Common.{◌≡◌, ◌∙◌, ap, refl, subst, Some, []}
+use Rattle.std.specs.Prelude.{option_and_then}
+use Rattle.slab.specs.Slab.{with_value, get as slab_get}
 use Rattle.sky_locks.specs.declared.slots.Slot.{Slot}
-use Rattle.sky_locks.specs.Slots.{slot_holder, slot_queue}
-use Rattle.sky_locks.proofs.SlotLemmas.{put-kept, held-same}
+use Rattle.sky_locks.specs.Slots.{SlotsView, place_at, slot_holder, slot_queue, queue_at, Holds}
+use Rattle.sky_locks.proofs.PlaceLemmas.{found_place, has_slot, puts-written}
+use Rattle.sky_locks.proofs.SlotLemmas.{put-read, same-there}
 use Rattle.sky_locks.proofs.slots.Slots.hold.Goals as goal
 
-pub returns-in-Some-holder-clause-same : goal.returns-in-Some-holder-clause-same
-returns-in-Some-holder-clause-same c =
-    let slot : Slot = c.in-Some.slot.now in
-    let same =
-    put-kept slot_holder c.args.self.now.slots (c.get_mut.follows.lender slot) c.args.key.now (Some slot)
-    ((c.get_mut.follows.holds slot).3 (sym (ap is_some c.in-Some.ensures.value))).0 (ap slot_holder c.in-Some.ensures.value) in
-    record { held = held-same c.args.self.now.slots (c.get_mut.follows.lender slot) (c.get_mut.follows.holds slot).1 same; holders = same }
+pub returns-in_default-clause-queues : goal.returns-in_default-clause-queues
+returns-in_default-clause-queues c =
+    let none : [] ≡ queue_at c.args.self.now c.args.key.now = ap (λ o. slot_queue (option_and_then (slab_get c.args.self.now.slots) o)) c.in_default.ensures in
+    same-there (queue_at c.args.self.now) (queue_at c.insert.new.self) c.args.key.now c.new.result.items c.in_ok-insert.ensures.queues (c.new.ensures.items ∙ none)
 
-pub returns-in-Some-holder-clause-queues : goal.returns-in-Some-holder-clause-queues
-returns-in-Some-holder-clause-queues c =
-    let slot : Slot = c.in-Some.slot.now in
-    put-kept slot_queue c.args.self.now.slots (c.get_mut.follows.lender slot) c.args.key.now (Some slot)
-    ((c.get_mut.follows.holds slot).3 (sym (ap is_some c.in-Some.ensures.value))).0 (ap slot_queue c.in-Some.ensures.value)
+pub index_mut-slot-requires : goal.index_mut-slot-requires
+index_mut-slot-requires c =
+    let old : SlotsView = record { slots = c.self.inside.slots; places = c.self.inside.places.entries } in
+    let here : place_at old.places c.args.key.now ≡ Some c.in-Some.place = found_place old c.args.self.now c.args.key.now c.in-Some.place c.self.view_is c.in-Some.ensures in
+    has_slot old.places old.slots c.self.invariant c.args.key.now c.in-Some.place here
 
-pub returns-in-None-holder-clause-queues : goal.returns-in-None-holder-clause-queues
-returns-in-None-holder-clause-queues c =
-    let slot : Slot = record { holder = Some c.args.who; queue = c.in-Some.slot.now.queue } in
-    put-kept slot_queue c.args.self.now.slots (c.get_mut.follows.lender slot) c.args.key.now (Some slot)
-    ((c.get_mut.follows.holds slot).3 (sym (ap is_some c.in-Some.ensures.value))).0 (ap slot_queue c.in-Some.ensures.value)
+pub returns-clause-free : goal.returns-clause-free
+returns-clause-free c =
+    let old : SlotsView = record { slots = c.self.inside.slots; places = c.self.inside.places.entries } in
+    let here : place_at old.places c.args.key.now ≡ Some c.in-Some.place = found_place old c.args.self.now c.args.key.now c.in-Some.place c.self.view_is c.in-Some.ensures in
+    let was : Slot = c.index_mut-slot.result.now in
+    let now : Slot = record { key = was.key; holder = Some c.args.who; queue = was.queue } in
+    let new : SlotsView = record { slots = with_value old.slots c.in-Some.place now; places = old.places } in
+    let puts = puts-written old c.self.invariant c.args.key.now c.in-Some.place was now here c.index_mut-slot.ensures.value refl in
+    subst (λ (s : SlotsView). Holds s c.args.who c.args.key.now new) c.self.view_is (put-read slot_holder (λ _. Some c.args.who) old new c.args.key.now (Some now) puts refl)

@@ -1,61 +1,48 @@
-use Rattle.std.proofs.Common.{◌∙◌, ◌++◌, ◌∷◌, [], ap, sym, cond, Some, None, is_some}
-use Rattle.std.specs.Ordering.{eq_by_cmp}
-use Rattle.std.specs.BTreeMap.{get}
+use Rattle.std.proofs.Common.{◌≡◌, ◌∙◌, ◌++◌, ◌∷◌, [], ap, sym, refl, subst, Some, None}
+use Rattle.std.specs.Prelude.{option_and_then}
+use Rattle.slab.specs.Slab.{with_value, get as slab_get}
 use Rattle.sky_locks.specs.declared.slots.Slot.{Slot}
-use Rattle.sky_locks.specs.Order.{lock_cmp}
-use Rattle.sky_locks.specs.Slots.{Slots, slot_holder, slot_queue}
-use Rattle.sky_locks.proofs.Basics.{on_err_always}
-use Rattle.sky_locks.proofs.SlotLemmas.{put-read, put-kept, held-same}
+use Rattle.sky_locks.specs.Slots.{SlotsView, place_at, slot_holder, slot_queue, holder_at, queue_at, held_in, Joins}
+use Rattle.sky_locks.proofs.Basics.{on_err_always, on_ok_then, either_way}
+use Rattle.sky_locks.proofs.PlaceLemmas.{found_place, has_slot, puts-written}
+use Rattle.sky_locks.proofs.SlotLemmas.{put-read, put-kept, same-there, joins-none, held-same}
 use Rattle.sky_locks.proofs.slots.Slots.join.Goals as goal
 
-pub returns-in_err-push-in-Some-clause-err : goal.returns-in_err-push-in-Some-clause-err
-returns-in_err-push-in-Some-clause-err c =
-    let slot : Slot = record { holder = c.in-Some.slot.now.holder; queue = c.push.new.self } in
-    on_err_always c.from_residual.result (put-kept slot_queue c.args.self.now.slots (c.get_mut.follows.lender slot) c.args.key.now (Some slot)
-    ((c.get_mut.follows.holds slot).3 (sym (ap is_some c.in-Some.ensures.value))).0 (c.in_err-push-in-Some.ensures.items ∙ ap slot_queue c.in-Some.ensures.value))
+pub returns-in_default-clause-ok : goal.returns-in_default-clause-ok
+returns-in_default-clause-ok c =
+    let none : [] ≡ queue_at c.args.self.now c.args.key.now = ap (λ o. slot_queue (option_and_then (slab_get c.args.self.now.slots) o)) c.in_default.ensures in
+    on_ok_then c.insert.result (λ has. joins-none (queue_at c.args.self.now) (queue_at c.insert.new.self) c.args.key.now c.args.who c.push.new.self.items has
+    (c.in_ok-push.ensures.items ∙ ap (λ ks. ks ++ c.args.who ∷ []) c.new-queue.ensures.items) (sym none)) c.insert.ensures.queues
 
-pub returns-in_err-push-in-Some-clause-held : goal.returns-in_err-push-in-Some-clause-held
-returns-in_err-push-in-Some-clause-held c =
-    let slot : Slot = record { holder = c.in-Some.slot.now.holder; queue = c.push.new.self } in
-    on_err_always c.from_residual.result (held-same c.args.self.now.slots (c.get_mut.follows.lender slot) (c.get_mut.follows.holds slot).1
-    (put-kept slot_holder c.args.self.now.slots (c.get_mut.follows.lender slot) c.args.key.now (Some slot)
-    ((c.get_mut.follows.holds slot).3 (sym (ap is_some c.in-Some.ensures.value))).0 (ap slot_holder c.in-Some.ensures.value)))
+pub returns-in_default-clause-holders : goal.returns-in_default-clause-holders
+returns-in_default-clause-holders c =
+    let none : None ≡ holder_at c.args.self.now c.args.key.now = ap (λ o. slot_holder (option_and_then (slab_get c.args.self.now.slots) o)) c.in_default.ensures in
+    either_way c.insert.result (λ has. same-there (holder_at c.args.self.now) (holder_at c.insert.new.self) c.args.key.now None has none) (λ same. same.holders) c.insert.ensures.holders c.insert.ensures.held
 
-pub returns-in_err-push-in-Some-clause-holders : goal.returns-in_err-push-in-Some-clause-holders
-returns-in_err-push-in-Some-clause-holders c =
-    let slot : Slot = record { holder = c.in-Some.slot.now.holder; queue = c.push.new.self } in
-    put-kept slot_holder c.args.self.now.slots (c.get_mut.follows.lender slot) c.args.key.now (Some slot)
-    ((c.get_mut.follows.holds slot).3 (sym (ap is_some c.in-Some.ensures.value))).0 (ap slot_holder c.in-Some.ensures.value)
+pub index_mut-slot-requires : goal.index_mut-slot-requires
+index_mut-slot-requires c =
+    let old : SlotsView = record { slots = c.self.inside.slots; places = c.self.inside.places.entries } in
+    let here : place_at old.places c.args.key.now ≡ Some c.in-Some.place = found_place old c.args.self.now c.args.key.now c.in-Some.place c.self.view_is c.in-Some.ensures in
+    has_slot old.places old.slots c.self.invariant c.args.key.now c.in-Some.place here
 
-pub returns-in_ok-push-in-Some-clause-ok : goal.returns-in_ok-push-in-Some-clause-ok
-returns-in_ok-push-in-Some-clause-ok c =
-    let slot : Slot = record { holder = c.in-Some.slot.now.holder; queue = c.push.new.self } in
-    put-read slot_queue (λ sessions. sessions ++ c.args.who ∷ []) c.args.self.now.slots (c.get_mut.follows.lender slot) c.args.key.now (Some slot)
-    ((c.get_mut.follows.holds slot).3 (sym (ap is_some c.in-Some.ensures.value))).0
-    (c.in_ok-push-in-Some.ensures.items ∙ ap (λ o. slot_queue o ++ c.args.who ∷ []) c.in-Some.ensures.value)
+pub returns-in_err-push-2-clause-held : goal.returns-in_err-push-2-clause-held
+returns-in_err-push-2-clause-held c =
+    let old : SlotsView = record { slots = c.self.inside.slots; places = c.self.inside.places.entries } in
+    let here : place_at old.places c.args.key.now ≡ Some c.in-Some.place = found_place old c.args.self.now c.args.key.now c.in-Some.place c.self.view_is c.in-Some.ensures in
+    let was : Slot = c.index_mut-slot.result.now in
+    let now : Slot = record { key = was.key; holder = was.holder; queue = c.push-2.new.self } in
+    let new : SlotsView = record { slots = with_value old.slots c.in-Some.place now; places = old.places } in
+    let puts = puts-written old c.self.invariant c.args.key.now c.in-Some.place was now here c.index_mut-slot.ensures.value refl in
+    on_err_always c.from_residual-in_err-push-2.result (subst (λ (s : SlotsView). held_in new ≡ held_in s) c.self.view_is (held-same old new refl
+    (put-kept slot_holder old new c.args.key.now (Some now) puts (sym (ap (λ o. slot_holder (option_and_then (slab_get old.slots) o)) here ∙ ap slot_holder c.index_mut-slot.ensures.value)))))
 
-pub returns-in_ok-push-in-Some-clause-holders : goal.returns-in_ok-push-in-Some-clause-holders
-returns-in_ok-push-in-Some-clause-holders c =
-    let slot : Slot = record { holder = c.in-Some.slot.now.holder; queue = c.push.new.self } in
-    put-kept slot_holder c.args.self.now.slots (c.get_mut.follows.lender slot) c.args.key.now (Some slot)
-    ((c.get_mut.follows.holds slot).3 (sym (ap is_some c.in-Some.ensures.value))).0 (ap slot_holder c.in-Some.ensures.value)
-
-pub returns-in_ok-insert-in-None-clause-ok : goal.returns-in_ok-insert-in-None-clause-ok
-returns-in_ok-insert-in-None-clause-ok c =
-    let slot : Slot = record { holder = None; queue = c.push-in-None.new.self } in λ q.
-    c.tidy.ensures.queues q
-    ∙ put-read slot_queue (λ sessions. sessions ++ c.args.who ∷ []) c.args.self.now.slots c.insert.new.self c.args.key.now (Some slot)
-    (λ q. c.in_ok-insert-in-None.ensures.updates.0 q
-    ∙ ap (λ k. cond (eq_by_cmp lock_cmp k q) (Some slot) (get lock_cmp c.get_mut.follows.lender-at-none q)) c.in_ok-copy-in-None.ensures
-    ∙ ap (λ (m : Slots). cond (eq_by_cmp lock_cmp c.args.key.now q) (Some slot) (get lock_cmp m q)) c.get_mut.follows.holds-at-none)
-    (c.in_ok-push-in-None.ensures.items ∙ ap (λ sessions. sessions ++ c.args.who ∷ []) (c.new-queue.ensures.items ∙ ap slot_queue c.in-None.ensures.value)) q
-
-pub returns-in_ok-insert-in-None-clause-holders : goal.returns-in_ok-insert-in-None-clause-holders
-returns-in_ok-insert-in-None-clause-holders c =
-    let slot : Slot = record { holder = None; queue = c.push-in-None.new.self } in λ q.
-    c.tidy.ensures.holders q
-    ∙ put-kept slot_holder c.args.self.now.slots c.insert.new.self c.args.key.now (Some slot)
-    (λ q. c.in_ok-insert-in-None.ensures.updates.0 q
-    ∙ ap (λ k. cond (eq_by_cmp lock_cmp k q) (Some slot) (get lock_cmp c.get_mut.follows.lender-at-none q)) c.in_ok-copy-in-None.ensures
-    ∙ ap (λ (m : Slots). cond (eq_by_cmp lock_cmp c.args.key.now q) (Some slot) (get lock_cmp m q)) c.get_mut.follows.holds-at-none)
-    (ap slot_holder c.in-None.ensures.value) q
+pub returns-clause-ok : goal.returns-clause-ok
+returns-clause-ok c =
+    let old : SlotsView = record { slots = c.self.inside.slots; places = c.self.inside.places.entries } in
+    let here : place_at old.places c.args.key.now ≡ Some c.in-Some.place = found_place old c.args.self.now c.args.key.now c.in-Some.place c.self.view_is c.in-Some.ensures in
+    let was : Slot = c.index_mut-slot.result.now in
+    let now : Slot = record { key = was.key; holder = was.holder; queue = c.push-2.new.self } in
+    let new : SlotsView = record { slots = with_value old.slots c.in-Some.place now; places = old.places } in
+    let puts = puts-written old c.self.invariant c.args.key.now c.in-Some.place was now here c.index_mut-slot.ensures.value refl in
+    subst (λ (s : SlotsView). Joins (queue_at s) c.args.who c.args.key.now (queue_at new)) c.self.view_is (put-read slot_queue (λ ks. ks ++ c.args.who ∷ []) old new c.args.key.now (Some now) puts
+    (c.in_ok-push-2.ensures.items ∙ sym (ap (λ o. slot_queue (option_and_then (slab_get old.slots) o) ++ c.args.who ∷ []) here ∙ ap (λ o. slot_queue o ++ c.args.who ∷ []) c.index_mut-slot.ensures.value)))

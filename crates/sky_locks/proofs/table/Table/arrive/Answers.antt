@@ -22,7 +22,7 @@ invariant_of-self-in_default c =
     ∙ ap (λ n. slice_set (c.self.inside.entries ++ Some waiter ∷ []) n None) c.in_ok-arrival.ensures.arrival
     ∙ set-last c.self.inside.entries (Some waiter) None in
     record {
-      kept = kept-again c.self.inside.entries c.take.new.self c.self.inside.arrivals.numbers.items c.make_room.new.self.numbers.items (queue_at c.self.inside.slots.slots) (queue_at c.join.new.self.slots)
+      kept = kept-again c.self.inside.entries c.take.new.self c.self.inside.arrivals.numbers.items c.make_room.new.self.numbers.items (queue_at c.self.inside.slots) (queue_at c.join.new.self)
           c.self.invariant.kept taken c.in_ok-make_room.ensures.same c.in_default.ensures.err;
       holds = λ s q. c.self.invariant.holds s q ∙ ap (is_holder s) (sym (c.join.ensures.holders q));
     }
@@ -40,7 +40,7 @@ returns-in_default-clause-err c =
 pub invariant_of-self-2 : goal.invariant_of-self-2
 invariant_of-self-2 c = rw c.in_ok-arrival.ensures.ok (
     record {
-      kept = kept-more c.self.inside.entries c.self.inside.arrivals.numbers.items c.set.new.self.numbers.items (queue_at c.self.inside.slots.slots) (queue_at c.join.new.self.slots) c.args.who c.args.key.now c.in_ok-copy.field-0
+      kept = kept-more c.self.inside.entries c.self.inside.arrivals.numbers.items c.set.new.self.numbers.items (queue_at c.self.inside.slots) (queue_at c.join.new.self) c.args.who c.args.key.now c.in_ok-copy.field-0
           c.self.invariant.kept (none-idle c.self.inside.entries c.args.who (ap (is_waiting c.args.who) (ap (λ (v : TableView). v.waiting) (c.self.view_is ∙ c.pack.ensures)) ∙ c.requires)) c.in_ok-copy.ensures
           (λ s. c.set.ensures.set s
           ∙ ap (λ n. cond (eq_by_cmp nat_cmp c.args.who s) (Some n) (arrival_of c.make_room.new.self.numbers.items s)) c.in_ok-arrival.ensures.arrival
@@ -58,4 +58,4 @@ returns-clause-ok c =
     ∙ ap (λ key. c.args.self.now.waiting ++ entry c.args.who key ∷ []) c.in_ok-copy.ensures
 
 pub returns-clause-holders : goal.returns-clause-holders
-returns-clause-holders c = held-again c.self.inside.slots.slots c.join.new.self.slots c.args.self.now.held (ap (λ (v : TableView). v.held) (c.self.view_is ∙ c.pack.ensures)) c.join.ensures.holders
+returns-clause-holders c = held-again c.self.inside.slots c.join.new.self c.args.self.now.held (ap (λ (v : TableView). v.held) (c.self.view_is ∙ c.pack.ensures)) c.join.ensures.holders

@@ -16,7 +16,7 @@ loop-key-preserved c =
     c.earlier-first.ensures
     ∙ ap (λ o. earlier o c.first_arrival.result) c.loop-key.invariant
     ∙ ap (earlier (first_among (take c.loop-key.key-index c.args.keys.now) c.self.inside.entries))
-    (c.first_arrival.ensures ∙ first-arrival c.self.inside.entries c.self.inside.arrivals.numbers.items (queue_at c.self.inside.slots.slots) c.key-item.result c.self.invariant.kept)
+    (c.first_arrival.ensures ∙ first-arrival c.self.inside.entries c.self.inside.arrivals.numbers.items (queue_at c.self.inside.slots) c.key-item.result c.self.invariant.kept)
     ∙ first_among-more (take c.loop-key.key-index c.args.keys.now) c.key-item.result c.self.inside.entries
     ∙ (let within : c.loop-key.key-index < length c.args.keys.now = omega arith in
     sym (ap (λ ks. first_among ks c.self.inside.entries) (take_more c.args.keys.now c.loop-key.key-index c.key-item.result within ∙ ap (λ k. take c.loop-key.key-index c.args.keys.now ++ k ∷ []) (sym c.key-item.is))))

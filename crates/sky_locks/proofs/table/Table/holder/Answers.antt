@@ -5,4 +5,4 @@ use Rattle.sky_locks.proofs.SlotLemmas.{held-is}
 use Rattle.sky_locks.proofs.table.Table.holder.Goals as goal
 
 pub returns : goal.returns
-returns c = c.holder.ensures ∙ sym (held-is c.self.inside.slots.slots c.args.key.now) ∙ ap (λ (v : TableView). holder_of v.held c.args.key.now) c.self.view_is
+returns c = c.holder.ensures ∙ sym (held-is c.self.inside.slots c.args.key.now) ∙ ap (λ (v : TableView). holder_of v.held c.args.key.now) c.self.view_is

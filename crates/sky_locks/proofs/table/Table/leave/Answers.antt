@@ -42,7 +42,7 @@ invariant_of-self-in_err-waiter c =
 pub invariant_of-self-2 : goal.invariant_of-self-2
 invariant_of-self-2 c = rw c.take-2.ensures.others (
     record {
-      kept = kept-less c.self.inside.entries c.self.inside.arrivals.numbers.items c.take.new.self.numbers.items (queue_at c.self.inside.slots.slots) (queue_at c.leave-is_waited.new.self.slots) c.args.who c.in_ok-arrival.arrival c.in_ok-waiter.waiter c.self.invariant.kept
+      kept = kept-less c.self.inside.entries c.self.inside.arrivals.numbers.items c.take.new.self.numbers.items (queue_at c.self.inside.slots) (queue_at c.leave-is_waited.new.self) c.args.who c.in_ok-arrival.arrival c.in_ok-waiter.waiter c.self.invariant.kept
           (sym c.in_ok-arrival.ensures.value) (sym c.in_ok-waiter.ensures.value) c.take.ensures.updates c.leave-is_waited.ensures.queues;
       holds = λ s q. c.self.invariant.holds s q ∙ ap (is_holder s) (sym (c.leave-is_waited.ensures.holders q));
     })
@@ -70,13 +70,13 @@ returns-clause-others c =
 pub returns-clause-waited : goal.returns-clause-waited
 returns-clause-waited c =
     c.leave-is_waited.ensures.waited
-    ∙ waited-is (slice_set c.self.inside.entries c.in_ok-arrival.arrival None) c.take.new.self.numbers.items (queue_at c.leave-is_waited.new.self.slots) c.in_ok-waiter.waiter.key
-    (kept-less c.self.inside.entries c.self.inside.arrivals.numbers.items c.take.new.self.numbers.items (queue_at c.self.inside.slots.slots) (queue_at c.leave-is_waited.new.self.slots) c.args.who c.in_ok-arrival.arrival c.in_ok-waiter.waiter c.self.invariant.kept
+    ∙ waited-is (slice_set c.self.inside.entries c.in_ok-arrival.arrival None) c.take.new.self.numbers.items (queue_at c.leave-is_waited.new.self) c.in_ok-waiter.waiter.key
+    (kept-less c.self.inside.entries c.self.inside.arrivals.numbers.items c.take.new.self.numbers.items (queue_at c.self.inside.slots) (queue_at c.leave-is_waited.new.self) c.args.who c.in_ok-arrival.arrival c.in_ok-waiter.waiter c.self.invariant.kept
     (sym c.in_ok-arrival.ensures.value) (sym c.in_ok-waiter.ensures.value) c.take.ensures.updates c.leave-is_waited.ensures.queues)
     ∙ ap (λ es. is_waited (waiting_in es) c.in_ok-waiter.waiter.key) (sym c.take-2.ensures.others)
 
 pub returns-clause-holders : goal.returns-clause-holders
-returns-clause-holders c = held-again c.self.inside.slots.slots c.leave-is_waited.new.self.slots c.args.self.now.held (ap (λ (v : TableView). v.held) c.self.view_is) c.leave-is_waited.ensures.holders
+returns-clause-holders c = held-again c.self.inside.slots c.leave-is_waited.new.self c.args.self.now.held (ap (λ (v : TableView). v.held) c.self.view_is) c.leave-is_waited.ensures.holders
 
 pub leave-is_waited-requires : goal.leave-is_waited-requires
-leave-is_waited-requires c = queues-once c.self.inside.entries c.self.inside.arrivals.numbers.items (queue_at c.self.inside.slots.slots) c.in_ok-waiter.waiter.key c.self.invariant.kept
+leave-is_waited-requires c = queues-once c.self.inside.entries c.self.inside.arrivals.numbers.items (queue_at c.self.inside.slots) c.in_ok-waiter.waiter.key c.self.invariant.kept

@@ -1,7 +1,7 @@
 use Rattle.std.proofs.Common.{◌≡◌, ◌<◌, ◌≤◌, ◌+◌, ◌∙◌, ap, sym, subst, refl, length, drop, None, Some, arith}
 use Rattle.sky_locks.specs.Sessions.{arrival_of}
 use Rattle.sky_locks.specs.Waiters.{entry_at, is_of, waiting_in, IsKept}
-use Rattle.sky_locks.specs.Slots.{Slots, queue_at, holder_at, held_in}
+use Rattle.sky_locks.specs.Slots.{SlotsView, queue_at, holder_at, held_in}
 use Rattle.std.proofs.lemmas.Bool.{eq-eqb}
 use Rattle.sky_locks.proofs.EntryLemmas.{Entries, waiting-packed}
 use Rattle.sky_locks.proofs.PackLemmas.{renumbered, packed-places, step-some, step-none, step-last, kept-packed}
@@ -52,15 +52,15 @@ loop-arrival-preserved c =
 pub invariant_of-self : goal.invariant_of-self
 invariant_of-self c =
     let past : length c.pack.new.self ≤ c.loop-arrival.arrival = omega (arith, c.end-arrival-end.ensures) in
-    let kept = kept-packed c.self.inside.entries c.pack.new.self c.self.inside.arrivals.numbers.items c.loop-arrival.self-inside.arrivals.numbers.items (queue_at c.self.inside.slots.slots) c.self.invariant.kept c.pack.ensures
+    let kept = kept-packed c.self.inside.entries c.pack.new.self c.self.inside.arrivals.numbers.items c.loop-arrival.self-inside.arrivals.numbers.items (queue_at c.self.inside.slots) c.self.invariant.kept c.pack.ensures
     (λ s. step-last (arrival_of c.loop-arrival.self-inside.arrivals.numbers.items) c.pack.new.self c.loop-arrival.arrival s _ past (c.loop-arrival.invariant.0 s)) in
     record {
-      kept = subst (λ (es : Entries). IsKept es c.loop-arrival.self-inside.arrivals.numbers.items (queue_at c.loop-arrival.self-inside.slots.slots)) (sym c.loop-arrival.invariant.2)
-          (subst (λ (slots : Slots). IsKept c.pack.new.self c.loop-arrival.self-inside.arrivals.numbers.items (queue_at slots)) (λ i. (sym c.loop-arrival.invariant.3 i).slots) kept);
-      holds = λ s q. (λ i. has_key (c.loop-arrival.invariant.4 i) s q) ∙ c.self.invariant.holds s q ∙ (λ i. is_holder s (holder_at (sym c.loop-arrival.invariant.3 i).slots q));
+      kept = subst (λ (es : Entries). IsKept es c.loop-arrival.self-inside.arrivals.numbers.items (queue_at c.loop-arrival.self-inside.slots)) (sym c.loop-arrival.invariant.2)
+          (subst (λ (slots : SlotsView). IsKept c.pack.new.self c.loop-arrival.self-inside.arrivals.numbers.items (queue_at slots)) (sym c.loop-arrival.invariant.3) kept);
+      holds = λ s q. (λ i. has_key (c.loop-arrival.invariant.4 i) s q) ∙ c.self.invariant.holds s q ∙ (λ i. is_holder s (holder_at (sym c.loop-arrival.invariant.3 i) q));
     }
 
 pub returns : goal.returns
 returns c =
     let waiting = ap waiting_in (c.loop-arrival.invariant.2 ∙ c.pack.ensures) ∙ waiting-packed c.self.inside.entries in
-    (λ i. record { held = held_in (c.loop-arrival.invariant.3 i).slots; waiting = waiting i; listed = c.loop-arrival.invariant.4 i }) ∙ c.self.view_is
+    (λ i. record { held = held_in (c.loop-arrival.invariant.3 i); waiting = waiting i; listed = c.loop-arrival.invariant.4 i }) ∙ c.self.view_is
