@@ -4,3 +4,4 @@ pub mod ReadingLemmas
 pub mod ListLemmas
 pub mod TextLemmas
 pub mod FormLemmas
+pub mod SessionLemmas

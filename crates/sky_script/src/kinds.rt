@@ -57,6 +57,32 @@ fn all_continue_name(bytes: &[u8]) -> bool
     bytes.iter().all(|byte| continues_name(*byte))
 }
 
+/// A place before which each byte may be in a name: of the first byte that may not, or of the end.
+#[inline(never)]
+pub(crate) fn name_end(bytes: &[u8]) -> usize
+    ensures within { result ≤ length bytes.now }
+    ensures before { list_all kind.continues_name (take result bytes.now) ≡ true }
+{
+    for (i, byte) in bytes.iter().enumerate() {
+        if !continues_name(*byte) {
+            return i;
+        }
+    }
+    bytes.len()
+}
+
+/// Whether bytes are a name that may each be in one.
+#[tactic(auto, using(crate::proofs::SessionLemmas::name_by_first))]
+pub(crate) fn is_whole_name(bytes: &[u8]) -> bool
+    requires { list_all kind.continues_name bytes.now ≡ true }
+    ensures { result ≡ kind.is_name bytes.now }
+{
+    match bytes.split_first() {
+        Some((first, _)) => bytes.len() <= LONGEST_NAME && begins_name(*first),
+        None => false,
+    }
+}
+
 fn is_identifier(word: &[u8]) -> bool
     ensures { result ≡ kind.is_identifier word.now }
 {

@@ -1,35 +1,38 @@
-ghost use Rattle.std.specs.Prelude.{◌≡◌, ◌↔◌, IfOk, IsUtf8};
+ghost use Rattle.std.specs.Prelude.{◌≡◌, ◌↔◌, true, false, Ok, IfOk, IsUtf8};
 ghost use Rattle.sky_model.specs.Words as line_words;
-ghost use Rattle.sky_model.specs.Grammar.{statement_of, line_of_words, line_of};
+ghost use Rattle.sky_model.specs.Grammar.{line_of_words, line_of};
+ghost use Rattle.sky_model.specs.declared.line.Line.TheVariants.{Blank};
 ghost use Rattle.sky_model.specs.InForm.{IsLineInForm};
 ghost use Rattle.sky_script.specs.Reading.{IsAnswer};
 
 use crate::cause::LineCause;
-use crate::forms::read_form;
 use crate::words::Words;
-use sky_model::{Line, Stmt};
+use sky_model::Line;
+use sky_val::Text;
 use std::alloc::Global;
-
-/// The statement of a line's words from the second on.
-#[tactic(auto, unfolding(crate::specs::Reading::AnswersAmong))]
-fn statement(alloc: Global, words: &mut Words) -> Result<Stmt, LineCause>
-    requires { words.old.number ≡ 2 }
-    ensures { IsAnswer result (statement_of words.old.left) }
-{
-    let first = words.word()?;
-    read_form(alloc, first.as_bytes(), words)
-}
 
 /// What a line says that is neither empty nor a comment.
 fn run_line(alloc: Global, line: &str) -> Result<Line, LineCause>
     ensures { IsAnswer result (line_of_words (line_words.words line.now)) }
 {
     let mut words = Words::new(line);
-    let session = words.session(alloc)?;
+    let session = Text::from_str(alloc, words.session()?)?;
+    let form = words.form()?;
     // A statement is large, and `?` would move it once more.
-    match statement(alloc, &mut words) {
+    match words.statement(alloc, form) {
         Ok(stmt) => Ok(Line::Run(session, stmt)),
         Err(cause) => Err(cause),
+    }
+}
+
+/// Whether a line is empty or a comment.
+pub fn is_blank(line: &str) -> bool
+    ensures blank { result ≡ true → line_of line.now ≡ Ok Blank }
+    ensures run { result ≡ false → line_of line.now ≡ line_of_words (line_words.words line.now) }
+{
+    match line.as_bytes().first() {
+        None | Some(b'#') => true,
+        Some(_) => false,
     }
 }
 
@@ -37,10 +40,10 @@ fn run_line(alloc: Global, line: &str) -> Result<Line, LineCause>
 fn read_line(alloc: Global, line: &str) -> Result<Line, LineCause>
     ensures { IsAnswer result (line_of line.now) }
 {
-    match line.as_bytes().first() {
-        None | Some(b'#') => Ok(Line::Blank),
-        Some(_) => run_line(alloc, line),
+    if is_blank(line) {
+        return Ok(Line::Blank);
     }
+    run_line(alloc, line)
 }
 
 /// What a line says that is text already.

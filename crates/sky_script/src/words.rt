@@ -1,6 +1,6 @@
 //! The words of a line, read one after another.
 
-ghost use Rattle.std.specs.Prelude.{◌≡◌, ◌≢◌, ◌+◌, ◌-◌, ◌<◌, List, [], ◌∷◌, Bool, true, false, IfOk, IfErr, IfNone, IfSome, OnOk, MatchOption, Result, Ok, Err, None, length, option_copied};
+ghost use Rattle.std.specs.Prelude.{◌≡◌, ◌≢◌, ◌+◌, ◌-◌, ◌<◌, List, [], ◌∷◌, ◌++◌, Bool, true, false, IfOk, IfErr, IfNone, IfSome, OnOk, MatchOption, Result, Ok, Err, None, length, option_copied};
 ghost use Rattle.sky_model.specs.declared.stmt.Stmt.{Stmt};
 ghost use Rattle.sky_model.specs.Words.{words};
 ghost use Rattle.sky_model.specs.Kinds.{Kind, Name, Dotted, Number, OptText, Raw, Of, value};
@@ -10,16 +10,19 @@ ghost use Rattle.sky_script.specs.Unread.{words_in, in_quotes, EndsWord};
 ghost use Rattle.sky_script.specs.Reading.{Answers, IsAnswer, Reads};
 
 use crate::cause::LineCause;
-use crate::kinds::{advance_of, is_bare_word, is_dotted, is_name, quoted_text, text_end};
+use crate::forms::read_form;
+use crate::kinds::{
+    advance_of, is_bare_word, is_dotted, is_name, is_whole_name, name_end, quoted_text, text_end,
+};
 use crate::row_words::{column_of, ignore_of, set_of, value_of};
-use sky_model::{ColumnNames, Fixed, Set};
+use sky_model::{ColumnNames, Fixed, Set, Stmt};
 use sky_val::{Column, Text, Val, number_of};
 use std::alloc::Global;
 use std::marker::Model;
 
 /// A line's words from some place on.
 #[derive(Drop)]
-pub(crate) struct Words<'a> {
+pub struct Words<'a> {
     // None after the last word; an empty rest still has an empty word.
     rest: Option<&'a str>,
     taken: usize,
@@ -115,6 +118,27 @@ fn split_text(text: &str) -> Option<(&str, Option<&str>)>
     Some((&inside[..end], Some(&inside[end + 2..])))
 }
 
+/// The name that a text begins with, and what follows the space that ends its first word: only if that word is the name
+/// and a colon. The lines that sessions make begin so, and each byte of the name is then looked at once.
+fn split_session(text: &str) -> Option<(&str, Option<&str>)>
+    ensures split { IfSome result (λ found. words text.now ≡ (found.0.now ++ 58 ∷ []) ∷ words_in (option_copied found.1)) }
+    ensures name { IfSome result (λ found. kind.is_name found.0.now ≡ true) }
+    ensures shorter { IfSome result (λ found. IfSome found.1 (λ rest. length rest.now < length text.now)) }
+{
+    let bytes = text.as_bytes();
+    let end = name_end(bytes);
+    if end == bytes.len() || bytes[end] != b':' || !is_whole_name(&bytes[..end]) {
+        return None;
+    }
+    if end + 1 == bytes.len() {
+        return Some((&text[..end], None));
+    }
+    if bytes[end + 1] != b' ' {
+        return None;
+    }
+    Some((&text[..end], Some(&text[end + 2..])))
+}
+
 fn fixed_text(fixed: Fixed) -> &'static str
     ensures { result.now ≡ text_of fixed }
 {
@@ -130,7 +154,8 @@ fn fixed_text(fixed: Fixed) -> &'static str
 }
 
 impl<'a> Words<'a> {
-    pub(crate) fn new(line: &'a str) -> Words<'a>
+    /// All the words of a line.
+    pub fn new(line: &'a str) -> Words<'a>
         ensures { result ≡ record { number = 1; left = words line.now } }
     {
         Words {
@@ -247,10 +272,37 @@ impl<'a> Words<'a> {
         }
     }
 
-    /// The session's word: its name and a colon.
-    pub(crate) fn session(&mut self, alloc: Global) -> Result<Text, LineCause>
+    /// The session's name: the first word without the colon at its end.
+    #[tactic(auto, using(crate::proofs::SessionLemmas::session_named))]
+    pub fn session(&mut self) -> Result<&'a str, LineCause>
         requires { self.old.number ≡ 1 }
-        ensures ok { IfOk result (λ session. line_of_words self.old.left ≡ run_of session (statement_of self.new.left)) }
+        ensures ok { IfOk result (λ session. line_of_words self.old.left ≡ run_of session.now (statement_of self.new.left)) }
+        ensures second { OnOk result (self.new.number ≡ 2) }
+        ensures err { IfErr result (λ cause. IsAnswer (Err cause) (line_of_words self.old.left)) }
+    {
+        match self.plain_session() {
+            Some(name) => Ok(name),
+            None => self.any_session(),
+        }
+    }
+
+    /// Takes the session's word if it is one, and gives the name.
+    fn plain_session(&mut self) -> Option<&'a str>
+        ensures name { IfSome result (λ name. kind.is_name name.now ≡ true) }
+        ensures word { IfSome result (λ name. (self.old.left ≡ (name.now ++ 58 ∷ []) ∷ self.new.left) × (self.new.number ≡ self.old.number + 1)) }
+        ensures none { IfNone result (self.new ≡ self.old) }
+    {
+        let (name, rest) = split_session(self.rest?)?;
+        self.rest = rest;
+        self.taken += 1;
+        Some(name)
+    }
+
+    /// The same as `session`, of any word.
+    #[inline(never)]
+    fn any_session(&mut self) -> Result<&'a str, LineCause>
+        requires { self.old.number ≡ 1 }
+        ensures ok { IfOk result (λ session. line_of_words self.old.left ≡ run_of session.now (statement_of self.new.left)) }
         ensures second { OnOk result (self.new.number ≡ 2) }
         ensures err { IfErr result (λ cause. IsAnswer (Err cause) (line_of_words self.old.left)) }
     {
@@ -262,7 +314,26 @@ impl<'a> Words<'a> {
         if !is_name(name) {
             return Err(self.refused());
         }
-        Ok(Text::from_str(alloc, name)?)
+        Ok(name)
+    }
+
+    /// The first word of a line's statement, which follows its session's word.
+    pub fn form(&mut self) -> Result<&'a str, LineCause>
+        requires { self.old.number ≡ 2 }
+        ensures ok { IfOk result (λ form. self.old.left ≡ form.now ∷ self.new.left) }
+        ensures third { OnOk result (self.new.number ≡ 3) }
+        ensures err { IfErr result (λ cause. IsAnswer (Err cause) (statement_of self.old.left)) }
+    {
+        self.word()
+    }
+
+    /// The statement with this first word.
+    #[tactic(auto, unfolding(crate::specs::Reading::AnswersAmong))]
+    pub fn statement(&mut self, alloc: Global, form: &str) -> Result<Stmt, LineCause>
+        requires { self.old.number ≡ 3 }
+        ensures { IsAnswer result (statement_of (form.now ∷ self.old.left)) }
+    {
+        read_form(alloc, form.as_bytes(), self)
     }
 
     pub(crate) fn name(&mut self, alloc: Global) -> Result<Text, LineCause>
