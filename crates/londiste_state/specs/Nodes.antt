@@ -1,8 +1,9 @@
 -- A database's node in a set of replicated tables: the set's root, or a leaf.
-use Rattle.std.specs.Prelude.{ℕ, List, [], ◌∷◌, ◌++◌, Bool, not, Option, None, bytes_eq, filter, find, map, if◌then◌else◌}
+use Rattle.std.specs.Prelude.{ℕ, List, [], ◌∷◌, ◌++◌, Bool, not, Option, Some, None, bytes_eq, filter, find, map, if◌then◌else◌}
 use Rattle.std.specs.List.{list_any}
+use Rattle.sky_txid.specs.Snapshot.{SnapshotView}
 use Rattle.londiste_state.specs.declared.state.TableState.{TableState}
-use Rattle.londiste_state.specs.declared.state.TableState.TheVariants.{Absent}
+use Rattle.londiste_state.specs.declared.state.TableState.TheVariants.{Absent, CatchingUp}
 use Rattle.londiste_state.specs.declared.node.Node as declared
 use Rattle.londiste_state.specs.declared.node.Node.TheVariants as variants
 pub use Rattle.londiste_state.specs.Kinds.{LeafTable, Root, Leaf}
@@ -74,3 +75,15 @@ without_leaf_table name l = record l { tables = filter (λ t. not (bytes_eq name
 
 abbrev pub with_state : List ℕ → TableState → Leaf → Leaf
 with_state name state l = record l { tables = changed_in name (in_state state) l.tables }
+
+-- a table whose copy ended, under a snapshot, and whose consumer is at a tick: it catches up from then on
+abbrev pub with_copy : SnapshotView → ℕ → LeafTable → LeafTable
+with_copy snapshot tick t = record t { state = CatchingUp; snapshot = Some snapshot; tick = tick }
+
+-- a table whose copy has applied batches up to a tick
+abbrev pub with_tick : ℕ → LeafTable → LeafTable
+with_tick tick t = record t { tick = tick }
+
+-- a leaf of which the copy of one table ended
+abbrev pub with_copied : List ℕ → SnapshotView → ℕ → Leaf → Leaf
+with_copied name snapshot tick l = record l { tables = changed_in name (with_copy snapshot tick) l.tables }

@@ -71,6 +71,15 @@ impl LeafTable {
     {
         self.state = to;
     }
+
+    /// Its copy has ended, under a snapshot, and its consumer is at a tick: it catches up from now on.
+    fn end_copy(&mut self, snapshot: Snapshot, tick: u64)
+        ensures { self.new ≡ nodes.with_copy snapshot tick self.old }
+    {
+        self.state = TableState::CatchingUp;
+        self.snapshot = Some(snapshot);
+        self.tick = tick;
+    }
 }
 
 /// The root of a set, where the tables of the set are written.
@@ -268,6 +277,26 @@ impl Leaf {
                 table.move_to(to);
             }
         }
+    }
+
+    /// The copy of a table has ended, under a snapshot, and its consumer is at a tick: if the table has joined, it catches
+    /// up from now on.
+    pub fn end_copy(
+        &mut self,
+        alloc: Global,
+        name: &Text,
+        snapshot: &Snapshot,
+        tick: u64,
+    ) -> Result<(), NoMemory>
+        ensures { OnOk result (self.new ≡ nodes.with_copied name.now snapshot.now tick self.old) }
+    {
+        for table in self.tables.iter_mut() {
+            if *name == *table.name() {
+                let snapshot = snapshot.copy(alloc)?;
+                table.end_copy(snapshot, tick);
+            }
+        }
+        Ok(())
     }
 }
 

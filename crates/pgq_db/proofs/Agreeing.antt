@@ -3,7 +3,7 @@ use Rattle.std.proofs.Common.{◌≡◌, ℕ, ℤ, ◌+◌, ◌<◌, ◌≤◌, 
 use Rattle.std.specs.List.{All}
 use Rattle.std.proofs.lemmas.Bool.Decides.{nat_tests}
 use Rattle.std.specs.declared.alloc.AllocError.{AllocError}
-use Rattle.londiste_state.specs.Nodes.{Node}
+use Rattle.pgq_db.specs.Views.{NodePart}
 use Rattle.sky_model.specs.declared.reply.Refusal.{Refusal}
 use Rattle.sky_model.specs.declared.reply.Refusal.TheVariants.{TxidsSpent}
 use Rattle.sky_model.specs.declared.stmt.Where.{Where}
@@ -111,7 +111,7 @@ agree-passed old new was left marks part_is left_is are =
     agree-then old new marks left part_is (subst (Agree old) (sym left_is) (agree-stay old was (passed_all event_rule was marks) (keeps-all was marks) are))
 
 -- after a turn, from where the queues got a time
-pub agree-behind_turn : (now : ℤ) (node : Option Node) (at : ℤ) (p after : RowPart) (was q left : QueuesView) (gated told : Turn)
+pub agree-behind_turn : (now : ℤ) (node : NodePart) (at : ℤ) (p after : RowPart) (was q left : QueuesView) (gated told : Turn)
     → (Alike now node (seen_with (with_node node p) was) p q → SameTold event_rule (Alike now node) (seen_with (with_node node p) was) p q gated told)
     → q ≡ record was { time = at } → at ≡ now → Agree p was → All (λ t. t.trigger.queue < length q.queues) q.triggers → after ≡ after_part_marks p gated.marks → left ≡ passed_all event_rule q gated.marks → Agree after left
 agree-behind_turn now node at p after was q left gated told tells is time are within part_is left_is =

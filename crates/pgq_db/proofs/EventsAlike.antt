@@ -10,9 +10,10 @@ use Rattle.sky_val.specs.declared.event.Event.{Event}
 use Rattle.sky_names.specs.Named.{value_of}
 use Rattle.sky_urlenc.specs.RowEvents.{RowEvent, Trigger, events_of, event_of}
 use Rattle.sky_model.specs.declared.reply.Refusal.TheVariants.{EventIdsSpent}
-use Rattle.londiste_state.specs.Nodes.{Node}
-use Rattle.sky_model.specs.History.{Mark, Whose, of_session, ended, tabled, wrote, read_only, queued, noded}
+use Rattle.pgq_db.specs.Views.{NodePart}
+use Rattle.sky_model.specs.History.{Mark, Whose, of_session, of_worker, of_copy, began, ended, tabled, wrote, read_only, queued, raised, put, noded}
 use Rattle.sky_model.specs.Triggers.{TableTrigger, triggers_of}
+use Rattle.sky_model.specs.Queues.{without_transaction}
 use Rattle.sky_model.specs.State.{Queue, RowPart, after_part, after_part_marks, Database, changed_at, with_tables, after_mark, after_marks}
 use Rattle.sky_model.specs.Outcome.{Checked, ◌>>=◌, ◌>>◌, refused_if}
 use Rattle.sky_model.specs.Telling.{write_in, events_in, told_event, event_marks, told_by, told_of}
@@ -25,6 +26,8 @@ use Rattle.sky_model.specs.declared.stmt.Stmt.TheVariants.{Row}
 use Rattle.sky_model.proofs.RowOutcomes.{RowMarks, TurnOfRows, failure-rows, itself-rows, by_gate-rows, settling-rows-by, row_turn-rows-by}
 use Rattle.sky_model.proofs.Telling.{IsOther, TellsAlike, SameTold, settling-told, row_turn-told}
 use Rattle.sky_model.proofs.DatabaseStanding.{after_marks-append}
+use Rattle.sky_model.proofs.Inserted.{Inserted}
+use Rattle.sky_model.proofs.Inserted as inserted
 use Rattle.sky_model.proofs.GatedLemmas.{is_no_write, WritesNone, plain-if}
 use Rattle.sky_model.proofs.StatementMarks.{AnyReply, no_more, each-failure}
 use Rattle.sky_model.specs.SessionMarks.{failure}
@@ -167,27 +170,43 @@ subs-told (e ∷ es) queues now t within = subs-told es (slice_set queues e.queu
     pointwise n consumer =
         ap (λ (q : QueueView). value_of consumer q.subs) (get_or-slice_set queues e.queue n one (within 0 e (omega arith))) ∙ by n consumer (e.queue == n) refl
 
--- a rollback leaves what the queues show after it
-undone-shown : (node : Option Node) (p : RowPart) (q : QueuesView) (whose : Whose) (t : ℕ)
-    → after_mark (seen_with (with_node node p) q) (ended whose t false) ≡ seen_with (with_node node (after_part p (ended whose t false))) (event_rule.undone q t)
+-- a rollback leaves what the queues show after it; the copies are the same
+pub undone-shown : (node : NodePart) (p : RowPart) (q : QueuesView) (whose : Whose) (t : ℕ)
+    → record (after_mark (seen_with (with_node node p) q) (ended whose t false)) { copies = node.copies } ≡ seen_with (with_node node (after_part p (ended whose t false))) (event_rule.undone q t)
 undone-shown node p q whose t = sym (undone-as q q (map (undone_in t) q.queues) t refl refl (with_node node (after_part p (ended whose t false))))
+
+-- marks of rows leave the copies, with marks of events among them too
+copies-kept : {xs ys : List Mark} → Inserted xs ys → (d : Database) → RowMarks xs → (after_marks d ys).copies ≡ d.copies
+copies-kept inserted.none d rows = refl
+copies-kept (inserted.with_raised q value more) d rows = copies-kept more (after_mark d (queued (raised q value))) rows
+copies-kept (inserted.with_put q event more) d rows = copies-kept more (after_mark d (queued (put q event))) rows
+copies-kept (inserted.kept (queued mark) more) d rows = absurd rows
+copies-kept (inserted.kept (noded mark) more) d rows = absurd rows
+copies-kept (inserted.kept (tabled (read_only table on)) more) d rows = absurd rows
+copies-kept (inserted.kept (began (of_copy table) t) more) d rows = absurd rows
+copies-kept (inserted.kept (ended (of_copy table) t committed) more) d rows = absurd rows
+copies-kept (inserted.kept (ended whose t true) more) d rows = copies-kept more (after_mark d (ended whose t true)) rows
+copies-kept (inserted.kept (ended whose t false) more) d rows = copies-kept more (after_mark d (ended whose t false)) rows
+copies-kept (inserted.kept mark more) d rows = copies-kept more (after_mark d mark) rows
 
 -- ---- a database, its node, its row part, and its queues
 
--- a database, its node, its row part and its queues at a time
-pub record Alike (now : ℤ) (node : Option Node) (d : Database) (p : RowPart) (q : QueuesView) : Type 0 where
-  pub whole : d ≡ seen_with (with_node node p) q
+-- a database but for its copies, its node, its row part and its queues at a time
+pub record Alike (now : ℤ) (node : NodePart) (d : Database) (p : RowPart) (q : QueuesView) : Type 0 where
+  pub whole : record d { copies = node.copies } ≡ seen_with (with_node node p) q
   pub time : q.time ≡ now
   pub tables : AreTables p q
   pub within : All (λ t. t.trigger.queue < length q.queues) q.triggers
 
-module _ (now : ℤ) (node : Option Node) where
+module _ (now : ℤ) (node : NodePart) where
   abbrev Here : Database → RowPart → QueuesView → Type 0
   Here d p q = Alike now node d p q
 
-  whole-other : (d : Database) (p : RowPart) (q : QueuesView) (mark : Mark) → IsOther mark → d ≡ seen_with (with_node node p) q → after_mark d mark ≡ seen_with (with_node node (after_part p mark)) q
-  whole-other d p q (ended who t true) other is = ap (λ x. after_mark x (ended who t true)) is
-  whole-other d p q (ended who t false) other is = absurd other
+  whole-other : (d : Database) (p : RowPart) (q : QueuesView) (mark : Mark) → IsOther mark → record d { copies = node.copies } ≡ seen_with (with_node node p) q
+      → record (after_mark d mark) { copies = node.copies } ≡ seen_with (with_node node (after_part p mark)) q
+  whole-other d p q (began whose t) other is = λ i. record (is i) { part = after_part (is i).part (began whose t) }
+  whole-other d p q (ended whose t true) other is = λ i. record (is i) { part = after_part (is i).part (ended whose t true) }
+  whole-other d p q (ended whose t false) other is = absurd other
   whole-other d p q (queued mark) other is = absurd other
   whole-other d p q (noded mark) other is = absurd other
   whole-other d p q mark other is = ap (λ x. after_mark x mark) is
@@ -198,7 +217,7 @@ module _ (now : ℤ) (node : Option Node) where
   -- a rollback
   undone-alike : (d : Database) (p : RowPart) (q : QueuesView) (whose : Whose) (t : ℕ) → Here d p q → Here (after_mark d (ended whose t false)) (after_part p (ended whose t false)) (event_rule.undone q t)
   undone-alike d p q whose t is = record {
-    whole = ap (λ x. after_mark x (ended whose t false)) is.whole ∙ undone-shown node p q whose t;
+    whole = (λ i. record (is.whole i) { part = after_part (is.whole i).part (ended whose t false); queue = λ n. with_tables (without_transaction t) ((is.whole i).queue n) }) ∙ undone-shown node p q whose t;
     time = is.time;
     tables = tables-kept p (ended whose t false) (event_rule.undone q t) is.tables;
     within = λ k x lt. subst (λ n. (get_or q.triggers k x).trigger.queue < n) (sym (length-map q.queues (undone_in t))) (is.within k x lt);
@@ -282,9 +301,12 @@ module _ (now : ℤ) (node : Option Node) where
   settle-told d p q is = settling-told event_rule now Here events-alike d p q is
 
   -- after a turn the row part and the queues show the database
-  pub told-changed : (d : Database) (p after : RowPart) (q left : QueuesView) (gated told : Turn) → SameTold event_rule Here d p q gated told
+  pub told-changed : (d : Database) (p after : RowPart) (q left : QueuesView) (gated told : Turn) → SameTold event_rule Here d p q gated told → TurnOfRows gated → d.copies ≡ node.copies
       → after ≡ after_part_marks p gated.marks → left ≡ passed_all event_rule q gated.marks → seen_with (with_node node after) left ≡ after_marks d told.marks
-  told-changed d p after q left gated told same part_is left_is = (λ i. seen_with (with_node node (part_is i)) (left_is i)) ∙ sym same.stands.whole
+  told-changed d p after q left gated told same rows copies part_is left_is =
+      (λ i. seen_with (with_node node (part_is i)) (left_is i))
+      ∙ sym same.stands.whole
+      ∙ (λ i. record (after_marks d told.marks) { copies = sym (copies-kept same.inserted d rows.marks ∙ copies) i })
 
   -- and what is kept of tables is true
   pub told-tables : (d : Database) (p after : RowPart) (q left : QueuesView) (gated told : Turn) → SameTold event_rule Here d p q gated told
@@ -292,16 +314,23 @@ module _ (now : ℤ) (node : Option Node) where
   told-tables d p after q left gated told same part_is left_is = subst (AreTables after) (sym left_is) (subst (λ x. AreTables x (passed_all event_rule q gated.marks)) (sym part_is) same.stands.tables)
 
 -- queues to which a time was given
-pub alike-at : (now : ℤ) (node : Option Node) (at : ℤ) (p : RowPart) (was q : QueuesView) → q ≡ record was { time = at } → at ≡ now → AreTables p was → All (λ t. t.trigger.queue < length q.queues) q.triggers
+pub alike-at : (now : ℤ) (node : NodePart) (at : ℤ) (p : RowPart) (was q : QueuesView) → q ≡ record was { time = at } → at ≡ now → AreTables p was → All (λ t. t.trigger.queue < length q.queues) q.triggers
     → Alike now node (seen_with (with_node node p) was) p q
 alike-at now node at p was q is time tables within = record { whole = λ i. seen_with (with_node node p) (sym is i); time = ap QueuesView.time is ∙ time; tables = subst (AreTables p) (sym is) tables; within = within }
 
 -- after a turn from there what is kept of tables is true
-pub tables-behind_turn : (now : ℤ) (node : Option Node) (at : ℤ) (p after : RowPart) (was q left : QueuesView) (gated told : Turn)
+pub tables-behind_turn : (now : ℤ) (node : NodePart) (at : ℤ) (p after : RowPart) (was q left : QueuesView) (gated told : Turn)
     → (Alike now node (seen_with (with_node node p) was) p q → SameTold event_rule (Alike now node) (seen_with (with_node node p) was) p q gated told)
     → q ≡ record was { time = at } → at ≡ now → AreTables p was → All (λ t. t.trigger.queue < length q.queues) q.triggers → after ≡ after_part_marks p gated.marks → left ≡ passed_all event_rule q gated.marks → AreTables after left
 tables-behind_turn now node at p after was q left gated told tells is time tables within =
     told-tables now node (seen_with (with_node node p) was) p after q left gated told (tells (alike-at now node at p was q is time tables within))
+
+-- the turns of rows do marks of rows, and list no event
+pub step-rows : (p : RowPart) (q : QueuesView) (who : ℕ) (stmt : RowStmt) → TurnOfRows (row_turn (by_gate event_rule part_by_itself) (p, q) who stmt)
+step-rows p q who stmt = row_turn-rows-by (by_gate event_rule part_by_itself) (by_gate-rows event_rule part_by_itself itself-rows) (p, q) who stmt
+
+pub settle-rows : (p : RowPart) (q : QueuesView) → TurnOfRows (settling (by_gate event_rule part_by_itself) (p, q))
+settle-rows p q = settling-rows-by (by_gate event_rule part_by_itself) (by_gate-rows event_rule part_by_itself itself-rows) (p, q)
 
 -- ---- a statement on rows, after the switches that it makes
 
@@ -310,7 +339,7 @@ pub record Stepped (now : ℤ) (d s : Database) (who : ℕ) (stmt : RowStmt) (ga
   pub answers : (database_turn database_by_itself d now who (Row stmt)).answers ≡ gated.answers
   pub changed : s ≡ after_marks d (database_turn database_by_itself d now who (Row stmt)).marks
 
-pub stepped : (now : ℤ) (node : Option Node) (at : ℤ) (p after : RowPart) (old was q left : QueuesView) (who : ℕ) (stmt : RowStmt)
+pub stepped : (now : ℤ) (node : NodePart) (at : ℤ) (p after : RowPart) (old was q left : QueuesView) (who : ℕ) (stmt : RowStmt)
     → seen_with (with_node node p) was ≡ after_marks (seen_with (with_node node p) old) (first_switches (seen_with (with_node node p) old) at who stmt)
     → q ≡ record was { time = at } → at ≡ now → AreTables p was → All (λ t. t.trigger.queue < length q.queues) q.triggers
     → after ≡ after_part_marks p (row_turn (by_gate event_rule part_by_itself) (p, q) who stmt).marks → left ≡ passed_all event_rule q (row_turn (by_gate event_rule part_by_itself) (p, q) who stmt).marks
@@ -335,31 +364,28 @@ stepped now node at p after old was q left who stmt first is time tables within 
         (step-told now node (seen_with (with_node node p) was) p q who stmt (alike-at now node at p was q is time tables within))
 
     changed : seen_with (with_node node after) left ≡ after_marks d (first_switches d now who stmt ++ (row_turn (within_part database_by_itself now) (after_marks d (first_switches d now who stmt)) who stmt).marks)
-    changed = told-changed now node (after_marks d (first_switches d now who stmt)) p after q left gated _ same part_is left_is ∙ sym (after_marks-append d (first_switches d now who stmt) _)
+    changed = told-changed now node (after_marks d (first_switches d now who stmt)) p after q left gated _ same (step-rows p q who stmt) (ap Database.copies (sym made)) part_is left_is ∙ sym (after_marks-append d (first_switches d now who stmt) _)
 
 -- ---- a block that is rolled back
 
 -- marks of rows among which there is no write
-pub unwritten : (node : Option Node) (p : RowPart) (q : QueuesView) (marks : List Mark) → RowMarks marks → WritesNone marks
+pub unwritten : (node : NodePart) (p : RowPart) (q : QueuesView) (marks : List Mark) → RowMarks marks → WritesNone marks
     → seen_with (with_node node (after_part_marks p marks)) (passed_all event_rule q marks) ≡ after_marks (seen_with (with_node node p) q) marks
 unwritten node p q [] rows plain = refl
 unwritten node p q (queued mark ∷ marks) rows plain = absurd rows
 unwritten node p q (noded mark ∷ marks) rows plain = absurd rows
 unwritten node p q (tabled (wrote who t table key old new) ∷ marks) rows plain = absurd plain
 unwritten node p q (tabled (read_only table on) ∷ marks) rows plain = absurd rows
-unwritten node p q (ended whose t false ∷ marks) rows plain =
-    unwritten node (after_part p (ended whose t false)) (event_rule.undone q t) marks rows plain ∙ ap (λ x. after_marks x marks) (sym (undone-shown node p q whose t))
+unwritten node p q (began (of_copy table) t ∷ marks) rows plain = absurd rows
+unwritten node p q (ended (of_copy table) t committed ∷ marks) rows plain = absurd rows
+unwritten node p q (ended (of_session who) t false ∷ marks) rows plain =
+    unwritten node (after_part p (ended (of_session who) t false)) (event_rule.undone q t) marks rows plain ∙ ap (λ x. after_marks x marks) (sym (undone-shown node p q (of_session who) t))
+unwritten node p q (ended of_worker t false ∷ marks) rows plain =
+    unwritten node (after_part p (ended of_worker t false)) (event_rule.undone q t) marks rows plain ∙ ap (λ x. after_marks x marks) (sym (undone-shown node p q of_worker t))
 unwritten node p q (ended whose t true ∷ marks) rows plain = unwritten node (after_part p (ended whose t true)) q marks rows plain
 unwritten node p q (mark ∷ marks) rows plain = unwritten node (after_part p mark) q marks rows plain
 
-pub failure-unwritten : (node : Option Node) (p : RowPart) (q : QueuesView) (who : ℕ) (o : Option ℕ) (b : Block)
+pub failure-unwritten : (node : NodePart) (p : RowPart) (q : QueuesView) (who : ℕ) (o : Option ℕ) (b : Block)
     → seen_with (with_node node (after_part_marks p (failure who o b))) (passed_all event_rule q (failure who o b)) ≡ after_marks (seen_with (with_node node p) q) (failure who o b)
 failure-unwritten node p q who o b =
     unwritten node p q (failure who o b) (failure-rows who o b) (each-failure AnyReply is_no_write (λ _. tt) (plain-if no_more refl) who o b)
-
--- the turns of rows do marks of rows, and list no event
-pub step-rows : (p : RowPart) (q : QueuesView) (who : ℕ) (stmt : RowStmt) → TurnOfRows (row_turn (by_gate event_rule part_by_itself) (p, q) who stmt)
-step-rows p q who stmt = row_turn-rows-by (by_gate event_rule part_by_itself) (by_gate-rows event_rule part_by_itself itself-rows) (p, q) who stmt
-
-pub settle-rows : (p : RowPart) (q : QueuesView) → TurnOfRows (settling (by_gate event_rule part_by_itself) (p, q))
-settle-rows p q = settling-rows-by (by_gate event_rule part_by_itself) (by_gate-rows event_rule part_by_itself itself-rows) (p, q)

@@ -14,3 +14,4 @@ pub mod RotationSteps
 pub mod Looking
 pub mod NodeSteps
 pub mod ProviderSteps
+pub mod CopySteps

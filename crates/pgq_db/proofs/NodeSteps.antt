@@ -11,7 +11,9 @@ use Rattle.sky_model.specs.declared.reply.Refusal.TheVariants.{ConsumerExists, I
 use Rattle.sky_model.specs.History.{Mark, tabled, read_only, queued, registered, traced, untraced, noded, NodeMark, listed, unlisted, joined, parted, leaf_made, leaf_added, leaf_removed, state_set}
 use Rattle.sky_model.specs.Nodes.{after_node}
 use Rattle.sky_model.specs.Triggers.{triggers_of}
+use Rattle.sky_model.specs.Copies.{copy_txid}
 use Rattle.sky_model.specs.State.{after_part, Database, after_mark, after_marks}
+use Rattle.sky_model.specs.StepCopy.{given_up}
 use Rattle.sky_model.specs.ShownRows.{least_writer}
 use Rattle.sky_model.specs.Outcome.{Outcome, Checked, ◌>>=◌, ◌>>◌, refused_if, refused_by, answers, does_marks, marks_of}
 use Rattle.sky_model.specs.StepQueue.{newest_id}
@@ -21,7 +23,7 @@ use Rattle.sky_model.specs.Daemon.{quietly}
 use Rattle.sky_model.specs.DatabaseCalls.{served}
 use Rattle.sky_model.specs.DatabaseSteps.{DatabaseSteps}
 use Rattle.sky_model.specs.Stops.{Refuses}
-use Rattle.sky_model.proofs.DatabaseStanding.{database_steps_from_exact}
+use Rattle.sky_model.proofs.DatabaseStanding.{database_steps_from_exact, after_marks-append}
 use Rattle.sky_model.proofs.NodeDeeds.{is-served}
 use Rattle.sky_state.specs.Views.{RowStateView}
 use Rattle.sky_state.specs.Seen.{seen}
@@ -61,7 +63,7 @@ steps-unless-if (Err e) old new call serves = tt
 pub served-nothing : (d : Database) (call : NodeCall) → may_serve call d.node ≡ true → call_form d call ≡ answers Null → Serves d d call
 served-nothing d call may none = let same : node_does d call ≡ answers Null = is-served d call may ∙ none in record { accepted = ap is_ok same; changed = sym (ap (λ c. after_marks d (marks_of c)) same) }
 
-table-missing : (v now : DbView) (table : List ℕ) → v ≡ now → place_of table (seen v.rows).tables ≡ None → place_of table (seen_database now).part.tables ≡ None
+pub table-missing : (v now : DbView) (table : List ℕ) → v ≡ now → place_of table (seen v.rows).tables ≡ None → place_of table (seen_database now).part.tables ≡ None
 table-missing v now table same missing = subst (λ (w : DbView). place_of table (seen w.rows).tables ≡ None) same missing
 
 -- one that is there isn't missing
@@ -70,7 +72,7 @@ table-not v now table same missing there = let none : is_some (table_number (see
 
 module _ (v now : DbView) (name : List ℕ) (same : v ≡ now) (missing : place_of name (seen v.rows).tables ≡ None) where
   pub removing-nothing : may_serve (removing name) (seen_database now).node ≡ true → Serves (seen_database now) (seen_database now) (removing name)
-  removing-nothing may = served-nothing (seen_database now) (removing name) may (ap (λ o. if_there o (λ t. removes t name)) (table-missing v now name same missing))
+  removing-nothing may = served-nothing (seen_database now) (removing name) may (ap (λ o. if_there o (λ t. removes (seen_database now) t name)) (table-missing v now name same missing))
 
   pub unlisting-nothing : may_serve (unlisting name) (seen_database now).node ≡ true → Serves (seen_database now) (seen_database now) (unlisting name)
   unlisting-nothing may = served-nothing (seen_database now) (unlisting name) may (ap (λ o. if_there o (λ t. unlists t name)) (table-missing v now name same missing))
@@ -103,9 +105,9 @@ listed-back (Some (of_root r)) table may = ap (λ (names : List (List ℕ)). Som
 listed-back (Some (of_leaf l)) table may = refl
 listed-back None table may = refl
 
-pub back-as : (v now : DbView) (queues : QueuesView) (node : Option Node) → v ≡ now → ((beside : Beside) → seen_with beside queues ≡ seen_with beside v.queues) → node ≡ v.node
-    → seen_database (record v { queues = queues; node = node }) ≡ seen_database now
-back-as v now queues node same is back = is (with_node node (seen v.rows)) ∙ (λ i. seen_with (with_node (back i) (seen v.rows)) v.queues) ∙ ap seen_database same
+pub back-as : (v now : DbView) (queues : QueuesView) (node : Option Node) → v ≡ now → ((beside : Beside) → seen_with beside queues ≡ seen_with beside v.queues) → node ≡ v.node.own
+    → seen_database (record v { queues = queues; node = record v.node { own = node } }) ≡ seen_database now
+back-as v now queues node same is back = is (with_node (record v.node { own = node }) (seen v.rows)) ∙ (λ i. seen_with (with_node (record v.node { own = back i }) (seen v.rows)) v.queues) ∙ ap seen_database same
 
 -- ---- a leaf's consumer joins
 
@@ -148,30 +150,30 @@ module _ (d : Database) (q : ℕ) (consumer : List ℕ) (set : set_queue d ≡ S
 -- the queues have a consumer more, and the node too
 pub joined-as : (v now : DbView) (queues : QueuesView) (node : Option Node) (q tick newest : ℕ) (consumer : List ℕ) → v ≡ now
     → ((beside : Beside) → seen_with beside queues ≡ after_mark (seen_with beside v.queues) (queued (registered q consumer (v.queues.last_sub_id + 1) tick)))
-    → node ≡ after_node (joined consumer) v.node → tick ≡ newest
-    → seen_database (record v { queues = queues; node = node }) ≡ after_marks (seen_database now) (queued (registered q consumer ((seen_database now).last_sub_id + 1) newest) ∷ noded (joined consumer) ∷ [])
+    → node ≡ after_node (joined consumer) v.node.own → tick ≡ newest
+    → seen_database (record v { queues = queues; node = record v.node { own = node } }) ≡ after_marks (seen_database now) (queued (registered q consumer ((seen_database now).last_sub_id + 1) newest) ∷ noded (joined consumer) ∷ [])
 joined-as v now queues node q tick newest consumer same mark noding at =
-    mark (with_node node (seen v.rows))
-    ∙ (λ i. after_mark (seen_with (with_node (noding i) (seen v.rows)) v.queues) (queued (registered q consumer (v.queues.last_sub_id + 1) (at i))))
+    mark (with_node (record v.node { own = node }) (seen v.rows))
+    ∙ (λ i. after_mark (seen_with (with_node (record v.node { own = noding i }) (seen v.rows)) v.queues) (queued (registered q consumer (v.queues.last_sub_id + 1) (at i))))
     ∙ ap (λ (w : DbView). after_marks (seen_database w) (queued (registered q consumer ((seen_database w).last_sub_id + 1) newest) ∷ noded (joined consumer) ∷ [])) same
 
 -- ---- the database gets a leaf, or a table of it a state
 
-noded-as : (v now : DbView) (node : Option Node) (mark : NodeMark) → v ≡ now → node ≡ after_node mark v.node → seen_database (record v { node = node }) ≡ after_marks (seen_database now) (noded mark ∷ [])
-noded-as v now node mark same noding = (λ i. seen_with (with_node (noding i) (seen v.rows)) v.queues) ∙ ap (λ (w : DbView). after_marks (seen_database w) (noded mark ∷ [])) same
+noded-as : (v now : DbView) (node : Option Node) (mark : NodeMark) → ((d : Database) → after_mark d (noded mark) ≡ record d { node = after_node mark d.node }) → v ≡ now → node ≡ after_node mark v.node.own → seen_database (record v { node = record v.node { own = node } }) ≡ after_marks (seen_database now) (noded mark ∷ [])
+noded-as v now node mark plain same noding = (λ i. seen_with (with_node (record v.node { own = noding i }) (seen v.rows)) v.queues) ∙ sym (plain (seen_database v)) ∙ ap (λ (w : DbView). after_marks (seen_database w) (noded mark ∷ [])) same
 
 pub leaf-as : (v now : DbView) (leaf : Leaf) (n p name provider : List ℕ) (tick : ℕ) → v ≡ now → (seen_database now).node ≡ None → leaf ≡ record { name = n; provider = p; tick = tick; tables = [] } → n ≡ name → p ≡ provider
-    → Serves (seen_database now) (seen_database (record v { node = Some (of_leaf leaf) })) (making_leaf name provider tick)
+    → Serves (seen_database now) (seen_database (record v { node = record v.node { own = Some (of_leaf leaf) } })) (making_leaf name provider tick)
 leaf-as v now leaf n p name provider tick same bare is named from =
     let may : may_serve (making_leaf name provider tick) (seen_database now).node ≡ true = ap is_none bare in
     let whole : leaf ≡ record { name = name; provider = provider; tick = tick; tables = [] } = is ∙ (λ i. record { name = named i; provider = from i; tick = tick; tables = [] }) in
-    let made : Some (of_leaf leaf) ≡ after_node (leaf_made name provider tick) v.node = ap (λ (l : Leaf). Some (of_leaf l)) whole in
-    serves-by (seen_database now) _ (making_leaf name provider tick) _ (is-served (seen_database now) (making_leaf name provider tick) may) (noded-as v now (Some (of_leaf leaf)) (leaf_made name provider tick) same made)
+    let made : Some (of_leaf leaf) ≡ after_node (leaf_made name provider tick) v.node.own = ap (λ (l : Leaf). Some (of_leaf l)) whole in
+    serves-by (seen_database now) _ (making_leaf name provider tick) _ (is-served (seen_database now) (making_leaf name provider tick) may) (noded-as v now (Some (of_leaf leaf)) (leaf_made name provider tick) (λ d. refl) same made)
 
-pub moved-as : (v now : DbView) (node : Option Node) (table : List ℕ) (state : TableState) → v ≡ now → may_serve (moving table state) (seen_database now).node ≡ true → node ≡ after_node (state_set table state) v.node
-    → Serves (seen_database now) (seen_database (record v { node = node })) (moving table state)
+pub moved-as : (v now : DbView) (node : Option Node) (table : List ℕ) (state : TableState) → v ≡ now → may_serve (moving table state) (seen_database now).node ≡ true → node ≡ after_node (state_set table state) v.node.own
+    → Serves (seen_database now) (seen_database (record v { node = record v.node { own = node } })) (moving table state)
 moved-as v now node table state same may noding =
-    serves-by (seen_database now) _ (moving table state) _ (is-served (seen_database now) (moving table state) may) (noded-as v now node (state_set table state) same noding)
+    serves-by (seen_database now) _ (moving table state) _ (is-served (seen_database now) (moving table state) may) (noded-as v now node (state_set table state) (λ d. refl) same noding)
 
 -- ---- a table joins a leaf, or leaves it
 
@@ -181,8 +183,8 @@ adding-there d name table o may there busy =
     is-served d (adding name) may ∙ ap (λ x. if_there x (λ t. adds d t name)) there ∙ ap (λ x. refused_by (option_map TableBusy x) >> does_marks Done (noded (leaf_added name) ∷ tabled (read_only table true) ∷ [])) busy
 
 pub removing-there : (d : Database) (name : List ℕ) (table : ℕ) → may_serve (removing name) d.node ≡ true → place_of name d.part.tables ≡ Some table
-    → node_does d (removing name) ≡ does_marks Done (noded (leaf_removed name) ∷ tabled (read_only table false) ∷ [])
-removing-there d name table may there = is-served d (removing name) may ∙ ap (λ x. if_there x (λ t. removes t name)) there
+    → node_does d (removing name) ≡ does_marks Done (given_up table name (copy_txid table d.copies) ++ noded (leaf_removed name) ∷ tabled (read_only table false) ∷ [])
+removing-there d name table may there = is-served d (removing name) may ∙ ap (λ x. if_there x (λ t. removes d t name)) there
 
 -- ---- a table joins a set, or leaves it
 
@@ -209,28 +211,28 @@ unlisting-there d name table may there = is-served d (unlisting name) may ∙ ap
 
 pub listed-as : (v now : DbView) (queues : QueuesView) (node : Option Node) (q table : ℕ) (name : List ℕ) → v ≡ now
     → ((beside : Beside) → seen_with beside queues ≡ after_mark (seen_with beside v.queues) (queued (traced table None (set_trigger q))))
-    → node ≡ after_node (listed name) v.node
-    → seen_database (record v { queues = queues; node = node }) ≡ after_marks (seen_database now) (noded (listed name) ∷ queued (traced table None (set_trigger q)) ∷ [])
+    → node ≡ after_node (listed name) v.node.own
+    → seen_database (record v { queues = queues; node = record v.node { own = node } }) ≡ after_marks (seen_database now) (noded (listed name) ∷ queued (traced table None (set_trigger q)) ∷ [])
 listed-as v now queues node q table name same mark noding =
-    mark (with_node node (seen v.rows))
-    ∙ (λ i. after_mark (seen_with (with_node (noding i) (seen v.rows)) v.queues) (queued (traced table None (set_trigger q))))
+    mark (with_node (record v.node { own = node }) (seen v.rows))
+    ∙ (λ i. after_mark (seen_with (with_node (record v.node { own = noding i }) (seen v.rows)) v.queues) (queued (traced table None (set_trigger q))))
     ∙ ap (λ (w : DbView). after_marks (seen_database w) (noded (listed name) ∷ queued (traced table None (set_trigger q)) ∷ [])) same
 
 pub unlisted-as : (v now : DbView) (queues : QueuesView) (node : Option Node) (table : ℕ) (name : List ℕ) → v ≡ now
     → ((beside : Beside) → seen_with beside queues ≡ after_mark (seen_with beside v.queues) (queued (untraced table)))
-    → node ≡ after_node (unlisted name) v.node
-    → seen_database (record v { queues = queues; node = node }) ≡ after_marks (seen_database now) (noded (unlisted name) ∷ queued (untraced table) ∷ [])
+    → node ≡ after_node (unlisted name) v.node.own
+    → seen_database (record v { queues = queues; node = record v.node { own = node } }) ≡ after_marks (seen_database now) (noded (unlisted name) ∷ queued (untraced table) ∷ [])
 unlisted-as v now queues node table name same mark noding =
-    mark (with_node node (seen v.rows))
-    ∙ (λ i. after_mark (seen_with (with_node (noding i) (seen v.rows)) v.queues) (queued (untraced table)))
+    mark (with_node (record v.node { own = node }) (seen v.rows))
+    ∙ (λ i. after_mark (seen_with (with_node (record v.node { own = noding i }) (seen v.rows)) v.queues) (queued (untraced table)))
     ∙ ap (λ (w : DbView). after_marks (seen_database w) (noded (unlisted name) ∷ queued (untraced table) ∷ [])) same
 
 -- sessions may not write a table of a leaf, or may again
 pub guarded-as : (v now : DbView) (rows : RowStateView) (node : Option Node) (table : ℕ) (on : Bool) (mark : Mark) → v ≡ now → seen rows ≡ after_part (seen v.rows) (tabled (read_only table on))
-    → (change : Option Node → Option Node) → ((d : Database) → after_mark d mark ≡ record d { node = change d.node }) → node ≡ change v.node
-    → seen_database (record v { rows = rows; node = node }) ≡ after_marks (seen_database now) (mark ∷ tabled (read_only table on) ∷ [])
+    → (change : Option Node → Option Node) → ((d : Database) → after_mark d mark ≡ record d { node = change d.node }) → node ≡ change v.node.own
+    → seen_database (record v { rows = rows; node = record v.node { own = node } }) ≡ after_marks (seen_database now) (mark ∷ tabled (read_only table on) ∷ [])
 guarded-as v now rows node table on mark same guarding change marks noding =
-    (λ i. seen_with (with_node (noding i) (guarding i)) v.queues)
+    (λ i. seen_with (with_node (record v.node { own = noding i }) (guarding i)) v.queues)
     ∙ ap (λ d. after_mark d (tabled (read_only table on))) (sym (marks (seen_database v)))
     ∙ ap (λ (w : DbView). after_marks (seen_database w) (mark ∷ tabled (read_only table on) ∷ [])) same
 
@@ -245,15 +247,21 @@ module _ (v now : DbView) (name : List ℕ) (table : ℕ) (same : v ≡ now) (ma
   pub adding-busy : (txid : ℕ) → Some txid ≡ least_writer (seen v.rows) table → ServesUnlessBusy (Some txid) (seen_database now) (seen_database now) (adding name)
   adding-busy txid busy = record { refused = adding-with (Some txid) busy; same = refl }
 
-  pub adding-does : (rows : RowStateView) (node : Option Node) → None ≡ least_writer (seen v.rows) table → seen rows ≡ after_part (seen v.rows) (tabled (read_only table true)) → node ≡ after_node (leaf_added name) v.node
-      → Serves (seen_database now) (seen_database (record v { rows = rows; node = node })) (adding name)
+  pub adding-does : (rows : RowStateView) (node : Option Node) → None ≡ least_writer (seen v.rows) table → seen rows ≡ after_part (seen v.rows) (tabled (read_only table true)) → node ≡ after_node (leaf_added name) v.node.own
+      → Serves (seen_database now) (seen_database (record v { rows = rows; node = record v.node { own = node } })) (adding name)
   adding-does rows node free guarding noding =
       serves-by (seen_database now) _ (adding name) _ (adding-with None free) (guarded-as v now rows node table true (noded (leaf_added name)) same guarding (after_node (leaf_added name)) (λ d. refl) noding)
 
--- and leaves it
-pub removing-does : (v now : DbView) (name : List ℕ) (table : ℕ) → v ≡ now → may_serve (removing name) (seen_database now).node ≡ true → place_of name (seen v.rows).tables ≡ Some table
-    → (rows : RowStateView) (node : Option Node) → seen rows ≡ after_part (seen v.rows) (tabled (read_only table false)) → node ≡ after_node (leaf_removed name) v.node
-    → Serves (seen_database now) (seen_database (record v { rows = rows; node = node })) (removing name)
-removing-does v now name table same may there rows node guarding noding =
-    serves-by (seen_database now) _ (removing name) _ (removing-there (seen_database now) name table may (table-there v now name table same there))
-    (guarded-as v now rows node table false (noded (leaf_removed name)) same guarding (after_node (leaf_removed name)) (λ d. refl) noding)
+-- and leaves it, after a copy of it was given up
+module _ (v now : DbView) (name : List ℕ) (table : ℕ) (same : v ≡ now) (may : may_serve (removing name) (seen_database now).node ≡ true) (there : place_of name (seen v.rows).tables ≡ Some table) where
+  abbrev gone : List Mark
+  gone = given_up table name (copy_txid table now.node.copies)
+
+  pub removing-does : (w left : DbView) → w ≡ left → seen_database left ≡ after_marks (seen_database now) gone
+      → (rows : RowStateView) (node : Option Node) → seen rows ≡ after_part (seen w.rows) (tabled (read_only table false)) → node ≡ after_node (leaf_removed name) w.node.own
+      → Serves (seen_database now) (seen_database (record w { rows = rows; node = record w.node { own = node } })) (removing name)
+  removing-does w left is given rows node guarding noding =
+      serves-by (seen_database now) _ (removing name) _ (removing-there (seen_database now) name table may (table-there v now name table same there))
+      (guarded-as w left rows node table false (noded (leaf_removed name)) is guarding (after_node (leaf_removed name)) (λ d. refl) noding
+      ∙ ap (λ d. after_marks d (noded (leaf_removed name) ∷ tabled (read_only table false) ∷ [])) given
+      ∙ sym (after_marks-append (seen_database now) gone (noded (leaf_removed name) ∷ tabled (read_only table false) ∷ [])))

@@ -92,13 +92,13 @@ stays-as v now queues q consumer (Some id) same set was gone nothing = absurd (c
 pub parted-as : (v now : DbView) (queues : QueuesView) (node : Option Node) (q : ℕ) (consumer : List ℕ) (o : Option ℕ) → v ≡ now → set_queue (seen_database now) ≡ Some q
     → o ≡ option_map Subscription.id ((queue_at v.queues q).sub consumer) → is_some o ≡ true
     → IfSome o (λ sub. (beside : Beside) → seen_with beside queues ≡ after_mark (seen_with beside v.queues) (queued (unregistered q consumer sub)))
-    → node ≡ after_node (parted consumer) v.node → Serves (seen_database now) (seen_database (record v { queues = queues; node = node })) (parting consumer)
+    → node ≡ after_node (parted consumer) v.node.own → Serves (seen_database now) (seen_database (record v { queues = queues; node = record v.node { own = node } })) (parting consumer)
 parted-as v now queues node q consumer None same set was there mark noding = absurd (cc)
 parted-as v now queues node q consumer (Some id) same set was there mark noding =
     serves-by (seen_database now) _ (parting consumer) _
     (part-does (seen_database now) q consumer set id (was ∙ ap (λ (w : DbView). option_map Subscription.id ((queue_at w.queues q).sub consumer)) same))
-    (mark (with_node node (seen v.rows))
-    ∙ (λ i. after_mark (seen_with (with_node (noding i) (seen v.rows)) v.queues) (queued (unregistered q consumer id)))
+    (mark (with_node (record v.node { own = node }) (seen v.rows))
+    ∙ (λ i. after_mark (seen_with (with_node (record v.node { own = noding i }) (seen v.rows)) v.queues) (queued (unregistered q consumer id)))
     ∙ ap (λ (w : DbView). after_marks (seen_database w) (queued (unregistered q consumer id) ∷ noded (parted consumer) ∷ [])) same)
 
 -- ---- a batch is taken

@@ -7,9 +7,9 @@ use Rattle.std.proofs.lemmas.List.Elements.{All-cons, All-append, All-filter}
 use Rattle.sky_keys.specs.Waits.{Waiting, is_waiting}
 use Rattle.sky_model.specs.declared.stmt.Stmt.{Stmt}
 use Rattle.sky_model.specs.declared.reply.Reply.{Reply}
-use Rattle.sky_model.specs.History.{Mark, ended, looked, tabled, waits, waited, queued, made}
+use Rattle.sky_model.specs.History.{Mark, ended, looked, tabled, waits, waited, queued, made, noded, NodeMark, hold_begun, hold_ended}
 use Rattle.sky_model.specs.Sessions.{Block}
-use Rattle.sky_model.specs.State.{Database, after_mark, after_marks}
+use Rattle.sky_model.specs.State.{Database, after_mark, after_marks, RowPart}
 use Rattle.sky_model.specs.Allowed.{where_of, allowed}
 use Rattle.sky_model.specs.Reader.{PartReader, database_by_itself, within_part, shown_by}
 use Rattle.sky_model.specs.Settling.{Turn, turn_of, behind_marks, ready, resumed, goes_on, settles, settling, with_settling}
@@ -61,6 +61,12 @@ IsWithin count w = w.who < count
 abbrev IsKnown : ℕ → ℕ × Reply → Type 0
 IsKnown count answer = answer.0 < count
 
+-- what happens to a node leaves the row part as it was
+part-stays : (d : Database) (mark : NodeMark) → (after_mark d (noded mark)).part ≡ d.part
+part-stays d (hold_begun hold) = refl
+part-stays d (hold_ended hold) = refl
+part-stays d mark = refl
+
 within-behind : (count who : ℕ) → who < count → (d : Database) (marks : List Mark) → OwnWaits who marks → WaitersWithin count d.part.waiting → WaitersWithin count (after_marks d marks).part.waiting
 within-behind count who lt d [] own within = within
 within-behind count who lt d (tabled (waits v table key attempt) ∷ marks) own within =
@@ -73,6 +79,8 @@ within-behind count who lt d (tabled (waited v) ∷ marks) own within =
     within-behind count who lt (after_mark d (tabled (waited v))) marks own (All-filter (λ w. not (w.who == v)) (IsWithin count) d.part.waiting within)
 within-behind count who lt d (ended v t true ∷ marks) own within = within-behind count who lt (after_mark d (ended v t true)) marks own within
 within-behind count who lt d (queued (made name t time) ∷ marks) own within = within-behind count who lt (after_mark d (queued (made name t time))) marks own within
+within-behind count who lt d (noded mark ∷ marks) own within =
+    within-behind count who lt (after_mark d (noded mark)) marks own (subst (λ (p : RowPart). WaitersWithin count p.waiting) (sym (part-stays d mark)) within)
 within-behind count who lt d (mark ∷ marks) own within = within-behind count who lt (after_mark d mark) marks own within
 
 waiting-within : (count who : ℕ) (ws : List Waiting) → WaitersWithin count ws → is_waiting who ws ≡ true → who < count

@@ -7,3 +7,4 @@ pub mod Gives
 pub mod Configured
 pub mod Waiters
 pub mod Served
+pub mod Copying

@@ -7,7 +7,7 @@ use Rattle.sky_model.specs.declared.reply.Reply.TheVariants.{Number, Null}
 use Rattle.sky_model.specs.Consumers.{Subscription}
 use Rattle.sky_model.specs.State.{Database, after_marks}
 use Rattle.sky_model.specs.Outcome.{reply_of, marks_of}
-use Rattle.sky_model.specs.StepNode.{set_queue, NodeCall, joining, fetching, listing, node_does}
+use Rattle.sky_model.specs.StepNode.{set_queue, NodeCall, joining, fetching, listing, beginning_copy, node_does}
 use Rattle.sky_model.specs.Stops.{Refuses}
 use Rattle.pgq_db.specs.declared.provider.NodeBatch.{NodeBatch}
 use Rattle.pgq_db.specs.declared.faults.JoinFault.{JoinFault}
@@ -16,6 +16,8 @@ use Rattle.pgq_db.specs.declared.faults.RootFault.{RootFault}
 use Rattle.pgq_db.specs.declared.faults.RootFault.TheVariants as root
 use Rattle.pgq_db.specs.declared.faults.FetchFault.{FetchFault}
 use Rattle.pgq_db.specs.declared.faults.FetchFault.TheVariants as fetch
+use Rattle.pgq_db.specs.declared.faults.CopyFault.{CopyFault}
+use Rattle.pgq_db.specs.declared.faults.CopyFault.TheVariants as copy
 
 -- it did what the call's definition says, which isn't refused
 pub record Serves (old new : Database) (call : NodeCall) : Type 0 where
@@ -65,3 +67,8 @@ Fetched (Some batch) old new consumer = Takes batch old new consumer
 abbrev pub ServesUnlessBusy : Option ℕ → (old new : Database) → NodeCall → Type 0
 ServesUnlessBusy None old new call = Serves old new call
 ServesUnlessBusy (Some txid) old new call = Refuses old new (refusal.TableBusy txid) (node_does old call)
+
+-- the copy of a table doesn't begin, as its call's definition says, and nothing has changed; or memory ran out
+abbrev pub CopyRefused : CopyFault → (old new : Database) → (table : List ℕ) → Type 0
+CopyRefused copy.TxidsSpent old new table = Refuses old new refusal.TxidsSpent (node_does old (beginning_copy table))
+CopyRefused copy.NoMemory old new table = Unit {0}

@@ -1,10 +1,10 @@
 -- What contracts see of a database, as the code keeps it.
-use Rattle.std.specs.Prelude.{Option}
-use Rattle.londiste_state.specs.Nodes.{Node}
 use Rattle.sky_state.specs.Views.{RowStateView}
 use Rattle.pgq_queues.specs.Views.{QueuesView}
+-- what a database keeps for sets of replicated tables: its node, if it has one; the copies that run in it; and the snapshots that it holds
+pub use Rattle.pgq_db.specs.declared.node_part.NodePart.{NodePart}
 
 pub record DbView : Type 0 where
   pub rows : RowStateView
   pub queues : QueuesView
-  pub node : Option Node
+  pub node : NodePart

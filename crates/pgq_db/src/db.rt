@@ -27,8 +27,8 @@ ghost use Rattle.pgq_db.specs.Gives.{Gives, Adds};
 ghost use Rattle.pgq_db.specs.Looks.{ReadsNone};
 ghost use Rattle.pgq_db.specs.Configured.{refusal_for, configured_as, Configures};
 
+use crate::node_part::NodePart;
 use crate::rotation::switch_before;
-use londiste_state::Node;
 use pgq_queues::Queues;
 use pgq_sub::Sub;
 use pgq_tick::ConfigFault;
@@ -39,14 +39,15 @@ use std::alloc::{AllocError, Global};
 use std::marker::Model;
 use std::mem;
 
-/// One database: its transactions, sessions, tables and rows; its queues; and its node, if it has one. Once memory has
-/// run out in `step`, `fail` or `daemon` nothing is said of it.
+/// One database: its transactions, sessions, tables and rows; its queues; and its node, if it has one, with the copies
+/// that run here and the snapshots that are held. Once memory has run out in `step`, `fail` or `daemon` nothing is said
+/// of it.
 #[derive(Drop)]
 pub struct Db {
     pub(crate) alloc: Global,
     pub(crate) rows: RowDb,
     pub(crate) queues: Queues,
-    pub(crate) node: Option<Node>,
+    pub(crate) node: NodePart,
     // What the row part does in one call.
     step: RowStep,
     // Whether memory ran out while a statement on rows ran, one of them resumed, or a block was rolled back. What the
@@ -77,7 +78,7 @@ impl Db {
             alloc,
             rows: RowDb::new(alloc),
             queues: Queues::new(alloc),
-            node: None,
+            node: NodePart::new(alloc),
             step: RowStep::ends(alloc),
             is_cut: false,
         }

@@ -1,5 +1,6 @@
 //! Why a database refuses a call for a node.
 
+use sky_trans::TransFault;
 use std::alloc::AllocError;
 use thiserror::Error;
 
@@ -64,5 +65,39 @@ impl From<AllocError> for FetchFault {
 
     fn from(_: AllocError) -> FetchFault {
         FetchFault::NoMemory
+    }
+}
+
+/// Why the copy of a table doesn't begin.
+#[derive(Clone, Copy, Debug, PartialEq, Eq, Error)]
+pub enum CopyFault {
+    #[error("the last transaction id was given")]
+    TxidsSpent,
+    #[error("out of memory")]
+    NoMemory,
+}
+
+impl From<AllocError> for CopyFault {
+    ghost use Rattle.std.specs.Prelude.{◌≡◌};
+    ghost use Rattle.pgq_db.specs.declared.faults.CopyFault.TheVariants.{NoMemory};
+
+    ghost from_gives = { λ _ fault. fault ≡ NoMemory };
+
+    fn from(_: AllocError) -> CopyFault {
+        CopyFault::NoMemory
+    }
+}
+
+impl From<TransFault> for CopyFault {
+    ghost use Rattle.std.specs.Prelude.{◌≡◌};
+    ghost use Rattle.pgq_db.specs.Copying.{copy_fault_of};
+
+    ghost from_gives = { λ from fault. fault ≡ copy_fault_of from };
+
+    fn from(fault: TransFault) -> CopyFault {
+        match fault {
+            TransFault::TxidsSpent => CopyFault::TxidsSpent,
+            TransFault::NoMemory => CopyFault::NoMemory,
+        }
     }
 }

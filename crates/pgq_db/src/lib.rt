@@ -7,20 +7,24 @@
 //! each rollback, in their order, and before a `commit` they make the switches of event tables that its transaction has
 //! pending. A statement that is run elsewhere comes in by `enter`, and if it is refused there, `fail` aborts the block
 //! that its session is in.
-//! What a node needs of its own database, or of another, is a call each, in `node` and `provider`.
+//! What a node needs of its own database, or of another, is a call each, in `node` and `provider`; a copy's are in
+//! `copies` and `holds`.
 //! Nothing here knows a session's name, another database, or a byte of a script.
 #![tactic(auto)]
 
 mod consumers;
+mod copies;
 mod daemon;
 mod db;
 mod faults;
+mod holds;
 mod node;
+mod node_part;
 mod provider;
 mod retries;
 mod rotation;
 mod statements;
 
 pub use db::Db;
-pub use faults::{FetchFault, JoinFault, RootFault};
+pub use faults::{CopyFault, FetchFault, JoinFault, RootFault};
 pub use provider::NodeBatch;

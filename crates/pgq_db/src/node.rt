@@ -10,7 +10,7 @@ ghost use Rattle.sky_model.specs.NodesOfWorld.{columns_called};
 ghost use Rattle.sky_model.specs.Queues.{queue_name};
 ghost use Rattle.sky_model.specs.Daemon.{quietly};
 ghost use Rattle.sky_model.specs.DatabaseCalls.{served};
-ghost use Rattle.sky_model.specs.DatabaseSteps.{DatabaseSteps};
+ghost use Rattle.sky_model.specs.DatabaseSteps.{DatabaseSteps, IsMade};
 ghost use Rattle.sky_model.specs.StepConsumer.{has_dot, is_nodes};
 ghost use Rattle.sky_model.specs.StepQueue.{newest_id};
 ghost use Rattle.sky_model.specs.StepNode.{set_queue, set_trigger, create_root, joining, making_leaf, adding, removing, moving, listing, unlisting, table_number, may_serve, node_does};
@@ -33,7 +33,7 @@ impl Db {
     pub fn node(&self) -> Option<&Node>
         ensures { option_copied result ≡ (seen_database self.now).node }
     {
-        self.node.as_ref()
+        self.node.own.as_ref()
     }
 
     /// Whether the node is a root whose queue exists.
@@ -74,10 +74,10 @@ impl Db {
         }
         let newest = self.queues.queue(queue).ticks().newest().id();
         let name = consumer.copy(self.alloc)?;
-        add_consumer(&mut self.node, name)?;
+        add_consumer(&mut self.node.own, name)?;
         if let Err(no_memory) = self.queues.register(queue, consumer, newest) {
             // It wasn't among the leaves' consumers before, since these are registered.
-            remove_consumer(&mut self.node, consumer);
+            remove_consumer(&mut self.node.own, consumer);
             return Err(JoinFault::from(no_memory));
         }
         Ok(newest)
@@ -94,7 +94,7 @@ impl Db {
         let name = name.copy(self.alloc)?;
         let provider = provider.copy(self.alloc)?;
         let leaf = Leaf::new(self.alloc, name, provider, tick);
-        self.node = Some(Node::Leaf(leaf));
+        self.node.own = Some(Node::Leaf(leaf));
         Ok(())
     }
 
@@ -114,21 +114,24 @@ impl Db {
             return Ok(Some(txid));
         }
         let name = table.copy(self.alloc)?;
-        add_leaf_table(&mut self.node, name)?;
+        add_leaf_table(&mut self.node.own, name)?;
         self.rows.set_read_only(number, true);
         Ok(None)
     }
 
-    /// Removes a table from the leaf, which has it. From then on sessions may write it again.
+    /// Removes a table from the leaf, which has it. From then on sessions may write it again. A copy of it that runs is
+    /// given up.
     pub fn leaf_drop(&mut self, table: &Text)
-        requires { may_serve (removing table.now) (seen_database self.old).node ≡ true }
+        requires made { IsMade (seen_database self.old) }
+        requires may { may_serve (removing table.now) (seen_database self.old).node ≡ true }
         ensures serves { Serves (seen_database self.old) (seen_database self.new) (removing table.now) }
         ensures steps { DatabaseSteps (seen_database self.old) (seen_database self.new) (served (removing table.now)) (quietly (node_does (seen_database self.old) (removing table.now))) }
     {
         let Some((number, _)) = self.rows.table(table) else {
             return;
         };
-        remove_leaf_table(&mut self.node, table);
+        self.give_up_copy(number);
+        remove_leaf_table(&mut self.node.own, table);
         self.rows.set_read_only(number, false);
     }
 
@@ -138,7 +141,7 @@ impl Db {
         ensures serves { Serves (seen_database self.old) (seen_database self.new) (moving table.now to) }
         ensures steps { DatabaseSteps (seen_database self.old) (seen_database self.new) (served (moving table.now to)) (quietly (node_does (seen_database self.old) (moving table.now to))) }
     {
-        set_leaf_state(&mut self.node, table, to);
+        set_leaf_state(&mut self.node.own, table, to);
     }
 
     /// Adds a table to the set, which doesn't have it yet. From then on the set's queue gets the events of the table's
@@ -164,10 +167,10 @@ impl Db {
             return Ok(Some(txid));
         }
         let name = table.copy(self.alloc)?;
-        add_root_table(&mut self.node, name)?;
+        add_root_table(&mut self.node.own, name)?;
         let trigger = set_trigger(self.alloc, number, queue);
         if let Err(no_memory) = self.queues.trace(table, schema, trigger) {
-            remove_root_table(&mut self.node, table);
+            remove_root_table(&mut self.node.own, table);
             return Err(RootFault::from(no_memory));
         }
         Ok(None)
@@ -182,7 +185,7 @@ impl Db {
         let Some((number, _)) = self.rows.table(table) else {
             return;
         };
-        remove_root_table(&mut self.node, table);
+        remove_root_table(&mut self.node.own, table);
         self.queues.untrace(number);
     }
 
@@ -198,7 +201,7 @@ impl Db {
         requires { IsTime now }
         ensures { Ran self.old self.new replies.old replies.new who result (create_root (seen_database self.old) now who name.now queue.now) }
     {
-        if self.node.is_some() {
+        if self.node.own.is_some() {
             let name = name.copy(self.alloc)?;
             return Err(Stop::Refused(Refusal::NodeExists(name)));
         }
@@ -222,7 +225,7 @@ impl Db {
         let name = name.copy(self.alloc)?;
         let queue = queue.copy(self.alloc)?;
         let root = Root::new(self.alloc, name, queue);
-        self.node = Some(Node::Root(root));
+        self.node.own = Some(Node::Root(root));
         Ok(())
     }
 
@@ -231,7 +234,7 @@ impl Db {
         ensures queue { result ≡ set_queue (seen_database self.now) }
         ensures stands { IfSome result (λ queue. Stands self.now.queues.queues queue) }
     {
-        match &self.node {
+        match &self.node.own {
             Some(Node::Root(root)) => self.queues.number(root.queue()),
             _ => None,
         }
@@ -241,7 +244,7 @@ impl Db {
     pub(crate) fn is_set_queue(&self, queue: &Text) -> bool
         ensures { result ≡ is_set_queue queue.now (seen_database self.now).node }
     {
-        is_set_queue(&self.node, queue)
+        is_set_queue(&self.node.own, queue)
     }
 
     /// Whether a consumer of the queue of this name is a node's, so that no session may use it: its name has a dot, or
@@ -252,7 +255,7 @@ impl Db {
         if has_dot(consumer) {
             return true;
         }
-        match &self.node {
+        match &self.node.own {
             Some(Node::Root(root)) => *queue == *root.queue() && root.has_consumer(consumer),
             _ => false,
         }
@@ -265,7 +268,7 @@ impl Db {
         if has_dot(consumer) {
             return true;
         }
-        match &self.node {
+        match &self.node.own {
             Some(Node::Root(root)) => {
                 self.queues.has_name(queue, root.queue()) && root.has_consumer(consumer)
             }

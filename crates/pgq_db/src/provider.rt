@@ -55,7 +55,7 @@ impl Db {
         if self.queues.unregister(queue, consumer).is_none() {
             return;
         }
-        remove_consumer(&mut self.node, consumer);
+        remove_consumer(&mut self.node.own, consumer);
     }
 
     /// The active batch of a leaf's consumer. If it has none, a new one up to the next tick, if there is one. On an error

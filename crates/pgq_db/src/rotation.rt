@@ -2,7 +2,7 @@
 //! what the daemon does of it.
 
 ghost use Rattle.std.specs.Prelude.{◌≡◌, Option, None, IfOk, IfErr, OnOk, if◌then◌else◌};
-ghost use Rattle.londiste_state.specs.Nodes.{Node};
+ghost use Rattle.pgq_db.specs.Views.{NodePart};
 ghost use Rattle.sky_model.specs.Moment.{IsTime};
 ghost use Rattle.sky_model.specs.Outcome.{reply_of, marks_of};
 ghost use Rattle.sky_model.specs.Sessions.{outside, inside};
@@ -123,7 +123,7 @@ pub(crate) fn switch_before(
     stmt: &RowStmt,
 )
     requires { IsTime now }
-    ensures marks { (node : Option Node) → seen_with (with_node node (seen rows.now)) queues.new
+    ensures marks { (node : NodePart) → seen_with (with_node node (seen rows.now)) queues.new
         ≡ after_marks (seen_with (with_node node (seen rows.now)) queues.old) (first_switches (seen_with (with_node node (seen rows.now)) queues.old) now who stmt.now) }
     ensures rest { KeepsRest queues.old queues.new }
 {

@@ -472,7 +472,7 @@ impl Db {
             return Err(Stop::Refused(Refusal::NoTable(table.copy(self.alloc)?)));
         };
         let number_of_queue = queue_called(self.alloc, &self.queues, queue)?;
-        if is_set_queue(&self.node, queue) {
+        if is_set_queue(&self.node.own, queue) {
             return Err(Stop::Refused(Refusal::SetQueue));
         }
         if self.queues.has_trigger(number, name) {

@@ -8,6 +8,7 @@ use Rattle.sky_model.specs.History as model
 use Rattle.sky_model.specs.Queues.{NamedQueue}
 use Rattle.pgq_tables.specs.Tables.{no_tables}
 use Rattle.sky_model.specs.Config.{default_config}
+use Rattle.sky_model.specs.Copies.{Copy, Hold}
 use Rattle.sky_model.specs.State.{Queue, RowPart, Database}
 use Rattle.pgq_sub.specs.declared.sub.OpenBatch.{OpenBatch}
 use Rattle.pgq_sub.specs.Views.{SubView}
@@ -85,10 +86,12 @@ queue_at q n = seen_queue (slice_index_or q.queues n no_queue)
 abbrev pub batch_at : QueuesView → ℕ → Option model.Batch
 batch_at q id = batch_by (sub_at q.queues) id (kept q.batches id)
 
--- what a database has beside its queues: its row part, and its node, if it has one
+-- what a database has beside its queues: its row part; its node, if it has one; the copies that run in it, and the snapshots that it holds
 pub record Beside : Type 0 where
   pub part : RowPart
   pub node : Option Node
+  pub copies : List Copy
+  pub holds : List Hold
 
 -- the database that these are the queues of
 abbrev pub seen_with : Beside → QueuesView → Database
@@ -103,6 +106,8 @@ seen_with beside q = record {
   triggers = q.triggers;
   retries = q.retries;
   node = beside.node;
+  copies = beside.copies;
+  holds = beside.holds;
 }
 
 -- the queues of a database in which nothing has happened

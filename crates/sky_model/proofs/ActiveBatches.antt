@@ -82,7 +82,7 @@ active_batches _ (next {h = h} l (makes name t time new)) id b is =
 active_batches _ (next {h = h} l (ticks_next p m time seq i e c)) id b is =
     let a : IsActive h id b = active_batches h l id b is in
     record { named = a.named; owned = a.owned; alone = a.alone; begins = a.begins; ends = a.ends; closing = or_right (p == b.queue && m == b.cur) (is_made b.queue b.cur h) a.closing }
-active_batches _ (next {h = h} l (registers p name sub t i none f g low)) id b is =
+active_batches _ (next {h = h} l (registers p name sub t i none f g low few)) id b is =
     let a : IsActive h id b = active_batches h l id b is in
     by_test (λ x. IsActiveFor (if x then Some sub else subscription_id b.queue b.consumer h) (if x then None else active b.queue b.consumer h) (if x then t else position b.queue b.consumer h) (is_made b.queue b.cur h) id b)
     (p == b.queue && bytes_eq b.consumer name) (λ test. absurd (cc (sym a.owned ∙ same_consumer (λ q c. subscription_id q c h) p b.queue name b.consumer test ∙ none))) (λ _. a)

@@ -54,7 +54,7 @@ finished_lead _ (next {h = h} l (ticks_next p m time seq i e c)) queue consumer 
     LeadFor-more queue consumer (subscription_id queue consumer h) (λ t. is_made queue t h) (λ t. (p == queue && m == t) || is_made queue t h)
     (λ t. or_right (p == queue && m == t) (is_made queue t h)) (first_tick queue consumer h) (finished queue consumer h) (position queue consumer h)
     (finished_lead h l queue consumer)
-finished_lead _ (next {h = h} l (registers p name sub t i none f g low)) queue consumer =
+finished_lead _ (next {h = h} l (registers p name sub t i none f g low few)) queue consumer =
     by_test (λ x. LeadFor queue consumer (if x then Some sub else subscription_id queue consumer h) (λ t. is_made queue t h)
     (if x then t else first_tick queue consumer h) (if x then [] else finished queue consumer h) (if x then t else position queue consumer h)) (p == queue && bytes_eq consumer name) (λ _. refl) (λ _. finished_lead h l queue consumer)
 finished_lead _ (next {h = h} l (moves p name sub t i has least most low)) queue consumer =

@@ -56,6 +56,8 @@ use Rattle.sky_model.proofs.Turns.{same-turn_read}
 use Rattle.sky_model.proofs.Lawful.{past-behind, database-reads, good_with_settling-by, good_turn, good_then, maint_may}
 use Rattle.sky_model.proofs.PastHistories.{on_top-append, history-marks, AreOutside, history-outside, beside-outside}
 use Rattle.sky_model.proofs.Cases.{by_same}
+use Rattle.sky_model.proofs.CopiesCovered.{AllCovered, covered-start}
+use Rattle.sky_model.proofs.CoveredCalls.{covered-does}
 
 -- ---- calls of a database
 
@@ -146,23 +148,24 @@ good_does h l between (worked part now) = good_daemon_does h l part now
 good_does h l between (served call) = node-chain h l between call
 good_does h l between (failed who now) = good_fails h l who now
 
--- the history that calls make is legal, and its node is
+-- the history that calls make is legal, its node is, and its copies are
 record IsLawful (h : History) : Type 0 where
   legal : Legal h
   stands : NodeStands h
+  covered : AllCovered h
 
 -- so a database without a node has no read-only table
 bare-writable : (h : History) → NodeStands h → node h ≡ None → AllWritable h
 bare-writable h stands bare table = stands.guarding table ∙ ap (λ n. is_one_of (table_names h) (leaf_tables n) table) bare
 
 lawful_calls : (calls : List DatabaseCall) → IsLawful (after_all database_part calls)
-lawful_calls [] = record { legal = start; stands = stands-start }
+lawful_calls [] = record { legal = start; stands = stands-start; covered = covered-start }
 lawful_calls (call ∷ calls) =
     let h : History = after_all database_part calls in
     let before : IsLawful h = lawful_calls calls in
     let chain : Chain h (database_does database_by_history h call).marks =
-    good_does h before.legal (record { rests = calls-rest calls; writable = bare-writable h before.stands }) call in
-    record { legal = legal_behind h (database_does database_by_history h call).marks before.legal chain; stands = stands-does h before.legal before.stands call chain }
+    good_does h before.legal (record { rests = calls-rest calls; writable = bare-writable h before.stands; guarding = before.stands.guarding; covered = before.covered }) call in
+    record { legal = legal_behind h (database_does database_by_history h call).marks before.legal chain; stands = stands-does h before.legal before.stands call chain; covered = covered-does h before.legal before.covered call chain }
 
 pub legal_calls : (calls : List DatabaseCall) → Legal (after_all database_part calls)
 legal_calls calls = (lawful_calls calls).legal

@@ -3,13 +3,15 @@ use Rattle.std.proofs.Common.{◌≡◌, ℕ, ◌+◌, false, List, [], ◌∷�
 use Rattle.sky_val.specs.declared.event.Event.{Event}
 use Rattle.pgq_retry.specs.declared.retry.Retry.{Retry}
 use Rattle.pgq_retry.specs.Retries.{without as without_retry, without_sub}
-use Rattle.sky_model.specs.History.{Batch, Mark, ended, queued, made, raised, put, ticked, registered, moved, unregistered, opened, closed, asked, returned, switching, switched, second_step, traced, untraced, configured, dropped, noded}
+use Rattle.sky_model.specs.History.{Batch, Mark, ended, queued, made, raised, put, ticked, registered, moved, unregistered, opened, closed, asked, returned, switching, switched, second_step, traced, untraced, configured, dropped, noded, began, hold_begun, hold_ended}
 use Rattle.sky_model.specs.Triggers.{TableTrigger, but_sets}
 use Rattle.londiste_state.specs.Nodes.{Node}
 use Rattle.sky_model.specs.Nodes.{after_node}
 use Rattle.sky_model.specs.Queues.{NamedQueue, others_than}
 use Rattle.sky_model.specs.Consumers.{of_another}
-use Rattle.sky_model.specs.State.{RowPart, after_part, Database, changed_at, after_mark, after_marks}
+use Rattle.sky_model.specs.State.{RowPart, after_part, Database, changed_at, after_mark, after_marks, by_copy}
+use Rattle.sky_model.specs.Copies.{Copy, without_copy, Hold, without_hold}
+use Rattle.sky_txid.specs.Snapshot.{snapshot_of}
 
 -- the second marks are the first ones with ids taken and events stored in between
 pub data Inserted : List Mark → List Mark → Type 0 where
@@ -40,14 +42,17 @@ pub record BesideQueues : Type 0 where
   pub triggers : List TableTrigger
   pub retries : List Retry
   pub node : Option Node
+  pub copies : List Copy
+  pub holds : List Hold
 
 abbrev pub beside : Database → BesideQueues
-beside d = record { part = d.part; last_batch_id = d.last_batch_id; last_sub_id = d.last_sub_id; queues_made = d.queues_made; queues = d.queues; batch = d.batch; triggers = d.triggers; retries = d.retries; node = d.node }
+beside d = record { part = d.part; last_batch_id = d.last_batch_id; last_sub_id = d.last_sub_id; queues_made = d.queues_made; queues = d.queues; batch = d.batch; triggers = d.triggers; retries = d.retries; node = d.node; copies = d.copies; holds = d.holds }
 
 -- a mark changes it alike
 beside-mark : (d e : Database) (mark : Mark) → beside d ≡ beside e → beside (after_mark d mark) ≡ beside (after_mark e mark)
-beside-mark d e (ended who t false) same = λ i. record (same i) { part = after_part (same i).part (ended who t false) }
-beside-mark d e (ended who t true) same = λ i. record (same i) { part = after_part (same i).part (ended who t true) }
+beside-mark d e (ended who t false) same = λ i. record (same i) { part = after_part (same i).part (ended who t false); copies = by_copy who (λ table. without_copy t) (same i).copies }
+beside-mark d e (ended who t true) same = λ i. record (same i) { part = after_part (same i).part (ended who t true); copies = by_copy who (λ table. without_copy t) (same i).copies }
+beside-mark d e (began who t) same = λ i. record (same i) { part = after_part (same i).part (began who t); copies = by_copy who (λ table cs. cs ++ record { table = table; txid = t } ∷ []) (same i).copies }
 beside-mark d e (queued (made name t time)) same = λ i. record (same i) {
   queues_made = (same i).queues_made + 1;
   queues = (same i).queues ++ record { number = (same i).queues_made; name = name } ∷ [];
@@ -71,6 +76,10 @@ beside-mark d e (queued (traced table name trigger)) same = λ i. record (same i
   triggers = (same i).triggers ++ record { table = table; name = name; trigger = trigger } ∷ [];
 }
 beside-mark d e (queued (untraced table)) same = λ i. record (same i) { triggers = but_sets table (same i).triggers }
+beside-mark d e (noded (hold_begun number)) same = λ i. record (same i) {
+  holds = (same i).holds ++ record { number = number; snapshot = snapshot_of (same i).part.next (same i).part.running_ids } ∷ [];
+}
+beside-mark d e (noded (hold_ended number)) same = λ i. record (same i) { holds = without_hold number (same i).holds }
 beside-mark d e (noded mark) same = λ i. record (same i) { node = after_node mark (same i).node }
 beside-mark d e mark same = λ i. record (same i) { part = after_part (same i).part mark }
 

@@ -401,7 +401,7 @@ sits _ (next {h = h} l (ticks_next p id time seq i e at)) q consumer sub has =
     let new : Tick = record { id = id; time = time; snapshot = snapshot h; seq = seq } in
     by_test (λ b. base q h < xmin_of (tick (position q consumer h) (if b then ticks q h ++ new ∷ [] else ticks q h))) (p == q)
     (λ _. tick-more (base q h) (position q consumer h) (ticks q h) new ih) (λ _. ih)
-sits _ (next {h = h} l (registers p name new n i none f most low)) q consumer sub has =
+sits _ (next {h = h} l (registers p name new n i none f most low few)) q consumer sub has =
     by_test (λ b. (if b then Some new else subscription_id q consumer h) ≡ Some sub → base q h < xmin_of (tick (if b then n else position q consumer h) (ticks q h)))
     (p == q && bytes_eq consumer name)
     (λ both _. let same : p ≡ q = grind (arith, nat_tests, both) in subst (λ x. base x h < xmin_of (tick n (ticks x h))) same (sits-at h l p i n most low))

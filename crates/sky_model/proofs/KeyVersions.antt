@@ -7,23 +7,20 @@ use Rattle.std.proofs.lemmas.Bool.Decides.{nat_tests}
 use Rattle.sky_val.specs.declared.val.Val.{Val}
 use Rattle.sky_val.specs.Order.{key_cmp}
 use Rattle.sky_val.specs.Entries.{at}
-use Rattle.sky_keys.specs.Waits.{other_than}
 use Rattle.sky_txid.specs.Ids.{contains}
 use Rattle.sky_keys.specs.declared.version.Version.{Version}
 use Rattle.sky_keys.specs.Versions.{with_version, without, version_of, newest_by, row_of, versions_at}
 use Rattle.sky_keys.proofs.VersionLemmas.{OnlyLast, OthersPass, newest_with, newest_without, newest_more, version_of-with, version_of-without, only_more, only_without, only_with}
 use Rattle.sky_keys.proofs.EntryLemmas.{key_ties-is, versions_at-written, versions_at-forgotten}
-use Rattle.sky_model.specs.History.{Mark, of_session, ended, tabled, wrote, History, Whose}
+use Rattle.sky_model.specs.History.{Mark, ended, tabled, wrote, History, Whose}
 use Rattle.sky_model.specs.Transactions.{has_ended}
-use Rattle.sky_model.specs.Sessions.{own_txid}
 use Rattle.sky_model.specs.Rows.{committed, has_written, writes as writes_of, rows, last_writer}
 use Rattle.sky_model.specs.Versions.{versions}
-use Rattle.sky_model.specs.Locks.{holder}
-use Rattle.sky_model.proofs.Legal.{Fine, writes, Legal, start, next}
-use Rattle.sky_model.proofs.Snapshots.{own-unended, ender-unended}
+use Rattle.sky_model.proofs.Legal.{Fine, Legal, start, next}
+use Rattle.sky_model.proofs.Snapshots.{ender-unended}
 use Rattle.sky_model.proofs.RowWrites.{last_of, at-put_all, last_of-push, has_written-last_of, in_turn-push, in_turn-same, last_writer-push, last_writer-same}
 use Rattle.sky_model.proofs.RowKeys.{is_in_order-versions, committed-ended}
-use Rattle.sky_model.proofs.Holders.{nobody-else}
+use Rattle.sky_model.proofs.Holders.{IsAlone, alone}
 use Rattle.sky_model.proofs.Cases.{by_same}
 
 -- the versions of a key at a place
@@ -92,24 +89,24 @@ others-from p t (v ∷ vs) none = (
   others-from p t vs (λ u unended other. grind (arith, none u unended other)),
 )
 
-module _ (h : History) (l : Legal h) (who t n : ℕ) (at_key : List Val) (old new : Option (List Val)) (mine : own_txid who h ≡ Some t) (free : other_than who (holder n at_key h) ≡ None) where
+module _ (h : History) (l : Legal h) (whose : Whose) (t n : ℕ) (at_key : List Val) (old new : Option (List Val)) (is : IsAlone h t n at_key) where
   abbrev g : History
-  g = tabled (wrote (of_session who) t n at_key old new) ∷ h
+  g = tabled (wrote whose t n at_key old new) ∷ h
 
   unended : has_ended h t ≡ false
-  unended = own-unended h l who t mine
+  unended = is.runs
 
   -- no other running transaction has a version of the key
   unwritten : (k : KeyHolds h n at_key) (u : ℕ) → has_ended h u ≡ false → (t == u) ≡ false → version_of u (kept h n at_key) ≡ None
   unwritten k u runs_on other =
-      let quiet = false_from_ne_true (has_written at_key (writes_of n u h)) (nobody-else h l who t n at_key mine free u runs_on other) in
+      let quiet = false_from_ne_true (has_written at_key (writes_of n u h)) (is.others u runs_on other) in
       grind (arith, has_written-last_of at_key (writes_of n u h), k.own u runs_on, quiet)
 
   pub kept-wrote : (table : ℕ) (key : List Val) → kept g table key ≡ (if (n == table) && eq_by_cmp key_cmp key at_key then with_version t new (kept h table key) else kept h table key)
   kept-wrote table key = grind (arith, versions_at-written key t at_key new (versions table h))
 
   -- a write changes no committed transaction's writes
-  same-writes : (table u : ℕ) → contains u (committed h) ≡ true → writes_of table u g ≡ writes_of table u h
+  pub same-writes : (table u : ℕ) → contains u (committed h) ≡ true → writes_of table u g ≡ writes_of table u h
   same-writes table u there = grind (arith, nat_tests, committed-ended h u there, unended)
 
   own-wrote : (table : ℕ) (key : List Val) → KeyHolds h table key → (u : ℕ) → has_ended h u ≡ false
@@ -148,7 +145,7 @@ module _ (h : History) (l : Legal h) (who t n : ℕ) (at_key : List Val) (old ne
 key_step : (h : History) (mark : Mark) → Fine h mark → Legal h → (table : ℕ) (key : List Val) → KeyHolds h table key → KeyHolds (mark ∷ h) table key
 key_step h (ended whose t true) fine l table key k = key_committed h l whose t (ender-unended h l whose t true fine) table key k
 key_step h (ended whose t false) fine l table key k = key_rolled_back h l whose t (ender-unended h l whose t false fine) table key k
-key_step h _ (writes who t n at_key old new e free stands) l table key k = key_written h l who t n at_key old new e free table key k
+key_step h (tabled (wrote whose t n at_key old new)) fine l table key k = key_written h l whose t n at_key old new (alone h l fine) table key k
 key_step h _ _ l table key k = record { newest = k.newest; writer = k.writer; own = k.own; only = k.only }
 
 pub key_holds : (h : History) → Legal h → (table : ℕ) (key : List Val) → KeyHolds h table key

@@ -18,7 +18,7 @@ use Rattle.sky_model.specs.Retries.{retries}
 use Rattle.sky_model.specs.StepRetry.{retry_of, brings, most_back, maint_retry_events, back}
 use Rattle.sky_names.specs.Places.{place_of}
 use Rattle.sky_model.specs.History.{Batch, Mark, of_session, of_worker, began, ended, looked, tabled, waited, queued, made, raised, put, moved, unregistered, opened, closed, noded, root_made, History}
-use Rattle.sky_model.specs.Transactions.{next_txid, running, workers}
+use Rattle.sky_model.specs.Transactions.{next_txid, running}
 use Rattle.sky_model.specs.Sessions.{Block, outside, inside, failed, has_open, block, own_txid, session}
 use Rattle.sky_model.specs.Rows.{table_names, columns_of}
 use Rattle.sky_model.specs.Triggers.{triggers, triggers_of}
@@ -61,7 +61,7 @@ use Rattle.sky_model.specs.Telling.{tells}
 use Rattle.sky_model.proofs.StatementMarks.{by_commit, none-first}
 use Rattle.sky_model.proofs.ActiveBatches.{IsActive, of_another-is, active_batches}
 use Rattle.sky_model.proofs.RetriesBack.{AreBack, due-back, good_back, listed_is_stored, found_is_listed}
-use Rattle.sky_model.proofs.Snapshots.{contains-push}
+use Rattle.sky_model.proofs.Snapshots.{just_begun, sound}
 use Rattle.sky_model.proofs.Unneeded.{no-member, none-into, none-put}
 use Rattle.sky_model.proofs.Selecting.{events_below-next}
 use Rattle.sky_names.proofs.PlaceLemmas.{place_of_within}
@@ -153,9 +153,9 @@ good_takes_batch h l who q consumer sub None below stands =
 pub good_registers : (h : History) (who q : ℕ) (consumer : List ℕ) (at : ℕ) → IsQueue h q → subscription_id q consumer h ≡ None → at ≤ id_of (newest_tick (ticks q h)) → floor (queue_of h q) ≤ at
     → Good h who (registers_at (database_of h) q consumer at)
 good_registers h who q consumer at below new within low =
-    good_test h who (nat_le 256 (length ((database_of h).queue q).members)) _ _ (λ _.
+    good_test h who (nat_le 256 (length ((database_of h).queue q).members)) _ _ (λ room.
     good_test h who (nat_le (2 ^ 64) ((database_of h).last_sub_id + 1)) _ _ (λ _.
-    more (registers q consumer _ at below new (omega arith) within low) done))
+    more (registers q consumer _ at below new (omega arith) within low (grind (arith, nat_tests, room))) done))
 
 -- one that leaves
 pub good_leaves_queue : (h : History) (who q : ℕ) (consumer : List ℕ) (o : Option ℕ) → IsQueue h q → subscription_id q consumer h ≡ o
@@ -174,8 +174,8 @@ brings_may h l now (r ∷ rs) are = of (nat_le (2 ^ 62) (next_txid h))
     of : (spent : Bool) → Chain h (marks_of ((refused_if spent TxidsSpent >> Ok t) >>= (λ id. does_marks (Number (length (r ∷ rs))) (began of_worker id ∷ back now id (r ∷ rs) ++ ended of_worker id true ∷ []))))
     of true = done
     of false =
-        more begins_work (good_back now t (r ∷ rs) (ended of_worker t true ∷ []) (λ g legal works. more (ends_work t true works) done)
-        (began of_worker t ∷ h) (next l begins_work) (grind (arith, nat_tests, contains-push t t (workers h)))
+        more begins_work (good_back now t (r ∷ rs) (ended of_worker t true ∷ []) (λ g legal is. more (ends_work t true is.work) done)
+        (began of_worker t ∷ h) (next l begins_work) (just_begun h (sound h l))
         (record { wait = are.wait; once = are.once; due = are.due }))
 
 pub maint_may : (h : History) → Legal h → (now : ℤ) → Chain h (marks_of (maint_retry_events (database_of h) now))

@@ -7,7 +7,7 @@ use Rattle.sky_keys.specs.Waits.{other_than, is_waiting}
 use Rattle.sky_names.specs.Places.{place_of}
 use Rattle.sky_urlenc.specs.RowEvents.{Trigger, Write, event_of, RowEvent, events_of}
 use Rattle.sky_model.specs.declared.reply.Refusal.TheVariants.{EventIdsSpent}
-use Rattle.sky_model.specs.History.{Mark, of_session, began, tabled, wrote, queued, made, raised, put, dropped, traced, untraced, noded, read_only, History, of_worker}
+use Rattle.sky_model.specs.History.{Mark, of_session, began, tabled, wrote, queued, made, raised, put, dropped, traced, untraced, noded, read_only, History, of_worker, of_copy, ended}
 use Rattle.sky_model.specs.Sessions.{has_open, Block, block, own_txid}
 use Rattle.sky_model.specs.Nodes.{node}
 use Rattle.sky_model.specs.Triggers.{TableTrigger, is_sets, triggers, triggers_of}
@@ -17,7 +17,7 @@ use Rattle.sky_model.specs.Outcome.{Outcome, Checked, ◌>>=◌, ◌>>◌, refus
 use Rattle.sky_model.specs.Telling.{write_in, events_in, told_event, event_marks, told_by, told_of, with_told, tells}
 use Rattle.sky_model.specs.Reader.{part_by_history}
 use Rattle.sky_model.specs.Settling.{behind_marks, marked}
-use Rattle.sky_model.proofs.Legal.{Replaces, MayWait, IsAmong, IsQueue, Fine, begins, ends, begins_work, ends_work, begins_block, fails_block, ends_block, connects, disconnects, repeats_block, looks, makes_table, writes, begins_waiting, ends_waiting, raises, puts, drops, traces, Chain, done, more, Legal, next, legal-below_mark}
+use Rattle.sky_model.proofs.Legal.{Replaces, MayWait, IsAmong, IsQueue, Fine, begins, ends, begins_work, ends_work, begins_block, fails_block, ends_block, connects, disconnects, repeats_block, looks, makes_table, writes, begins_waiting, ends_waiting, raises, puts, drops, traces, Chain, done, more, Legal, next, legal-below_mark, CopiesRow, copies_row}
 use Rattle.sky_model.proofs.QueueNumbers.{among-before, among-others}
 use Rattle.sky_model.proofs.Marks.{part_of-mark, database_of-mark, database_of-marks}
 use Rattle.sky_model.proofs.Selecting.{events_below-next}
@@ -26,6 +26,8 @@ use Rattle.std.proofs.lemmas.Result.{IfOk-at_ok}
 use Rattle.sky_model.proofs.Cases.{ok-then}
 use Rattle.sky_model.proofs.StatementMarks.{each-rest}
 use Rattle.sky_model.proofs.RowOutcomes.{is_of_rows, RowMarks, OfRows}
+use Rattle.sky_model.specs.Copies.{Copy, copies, is_copys}
+use Rattle.londiste_state.specs.Nodes.{Node}
 
 -- marks that may come next, and after them more that may
 pub good_append : (h : History) (xs ys : List Mark) → Chain h xs → Chain (behind_marks part_by_history h xs) ys → Chain h (xs ++ ys)
@@ -73,9 +75,13 @@ events-queues queues w ts among =
 
 -- ---- what records a mark may come after it
 
--- marks that may come next, and leave the row part and the node as they were; or a refusal
+-- the node of a database, and the copies that run there
+abbrev besides : History → Option Node × List Copy
+besides h = (node h, copies h)
+
+-- marks that may come next, and leave the row part, the node and the copies as they were; or a refusal
 abbrev ToldWell : History → Checked (List Mark) → Type 0
-ToldWell h x = IfOk x (λ marks. Chain h marks × (part_of (marked h marks) ≡ part_of h) × (node (marked h marks) ≡ node h))
+ToldWell h x = IfOk x (λ marks. Chain h marks × (part_of (marked h marks) ≡ part_of h) × (besides (marked h marks) ≡ besides h))
 
 told-well : (h : History) → Legal h → (now : ℤ) (who t : ℕ) (es : List RowEvent) → own_txid who h ≡ Some t → EventsAmong (queues h) es
     → ToldWell h (told_by (database_of h) now t es)
@@ -126,14 +132,19 @@ block-alike h g same who b is = sym (ap (λ (d : RowPart). (d.session who).block
 open-alike : (h g : History) → part_of h ≡ part_of g → (who : ℕ) (b : Bool) → has_open who h ≡ b → has_open who g ≡ b
 open-alike h g same who b is = sym (ap (λ (d : RowPart). (d.session who).is_open) same) ∙ is
 
-fine-alike : (h g : History) → part_of h ≡ part_of g → node h ≡ node g → (mark : Mark) (marks : List Mark) → RowMarks (mark ∷ marks) → Fine h mark → Fine g mark
+fine-alike : (h g : History) → part_of h ≡ part_of g → besides h ≡ besides g → (mark : Mark) (marks : List Mark) → RowMarks (mark ∷ marks) → Fine h mark → Fine g mark
 fine-alike h g same still (queued mark) marks rows fine = absurd rows
 fine-alike h g same still (noded mark) marks rows fine = absurd rows
 fine-alike h g same still (tabled (read_only table on)) marks rows fine = absurd rows
+fine-alike h g same still (began (of_copy table) t) marks rows fine = absurd rows
+fine-alike h g same still (ended (of_copy table) t committed) marks rows fine = absurd rows
 fine-alike h g same still _ marks rows (begins who none) = subst (λ n. Fine g (began (of_session who) n)) (sym (ap RowPart.next same)) (begins who (own-alike h g same who _ none))
 fine-alike h g same still _ marks rows (ends who t committed mine) = ends who t committed (own-alike h g same who _ mine)
 fine-alike h g same still _ marks rows begins_work = subst (λ n. Fine g (began of_worker n)) (sym (ap RowPart.next same)) begins_work
-fine-alike h g same still _ marks rows (ends_work t committed is) = ends_work t committed (sym (ap (λ (d : RowPart). contains t d.workers) same) ∙ is)
+fine-alike h g same still _ marks rows (ends_work t committed is) = ends_work t committed (record {
+  works = sym (ap (λ (d : RowPart). contains t d.workers) same) ∙ is.works;
+  apart = sym (ap (λ x. is_copys t x.1) still) ∙ is.apart;
+})
 fine-alike h g same still _ marks rows (begins_block who is is_open) = begins_block who (block-alike h g same who _ is) (open-alike h g same who _ is_open)
 fine-alike h g same still _ marks rows (fails_block who is none) = fails_block who (block-alike h g same who _ is) (own-alike h g same who _ none)
 fine-alike h g same still _ marks rows (ends_block who none) = ends_block who (own-alike h g same who _ none)
@@ -145,22 +156,26 @@ fine-alike h g same still _ marks rows (looks who) = looks who
 fine-alike h g same still _ marks rows (makes_table name columns new) = makes_table name columns (sym (ap (λ (d : RowPart). place_of name d.tables) same) ∙ new)
 fine-alike h g same still _ marks rows (writes who t table key old new mine free stands) =
     writes who t table key old new (own-alike h g same who _ mine) (sym (ap (λ (d : RowPart). other_than who (d.holder table key)) same) ∙ free)
-    (subst (λ n. Replaces (part_of g) n who table key old new) still (subst (λ d. Replaces d (node h) who table key old new) same stands))
+    (subst (λ n. Replaces (part_of g) n who table key old new) (ap (λ x. x.0) still) (subst (λ d. Replaces d (node h) who table key old new) same stands))
+fine-alike h g same still _ marks rows (copies_row table t key old new is) =
+    copies_row table t key old new (subst (λ cs. CopiesRow (part_of g) cs table t key old new) (ap (λ x. x.1) still) (subst (λ d. CopiesRow d (copies h) table t key old new) same is))
 fine-alike h g same still _ marks rows (begins_waiting who table key attempt may) =
-    begins_waiting who table key attempt (subst (λ n. MayWait (part_of g) n who table key attempt) still (subst (λ d. MayWait d (node h) who table key attempt) same may))
+    begins_waiting who table key attempt (subst (λ n. MayWait (part_of g) n who table key attempt) (ap (λ x. x.0) still) (subst (λ d. MayWait d (node h) who table key attempt) same may))
 fine-alike h g same still _ marks rows (ends_waiting who) = ends_waiting who
 
--- they leave the node as it was
-node-still : (h : History) (mark : Mark) (marks : List Mark) → RowMarks (mark ∷ marks) → node (mark ∷ h) ≡ node h
-node-still h (noded mark) marks rows = absurd rows
-node-still h _ marks rows = refl
+-- they leave the node and the copies as they were
+besides-still : (h : History) (mark : Mark) (marks : List Mark) → RowMarks (mark ∷ marks) → besides (mark ∷ h) ≡ besides h
+besides-still h (noded mark) marks rows = absurd rows
+besides-still h (began (of_copy table) t) marks rows = absurd rows
+besides-still h (ended (of_copy table) t committed) marks rows = absurd rows
+besides-still h _ marks rows = refl
 
-chain-alike : (h g : History) → part_of h ≡ part_of g → node h ≡ node g → (marks : List Mark) → RowMarks marks → Chain h marks → Chain g marks
+chain-alike : (h g : History) → part_of h ≡ part_of g → besides h ≡ besides g → (marks : List Mark) → RowMarks marks → Chain h marks → Chain g marks
 chain-alike h g same still [] rows done = done
 chain-alike h g same still (mark ∷ marks) rows (more fine chain) =
     more (fine-alike h g same still mark marks rows fine)
     (chain-alike (mark ∷ h) (mark ∷ g) (part_of-mark h mark ∙ ap (λ d. after_part d mark) same ∙ sym (part_of-mark g mark))
-    (node-still h mark marks rows ∙ still ∙ sym (node-still g mark marks rows)) marks (each-rest is_of_rows mark marks rows) chain)
+    (besides-still h mark marks rows ∙ still ∙ sym (besides-still g mark marks rows)) marks (each-rest is_of_rows mark marks rows) chain)
 
 -- ---- what a statement does
 

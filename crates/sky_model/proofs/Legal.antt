@@ -1,6 +1,6 @@
 -- Legal histories: each mark has evidence of why it may be there, so that a law about histories has one line for each kind of mark, and none for each
 -- statement.
-use Rattle.std.proofs.Common.{◌≡◌, ℕ, ◌+◌, ◌<◌, ◌≤◌, ◌==◌, ℤ, ◌≤ℤ◌, Bool, true, false, is_some, IfSome, All, Contains, List, [], ◌∷◌, Option, Some, None, length}
+use Rattle.std.proofs.Common.{◌≡◌, ℕ, ◌+◌, ◌<◌, ◌≤◌, ◌==◌, ℤ, ◌≤ℤ◌, Bool, true, false, is_some, IfSome, All, Contains, List, [], ◌∷◌, Option, Some, None, length, filter, not, ◌++◌, map}
 use Rattle.std.specs.List.{list_any}
 use Rattle.sky_val.specs.declared.event.Event.{Event}
 use Rattle.sky_val.specs.declared.val.Val.{Val}
@@ -15,17 +15,18 @@ use Rattle.sky_names.specs.Places.{place_of}
 use Rattle.sky_model.specs.declared.stmt.Set.{Set}
 use Rattle.sky_model.specs.declared.stmt.Attempt.{Attempt}
 use Rattle.sky_model.specs.declared.stmt.Attempt.TheVariants.{Insertion, Changes, Deletion}
-use Rattle.sky_model.specs.History.{Batch, Mark, of_session, of_worker, began, ended, block_begun, repeats, looked, block_failed, block_ended, connected, disconnected, tabled, table_made, wrote, waits, waited, read_only, noded, NodeMark, root_made, listed, unlisted, joined, parted, leaf_made, leaf_added, leaf_removed, state_set, queued, made, raised, put, ticked, registered, moved, unregistered, opened, closed, asked, returned, switching, switched, second_step, configured, dropped, traced, untraced, History}
+use Rattle.sky_model.specs.History.{Batch, Mark, of_session, of_worker, of_copy, began, ended, block_begun, repeats, looked, block_failed, block_ended, connected, disconnected, tabled, table_made, wrote, waits, waited, read_only, noded, NodeMark, root_made, listed, unlisted, joined, parted, leaf_made, leaf_added, leaf_removed, state_set, queued, made, raised, put, ticked, registered, moved, unregistered, opened, closed, asked, returned, switching, switched, second_step, configured, dropped, traced, untraced, History, copied, hold_begun}
 use Rattle.sky_model.specs.Config.{Config}
 use Rattle.sky_model.specs.Transactions.{next_txid, running, workers}
+use Rattle.sky_model.specs.Copies.{Copy, copies, is_copied, is_copied_by, is_copys, Hold, holds}
 use Rattle.sky_model.specs.Sessions.{has_open, outside, inside, block, own_txid}
-use Rattle.sky_model.specs.Rows.{table_names, is_read_only}
+use Rattle.sky_model.specs.Rows.{table_names, is_read_only, rows, writes as writes_of, has_written}
 use Rattle.sky_model.specs.Locks.{holder, waiting}
 use Rattle.sky_model.specs.Triggers.{triggers, triggers_of}
 use Rattle.sky_model.specs.Nodes.{node, is_leaf}
 use Rattle.londiste_state.specs.Nodes.{Node, of_root}
 use Rattle.sky_model.specs.Queues.{NamedQueue, queues, queue_number, sequence, events, event_tables, Tick, ticks, tick, newest_tick}
-use Rattle.sky_model.specs.Consumers.{subscription_id, subscription, last_subscription, last_batch, active_batch}
+use Rattle.sky_model.specs.Consumers.{consumers, subscription_id, subscription, last_subscription, last_batch, active_batch}
 use Rattle.sky_model.specs.Retries.{retries, retried, brought_by}
 use Rattle.sky_model.specs.Queues.{id_of}
 use Rattle.sky_model.specs.State.{RowPart, part_of, queue_of}
@@ -33,11 +34,14 @@ use Rattle.sky_model.specs.StepQueue.{has_part_in}
 use Rattle.sky_model.specs.StepConsumer.{floor}
 use Rattle.sky_model.specs.StepRotation.{held_by_second_step}
 use Rattle.sky_model.specs.ShownRows.{rows_by, least_writer}
+use Rattle.sky_model.specs.StepCopy.{row_for}
 use Rattle.sky_model.specs.StepNode.{set_trigger, NodeCall, adding, removing, moving, listing, unlisting, may_serve}
 use Rattle.sky_model.specs.StepRows.{column_called, bad_set, is_key_change}
 use Rattle.sky_model.specs.StepTrigger.{has_trigger}
 use Rattle.sky_model.specs.LawsOfWrites.{IsRowOf}
 use Rattle.sky_model.specs.LawsOfRetries.{ListsEvent}
+use Rattle.sky_val.specs.Entries.{at}
+use Rattle.sky_model.specs.LawsOfCopies.{IsLeastFree}
 
 -- a queue of this number is among them
 abbrev pub IsAmong : ℕ → List NamedQueue → Type 0
@@ -96,10 +100,62 @@ pub record Asks (h : History) (consumer : List ℕ) (source : Event) (retry : Re
   pub listed : ListsEvent h retry source
   pub fresh : is_asked retry.sub retry.event.ev_id (retries h) ≡ false
 
+-- ---- workers
+
+-- the transactions of workers that run and end in the step in which they began: those of copies aren't among them
+abbrev pub brief : History → List ℕ
+brief [] = []
+brief (began of_worker t ∷ h) = brief h ++ t ∷ []
+brief (ended of_worker t committed ∷ h) = filter (λ u. not (u == t)) (brief h)
+brief (_ ∷ h) = brief h
+
+-- a worker's transaction runs, and is no copy's
+pub record IsWork (h : History) (t : ℕ) : Type 0 where
+  pub works : contains t (workers h) ≡ true
+  pub apart : is_copys t (copies h) ≡ false
+
+-- and ends in the step in which it began
+pub record IsBrief (h : History) (t : ℕ) : Type 0 where
+  pub work : IsWork h t
+  pub brief : contains t (brief h) ≡ true
+
+-- the copy of a table may begin: the table is one of a leaf, and no copy of it runs
+pub record MayCopy (h : History) (table : ℕ) : Type 0 where
+  pub leaf : is_leaf (node h) ≡ true
+  pub guarded : is_read_only table h ≡ true
+  pub alone : is_copied table (copies h) ≡ false
+
+-- each row of a table is under a key that a transaction has written
+abbrev pub Covers : History → (table t : ℕ) → Type 0
+Covers h table t = (key : List Val) → is_some (at key (rows table h)) ≡ true → has_written key (writes_of table t h) ≡ true
+
+-- the copy that runs in this transaction may end: it commits only once it has written all keys that have rows
+pub record MayEndCopy (h : History) (table t : ℕ) (committed : Bool) : Type 0 where
+  pub runs : is_copied_by table t (copies h) ≡ true
+  pub whole : committed ≡ true → Covers h table t
+
+-- the copy of the table of a name has just committed
+pub record JustCopied (h : History) (name : List ℕ) : Type 0 where
+  pub below : History
+  pub table : ℕ
+  pub t : ℕ
+  pub last : h ≡ ended (of_copy table) t true ∷ below
+  pub there : place_of name (table_names below) ≡ Some table
+
+-- it may write a row, as its transaction: the old row is the one that is there for it, and the new one is one that the table may have there
+pub record CopiesRow (d : RowPart) (running : List Copy) (table t : ℕ) (key : List Val) (old new : Option (List Val)) : Type 0 where
+  pub within : table < length d.tables
+  pub runs : is_copied_by table t running ≡ true
+  pub stands : row_for d table t key ≡ old
+  pub fits : IfSome new (IsRowOf (d.columns table) key)
+
+-- ---- retries and switches
+
 -- a retry that waits comes back into its queue, which stands, in a worker's transaction; its event has an id that was given there
 pub record Returns (h : History) (retry : Retry) (t : ℕ) : Type 0 where
   pub waits : Contains (retries h) retry
   pub works : contains t (workers h) ≡ true
+  pub brief : contains t (brief h) ≡ true
   pub stands : IsQueue h retry.queue
   pub given : retry.event.ev_id ≤ sequence retry.queue h
 
@@ -167,6 +223,8 @@ NodeFits h (leaf_made name provider tick) = (node h ≡ None) × AllWritable h
 NodeFits h (leaf_added table) = Joins h (adding table) table
 NodeFits h (leaf_removed table) = Leaves h (removing table) table
 NodeFits h (state_set table state) = may_serve (moving table state) (node h) ≡ true
+NodeFits h (copied table snapshot tick) = JustCopied h table
+NodeFits h (hold_begun number) = IsLeastFree number (map Hold.number (holds h))
 NodeFits h _ = Unit {0}
 
 -- the last mark is such a one, of the table of this number
@@ -187,12 +245,12 @@ abbrev pub MayTrace : History → ℕ → Option (List ℕ) → Trigger → Type
 MayTrace h table None trigger = IsSets h table trigger
 MayTrace h table (Some name) trigger = (has_trigger name (triggers_of table (triggers h)) ≡ false) × IsNotSets h trigger.queue
 
--- a table becomes read-only as soon as it has joined a leaf, if it is unused, and may be written again as soon as it has left; if there is no node,
--- whoever uses the tables alone decides
+-- a table becomes read-only as soon as it has joined a leaf, if it is unused, and may be written again as soon as it has left, while no copy of it runs;
+-- if there is no node, whoever uses the tables alone decides
 pub data MayGuard (h : History) : ℕ → Bool → Type 0 where
   without_node : (table : ℕ) (on : Bool) → node h ≡ None → MayGuard h table on
   at_joining : (table : ℕ) → IsOfLast h leaf_added table → IsUnused h table → MayGuard h table true
-  at_leaving : (table : ℕ) → IsOfLast h leaf_removed table → MayGuard h table false
+  at_leaving : (table : ℕ) → IsOfLast h leaf_removed table → is_copied table (copies h) ≡ false → MayGuard h table false
 
 -- ---- all marks
 
@@ -201,7 +259,9 @@ pub data Fine (h : History) : Mark → Type 0 where
   begins : (who : ℕ) → own_txid who h ≡ None → Fine h (began (of_session who) (next_txid h))
   ends : (who t : ℕ) (committed : Bool) → own_txid who h ≡ Some t → Fine h (ended (of_session who) t committed)
   begins_work : Fine h (began of_worker (next_txid h))
-  ends_work : (t : ℕ) (committed : Bool) → contains t (workers h) ≡ true → Fine h (ended of_worker t committed)
+  ends_work : (t : ℕ) (committed : Bool) → IsWork h t → Fine h (ended of_worker t committed)
+  begins_copy : (table : ℕ) → MayCopy h table → Fine h (began (of_copy table) (next_txid h))
+  ends_copy : (table t : ℕ) (committed : Bool) → MayEndCopy h table t committed → Fine h (ended (of_copy table) t committed)
   begins_block : (who : ℕ) → block who h ≡ outside → has_open who h ≡ true → Fine h (block_begun who)
   fails_block : (who : ℕ) → block who h ≡ inside → own_txid who h ≡ None → Fine h (block_failed who)
   ends_block : (who : ℕ) → own_txid who h ≡ None → Fine h (block_ended who)
@@ -213,6 +273,8 @@ pub data Fine (h : History) : Mark → Type 0 where
   writes : (who t table : ℕ) (key : List Val) (old new : Option (List Val)) → own_txid who h ≡ Some t → other_than who (holder table key h) ≡ None
       → Replaces (part_of h) (node h) who table key old new
       → Fine h (tabled (wrote (of_session who) t table key old new))
+  copies_row : (table t : ℕ) (key : List Val) (old new : Option (List Val)) → CopiesRow (part_of h) (copies h) table t key old new
+      → Fine h (tabled (wrote (of_copy table) t table key old new))
   begins_waiting : (who table : ℕ) (key : List Val) (attempt : Attempt) → MayWait (part_of h) (node h) who table key attempt → Fine h (tabled (waits who table key attempt))
   ends_waiting : (who : ℕ) → Fine h (tabled (waited who))
   makes : (name : List ℕ) (t : ℕ) (time : ℤ) → queue_number name (queues h) ≡ None → Fine h (queued (made name t time))
@@ -221,7 +283,7 @@ pub data Fine (h : History) : Mark → Type 0 where
       → All (λ e. e.ev_id < event.ev_id) (events q h) → Fine h (queued (put q event))
   ticks_next : (q id : ℕ) (time : ℤ) (seq : ℕ) → IsQueue h q → id_of (newest_tick (ticks q h)) < id → id ≡ id_of (newest_tick (ticks q h)) + 1 → Fine h (queued (ticked q id time seq))
   registers : (q : ℕ) (name : List ℕ) (sub tick : ℕ) → IsQueue h q → subscription_id q name h ≡ None → last_subscription h < sub
-      → tick ≤ id_of (newest_tick (ticks q h)) → floor (queue_of h q) ≤ tick → Fine h (queued (registered q name sub tick))
+      → tick ≤ id_of (newest_tick (ticks q h)) → floor (queue_of h q) ≤ tick → length (consumers q h) < 256 → Fine h (queued (registered q name sub tick))
   moves : (q : ℕ) (name : List ℕ) (sub tick : ℕ) → IsQueue h q → subscription_id q name h ≡ Some sub → 1 ≤ tick
       → tick ≤ id_of (newest_tick (ticks q h)) → floor (queue_of h q) ≤ tick → Fine h (queued (moved q name tick))
   unregisters : (q : ℕ) (name : List ℕ) (sub : ℕ) → IsQueue h q → subscription_id q name h ≡ Some sub → Fine h (queued (unregistered q name sub))

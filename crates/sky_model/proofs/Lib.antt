@@ -21,6 +21,7 @@ pub mod BadWordLaw
 pub mod WordsInForm
 pub mod InFormLaw
 pub mod Marks
+pub mod LeastNumbers
 pub mod Legal
 pub mod QueueNumbers
 pub mod StandingQueues
@@ -31,6 +32,7 @@ pub mod NodeReadings
 pub mod SetQueues
 pub mod NodeTables
 pub mod WrittenTables
+pub mod Guarded
 pub mod Unawaited
 pub mod NodesStanding
 pub mod CallsRest
@@ -53,7 +55,10 @@ pub mod PastHistories
 pub mod ClockSteps
 mod DueMoments
 pub mod Lawful
+pub mod CopiesCovered
+pub mod CopyCalls
 pub mod NodeCalls
+pub mod CoveredCalls
 pub mod NodeDeeds
 pub mod Histories
 pub mod Promised
@@ -103,6 +108,8 @@ pub mod Inserted
 pub mod Telling
 pub mod LockLaws
 pub mod NodeLaws
+pub mod CopyLaws
+pub mod MadeCopies
 pub mod WritableTables
 pub mod Writers
 pub mod WriteOrder
@@ -122,6 +129,7 @@ pub mod IdsFollowWrites
 mod WorkedWrites
 mod WorkedTriggers
 mod WorkedWorkers
+mod WorkedCopies
 pub mod Splitting
 pub mod Scripts
 pub mod Naming

@@ -52,7 +52,7 @@ hit_once _ (next {h = h} l (puts who p event i at mine newest)) c q sub id t =
     (λ here same _ _. none-above id (events q h) (subst (λ n. All (λ e. e.ev_id < n) (events q h)) same (subst (λ n. All (λ e. e.ev_id < event.ev_id) (events n h)) here newest)) sub t)
 hit_once _ (next {h = h} l (puts_back retry u back)) c q sub id t =
     with_one retry.queue q sub id t (events q h) (brought_by u retry.event) (hit_once h l c.1 q sub id t)
-    (λ here same by is. (λ i. hits sub (sym same i) (sym by i) (events (sym here i) h)) ∙ c.0 back.works sub is)
+    (λ here same by is. (λ i. hits sub (sym same i) (sym by i) (events (sym here i) h)) ∙ c.0 back.brief sub is)
 hit_once _ (next {h = h} {mark = mark} l _) c q sub id t = hit_once h l (calm-below (mark ∷ []) h c) q sub id t
 
 -- what a batch lists is for its subscription

@@ -3,7 +3,7 @@ use Rattle.std.proofs.Common.{◌≡◌, ℕ, ◌+◌, List, [], ◌∷◌, ◌+
 use Rattle.sky_keys.specs.Waits.{released}
 use Rattle.sky_keys.specs.Versions.{forgotten}
 use Rattle.pgq_retry.specs.Retries.{without_sub}
-use Rattle.sky_model.specs.History.{Mark, of_session, of_worker, began, ended, block_begun, repeats, looked, block_failed, block_ended, connected, disconnected, tabled, wrote, queued, QueueMark, made, raised, put, ticked, registered, moved, unregistered, opened, closed, asked, returned, switching, switched, second_step, configured, dropped, traced, untraced, noded, History, Fact, appeared, founded, entered, left, within, clock_at, daemon_on, daemon_off, node_made, Past}
+use Rattle.sky_model.specs.History.{Mark, of_session, of_worker, began, ended, block_begun, repeats, looked, block_failed, block_ended, connected, disconnected, tabled, wrote, queued, QueueMark, made, raised, put, ticked, registered, moved, unregistered, opened, closed, asked, returned, switching, switched, second_step, configured, dropped, traced, untraced, noded, History, Fact, appeared, founded, entered, left, within, clock_at, daemon_on, daemon_off, node_made, Past, of_copy, hold_begun, hold_ended}
 use Rattle.sky_model.specs.Config.{default_config}
 use Rattle.pgq_tables.specs.Tables as tables_of
 use Rattle.pgq_tables.specs.Tables.{new_tables, with_stored, with_pending, with_second_step, no_tables}
@@ -150,13 +150,23 @@ part_of-mark h (block_ended who) = λ i. record (part_of h) { session = λ n. by
 part_of-mark h (connected who) = λ i. record (part_of h) { session = λ n. by_case (who == n) (λ b. record (session h n) { is_open = if b then true else (session h n).is_open }) i }
 part_of-mark h (disconnected who) = λ i. record (part_of h) { session = λ n. by_case (who == n) (λ b. record (session h n) { is_open = if b then false else (session h n).is_open }) i }
 part_of-mark h (ended of_worker t true) = refl
+part_of-mark h (ended of_worker t false) = refl
+part_of-mark h (ended (of_copy table) t true) = refl
+part_of-mark h (ended (of_copy table) t false) = refl
 part_of-mark h (tabled (wrote of_worker t table key old new)) = refl
+part_of-mark h (tabled (wrote (of_copy n) t table key old new)) = refl
 part_of-mark h _ = refl
 
 -- and a database as `after_mark` says
 pub database_of-mark : (h : History) (mark : Mark) → database_of (mark ∷ h) ≡ after_mark (database_of h) mark
-database_of-mark h (ended who t false) = λ i. record (database_of h) { part = part_of-mark h (ended who t false) i; queue = λ n. record (queue_of h n) { tables = without_transaction t (queue_of h n).tables } }
+database_of-mark h (ended (of_session who) t false) = λ i. record (database_of h) { part = part_of-mark h (ended (of_session who) t false) i; queue = λ n. record (queue_of h n) { tables = without_transaction t (queue_of h n).tables } }
+database_of-mark h (ended of_worker t false) = refl
+database_of-mark h (ended (of_copy table) t false) = refl
+database_of-mark h (ended (of_copy table) t true) = refl
+database_of-mark h (began (of_copy table) t) = refl
 database_of-mark h (queued mark) = database_of-queue_mark h mark
+database_of-mark h (noded (hold_begun number)) = refl
+database_of-mark h (noded (hold_ended number)) = refl
 database_of-mark h (noded mark) = refl
 database_of-mark h mark = λ i. record (database_of h) { part = part_of-mark h mark i }
 

@@ -1,5 +1,6 @@
 -- Which marks calls for nodes leave, and that these may come.
 use Rattle.std.proofs.Common.{◌≡◌, ℕ, ◌+◌, ◌^◌, nat_le, List, [], ◌∷◌, ◌++◌, Bool, true, false, ◌&&◌, Option, Some, None, Ok, Err, All, is_some, length, refl, sym, ◌∙◌, ap, arith, option_map, if◌then◌else◌}
+use Rattle.std.proofs.lemmas.Bool.Decides.{nat_tests}
 use Rattle.std.proofs.lemmas.List.Elements.{All-nil, All-cons}
 use Rattle.sky_names.specs.Places.{place_of}
 use Rattle.sky_names.proofs.PlaceLemmas.{place_of_within, bytes_eq_refl}
@@ -7,10 +8,10 @@ use Rattle.londiste_state.specs.Nodes.{Node, of_root, of_leaf}
 use Rattle.sky_model.specs.declared.reply.Reply.TheVariants.{Number, Null}
 use Rattle.sky_model.specs.declared.reply.Limit.TheVariants.{Consumers, Triggers}
 use Rattle.sky_model.specs.declared.reply.Refusal.TheVariants.{ConsumerExists, IdsSpent, TableBusy, TooMany}
-use Rattle.sky_model.specs.History.{Mark, tabled, read_only, queued, registered, unregistered, opened, closed, traced, untraced, noded, NodeMark, joined, parted, leaf_made, leaf_added, leaf_removed, state_set, listed, unlisted, History}
+use Rattle.sky_model.specs.History.{Mark, tabled, read_only, queued, registered, unregistered, opened, closed, traced, untraced, noded, NodeMark, joined, parted, leaf_made, leaf_added, leaf_removed, state_set, listed, unlisted, History, of_copy, began, ended, wrote, restarted}
 use Rattle.sky_model.specs.Nodes.{node}
 use Rattle.sky_model.specs.Queues.{Tick, tick, queues, id_of, newest_tick, ticks}
-use Rattle.sky_model.specs.Consumers.{Subscription, subscription, subscription_id, last_subscription, position, active, active_batch}
+use Rattle.sky_model.specs.Consumers.{consumers, Subscription, subscription, subscription_id, last_subscription, position, active, active_batch}
 use Rattle.sky_model.specs.Rows.{table_names}
 use Rattle.sky_model.specs.Triggers.{triggers, triggers_of}
 use Rattle.sky_model.specs.ShownRows.{least_writer}
@@ -19,9 +20,9 @@ use Rattle.sky_model.specs.Outcome.{Outcome, Checked, ◌>>=◌, ◌>>◌, refus
 use Rattle.sky_model.specs.Settling.{ready, marked}
 use Rattle.sky_model.specs.StepQueue.{newest_id}
 use Rattle.sky_model.specs.StepConsumer.{opens_batch, takes_batch}
-use Rattle.sky_model.specs.StepNode.{set_queue, joins, parts, set_trigger, lists, adds, NodeCall, joining, parting, fetching, finishing, making_leaf, adding, removing, moving, listing, unlisting, if_there, table_number, may_serve, call_form, node_does}
+use Rattle.sky_model.specs.StepNode.{set_queue, joins, parts, set_trigger, lists, adds, NodeCall, joining, parting, fetching, finishing, making_leaf, adding, removing, moving, listing, unlisting, table_number, may_serve, call_form, node_does, beginning_copy, copying_rows, ending_copy, giving_up_copy, holding, letting_go}
 use Rattle.sky_model.specs.LawsOfRetries.{IsBackAt}
-use Rattle.sky_model.proofs.Legal.{IsQueue, queue_of_set, AllWritable, IsUnused, IsAtSet, IsOfLast, at_joining, at_leaving, Fine, registers, unregisters, traces, untraces, guards, nodes, Chain, done, more, Legal}
+use Rattle.sky_model.proofs.Legal.{IsQueue, queue_of_set, AllWritable, IsUnused, IsAtSet, IsOfLast, at_joining, at_leaving, Fine, registers, unregisters, traces, untraces, guards, nodes, Chain, done, more, Legal, ends_copy}
 use Rattle.sky_model.proofs.NodeReadings.{set-number, no-node, same-node}
 use Rattle.sky_model.proofs.Unawaited.{unawaited}
 use Rattle.sky_model.proofs.Cases.{by_test}
@@ -31,6 +32,11 @@ use Rattle.sky_model.proofs.Lawful.{good_takes_batch, good_closes}
 use Rattle.sky_model.proofs.QueueNumbers.{among-number}
 use Rattle.sky_model.proofs.Rotation.{newest-kept, floor-newest}
 use Rattle.sky_model.proofs.StatementMarks.{EachMark, each-map, each-rest, each-given, Gives, gives-map, AnyReply, after, either}
+use Rattle.sky_model.specs.Copies.{copies, is_copied_by, copy_txid}
+use Rattle.sky_model.specs.StepCopy.{given_up}
+use Rattle.sky_model.proofs.CopyCalls.{is_for_copies, is_copies, gives-there, gives-copies, good-there, LeafGuarded, good_copies}
+use Rattle.sky_model.proofs.Guarded.{copy_txid-some, copy_txid-none, gone}
+use Rattle.sky_model.proofs.CopiesCovered.{AllCovered}
 
 -- the marks that they leave
 abbrev pub is_for_nodes : Mark → Bool
@@ -42,6 +48,9 @@ is_for_nodes (queued (traced table name trigger)) = true
 is_for_nodes (queued (untraced table)) = true
 is_for_nodes (tabled (read_only table on)) = true
 is_for_nodes (noded mark) = true
+is_for_nodes (began (of_copy table) t) = true
+is_for_nodes (ended (of_copy table) t committed) = true
+is_for_nodes (tabled (wrote (of_copy n) t table key old new)) = true
 is_for_nodes _ = false
 
 -- those of a leaf's consumer
@@ -59,10 +68,6 @@ NodeGives c = Gives AnyReply is_for_nodes c
 
 abbrev pub ConsumerGives : Checked Outcome → Type 0
 ConsumerGives c = Gives AnyReply is_for_consumers c
-
-gives-there : {A : Type 0} (p : Mark → Bool) (o : Option A) (next : A → Checked Outcome) → ((a : A) → Gives AnyReply p (next a)) → Gives AnyReply p (if_there o next)
-gives-there p None next gives = (tt, tt)
-gives-there p (Some a) next gives = gives a
 
 gives-joins : (d : Database) (queue : ℕ) (consumer : List ℕ) → ConsumerGives (joins d queue consumer)
 gives-joins d queue consumer = of (is_some ((d.queue queue).sub consumer)) (nat_le 256 (length (d.queue queue).members)) (nat_le (2 ^ 64) (d.last_sub_id + 1))
@@ -114,14 +119,32 @@ also-nodes _ e = absurd (cc)
 gives-consumer : (d : Database) (call : NodeCall) → is_consumers call ≡ true → NodeGives (call_form d call)
 gives-consumer d call e = gives-map AnyReply AnyReply is_for_consumers is_for_nodes (λ reply any. any) also-nodes (call_form d call) (gives-consumers d call e)
 
+copies-too : (mark : Mark) → is_for_copies mark ≡ true → is_for_nodes mark ≡ true
+copies-too (began (of_copy table) t) e = refl
+copies-too (ended (of_copy table) t committed) e = refl
+copies-too (tabled (wrote (of_copy n) t table key old new)) e = refl
+copies-too (noded mark) e = refl
+copies-too _ e = absurd (cc)
+
+gives-copy : (d : Database) (call : NodeCall) → is_copies call ≡ true → NodeGives (call_form d call)
+gives-copy d call e = gives-map AnyReply AnyReply is_for_copies is_for_nodes (λ reply any. any) copies-too (call_form d call) (gives-copies d call e)
+
+each-removed : (table : ℕ) (name : List ℕ) (o : Option ℕ) → EachMark is_for_nodes (given_up table name o ++ noded (leaf_removed name) ∷ tabled (read_only table false) ∷ [])
+each-removed table name None = tt
+each-removed table name (Some t) = tt
+
 gives-call : (d : Database) (call : NodeCall) → NodeGives (call_form d call)
 gives-call d (making_leaf name provider tick) = (tt, tt)
 gives-call d (adding name) = gives-there is_for_nodes (table_number d name) _ (λ table. search (after))
-gives-call d (removing name) = gives-there is_for_nodes (table_number d name) _ (λ table. (tt, tt))
+gives-call d (removing name) = gives-there is_for_nodes (table_number d name) _ (λ table. (tt, each-removed table name (copy_txid table d.copies)))
 gives-call d (moving name state) = (tt, tt)
 gives-call d (listing name) = gives-there is_for_nodes (set_queue d) _ (λ queue. gives-there is_for_nodes (table_number d name) _ (λ table. search (after)))
 gives-call d (unlisting name) = gives-there is_for_nodes (table_number d name) _ (λ table. (tt, tt))
-gives-call d call = gives-consumer d call refl
+gives-call d (joining consumer) = gives-consumer d (joining consumer) refl
+gives-call d (parting consumer) = gives-consumer d (parting consumer) refl
+gives-call d (fetching consumer) = gives-consumer d (fetching consumer) refl
+gives-call d (finishing batch) = gives-consumer d (finishing batch) refl
+gives-call d call = gives-copy d call refl
 
 gives-node : (d : Database) (call : NodeCall) → NodeGives (node_does d call)
 gives-node d call = either AnyReply is_for_nodes (may_serve call d.node) (call_form d call) (answers Null) (gives-call d call) (tt, tt)
@@ -136,6 +159,9 @@ ready-alike h [] all = refl
 ready-alike h (queued mark ∷ marks) all = ready-alike (queued mark ∷ h) marks (each-rest is_for_nodes (queued mark) marks all)
 ready-alike h (tabled (read_only table on) ∷ marks) all = ready-alike (tabled (read_only table on) ∷ h) marks all
 ready-alike h (noded mark ∷ marks) all = ready-alike (noded mark ∷ h) marks all
+ready-alike h (began (of_copy table) t ∷ marks) all = ready-alike (began (of_copy table) t ∷ h) marks all
+ready-alike h (ended (of_copy table) t committed ∷ marks) all = ready-alike (ended (of_copy table) t committed ∷ h) marks all
+ready-alike h (tabled (wrote (of_copy n) t table key old new) ∷ marks) all = ready-alike (tabled (wrote (of_copy n) t table key old new) ∷ h) marks all
 ready-alike h (_ ∷ marks) all = absurd all
 
 pub node-ready : (h : History) (call : NodeCall) → ready (part_of (marked h (marks_of (node_does (database_of h) call)))) ≡ ready (part_of h)
@@ -156,16 +182,15 @@ none-back (queued mark ∷ marks) all = All-cons (IsBackAt None) (queued mark) m
     of _ each = absurd each
 none-back (tabled (read_only table on) ∷ marks) all = All-cons (IsBackAt None) (tabled (read_only table on)) marks tt (none-back marks all)
 none-back (noded mark ∷ marks) all = All-cons (IsBackAt None) (noded mark) marks tt (none-back marks all)
+none-back (began (of_copy table) t ∷ marks) all = All-cons (IsBackAt None) (began (of_copy table) t) marks tt (none-back marks all)
+none-back (ended (of_copy table) t committed ∷ marks) all = All-cons (IsBackAt None) (ended (of_copy table) t committed) marks tt (none-back marks all)
+none-back (tabled (wrote (of_copy n) t table key old new) ∷ marks) all = All-cons (IsBackAt None) (tabled (wrote (of_copy n) t table key old new)) marks tt (none-back marks all)
 none-back (_ ∷ marks) all = absurd all
 
 pub node-back : (d : Database) (call : NodeCall) → All (IsBackAt None) (marks_of (node_does d call))
 node-back d call = none-back (marks_of (node_does d call)) (each-given AnyReply is_for_nodes (node_does d call) (gives-node d call))
 
 -- ---- they may come
-
-good-there : {A : Type 0} (h : History) (o : Option A) (next : A → Checked Outcome) → ((a : A) → o ≡ Some a → Good h 0 (next a)) → Good h 0 (if_there o next)
-good-there h None next good = done
-good-there h (Some a) next good = good a refl
 
 -- a set's queue stands
 set-stands : (h : History) (q : ℕ) → set_queue (database_of h) ≡ Some q → IsQueue h q
@@ -176,10 +201,13 @@ set-stands h q is = of (node h) (sym (set-number (database_of h)) ∙ is)
     of (Some (of_leaf l)) e = absurd (cc)
     of (Some (of_root r)) e = among-number r.queue (queues h) q e
 
--- what is so between calls: no session that waits is ready, and a database without a node has no read-only table
+-- what is so between calls: no session that waits is ready, a database without a node has no read-only table, the tables of a leaf are read-only, and a
+-- copy that runs has written the keys of all rows of its table
 pub record IsBetween (h : History) : Type 0 where
   pub rests : ready (part_of h) ≡ None
   pub writable : node h ≡ None → AllWritable h
+  pub guarding : LeafGuarded h
+  pub covered : AllCovered h
 
 -- a consumer joins, whose registering is the mark before
 is-at-set : (h : History) (q : ℕ) (consumer : List ℕ) (mark : Mark) (b : Bool) → set_queue (database_of h) ≡ Some q → queue_of_set (queues (mark ∷ h)) (node (mark ∷ h)) ≡ queue_of_set (queues h) (node h)
@@ -189,7 +217,7 @@ is-at-set h q consumer mark b set still there = record { queue = q; set = still 
 good-joins : (h : History) → Legal h → (q : ℕ) (consumer : List ℕ) → set_queue (database_of h) ≡ Some q → Good h 0 (joins (database_of h) q consumer)
 good-joins h l q consumer set =
     good_test h 0 (is_some (((database_of h).queue q).sub consumer)) (ConsumerExists consumer) _ (λ new.
-    of (no-one _ (subscription_id q consumer h) (nothing _ new)) (nat_le 256 (length ((database_of h).queue q).members)) (nat_le (2 ^ 64) ((database_of h).last_sub_id + 1)))
+    of (no-one _ (subscription_id q consumer h) (nothing _ new)) (nat_le 256 (length ((database_of h).queue q).members)) refl (nat_le (2 ^ 64) ((database_of h).last_sub_id + 1)))
   where
     is : IsQueue h q
     is = set-stands h q set
@@ -206,17 +234,17 @@ good-joins h l q consumer set =
     there : is_some (subscription_id q consumer (mark ∷ h)) ≡ true
     there = λ i. is_some (if same-session q i && bytes_eq_refl consumer i then Some sub else subscription_id q consumer h)
 
-    fine : subscription_id q consumer h ≡ None → Fine h mark
-    fine new =
+    fine : subscription_id q consumer h ≡ None → nat_le 256 (length (consumers q h)) ≡ false → Fine h mark
+    fine new room =
         let all : newest_id ((database_of h).queue q) ≡ id_of (newest_tick (ticks q h)) = ap id_of (newest-kept h l q is) in
-        registers q consumer sub at is new (omega arith) (omega (arith, all)) (omega (arith, all, floor-newest h l q is))
+        registers q consumer sub at is new (omega arith) (omega (arith, all)) (omega (arith, all, floor-newest h l q is)) (grind (arith, nat_tests, room))
 
-    of : subscription_id q consumer h ≡ None → (full spent : Bool)
+    of : subscription_id q consumer h ≡ None → (full : Bool) → nat_le 256 (length (consumers q h)) ≡ full → (spent : Bool)
         → Good h 0 ((refused_if full (TooMany Consumers) >> (refused_if spent IdsSpent >> does_marks (Number 1) (mark ∷ [])))
         >>= (λ registering. does_marks (Number at) (registering.marks ++ noded (joined consumer) ∷ [])))
-    of new true spent = good_refused h 0 (TooMany Consumers)
-    of new false true = good_refused h 0 IdsSpent
-    of new false false = more (fine new) (more (nodes (joined consumer) (is-at-set h q consumer mark true set refl there)) done)
+    of new true room spent = good_refused h 0 (TooMany Consumers)
+    of new false room true = good_refused h 0 IdsSpent
+    of new false room false = more (fine new room) (more (nodes (joined consumer) (is-at-set h q consumer mark true set refl there)) done)
 
 good-parts : (h : History) (q : ℕ) (consumer : List ℕ) (o : Option ℕ) → set_queue (database_of h) ≡ Some q → subscription_id q consumer h ≡ o
     → Good h 0 (parts q consumer (option_map (λ id. record { id = id; position = position q consumer h; active = active q consumer h }) o))
@@ -256,6 +284,19 @@ good-lists h l between q name table may set there =
       plain = refl;
     })) done)))
 
+good-removes : (h : History) → Legal h → (name : List ℕ) (table : ℕ) → may_serve (removing name) (node h) ≡ true → place_of name (table_names h) ≡ Some table
+    → (o : Option ℕ) → copy_txid table (copies h) ≡ o → Chain h (given_up table name o ++ noded (leaf_removed name) ∷ tabled (read_only table false) ∷ [])
+good-removes h l name table may there None is =
+    more (nodes (leaf_removed name) (record { may = may; table = table; there = there }))
+    (more (guards table false (at_leaving table (just h leaf_removed name table there) (copy_txid-none table (copies h) is))) done)
+good-removes h l name table may there (Some t) is =
+    let runs : is_copied_by table t (copies h) ≡ true = copy_txid-some table t (copies h) is in
+    let g : History = noded (restarted name) ∷ ended (of_copy table) t false ∷ h in
+    more (ends_copy table t false (record { runs = runs; whole = λ never. absurd (cc) }))
+    (more (nodes (restarted name) tt)
+    (more (nodes (leaf_removed name) (record { may = may; table = table; there = there }))
+    (more (guards table false (at_leaving table (just g leaf_removed name table there) (gone h l table t runs))) done)))
+
 good_call : (h : History) → Legal h → IsBetween h → (call : NodeCall) → may_serve call (node h) ≡ true → Good h 0 (call_form (database_of h) call)
 good_call h l between (joining consumer) may = good-there h (set_queue (database_of h)) _ (λ q set. good-joins h l q consumer set)
 good_call h l between (parting consumer) may = good-there h (set_queue (database_of h)) _ (λ q set. good-parts h q consumer (subscription_id q consumer h) set refl)
@@ -266,11 +307,16 @@ good_call h l between (making_leaf name provider tick) may =
     let none : node h ≡ None = no-node (node h) may in more (nodes (leaf_made name provider tick) (none, between.writable none)) done
 good_call h l between (adding name) may = good-there h (place_of name (table_names h)) _ (λ table there. good-adds h l between name table may there)
 good_call h l between (removing name) may =
-    good-there h (place_of name (table_names h)) _ (λ table there.
-    more (nodes (leaf_removed name) (record { may = may; table = table; there = there })) (more (guards table false (at_leaving table (just h leaf_removed name table there))) done))
+    good-there h (place_of name (table_names h)) _ (λ table there. good-removes h l name table may there (copy_txid table (copies h)) refl)
 good_call h l between (moving name state) may = more (nodes (state_set name state) may) done
 good_call h l between (listing name) may =
     good-there h (set_queue (database_of h)) _ (λ q set. good-there h (place_of name (table_names h)) _ (λ table there. good-lists h l between q name table may set there))
+good_call h l between (beginning_copy name) may = good_copies h l between.guarding between.covered (beginning_copy name) refl may
+good_call h l between (copying_rows name rows) may = good_copies h l between.guarding between.covered (copying_rows name rows) refl may
+good_call h l between (ending_copy name snapshot tick) may = good_copies h l between.guarding between.covered (ending_copy name snapshot tick) refl may
+good_call h l between (giving_up_copy name) may = good_copies h l between.guarding between.covered (giving_up_copy name) refl may
+good_call h l between holding may = good_copies h l between.guarding between.covered holding refl may
+good_call h l between (letting_go hold) may = good_copies h l between.guarding between.covered (letting_go hold) refl may
 good_call h l between (unlisting name) may =
     good-there h (place_of name (table_names h)) _ (λ table there.
     more (nodes (unlisted name) (record { may = may; table = table; there = there })) (more (untraces table (just h unlisted name table there)) done))

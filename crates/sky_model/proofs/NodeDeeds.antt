@@ -167,7 +167,7 @@ module _ (past : Past) where
       if-refused (option_map TableInUse (first_user w r.name name)) _
       (serves-done d Done (unlists table name) (unlisting name) (may-unlist (node (history_in past d)) r name stands among) (sym (ap (λ o. if_there o (λ t. unlists t name)) there)))
   serves-removes d table name (of_leaf l) stands among there =
-      serves-done d Done (removes table name) (removing name) (may-remove (node (history_in past d)) l name stands among) (sym (ap (λ o. if_there o (λ t. removes t name)) there))
+      serves-done d Done (removes (w.database d) table name) (removing name) (may-remove (node (history_in past d)) l name stands among) (sym (ap (λ o. if_there o (λ t. removes (w.database d) t name)) there))
 
   serves-state : (name table : List ℕ) (n : Node) → ServesIfOk (shows_state name table n)
   serves-state name table (of_root r) = tt

@@ -1,7 +1,7 @@
 -- What marks of a node leave of it: whether it is a root or a leaf, its tables, and the queue of its set.
 use Rattle.std.proofs.Common.{◌≡◌, ◌⊎◌, inl, inr, ℕ, Bool, true, false, not, List, [], ◌∷◌, ◌++◌, Option, Some, None, is_none, option_map, map, filter, bytes_eq, refl, sym, ◌∙◌, ap, if◌then◌else◌}
 use Rattle.londiste_state.specs.Nodes.{LeafTable, Root, Leaf, Node, of_root, of_leaf, all_but, changed_in, new_table}
-use Rattle.sky_model.specs.History.{NodeMark, root_made, listed, unlisted, joined, parted, leaf_made, leaf_added, leaf_removed, state_set, held, copied, applied, restarted, ready, copy_of, History}
+use Rattle.sky_model.specs.History.{NodeMark, root_made, listed, unlisted, joined, parted, leaf_made, leaf_added, leaf_removed, state_set, held, copied, applied, restarted, of_synced, copy_of, History, hold_begun, hold_ended}
 use Rattle.sky_model.specs.Nodes.{at_root, at_leaf, after_node, node, is_root, is_leaf, set_tables, leaf_tables}
 use Rattle.sky_model.specs.Queues.{NamedQueue, queue_number}
 use Rattle.sky_model.specs.State.{Database}
@@ -64,6 +64,8 @@ same-node (held table tick) e n = itself n
 same-node (copied table snapshot tick) e n = leaf-changed _ n
 same-node (applied pick tick) e n = leaf-changed _ n
 same-node (restarted table) e n = itself n
+same-node (hold_begun hold) e n = itself n
+same-node (hold_ended hold) e n = itself n
 
 -- a leaf was one before, or nothing was read-only
 pub leaf-before : (h : History) (mark : NodeMark) → NodeFits h mark → is_leaf (after_node mark (node h)) ≡ true → (is_leaf (node h) ≡ true) ⊎ AllWritable h
@@ -80,6 +82,14 @@ leaf-before h (held table tick) fits leaf = inl leaf
 leaf-before h (copied table snapshot tick) fits leaf = inl (sym (same-node (copied table snapshot tick) refl (node h)).leaf ∙ leaf)
 leaf-before h (applied pick tick) fits leaf = inl (sym (same-node (applied pick tick) refl (node h)).leaf ∙ leaf)
 leaf-before h (restarted table) fits leaf = inl leaf
+leaf-before h (hold_begun hold) fits leaf = inl leaf
+leaf-before h (hold_ended hold) fits leaf = inl leaf
+
+-- a leaf stays one
+pub leaf-stays : (h : History) (mark : NodeMark) → NodeFits h mark → is_leaf (node h) ≡ true → is_leaf (after_node mark (node h)) ≡ true
+leaf-stays h (root_made name queue) fits leaf = absurd (cc (sym leaf ∙ ap is_leaf fits.0))
+leaf-stays h (leaf_made name provider tick) fits leaf = absurd (cc (sym leaf ∙ ap is_leaf fits.0))
+leaf-stays h mark fits leaf = (same-node mark refl (node h)).leaf ∙ leaf
 
 -- ---- the tables of a node
 
@@ -160,6 +170,8 @@ keeps_tables (held table tick) = true
 keeps_tables (copied table snapshot tick) = true
 keeps_tables (applied pick tick) = true
 keeps_tables (restarted table) = true
+keeps_tables (hold_begun hold) = true
+keeps_tables (hold_ended hold) = true
 keeps_tables _ = false
 
 pub same-tables : (mark : NodeMark) → keeps_tables mark ≡ true → (n : Option Node) → HasSameTables n (after_node mark n)
@@ -168,9 +180,11 @@ same-tables (parted consumer) e n = consumers-changed _ (λ r. refl) n
 same-tables (state_set table state) e n = states-changed _ (λ l. map-changed table _ (λ t. refl) l.tables) n
 same-tables (held table tick) e n = same-itself n
 same-tables (copied table snapshot tick) e n = states-changed _ (λ l. map-changed table _ (λ t. refl) l.tables) n
-same-tables (applied ready tick) e n = states-changed _ (λ l. refl) n
+same-tables (applied of_synced tick) e n = states-changed _ (λ l. refl) n
 same-tables (applied (copy_of table) tick) e n = states-changed _ (λ l. map-changed table _ (λ t. refl) l.tables) n
 same-tables (restarted table) e n = same-itself n
+same-tables (hold_begun hold) e n = same-itself n
+same-tables (hold_ended hold) e n = same-itself n
 same-tables _ e n = absurd (cc)
 
 pub also-change : (mark : NodeMark) → keeps_tables mark ≡ true → is_change mark ≡ true

@@ -4,14 +4,15 @@ use Rattle.std.proofs.lemmas.Bool.Decides.{nat_tests}
 use Rattle.sky_txid.specs.Ids.{contains}
 use Rattle.pgq_tables.specs.Tables as tables_of
 use Rattle.pgq_tables.specs.Tables.{no_tables, new_tables, with_stored, with_pending, without_pending, with_second_step}
-use Rattle.sky_model.specs.History.{Mark, of_session, of_worker, began, ended, block_begun, block_failed, block_ended, queued, made, put, switching, switched, second_step, dropped, History}
+use Rattle.sky_model.specs.History.{Mark, of_session, of_worker, began, ended, block_begun, block_failed, block_ended, queued, made, put, switching, switched, second_step, dropped, History, of_copy}
 use Rattle.sky_model.specs.Transactions.{workers}
 use Rattle.sky_model.specs.Sessions.{outside, inside, failed, block, own_txid}
 use Rattle.sky_model.specs.Queues.{queues_made, is_pending, event_tables}
 use Rattle.sky_model.specs.Settling.{marked}
-use Rattle.sky_model.proofs.Legal.{Fine, begins, ends, begins_work, ends_work, fails_block, ends_block, Legal, next}
-use Rattle.sky_model.proofs.Snapshots.{sound}
+use Rattle.sky_model.proofs.Legal.{Fine, begins, ends, begins_work, ends_work, fails_block, ends_block, Legal, next, begins_copy, ends_copy}
+use Rattle.sky_model.proofs.Snapshots.{sound, copys-of}
 use Rattle.sky_model.proofs.Cases.{by_test, by_same}
+use Rattle.sky_model.specs.Copies.{copies}
 
 -- no switch of a transaction is pending
 abbrev pub Unpending : History → ℕ → Type 0
@@ -80,11 +81,12 @@ unpending-work h l r t works q pends = let o : Owner h t = r.owned q t pends in 
 held-mark : (h : History) → Legal h → (mark : Mark) → Fine h mark → PlainAt h mark → Held h → Held (mark ∷ h)
 held-mark h l _ (begins who none) plain r = record { settled = r.settled; owned = λ q t pends. owner-began h who _ t none (r.owned q t pends) }
 held-mark h l _ begins_work plain r = record { settled = r.settled; owned = λ q t pends. owner-same h _ (λ _. refl) (λ _. refl) t (r.owned q t pends) }
+held-mark h l _ (begins_copy table may) plain r = record { settled = r.settled; owned = λ q t pends. owner-same h _ (λ _. refl) (λ _. refl) t (r.owned q t pends) }
 held-mark h l _ (ends who u true mine) plain r =
     let none : Unpending h u = unpending-outside h l r who u mine plain in
     record { settled = (none, r.settled); owned = λ q t pends. owner-ended h l who u t true mine (λ same. none q (subst (λ n. (event_tables q h).pending ≡ Some n) (sym same) pends)) (r.owned q t pends) }
 held-mark h l _ (ends_work u true works) plain r =
-    record { settled = (unpending-work h l r u works, r.settled); owned = λ q t pends. owner-same h _ (λ _. refl) (λ _. refl) t (r.owned q t pends) }
+    record { settled = (unpending-work h l r u works.works, r.settled); owned = λ q t pends. owner-same h _ (λ _. refl) (λ _. refl) t (r.owned q t pends) }
 held-mark h l _ (ends who u false mine) plain r = record { settled = r.settled; owned = owned }
   where
     owned : (q t : ℕ) → (event_tables q (ended (of_session who) u false ∷ h)).pending ≡ Some t → Owner (ended (of_session who) u false ∷ h) t
@@ -98,6 +100,14 @@ held-mark h l _ (ends_work u false works) plain r = record { settled = r.settled
     owned : (q t : ℕ) → (event_tables q (ended of_worker u false ∷ h)).pending ≡ Some t → Owner (ended of_worker u false ∷ h) t
     owned q t =
         by_test (λ b. (if b then without_pending (event_tables q h) else event_tables q h).pending ≡ Some t → Owner (ended of_worker u false ∷ h) t) (is_pending u (event_tables q h))
+        (λ _ none. absurd (cc)) (λ _ pends. owner-same h _ (λ _. refl) (λ _. refl) t (r.owned q t pends))
+held-mark h l _ (ends_copy n u true is) plain r =
+    record { settled = (unpending-work h l r u ((sound h l).copying u (copys-of n u (copies h) is.runs)), r.settled); owned = λ q t pends. owner-same h _ (λ _. refl) (λ _. refl) t (r.owned q t pends) }
+held-mark h l _ (ends_copy n u false is) plain r = record { settled = r.settled; owned = owned }
+  where
+    owned : (q t : ℕ) → (event_tables q (ended (of_copy n) u false ∷ h)).pending ≡ Some t → Owner (ended (of_copy n) u false ∷ h) t
+    owned q t =
+        by_test (λ b. (if b then without_pending (event_tables q h) else event_tables q h).pending ≡ Some t → Owner (ended (of_copy n) u false ∷ h) t) (is_pending u (event_tables q h))
         (λ _ none. absurd (cc)) (λ _ pends. owner-same h _ (λ _. refl) (λ _. refl) t (r.owned q t pends))
 held-mark h l (block_begun v) fine plain r = record { settled = r.settled; owned = λ q t pends. owner-begun h v t (r.owned q t pends) }
 held-mark h l _ (fails_block v is none) plain r = record { settled = r.settled; owned = λ q t pends. owner-failed h v t none (r.owned q t pends) }

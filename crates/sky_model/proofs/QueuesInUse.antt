@@ -26,7 +26,7 @@ use Rattle.sky_model.proofs.Rotation.{running-stored}
 use Rattle.sky_model.proofs.LawfulTelling.{trigger-queues}
 use Rattle.sky_model.proofs.SnapshotLaws.{legal_place}
 use Rattle.sky_names.proofs.PlaceLemmas.{bytes_eq_refl}
-use Rattle.sky_model.proofs.Unawaited.{contained}
+use Rattle.sky_model.proofs.WrittenTables.{contained}
 use Rattle.sky_model.proofs.Cases.{by_test, by_same}
 
 -- ---- running transactions
@@ -152,7 +152,7 @@ bare _ (next {h = h} l (ticks_next p id time seq i e c)) q away =
       no_tick = ap (λ c. if c then kept_ticks q h ++ record { id = id; time = time; snapshot = snapshot h; seq = seq } ∷ [] else kept_ticks q h) (apart (queues h) p q i away) ∙ b.no_tick;
       no_consumer = b.no_consumer;
     }
-bare _ (next {h = h} l (registers p name sub tick i none f g low)) q away =
+bare _ (next {h = h} l (registers p name sub tick i none f g low few)) q away =
     let b : IsBare h q = bare h l q away in
     record { unset = b.unset; no_id = b.no_id; no_event = b.no_event; no_tick = b.no_tick; no_consumer = ap (λ c. if c then consumers q h ++ name ∷ [] else consumers q h) (apart (queues h) p q i away) ∙ b.no_consumer }
 bare _ (next {h = h} l (unregisters p name sub i has)) q away =

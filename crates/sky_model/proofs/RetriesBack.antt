@@ -6,19 +6,17 @@ use Rattle.std.proofs.lemmas.Float.{T_from_true}
 use Rattle.std.specs.Int.Signed.{le_z_yes}
 use Rattle.std.proofs.lemmas.List.Elements.{All-nil, All-cons, All-head, All-tail, All-filter, All-take, All-contains, All-contains_itself}
 use Rattle.sky_val.specs.declared.event.Event.{Event}
-use Rattle.sky_txid.specs.Ids.{contains}
 use Rattle.pgq_retry.specs.declared.retry.Retry.{Retry}
 use Rattle.pgq_retry.specs.Retries.{is_event, is_due, put_by, sorted_by, by_due, due_now}
 use Rattle.sky_model.specs.History.{Batch, Mark, queued, put, returned, History}
 use Rattle.sky_model.specs.Batches.{batch_events}
 use Rattle.pgq_tables.specs.ById.{with_event, by_id_onto}
 use Rattle.sky_model.specs.LawsOfBatches.{stands_in}
-use Rattle.sky_model.specs.Transactions.{workers}
 use Rattle.sky_model.specs.Queues.{sequence, events}
 use Rattle.sky_model.specs.Retries.{retries, brought_by}
 use Rattle.sky_model.specs.LawsOfRetries.{IsRetry}
 use Rattle.sky_model.specs.StepRetry.{back}
-use Rattle.sky_model.proofs.Legal.{IsQueue, Returns, Fine, puts_back, returns, Chain, more, Legal, next}
+use Rattle.sky_model.proofs.Legal.{IsQueue, Returns, Fine, puts_back, returns, Chain, more, Legal, next, IsBrief}
 use Rattle.sky_model.proofs.RetryCopies.{copies, once, filter-less}
 use Rattle.sky_model.proofs.StandingQueues.{registered-stands}
 use Rattle.sky_model.proofs.Selecting.{events_below-next}
@@ -117,13 +115,13 @@ contains-filter p (y ∷ ys) x pass (suc k, less, is) =
     cond_both (p y) (y ∷ filter p ys) (filter p ys) (λ zs. Contains zs x) (λ _. (suc rest.0, omega (arith, rest.1), rest.2)) (λ _. rest)
 
 -- one that waits may come back
-may-return : (h : History) → Legal h → (t : ℕ) → contains t (workers h) ≡ true → (retry : Retry) → Contains (retries h) retry → Returns h retry t
+may-return : (h : History) → Legal h → (t : ℕ) → IsBrief h t → (retry : Retry) → Contains (retries h) retry → Returns h retry t
 may-return h l t works retry waits =
     let is : IsRetry h retry = All-contains (IsRetry h) (retries h) retry (copies h l) waits in
     let stands : IsQueue h retry.queue = registered-stands h l retry.queue is.consumer retry.sub is.subscribed in
     let given : is.source.ev_id < sequence retry.queue h + 1 = All-contains (λ e. e.ev_id < sequence retry.queue h + 1) (events retry.queue h) is.source (events_below-next h l retry.queue stands) is.stored in
     let same : retry.event.ev_id ≡ is.source.ev_id = is.copied.same_id in
-    record { waits = waits; works = works; stands = stands; given = omega (arith, given, same) }
+    record { waits = waits; works = works.work.works; brief = works.brief; stands = stands; given = omega (arith, given, same) }
 
 -- of retries that wait, none twice, and are due
 pub record AreBack (h : History) (now : ℤ) (rs : List Retry) : Type 0 where
@@ -141,11 +139,11 @@ due-back h l now most = record {
 due-by : (now : ℤ) (r : Retry) → is_due now r ≡ true → r.due ≤ℤ now
 due-by now r is = le_z_yes (T_from_true (int_le r.due now) is)
 
-pub good_back : (now : ℤ) (t : ℕ) (rs : List Retry) (rest : List Mark) → ((g : History) → Legal g → contains t (workers g) ≡ true → Chain g rest)
-    → (h : History) → Legal h → contains t (workers h) ≡ true → AreBack h now rs → Chain h (back now t rs ++ rest)
+pub good_back : (now : ℤ) (t : ℕ) (rs : List Retry) (rest : List Mark) → ((g : History) → Legal g → IsBrief g t → Chain g rest)
+    → (h : History) → Legal h → IsBrief h t → AreBack h now rs → Chain h (back now t rs ++ rest)
 good_back now t [] rest last h l works are = last h l works
 good_back now t (r ∷ rs) rest last h l works are =
-    more put_fine (more returned_fine (good_back now t rs rest last behind (next (next l put_fine) returned_fine) works (record { wait = waiting; once = fewer; due = All-tail (λ r. is_due now r ≡ true) r rs are.due })))
+    more put_fine (more returned_fine (good_back now t rs rest last behind (next (next l put_fine) returned_fine) (still works) (record { wait = waiting; once = fewer; due = All-tail (λ r. is_due now r ≡ true) r rs are.due })))
   where
     returning : Returns h r t
     returning = may-return h l t works r (All-head (Contains (retries h)) r rs are.wait)
@@ -158,6 +156,9 @@ good_back now t (r ∷ rs) rest last h l works are =
 
     behind : History
     behind = queued (returned r now) ∷ queued (put r.queue (brought_by t r.event)) ∷ h
+
+    still : IsBrief h t → IsBrief behind t
+    still is = record { work = record { works = is.work.works; apart = is.work.apart }; brief = is.brief }
 
     fewer : (sub id : ℕ) → count (is_event sub id) rs ≤ 1
     fewer sub id = let all = are.once sub id in cond_both (is_event sub id r) (r ∷ filter (is_event sub id) rs) (filter (is_event sub id) rs) (λ xs. length xs ≤ 1 → count (is_event sub id) rs ≤ 1) (λ _ few. omega (arith, few)) (λ _ few. few) all

@@ -5,13 +5,13 @@ use Rattle.sky_val.specs.declared.event.Event.{Event}
 use Rattle.sky_txid.specs.Ids.{contains}
 use Rattle.pgq_retry.specs.declared.retry.Retry.{Retry}
 use Rattle.pgq_tables.specs.Listed.{is_for}
-use Rattle.sky_model.specs.History.{Mark, of_session, of_worker, began, ended, queued, made, put, ticked, asked, returned, History}
+use Rattle.sky_model.specs.History.{Mark, of_session, of_worker, began, ended, queued, made, put, ticked, asked, returned, History, of_copy}
 use Rattle.sky_model.specs.Transactions.{workers, has_ended, has_committed}
 use Rattle.sky_model.specs.Queues.{queues_made, ticks, newest_tick, id_of, at_tick}
 use Rattle.sky_model.specs.Retries.{retries, brought_by}
 use Rattle.sky_model.specs.HistoryPlaces.{IsPlace}
 use Rattle.sky_model.specs.LawsOfRetries.{IsRetry, RetriesAreListed}
-use Rattle.sky_model.proofs.Legal.{Fine, Returns, makes, ticks_next, returns, Legal, legal-below_mark, fine_mark}
+use Rattle.sky_model.proofs.Legal.{Fine, Returns, makes, ticks_next, returns, Legal, legal-below_mark, fine_mark, brief}
 use Rattle.sky_model.proofs.Snapshots.{sound, runs-unended, contains-push, contains-filter}
 use Rattle.sky_model.proofs.SnapshotLaws.{legal-below, legal_place}
 use Rattle.sky_model.proofs.TickOrder.{is_made, is_made-tick, unmade_beyond}
@@ -36,27 +36,29 @@ calm_place p is = calm-below is.later p (subst Calm is.below (rests_calls is.cal
 
 -- a worker's transaction is running still, or has committed
 abbrev Lasts : History → ℕ → Type 0
-Lasts h t = (contains t (workers h) || has_committed h t) ≡ true
+Lasts h t = (contains t (brief h) || has_committed h t) ≡ true
 
-lasts : (t : ℕ) (later : List Mark) (p : History) → Calm (later ++ p) → contains t (workers p) ≡ true → Lasts (later ++ p) t
+lasts : (t : ℕ) (later : List Mark) (p : History) → Calm (later ++ p) → contains t (brief p) ≡ true → Lasts (later ++ p) t
 lasts t [] p c works = grind (arith, works)
 lasts t (queued (ticked q id time seq) ∷ later) p c works = lasts t later p c.1 works
 lasts t (queued (asked retry) ∷ later) p c works = lasts t later p c.1 works
 lasts t (queued (put q event) ∷ later) p c works = lasts t later p c.1 works
 lasts t (queued (made name u time) ∷ later) p c works = lasts t later p c.1 works
-lasts t (began of_worker u ∷ later) p c works = let ih = lasts t later p c works in grind (arith, contains-push t u (workers (later ++ p)), ih)
-lasts t (ended of_worker u true ∷ later) p c works = let ih = lasts t later p c.1 works in grind (arith, contains-filter t u (workers (later ++ p)), ih)
+lasts t (began of_worker u ∷ later) p c works = let ih = lasts t later p c works in grind (arith, contains-push t u (brief (later ++ p)), ih)
+lasts t (ended of_worker u true ∷ later) p c works = let ih = lasts t later p c.1 works in grind (arith, contains-filter t u (brief (later ++ p)), ih)
 lasts t (ended of_worker u false ∷ later) p c works = absurd (cc (c.0))
 lasts t (ended (of_session who) u true ∷ later) p c works = let ih = lasts t later p c works in grind (arith, ih)
 lasts t (ended (of_session who) u false ∷ later) p c works = lasts t later p c works
+lasts t (ended (of_copy n) u true ∷ later) p c works = let ih = lasts t later p c works in grind (arith, ih)
+lasts t (ended (of_copy n) u false ∷ later) p c works = lasts t later p c works
 lasts t (_ ∷ later) p c works = lasts t later p c works
 
 -- if none is running, it has committed
-committed-idle : (h : History) (t : ℕ) → Lasts h t → workers h ≡ [] → has_committed h t ≡ true
+committed-idle : (h : History) (t : ℕ) → Lasts h t → brief h ≡ [] → has_committed h t ≡ true
 committed-idle h t last idle = subst (λ ts. (contains t ts || has_committed h t) ≡ true) idle last
 
 -- so it had committed at each later tick
-at_later : (t q id : ℕ) (later : List Mark) (p : History) → Calm (later ++ p) → contains t (workers p) ≡ true → is_made q id p ≡ false → is_made q id (later ++ p) ≡ true
+at_later : (t q id : ℕ) (later : List Mark) (p : History) → Calm (later ++ p) → contains t (brief p) ≡ true → is_made q id p ≡ false → is_made q id (later ++ p) ≡ true
     → has_committed (at_tick q id (later ++ p)) t ≡ true
 at_later t q id [] p c works un there = absurd (cc (sym un ∙ there))
 at_later t q id (queued (ticked r m time seq) ∷ later) p c works un there =
@@ -109,6 +111,7 @@ below_it (mark ∷ h) = h
 -- its event: of a worker's transaction, which is running, and for its subscription
 record Came (below : History) (retry : Retry) (event : Event) : Type 0 where
   works : contains event.ev_txid (workers below) ≡ true
+  brief : contains event.ev_txid (brief below) ≡ true
   owned : event.ev_owner ≡ Some retry.sub
 
 came : (below : History) (retry : Retry) (event : Event) → Legal below → CameBack (queued (put retry.queue event) ∷ below) retry → Came below retry event
@@ -118,6 +121,7 @@ came below retry event l c =
     let waits : Contains (retries below) retry = subst (λ h. Contains (retries h) retry) (sym under) c.back.waits in
     record {
       works = (λ i. contains (same i).ev_txid (workers (under i))) ∙ c.back.works;
+      brief = (λ i. contains (same i).ev_txid (brief (under i))) ∙ c.back.brief;
       owned = ap Event.ev_owner same ∙ (All-contains (IsRetry below) (retries below) retry (copies below l) waits).owned;
     }
 
@@ -144,7 +148,7 @@ retries_are_listed later below retry event moment is b within across = λ i. to 
 
     to : has_committed (at_tick b.queue b.cur (later ++ place)) event.ev_txid ≡ true
     to =
-        at_later event.ev_txid b.queue b.cur later place (calm_place (later ++ place) is) here.works (sym (is_made-tick place b.queue b.cur) ∙ across.unclosed)
+        at_later event.ev_txid b.queue b.cur later place (calm_place (later ++ place) is) here.brief (sym (is_made-tick place b.queue b.cur) ∙ across.unclosed)
         (sym (is_made-tick (later ++ place) b.queue b.cur) ∙ across.closed)
 
     from : has_committed (at_tick b.queue b.prev (later ++ place)) event.ev_txid ≡ false

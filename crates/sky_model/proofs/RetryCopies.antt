@@ -65,7 +65,7 @@ copies _ (next {h = h} {mark = mark} l (returns below retry t moment same back d
     all-left (IsRetry (mark ∷ h)) (λ w. not (is_event retry.sub retry.event.ev_id w)) (retries h)
     (All-weaker (IsRetry h) (λ r. not (is_event retry.sub retry.event.ev_id r) ≡ true → IsRetry (mark ∷ h) r)
     (λ r is _. record { consumer = is.consumer; subscribed = is.subscribed; source = is.source; stored = is.stored; copied = is.copied; owned = is.owned; counted = is.counted }) (retries h) (copies h l))
-copies _ (next {h = h} {mark = mark} l (registers q name sub tick i new f g low)) =
+copies _ (next {h = h} {mark = mark} l (registers q name sub tick i new f g low few)) =
     All-weaker (IsRetry h) (IsRetry (mark ∷ h)) (λ r is. record {
       consumer = is.consumer;
       subscribed = by_test (λ b. (q == r.queue && bytes_eq is.consumer name) ≡ b → (if b then Some sub else subscription_id r.queue is.consumer h) ≡ Some r.sub) (q == r.queue && bytes_eq is.consumer name)

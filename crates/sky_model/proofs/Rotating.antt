@@ -10,7 +10,7 @@ use Rattle.sky_model.specs.declared.reply.Reply.TheVariants.{Number}
 use Rattle.sky_model.specs.declared.reply.Refusal.TheVariants.{TxidsSpent}
 use Rattle.pgq_tables.specs.Tables.{with_pending, with_second_step}
 use Rattle.sky_model.specs.History.{of_session, of_worker, began, ended, queued, switching, switched, second_step, History}
-use Rattle.sky_model.specs.Transactions.{next_txid, running, workers}
+use Rattle.sky_model.specs.Transactions.{next_txid, running}
 use Rattle.sky_model.specs.Sessions.{Block, block, own_txid}
 use Rattle.sky_model.specs.Queues.{NamedQueue, queues, event_tables}
 use Rattle.sky_model.specs.State.{part_of, queue_of, database_of}
@@ -18,10 +18,10 @@ use Rattle.sky_model.specs.OwnTransaction.{own_or_next, begin_of, commit_of}
 use Rattle.sky_model.specs.Settling.{marked}
 use Rattle.sky_model.specs.Outcome.{◌>>=◌, ◌>>◌, refused_if, does_marks, marks_of}
 use Rattle.sky_model.specs.StepRotation.{held_back, held_by_period, held_by_second_step, switch_of, rotates, rotates_alone, lack_second_step, second_steps, ends_switches, maint_rotate_step2}
-use Rattle.sky_model.proofs.Legal.{IsQueue, MaySwitch, Fine, begins, begins_work, ends, ends_work, begins_switch, makes_switch, ends_switch, Chain, done, more, Legal, next}
+use Rattle.sky_model.proofs.Legal.{IsQueue, MaySwitch, Fine, begins, begins_work, ends, ends_work, begins_switch, makes_switch, ends_switch, Chain, done, more, Legal, next, IsWork}
 use Rattle.sky_model.proofs.Good.{Good, same-session, good_test_then}
 use Rattle.sky_model.proofs.Commits.{Apart, queues-apart, all-among}
-use Rattle.sky_model.proofs.Snapshots.{sound, contains-push}
+use Rattle.sky_model.proofs.Snapshots.{sound, contains-push, just_begun}
 use Rattle.sky_model.proofs.Cases.{by_test, by_block}
 
 -- ---- what isn't held back
@@ -90,7 +90,7 @@ may_rotate h l now q within None free = of (nat_le (2 ^ 62) (next_txid h))
     of false =
         more begins_work
         (more (begins_switch q t (may_switch g now q t within (grind (arith, nat_tests, contains-push t t (running h))) free))
-        (more (makes_switch q t now within (is-pending g q t)) (more (ends_work t true (grind (arith, nat_tests, contains-push t t (workers h)))) done)))
+        (more (makes_switch q t now within (is-pending g q t)) (more (ends_work t true (record { works = (just_begun h (sound h l)).work.works; apart = (just_begun h (sound h l)).work.apart })) done)))
 
 -- which makes no queue and drops none
 pub rotates-stay : (h : History) (now : ℤ) (q : ℕ) (why : Option HeldBack) → queues (marked h (marks_of (rotates_alone (database_of h) now q why))) ≡ queues h
@@ -108,18 +108,18 @@ rotates-stay h now q None = of (nat_le (2 ^ 62) (next_txid h))
 abbrev Lack : History → List NamedQueue → Type 0
 Lack g queues = All (λ q. IsQueue g q.number × ((event_tables q.number g).second_step ≡ None)) queues
 
-good_second_steps : (t : ℕ) (queues : List NamedQueue) (g : History) → Legal g → Apart queues → Lack g queues → contains t (workers g) ≡ true → next_txid g ≡ t + 1
+good_second_steps : (t : ℕ) (queues : List NamedQueue) (g : History) → Legal g → Apart queues → Lack g queues → IsWork g t → next_txid g ≡ t + 1
     → Chain g (second_steps t queues ++ ended of_worker t true ∷ [])
 good_second_steps t [] g l apart lack works newest = more (ends_work t true works) done
 good_second_steps t (q ∷ queues) g l apart lack works newest =
     let first = All-head (λ q. IsQueue g q.number × ((event_tables q.number g).second_step ≡ None)) q queues lack in
-    let fine = ends_switch q.number t (record { within = first.0; missing = first.1; works = works; newest = newest }) in
+    let fine = ends_switch q.number t (record { within = first.0; missing = first.1; works = works.works; newest = newest }) in
     more fine (good_second_steps t queues (queued (second_step q.number t) ∷ g) (next l fine) apart.1
     (λ k r less.
     let x : NamedQueue = get_or queues k r in
     let before = All-tail (λ q. IsQueue g q.number × ((event_tables q.number g).second_step ≡ None)) q queues lack k r less in
     (before.0, subst (λ b. (if b then with_second_step t (event_tables x.number g) else event_tables x.number g).second_step ≡ None) (sym (apart.0 k r less)) before.1))
-    works newest)
+    (record { works = works.works; apart = works.apart }) newest)
 
 all-of : (P : NamedQueue → Type 0) (p : NamedQueue → Bool) (queues : List NamedQueue) → All P queues → All P (filter p queues)
 all-of P p [] all = all
@@ -155,7 +155,7 @@ may_end_switches h l = of (lack_second_step (database_of h)) (apart-of (λ q. is
         → Chain h (marks_of ((refused_if spent TxidsSpent >> Ok t) >>= (λ id. does_marks (Number (length (q ∷ qs))) (began of_worker id ∷ second_steps id (q ∷ qs) ++ ended of_worker id true ∷ []))))
     by q qs apart lack true = done
     by q qs apart lack false =
-        more begins_work (good_second_steps t (q ∷ qs) (began of_worker t ∷ h) (next l begins_work) apart lack (grind (arith, nat_tests, contains-push t t (workers h))) refl)
+        more begins_work (good_second_steps t (q ∷ qs) (began of_worker t ∷ h) (next l begins_work) apart lack (just_begun h (sound h l)).work refl)
 
     of : (qs : List NamedQueue) → Apart qs → Lack h qs → Chain h (marks_of (ends_switches (database_of h) qs))
     of [] apart lack = done

@@ -5,7 +5,7 @@ use Rattle.sky_keys.specs.Waits.{is_waiting}
 use Rattle.sky_model.specs.declared.stmt.RowStmt.{RowStmt}
 use Rattle.sky_model.specs.declared.reply.Refusal.{Refusal}
 use Rattle.sky_model.specs.declared.reply.Refusal.TheVariants.{TxidsSpent}
-use Rattle.sky_model.specs.History.{Mark, History, noded, of_worker, began, ended, tabled, read_only}
+use Rattle.sky_model.specs.History.{Mark, History, noded, of_worker, began, ended, tabled, read_only, of_copy}
 use Rattle.sky_model.specs.Transactions.{next_txid, workers}
 use Rattle.sky_model.specs.Sessions.{Block, outside, has_open, block, own_txid, session}
 use Rattle.sky_model.specs.Locks.{waiting}
@@ -38,6 +38,7 @@ use Rattle.sky_model.proofs.RowStanding.{part_of-marks}
 use Rattle.sky_model.proofs.GatedLemmas.{open-turn, open-with_settling}
 use Rattle.sky_model.proofs.GatedStanding.{good_gated_turn, good_gated_settling, same-gated_turn, same-gated_settling}
 use Rattle.sky_model.proofs.RoomsAlike.{room-turn, room-settling}
+use Rattle.sky_model.specs.Copies.{copies, is_copys}
 
 -- ---- legal histories
 
@@ -67,13 +68,18 @@ good_beginning h = of (nat_le (2 ^ 62) (next_txid h))
     of true = done
     of false = more begins_work done
 
-good_ending_work : (h : History) (t : ℕ) (committed : Bool) → Chain h (ending_work (part_of h) t committed).marks
-good_ending_work h t committed =
+good_ending_work : (h : History) (t : ℕ) (committed : Bool) → copies h ≡ [] → Chain h (ending_work (part_of h) t committed).marks
+good_ending_work h t committed none =
     by_test (λ (b : Bool). Chain h (if b then record { answers = []; marks = ended of_worker t committed ∷ [] } else rests).marks) (contains t (workers h))
-    (λ is. more (ends_work t committed is) done) (λ isnt. done)
+    (λ is. more (ends_work t committed (record { works = is; apart = ap (is_copys t) none })) done) (λ isnt. done)
+
+-- a history without a node and copies
+record IsBare (h : History) : Type 0 where
+  node : node h ≡ None
+  copies : copies h ≡ []
 
 -- what a call does may come
-good_row_does : (h : History) → Legal h → node h ≡ None → (call : RowCall) → Chain h (row_does part_by_history h call).marks
+good_row_does : (h : History) → Legal h → IsBare h → (call : RowCall) → Chain h (row_does part_by_history h call).marks
 good_row_does h l bare (row_stepped room who stmt) = good_gated_turn (room_gate room) h l [] who stmt
 good_row_does h l bare (row_entered who alone) = good_enters h who (takes_sight (entry_place alone) (session h who).sight) (allowed (is_waiting who (waiting h)) (has_open who h) (block who h) (entry_place alone))
 good_row_does h l bare (row_failed room who) = good_gated_settling (room_gate room) h l [] (failing (part_of h) who) (good_failure h who)
@@ -82,13 +88,15 @@ good_row_does h l bare (txid_taken who) = good_taking h who
 good_row_does h l bare (single_ended who) = good_ending h who
 good_row_does h l bare (rolled_back who) = good_failure h who
 good_row_does h l bare worker_begun = good_beginning h
-good_row_does h l bare (row_guarded table on) = more (guards table on (without_node table on bare)) done
-good_row_does h l bare (worker_ended t committed) = good_ending_work h t committed
+good_row_does h l bare (row_guarded table on) = more (guards table on (without_node table on bare.node)) done
+good_row_does h l bare (worker_ended t committed) = good_ending_work h t committed bare.copies
 
--- ---- a row part has no node
+-- ---- a row part has no node and no copies
 
 abbrev is_nodes : Mark → Bool
 is_nodes (noded mark) = true
+is_nodes (began (of_copy table) t) = true
+is_nodes (ended (of_copy table) t committed) = true
 is_nodes _ = false
 
 abbrev LeaveNode : List Mark → Type 0
@@ -99,12 +107,16 @@ of-rows marks rows = each-map is_of_rows (λ mark. not (is_nodes mark)) by_kind 
   where
     by_kind : (mark : Mark) → is_of_rows mark ≡ true → not (is_nodes mark) ≡ true
     by_kind (noded mark) e = absurd (cc)
+    by_kind (began (of_copy table) t) e = absurd (cc)
+    by_kind (ended (of_copy table) t committed) e = absurd (cc)
     by_kind _ e = refl
 
-node-left : (h : History) (marks : List Mark) → LeaveNode marks → node (marked h marks) ≡ node h
-node-left h [] leave = refl
-node-left h (noded mark ∷ marks) leave = absurd leave
-node-left h (mark ∷ marks) leave = node-left (mark ∷ h) marks leave
+still-bare : (h : History) (marks : List Mark) → LeaveNode marks → IsBare h → IsBare (marked h marks)
+still-bare h [] leave bare = bare
+still-bare h (noded mark ∷ marks) leave bare = absurd leave
+still-bare h (began (of_copy table) t ∷ marks) leave bare = absurd leave
+still-bare h (ended (of_copy table) t committed ∷ marks) leave bare = absurd leave
+still-bare h (mark ∷ marks) leave bare = still-bare (mark ∷ h) marks leave (record { node = bare.node; copies = bare.copies })
 
 history-rows : KeepsRows part_by_history
 history-rows = record { tells = λ h c rows. rows }
@@ -148,9 +160,9 @@ leaves-node h (row_guarded table on) = tt
 leaves-node h (worker_ended t committed) =
     by_test (λ (b : Bool). LeaveNode (if b then record { answers = []; marks = ended of_worker t committed ∷ [] } else rests).marks) (contains t (workers h)) (λ _. tt) (λ _. tt)
 
-bare_row_calls : (calls : List RowCall) → node (after_all row_part calls) ≡ None
-bare_row_calls [] = refl
-bare_row_calls (call ∷ calls) = node-left (after_all row_part calls) (row_does part_by_history (after_all row_part calls) call).marks (leaves-node (after_all row_part calls) call) ∙ bare_row_calls calls
+bare_row_calls : (calls : List RowCall) → IsBare (after_all row_part calls)
+bare_row_calls [] = record { node = refl; copies = refl }
+bare_row_calls (call ∷ calls) = still-bare (after_all row_part calls) (row_does part_by_history (after_all row_part calls) call).marks (leaves-node (after_all row_part calls) call) (bare_row_calls calls)
 
 -- so the history that calls make is legal
 legal_row_calls : (calls : List RowCall) → Legal (after_all row_part calls)

@@ -1,7 +1,7 @@
 -- A statement on rows, in its part of a database: from what the part keeps to the history, and to the whole database.
-use Rattle.std.proofs.Common.{◌≡◌, ℕ, ℤ, List, [], ◌∷◌, true, refl, ◌∙◌, ap, if◌then◌else◌}
+use Rattle.std.proofs.Common.{◌≡◌, ℕ, ℤ, List, [], ◌∷◌, true, refl, ◌∙◌, ap, if◌then◌else◌, false}
 use Rattle.sky_model.specs.declared.stmt.Stmt.{Stmt}
-use Rattle.sky_model.specs.History.{Mark, ended, queued, made, History}
+use Rattle.sky_model.specs.History.{Mark, ended, queued, made, History, noded, hold_begun, hold_ended}
 use Rattle.sky_model.specs.State.{RowPart, part_of, after_part, after_part_marks, Database, after_mark}
 use Rattle.sky_model.specs.ShownRows.{rows_by}
 use Rattle.sky_model.specs.World.{World}
@@ -34,7 +34,10 @@ part_of-marks h (mark ∷ marks) = part_of-marks (mark ∷ h) marks ∙ ap (λ d
 -- the row part of a database after a mark
 pub part-behind : (d : Database) (mark : Mark) → (after_mark d mark).part ≡ after_part d.part mark
 part-behind d (ended who t true) = refl
+part-behind d (ended who t false) = refl
 part-behind d (queued (made name t time)) = refl
+part-behind d (noded (hold_begun hold)) = refl
+part-behind d (noded (hold_ended hold)) = refl
 part-behind d _ = refl
 
 -- within the world a statement, with what it unblocks, is one of the database

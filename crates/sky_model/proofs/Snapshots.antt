@@ -1,16 +1,17 @@
 -- A snapshot sees exactly the transactions that have ended; and a worker's that runs is no session's.
 use Rattle.std.proofs.Common.{◌≡◌, ℕ, zero, suc, ◌+◌, ◌<◌, ◌≤◌, List, [], ◌∷◌, ◌++◌, Bool, true, false, not, ◌&&◌, ◌||◌, ◌==◌, nat_lt, filter, Some, refl, sym, ◌∙◌, ap, arith, ltb-true, All, AllPairs}
-use Rattle.std.proofs.lemmas.Bool.{and_parts, not-true, or_right}
+use Rattle.std.proofs.lemmas.Bool.{and_parts, not-true, or_right, false_from_ne_true}
 use Rattle.std.proofs.lemmas.Bool.Decides.{nat_tests}
 use Rattle.std.proofs.lemmas.List.Elements.{All-nil, All-cons, All-head, All-tail, All-push, All-weaker, All-filter}
 use Rattle.std.proofs.lemmas.List.Kept.{AllPairs-filter}
 use Rattle.std.proofs.lemmas.List.Quantifiers.{all_pairs_push}
 use Rattle.sky_txid.specs.Ids.{contains, first_or}
 use Rattle.sky_txid.specs.Snapshot.{sees}
-use Rattle.sky_model.specs.History.{Mark, Whose, of_session, of_worker, began, ended, History}
+use Rattle.sky_model.specs.History.{Mark, Whose, of_session, of_worker, of_copy, began, ended, History}
 use Rattle.sky_model.specs.Transactions.{next_txid, running, workers, has_ended, has_committed, has_rolled_back, snapshot}
+use Rattle.sky_model.specs.Copies.{Copy, without_copy, copies, is_copied_by, is_copys}
 use Rattle.sky_model.specs.Sessions.{own_txid}
-use Rattle.sky_model.proofs.Legal.{Fine, begins, ends, begins_work, ends_work, Legal, start, next}
+use Rattle.sky_model.proofs.Legal.{Fine, begins, ends, begins_work, ends_work, begins_copy, ends_copy, Legal, start, next, brief, IsBrief}
 
 -- the parts of a history that the law on snapshots rests on
 pub record Sound (h : History) : Type 0 where
@@ -23,6 +24,7 @@ pub record Sound (h : History) : Type 0 where
   pub once : (v w t : ℕ) → own_txid v h ≡ Some t → own_txid w h ≡ Some t → v ≡ w
   pub works : (t : ℕ) → contains t (workers h) ≡ true → contains t (running h) ≡ true
   pub nobodys : (who t : ℕ) → own_txid who h ≡ Some t → contains t (workers h) ≡ false
+  pub copying : (t : ℕ) → is_copys t (copies h) ≡ true → contains t (workers h) ≡ true
 
 pub contains-push : (t x : ℕ) (xs : List ℕ) → contains t (xs ++ x ∷ []) ≡ (contains t xs || t == x)
 contains-push t x [] = grind arith
@@ -57,12 +59,27 @@ runs-below h s t runs = ltb-true t (next_txid h) (and_parts (nat_lt t (next_txid
 pub runs-unended : (h : History) → Sound h → (t : ℕ) → contains t (running h) ≡ true → has_ended h t ≡ false
 runs-unended h s t runs = not-true (has_ended h t) (and_parts (nat_lt t (next_txid h)) (not (has_ended h t)) (sym (s.runs t) ∙ runs)).1
 
+-- a copy more, or without that of a transaction
+copys-push : (t : ℕ) (cs : List Copy) (c : Copy) → is_copys t (cs ++ c ∷ []) ≡ (is_copys t cs || c.txid == t)
+copys-push t [] c = grind arith
+copys-push t (x ∷ cs) c = grind (arith, copys-push t cs c)
+
+copys-without : (t u : ℕ) (cs : List Copy) → is_copys u (without_copy t cs) ≡ (is_copys u cs && not (u == t))
+copys-without t u [] = refl
+copys-without t u (x ∷ cs) = grind (arith, nat_tests, copys-without t u cs)
+
+-- the copy of a table is one
+pub copys-of : (table t : ℕ) (cs : List Copy) → is_copied_by table t cs ≡ true → is_copys t cs ≡ true
+copys-of table t [] is = absurd (cc)
+copys-of table t (x ∷ cs) is = grind (arith, copys-of table t cs)
+
 -- whose the transactions that run are, behind a mark
 record Owned (h : History) : Type 0 where
   owns : (who t : ℕ) → own_txid who h ≡ Some t → contains t (running h) ≡ true
   once : (v w t : ℕ) → own_txid v h ≡ Some t → own_txid w h ≡ Some t → v ≡ w
   works : (t : ℕ) → contains t (workers h) ≡ true → contains t (running h) ≡ true
   nobodys : (who t : ℕ) → own_txid who h ≡ Some t → contains t (workers h) ≡ false
+  copying : (t : ℕ) → is_copys t (copies h) ≡ true → contains t (workers h) ≡ true
 
 owned_began : (h : History) (whose : Whose) → Sound h → Owned (began whose (next_txid h) ∷ h)
 owned_began h (of_session who) s = record {
@@ -70,12 +87,21 @@ owned_began h (of_session who) s = record {
   once = λ v w t ev ew. grind (arith, nat_tests, s.once v w t, runs-below h s t, s.owns v t, s.owns w t);
   works = λ t e. grind (arith, contains-push t (next_txid h) (running h), s.works t e);
   nobodys = λ w t e. grind (arith, nat_tests, s.nobodys w t, runs-below h s t, s.works t);
+  copying = s.copying;
 }
 owned_began h of_worker s = record {
   owns = λ w t e. grind (arith, contains-push t (next_txid h) (running h), s.owns w t e);
   once = s.once;
   works = λ t e. grind (arith, nat_tests, contains-push t (next_txid h) (running h), contains-push t (next_txid h) (workers h), s.works t);
   nobodys = λ w t e. grind (arith, nat_tests, contains-push t (next_txid h) (workers h), s.nobodys w t e, runs-below h s t (s.owns w t e));
+  copying = λ t e. grind (arith, contains-push t (next_txid h) (workers h), s.copying t e);
+}
+owned_began h (of_copy table) s = record {
+  owns = λ w t e. grind (arith, contains-push t (next_txid h) (running h), s.owns w t e);
+  once = s.once;
+  works = λ t e. grind (arith, nat_tests, contains-push t (next_txid h) (running h), contains-push t (next_txid h) (workers h), s.works t);
+  nobodys = λ w t e. grind (arith, nat_tests, contains-push t (next_txid h) (workers h), s.nobodys w t e, runs-below h s t (s.owns w t e));
+  copying = λ t e. grind (arith, nat_tests, contains-push t (next_txid h) (workers h), copys-push t (copies h) (record { table = table; txid = next_txid h }), s.copying t);
 }
 
 sound_began : (h : History) (whose : Whose) → Sound h → Owned (began whose (next_txid h) ∷ h) → Sound (began whose (next_txid h) ∷ h)
@@ -89,17 +115,35 @@ sound_began h whose s o = record {
   once = o.once;
   works = o.works;
   nobodys = o.nobodys;
+  copying = o.copying;
+}
+
+-- the next id is no copy's
+pub next-apart : (h : History) → Sound h → is_copys (next_txid h) (copies h) ≡ false
+next-apart h s = false_from_ne_true (is_copys (next_txid h) (copies h)) (λ is. absurd (omega (arith, runs-below h s (next_txid h) (s.works (next_txid h) (s.copying (next_txid h) is)))))
+
+-- so a worker's transaction that has just begun is none
+pub just_begun : (h : History) → Sound h → IsBrief (began of_worker (next_txid h) ∷ h) (next_txid h)
+just_begun h s = record {
+  work = record { works = grind (arith, nat_tests, contains-push (next_txid h) (next_txid h) (workers h)); apart = next-apart h s };
+  brief = grind (arith, nat_tests, contains-push (next_txid h) (next_txid h) (brief h));
 }
 
 -- one that begins gets the next id
 pub begun-next : (h : History) (whose : Whose) (t : ℕ) → Fine h (began whose t) → t ≡ next_txid h
 begun-next h _ _ (begins who none) = refl
 begun-next h _ _ begins_work = refl
+begun-next h _ _ (begins_copy table may) = refl
+
+-- the transaction of a copy that runs does
+pub copy-runs : (h : History) → Sound h → (table t : ℕ) → is_copied_by table t (copies h) ≡ true → contains t (running h) ≡ true
+copy-runs h s table t is = s.works t (s.copying t (copys-of table t (copies h) is))
 
 -- a transaction that ends ran
 ender-runs : (h : History) → Sound h → (whose : Whose) (t : ℕ) (committed : Bool) → Fine h (ended whose t committed) → contains t (running h) ≡ true
 ender-runs h s _ _ _ (ends who t committed mine) = s.owns who t mine
-ender-runs h s _ _ _ (ends_work t committed is) = s.works t is
+ender-runs h s _ _ _ (ends_work t committed is) = s.works t is.works
+ender-runs h s _ _ _ (ends_copy table t committed is) = copy-runs h s table t is.runs
 
 owned_ended : (h : History) (whose : Whose) (t : ℕ) (committed : Bool) → Fine h (ended whose t committed) → Sound h → Owned (ended whose t committed ∷ h)
 owned_ended h _ _ _ (ends who t committed mine) s = record {
@@ -107,12 +151,21 @@ owned_ended h _ _ _ (ends who t committed mine) s = record {
   once = λ v w u ev ew. grind (arith, s.once v w u);
   works = λ u e. grind (arith, nat_tests, contains-filter u t (running h), s.works u e, s.nobodys who t mine);
   nobodys = λ w u e. grind (arith, s.nobodys w u);
+  copying = s.copying;
 }
 owned_ended h _ _ _ (ends_work t committed is) s = record {
-  owns = λ w u e. grind (arith, nat_tests, contains-filter u t (running h), s.owns w u e, s.nobodys w u e);
+  owns = λ w u e. grind (arith, nat_tests, contains-filter u t (running h), s.owns w u e, s.nobodys w u e, is.works);
   once = s.once;
   works = λ u e. grind (arith, contains-filter u t (running h), contains-filter u t (workers h), s.works u);
   nobodys = λ w u e. grind (arith, contains-filter u t (workers h), s.nobodys w u e);
+  copying = λ u e. grind (arith, nat_tests, contains-filter u t (workers h), s.copying u e, is.apart);
+}
+owned_ended h _ _ _ (ends_copy table t committed is) s = record {
+  owns = λ w u e. grind (arith, nat_tests, contains-filter u t (running h), s.owns w u e, s.nobodys w u e, s.copying t (copys-of table t (copies h) is.runs));
+  once = s.once;
+  works = λ u e. grind (arith, contains-filter u t (running h), contains-filter u t (workers h), s.works u);
+  nobodys = λ w u e. grind (arith, contains-filter u t (workers h), s.nobodys w u e);
+  copying = λ u e. grind (arith, contains-filter u t (workers h), copys-without t u (copies h), s.copying u);
 }
 
 sound_ended : (h : History) (whose : Whose) (t : ℕ) (committed : Bool) → contains t (running h) ≡ true → Sound h → Owned (ended whose t committed ∷ h) → Sound (ended whose t committed ∷ h)
@@ -126,11 +179,13 @@ sound_ended h whose t committed is s o = record {
   once = o.once;
   works = o.works;
   nobodys = o.nobodys;
+  copying = o.copying;
 }
 
 sound_step : (h : History) (mark : Mark) → Fine h mark → Sound h → Sound (mark ∷ h)
 sound_step h _ (begins who none) s = sound_began h (of_session who) s (owned_began h (of_session who) s)
 sound_step h _ begins_work s = sound_began h of_worker s (owned_began h of_worker s)
+sound_step h _ (begins_copy table may) s = sound_began h (of_copy table) s (owned_began h (of_copy table) s)
 sound_step h (ended whose t committed) fine s = sound_ended h whose t committed (ender-runs h s whose t committed fine) s (owned_ended h whose t committed fine s)
 sound_step h _ _ s = record {
   first = s.first;
@@ -142,6 +197,7 @@ sound_step h _ _ s = record {
   once = s.once;
   works = s.works;
   nobodys = s.nobodys;
+  copying = s.copying;
 }
 
 pub sound : (h : History) → Legal h → Sound h
@@ -155,6 +211,7 @@ sound [] start = record {
   once = λ v w t ev ew. absurd (cc);
   works = λ t e. absurd (cc);
   nobodys = λ who t e. absurd (cc);
+  copying = λ t e. absurd (cc);
 }
 sound (mark ∷ h) (next l f) = sound_step h mark f (sound h l)
 

@@ -100,7 +100,7 @@ stands-or-new P h name t time q is before new =
 pub registered-stands : (h : History) → Legal h → (q : ℕ) (consumer : List ℕ) (sub : ℕ) → subscription_id q consumer h ≡ Some sub → IsQueue h q
 registered-stands [] start q consumer sub is = absurd (cc)
 registered-stands _ (next {h = h} l (makes name t time new)) q consumer sub is = among-before (queues h) (record { number = queues_made h; name = name }) q (registered-stands h l q consumer sub is)
-registered-stands _ (next {h = h} l (registers p name s t i none f g low)) q consumer sub is = grind (arith, nat_tests, registered-stands h l q consumer sub, i, is)
+registered-stands _ (next {h = h} l (registers p name s t i none f g low few)) q consumer sub is = grind (arith, nat_tests, registered-stands h l q consumer sub, i, is)
 registered-stands _ (next {h = h} l (unregisters p name s i has)) q consumer sub is = grind (arith, registered-stands h l q consumer sub, is)
 registered-stands _ (next {h = h} l (drops p none untold idle aside)) q consumer sub is =
     among-others p (queues h) q (registered-stands h l q consumer sub is)

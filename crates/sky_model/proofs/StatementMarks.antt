@@ -15,7 +15,7 @@ use Rattle.sky_model.specs.declared.reply.Reply.{Reply}
 use Rattle.sky_model.specs.declared.reply.Reply.TheVariants.{Refused}
 use Rattle.sky_model.specs.declared.reply.Refusal.{Refusal}
 use Rattle.sky_model.specs.declared.reply.Refusal.TheVariants.{Canceled, IdsSpent}
-use Rattle.sky_model.specs.History.{Batch, Mark, QueueMark, of_session, of_worker, began, ended, connected, disconnected, looked, block_failed, tabled, wrote, waits, waited, read_only, queued, noded, root_made, raised, put, ticked, switching, switched, second_step, returned, traced, untraced}
+use Rattle.sky_model.specs.History.{Batch, Mark, QueueMark, of_session, of_worker, began, ended, connected, disconnected, looked, block_failed, tabled, wrote, waits, waited, read_only, queued, noded, root_made, raised, put, ticked, switching, switched, second_step, returned, traced, untraced, of_copy}
 use Rattle.sky_model.specs.declared.reply.HeldBack.{HeldBack}
 use Rattle.sky_model.specs.Queues.{NamedQueue, Tick, tick, is_pending}
 use Rattle.sky_model.specs.StepRotation.{held_back, switch_of, rotates, second_steps, lack_second_step, ends_switches, switches_by, switches_of, committed_by}
@@ -166,6 +166,8 @@ may_leave k who (noded (root_made name queue)) = k.queues
 may_leave k who (noded mark) = false
 may_leave k who (began of_worker t) = k.works
 may_leave k who (ended of_worker t committed) = k.works
+may_leave k who (began (of_copy table) t) = false
+may_leave k who (ended (of_copy table) t committed) = false
 may_leave k who _ = true
 
 -- those of an attempt with a key that another session holds, or doesn't

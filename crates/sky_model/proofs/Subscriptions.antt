@@ -12,7 +12,7 @@ use Rattle.sky_model.proofs.Cases.{by_test}
 -- the ids in use were given
 given : (h : History) → Legal h → (q : ℕ) (consumer : List ℕ) (sub : ℕ) → subscription_id q consumer h ≡ Some sub → sub ≤ last_subscription h
 given [] start q consumer sub is = absurd (cc)
-given _ (next {h = h} l (registers p name s tick i none f g low)) q consumer sub is =
+given _ (next {h = h} l (registers p name s tick i none f g low few)) q consumer sub is =
     by_test (λ b. (if b then Some s else subscription_id q consumer h) ≡ Some sub → sub ≤ s) (p == q && bytes_eq consumer name)
     (λ _ is. let same : s ≡ sub = cc in omega (arith, same)) (λ _ is. let below = given h l q consumer sub is in omega (arith, below, f)) is
 given _ (next {h = h} l (unregisters p name s i has)) q consumer sub is =
@@ -23,7 +23,7 @@ given _ (next {h = h} l _) q consumer sub is = given h l q consumer sub is
 -- no two consumers have one, be they of one queue or of two
 distinct : (h : History) → Legal h → (q r : ℕ) (c d : List ℕ) (sub : ℕ) → subscription_id q c h ≡ Some sub → subscription_id r d h ≡ Some sub → (q ≡ r) × (c ≡ d)
 distinct [] start q r c d sub one other = absurd (cc)
-distinct _ (next {h = h} l (registers p name s tick i none f g low)) q r c d sub one other =
+distinct _ (next {h = h} l (registers p name s tick i none f g low few)) q r c d sub one other =
     by_test (λ b. (p == q && bytes_eq c name) ≡ b → (if b then Some s else subscription_id q c h) ≡ Some sub → (q ≡ r) × (c ≡ d)) (p == q && bytes_eq c name)
     (λ _ here one. by_test (λ b. (p == r && bytes_eq d name) ≡ b → (if b then Some s else subscription_id r d h) ≡ Some sub → (q ≡ r) × (c ≡ d)) (p == r && bytes_eq d name)
     (λ _ there _.
@@ -47,7 +47,7 @@ pub subscriptions_are_given : SubscriptionsAreGiven
 subscriptions_are_given p is q consumer sub has = given p (legal_place p is) q consumer sub has
 
 newer : {p : History} {q : ℕ} {consumer : List ℕ} {sub tick : ℕ} → Fine p (queued (registered q consumer sub tick)) → last_subscription p < sub
-newer (registers q name sub tick i none f g low) = f
+newer (registers q name sub tick i none f g low few) = f
 
 pub subscriptions_are_new : SubscriptionsAreNew
 subscriptions_are_new p q consumer sub tick is = newer (fine_mark (legal_place (queued (registered q consumer sub tick) ∷ p) is))

@@ -14,7 +14,7 @@ use Rattle.sky_model.specs.declared.stmt.Stmt.TheVariants.{Row, MaintRetryEvents
 use Rattle.sky_model.specs.declared.stmt.Where.TheVariants.{WhenReading}
 use Rattle.sky_model.specs.declared.daemon.DaemonPart.{DaemonPart}
 use Rattle.sky_model.specs.declared.daemon.DaemonPart.TheVariants as part
-use Rattle.sky_model.specs.History.{Mark, of_session, of_worker, began, ended, block_begun, repeats, block_ended, looked, tabled, waited, read_only, queued, registered, unregistered, opened, closed, traced, untraced, switching, switched, noded, History}
+use Rattle.sky_model.specs.History.{Mark, of_session, of_worker, began, ended, block_begun, repeats, block_ended, looked, tabled, waited, read_only, queued, registered, unregistered, opened, closed, traced, untraced, switching, switched, noded, History, of_copy, wrote}
 use Rattle.sky_model.specs.Transactions.{next_txid}
 use Rattle.sky_model.specs.Sessions.{Block, outside, inside, failed, session, has_open, block, own_txid}
 use Rattle.sky_model.specs.Locks.{waiting, attempt}
@@ -81,6 +81,9 @@ for-nodes (queued (traced table name trigger)) e = refl
 for-nodes (queued (untraced table)) e = refl
 for-nodes (tabled (read_only table on)) e = refl
 for-nodes (noded mark) e = refl
+for-nodes (began (of_copy table) t) e = refl
+for-nodes (ended (of_copy table) t committed) e = refl
+for-nodes (tabled (wrote (of_copy n) t table key old new)) e = refl
 for-nodes _ e = absurd (cc)
 
 pub each-served : (h : History) (call : NodeCall) → EachMark (may_do inside 0) (database_does database_by_history h (served call)).marks

@@ -7,7 +7,7 @@ use Rattle.sky_model.specs.declared.stmt.RowStmt.{RowStmt}
 use Rattle.sky_model.specs.declared.reply.Reply.TheVariants.{Refused}
 use Rattle.sky_model.specs.declared.reply.Refusal.{Refusal}
 use Rattle.sky_model.specs.declared.reply.Refusal.TheVariants.{EventIdsSpent}
-use Rattle.sky_model.specs.History.{Mark, Whose, ended, looked, of_session, tabled, wrote, waited, read_only, queued, noded}
+use Rattle.sky_model.specs.History.{Mark, Whose, ended, looked, of_session, tabled, wrote, waited, read_only, queued, noded, of_copy, began}
 use Rattle.sky_model.specs.Sessions.{Session}
 use Rattle.sky_model.specs.State.{RowPart, after_part, after_part_marks, Database, after_mark, after_marks}
 use Rattle.sky_model.specs.ShownRows.{rows_by}
@@ -102,6 +102,8 @@ module _ {G : Type 0} (gate : Gate G) (now : ℤ) (related : Database → RowPar
   others (noded mark ∷ marks) rows plain d p g is = absurd rows
   others (tabled (wrote who t table key old new) ∷ marks) rows plain d p g is = absurd plain
   others (tabled (read_only table on) ∷ marks) rows plain d p g is = absurd rows
+  others (began (of_copy table) t ∷ marks) rows plain d p g is = absurd rows
+  others (ended (of_copy table) t committed ∷ marks) rows plain d p g is = absurd rows
   others (ended whose t false ∷ marks) rows plain d p g is =
       others marks rows plain (after_mark d (ended whose t false)) (after_part p (ended whose t false)) (gate.undone g t) (alike.undone d p g whose t is)
   others (mark ∷ marks) rows plain d p g is = others marks rows plain (after_mark d mark) (after_part p mark) g (alike.other d p g mark tt is)

@@ -15,7 +15,7 @@ all_later h mark = All-weaker (WasActive h) (WasActive (mark ∷ h)) (one_later 
 
 still_were : (h : History) (mark : Mark) → Fine h mark → (queue : ℕ) (consumer : List ℕ)
     → All (WasActive (mark ∷ h)) (finished queue consumer h) → All (WasActive (mark ∷ h)) (finished queue consumer (mark ∷ h))
-still_were h mark (registers p name sub t i none f g low) queue consumer were = cond_both (p == queue && bytes_eq consumer name) [] (finished queue consumer h) (All (WasActive (mark ∷ h))) (λ _. All-nil (WasActive (mark ∷ h))) (λ _. were)
+still_were h mark (registers p name sub t i none f g low few) queue consumer were = cond_both (p == queue && bytes_eq consumer name) [] (finished queue consumer h) (All (WasActive (mark ∷ h))) (λ _. All-nil (WasActive (mark ∷ h))) (λ _. were)
 still_were h mark (moves p name sub t i has least most low) queue consumer were = cond_both (p == queue && bytes_eq consumer name) [] (finished queue consumer h) (All (WasActive (mark ∷ h))) (λ _. All-nil (WasActive (mark ∷ h))) (λ _. were)
 still_were h mark (unregisters p name sub i has) queue consumer were = cond_both (p == queue && bytes_eq consumer name) [] (finished queue consumer h) (All (WasActive (mark ∷ h))) (λ _. All-nil (WasActive (mark ∷ h))) (λ _. were)
 still_were h mark (closes b active) queue consumer were =

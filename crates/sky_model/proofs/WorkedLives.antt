@@ -149,7 +149,7 @@ served h id prev cur o is l = next (next l (opens (of_w id prev cur) o)) (closes
 both_legal : Legal both_have
 both_legal =
     next (next (served _ 1 2 3 (record { within = refl; stands = refl; fresh = omega arith; closing = _; made = refl; to = refl }) refl
-    (next (next ticks_legal (registers 0 v 1 1 refl refl (omega arith) (omega arith) (omega arith))) (registers 0 w 2 2 refl refl (omega arith) (omega arith) (omega arith))))
+    (next (next ticks_legal (registers 0 v 1 1 refl refl (omega arith) (omega arith) (omega arith) (omega arith))) (registers 0 w 2 2 refl refl (omega arith) (omega arith) (omega arith) (omega arith))))
     (opens (of_w 2 3 4) (record { within = refl; stands = refl; fresh = omega arith; closing = _; made = refl; to = refl })))
     (opens (of_v 3 1 1 2) (record { within = refl; stands = refl; fresh = omega arith; closing = _; made = refl; to = refl }))
 
@@ -165,4 +165,4 @@ forward_legal : Legal forward
 forward_legal = next again_legal (moves 0 w 2 4 refl refl (omega arith) (omega arith) (omega arith))
 
 anew_legal : Legal anew
-anew_legal = next (next both_legal (unregisters 0 v 1 refl refl)) (registers 0 v 3 4 refl refl (omega arith) (omega arith) (omega arith))
+anew_legal = next (next both_legal (unregisters 0 v 1 refl refl)) (registers 0 v 3 4 refl refl (omega arith) (omega arith) (omega arith) (omega arith))

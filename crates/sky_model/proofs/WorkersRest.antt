@@ -19,7 +19,7 @@ use Rattle.sky_model.specs.declared.daemon.DaemonPart.TheVariants as part
 use Rattle.sky_model.specs.declared.reply.Reply.TheVariants.{Number}
 use Rattle.sky_model.specs.declared.reply.HeldBack.{HeldBack}
 use Rattle.sky_model.specs.History.{Mark, QueueMark, of_worker, began, ended, looked, queued, made, put, ticked, asked, returned, switching, switched, History}
-use Rattle.sky_model.specs.Transactions.{next_txid, workers}
+use Rattle.sky_model.specs.Transactions.{next_txid}
 use Rattle.sky_model.specs.Sessions.{Session, session, has_open, block, own_txid}
 use Rattle.sky_model.specs.Locks.{waiting}
 use Rattle.sky_model.specs.Queues.{NamedQueue, queues, events}
@@ -46,7 +46,7 @@ use Rattle.sky_model.proofs.Lawful.{database-reads, past-behind, maint_may}
 use Rattle.sky_model.specs.LawsOfRetries.{IsRetry}
 use Rattle.sky_model.proofs.Resting.{behind-append}
 use Rattle.sky_model.proofs.Cases.{by_test}
-use Rattle.sky_model.proofs.Legal.{looks, Legal, next}
+use Rattle.sky_model.proofs.Legal.{looks, Legal, next, brief}
 use Rattle.sky_model.proofs.LawfulTelling.{legal_behind}
 use Rattle.sky_model.proofs.RetryCopies.{copies}
 use Rattle.sky_model.proofs.RetriesBack.{AreBack, due-back}
@@ -111,24 +111,24 @@ is_at_work _ = false
 -- each tick was made, each queue too, and each retry asked for, while no worker's transaction was running; those commit, and put no event twice
 abbrev pub Calm : History → Type 0
 Calm [] = Unit {0}
-Calm (queued (ticked q id time seq) ∷ h) = (workers h ≡ []) × Calm h
-Calm (queued (asked retry) ∷ h) = (workers h ≡ []) × Calm h
-Calm (queued (put q event) ∷ h) = (contains event.ev_txid (workers h) ≡ true → IsNew h q event) × Calm h
-Calm (queued (made name t time) ∷ h) = (workers h ≡ []) × Calm h
+Calm (queued (ticked q id time seq) ∷ h) = (brief h ≡ []) × Calm h
+Calm (queued (asked retry) ∷ h) = (brief h ≡ []) × Calm h
+Calm (queued (put q event) ∷ h) = (contains event.ev_txid (brief h) ≡ true → IsNew h q event) × Calm h
+Calm (queued (made name t time) ∷ h) = (brief h ≡ []) × Calm h
 Calm (ended of_worker t committed ∷ h) = (committed ≡ true) × Calm h
 Calm (_ ∷ h) = Calm h
 
 -- and none is running now
 pub record Rests (h : History) : Type 0 where
   pub calm : Calm h
-  pub idle : workers h ≡ []
+  pub idle : brief h ≡ []
 
 -- ---- marks
 
 rests-mark : (h : History) (mark : Mark) → EachMark is_no_work (mark ∷ []) → Rests h → Rests (mark ∷ h)
 rests-mark h (queued (ticked q id time seq)) all r = record { calm = (r.idle, r.calm); idle = r.idle }
 rests-mark h (queued (asked retry)) all r = record { calm = (r.idle, r.calm); idle = r.idle }
-rests-mark h (queued (put q event)) all r = record { calm = (λ works. absurd (cc (sym works ∙ ap (contains event.ev_txid) r.idle)), r.calm); idle = r.idle }
+rests-mark h (queued (put q event)) all r = record { calm = (λ is. absurd (cc (sym is ∙ ap (contains event.ev_txid) r.idle)), r.calm); idle = r.idle }
 rests-mark h (queued (made name t time)) all r = record { calm = (r.idle, r.calm); idle = r.idle }
 rests-mark h (began of_worker t) all r = absurd all
 rests-mark h (ended of_worker t committed) all r = absurd all
@@ -142,7 +142,7 @@ rests-marks h (mark ∷ marks) all r =
 -- at work: the worker's transaction alone is running
 record Works (h : History) (t : ℕ) : Type 0 where
   calm : Calm h
-  one : workers h ≡ t ∷ []
+  one : brief h ≡ t ∷ []
 
 works-mark : (h : History) (t : ℕ) (mark : Mark) → EachMark is_at_work (mark ∷ []) → Works h t → Works (mark ∷ h) t
 works-mark h t (queued (ticked q id time seq)) all w = absurd all

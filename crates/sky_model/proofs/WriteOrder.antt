@@ -9,12 +9,12 @@ use Rattle.sky_model.specs.History.{Mark, Whose, ended, tabled, wrote, History}
 use Rattle.sky_model.specs.Transactions.{has_ended, has_committed, has_rolled_back}
 use Rattle.sky_model.specs.Rows.{committed, writes as writes_of, has_written}
 use Rattle.sky_model.specs.LawsOfWrites.{writers, is_before, KeysAreWrittenInTurn, WritesAndCommitsHaveOneOrder, SnapshotsSeeEarlierWriters}
-use Rattle.sky_model.proofs.Legal.{Fine, writes, Legal, legal-below_mark, fine_mark}
-use Rattle.sky_model.proofs.Snapshots.{contains-push, own-unended, has_committed-ended, sees-snapshot, ender-unended}
+use Rattle.sky_model.proofs.Legal.{Fine, Legal, legal-below_mark, fine_mark}
+use Rattle.sky_model.proofs.Snapshots.{contains-push, has_committed-ended, sees-snapshot, ender-unended}
 use Rattle.sky_model.proofs.SnapshotLaws.{legal-below, legal_place}
 use Rattle.sky_model.proofs.RowKeys.{committed-ended}
 use Rattle.sky_model.proofs.RowSights.{ended-behind}
-use Rattle.sky_model.proofs.Holders.{turned, has_written-push, nobody-else}
+use Rattle.sky_model.proofs.Holders.{turned, has_written-push, alone}
 use Rattle.sky_model.proofs.Cases.{by_same}
 
 -- ---- places in a list
@@ -57,13 +57,13 @@ writers-written table key t (_ ∷ h) = writers-written table key t h
 
 -- one that writes a key hasn't ended
 writer-unended : (h : History) (whose : Whose) (u table : ℕ) (key : List Val) (old new : Option (List Val)) → Legal h → Fine h (tabled (wrote whose u table key old new)) → has_ended h u ≡ false
-writer-unended h _ _ _ _ _ _ l (writes who u table key old new mine free stands) = own-unended h l who u mine
+writer-unended h whose u table key old new l fine = (alone h l fine).runs
 
 -- and each other one that has written it has
 others-ended : (h : History) (whose : Whose) (u table : ℕ) (key : List Val) (old new : Option (List Val)) → Legal h → Fine h (tabled (wrote whose u table key old new))
     → (t : ℕ) → (t == u) ≡ false → has_written key (writes_of table t h) ≡ true → has_ended h t ≡ true
-others-ended h _ _ _ _ _ _ l (writes who u table key old new mine free stands) t other wrote_it =
-    true_from_ne_false (has_ended h t) (λ is. nobody-else h l who u table key mine free t is (turned_test u t false other) wrote_it)
+others-ended h whose u table key old new l fine t other wrote_it =
+    true_from_ne_false (has_ended h t) (λ is. (alone h l fine).others t is (turned_test u t false other) wrote_it)
 
 pub keys_are_written_in_turn : KeysAreWrittenInTurn
 keys_are_written_in_turn p whose u table key old new is =

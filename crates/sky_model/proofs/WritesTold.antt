@@ -1,11 +1,11 @@
 -- In the history that calls make the events that record a write come right after it.
-use Rattle.std.proofs.Common.{◌≡◌, ℕ, zero, suc, ℤ, List, [], ◌∷◌, ◌++◌, Bool, true, false, Option, Some, None, Ok, Err, IfOk, length, refl, sym, ap, subst}
+use Rattle.std.proofs.Common.{◌≡◌, ℕ, zero, suc, ℤ, List, [], ◌∷◌, ◌++◌, Bool, true, false, Option, Some, None, Ok, Err, IfOk, length, refl, sym, ap, subst, pos}
 use Rattle.sky_val.specs.declared.val.Val.{Val}
 use Rattle.sky_keys.specs.Waits.{Waiting, is_waiting}
 use Rattle.sky_model.specs.declared.stmt.Stmt.{Stmt}
 use Rattle.sky_model.specs.declared.stmt.Stmt.TheVariants.{Row}
 use Rattle.sky_model.specs.declared.stmt.RowStmt.TheVariants.{Commit}
-use Rattle.sky_model.specs.History.{Mark, Whose, of_session, of_worker, looked, tabled, wrote, waited, History}
+use Rattle.sky_model.specs.History.{Mark, Whose, of_session, of_worker, looked, tabled, wrote, waited, History, of_copy}
 use Rattle.sky_model.specs.Sessions.{Session, session, has_open, block, own_txid}
 use Rattle.sky_model.specs.Locks.{waiting}
 use Rattle.sky_model.specs.State.{part_of, database_of, after_mark, after_marks}
@@ -26,7 +26,7 @@ use Rattle.sky_model.specs.DatabaseCalls.{DatabaseCall, stepped, entered, failed
 use Rattle.sky_model.specs.LawsOfWrites.{IsTold, WritesAreTold}
 use Rattle.sky_model.proofs.Marks.{database_of-mark, database_of-marks}
 use Rattle.sky_model.proofs.Lawful.{database-reads, past-behind}
-use Rattle.sky_model.proofs.StatementMarks.{each-first, each-rest, AnyReply, gives-map, Kinds, no_more, may_leave, kinds, gives-form, each-failure, given-settled, by_commit, none-first}
+use Rattle.sky_model.proofs.StatementMarks.{each-first, each-rest, AnyReply, gives-map, Kinds, no_more, may_leave, kinds, gives-form, each-failure, given-settled, by_commit, none-first, EachMark}
 use Rattle.sky_model.proofs.GatedLemmas.{is_no_write, WritesNone, plain-if, plain-abort}
 use Rattle.std.proofs.lemmas.Result.{IfOk-at_ok}
 use Rattle.sky_model.proofs.Cases.{ok-then}
@@ -109,6 +109,7 @@ mark-told h told now (tabled (wrote (of_session who) t table key old new)) =
     of (Ok events) same only = told-behind (marked (write ∷ h) events) (write ∷ h) events (events-plain events only) (write-told h now write events same told)
     of (Err refusal) same only = tt
 mark-told h told now (tabled (wrote of_worker t table key old new)) = write-told h now (tabled (wrote of_worker t table key old new)) [] refl told
+mark-told h told now (tabled (wrote (of_copy n) t table key old new)) = write-told h now (tabled (wrote (of_copy n) t table key old new)) [] refl told
 mark-told h told now mark = plain-told h (mark ∷ []) tt told
 
 with_told-told : (h : History) → AllTold h → (now : ℤ) (marks : List Mark) → MarkTold h (with_told (database_of h) now marks)
@@ -190,9 +191,14 @@ enters-told h told who true (Ok _) = plain-told h (looked who ∷ []) tt told
 enters-told h told who false (Ok _) = told
 enters-told h told who sight (Err refusal) = told
 
-for-nodes : (mark : Mark) → is_for_nodes mark ≡ true → is_no_write mark ≡ true
-for-nodes (tabled (wrote whose t table key old new)) e = absurd (cc)
-for-nodes _ e = refl
+-- a call for a node writes nothing that is recorded
+nodes-told : (h : History) (marks : List Mark) → EachMark is_for_nodes marks → AllTold h → AllTold (marked h marks)
+nodes-told h [] all told = told
+nodes-told h (tabled (wrote (of_session who) t table key old new) ∷ marks) all told = absurd all
+nodes-told h (tabled (wrote of_worker t table key old new) ∷ marks) all told = absurd all
+nodes-told h (tabled (wrote (of_copy n) t table key old new) ∷ marks) all told =
+    let write : Mark = tabled (wrote (of_copy n) t table key old new) in nodes-told (write ∷ h) marks all (write-told h (pos 0) write [] refl told)
+nodes-told h (mark ∷ marks) all told = nodes-told (mark ∷ h) marks (each-rest is_for_nodes mark marks all) (plain-told h (mark ∷ []) tt told)
 
 does-told : (h : History) → AllTold h → (call : DatabaseCall) → AllTold (marked h (database_does database_by_history h call).marks)
 does-told h told (stepped who stmt now) = with_settling-told now h (turn_of who (statement database_by_history h now who stmt)) (statement-told h told now who stmt)
@@ -200,7 +206,7 @@ does-told h told (entered who alone) =
     enters-told h told who (takes_sight (entry_place alone) (session h who).sight) (allowed (is_waiting who (waiting h)) (has_open who h) (block who h) (entry_place alone))
 does-told h told (worked part now) =
     plain-told h (daemon_does database_by_history h part now).marks (each-daemon_does is_no_write now (λ mark _. refl) (λ r. refl) (λ t. refl) (λ t. refl) database_by_history h part) told
-does-told h told (served call) = plain-told h (marks_of (node_does (database_of h) call)) (each-node is_no_write for-nodes (database_of h) call) told
+does-told h told (served call) = nodes-told h (marks_of (node_does (database_of h) call)) (each-node is_for_nodes (λ mark is. is) (database_of h) call) told
 does-told h told (failed_call who now) =
     with_settling-told now h (failing (part_of h) who) (plain-told h (failure who (own_txid who h) (block who h)) (each-failure AnyReply is_no_write (λ _. tt) (plain-if no_more refl) who (own_txid who h) (block who h)) told)
 

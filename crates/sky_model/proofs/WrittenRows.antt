@@ -9,10 +9,10 @@ use Rattle.sky_val.specs.declared.column.Column.{Column}
 use Rattle.sky_val.specs.Order.{key_cmp}
 use Rattle.sky_val.specs.Entries.{at}
 use Rattle.sky_keys.specs.declared.version.Version.{Version}
-use Rattle.sky_keys.specs.Versions.{with_version, without, version_of, newest_from, newest_by, own_version, row_of}
-use Rattle.sky_txid.specs.Snapshot.{sees}
+use Rattle.sky_keys.specs.Versions.{with_version, without, version_of, newest_from, newest_by, own_version, row_of, read}
+use Rattle.sky_txid.specs.Snapshot.{SnapshotView, sees}
 use Rattle.sky_keys.proofs.EntryLemmas.{key_ties-is, versions_at-forgotten}
-use Rattle.sky_model.specs.History.{Mark, Whose, of_session, ended, tabled, table_made, wrote, History}
+use Rattle.sky_model.specs.History.{Mark, Whose, of_session, ended, tabled, table_made, wrote, History, of_copy}
 use Rattle.sky_model.specs.Transactions.{has_ended}
 use Rattle.sky_model.specs.Sessions.{own_txid}
 use Rattle.sky_model.specs.Rows.{table_names, columns_of, rows_standing}
@@ -21,12 +21,13 @@ use Rattle.sky_model.specs.Versions.{versions}
 use Rattle.sky_model.specs.State.{part_of}
 use Rattle.sky_model.specs.ShownRows.{RowsShown, rows_by, snapshot_now}
 use Rattle.sky_model.specs.LawsOfWrites.{IsRowOf, WritesNameWhatStands, WrittenRowsFit, StandingRowsFit}
-use Rattle.sky_model.proofs.Legal.{Replaces, Fine, makes_table, writes, Legal, start, next, legal-below_mark, fine_mark}
+use Rattle.sky_model.proofs.Legal.{Replaces, Fine, makes_table, writes, Legal, start, next, legal-below_mark, fine_mark, copies_row}
 use Rattle.sky_model.proofs.SnapshotLaws.{legal_place}
 use Rattle.sky_model.proofs.Cases.{if_or}
 use Rattle.sky_model.proofs.RowKeys.{is_in_order-versions}
 use Rattle.sky_model.proofs.KeyVersions.{kept, key_holds, kept-wrote}
 use Rattle.sky_model.proofs.RowSights.{same-rows}
+use Rattle.sky_model.proofs.Holders.{IsAlone, alone}
 
 -- ---- each version of a list
 
@@ -56,16 +57,23 @@ own-of P (Some t) (v ∷ vs) all = cond_both (t == v.txid) (Some v) (version_of 
 -- ---- the kept versions
 
 -- its row, if it left one, is one of a table that exists, under the key
-record Left (h : History) (table : ℕ) (key : List Val) (v : Version) : Type 0 where
-  within : table < length (table_names h)
-  fits : IfSome v.row (IsRowOf (columns_of table h) key)
+pub record Left (h : History) (table : ℕ) (key : List Val) (v : Version) : Type 0 where
+  pub within : table < length (table_names h)
+  pub fits : IfSome v.row (IsRowOf (columns_of table h) key)
 
-abbrev AllLeft : History → Type 0
+abbrev pub AllLeft : History → Type 0
 AllLeft h = (table : ℕ) (key : List Val) → All (Left h table key) (kept h table key)
 
 row-left : (h : History) (table : ℕ) (key : List Val) (o : Option Version) → IfSome o (Left h table key) → IfSome (row_of o) (IsRowOf (columns_of table h) key)
 row-left h table key None this = tt
 row-left h table key (Some v) this = this.fits
+
+-- so is one that is read
+pub read-left : (h : History) → AllLeft h → (s : SnapshotView) (own : Option ℕ) (table : ℕ) (key : List Val) → IfSome (read s own (kept h table key)) (IsRowOf (columns_of table h) key)
+read-left h all s own table key =
+    row-left h table key _
+    (if_or (Left h table key) (own_version own (kept h table key)) (newest_by (sees s) (kept h table key)) (own-of (Left h table key) own (kept h table key) (all table key))
+    (newest-of (Left h table key) (sees s) (kept h table key) None (all table key) tt))
 
 -- so is the row that a session's write meets
 standing-left : (h : History) → AllLeft h → (who table : ℕ) (key : List Val) → IfSome ((rows_by (part_of h)).key who table key).standing (IsRowOf (columns_of table h) key)
@@ -84,6 +92,28 @@ left-same : (h : History) (mark : Mark) → ((table : ℕ) (key : List Val) (v :
 left-same h mark still same all table key =
     subst (All (Left (mark ∷ h) table key)) (sym (same table key)) (All-weaker (Left h table key) (Left (mark ∷ h) table key) (still table key) (kept h table key) (all table key))
 
+-- so it is after a write
+left-written : (h : History) → Legal h → AllLeft h → (whose : Whose) (t n : ℕ) (at_key : List Val) (old new : Option (List Val)) → IsAlone h t n at_key → n < length (table_names h)
+    → IfSome new (IsRowOf (columns_of n h) at_key) → AllLeft (tabled (wrote whose t n at_key old new) ∷ h)
+left-written h l all whose t n at_key old new is within fits = λ table key.
+    subst (All (Left g table key)) (sym (kept-wrote h l whose t n at_key old new is table key))
+    (cond_both ((n == table) && eq_by_cmp key_cmp key at_key) (with_version t new (kept h table key)) (kept h table key) (All (Left g table key)) (there table key) (λ _. before table key))
+  where
+    g : History
+    g = tabled (wrote whose t n at_key old new) ∷ h
+
+    before : (table : ℕ) (key : List Val) → All (Left g table key) (kept h table key)
+    before table key = All-weaker (Left h table key) (Left g table key) (λ v is. record { within = is.within; fits = is.fits }) (kept h table key) (all table key)
+
+    written : Left g n at_key (record { txid = t; row = new })
+    written = record { within = within; fits = fits }
+
+    there : (table : ℕ) (key : List Val) → ((n == table) && eq_by_cmp key_cmp key at_key) ≡ true → All (Left g table key) (with_version t new (kept h table key))
+    there table key is =
+        let both = and_parts (n == table) (eq_by_cmp key_cmp key at_key) is in
+        all-with (Left g table key) t new (kept h table key) (before table key)
+        (subst (λ m. Left g m key (record { txid = t; row = new })) (eqb-true n table both.0) (subst (λ k. Left g n k (record { txid = t; row = new })) (sym (key_ties-is key at_key both.1)) written))
+
 left-step : (h : History) (mark : Mark) → Fine h mark → Legal h → AllLeft h → AllLeft (mark ∷ h)
 left-step h _ (makes_table name columns new) l all = left-same h (tabled (table_made name columns)) still (λ table key. refl) all
   where
@@ -95,31 +125,16 @@ left-step h _ (makes_table name columns new) l all = left-same h (tabled (table_
       where
         other : table < length (table_names h) → (length (table_names h) == table) ≡ false
         other below = grind (arith, nat_tests)
-left-step h _ (writes who t n at_key old new mine free stands) l all = λ table key.
-    subst (All (Left g table key)) (sym (kept-wrote h l who t n at_key old new mine free table key))
-    (cond_both ((n == table) && eq_by_cmp key_cmp key at_key) (with_version t new (kept h table key)) (kept h table key) (All (Left g table key)) (there table key) (λ _. before table key))
-  where
-    g : History
-    g = tabled (wrote (of_session who) t n at_key old new) ∷ h
-
-    before : (table : ℕ) (key : List Val) → All (Left g table key) (kept h table key)
-    before table key = All-weaker (Left h table key) (Left g table key) (λ v is. record { within = is.within; fits = is.fits }) (kept h table key) (all table key)
-
-    written : Left g n at_key (record { txid = t; row = new })
-    written = record { within = stands.within; fits = new-fits h all who n at_key old new stands }
-
-    there : (table : ℕ) (key : List Val) → ((n == table) && eq_by_cmp key_cmp key at_key) ≡ true → All (Left g table key) (with_version t new (kept h table key))
-    there table key is =
-        let both = and_parts (n == table) (eq_by_cmp key_cmp key at_key) is in
-        all-with (Left g table key) t new (kept h table key) (before table key)
-        (subst (λ m. Left g m key (record { txid = t; row = new })) (eqb-true n table both.0) (subst (λ k. Left g n k (record { txid = t; row = new })) (sym (key_ties-is key at_key both.1)) written))
+left-step h _ (writes who t n at_key old new mine free stands) l all =
+    left-written h l all (of_session who) t n at_key old new (alone h l (writes who t n at_key old new mine free stands)) stands.within (new-fits h all who n at_key old new stands)
+left-step h _ (copies_row n t at_key old new is) l all = left-written h l all (of_copy n) t n at_key old new (alone h l (copies_row n t at_key old new is)) is.within is.fits
 left-step h (ended whose t false) fine l all = λ table key.
     subst (All (Left (ended whose t false ∷ h) table key)) (sym (versions_at-forgotten t key (versions table h) (is_in_order-versions table h)))
     (all-without (Left (ended whose t false ∷ h) table key) t (kept h table key)
     (All-weaker (Left h table key) (Left (ended whose t false ∷ h) table key) (λ v is. record { within = is.within; fits = is.fits }) (kept h table key) (all table key)))
 left-step h mark _ l all = left-same h mark (λ table key v is. record { within = is.within; fits = is.fits }) (λ table key. refl) all
 
-all-left : (h : History) → Legal h → AllLeft h
+pub all-left : (h : History) → Legal h → AllLeft h
 all-left _ start = λ table key. All-nil (Left [] table key)
 all-left _ (next {h = h} {mark = mark} l fine) = left-step h mark fine l (all-left h l)
 
@@ -137,6 +152,7 @@ writes_name_what_stands p who t table key old new is =
 fits-written : (h : History) (whose : Whose) (t table : ℕ) (key : List Val) (old new : Option (List Val)) → Legal h → Fine h (tabled (wrote whose t table key old new))
     → IfSome new (IsRowOf (columns_of table h) key)
 fits-written h _ _ _ _ _ _ l (writes who t table key old new mine free is) = new-fits h (all-left h l) who table key old new is
+fits-written h _ _ _ _ _ _ l (copies_row table t key old new is) = is.fits
 
 pub written_rows_fit : WrittenRowsFit
 written_rows_fit p whose t table key old new is =

@@ -16,3 +16,9 @@ DatabaseSteps old new call turn = Promises database_part IsDatabaseCallInForm ol
 abbrev pub ShowsEvents : Database → (batch : ℕ) → List Event → Type 0
 ShowsEvents d batch events = (calls : List DatabaseCall) → All IsDatabaseCallInForm calls → d ≡ database_of (after_all database_part calls)
     → (shown_in (after_all database_part calls)).events batch ≡ Some events
+
+-- a database that calls in form have made: the premise of whatever the laws on histories say of it
+pub record IsMade (d : Database) : Type 0 where
+  pub calls : List DatabaseCall
+  pub in_form : All IsDatabaseCallInForm calls
+  pub shown : d ≡ database_of (after_all database_part calls)

@@ -59,10 +59,12 @@ pub data QueueMark : Type 0 where
   -- a table lost its triggers without a name
   untraced : (table : ℕ) → QueueMark
 
--- whose a transaction is: a session's, or a worker's
+-- whose a transaction is: a session's, a worker's, or that of a worker that copies the rows of a table from another database, which lasts until the
+-- copy ends
 pub data Whose : Type 0 where
   of_session : (who : ℕ) → Whose
   of_worker : Whose
+  of_copy : (table : ℕ) → Whose
 
 -- what happened to the tables of a database; a table is identified by its number in the order of making
 pub data TableMark : Type 0 where
@@ -79,7 +81,7 @@ pub data TableMark : Type 0 where
 
 -- which events a worker applies: those of the tables that are in sync, or those of a table that its copy's snapshot doesn't see
 pub data Pick : Type 0 where
-  ready : Pick
+  of_synced : Pick
   copy_of : (table : List ℕ) → Pick
 
 -- what happened to the node of a database; a table is identified by its name
@@ -107,6 +109,9 @@ pub data NodeMark : Type 0 where
   applied : (pick : Pick) (tick : ℕ) → NodeMark
   -- a copy that ran was given up
   restarted : (table : List ℕ) → NodeMark
+  -- the snapshot of this place is held under a number from now on; it isn't any more
+  hold_begun : (hold : ℕ) → NodeMark
+  hold_ended : (hold : ℕ) → NodeMark
 
 -- what happened in a database
 pub data Mark : Type 0 where

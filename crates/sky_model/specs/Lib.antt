@@ -17,6 +17,7 @@ pub mod Consumers
 pub mod Retries
 pub mod Batches
 pub mod Nodes
+pub mod Copies
 pub mod State
 pub mod ShownRows
 pub mod Outcome
@@ -31,7 +32,9 @@ pub mod StepTrigger
 pub mod StepConsumer
 pub mod StepRetry
 pub mod StepRotation
+pub mod StepCopy
 pub mod StepNode
+pub mod CopyMoves
 pub mod Telling
 pub mod StepSession
 pub mod Selection
@@ -59,6 +62,7 @@ pub mod LawsOfRotation
 pub mod LawsOfLocks
 pub mod LawsOfWrites
 pub mod LawsOfNodes
+pub mod LawsOfCopies
 pub mod Steps
 pub mod LawsOfHistories
 pub mod LawsOfDaemons

@@ -1,9 +1,7 @@
 -- The node of a database, as the marks of the database's history leave it.
 use Rattle.std.specs.Prelude.{List, ℕ, [], ◌∷◌, ◌&&◌, Bool, true, false, Option, Some, None, option_map, bytes_eq}
-use Rattle.londiste_state.specs.declared.state.TableState.TheVariants.{CatchingUp}
-use Rattle.londiste_state.specs.Nodes.{LeafTable, Root, Leaf, Node, of_root, of_leaf, is_among, tables_of, changed_in, with_root_table, without_root_table, with_consumer, without_consumer, with_leaf_table, without_leaf_table, with_state}
-use Rattle.sky_txid.specs.Snapshot.{SnapshotView}
-use Rattle.sky_model.specs.History.{noded, Pick, ready, copy_of, NodeMark, root_made, listed, unlisted, joined, parted, leaf_made, leaf_added, leaf_removed, state_set, held, copied, applied, restarted, History}
+use Rattle.londiste_state.specs.Nodes.{Root, Leaf, Node, of_root, of_leaf, is_among, tables_of, changed_in, with_root_table, without_root_table, with_consumer, without_consumer, with_leaf_table, without_leaf_table, with_state, with_tick, with_copied}
+use Rattle.sky_model.specs.History.{noded, Pick, of_synced, copy_of, NodeMark, root_made, listed, unlisted, joined, parted, leaf_made, leaf_added, leaf_removed, state_set, held, copied, applied, restarted, hold_begun, hold_ended, History}
 
 -- a node changed if it is a root; a node changed if it is a leaf
 abbrev pub at_root : (Root → Root) → Node → Node
@@ -14,17 +12,9 @@ abbrev pub at_leaf : (Leaf → Leaf) → Node → Node
 at_leaf change (of_root r) = of_root r
 at_leaf change (of_leaf l) = of_leaf (change l)
 
--- a table whose copy ended, under a snapshot, and whose consumer is at a tick
-abbrev pub with_copy : SnapshotView → ℕ → LeafTable → LeafTable
-with_copy snapshot tick t = record t { state = CatchingUp; snapshot = Some snapshot; tick = tick }
-
--- a table whose copy has applied batches up to a tick
-abbrev pub with_tick : ℕ → LeafTable → LeafTable
-with_tick tick t = record t { tick = tick }
-
 -- a leaf that has applied batches up to a tick, or of which the copy of one table has
 abbrev pub with_applied : Pick → ℕ → Leaf → Leaf
-with_applied ready tick l = record l { tick = tick }
+with_applied of_synced tick l = record l { tick = tick }
 with_applied (copy_of table) tick l = record l { tables = changed_in table (with_tick tick) l.tables }
 
 -- a database's node after something happened to it
@@ -39,9 +29,11 @@ after_node (leaf_added table) n = option_map (at_leaf (with_leaf_table table)) n
 after_node (leaf_removed table) n = option_map (at_leaf (without_leaf_table table)) n
 after_node (state_set table state) n = option_map (at_leaf (with_state table state)) n
 after_node (held table tick) n = n
-after_node (copied table snapshot tick) n = option_map (at_leaf (λ l. record l { tables = changed_in table (with_copy snapshot tick) l.tables })) n
+after_node (copied table snapshot tick) n = option_map (at_leaf (with_copied table snapshot tick)) n
 after_node (applied pick tick) n = option_map (at_leaf (with_applied pick tick)) n
 after_node (restarted table) n = n
+after_node (hold_begun hold) n = n
+after_node (hold_ended hold) n = n
 
 -- the node of a database, if it has one
 abbrev pub node : History → Option Node

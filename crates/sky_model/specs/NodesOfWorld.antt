@@ -135,7 +135,7 @@ abbrev pub removes_from : World → ℕ → (table : ℕ) → List ℕ → Node 
 removes_from w d table name (of_root r) = do
   refused_by (option_map TableInUse (first_user w r.name name))
   done_in d Done (unlists table name)
-removes_from w d table name (of_leaf l) = done_in d Done (removes table name)
+removes_from w d table name (of_leaf l) = done_in d Done (removes (w.database d) table name)
 
 -- `remove_table NAME TABLE`
 abbrev pub remove_table : World → (name table : List ℕ) → Checked WorldOutcome

@@ -8,7 +8,7 @@ use Rattle.sky_txid.specs.Snapshot.{SnapshotView, snapshot_of}
 use Rattle.sky_keys.specs.Versions.{written, forgotten}
 use Rattle.sky_model.specs.declared.stmt.Attempt.{Attempt}
 use Rattle.sky_model.specs.declared.stmt.Attempt.TheVariants.{Deletion}
-use Rattle.sky_model.specs.History.{Batch, Mark, Whose, of_session, of_worker, began, ended, block_begun, repeats, looked, block_failed, block_ended, connected, disconnected, tabled, TableMark, table_made, wrote, waits, waited, read_only, noded, queued, QueueMark, made, raised, put, ticked, registered, moved, unregistered, opened, closed, asked, returned, switching, switched, second_step, configured, dropped, traced, untraced, History}
+use Rattle.sky_model.specs.History.{Batch, Mark, Whose, of_session, of_worker, of_copy, began, ended, block_begun, repeats, looked, block_failed, block_ended, connected, disconnected, tabled, TableMark, table_made, wrote, waits, waited, read_only, noded, NodeMark, hold_begun, hold_ended, queued, QueueMark, made, raised, put, ticked, registered, moved, unregistered, opened, closed, asked, returned, switching, switched, second_step, configured, dropped, traced, untraced, History}
 use Rattle.sky_model.specs.Transactions.{next_txid, running, workers}
 use Rattle.pgq_tables.specs.Tables as tables_of
 use Rattle.pgq_tables.specs.Tables.{Tables, no_tables, new_tables, with_stored, with_pending, with_second_step}
@@ -24,6 +24,7 @@ use Rattle.pgq_retry.specs.Retries.{without as without_retry, without_sub}
 use Rattle.sky_model.specs.Retries.{retries}
 use Rattle.londiste_state.specs.Nodes.{Node}
 use Rattle.sky_model.specs.Nodes.{after_node, node}
+use Rattle.sky_model.specs.Copies.{Copy, without_copy, copies, Hold, without_hold, holds}
 use Rattle.sky_model.specs.Consumers.{all_but, consumers, Subscription, subscription, last_subscription, last_batch, of_another, active_batch}
 
 -- a queue, as a statement reads it
@@ -62,6 +63,8 @@ pub record Database : Type 0 where
   pub triggers : List TableTrigger
   pub retries : List Retry
   pub node : Option Node
+  pub copies : List Copy
+  pub holds : List Hold
 
 abbrev pub queue_of : History → ℕ → Queue
 queue_of h q = record {
@@ -101,6 +104,8 @@ database_of h = record {
   triggers = triggers h;
   retries = retries h;
   node = node h;
+  copies = copies h;
+  holds = holds h;
 }
 
 -- the same function except at a number
@@ -215,11 +220,19 @@ without_sight block s = record s { block = block; sight = at_each }
 abbrev pub by_session : {A : Type 0} → Whose → (ℕ → A → A) → A → A
 by_session (of_session who) f a = f who a
 by_session of_worker f a = a
+by_session (of_copy table) f a = a
 
--- and what one of a worker's does
+-- what one of a worker's does, a copy's among them
 abbrev pub by_worker : {A : Type 0} → Whose → (A → A) → A → A
 by_worker (of_session who) f a = a
 by_worker of_worker f a = f a
+by_worker (of_copy table) f a = f a
+
+-- and what one of a copy's does
+abbrev pub by_copy : {A : Type 0} → Whose → (ℕ → A → A) → A → A
+by_copy (of_session who) f a = a
+by_copy of_worker f a = a
+by_copy (of_copy table) f a = f table a
 
 -- tables after something happened to them
 abbrev pub after_table_mark : RowPart → TableMark → RowPart
@@ -278,15 +291,25 @@ abbrev pub after_part_marks : RowPart → List Mark → RowPart
 after_part_marks d [] = d
 after_part_marks d (mark ∷ marks) = after_part_marks (after_part d mark) marks
 
+-- a database after something happened to its node
+abbrev pub after_node_mark : Database → NodeMark → Database
+after_node_mark d (hold_begun number) = record d { holds = d.holds ++ record { number = number; snapshot = snapshot_of d.part.next d.part.running_ids } ∷ [] }
+after_node_mark d (hold_ended number) = record d { holds = without_hold number d.holds }
+after_node_mark d mark = record d { node = after_node mark d.node }
+
 -- a database after a mark
 abbrev pub after_mark : Database → Mark → Database
 after_mark d (queued mark) = after_queue_mark d mark
 after_mark d (ended whose t false) = record d {
   part = after_part d.part (ended whose t false);
   queue = λ n. with_tables (without_transaction t) (d.queue n);
+  copies = by_copy whose (λ table. without_copy t) d.copies;
 }
-after_mark d (ended whose t true) = record d { part = after_part d.part (ended whose t true) }
-after_mark d (began whose t) = record d { part = after_part d.part (began whose t) }
+after_mark d (ended whose t true) = record d { part = after_part d.part (ended whose t true); copies = by_copy whose (λ table. without_copy t) d.copies }
+after_mark d (began whose t) = record d {
+  part = after_part d.part (began whose t);
+  copies = by_copy whose (λ table cs. cs ++ record { table = table; txid = t } ∷ []) d.copies;
+}
 after_mark d (block_begun who) = record d { part = after_part d.part (block_begun who) }
 after_mark d (repeats who) = record d { part = after_part d.part (repeats who) }
 after_mark d (looked who) = record d { part = after_part d.part (looked who) }
@@ -295,7 +318,7 @@ after_mark d (block_ended who) = record d { part = after_part d.part (block_ende
 after_mark d (connected who) = record d { part = after_part d.part (connected who) }
 after_mark d (disconnected who) = record d { part = after_part d.part (disconnected who) }
 after_mark d (tabled mark) = record d { part = after_part d.part (tabled mark) }
-after_mark d (noded mark) = record d { node = after_node mark d.node }
+after_mark d (noded mark) = after_node_mark d mark
 
 -- a database after marks, the first one first
 abbrev pub after_marks : Database → List Mark → Database

@@ -2,8 +2,10 @@
 use Rattle.std.specs.Prelude.{ℕ, ℤ, List, [], ◌∷◌, ◌++◌, Bool, false, true, not, ◌&&◌, Option, Some, None, option_map, option_and_then, unwrap_or, is_some, is_none, nat_le, length, if◌then◌else◌}
 use Rattle.sky_urlenc.specs.RowEvents.{Trigger}
 use Rattle.sky_names.specs.Places.{place_of}
+use Rattle.sky_val.specs.declared.val.Val.{Val}
 use Rattle.sky_txid.specs.Snapshot.{SnapshotView}
 use Rattle.londiste_state.specs.declared.state.TableState.{TableState}
+use Rattle.londiste_state.specs.declared.state.TableState.TheVariants.{InCopy}
 use Rattle.londiste_state.specs.Moves.{is_allowed}
 use Rattle.londiste_state.specs.Nodes.{Node, of_root, of_leaf, is_among, table_of}
 use Rattle.sky_model.specs.declared.reply.Reply.TheVariants.{Done, Number, Null}
@@ -14,6 +16,7 @@ use Rattle.sky_model.specs.History.{Batch, tabled, read_only, queued, made, unre
 use Rattle.sky_model.specs.Queues.{queue_number, Tick, tick}
 use Rattle.sky_model.specs.Nodes.{is_root, is_leaf, set_tables, leaf_tables}
 use Rattle.sky_model.specs.Triggers.{triggers_of}
+use Rattle.sky_model.specs.Copies.{copy_txid}
 use Rattle.sky_model.specs.Consumers.{Subscription}
 use Rattle.sky_model.specs.State.{Database}
 use Rattle.sky_model.specs.ShownRows.{least_writer}
@@ -21,6 +24,7 @@ use Rattle.sky_model.specs.OwnTransaction.{txid_for, in_own}
 use Rattle.sky_model.specs.Outcome.{Outcome, Checked, ◌>>=◌, ◌>>◌, refused_if, refused_by, answers, does_marks}
 use Rattle.sky_model.specs.StepQueue.{newest_id}
 use Rattle.sky_model.specs.StepConsumer.{registers, takes_batch}
+use Rattle.sky_model.specs.StepCopy.{begins_copy, copies_rows, ends_copy, given_up, holds_snapshot, lets_go}
 
 -- `create_root NAME NAME`: the root of a set, with the set's queue
 abbrev pub create_root : Database → ℤ → ℕ → (name queue : List ℕ) → Checked Outcome
@@ -86,9 +90,9 @@ adds d table name = do
   refused_by (option_map TableBusy (least_writer d.part table))
   does_marks Done (noded (leaf_added name) ∷ tabled (read_only table true) ∷ [])
 
--- it leaves
-abbrev pub removes : (table : ℕ) → List ℕ → Checked Outcome
-removes table name = does_marks Done (noded (leaf_removed name) ∷ tabled (read_only table false) ∷ [])
+-- it leaves: a copy of it that runs is given up
+abbrev pub removes : Database → (table : ℕ) → List ℕ → Checked Outcome
+removes d table name = does_marks Done (given_up table name (copy_txid table d.copies) ++ noded (leaf_removed name) ∷ tabled (read_only table false) ∷ [])
 
 -- what a database does for a node, its own or another's
 pub data NodeCall : Type 0 where
@@ -107,6 +111,14 @@ pub data NodeCall : Type 0 where
   -- a table joins the set; it leaves
   listing : (table : List ℕ) → NodeCall
   unlisting : (table : List ℕ) → NodeCall
+  -- the copy of a table of the leaf begins; it goes on with rows; it ends, with the rows under a snapshot and its consumer at a tick; it is given up
+  beginning_copy : (table : List ℕ) → NodeCall
+  copying_rows : (table : List ℕ) (rows : List (List Val)) → NodeCall
+  ending_copy : (table : List ℕ) (snapshot : SnapshotView) (tick : ℕ) → NodeCall
+  giving_up_copy : (table : List ℕ) → NodeCall
+  -- the present snapshot is held; one that is held is let go
+  holding : NodeCall
+  letting_go : (hold : ℕ) → NodeCall
 
 -- what is done with something, if it is there
 abbrev pub if_there : {A : Type 0} → Option A → (A → Checked Outcome) → Checked Outcome
@@ -126,8 +138,18 @@ abbrev pub may_move : List ℕ → TableState → Option Node → Bool
 may_move table state (Some (of_leaf l)) = unwrap_or (option_map (λ t. is_allowed t.state state) (table_of table l)) false
 may_move table state _ = false
 
+-- whether a state is that of a table that is being copied
+abbrev pub is_in_copy : TableState → Bool
+is_in_copy InCopy = true
+is_in_copy state = false
+
+-- whether a table of a leaf is in that state
+abbrev pub may_copy : List ℕ → Option Node → Bool
+may_copy table (Some (of_leaf l)) = unwrap_or (option_map (λ t. is_in_copy t.state) (table_of table l)) false
+may_copy table n = false
+
 -- whether a call is one for a database whose node is this: it gets a leaf if it has no node; a table joins a set or a leaf that doesn't have it yet,
--- leaves one that has it, and goes only into a state that its own allows; any other call is one for each database
+-- leaves one that has it, goes only into a state that its own allows, and is copied only in the state for it; any other call is one for each database
 abbrev pub may_serve : NodeCall → Option Node → Bool
 may_serve (making_leaf name provider tick) n = is_none n
 may_serve (adding table) n = is_leaf n && not (is_among table (leaf_tables n))
@@ -135,6 +157,10 @@ may_serve (removing table) n = is_among table (leaf_tables n)
 may_serve (moving table state) n = may_move table state n
 may_serve (listing table) n = is_root n && not (is_among table (set_tables n))
 may_serve (unlisting table) n = is_among table (set_tables n)
+may_serve (beginning_copy table) n = may_copy table n
+may_serve (copying_rows table rows) n = may_copy table n
+may_serve (ending_copy table snapshot tick) n = may_copy table n
+may_serve (giving_up_copy table) n = may_copy table n
 may_serve _ n = true
 
 -- what a call for a node does, if it is one for this database
@@ -146,10 +172,17 @@ call_form d (fetching consumer) =
 call_form d (finishing batch) = if_there (d.batch batch) closes
 call_form d (making_leaf name provider tick) = does_marks Done (noded (leaf_made name provider tick) ∷ [])
 call_form d (adding name) = if_there (table_number d name) (λ table. adds d table name)
-call_form d (removing name) = if_there (table_number d name) (λ table. removes table name)
+call_form d (removing name) = if_there (table_number d name) (λ table. removes d table name)
 call_form d (moving table state) = does_marks Done (noded (state_set table state) ∷ [])
 call_form d (listing name) = if_there (set_queue d) (λ queue. if_there (table_number d name) (λ table. lists d queue table name))
 call_form d (unlisting name) = if_there (table_number d name) (λ table. unlists table name)
+call_form d (beginning_copy name) = if_there (table_number d name) (λ table. begins_copy d table (copy_txid table d.copies))
+call_form d (copying_rows name rows) = if_there (table_number d name) (λ table. if_there (copy_txid table d.copies) (λ t. copies_rows d table t rows))
+call_form d (ending_copy name snapshot tick) =
+    if_there (table_number d name) (λ table. if_there (copy_txid table d.copies) (λ t. ends_copy table t name snapshot tick))
+call_form d (giving_up_copy name) = if_there (table_number d name) (λ table. does_marks Done (given_up table name (copy_txid table d.copies)))
+call_form d holding = holds_snapshot d
+call_form d (letting_go hold) = lets_go d hold
 
 -- what it does; nothing if it isn't one for this database
 abbrev pub node_does : Database → NodeCall → Checked Outcome

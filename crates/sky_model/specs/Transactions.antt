@@ -1,7 +1,7 @@
 -- Transactions: which ids were given, which are running, which have ended, and what a snapshot lists.
 use Rattle.std.specs.Prelude.{ℕ, ◌+◌, List, [], ◌∷◌, ◌++◌, Bool, true, false, not, ◌||◌, ◌==◌, nat_lt, filter}
 use Rattle.sky_txid.specs.Snapshot.{SnapshotView, snapshot_of}
-use Rattle.sky_model.specs.History.{of_worker, began, ended, History}
+use Rattle.sky_model.specs.History.{of_worker, of_copy, began, ended, History}
 
 -- the next id: ids begin at 3
 abbrev pub next_txid : History → ℕ
@@ -16,11 +16,13 @@ running (began whose t ∷ h) = running h ++ t ∷ []
 running (ended whose t committed ∷ h) = filter (λ u. not (u == t)) (running h)
 running (_ ∷ h) = running h
 
--- those of them that are workers', rising
+-- those of them that are workers', copies among them, rising
 abbrev pub workers : History → List ℕ
 workers [] = []
 workers (began of_worker t ∷ h) = workers h ++ t ∷ []
+workers (began (of_copy table) t ∷ h) = workers h ++ t ∷ []
 workers (ended of_worker t committed ∷ h) = filter (λ u. not (u == t)) (workers h)
+workers (ended (of_copy table) t committed ∷ h) = filter (λ u. not (u == t)) (workers h)
 workers (_ ∷ h) = workers h
 
 -- whether a transaction has ended; those below 3 had before there was a history

@@ -1,6 +1,7 @@
 //! The laws of the definitions: functions that do nothing, so that their contracts are proved.
 
 ghost use Rattle.sky_model.specs.LawsOfBatches.{BatchesAreConsecutive, BatchesListWhatStands, EqualIdsStay, EventsAreListedOnce, FinishedBatchesWereActive, IdsDontFall, ListingsStay, SubscriptionsAreDistinct, SubscriptionsAreGiven, SubscriptionsAreNew};
+ghost use Rattle.sky_model.specs.LawsOfCopies.{CopiesAreOfLeafTables, CopiesDeleteWhatStands, CopiesLeaveTheirRows, CopiesNameWhatStands, CopiesRunAlone, HeldRowsStay, HoldsHaveLeastNumbers};
 ghost use Rattle.sky_model.specs.LawsOfDaemons.{DaemonsHaveStarted, DaemonsWorkWhenDue, NextDueIsFirst};
 ghost use Rattle.sky_model.specs.LawsOfHistories.{HistoriesAreMadeByOwnCalls, HomesAreOpen, WaitersHaveOpen, BlocksAreOpen};
 ghost use Rattle.sky_model.specs.LawsOfLines.{BadWordIsLeast, LinesAreInForm};
@@ -233,4 +234,24 @@ pub fn nodes_match_their_databases()
 pub fn read_only_tables_stay_unwritten()
     ensures writes { SessionsWriteNoReadOnlyTable }
     ensures running { ReadOnlyTablesAreUnwritten }
+{}
+
+/// At each place of each history that calls of a database make, a copy that runs is of a table that sessions may not
+/// write, in a leaf's database; no session holds a key of it, and no other copy of it runs. After the calls the table is
+/// one of the leaf. When a copy begins it deletes the rows of its table, and each write of it names the row that was
+/// there for its transaction. Where it is said that a table was copied, the copy's transaction has just committed, and
+/// the table has the rows that this wrote, and no others.
+pub fn copies_leave_their_rows()
+    ensures alone { CopiesRunAlone }
+    ensures tables { CopiesAreOfLeafTables }
+    ensures deletes { CopiesDeleteWhatStands }
+    ensures stands { CopiesNameWhatStands }
+    ensures leaves { CopiesLeaveTheirRows }
+{}
+
+/// At each such place a snapshot gets the least number that no other one has, when it begins to be held. And the rows
+/// that are read under the snapshot of an earlier place are those of that place, whatever has happened since.
+pub fn held_rows_stay()
+    ensures numbers { HoldsHaveLeastNumbers }
+    ensures rows { HeldRowsStay }
 {}

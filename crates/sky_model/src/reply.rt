@@ -403,6 +403,14 @@ pub enum Reply {
     HeldBack(HeldBack),
     /// The state of a leaf's table.
     State(TableState),
+    /// `state`, the leaf's table of this name, and the state into which it went.
+    TableMoved(Text, TableState),
+    /// `copied` and how many rows.
+    RowsCopied(u64),
+    /// `wait` and the table for which a worker waits.
+    AwaitsTable(Text),
+    /// `idle`
+    Idle,
     /// `error` and the refusal.
     Refused(Refusal),
 }
@@ -432,6 +440,10 @@ impl Drop for Reply {
             Reply::ConsumerInfo(_) => {}
             Reply::HeldBack(_) => {}
             Reply::State(_) => {}
+            Reply::TableMoved(_, _) => {}
+            Reply::RowsCopied(_) => {}
+            Reply::AwaitsTable(_) => {}
+            Reply::Idle => {}
             Reply::Refused(_) => {}
         }
     }

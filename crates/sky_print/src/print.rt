@@ -90,6 +90,10 @@ fn append_reply(
         Reply::ConsumerInfo(consumer) => append_consumer_line(name, consumer, into),
         Reply::HeldBack(held) => append_held_line(name, held, into),
         Reply::State(state) => append_state(name, *state, into),
+        Reply::TableMoved(table, state) => append_move(name, table, *state, into),
+        Reply::RowsCopied(count) => append_copied(name, *count, into),
+        Reply::AwaitsTable(table) => append_wait(name, table, into),
+        Reply::Idle => append_line(name, b"idle", into),
         Reply::Refused(refusal) => append_refused(names, name, refusal, into),
     }
 }
@@ -255,6 +259,52 @@ fn append_state(name: &[u8], state: TableState, into: &mut Vec<u8>) -> Result<()
 {
     append_name(name, into)?;
     state.print(into)?;
+    into.push(b'\n')?;
+    Ok(())
+}
+
+// A table, and the state into which it went.
+fn append_move(
+    name: &[u8],
+    table: &Text,
+    state: TableState,
+    into: &mut Vec<u8>,
+) -> Result<(), NoMemory>
+    ensures ok { OnOk result (into.new.items
+        ≡ into.old.items ++ line_text name.now (codes "state " ++ table.now ++ 32 ∷ state_text state)) }
+    ensures kept { OnErr result (Keeps into.old.items into.new.items) }
+{
+    append_name(name, into)?;
+    into.extend_from_slice(b"state ")?;
+    into.extend_from_slice(table.bytes())?;
+    into.push(b' ')?;
+    state.print(into)?;
+    into.push(b'\n')?;
+    Ok(())
+}
+
+// How many rows were copied.
+fn append_copied(name: &[u8], count: u64, into: &mut Vec<u8>) -> Result<(), NoMemory>
+    ensures ok { OnOk result
+        (into.new.items ≡ into.old.items ++ line_text name.now (codes "copied " ++ decimal count)) }
+    ensures kept { OnErr result (Keeps into.old.items into.new.items) }
+{
+    append_name(name, into)?;
+    into.extend_from_slice(b"copied ")?;
+    append_number(count, into)?;
+    into.push(b'\n')?;
+    Ok(())
+}
+
+// The table for which a worker waits.
+fn append_wait(name: &[u8], table: &Text, into: &mut Vec<u8>) -> Result<(), NoMemory>
+    ensures ok { OnOk result
+        (into.new.items ≡ into.old.items ++ line_text name.now (codes "wait " ++ table.now)) }
+    ensures kept { OnErr result (Keeps into.old.items into.new.items) }
+{
+    append_name(name, into)?;
+    into.extend_from_slice(b"wait ")?;
+    into.extend_from_slice(table.bytes())?;
     into.push(b'\n')?;
     Ok(())
 }

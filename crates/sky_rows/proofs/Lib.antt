@@ -9,4 +9,5 @@ pub mod RowChanges
 pub mod RowsRetained
 pub mod TableLemmas
 pub mod ScanLemmas
+pub mod KeyLemmas
 pub mod ForgetLemmas

@@ -60,16 +60,16 @@ started w s own most after start es rest found kept is between none =
       kept = subst (AllKept w) (sym all) (kept_above w after es kept);
     }
 
-module _ (w : ℕ → List Val → Bool) (s : SnapshotView) (own : Option ℕ) (most : ℕ) (all : Entries (List Version)) where
-  -- what is read at the first key of the rest
-  read_first : (q : List Val) (vs : List Version) (rest : Entries (List Version)) → AllKept w ((q, vs) ∷ rest) → read s (writer w own q) vs ≡ read s own vs
-  read_first q vs rest kept = ap (λ o. row_of (option_or o (newest_by (sees s) vs))) (own_version-writer w own q vs kept.0.listed)
+-- what is read at the first key of the rest
+pub read_first : (w : ℕ → List Val → Bool) (s : SnapshotView) (own : Option ℕ) (q : List Val) (vs : List Version) (rest : Entries (List Version)) → AllKept w ((q, vs) ∷ rest) → read s (writer w own q) vs ≡ read s own vs
+read_first w s own q vs rest kept = ap (λ o. row_of (option_or o (newest_by (sees s) vs))) (own_version-writer w own q vs kept.0.listed)
 
+module _ (w : ℕ → List Val → Bool) (s : SnapshotView) (own : Option ℕ) (most : ℕ) (all : Entries (List Version)) where
   pub past_row : (before rest : Entries (List Version)) (found new : List (List Val)) (q row : List Val) (vs : List Version) → IsOnTheWay w s own most all before found → before ≡ (q, vs) ∷ rest
       → Some row ≡ read s (writer w own q) vs → length found ≢ most → new ≡ found ++ row ∷ [] → IsOnTheWay w s own most all rest new
   past_row before rest found new q row vs way first is room pushed =
       let kept : AllKept w ((q, vs) ∷ rest) = subst (AllKept w) first way.kept in
-      let here : read s own vs ≡ Some row = sym (is ∙ read_first q vs rest kept) in
+      let here : read s own vs ≡ Some row = sym (is ∙ read_first w s own q vs rest kept) in
       let whole : new ++ rows_of s own rest ≡ rows_of s own all =
       ap (λ rows. rows ++ rows_of s own rest) pushed ∙ append_assoc found (row ∷ []) (rows_of s own rest)
       ∙ ap (λ o. found ++ map (λ e. e.1) (and_entry q o (rows_read s own rest))) (sym here)
@@ -82,7 +82,7 @@ module _ (w : ℕ → List Val → Bool) (s : SnapshotView) (own : Option ℕ) (
       → None ≡ read s (writer w own q) vs → IsOnTheWay w s own most all rest found
   past_none before rest found q vs way first is =
       let kept : AllKept w ((q, vs) ∷ rest) = subst (AllKept w) first way.kept in
-      let here : read s own vs ≡ None = sym (is ∙ read_first q vs rest kept) in
+      let here : read s own vs ≡ None = sym (is ∙ read_first w s own q vs rest kept) in
       let whole : found ++ rows_of s own rest ≡ rows_of s own all =
       ap (λ o. found ++ map (λ e. e.1) (and_entry q o (rows_read s own rest))) (sym here)
       ∙ ap (λ es. found ++ rows_of s own es) (sym first) ∙ way.whole in

@@ -138,6 +138,22 @@ impl Table {
         Ok(found)
     }
 
+    /// The keys that have rows, in their order, as `read` gives them.
+    pub fn keys(&self, snapshot: &Snapshot, own: Option<u64>) -> Result<Vec<Key>, NoMemory>
+        ensures { IfOk result (λ found. found.items ≡ map (λ e. e.0) (rows_read snapshot.now own self.now.versions)) }
+    {
+        let mut found = Vec::new(self.alloc);
+        for (key, kept) in &self.rows {
+            if kept
+                .read(&self.older, snapshot, self.written.writer(own, key))
+                .is_some()
+            {
+                found.push(key.copy(self.alloc)?)?;
+            }
+        }
+        Ok(found)
+    }
+
     /// Writes the row at the key, or none to delete it, as a version of the transaction. If it has one at the key
     /// already, this takes its place.
     pub fn write(&mut self, txid: u64, key: Key, row: Option<Row>) -> Result<(), NoMemory>

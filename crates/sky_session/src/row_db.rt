@@ -387,6 +387,15 @@ impl RowDb {
         self.state.rows_under(snapshot, table, after, most)
     }
 
+    /// The keys that have rows in the snapshot, in their order.
+    pub fn keys_under(&self, snapshot: &Snapshot, table: u32) -> Result<Vec<Key>, NoMemory>
+        requires { table < length (seen self.now).tables }
+        ensures { IfOk result (λ keys.
+            keys.items ≡ map (λ e. e.0) (rows_read snapshot.now None ((seen self.now).versions table))) }
+    {
+        self.state.keys_under(snapshot, table)
+    }
+
     /// Sessions may not write the table from now on, or may again.
     pub fn set_read_only(&mut self, table: u32, on: bool)
         requires { table < length (seen self.old).tables }

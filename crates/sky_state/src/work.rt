@@ -98,4 +98,13 @@ impl RowState {
     {
         self.table_at(table).scan_from(after, snapshot, None, most)
     }
+
+    /// The keys that have rows in the snapshot, in their order.
+    pub fn keys_under(&self, snapshot: &Snapshot, table: u32) -> Result<Vec<Key>, NoMemory>
+        requires { table < length (seen self.now).tables }
+        ensures { IfOk result (λ keys.
+            keys.items ≡ map (λ e. e.0) (rows_read snapshot.now None ((seen self.now).versions table))) }
+    {
+        self.table_at(table).keys(snapshot, None)
+    }
 }

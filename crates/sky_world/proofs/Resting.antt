@@ -3,7 +3,7 @@ use Rattle.std.proofs.Common.{◌≡◌, ℕ, ℤ, ◌<◌, List, [], ◌∷◌,
 use Rattle.std.proofs.lemmas.List.Elements.{All-append, All-set, All-get_or, All-from_recursion}
 use Rattle.std.proofs.lemmas.Option.{get_or_from_slice_get, slice_get_read}
 use Rattle.sky_model.specs.declared.daemon.DaemonPart.{DaemonPart}
-use Rattle.sky_model.specs.History.{Mark, of_worker, began, ended, tabled, read_only, queued, noded}
+use Rattle.sky_model.specs.History.{Mark, of_worker, of_copy, began, ended, tabled, wrote, read_only, queued, noded}
 use Rattle.sky_model.specs.State.{Database, database_of, after_mark, after_marks}
 use Rattle.sky_model.specs.Outcome.{marks_of}
 use Rattle.sky_model.specs.Reader.{database_by_itself}
@@ -30,21 +30,31 @@ leaves_locks (noded mark) = true
 leaves_locks (tabled (read_only table on)) = true
 leaves_locks (began of_worker t) = true
 leaves_locks (ended of_worker t true) = true
+leaves_locks (began (of_copy table) t) = true
+leaves_locks (ended (of_copy table) t committed) = true
+leaves_locks (tabled (wrote (of_copy n) t table key old new)) = true
 leaves_locks _ = false
 
 ready-stays : (d : Database) (marks : List Mark) → EachMark leaves_locks marks → ready (after_marks d marks).part ≡ ready d.part
 ready-stays d [] all = refl
 ready-stays d (queued mark ∷ marks) all = ready-stays (after_mark d (queued mark)) marks all ∙ ap ready (part-behind d (queued mark))
-ready-stays d (noded mark ∷ marks) all = ready-stays (after_mark d (noded mark)) marks all
+ready-stays d (noded mark ∷ marks) all = ready-stays (after_mark d (noded mark)) marks all ∙ ap ready (part-behind d (noded mark))
 ready-stays d (tabled (read_only table on) ∷ marks) all = ready-stays (after_mark d (tabled (read_only table on))) marks all
 ready-stays d (began of_worker t ∷ marks) all = ready-stays (after_mark d (began of_worker t)) marks all
 ready-stays d (ended of_worker t true ∷ marks) all = ready-stays (after_mark d (ended of_worker t true)) marks all
+ready-stays d (began (of_copy table) t ∷ marks) all = ready-stays (after_mark d (began (of_copy table) t)) marks all
+ready-stays d (ended (of_copy table) t true ∷ marks) all = ready-stays (after_mark d (ended (of_copy table) t true)) marks all
+ready-stays d (ended (of_copy table) t false ∷ marks) all = ready-stays (after_mark d (ended (of_copy table) t false)) marks all
+ready-stays d (tabled (wrote (of_copy n) t table key old new) ∷ marks) all = ready-stays (after_mark d (tabled (wrote (of_copy n) t table key old new))) marks all
 ready-stays d (_ ∷ marks) all = absurd all
 
 for-nodes : (mark : Mark) → is_for_nodes mark ≡ true → leaves_locks mark ≡ true
 for-nodes (queued mark) e = refl
 for-nodes (noded mark) e = refl
 for-nodes (tabled (read_only table on)) e = refl
+for-nodes (began (of_copy table) t) e = refl
+for-nodes (ended (of_copy table) t committed) e = refl
+for-nodes (tabled (wrote (of_copy n) t table key old new)) e = refl
 for-nodes _ e = absurd (cc)
 
 -- a call for a node

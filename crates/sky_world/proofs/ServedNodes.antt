@@ -17,8 +17,8 @@ use Rattle.sky_model.specs.declared.reply.Refusal.TheVariants.{AlreadyInSet, Nod
 use Rattle.sky_model.specs.declared.stop.Stop.{Stop}
 use Rattle.sky_model.specs.declared.stop.Stop.TheVariants as halt
 use Rattle.sky_model.specs.declared.stop.Stop.TheVariants.{NoMemory}
-use Rattle.sky_model.specs.History.{Mark, Fact, within, queued, registered, unregistered, opened, closed, traced, untraced, tabled, read_only, noded, leaf_made, node_made}
-use Rattle.sky_model.specs.State.{Database, after_mark, after_marks}
+use Rattle.sky_model.specs.History.{Mark, Fact, within, queued, registered, unregistered, opened, closed, traced, untraced, tabled, wrote, read_only, noded, leaf_made, node_made, of_copy, began, ended}
+use Rattle.sky_model.specs.State.{RowPart, Database, after_mark, after_marks}
 use Rattle.sky_model.specs.World.{World, after_facts}
 use Rattle.sky_model.specs.Outcome.{Outcome, Checked, ◌>>=◌, ◌>>◌, refused_if, refused_by, found_or, marks_of}
 use Rattle.sky_model.specs.Stops.{StopsAs}
@@ -32,6 +32,7 @@ use Rattle.sky_model.specs.StepNode.{set_queue, set_queue_of, joins, lists, unli
 use Rattle.sky_model.specs.NodesOfWorld.{WorldOutcome, Located, node_called, done_in, leaf_of, provides, are_columns, columns_called, adds_to, add_table, first_user, removes_from, remove_table, node_form}
 use Rattle.sky_model.specs.Calls.{database_turn, world_does, node_stmt_does, gets_node, node_if, roots_in, root_does, session_does}
 use Rattle.sky_model.proofs.Good.{same-session}
+use Rattle.sky_model.proofs.RowStanding.{part-behind}
 use Rattle.sky_model.proofs.StatementMarks.{EachMark}
 use Rattle.sky_model.proofs.NodeCalls.{is_for_nodes, each-node}
 use Rattle.sky_model.proofs.NodeDeeds.{called-there, is-served, may-list, may-add, may-unlist, may-remove}
@@ -66,7 +67,11 @@ waits-stay d (queued (closed batch) ∷ marks) all = waits-stay (after_mark d (q
 waits-stay d (queued (traced table name trigger) ∷ marks) all = waits-stay (after_mark d (queued (traced table name trigger))) marks all
 waits-stay d (queued (untraced table) ∷ marks) all = waits-stay (after_mark d (queued (untraced table))) marks all
 waits-stay d (tabled (read_only table on) ∷ marks) all = waits-stay (after_mark d (tabled (read_only table on))) marks all
-waits-stay d (noded mark ∷ marks) all = waits-stay (after_mark d (noded mark)) marks all
+waits-stay d (noded mark ∷ marks) all = waits-stay (after_mark d (noded mark)) marks all ∙ ap RowPart.waiting (part-behind d (noded mark))
+waits-stay d (began (of_copy table) t ∷ marks) all = waits-stay (after_mark d (began (of_copy table) t)) marks all
+waits-stay d (ended (of_copy table) t true ∷ marks) all = waits-stay (after_mark d (ended (of_copy table) t true)) marks all
+waits-stay d (ended (of_copy table) t false ∷ marks) all = waits-stay (after_mark d (ended (of_copy table) t false)) marks all
+waits-stay d (tabled (wrote (of_copy n) t table key old new) ∷ marks) all = waits-stay (after_mark d (tabled (wrote (of_copy n) t table key old new))) marks all
 waits-stay d (_ ∷ marks) all = absurd all
 
 pub waits-served : (old new : Database) (call : NodeCall) → Serves old new call → new.part.waiting ≡ old.part.waiting
@@ -491,5 +496,5 @@ pub remove-from_leaf : (w : World) (name table : List ℕ) (d : ℕ) (l : Leaf) 
 remove-from_leaf w name table d l there among has =
     remove-goes w name table (record { database = d; node = of_leaf l }) there among
     ∙ numbered w d table (λ t. removes_from w d t table (of_leaf l)) _ has (λ t number.
-    ap (λ o. done_in d Done (if_there o (λ k. removes k table))) (sym number)
+    ap (λ o. done_in d Done (if_there o (λ k. removes (w.database d) k table))) (sym number)
     ∙ ap (done_in d Done) (sym (is-served (w.database d) (removing table) (may-remove (w.database d).node l table (called-there w name (record { database = d; node = of_leaf l }) there) among))))

@@ -4,5 +4,6 @@ pub mod Homes
 pub mod Daemons
 pub mod Works
 pub mod Waiters
+pub mod Made
 pub mod Adds
 pub mod Nodes

@@ -116,6 +116,7 @@ impl World {
     ) -> Result<(), NoMemory>
         requires who { who < length self.old.sessions.names }
         requires database { database < length self.old.databases.names }
+        requires sound { self.old.has_failed ≡ false }
         ensures adds { OnOk result (AddsDeed self.old self.new replies.old replies.new (world_does who (node_form (seen_world self.old) database form.now))) }
         ensures failed { OnOk result (self.new.has_failed ≡ self.old.has_failed) }
     {
@@ -133,7 +134,8 @@ impl World {
     }
 
     fn run_form(&mut self, database: usize, form: &NodeStmt) -> Result<Reply, Stop>
-        requires { database < length self.old.databases.names }
+        requires database { database < length self.old.databases.names }
+        requires sound { self.old.has_failed ≡ false }
         ensures { Ran self.old self.new result (node_form (seen_world self.old) database form.now) }
     {
         match form {
@@ -367,6 +369,7 @@ impl World {
 
     /// Runs `remove_table`: a table leaves the node. No leaf of a root may have it.
     fn remove_table(&mut self, name: &Text, table: &Text) -> Result<Reply, Stop>
+        requires sound { self.old.has_failed ≡ false }
         ensures { Ran self.old self.new result (remove_table (seen_world self.old) name.now table.now) }
     {
         let Some((database, node)) = self.find_node(name) else {
@@ -433,6 +436,7 @@ impl World {
     fn drop_from_leaf(&mut self, database: usize, table: &Text) -> Reply
         requires database { database < length self.old.databases.names }
         requires may { may_serve (removing table.now) ((seen_world self.old).database database).node ≡ true }
+        requires sound { self.old.has_failed ≡ false }
         ensures { Does self.old self.new result (done_in database Done (node_does ((seen_world self.old).database database) (removing table.now))) }
     {
         let store = self.databases.get_mut(database);

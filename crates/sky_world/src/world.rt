@@ -61,6 +61,7 @@ impl Model for World {
     ghost use Rattle.sky_world.specs.Homes.{HomesWithin, NodesWithin};
     ghost use Rattle.sky_world.specs.Daemons.{StartedBy};
     ghost use Rattle.sky_world.specs.Waiters.{AllWaitersWithin, AllAtRest};
+    ghost use Rattle.sky_world.specs.Made.{AllMade};
 
     ghost Value = { WorldView };
 
@@ -68,7 +69,7 @@ impl Model for World {
 
     ghost invariant = { λ w. IsTime w.clock × HomesWithin (length w.databases.names) w.sessions.values × StartedBy w.clock w.daemons.entries
         × (w.has_failed ≡ false → AllWaitersWithin (length w.sessions.names) w.databases.values) × NodesWithin (length w.databases.names) w.nodes.items
-        × (w.has_failed ≡ false → AllAtRest w.databases.values) };
+        × (w.has_failed ≡ false → AllAtRest w.databases.values) × (w.has_failed ≡ false → AllMade w.databases.values) };
 }
 
 impl World {

@@ -47,9 +47,7 @@ fn answer(alloc: Global, db: &mut Db, command: &str, words: &str) -> anyhow::Res
         }
         "make_leaf" => make_leaf(alloc, db, words),
         "set_state" => set_state(alloc, db, words),
-        "root_add" | "root_drop" | "leaf_add" | "leaf_drop" => move_table(
-            alloc, db, command, words,
-        ),
+        "root_add" | "root_drop" | "leaf_add" => move_table(alloc, db, command, words),
         _ => providers::answer(alloc, db, command, words),
     }
 }
@@ -90,14 +88,13 @@ fn set_state(alloc: Global, db: &mut Db, words: &str) -> anyhow::Result<String> 
     ok(alloc)
 }
 
-// A table joins a node, or leaves it.
+// A table joins a node, or leaves a root. That it leaves a leaf is tried by scripts.
 fn move_table(alloc: Global, db: &mut Db, command: &str, words: &str) -> anyhow::Result<String> {
     let table = Text::from_str(alloc, words)?;
     match command {
         "root_add" => root_add(alloc, db, &table),
         "root_drop" => root_drop(alloc, db, &table),
-        "leaf_add" => leaf_add(alloc, db, &table),
-        _ => leaf_drop(alloc, db, &table),
+        _ => leaf_add(alloc, db, &table),
     }
 }
 
@@ -132,17 +129,6 @@ fn leaf_add(alloc: Global, db: &mut Db, table: &Text) -> anyhow::Result<String> 
         bail!("in the leaf");
     }
     shown(alloc, db.leaf_add(table))
-}
-
-fn leaf_drop(alloc: Global, db: &mut Db, table: &Text) -> anyhow::Result<String> {
-    let Some(Node::Leaf(leaf)) = db.node() else {
-        return Err(no_command());
-    };
-    if !leaf.has_table(table) {
-        bail!("not in the leaf");
-    }
-    db.leaf_drop(table);
-    ok(alloc)
 }
 
 // Whether the table is in the database.

@@ -1,17 +1,17 @@
-use Rattle.std.proofs.Common.{ℤ, [], None, Bool, ◌∙◌, sym, ap, if◌then◌else◌, w64}
+use Rattle.std.proofs.Common.{ℤ, [], Bool, ◌∙◌, sym, ap, if◌then◌else◌, w64}
 use Rattle.std.proofs.lemmas.Int.{to_z-of_z}
 use Rattle.sky_model.specs.History.{queued, switched}
 use Rattle.sky_model.specs.Sessions.{outside, inside}
 use Rattle.sky_model.specs.State.{part_of, after_mark, after_marks}
 use Rattle.sky_model.specs.StepRotation.{switch_of}
 use Rattle.pgq_queues.specs.Seen.{seen_with}
-use Rattle.pgq_db.specs.Seen.{with_node}
+use Rattle.pgq_db.specs.Seen.{with_node, no_node}
 use Rattle.pgq_db.proofs.RotationSteps.{now-pending}
 use Rattle.pgq_db.proofs.rotation.switch.Goals as goal
 
 pub commit_switch-requires-clause-pending : goal.commit_switch-requires-clause-pending
 commit_switch-requires-clause-pending c =
-    now-pending (seen_with (with_node None (part_of [])) c.args.queues.now) (seen_with (with_node None (part_of [])) c.begin_switch.new.self) c.args.queue c.args.txid (c.begin_switch.ensures.mark (with_node None (part_of [])))
+    now-pending (seen_with (with_node no_node (part_of [])) c.args.queues.now) (seen_with (with_node no_node (part_of [])) c.begin_switch.new.self) c.args.queue c.args.txid (c.begin_switch.ensures.mark (with_node no_node (part_of [])))
 
 pub returns-then-is_alone-clause-marks : goal.returns-then-is_alone-clause-marks
 returns-then-is_alone-clause-marks c = λ beside.

@@ -22,7 +22,7 @@ pub returns-then-is_set_queue : goal.returns-then-is_set_queue
 returns-then-is_set_queue c =
     let there = table-there _ _ c.args.table.now c.in-Some.number c.self.view_is c.in-Some.ensures.0 in
     let known = queue-known _ _ c.args.queue.now c.in_ok-number_of_queue.number_of_queue c.self.view_is c.in_ok-number_of_queue.ensures.ok in
-    let set = subst (λ (v : DbView). is_set_queue c.args.queue.now v.node ≡ true) c.self.view_is (sym c.is_set_queue.ensures ∙ c.if-is_set_queue.true) in
+    let set = subst (λ (v : DbView). is_set_queue c.args.queue.now v.node.own ≡ true) c.self.view_is (sym c.is_set_queue.ensures ∙ c.if-is_set_queue.true) in
     search (rules, there, known, set)
 
 pub returns-then-has_trigger : goal.returns-then-has_trigger
@@ -49,7 +49,7 @@ returns-in-Some-first_bad c =
       record {
         refused = bad-column (seen_database c.args.self.now) c.args.name.now c.args.table.now c.args.queue.now c.args.backup c.args.ignored.now n c.in_ok-number_of_queue.number_of_queue c.in_ok-column.column
             (table-there _ _ c.args.table.now n c.self.view_is c.in-Some.ensures.0) (queue-known _ _ c.args.queue.now c.in_ok-number_of_queue.number_of_queue c.self.view_is c.in_ok-number_of_queue.ensures.ok)
-            (subst (λ (v : DbView). is_set_queue c.args.queue.now v.node ≡ false) c.self.view_is (sym c.is_set_queue.ensures ∙ c.if-is_set_queue.false)) (ap (λ (v : DbView). has_trigger c.args.name.now (triggers_of n v.queues.triggers)) (sym c.self.view_is) ∙ sym c.has_trigger.ensures ∙ c.if-has_trigger.false)
+            (subst (λ (v : DbView). is_set_queue c.args.queue.now v.node.own ≡ false) c.self.view_is (sym c.is_set_queue.ensures ∙ c.if-is_set_queue.false)) (ap (λ (v : DbView). has_trigger c.args.name.now (triggers_of n v.queues.triggers)) (sym c.self.view_is) ∙ sym c.has_trigger.ensures ∙ c.if-has_trigger.false)
             (subst (λ m. m < 8) (c.trigger_count.ensures ∙ ap (λ (v : DbView). length (triggers_of n v.queues.triggers)) c.self.view_is) (subst (λ m. c.trigger_count.result < m) c.most.ensures c.if-trigger_count-most.false))
             (ap (λ schema. find (λ x. not (may_ignore schema x)) c.args.ignored.now) (sym (c.in-Some.ensures.1 ∙ ap (λ (v : DbView). (seen v.rows).columns n) c.self.view_is))
             ∙ ap (find (λ x. not (may_ignore c.in-Some.schema.now x))) (sym c.as_slice.ensures) ∙ sym c.in-Some-first_bad.ensures ∙ ap Some (sym c.in_ok-column.ensures));

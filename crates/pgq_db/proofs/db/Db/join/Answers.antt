@@ -57,7 +57,7 @@ returns-clause-serves c =
     (c.consumer_count.ensures ∙ ap (λ (q : Queue). length q.members) c.queue-2.ensures ∙ ap (λ (v : DbView). length (queue_at v.queues c.in-Some.queue).members) c.self.view_is) few
     c.last_sub.result (c.last_sub.ensures ∙ ap (λ (v : DbView). v.queues.last_sub_id) c.self.view_is) left)
     (joined-as _ _ c.register.new.self c.add_consumer.new.node c.in-Some.queue c.id-newest.result _ c.args.consumer.now c.self.view_is c.in_default-register.ensures.mark
-    (c.in_ok-add_consumer.ensures.ok ∙ ap (λ n. after_node (joined n) c.self.inside.node) c.in_ok-name.ensures) (newest-as _ _ c.in-Some.queue _ _ _ _ c.self.view_is c.queue-3.ensures c.ticks.ensures c.newest.ensures.newest c.id-newest.ensures))
+    (c.in_ok-add_consumer.ensures.ok ∙ ap (λ n. after_node (joined n) c.self.inside.node.own) c.in_ok-name.ensures) (newest-as _ _ c.in-Some.queue _ _ _ _ c.self.view_is c.queue-3.ensures c.ticks.ensures c.newest.ensures.newest c.id-newest.ensures))
 
 pub returns-clause-steps : goal.returns-clause-steps
 returns-clause-steps c =
@@ -71,13 +71,13 @@ returns-clause-steps c =
     (c.consumer_count.ensures ∙ ap (λ (q : Queue). length q.members) c.queue-2.ensures ∙ ap (λ (v : DbView). length (queue_at v.queues c.in-Some.queue).members) c.self.view_is) few
     c.last_sub.result (c.last_sub.ensures ∙ ap (λ (v : DbView). v.queues.last_sub_id) c.self.view_is) left)
     (joined-as _ _ c.register.new.self c.add_consumer.new.node c.in-Some.queue c.id-newest.result _ c.args.consumer.now c.self.view_is c.in_default-register.ensures.mark
-    (c.in_ok-add_consumer.ensures.ok ∙ ap (λ n. after_node (joined n) c.self.inside.node) c.in_ok-name.ensures) (newest-as _ _ c.in-Some.queue _ _ _ _ c.self.view_is c.queue-3.ensures c.ticks.ensures c.newest.ensures.newest c.id-newest.ensures)))
+    (c.in_ok-add_consumer.ensures.ok ∙ ap (λ n. after_node (joined n) c.self.inside.node.own) c.in_ok-name.ensures) (newest-as _ _ c.in-Some.queue _ _ _ _ c.self.view_is c.queue-3.ensures c.ticks.ensures c.newest.ensures.newest c.id-newest.ensures)))
 
 pub returns-in-Err-clause-fault : goal.returns-in-Err-clause-fault
 returns-in-Err-clause-fault c =
     let name = c.args.consumer.now in
     let v = c.self.inside in
-    subst (λ fault. JoinRefused fault (seen_database c.args.self.now) (seen_database (record { rows = v.rows; queues = c.register.new.self; node = c.remove_consumer.new.node })) name) (sym c.from.ensures)
+    subst (λ fault. JoinRefused fault (seen_database c.args.self.now) (seen_database (record { rows = v.rows; queues = c.register.new.self; node = record v.node { own = c.remove_consumer.new.node } })) name) (sym c.from.ensures)
     (λ new. back-as _ _ c.register.new.self c.remove_consumer.new.node c.self.view_is c.in-Err.ensures.err
-    (c.remove_consumer.ensures ∙ ap (after_node (parted name)) (c.in_ok-add_consumer.ensures.ok ∙ ap (λ n. after_node (joined n) v.node) c.in_ok-name.ensures)
-    ∙ joined-back v.node name (subst (λ (w : DbView). is_among name (set_consumers w.node) ≡ false) (sym c.self.view_is) new)))
+    (c.remove_consumer.ensures ∙ ap (after_node (parted name)) (c.in_ok-add_consumer.ensures.ok ∙ ap (λ n. after_node (joined n) v.node.own) c.in_ok-name.ensures)
+    ∙ joined-back v.node.own name (subst (λ (w : DbView). is_among name (set_consumers w.node.own) ≡ false) (sym c.self.view_is) new)))

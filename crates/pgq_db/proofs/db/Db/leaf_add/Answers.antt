@@ -31,10 +31,10 @@ invariant_of-self-2 c = λ e.
 pub returns-clause-serves : goal.returns-clause-serves
 returns-clause-serves c =
     adding-does _ _ c.args.table.now c.in-Some.number c.self.view_is c.requires.may c.in-Some.ensures.0 c.set_read_only.new.self c.add_leaf_table.new.node c.in_default-least_writer.ensures c.set_read_only.ensures.mark
-    (c.in_ok-add_leaf_table.ensures.ok ∙ ap (λ n. after_node (leaf_added n) c.self.inside.node) c.in_ok-name.ensures)
+    (c.in_ok-add_leaf_table.ensures.ok ∙ ap (λ n. after_node (leaf_added n) c.self.inside.node.own) c.in_ok-name.ensures)
 
 pub returns-clause-steps : goal.returns-clause-steps
 returns-clause-steps c =
     serves-steps (seen_database c.args.self.now) _ (adding c.args.table.now)
     (adding-does _ _ c.args.table.now c.in-Some.number c.self.view_is c.requires.may c.in-Some.ensures.0 c.set_read_only.new.self c.add_leaf_table.new.node c.in_default-least_writer.ensures c.set_read_only.ensures.mark
-    (c.in_ok-add_leaf_table.ensures.ok ∙ ap (λ n. after_node (leaf_added n) c.self.inside.node) c.in_ok-name.ensures))
+    (c.in_ok-add_leaf_table.ensures.ok ∙ ap (λ n. after_node (leaf_added n) c.self.inside.node.own) c.in_ok-name.ensures))

@@ -89,7 +89,7 @@ returns-clause-serves c =
     (c.in_default-least_writer.ensures ∙ ap (λ (v : DbView). least_writer (seen v.rows) number) c.self.view_is))
     (listed-as _ _ c.trace.new.self c.add_root_table.new.node c.in-Some.queue number name c.self.view_is
     (λ beside. c.in_default-trace.ensures.ok beside ∙ ap (λ (t : TableTrigger). after_mark (seen_with beside c.self.inside.queues) (queued (traced t.table t.name t.trigger))) c.set_trigger-trigger.ensures)
-    (c.in_ok-add_root_table.ensures.ok ∙ ap (λ n. after_node (listed n) c.self.inside.node) c.in_ok-name.ensures))
+    (c.in_ok-add_root_table.ensures.ok ∙ ap (λ n. after_node (listed n) c.self.inside.node.own) c.in_ok-name.ensures))
 
 pub returns-clause-steps : goal.returns-clause-steps
 returns-clause-steps c =
@@ -105,13 +105,13 @@ returns-clause-steps c =
     (c.in_default-least_writer.ensures ∙ ap (λ (v : DbView). least_writer (seen v.rows) number) c.self.view_is))
     (listed-as _ _ c.trace.new.self c.add_root_table.new.node c.in-Some.queue number name c.self.view_is
     (λ beside. c.in_default-trace.ensures.ok beside ∙ ap (λ (t : TableTrigger). after_mark (seen_with beside c.self.inside.queues) (queued (traced t.table t.name t.trigger))) c.set_trigger-trigger.ensures)
-    (c.in_ok-add_root_table.ensures.ok ∙ ap (λ n. after_node (listed n) c.self.inside.node) c.in_ok-name.ensures)))
+    (c.in_ok-add_root_table.ensures.ok ∙ ap (λ n. after_node (listed n) c.self.inside.node.own) c.in_ok-name.ensures)))
 
 pub returns-in-Err-clause-fault : goal.returns-in-Err-clause-fault
 returns-in-Err-clause-fault c =
     let name = c.args.table.now in
     let v = c.self.inside in
-    subst (λ fault. RootRefused fault (seen_database c.args.self.now) (seen_database (record { rows = v.rows; queues = c.trace.new.self; node = c.remove_root_table.new.node })) name) (sym c.from.ensures)
+    subst (λ fault. RootRefused fault (seen_database c.args.self.now) (seen_database (record { rows = v.rows; queues = c.trace.new.self; node = record v.node { own = c.remove_root_table.new.node } })) name) (sym c.from.ensures)
     (back-as _ _ c.trace.new.self c.remove_root_table.new.node c.self.view_is c.in-Err.ensures.err
-    (c.remove_root_table.ensures ∙ ap (after_node (unlisted name)) (c.in_ok-add_root_table.ensures.ok ∙ ap (λ n. after_node (listed n) v.node) c.in_ok-name.ensures)
-    ∙ listed-back v.node name (subst (λ (w : DbView). may_serve (listing name) w.node ≡ true) (sym c.self.view_is) c.requires.may)))
+    (c.remove_root_table.ensures ∙ ap (after_node (unlisted name)) (c.in_ok-add_root_table.ensures.ok ∙ ap (λ n. after_node (listed n) v.node.own) c.in_ok-name.ensures)
+    ∙ listed-back v.node.own name (subst (λ (w : DbView). may_serve (listing name) w.node.own ≡ true) (sym c.self.view_is) c.requires.may)))

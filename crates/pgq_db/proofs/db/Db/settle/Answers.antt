@@ -1,4 +1,4 @@
-use Rattle.std.proofs.Common.{sym, ap, ◌++◌, ◌∙◌, subst, to_z, of_z, w64}
+use Rattle.std.proofs.Common.{sym, ap, ◌++◌, ◌∙◌, subst, to_z, of_z, w64, refl}
 use Rattle.std.proofs.lemmas.Int.{to_z-of_z}
 use Rattle.sky_model.specs.State.{RowPart, Database}
 use Rattle.sky_model.specs.Reader.{part_by_itself, database_by_itself, within_part}
@@ -40,7 +40,7 @@ returns-in-Ok-clause-adds c =
     let turn : Turn = settling (by_gate event_rule part_by_itself) (p, q) in
     subst (λ (v : DbView). Adds (seen_database v) (seen_with (with_node node after) c.settle_into-settled.new.gate) c.args.replies.now c.swap-2.new.y (settling (within_part database_by_itself c.args.now) (seen_database v))) c.self.view_is (record {
       replied = c.swap-2.ensures.y_after ∙ c.in-Ok.ensures.exact.replied ∙ ap (λ before. before ++ turn.answers) c.swap.ensures.x_after ∙ ap (λ answers. c.args.replies.now ++ answers) (sym same.answers);
-      changed = told-changed c.args.now node d p after q c.settle_into-settled.new.gate turn _ same c.in-Ok.ensures.exact.changed c.in-Ok.ensures.exact.passed;
+      changed = told-changed c.args.now node d p after q c.settle_into-settled.new.gate turn _ same (settle-rows p q) refl c.in-Ok.ensures.exact.changed c.in-Ok.ensures.exact.passed;
     })
 
 pub returns-in-Ok-clause-moments : goal.returns-in-Ok-clause-moments

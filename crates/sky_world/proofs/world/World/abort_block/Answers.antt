@@ -4,6 +4,7 @@ use Rattle.sky_world.specs.Views.{WorldView}
 use Rattle.sky_world.specs.Nodes.{failed_turn}
 use Rattle.sky_world.proofs.Worlds.{adds-in, known-within}
 use Rattle.sky_world.proofs.Resting.{rest-set}
+use Rattle.sky_world.proofs.Made.{made-called}
 use Rattle.sky_world.proofs.world.World.abort_block.Goals as goal
 
 pub invariant_of-self : goal.invariant_of-self
@@ -15,6 +16,8 @@ invariant_of-self c = (
       c.requires.who (c.self.invariant.3 whole) c.in-Ok.ensures.within).1),
   c.self.invariant.4,
   (λ whole. rest-set c.args.database c.self.inside.databases.values c.fail_into.new.self c.in-Ok.ensures.rests (c.self.invariant.5 whole)),
+  (λ whole. made-called c.args.database c.self.inside.databases.values c.get_mut-store.result.now c.fail_into.new.self _ _ c.get_mut-store.ensures.within c.get_mut-store.ensures.value
+      c.in-Ok.ensures.steps tt (c.self.invariant.6 whole)),
 )
 
 pub returns-in-Ok-clause-adds : goal.returns-in-Ok-clause-adds

@@ -19,6 +19,7 @@ invariant_of-self-2 c =
       (λ whole. waiters-more _ _ c.self.inside.databases.values (omega (arith, ap (λ (n : NamedView (Option ℕ)). length n.names) longer, length-append c.self.inside.sessions.names (c.in_ok-copied.copied ∷ []))) (c.self.invariant.3 whole)),
       c.self.invariant.4,
       c.self.invariant.5,
+      c.self.invariant.6,
     )
 
 pub returns-clause-fact : goal.returns-clause-fact

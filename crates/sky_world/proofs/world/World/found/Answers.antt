@@ -5,6 +5,7 @@ use Rattle.pgq_db.specs.Views.{DbView}
 use Rattle.sky_world.specs.Views.{WorldView}
 use Rattle.sky_world.proofs.Worlds.{homes-more, nodes-more, waiters-founded, founded-as}
 use Rattle.sky_world.proofs.Resting.{rest-founded}
+use Rattle.sky_world.proofs.Made.{made-founded}
 use Rattle.sky_world.proofs.world.World.found.Goals as goal
 
 pub add-requires-clause-new : goal.add-requires-clause-new
@@ -22,6 +23,7 @@ invariant_of-self-2 c =
       (λ whole. waiters-founded _ c.self.inside.databases.values _ c.new.result (ap (λ (n : NamedView DbView). n.values) longer) c.new.ensures (c.self.invariant.3 whole)),
       nodes-more _ _ c.self.inside.nodes.items more c.self.invariant.4,
       (λ whole. rest-founded c.self.inside.databases.values _ c.new.result (ap (λ (n : NamedView DbView). n.values) longer) c.new.ensures (c.self.invariant.5 whole)),
+      (λ whole. made-founded c.self.inside.databases.values _ c.new.result (ap (λ (n : NamedView DbView). n.values) longer) c.new.ensures (c.self.invariant.6 whole)),
     )
 
 pub returns-clause-fact : goal.returns-clause-fact

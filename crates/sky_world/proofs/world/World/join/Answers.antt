@@ -1,5 +1,6 @@
 use Rattle.sky_world.proofs.Worlds.{waiters-same}
 use Rattle.sky_world.proofs.Resting.{ready-served, rest-same}
+use Rattle.sky_world.proofs.Made.{made-called}
 use Rattle.sky_world.proofs.ServedNodes.{waits-served, joined-there}
 use Rattle.sky_world.proofs.world.World.join.Goals as goal
 
@@ -16,4 +17,5 @@ invariant_of-self c = (
   (λ whole. waiters-same _ c.args.database _ c.get_mut-store.result.now c.join.new.self c.get_mut-store.ensures.within c.get_mut-store.ensures.value (waits-served _ _ _ c.in-Ok.ensures.serves) (c.self.invariant.3 whole)),
   c.self.invariant.4,
   (λ whole. rest-same c.args.database _ c.get_mut-store.result.now c.join.new.self c.get_mut-store.ensures.within c.get_mut-store.ensures.value (ready-served _ _ _ c.in-Ok.ensures.serves) (c.self.invariant.5 whole)),
+  (λ whole. made-called c.args.database _ c.get_mut-store.result.now c.join.new.self _ _ c.get_mut-store.ensures.within c.get_mut-store.ensures.value c.in-Ok.ensures.steps tt (c.self.invariant.6 whole)),
 )

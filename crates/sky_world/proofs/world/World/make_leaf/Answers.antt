@@ -1,7 +1,21 @@
-use Rattle.sky_world.proofs.ServedNodes.{leaf-there}
+use Rattle.sky_world.proofs.Worlds.{waiters-same}
+use Rattle.sky_world.proofs.Resting.{ready-served, rest-same}
+use Rattle.sky_world.proofs.Made.{made-called}
+use Rattle.sky_world.proofs.ServedNodes.{waits-served, leaf-there}
 use Rattle.sky_world.proofs.world.World.make_leaf.Goals as goal
 
 pub returns-in_ok-gets_node-in-Ok : goal.returns-in_ok-gets_node-in-Ok
 returns-in_ok-gets_node-in-Ok c =
     leaf-there _ _ _ c.args.database _ c.get_mut-store.result.now c.make_leaf.new.self c.args.name.now c.args.provider.now c.self.view_is c.get_mut-store.ensures.within c.get_mut-store.ensures.value
     c.requires.free c.in-Ok.ensures.serves c.in_ok-gets_node-in-Ok.ensures
+
+pub invariant_of-self : goal.invariant_of-self
+invariant_of-self c = (
+  c.self.invariant.0,
+  c.self.invariant.1,
+  c.self.invariant.2,
+  (λ whole. waiters-same _ c.args.database _ c.get_mut-store.result.now c.make_leaf.new.self c.get_mut-store.ensures.within c.get_mut-store.ensures.value (waits-served _ _ _ c.in-Ok.ensures.serves) (c.self.invariant.3 whole)),
+  c.self.invariant.4,
+  (λ whole. rest-same c.args.database _ c.get_mut-store.result.now c.make_leaf.new.self c.get_mut-store.ensures.within c.get_mut-store.ensures.value (ready-served _ _ _ c.in-Ok.ensures.serves) (c.self.invariant.5 whole)),
+  (λ whole. made-called c.args.database _ c.get_mut-store.result.now c.make_leaf.new.self _ _ c.get_mut-store.ensures.within c.get_mut-store.ensures.value c.in-Ok.ensures.steps tt (c.self.invariant.6 whole)),
+)

@@ -2,6 +2,7 @@ use Rattle.std.proofs.Common.{w64, arith}
 use Rattle.std.proofs.lemmas.Int.{to_z-of_z}
 use Rattle.sky_world.proofs.Worlds.{adds-within, known-within}
 use Rattle.sky_world.proofs.Resting.{rest-set}
+use Rattle.sky_world.proofs.Made.{made-called}
 use Rattle.sky_world.proofs.world.World.run_there.Goals as goal
 
 pub invariant_of-self : goal.invariant_of-self
@@ -13,6 +14,8 @@ invariant_of-self c = (
       c.requires.who (c.self.invariant.3 whole) c.in-Ok.ensures.within).1),
   c.self.invariant.4,
   (λ whole. rest-set c.args.database c.self.inside.databases.values c.step_into.new.self c.in-Ok.ensures.rests (c.self.invariant.5 whole)),
+  (λ whole. made-called c.args.database c.self.inside.databases.values c.get_mut-store.result.now c.step_into.new.self _ _ c.get_mut-store.ensures.within c.get_mut-store.ensures.value
+      c.in-Ok.ensures.steps c.requires.form (c.self.invariant.6 whole)),
 )
 
 pub returns-in-Ok-clause-adds : goal.returns-in-Ok-clause-adds

@@ -1,0 +1,210 @@
+//! The copies of tables from another database that run in this one: each writes in one transaction, which no session
+//! sees before it ends.
+
+ghost use Rattle.std.specs.Prelude.{◌≡◌, false, true, None, IfErr, IfOk, IfSome, OnOk, List, ℕ, map};
+ghost use Rattle.sky_txid.specs.Ids.{contains};
+ghost use Rattle.sky_model.specs.Copies.{copy_txid};
+ghost use Rattle.sky_model.specs.CopyMoves.{columns_for, copy_running};
+ghost use Rattle.sky_model.specs.Daemon.{quietly};
+ghost use Rattle.sky_model.specs.DatabaseCalls.{served};
+ghost use Rattle.sky_model.specs.DatabaseSteps.{DatabaseSteps, IsMade};
+ghost use Rattle.sky_model.specs.Nodes.{after_node};
+ghost use Rattle.sky_model.specs.History.{of_copy, ended, copied};
+ghost use Rattle.sky_model.specs.State.{after_part, after_part_marks, after_mark, after_marks};
+ghost use Rattle.sky_model.specs.StepCopy.{all_fit, copy_write, copy_writes, given_up};
+ghost use Rattle.sky_model.specs.StepNode.{beginning_copy, copying_rows, ending_copy, giving_up_copy, may_serve, node_does};
+ghost use Rattle.sky_state.specs.Seen.{seen};
+ghost use Rattle.pgq_queues.specs.Views.{QueuesView};
+ghost use Rattle.pgq_db.specs.Agreeing.{Agree};
+ghost use Rattle.pgq_db.specs.Copying.{MayWrite, deletion, under_key, insertion};
+ghost use Rattle.pgq_db.specs.Seen.{seen_database};
+ghost use Rattle.pgq_db.specs.Served.{Serves, CopyRefused};
+
+use crate::db::Db;
+use crate::faults::CopyFault;
+use londiste_state::Node;
+use sky_model::WriteGate;
+use sky_session::RowDb;
+use sky_txid::Snapshot;
+use sky_val::{Key, NoMemory, Row, Schema, Text};
+use std::alloc::Global;
+
+impl Db {
+    /// Begins the copy of a table of the leaf: its transaction gets its id and deletes the rows that the table has.
+    pub fn copy_begin(&mut self, table: &Text) -> Result<(), CopyFault>
+        requires made { IsMade (seen_database self.old) }
+        requires may { may_serve (beginning_copy table.now) (seen_database self.old).node ≡ true }
+        requires idle { copy_running (seen_database self.old) table.now ≡ None }
+        ensures serves { OnOk result (Serves (seen_database self.old) (seen_database self.new) (beginning_copy table.now)) }
+        ensures fault { IfErr result (λ fault. CopyRefused fault (seen_database self.old) (seen_database self.new) table.now) }
+        ensures steps { OnOk result (DatabaseSteps (seen_database self.old) (seen_database self.new) (served (beginning_copy table.now)) (quietly (node_does (seen_database self.old) (beginning_copy table.now)))) }
+    {
+        let Some((number, _)) = self.rows.table(table) else {
+            return Ok(());
+        };
+        let snapshot = self.rows.snapshot_now()?;
+        let keys = self.rows.keys_under(&snapshot, number)?;
+        let txid = self.rows.begin_worker()?;
+        self.node.copies.begin(number, txid)?;
+        delete_all(&mut self.rows, txid, number, keys)?;
+        Ok(())
+    }
+
+    /// Writes rows of the copy of a table that runs, each under its key.
+    pub fn copy_rows(&mut self, table: &Text, rows: Vec<Row>) -> Result<(), NoMemory>
+        requires made { IsMade (seen_database self.old) }
+        requires may { may_serve (copying_rows table.now rows.items) (seen_database self.old).node ≡ true }
+        requires fit { all_fit (columns_for (seen_database self.old) table.now) rows.items ≡ true }
+        ensures serves { OnOk result (Serves (seen_database self.old) (seen_database self.new) (copying_rows table.now rows.items)) }
+        ensures steps { OnOk result (DatabaseSteps (seen_database self.old) (seen_database self.new) (served (copying_rows table.now rows.items)) (quietly (node_does (seen_database self.old) (copying_rows table.now rows.items)))) }
+    {
+        let Some((number, schema)) = self.rows.table(table) else {
+            return Ok(());
+        };
+        let Some(txid) = self.node.copies.txid_of(number) else {
+            return Ok(());
+        };
+        let keyed = under_keys(self.alloc, schema, rows)?;
+        write_all(&mut self.rows, txid, number, keyed)
+    }
+
+    /// Ends the copy of a table that runs: its transaction commits. The table has the rows under a snapshot, and its
+    /// consumer is at a tick, so that it catches up from now on.
+    pub fn copy_end(&mut self, table: &Text, snapshot: &Snapshot, tick: u64) -> Result<(), NoMemory>
+        requires made { IsMade (seen_database self.old) }
+        requires may { may_serve (ending_copy table.now snapshot.now tick) (seen_database self.old).node ≡ true }
+        ensures serves { OnOk result (Serves (seen_database self.old) (seen_database self.new) (ending_copy table.now snapshot.now tick)) }
+        ensures steps { OnOk result (DatabaseSteps (seen_database self.old) (seen_database self.new) (served (ending_copy table.now snapshot.now tick)) (quietly (node_does (seen_database self.old) (ending_copy table.now snapshot.now tick)))) }
+    {
+        let Some(txid) = self.copy_of(table) else {
+            return Ok(());
+        };
+        end_leaf_copy(self.alloc, &mut self.node.own, table, snapshot, tick)?;
+        self.commit_copy(txid);
+        Ok(())
+    }
+
+    /// Gives the copy of a table up, if one runs: its transaction rolls back, and the table has the rows that it had
+    /// before.
+    pub fn copy_drop(&mut self, table: &Text)
+        requires made { IsMade (seen_database self.old) }
+        requires may { may_serve (giving_up_copy table.now) (seen_database self.old).node ≡ true }
+        ensures serves { Serves (seen_database self.old) (seen_database self.new) (giving_up_copy table.now) }
+        ensures steps { DatabaseSteps (seen_database self.old) (seen_database self.new) (served (giving_up_copy table.now)) (quietly (node_does (seen_database self.old) (giving_up_copy table.now))) }
+    {
+        let Some((number, _)) = self.rows.table(table) else {
+            return;
+        };
+        self.give_up_copy(number);
+    }
+
+    /// The transaction of the copy of a table, if one runs.
+    fn copy_of(&self, table: &Text) -> Option<u64>
+        ensures { result ≡ copy_running (seen_database self.now) table.now }
+    {
+        let (number, _) = self.rows.table(table)?;
+        self.node.copies.txid_of(number)
+    }
+
+    /// The copy of the table of a number is given up, if one runs.
+    pub(crate) fn give_up_copy(&mut self, number: u32)
+        requires { IfSome (copy_txid number (seen_database self.old).copies) (λ txid. contains txid (seen_database self.old).part.workers ≡ true) }
+        ensures { (name : List ℕ) → seen_database self.new ≡ after_marks (seen_database self.old) (given_up number name (copy_txid number (seen_database self.old).copies)) }
+    {
+        if let Some(txid) = self.node.copies.txid_of(number) {
+            self.roll_back_copy(txid);
+        }
+    }
+
+    /// The transaction of a copy commits.
+    fn commit_copy(&mut self, txid: u64)
+        requires { contains txid (seen_database self.old).part.workers ≡ true }
+        ensures { (table : ℕ) → seen_database self.new ≡ after_mark (seen_database self.old) (ended (of_copy table) txid true) }
+    {
+        self.rows.end_worker(txid, true);
+        self.node.copies.end(txid);
+    }
+
+    /// The transaction of a copy rolls back.
+    fn roll_back_copy(&mut self, txid: u64)
+        requires { contains txid (seen_database self.old).part.workers ≡ true }
+        ensures { (table : ℕ) → seen_database self.new ≡ after_mark (seen_database self.old) (ended (of_copy table) txid false) }
+    {
+        self.rows.end_worker(txid, false);
+        self.queues.rolled_back(txid);
+        self.node.copies.end(txid);
+    }
+}
+
+/// A write of a copy's transaction: a row at a key, or the key's deletion.
+fn write(
+    rows: &mut RowDb,
+    txid: u64,
+    table: u32,
+    key: Key,
+    row: Option<Row>,
+) -> Result<(), NoMemory>
+    requires { MayWrite (seen rows.old) table txid }
+    ensures mark { OnOk result (seen rows.new ≡ after_part (seen rows.old) (copy_write (seen rows.old) table txid (record { key = key; row = row }))) }
+    ensures may { MayWrite (seen rows.new) table txid }
+    ensures agree { (queues : QueuesView) → Agree (seen rows.old) queues → Agree (seen rows.new) queues }
+{
+    rows.worker_write(txid, table, key, row)
+}
+
+/// A copy's transaction deletes keys.
+fn delete_all(rows: &mut RowDb, txid: u64, table: u32, keys: Vec<Key>) -> Result<(), NoMemory>
+    requires { MayWrite (seen rows.old) table txid }
+    ensures marks { OnOk result (seen rows.new ≡ after_part_marks (seen rows.old) (copy_writes (seen rows.old) table txid (map deletion keys.items))) }
+    ensures agree { (queues : QueuesView) → Agree (seen rows.old) queues → Agree (seen rows.new) queues }
+{
+    for key in keys {
+        write(rows, txid, table, key, None)?;
+    }
+    Ok(())
+}
+
+/// A copy's transaction writes rows under keys.
+fn write_all(
+    rows: &mut RowDb,
+    txid: u64,
+    table: u32,
+    keyed: Vec<(Key, Row)>,
+) -> Result<(), NoMemory>
+    requires { MayWrite (seen rows.old) table txid }
+    ensures marks { OnOk result (seen rows.new ≡ after_part_marks (seen rows.old) (copy_writes (seen rows.old) table txid (map insertion keyed.items))) }
+    ensures agree { (queues : QueuesView) → Agree (seen rows.old) queues → Agree (seen rows.new) queues }
+{
+    for (key, row) in keyed {
+        write(rows, txid, table, key, Some(row))?;
+    }
+    Ok(())
+}
+
+/// Each row with its key.
+fn under_keys(alloc: Global, schema: &Schema, rows: Vec<Row>) -> Result<Vec<(Key, Row)>, NoMemory>
+    ensures { IfOk result (λ keyed. keyed.items ≡ map (under_key schema.now) rows.items) }
+{
+    let mut keyed = Vec::with_capacity(alloc, rows.len())?;
+    for row in rows {
+        let key = schema.key_of(&row)?;
+        keyed.push((key, row))?;
+    }
+    Ok(keyed)
+}
+
+/// The copy of a table has ended, if the node is a leaf.
+fn end_leaf_copy(
+    alloc: Global,
+    node: &mut Option<Node>,
+    table: &Text,
+    snapshot: &Snapshot,
+    tick: u64,
+) -> Result<(), NoMemory>
+    ensures { OnOk result (node.new ≡ after_node (copied table.now snapshot.now tick) node.old) }
+{
+    if let Some(Node::Leaf(leaf)) = node {
+        leaf.end_copy(alloc, table, snapshot, tick)?;
+    }
+    Ok(())
+}

@@ -1,0 +1,17 @@
+use Rattle.sky_model.proofs.CopyLaws as law
+use Rattle.sky_model.proofs.laws.copies_leave_their_rows.Goals as goal
+
+pub returns-clause-alone : goal.returns-clause-alone
+returns-clause-alone c = law.copies_run_alone
+
+pub returns-clause-tables : goal.returns-clause-tables
+returns-clause-tables c = law.copies_are_of_leaf_tables
+
+pub returns-clause-deletes : goal.returns-clause-deletes
+returns-clause-deletes c = law.copies_delete_what_stands
+
+pub returns-clause-stands : goal.returns-clause-stands
+returns-clause-stands c = law.copies_name_what_stands
+
+pub returns-clause-leaves : goal.returns-clause-leaves
+returns-clause-leaves c = law.copies_leave_their_rows

@@ -1,0 +1,26 @@
+use Rattle.std.proofs.Common.{◌∙◌, ap}
+use Rattle.sky_world.specs.Views.{WorldView}
+use Rattle.sky_model.specs.StepNode.{removing}
+use Rattle.sky_world.proofs.Worlds.{waiters-same}
+use Rattle.sky_world.proofs.Resting.{ready-served, rest-same}
+use Rattle.sky_world.proofs.Made.{made-there, made-called}
+use Rattle.sky_world.proofs.ServedNodes.{waits-served, done-there}
+use Rattle.sky_world.proofs.world.World.drop_from_leaf.Goals as goal
+
+pub leaf_drop-requires-clause-made : goal.leaf_drop-requires-clause-made
+leaf_drop-requires-clause-made c =
+    made-there c.args.database _ c.get_mut-store.result.now c.get_mut-store.ensures.within c.get_mut-store.ensures.value (c.self.invariant.6 (ap (λ (w : WorldView). w.has_failed) c.self.view_is ∙ c.requires.sound))
+
+pub invariant_of-self : goal.invariant_of-self
+invariant_of-self c = (
+  c.self.invariant.0,
+  c.self.invariant.1,
+  c.self.invariant.2,
+  (λ whole. waiters-same _ c.args.database _ c.get_mut-store.result.now c.leaf_drop.new.self c.get_mut-store.ensures.within c.get_mut-store.ensures.value (waits-served _ _ _ c.leaf_drop.ensures.serves) (c.self.invariant.3 whole)),
+  c.self.invariant.4,
+  (λ whole. rest-same c.args.database _ c.get_mut-store.result.now c.leaf_drop.new.self c.get_mut-store.ensures.within c.get_mut-store.ensures.value (ready-served _ _ _ c.leaf_drop.ensures.serves) (c.self.invariant.5 whole)),
+  (λ whole. made-called c.args.database _ c.get_mut-store.result.now c.leaf_drop.new.self _ _ c.get_mut-store.ensures.within c.get_mut-store.ensures.value c.leaf_drop.ensures.steps tt (c.self.invariant.6 whole)),
+)
+
+pub returns : goal.returns
+returns c = done-there _ _ c.args.database c.get_mut-store.result.now c.leaf_drop.new.self (removing c.args.table.now) c.self.view_is c.get_mut-store.ensures.within c.get_mut-store.ensures.value c.leaf_drop.ensures.serves
