@@ -50,7 +50,7 @@ impl Db {
         Ok(())
     }
 
-    /// Writes rows of the copy of a table that runs, each under its key.
+    /// Writes rows of the copy of a table that runs, each under its key. If none runs, nothing happens.
     pub fn copy_rows(&mut self, table: &Text, rows: Vec<Row>) -> Result<(), NoMemory>
         requires made { IsMade (seen_database self.old) }
         requires may { may_serve (copying_rows table.now rows.items) (seen_database self.old).node ≡ true }
@@ -69,7 +69,7 @@ impl Db {
     }
 
     /// Ends the copy of a table that runs: its transaction commits. The table has the rows under a snapshot, and its
-    /// consumer is at a tick, so that it catches up from now on.
+    /// consumer is at a tick, so that it catches up from now on. If none runs, nothing happens.
     pub fn copy_end(&mut self, table: &Text, snapshot: &Snapshot, tick: u64) -> Result<(), NoMemory>
         requires made { IsMade (seen_database self.old) }
         requires may { may_serve (ending_copy table.now snapshot.now tick) (seen_database self.old).node ≡ true }
